@@ -1,0 +1,115 @@
+-- What a refusal is about: its kind, without the numbers in it and without its text.
+use Rattle.std.specs.Prelude.{◌≡◌, List, [], ◌∷◌, Bool, Result, Ok, Err, if◌then◌else◌}
+use Rattle.pe_core.specs.declared.error.Error.{Error}
+use Rattle.pe_core.specs.declared.error.Error.TheVariants as errors
+use Rattle.pe_core.specs.declared.error.Reason.{Reason}
+use Rattle.pe_core.specs.declared.error.Reason.TheVariants as reasons
+
+pub data Refusal : Type 0 where
+  Memory : Refusal
+  Short : Refusal
+  BadMagic : Refusal
+  HeaderPointer : Refusal
+  ImportName : Refusal
+  StringTable : Refusal
+  CertificateRevision : Refusal
+  CertificateType : Refusal
+  CertificateSize : Refusal
+  CertificateTable : Refusal
+  Unmapped : Refusal
+  DebugBounds : Refusal
+  DebugSize : Refusal
+  DebugData : Refusal
+  PogoSize : Refusal
+  PogoName : Refusal
+  ExceptionSize : Refusal
+  ExceptionOffset : Refusal
+  ExceptionBounds : Refusal
+  FunctionIndex : Refusal
+  FunctionLink : Refusal
+  FunctionCycle : Refusal
+  UnwindVersion : Refusal
+  UnwindCode : Refusal
+  Arm64Version : Refusal
+  Arm64Stream : Refusal
+  Arm64Cut : Refusal
+  ResourceBounds : Refusal
+  ResourceCycle : Refusal
+  ResourceString : Refusal
+  TeSize : Refusal
+  NoOptionalHeader : Refusal
+  WriteAlignment : Refusal
+  WriteSymbols : Refusal
+  WriteOverlap : Refusal
+  WriteSection : Refusal
+  WriteFit : Refusal
+
+abbrev pub kind_of_reason : Reason → Refusal
+kind_of_reason (reasons.HeaderPointer n) = HeaderPointer
+kind_of_reason (reasons.ImportName n) = ImportName
+kind_of_reason (reasons.StringTable n) = StringTable
+kind_of_reason (reasons.CertificateRevision n) = CertificateRevision
+kind_of_reason (reasons.CertificateType n) = CertificateType
+kind_of_reason (reasons.CertificateSize n) = CertificateSize
+kind_of_reason (reasons.CertificateTable n) = CertificateTable
+kind_of_reason (reasons.Unmapped n) = Unmapped
+kind_of_reason (reasons.DebugBounds n) = DebugBounds
+kind_of_reason (reasons.DebugSize n) = DebugSize
+kind_of_reason (reasons.DebugData n) = DebugData
+kind_of_reason (reasons.PogoSize n) = PogoSize
+kind_of_reason (reasons.PogoName place rest) = PogoName
+kind_of_reason (reasons.ExceptionSize n) = ExceptionSize
+kind_of_reason (reasons.ExceptionOffset n) = ExceptionOffset
+kind_of_reason (reasons.ExceptionBounds n) = ExceptionBounds
+kind_of_reason (reasons.FunctionIndex n) = FunctionIndex
+kind_of_reason (reasons.FunctionLink n) = FunctionLink
+kind_of_reason (reasons.FunctionCycle n) = FunctionCycle
+kind_of_reason (reasons.UnwindVersion n) = UnwindVersion
+kind_of_reason (reasons.UnwindCode n) = UnwindCode
+kind_of_reason (reasons.Arm64Version n) = Arm64Version
+kind_of_reason (reasons.Arm64Stream count start) = Arm64Stream
+kind_of_reason (reasons.Arm64Cut n) = Arm64Cut
+kind_of_reason (reasons.ResourceBounds n) = ResourceBounds
+kind_of_reason (reasons.ResourceCycle n) = ResourceCycle
+kind_of_reason (reasons.ResourceString n) = ResourceString
+kind_of_reason (reasons.TeSize n) = TeSize
+kind_of_reason reasons.NoOptionalHeader = NoOptionalHeader
+kind_of_reason (reasons.WriteAlignment n) = WriteAlignment
+kind_of_reason (reasons.WriteSymbols n) = WriteSymbols
+kind_of_reason (reasons.WriteOverlap first second) = WriteOverlap
+kind_of_reason (reasons.WriteSection n) = WriteSection
+kind_of_reason (reasons.WriteFit end count) = WriteFit
+
+abbrev pub kind_of : Error → Refusal
+kind_of (errors.Malformed reason) = kind_of_reason reason
+kind_of (errors.BadMagic magic) = BadMagic
+kind_of (errors.Short at needed) = Short
+kind_of (errors.Memory e) = Memory
+
+-- a fact that is owed unless memory has run out
+abbrev pub UnlessMemory : Error → Type 0 → Type 0
+UnlessMemory (errors.Malformed reason) P = P
+UnlessMemory (errors.BadMagic magic) P = P
+UnlessMemory (errors.Short at needed) P = P
+UnlessMemory (errors.Memory e) P = Unit {0}
+
+-- a call that takes no memory gave this value, seen by view, or this kind of refusal
+abbrev pub Gives : {X Y : Type 0} → (X → Y) → Result X Error → Result Y Refusal → Type 0
+Gives view (Ok x) defined = defined ≡ Ok (view x)
+Gives view (Err e) defined = defined ≡ Err (kind_of e)
+
+-- the same of a call that takes memory: it may run out
+abbrev pub GivesUnlessMemory : {X Y : Type 0} → (X → Y) → Result X Error → Result Y Refusal → Type 0
+GivesUnlessMemory view (Ok x) defined = defined ≡ Ok (view x)
+GivesUnlessMemory view (Err e) defined = UnlessMemory e (defined ≡ Err (kind_of e))
+
+-- the value, unless a test fails: then it is refused as the first test that fails
+abbrev pub outcome : {Y : Type 0} → List (Bool × Refusal) → Y → Result Y Refusal
+outcome [] value = Ok value
+outcome (test ∷ tests) value = if test.0 then outcome tests value else Err test.1
+
+-- one step after the other: the first refusal ends it
+infixl 10 ◌>>=◌
+abbrev pub ◌>>=◌ : {A B : Type 0} → Result A Refusal → (A → Result B Refusal) → Result B Refusal
+(Ok x) >>= f = f x
+(Err e) >>= f = Err e
