@@ -1,3 +1,13 @@
 pub mod Refusals
 pub mod Bytes
+pub mod Text
 pub mod Options
+pub mod Narrow
+pub mod Records
+pub mod Rows
+pub mod Directories
+pub mod Header
+pub mod HeaderSteps
+pub mod Spelling
+pub mod Sections
+pub mod SectionMap

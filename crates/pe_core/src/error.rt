@@ -93,10 +93,7 @@ impl Reason {
                 f,
                 "the library's name at address {rva:#x} has no end or is not UTF-8"
             ),
-            Reason::StringTable(place) => write!(
-                f,
-                "the string table has no text at {place:#x}"
-            ),
+            Reason::StringTable(place) => write!(f, "the string table has no text at {place:#x}"),
             Reason::CertificateRevision(revision) => write!(
                 f,
                 "{revision:#x} is no revision of a certificate"

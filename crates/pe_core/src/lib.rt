@@ -1,13 +1,29 @@
 //! Headers, sections and addresses of Windows executables.
+//!
+//! Every call is proved to give what its definition in `specs/` gives, for every byte string. Layouts are those of
+//! Microsoft's PE format.
 #![tactic(auto)]
 
 mod bytes;
+mod data_directories;
 mod error;
+mod header;
+mod optional_header;
 mod options;
+mod section_table;
+mod text;
+mod utils;
 
 pub use bytes::{
     number8, number16, number32, number64, put_slice, put_u8, put_u16, put_u32, put_u64,
     require_bytes, slice_at, u8_at, u16_at, u32_at, u64_at,
 };
+pub use data_directories::{DataDirectories, DataDirectory, MOST_DIRECTORIES};
 pub use error::{Error, Reason, Result};
+pub use header::{
+    CoffHeader, DOS_MAGIC, DosHeader, Header, PE_MAGIC, SIZE_OF_DOS_HEADER, TeHeader,
+};
+pub use optional_header::{MAGIC_32, MAGIC_64, OptionalHeader, StandardFields, WindowsFields};
 pub use options::{ParseMode, ParseOptions};
+pub use section_table::SectionTable;
+pub use utils::find_offset;

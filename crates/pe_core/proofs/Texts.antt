@@ -1,0 +1,26 @@
+-- Text, and the bytes in front of a zero.
+use Rattle.std.proofs.Common.{◌≡◌, ℕ, ◌<◌, ◌≤◌, Bool, true, false, cond, List, length, take, Option, Some, None, refl, sym, arith}
+use Rattle.std.specs.Prelude.{position, nat_lt}
+use Rattle.std.specs.List.{before_first, position_or_len}
+use Rattle.std.proofs.lemmas.List.{take_all}
+use Rattle.std.proofs.lemmas.Bool.Decides.{nat_tests}
+use Rattle.std.proofs.lemmas.Str.{IsUtf8-from_is_utf8, is_utf8-from_IsUtf8}
+
+-- the test of text decides what it tests
+pub ruleset utf8_tests = (IsUtf8-from_is_utf8, is_utf8-from_IsUtf8)
+
+found : {X : Type 0} (n m : ℕ) (xs : List X) → cond (nat_lt n (length xs)) (Some n) None ≡ Some m → take m xs ≡ take n xs
+found n m xs e = grind (arith, nat_tests)
+
+missing : {X : Type 0} (n : ℕ) (xs : List X) → cond (nat_lt n (length xs)) (Some n) None ≡ None → xs ≡ take n xs
+missing n xs e =
+    let past : length xs ≤ n = grind (arith, nat_tests) in
+    sym (take_all n xs past)
+
+pub before_first-found : {X : Type 0} (p : X → Bool) (xs : List X) (n : ℕ) → position p xs ≡ Some n → take n xs ≡ before_first p xs
+before_first-found p xs n e = found (position_or_len p xs) n xs e
+
+pub before_first-missing : {X : Type 0} (p : X → Bool) (xs : List X) → position p xs ≡ None → xs ≡ before_first p xs
+before_first-missing p xs e = missing (position_or_len p xs) xs e
+
+pub ruleset before_zero = (before_first-found, before_first-missing)

@@ -1,0 +1,105 @@
+-- The headers of an image: the tests in their order, and the value if none fails.
+-- (PE format: MS-DOS stub, signature, COFF file header, optional header; the order of refusals is this project's profile.)
+use Rattle.std.specs.Prelude.{ℕ, ◌+◌, ◌*◌, ◌==◌, ◌||◌, List, [], ◌∷◌, ◌++◌, Bool, Option, Some, None, Result, nat_le, slice_range, if◌then◌else◌}
+use Rattle.pe_core.specs.Bytes.{le, holds}
+use Rattle.pe_core.specs.Directories.{kept, kept_rows, directories}
+use Rattle.pe_core.specs.Options.{is_permissive}
+use Rattle.pe_core.specs.Refusals.{Refusal, Short, BadMagic, HeaderPointer, outcome}
+use Rattle.pe_core.specs.Records.{dos_header, coff_header, standard32, standard64, windows32, windows64}
+use Rattle.pe_core.specs.declared.data_directories.DataDirectory.{DataDirectory}
+use Rattle.pe_core.specs.declared.header.DosHeader.{DosHeader}
+use Rattle.pe_core.specs.declared.header.CoffHeader.{CoffHeader}
+use Rattle.pe_core.specs.declared.header.Header.{Header}
+use Rattle.pe_core.specs.declared.optional_header.StandardFields.{StandardFields}
+use Rattle.pe_core.specs.declared.optional_header.WindowsFields.{WindowsFields}
+use Rattle.pe_core.specs.declared.optional_header.OptionalHeader.{OptionalHeader}
+use Rattle.pe_core.specs.declared.options.ParseMode.{ParseMode}
+
+-- an optional header: its fields and the directories that it keeps
+pub record OptionalHeaderView : Type 0 where
+  pub standard_fields : StandardFields
+  pub windows_fields : WindowsFields
+  pub data_directories : List DataDirectory
+
+-- a header, its stub as bytes
+pub record HeaderView : Type 0 where
+  pub dos_header : DosHeader
+  pub dos_stub : List ℕ
+  pub signature : ℕ
+  pub coff_header : CoffHeader
+  pub optional_header : Option OptionalHeaderView
+
+abbrev pub optional_header_view : OptionalHeader → OptionalHeaderView
+optional_header_view h = record { standard_fields = h.standard_fields; windows_fields = h.windows_fields; data_directories = kept_rows h.data_directories }
+
+abbrev pub optional_view : Option OptionalHeader → Option OptionalHeaderView
+optional_view None = None
+optional_view (Some h) = Some (optional_header_view h)
+
+abbrev pub header_view : Header → HeaderView
+header_view h = record { dos_header = h.dos_header; dos_stub = h.dos_stub.now; signature = h.signature; coff_header = h.coff_header; optional_header = optional_view h.optional_header }
+
+-- ---- the optional header at p
+
+-- its magic is that of PE32+
+abbrev pub is_wide : List ℕ → ℕ → Bool
+is_wide b p = le b p 2 == 0x20B
+
+-- where the directories begin in it
+abbrev pub directories_place : Bool → ℕ
+directories_place wide = if wide then 112 else 96
+
+unfoldable pub optional_header : List ℕ → ℕ → OptionalHeaderView
+optional_header b p =
+    let windows = if is_wide b p then windows64 b (p + 24) else windows32 b (p + 28) in
+    record {
+      standard_fields = if is_wide b p then standard64 b p else standard32 b p;
+      windows_fields = windows;
+      data_directories = directories b (p + directories_place (is_wide b p)) windows.number_of_rva_and_sizes;
+    }
+
+unfoldable pub optional_header_tests : List ℕ → ℕ → List (Bool × Refusal)
+optional_header_tests b p =
+    (holds b p 2, Short)
+    ∷ (le b p 2 == 0x10B || is_wide b p, BadMagic)
+    ∷ (holds b p (directories_place (is_wide b p)), Short)
+    ∷ (holds b (p + directories_place (is_wide b p)) (8 * kept (optional_header b p).windows_fields.number_of_rva_and_sizes), Short)
+    ∷ []
+
+-- the optional header at p, or the first refusal
+abbrev pub optional_header_at : List ℕ → ℕ → Result OptionalHeaderView Refusal
+optional_header_at b p = outcome (optional_header_tests b p) (optional_header b p)
+
+-- ---- all headers
+
+-- the headers of these bytes; the stub is what stands between the DOS header and the PE signature
+unfoldable pub header : List ℕ → HeaderView
+header b =
+    let dos = dos_header b 0 in
+    let p = dos.pe_pointer in
+    let coff = coff_header b (p + 4) in
+    record {
+      dos_header = dos;
+      dos_stub = slice_range b 64 p;
+      signature = le b p 4;
+      coff_header = coff;
+      optional_header = if coff.size_of_optional_header == 0 then None else Some (optional_header b (p + 24));
+    }
+
+unfoldable pub header_tests : List ℕ → ParseMode → List (Bool × Refusal)
+header_tests b mode =
+    let dos = dos_header b 0 in
+    let p = dos.pe_pointer in
+    let coff = coff_header b (p + 4) in
+    ((holds b 0 64, Short)
+    ∷ (dos.signature == 0x5A4D, BadMagic)
+    ∷ (nat_le 64 p || is_permissive mode, HeaderPointer)
+    ∷ (holds b p 4, Short)
+    ∷ (le b p 4 == 0x4550, BadMagic)
+    ∷ (holds b (p + 4) 20, Short)
+    ∷ [])
+    ++ (if coff.size_of_optional_header == 0 then [] else optional_header_tests b (p + 24))
+
+-- the headers of these bytes in this mode, or the first refusal
+unfoldable pub header_at : List ℕ → ParseMode → Result HeaderView Refusal
+header_at b mode = outcome (header_tests b mode) (header b)

@@ -1,0 +1,33 @@
+-- Section headers. (PE format: section table.)
+use Rattle.std.specs.Prelude.{ℕ, ◌+◌, ◌*◌, ◌<◌, ◌≤◌, ◌==◌, List, [], ◌∷◌, Option, Some, None, Result, if◌then◌else◌}
+use Rattle.std.specs.List.{before_first}
+use Rattle.pe_core.specs.Bytes.{holds, range, record_at}
+use Rattle.pe_core.specs.Records.{section_table}
+use Rattle.pe_core.specs.Refusals.{Refusal}
+use Rattle.pe_core.specs.Rows.{rows}
+use Rattle.pe_core.specs.Text.{text_of}
+use Rattle.pe_core.specs.declared.section_table.SectionTable.{SectionTable}
+
+-- n section headers, one after the other from p on
+abbrev pub sections_at : List ℕ → ℕ → ℕ → Result (List SectionTable) Refusal
+sections_at b p n = record_at b p (40 * n) (rows (section_table b) 40 p n)
+
+-- where a section's bytes end in the file
+abbrev pub raw_end : SectionTable → ℕ
+raw_end s = s.pointer_to_raw_data + s.size_of_raw_data
+
+-- the section's name: its bytes up to the first zero, if they are text
+abbrev pub name_of : SectionTable → Option (List ℕ)
+name_of s = text_of (before_first (λ c. c == 0) s.name)
+
+-- the section's bytes in the file, if they are there
+abbrev pub data_of : List ℕ → SectionTable → Option (List ℕ)
+data_of b s = if holds b s.pointer_to_raw_data s.size_of_raw_data then Some (range b s.pointer_to_raw_data s.size_of_raw_data) else None
+
+-- the byte at place q of the file is one of the section's
+abbrev pub HasRawByte : SectionTable → ℕ → Type 0
+HasRawByte s q = (s.pointer_to_raw_data ≤ q) × (q < raw_end s)
+
+-- the two sections have a byte of the file in common
+abbrev pub SharesRawByte : SectionTable → SectionTable → Type 0
+SharesRawByte s t = (q : ℕ) × (HasRawByte s q × HasRawByte t q)

@@ -1,0 +1,230 @@
+//! The data directories of the optional header.
+
+ghost use Rattle.std.specs.Prelude.{◌≡◌, ◌+◌, ◌*◌, ◌≤◌, length};
+ghost use Rattle.pe_core.specs.Refusals.{Gives};
+ghost use Rattle.pe_core.specs.Bytes.{record_at};
+
+use crate::bytes::{number32, require_bytes};
+use crate::error::Result;
+
+/// How many directories a PE image has at most.
+pub const MOST_DIRECTORIES: usize = 16;
+
+const EXPORT_TABLE: usize = 0;
+
+const IMPORT_TABLE: usize = 1;
+
+const RESOURCE_TABLE: usize = 2;
+
+const EXCEPTION_TABLE: usize = 3;
+
+const CERTIFICATE_TABLE: usize = 4;
+
+const BASE_RELOCATION_TABLE: usize = 5;
+
+const DEBUG_TABLE: usize = 6;
+
+const ARCHITECTURE: usize = 7;
+
+const GLOBAL_PTR: usize = 8;
+
+const TLS_TABLE: usize = 9;
+
+const LOAD_CONFIG_TABLE: usize = 10;
+
+const BOUND_IMPORT_TABLE: usize = 11;
+
+const IMPORT_ADDRESS_TABLE: usize = 12;
+
+const DELAY_IMPORT_DESCRIPTOR: usize = 13;
+
+const CLR_RUNTIME_HEADER: usize = 14;
+
+/// Where a directory stands and how large it is.
+#[derive(Clone, Copy, Debug, PartialEq)]
+pub struct DataDirectory {
+    /// Its relative virtual address.
+    pub virtual_address: u32,
+    /// Its size in bytes.
+    pub size: u32,
+}
+
+const ABSENT: DataDirectory = DataDirectory {
+    virtual_address: 0,
+    size: 0,
+};
+
+impl DataDirectory {
+    ghost use Rattle.pe_core.specs.Records.{data_directory};
+
+    /// The directory at a place where its 8 bytes are known to be there.
+    #[tactic(auto, unfolding(crate::specs::Records::data_directory))]
+    pub(crate) fn at(bytes: &[u8], place: usize) -> DataDirectory
+        requires { place + 8 ≤ length bytes.now }
+        ensures { result ≡ data_directory bytes.now place }
+    {
+        DataDirectory {
+            virtual_address: number32(bytes, place),
+            size: number32(bytes, place + 4),
+        }
+    }
+
+    /// The directory at the place, 8 bytes.
+    pub fn parse(bytes: &[u8], place: usize) -> Result<DataDirectory>
+        ensures { Gives (λ d. d) result (record_at bytes.now place 8 (data_directory bytes.now place)) }
+    {
+        require_bytes(bytes, place, 8)?;
+        Ok(DataDirectory::at(bytes, place))
+    }
+}
+
+/// The directories that an optional header keeps: the least of its count and 16.
+#[derive(Clone, Copy, Debug, PartialEq)]
+pub struct DataDirectories {
+    rows: [DataDirectory; MOST_DIRECTORIES],
+    count: usize,
+    ghost at_most: { count ≤ 16 },
+}
+
+impl DataDirectories {
+    ghost use Rattle.std.specs.Prelude.{min};
+    ghost use Rattle.pe_core.specs.Directories.{directories, kept, kept_rows, present};
+
+    /// The directories at a place where they are known to be there, of so many that the header counts.
+    #[tactic(auto, using(std::proofs::lemmas::List::take_more_set), unfolding(crate::specs::Rows::each))]
+    pub(crate) fn at(bytes: &[u8], place: usize, count: u32) -> DataDirectories
+        requires { place + 8 * kept count ≤ length bytes.now }
+        ensures { kept_rows result ≡ directories bytes.now place count }
+    {
+        let count = count.min(16) as usize;
+        let mut rows = [ABSENT; MOST_DIRECTORIES];
+        for i in 0..count {
+            rows[i] = DataDirectory::at(bytes, place + 8 * i);
+        }
+        DataDirectories { rows, count }
+    }
+
+    /// The rows that are kept, absent ones included.
+    pub fn rows(&self) -> &[DataDirectory]
+        ensures { result.now ≡ kept_rows self.now }
+    {
+        &self.rows[..self.count]
+    }
+
+    /// The directory of this number. `None` if it isn't kept or is all zero.
+    pub fn get(&self, number: usize) -> Option<DataDirectory>
+        ensures { result ≡ present (kept_rows self.now) number }
+    {
+        let row = *self.rows().get(number)?;
+        if row.virtual_address == 0 && row.size == 0 {
+            None
+        } else {
+            Some(row)
+        }
+    }
+
+    /// The export directory: the exported functions.
+    pub fn get_export_table(&self) -> Option<DataDirectory>
+        ensures { result ≡ present (kept_rows self.now) 0 }
+    {
+        self.get(EXPORT_TABLE)
+    }
+
+    /// The import directory: the imported libraries.
+    pub fn get_import_table(&self) -> Option<DataDirectory>
+        ensures { result ≡ present (kept_rows self.now) 1 }
+    {
+        self.get(IMPORT_TABLE)
+    }
+
+    /// The resource directory: the resources.
+    pub fn get_resource_table(&self) -> Option<DataDirectory>
+        ensures { result ≡ present (kept_rows self.now) 2 }
+    {
+        self.get(RESOURCE_TABLE)
+    }
+
+    /// The exception directory: the function table for unwinding.
+    pub fn get_exception_table(&self) -> Option<DataDirectory>
+        ensures { result ≡ present (kept_rows self.now) 3 }
+    {
+        self.get(EXCEPTION_TABLE)
+    }
+
+    /// The certificate directory: the attribute certificates; its address is a place in the file.
+    pub fn get_certificate_table(&self) -> Option<DataDirectory>
+        ensures { result ≡ present (kept_rows self.now) 4 }
+    {
+        self.get(CERTIFICATE_TABLE)
+    }
+
+    /// The base relocation directory: the base relocations.
+    pub fn get_base_relocation_table(&self) -> Option<DataDirectory>
+        ensures { result ≡ present (kept_rows self.now) 5 }
+    {
+        self.get(BASE_RELOCATION_TABLE)
+    }
+
+    /// The debug directory: the debug entries.
+    pub fn get_debug_table(&self) -> Option<DataDirectory>
+        ensures { result ≡ present (kept_rows self.now) 6 }
+    {
+        self.get(DEBUG_TABLE)
+    }
+
+    /// The architecture directory: data of the architecture.
+    pub fn get_architecture(&self) -> Option<DataDirectory>
+        ensures { result ≡ present (kept_rows self.now) 7 }
+    {
+        self.get(ARCHITECTURE)
+    }
+
+    /// The global pointer directory: the global pointer register's value.
+    pub fn get_global_ptr(&self) -> Option<DataDirectory>
+        ensures { result ≡ present (kept_rows self.now) 8 }
+    {
+        self.get(GLOBAL_PTR)
+    }
+
+    /// The TLS directory: thread local storage.
+    pub fn get_tls_table(&self) -> Option<DataDirectory>
+        ensures { result ≡ present (kept_rows self.now) 9 }
+    {
+        self.get(TLS_TABLE)
+    }
+
+    /// The load config directory: the load configuration.
+    pub fn get_load_config_table(&self) -> Option<DataDirectory>
+        ensures { result ≡ present (kept_rows self.now) 10 }
+    {
+        self.get(LOAD_CONFIG_TABLE)
+    }
+
+    /// The bound import directory: the bound imports.
+    pub fn get_bound_import_table(&self) -> Option<DataDirectory>
+        ensures { result ≡ present (kept_rows self.now) 11 }
+    {
+        self.get(BOUND_IMPORT_TABLE)
+    }
+
+    /// The import address directory: the import addresses.
+    pub fn get_import_address_table(&self) -> Option<DataDirectory>
+        ensures { result ≡ present (kept_rows self.now) 12 }
+    {
+        self.get(IMPORT_ADDRESS_TABLE)
+    }
+
+    /// The delay import directory: the imports that are delayed.
+    pub fn get_delay_import_descriptor(&self) -> Option<DataDirectory>
+        ensures { result ≡ present (kept_rows self.now) 13 }
+    {
+        self.get(DELAY_IMPORT_DESCRIPTOR)
+    }
+
+    /// The CLR directory: the header of the common language runtime.
+    pub fn get_clr_runtime_header(&self) -> Option<DataDirectory>
+        ensures { result ≡ present (kept_rows self.now) 14 }
+    {
+        self.get(CLR_RUNTIME_HEADER)
+    }
+}

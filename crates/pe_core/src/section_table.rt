@@ -1,0 +1,128 @@
+//! Section headers.
+
+ghost use Rattle.std.specs.Prelude.{◌≡◌, ◌+◌, ◌*◌, ◌<◌, ◌≤◌, ◌^◌, length};
+ghost use Rattle.pe_core.specs.Bytes.{record_at};
+ghost use Rattle.pe_core.specs.Refusals.{Gives};
+
+use crate::bytes::{number16, number32, require_bytes, slice_at};
+use crate::error::Result;
+use crate::header::CoffHeader;
+use crate::text::{before_zero, text_of};
+use std::alloc::Allocator;
+
+/// The header of a section, 40 bytes.
+#[derive(Clone, Copy, Debug, PartialEq)]
+pub struct SectionTable {
+    /// Text, filled up with zeros.
+    pub name: [u8; 8],
+    /// In memory, in bytes.
+    pub virtual_size: u32,
+    /// A relative virtual address.
+    pub virtual_address: u32,
+    /// In the file, in bytes.
+    pub size_of_raw_data: u32,
+    /// A place in the file.
+    pub pointer_to_raw_data: u32,
+    /// A place in the file.
+    pub pointer_to_relocations: u32,
+    /// A place in the file.
+    pub pointer_to_linenumbers: u32,
+    pub number_of_relocations: u16,
+    pub number_of_linenumbers: u16,
+    pub characteristics: u32,
+}
+
+impl SectionTable {
+    ghost use Rattle.std.specs.Prelude.{◌↔◌, IsTrue};
+    ghost use Rattle.std.specs.Option.{option_map};
+    ghost use Rattle.pe_core.specs.Records.{section_table};
+    ghost use Rattle.pe_core.specs.Sections.{name_of, data_of, raw_end, SharesRawByte};
+
+    /// The section header at a place where its 40 bytes are known to be there.
+    #[tactic(auto, unfolding(crate::specs::Records::section_table))]
+    pub(crate) fn at(bytes: &[u8], place: usize) -> SectionTable
+        requires { place + 40 ≤ length bytes.now }
+        ensures { result ≡ section_table bytes.now place }
+    {
+        let mut name = [0; 8];
+        name.copy_from_slice(&bytes[place..place + 8]);
+        SectionTable {
+            name,
+            virtual_size: number32(bytes, place + 8),
+            virtual_address: number32(bytes, place + 12),
+            size_of_raw_data: number32(bytes, place + 16),
+            pointer_to_raw_data: number32(bytes, place + 20),
+            pointer_to_relocations: number32(bytes, place + 24),
+            pointer_to_linenumbers: number32(bytes, place + 28),
+            number_of_relocations: number16(bytes, place + 32),
+            number_of_linenumbers: number16(bytes, place + 34),
+            characteristics: number32(bytes, place + 36),
+        }
+    }
+
+    /// The section header at the place.
+    pub fn parse(bytes: &[u8], place: usize) -> Result<SectionTable>
+        ensures { Gives (λ s. s) result (record_at bytes.now place 40 (section_table bytes.now place)) }
+    {
+        require_bytes(bytes, place, 40)?;
+        Ok(SectionTable::at(bytes, place))
+    }
+
+    /// The name: the bytes up to the first zero. `None` if they are not UTF-8.
+    pub fn name(&self) -> Option<&str>
+        ensures { option_map (λ s. s.now) result ≡ name_of self.now }
+    {
+        text_of(before_zero(&self.name))
+    }
+
+    /// The section's bytes in the file, from its raw pointer on, neither fewer nor more than its raw size. `None` if
+    /// they are not all there.
+    pub fn data<'a>(&self, bytes: &'a [u8]) -> Option<&'a [u8]>
+        ensures { option_map (λ s. s.now) result ≡ data_of bytes.now self.now }
+    {
+        let place = self.pointer_to_raw_data as usize;
+        slice_at(bytes, place, self.size_of_raw_data as usize).ok()
+    }
+
+    /// Where the section's bytes end in the file.
+    pub(crate) fn raw_end(&self) -> u64
+        ensures value { result ≡ raw_end self.now }
+        ensures small { result < 2 ^ 33 }
+    {
+        u64::from(self.pointer_to_raw_data) + u64::from(self.size_of_raw_data)
+    }
+
+    /// Whether the two sections have a byte of the file in common.
+    pub fn overlaps_with(&self, other: &SectionTable) -> bool
+        ensures { IsTrue result ↔ SharesRawByte self.now other.now }
+    {
+        let start = self.pointer_to_raw_data.max(other.pointer_to_raw_data);
+        u64::from(start) < self.raw_end().min(other.raw_end())
+    }
+}
+
+impl CoffHeader {
+    ghost use Rattle.pe_core.specs.Refusals.{GivesUnlessMemory};
+    ghost use Rattle.pe_core.specs.Sections.{sections_at};
+
+    /// The section headers, which stand from the place on: behind the optional header, or where its size says that
+    /// it ends. `Short` if they are not all there.
+    #[tactic(auto, unfolding(crate::specs::Rows::each))]
+    pub fn sections<A: Allocator>(
+        &self,
+        alloc: A,
+        bytes: &[u8],
+        place: usize,
+    ) -> Result<Vec<SectionTable, A>>
+        ensures { GivesUnlessMemory (λ v. v.items) result
+            (sections_at bytes.now place self.now.number_of_sections) }
+    {
+        let count = self.number_of_sections as usize;
+        require_bytes(bytes, place, 40 * count)?;
+        let mut sections = Vec::with_capacity(alloc, count)?;
+        for i in 0..count {
+            sections.push(SectionTable::at(bytes, place + 40 * i))?;
+        }
+        Ok(sections)
+    }
+}

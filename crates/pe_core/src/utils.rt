@@ -1,0 +1,90 @@
+//! The map from addresses to places in the file.
+
+ghost use Rattle.std.specs.Prelude.{◌≡◌, ◌+◌, ◌<◌, ◌≤◌, ◌^◌, IsTrue, OnSome};
+ghost use Rattle.std.specs.Option.{option_copied};
+ghost use Rattle.std.specs.List.{find};
+ghost use Rattle.pe_core.specs.SectionMap.{rounded_up, raw_start, reach, covers, place_of};
+
+use crate::options::ParseOptions;
+use crate::section_table::SectionTable;
+
+/// How the file's parts are rounded, whatever an image states: raw pointers down to sectors, sizes up to pages.
+const SECTOR: u64 = 512;
+
+const PAGE: u32 = 4096;
+
+/// The number rounded up to a multiple of the unit.
+fn rounded_up(n: u64, unit: u32) -> u64
+    requires unit { 0 < unit }
+    requires small { n < 2 ^ 33 }
+    ensures up { result ≡ rounded_up n unit }
+    ensures least { n ≤ result }
+    ensures most { result < n + unit }
+{
+    (n + (u64::from(unit) - 1)) / u64::from(unit) * u64::from(unit)
+}
+
+/// Where the section's bytes begin in the file when it is mapped.
+fn raw_start(section: &SectionTable) -> u64
+    ensures place { result ≡ raw_start section.now }
+    ensures small { result < 2 ^ 32 }
+{
+    u64::from(section.pointer_to_raw_data) / SECTOR * SECTOR
+}
+
+/// How many addresses the section covers.
+#[tactic(auto, unfolding(crate::specs::SectionMap::reach))]
+fn reach(section: &SectionTable, alignment: u32) -> u64
+    requires { 0 < alignment }
+    ensures count { result ≡ reach alignment section.now }
+    ensures small { result < 2 ^ 33 }
+{
+    let raw_size = rounded_up(u64::from(section.size_of_raw_data), PAGE);
+    let raw = (rounded_up(section.raw_end(), alignment) - raw_start(section)).min(raw_size);
+    if section.virtual_size == 0 {
+        raw
+    } else {
+        raw.min(rounded_up(u64::from(section.virtual_size), PAGE))
+    }
+}
+
+fn covers(section: &SectionTable, alignment: u32, address: usize) -> bool
+    requires { 0 < alignment }
+    ensures cover { result ≡ covers alignment address section.now }
+    ensures small { IsTrue result → address < 2 ^ 34 }
+{
+    let start = u64::from(section.virtual_address);
+    start <= address as u64 && (address as u64) < start + reach(section, alignment)
+}
+
+/// The first section that covers the address.
+fn section_of(sections: &[SectionTable], alignment: u32, address: usize) -> Option<&SectionTable>
+    requires { 0 < alignment }
+    ensures found { option_copied result ≡ find (covers alignment address) sections.now }
+    ensures small { OnSome result (address < 2 ^ 34) }
+{
+    sections
+        .iter()
+        .find(|section| covers(section, alignment, address))
+}
+
+/// The place in the file of a relative virtual address, by the first section that covers it. `None` if none does or
+/// the file alignment is no power of two. With `resolve_rva` off an address is its place.
+#[tactic(auto, using(crate::proofs::Map::positive, crate::proofs::Map::found_covers, crate::proofs::Map::find_first), unfolding(crate::specs::SectionMap::place_of))]
+pub fn find_offset(
+    rva: usize,
+    sections: &[SectionTable],
+    file_alignment: u32,
+    opts: &ParseOptions,
+) -> Option<usize>
+    ensures { result ≡ place_of opts.now.resolve_rva file_alignment sections.now rva }
+{
+    if !opts.resolve_rva {
+        return Some(rva);
+    }
+    if !file_alignment.is_power_of_two() {
+        return None;
+    }
+    let section = section_of(sections, file_alignment, rva)?;
+    Some(rva - section.virtual_address as usize + raw_start(section) as usize)
+}
