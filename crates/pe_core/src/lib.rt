@@ -8,6 +8,7 @@ mod bytes;
 mod data_directories;
 mod error;
 mod header;
+pub mod laws;
 mod optional_header;
 mod options;
 mod section_table;

@@ -1,0 +1,34 @@
+//! Laws over the definitions. Each is the contract of a function that does nothing.
+
+ghost use Rattle.std.specs.Prelude.{◌≡◌, ℕ, ◌+◌, ◌≤◌, List, Ok, length};
+ghost use Rattle.pe_core.specs.declared.options.ParseMode.{ParseMode};
+ghost use Rattle.pe_core.specs.Bytes.{AreBytes, range};
+ghost use Rattle.pe_core.specs.Header.{OptionalHeaderView, HeaderView, optional_header_at, header_at};
+ghost use Rattle.pe_core.specs.Records.{dos_header, coff_header, standard32, standard64, windows32, windows64, data_directory, section_table, te_header};
+ghost use Rattle.pe_core.specs.Spelling.{spell_dos, spell_coff, spell_standard32, spell_standard64, spell_windows32, spell_windows64, spell_directory, spell_section, spell_te, spell_optional};
+
+/// A record that is read at a place spells the bytes of that place, whatever they are.
+#[tactic(auto, using(crate::proofs::SpelledRecords::spelled_dos, crate::proofs::SpelledRecords::spelled_coff, crate::proofs::SpelledRecords::spelled_standard32, crate::proofs::SpelledRecords::spelled_standard64, crate::proofs::SpelledRecords::spelled_windows32, crate::proofs::SpelledRecords::spelled_windows64, crate::proofs::SpelledRecords::spelled_directory, crate::proofs::SpelledRecords::spelled_section, crate::proofs::SpelledRecords::spelled_te))]
+pub fn records_spell_their_bytes()
+    ensures dos { (b : List ℕ) (p : ℕ) → AreBytes b → p + 64 ≤ length b → spell_dos (dos_header b p) ≡ range b p 64 }
+    ensures coff { (b : List ℕ) (p : ℕ) → AreBytes b → p + 20 ≤ length b → spell_coff (coff_header b p) ≡ range b p 20 }
+    ensures standard32 { (b : List ℕ) (p : ℕ) → AreBytes b → p + 28 ≤ length b → spell_standard32 (standard32 b p) ≡ range b p 28 }
+    ensures standard64 { (b : List ℕ) (p : ℕ) → AreBytes b → p + 24 ≤ length b → spell_standard64 (standard64 b p) ≡ range b p 24 }
+    ensures windows32 { (b : List ℕ) (p : ℕ) → AreBytes b → p + 68 ≤ length b → spell_windows32 (windows32 b p) ≡ range b p 68 }
+    ensures windows64 { (b : List ℕ) (p : ℕ) → AreBytes b → p + 88 ≤ length b → spell_windows64 (windows64 b p) ≡ range b p 88 }
+    ensures directory { (b : List ℕ) (p : ℕ) → AreBytes b → p + 8 ≤ length b → spell_directory (data_directory b p) ≡ range b p 8 }
+    ensures section { (b : List ℕ) (p : ℕ) → AreBytes b → p + 40 ≤ length b → spell_section (section_table b p) ≡ range b p 40 }
+    ensures te { (b : List ℕ) (p : ℕ) → AreBytes b → p + 40 ≤ length b → spell_te (te_header b p) ≡ range b p 40 }
+{}
+
+/// The spelling of an optional header that is accepted at a place stands at that place.
+#[tactic(auto, using(crate::proofs::SpelledOptional::spelled_optional))]
+pub fn optional_headers_spell_their_bytes()
+    ensures { (b : List ℕ) (p : ℕ) (o : OptionalHeaderView) → AreBytes b → optional_header_at b p ≡ Ok o → range b p (length (spell_optional o)) ≡ spell_optional o }
+{}
+
+/// Headers that strict mode gives are those that permissive mode gives.
+#[tactic(auto, using(crate::proofs::Modes::strict_header))]
+pub fn strict_headers_are_permissive()
+    ensures { (b : List ℕ) (h : HeaderView) → header_at b ParseMode.Strict ≡ Ok h → header_at b ParseMode.Permissive ≡ Ok h }
+{}
