@@ -34,7 +34,7 @@ pub fn number8(bytes: &[u8], place: usize) -> u8
     requires { place + 1 ≤ length bytes.now }
     ensures { result ≡ le bytes.now place 1 }
 {
-    bytes[place]
+    u8::from_le_bytes([bytes[place]])
 }
 
 /// The number of two bytes at a place where they are known to be there.
@@ -134,7 +134,7 @@ pub fn put_u8(buffer: &mut [u8], place: usize, n: u8) -> Result<()>
     ensures fit { Gives (λ u. u) result (fit_at buffer.old place 1) }
     ensures after { buffer.new ≡ put buffer.old place (bytes_of 1 n) }
 {
-    put_slice(buffer, place, &n.to_le_bytes())
+    put_slice(buffer, place, &u8::to_le_bytes(n))
 }
 
 /// Puts the number's two bytes at the place, or refuses as `WriteFit` and changes nothing.
@@ -143,7 +143,7 @@ pub fn put_u16(buffer: &mut [u8], place: usize, n: u16) -> Result<()>
     ensures fit { Gives (λ u. u) result (fit_at buffer.old place 2) }
     ensures after { buffer.new ≡ put buffer.old place (bytes_of 2 n) }
 {
-    put_slice(buffer, place, &n.to_le_bytes())
+    put_slice(buffer, place, &u16::to_le_bytes(n))
 }
 
 /// Puts the number's four bytes at the place, or refuses as `WriteFit` and changes nothing.
@@ -152,7 +152,7 @@ pub fn put_u32(buffer: &mut [u8], place: usize, n: u32) -> Result<()>
     ensures fit { Gives (λ u. u) result (fit_at buffer.old place 4) }
     ensures after { buffer.new ≡ put buffer.old place (bytes_of 4 n) }
 {
-    put_slice(buffer, place, &n.to_le_bytes())
+    put_slice(buffer, place, &u32::to_le_bytes(n))
 }
 
 /// Puts the number's eight bytes at the place, or refuses as `WriteFit` and changes nothing.
@@ -161,5 +161,5 @@ pub fn put_u64(buffer: &mut [u8], place: usize, n: u64) -> Result<()>
     ensures fit { Gives (λ u. u) result (fit_at buffer.old place 8) }
     ensures after { buffer.new ≡ put buffer.old place (bytes_of 8 n) }
 {
-    put_slice(buffer, place, &n.to_le_bytes())
+    put_slice(buffer, place, &u64::to_le_bytes(n))
 }

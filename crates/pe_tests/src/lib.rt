@@ -1,0 +1,13 @@
+//! Tests of what no proof sees: vectors from outside, printed text, and what happens where memory runs out.
+#![tactic(auto)]
+
+#[cfg(test)]
+mod bytes;
+#[cfg(test)]
+mod headers;
+#[cfg(test)]
+mod images;
+#[cfg(test)]
+mod refusals;
+#[cfg(test)]
+mod sections;
