@@ -1,0 +1,5 @@
+pub mod Hex
+pub mod Output
+pub mod DebugEntries
+pub mod Report
+pub mod Command
