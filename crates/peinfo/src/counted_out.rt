@@ -6,6 +6,7 @@ ghost use Rattle.std.specs.Io.KnownBytes.{Appends, Keeps};
 
 use std::io::Write;
 
+/// A writer, and how many of its writes failed or took nothing.
 #[derive(Drop)]
 pub struct CountedOut<W> {
     writer: W,
@@ -26,6 +27,7 @@ impl<W: Write> CountedOut<W> {
         }
     }
 
+    /// Gives the writer back.
     pub fn into_inner(self) -> W
         ensures { result ≡ writer_of self }
     {

@@ -65,7 +65,7 @@ fn table(
 }
 
 /// The table whose lines are shown: in permissive mode one that is refused is empty.
-pub fn shown_table(
+pub(crate) fn shown_table(
     bytes: &[u8],
     opts: &ParseOptions,
     sections: &[SectionTable],
@@ -121,7 +121,7 @@ fn push_line<A: Allocator>(text: &mut Vec<u8, A>, entry: &DebugEntry) -> Result<
 
 /// Adds a line for each whole row, and one for a row that is cut.
 #[tactic(auto, using(std::proofs::lemmas::Grind::common_steps), unfolding(crate::specs::DebugEntries::debug_lines, pe_core::specs::Rows::each))]
-pub fn push_lines<A: Allocator>(
+pub(crate) fn push_lines<A: Allocator>(
     text: &mut Vec<u8, A>,
     bytes: &[u8],
     place: usize,

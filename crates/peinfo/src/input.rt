@@ -56,7 +56,10 @@ fn read_behind<R: Read>(reader: &mut R, bytes: &mut [u8], filled: usize) -> io::
 }
 
 /// All bytes of the reader, read straight to where they stay. A read that fails is not tried again.
-pub fn read_all<A: Allocator, R: Read>(alloc: A, reader: &mut R) -> Result<Vec<u8, A>, ReadError>
+pub(crate) fn read_all<A: Allocator, R: Read>(
+    alloc: A,
+    reader: &mut R,
+) -> Result<Vec<u8, A>, ReadError>
     ensures { IfOk result (λ v. IfSome (R.remaining reader.old) (λ known. v.items ≡ known)) }
 {
     let mut bytes = Vec::new(alloc);
