@@ -1,5 +1,5 @@
 -- Bytes read one piece behind the other into one buffer.
-use Rattle.std.proofs.Common.{◌≡◌, ℕ, ◌+◌, ◌≤◌, arith, List, [], ◌++◌, length, take, drop, Option, Some, None, sym, ap, ◌∙◌}
+use Rattle.std.proofs.Common.{◌≡◌, ℕ, ◌+◌, ◌≤◌, arith, List, [], ◌++◌, length, take, drop, Option, Some, None, sym, ap, ◌∙◌, length-append, length-take-le}
 use Rattle.std.proofs.Math.Seq.{take-add}
 use Rattle.std.proofs.KnownBytes.{Consumes-nil, Consumes-trans}
 use Rattle.std.proofs.lemmas.List.{append-nil}
@@ -27,3 +27,9 @@ pub ends : (old now : Option (List ℕ)) (bytes : List ℕ) → Consumes old now
 ends None now bytes read e = tt
 ends (Some a) None bytes read e = absurd read
 ends (Some a) (Some b) bytes read e = sym (read ∙ ap (λ (t : List ℕ). bytes ++ t) e ∙ append-nil bytes)
+
+-- what was read so far is a part of what was left
+pub long : (old now : Option (List ℕ)) (buffer : List ℕ) (filled n : ℕ) → IsPartRead old now buffer filled → n ≤ filled → IfSome old (λ known. n ≤ length known)
+long None now buffer filled n so_far le = tt
+long (Some a) None buffer filled n so_far le = absurd so_far.read
+long (Some a) (Some b) buffer filled n so_far le = omega (arith, ap length so_far.read, length-append (take filled buffer) b, length-take-le filled buffer so_far.within)

@@ -1,8 +1,7 @@
 -- Pieces written one after the other.
-use Rattle.std.proofs.Common.{◌≡◌, ℕ, arith, List, [], ◌∷◌, ◌++◌, length, take, drop, Option, Some, None, refl, sym, ap, ◌∙◌, append_assoc, length-append, inl, inr}
+use Rattle.std.proofs.Common.{◌<◌, ◌≡◌, ℕ, arith, List, [], ◌∷◌, ◌++◌, length, take, drop, Option, Some, None, refl, sym, ap, ◌∙◌, append_assoc, length-append, inl, inr}
 use Rattle.std.proofs.lemmas.List.{take-append-drop, take_at, append-nil}
 use Rattle.std.proofs.lemmas.Bool.{cases_lt}
-use Rattle.std.proofs.Math.Seq.{take-length}
 use Rattle.std.specs.Io.KnownBytes.{Appends, Keeps}
 use Rattle.peinfo.specs.Output.{MOST, one_more, AppendsBeginning, RoseOrFull}
 
@@ -38,8 +37,9 @@ goes_on old mid now text rest n so_far more = record {
   written = Appends-then old mid now so_far.done (take n rest) so_far.written more;
 }
 
-pub stops : (old mid now : Option (List ℕ)) (text rest : List ℕ) → IsPartWritten old mid text rest → Keeps mid now → AppendsBeginning old now text
-stops old mid now text rest so_far keeps =
+pub stops : (old mid now : Option (List ℕ)) (text rest : List ℕ) → IsPartWritten old mid text rest → 0 < length rest → Keeps mid now
+    → AppendsBeginning old now text
+stops old mid now text rest so_far more keeps =
     let front : take (length so_far.done) text ≡ so_far.done = ap (take (length so_far.done)) so_far.parts ∙ take_at so_far.done rest (length so_far.done) refl in
     record {
       count = length so_far.done;
@@ -51,10 +51,7 @@ pub ends : (old now : Option (List ℕ)) (text rest : List ℕ) → IsPartWritte
 ends old now text [] so_far e = rw (so_far.parts, append-nil so_far.done) so_far.written
 ends old now text (x ∷ rest) so_far e = absurd (omega arith)
 
-pub whole : (old now : Option (List ℕ)) (text : List ℕ) → Appends old now text → AppendsBeginning old now text
-whole old now text written = record { count = length text; within = omega arith; written = rw take-length written }
-
 pub rises : (old new : ℕ) → new ≡ one_more old → RoseOrFull old new
 rises old new e = elim (cases_lt old MOST) [ inl lt ↦ inl (omega arith) | inr le ↦ inr (omega arith) ]
 
-pub ruleset steps = (starts, goes_on, stops, ends, whole, rises)
+pub ruleset steps = (starts, goes_on, stops, ends, rises)

@@ -3,3 +3,4 @@ pub mod Output
 pub mod DebugEntries
 pub mod Report
 pub mod Command
+pub mod Reading

@@ -1,5 +1,5 @@
 -- A writer that counts its failures.
-use Rattle.std.specs.Prelude.{◌≡◌, ℕ, ◌+◌, ◌-◌, ◌^◌, ◌<◌, ◌≤◌, ◌⊎◌, min, List, length, take, Option}
+use Rattle.std.specs.Prelude.{◌≡◌, ℕ, ◌+◌, ◌-◌, ◌^◌, ◌<◌, ◌⊎◌, min, List, length, take, Option}
 use Rattle.std.specs.Io.KnownBytes.{Appends}
 use Rattle.peinfo.specs.declared.counted_out.CountedOut.{CountedOut}
 
@@ -21,8 +21,8 @@ one_more n = min (n + 1) MOST
 abbrev pub RoseOrFull : ℕ → ℕ → Type 0
 RoseOrFull old new = (old < new) ⊎ (new ≡ MOST)
 
--- known bytes grew by a beginning of the text
+-- known bytes grew by a beginning of the text, and not by all of it
 pub record AppendsBeginning (old new : Option (List ℕ)) (text : List ℕ) : Type 0 where
   pub count : ℕ
-  pub within : count ≤ length text
+  pub within : count < length text
   pub written : Appends old new (take count text)

@@ -27,7 +27,7 @@ impl<W: Write> CountedOut<W> {
         }
     }
 
-    /// Gives the writer back.
+    /// Gives the writer back, with what it holds.
     pub fn into_inner(self) -> W
         ensures { result ≡ writer_of self }
     {
@@ -50,9 +50,11 @@ impl<W: Write> CountedOut<W> {
         ensures empty { piece.now ≡ [] → result ≡ Some 0 }
         ensures bound { IfSome result (λ n. n ≤ length piece.now) }
         ensures progress { 0 < length piece.now → IfSome result (λ n. 0 < n) }
-        ensures taken { IfSome result (λ n. Appends (W.contents (writer_of self.old)) (W.contents (writer_of self.new)) (take n piece.now)) }
+        ensures taken { IfSome result (λ n. Appends (W.contents (writer_of self.old))
+            (W.contents (writer_of self.new)) (take n piece.now)) }
         ensures same { IfSome result (λ _. failures_of self.new ≡ failures_of self.old) }
-        ensures none { IfNone result (Keeps (W.contents (writer_of self.old)) (W.contents (writer_of self.new))) }
+        ensures none { IfNone result (Keeps (W.contents (writer_of self.old))
+            (W.contents (writer_of self.new))) }
         ensures counted { IfNone result (failures_of self.new ≡ one_more (failures_of self.old)) }
     {
         if piece.is_empty() {
@@ -73,9 +75,11 @@ ghost use Rattle.peinfo.specs.Output.{writer_of, failures_of, AppendsBeginning, 
 /// Writes the whole text, piece by piece, until a write fails or takes nothing.
 #[tactic(auto, using(crate::proofs::Writing::steps))]
 pub fn put_all<W: Write>(out: &mut CountedOut<W>, text: &[u8]) -> bool
-    ensures whole { OnTrue result (Appends (W.contents (writer_of out.old)) (W.contents (writer_of out.new)) text.now) }
+    ensures whole { OnTrue result (Appends (W.contents (writer_of out.old))
+        (W.contents (writer_of out.new)) text.now) }
     ensures same { OnTrue result (failures_of out.new ≡ failures_of out.old) }
-    ensures beginning { AppendsBeginning (W.contents (writer_of out.old)) (W.contents (writer_of out.new)) text.now }
+    ensures beginning { OnFalse result (AppendsBeginning (W.contents (writer_of out.old))
+        (W.contents (writer_of out.new)) text.now) }
     ensures counted { OnFalse result (RoseOrFull (failures_of out.old) (failures_of out.new)) }
 {
     let mut rest = text;

@@ -119,7 +119,8 @@ fn push_line<A: Allocator>(text: &mut Vec<u8, A>, entry: &DebugEntry) -> Result<
     text.extend_from_slice(&line_end(entry.address_of_raw_data, entry.pointer_to_raw_data))
 }
 
-/// Adds a line for each whole row, and one for a row that is cut.
+/// Adds a line for each whole row, and one for a row that is cut. Where memory is refused a
+/// beginning of them may stand there.
 #[tactic(auto, using(std::proofs::lemmas::Grind::common_steps), unfolding(crate::specs::DebugEntries::debug_lines, pe_core::specs::Rows::each))]
 pub(crate) fn push_lines<A: Allocator>(
     text: &mut Vec<u8, A>,

@@ -1,6 +1,6 @@
 //! The bytes of a reader, by a bounded number of reads.
 
-ghost use Rattle.std.specs.Prelude.{◌≡◌, ◌+◌, ◌≤◌, length, take, drop, vec_len, IfSome, IfOk, OnOk};
+ghost use Rattle.std.specs.Prelude.{◌≡◌, ◌+◌, ◌≤◌, length, take, drop, vec_len, IfSome, IfOk, IfErr, OnOk};
 ghost use Rattle.std.specs.Io.KnownBytes.{Consumes, IsAtEnd};
 
 use std::alloc::{AllocError, Allocator};
@@ -55,12 +55,16 @@ fn read_behind<R: Read>(reader: &mut R, bytes: &mut [u8], filled: usize) -> io::
     reader.read(&mut bytes[filled..filled + PIECE])
 }
 
+ghost use Rattle.peinfo.specs.Reading.{IfEndless};
+
 /// All bytes of the reader, read straight to where they stay. A read that fails is not tried again.
 pub(crate) fn read_all<A: Allocator, R: Read>(
     alloc: A,
     reader: &mut R,
 ) -> Result<Vec<u8, A>, ReadError>
-    ensures { IfOk result (λ v. IfSome (R.remaining reader.old) (λ known. v.items ≡ known)) }
+    ensures bytes { IfOk result (λ bytes. IfSome (R.remaining reader.old) (λ known. bytes.items ≡ known)) }
+    ensures endless { IfErr result (λ e. IfEndless e
+        (IfSome (R.remaining reader.old) (λ known. 1048576 ≤ length known))) }
 {
     let mut bytes = Vec::new(alloc);
     let mut filled = 0;
