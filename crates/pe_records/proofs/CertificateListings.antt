@@ -1,8 +1,8 @@
 -- Certificates one behind the other.
-use Rattle.std.proofs.Common.{◌≡◌, ℕ, zero, suc, ◌+◌, ◌<◌, ◌≤◌, true, false, nat_lt, nat_le, inl, inr, length, map, slice_get, Some, List, [], ◌∷◌, ◌++◌, Result, Ok, Err, Vec, refl, ap, sym, ◌∙◌, subst, arith}
+use Rattle.std.proofs.Common.{Bool, cond, ◌≡◌, ℕ, zero, suc, ◌+◌, ◌<◌, ◌≤◌, true, false, nat_lt, nat_le, inl, inr, length, map, slice_get, Some, List, [], ◌∷◌, ◌++◌, Result, Ok, Err, Vec, refl, ap, sym, ◌∙◌, subst, arith}
 use Rattle.std.proofs.lemmas.Bool.Decides.{nat_tests}
 use Rattle.std.proofs.lemmas.List.{map_push}
-use Rattle.pe_core.specs.Refusals.{Refusal, CertificateTable, kind_of, GivesUnlessMemory}
+use Rattle.pe_core.specs.Refusals.{Refusal, CertificateTable, kind_of, GivesUnlessMemory, ◌>>=◌}
 use Rattle.pe_core.specs.declared.error.Error.{Error}
 use Rattle.pe_core.specs.declared.error.Error.TheVariants as errors
 use Rattle.pe_records.specs.declared.certificate_table.AttributeCertificate.{AttributeCertificate}
@@ -69,9 +69,12 @@ placed b end p (c ∷ cs) q s =
 
 pub unplaced : (b : List ℕ) (end : ℕ) (place : ℕ → ℕ) (cs : List CertificateView) → Stand b end place cs → StandFrom b end (place 0) cs (place (length cs))
 unplaced b end place [] s = refl
-unplaced b end place (c ∷ cs) s =
-    (s.before_end 0 (omega arith), place 1, s.behind 0 c refl,
-    unplaced b end (λ i. place (suc i)) cs (record { before_end = λ i h. s.before_end (suc i) (omega arith); behind = λ i d h. s.behind (suc i) d h }))
+unplaced b end place (c ∷ cs) s = (
+  s.before_end 0 (omega arith),
+  place 1,
+  s.behind 0 c refl,
+  unplaced b end (λ i. place (suc i)) cs (record { before_end = λ i h. s.before_end (suc i) (omega arith); behind = λ i d h. s.behind (suc i) d h }),
+)
 
 pub listing : (b : List ℕ) (address size end : ℕ) (cs : List CertificateView) (q : ℕ) → address + size ≤ length b → end ≡ address + size → StandFrom b end address cs q → end ≤ q → IsListing b address size cs
 listing b address size end cs q h same s k =
@@ -143,6 +146,49 @@ listed_is b address size (Err (errors.Malformed x)) l = refusal_is b address siz
 listed_is b address size (Err (errors.BadMagic x)) l = refusal_is b address size (kind_of (errors.BadMagic x)) l
 listed_is b address size (Err (errors.Short x y)) l = refusal_is b address size (kind_of (errors.Short x y)) l
 listed_is b address size (Err (errors.Memory x)) l = tt
+
+-- what the function gives is a listing or a refusal
+abbrev Settles : List ℕ → ℕ → ℕ → Result (List CertificateView) Refusal → Type 0
+Settles b end p (Ok cs) = (q : ℕ) × StandFrom b end p cs q × (end ≤ q)
+Settles b end p (Err r) = (cs : List CertificateView) × (q : ℕ) × StandFrom b end p cs q × (q < end) × (certificate_at b q ≡ Err r)
+
+settles_more : (b : List ℕ) (end p : ℕ) (c : CertificateView) (next : ℕ) (r : Result (List CertificateView) Refusal) → p < end → certificate_at b p ≡ Ok (c, next) → Settles b end next r → Settles b end p (r >>= λ cs. Ok (c ∷ cs))
+settles_more b end p c next (Ok cs) h e s = (s.0, (h, next, e, s.1), s.2)
+settles_more b end p c next (Err r) h e s = (c ∷ s.0, s.1, (h, next, e, s.2), s.3, s.4)
+
+settles_step : (b : List ℕ) (end n p : ℕ) (t : Bool) (x : Result (CertificateView × ℕ) Refusal) → nat_lt p end ≡ t → certificate_at b p ≡ x → ((c : CertificateView) (next : ℕ) → certificate_at b p ≡ Ok (c, next) → Settles b end next (certificates_from b end n next)) → Settles b end p (cond t (x >>= λ c. certificates_from b end n c.1 >>= λ cs. Ok (c.0 ∷ cs)) (Ok []))
+settles_step b end n p false x t e k = (p, refl, grind (arith, nat_tests))
+settles_step b end n p true (Err r) t e k = ([], p, refl, grind (arith, nat_tests), e)
+settles_step b end n p true (Ok c) t e k = settles_more b end p c.0 c.1 (certificates_from b end n c.1) (grind (arith, nat_tests)) e (k c.0 c.1 e)
+
+settles : (b : List ℕ) (end n p : ℕ) → end ≤ p + n → Settles b end p (certificates_from b end n p)
+unfolding certificates_from
+settles b end zero p h = (p, refl, omega arith)
+settles b end (suc n) p h =
+    settles_step b end n p (nat_lt p end) (certificate_at b p) refl refl
+    (λ c next e. let further : p < next = next_above b p c next e in settles b end n next (omega arith))
+
+abbrev Answers : List ℕ → ℕ → ℕ → Result (List CertificateView) Refusal → Type 0
+Answers b address size (Ok cs) = IsListing b address size cs
+Answers b address size (Err r) = IsRefused b address size r
+
+answers_within : (b : List ℕ) (address size : ℕ) (r : Result (List CertificateView) Refusal) → address + size ≤ length b → Settles b (address + size) address r → Answers b address size r
+answers_within b address size (Ok cs) h s = listing b address size (address + size) cs s.0 h refl s.1 s.2
+answers_within b address size (Err r) h s = inr (refused b address size (address + size) s.0 s.1 r h refl s.2 s.3 s.4)
+
+answers_at : (b : List ℕ) (address size : ℕ) (t : Bool) → nat_le (address + size) (length b) ≡ t → Answers b address size (cond t (certificates_from b (address + size) size address) (Err CertificateTable))
+answers_at b address size true t = answers_within b address size (certificates_from b (address + size) size address) (grind (arith, nat_tests)) (settles b (address + size) size address (omega arith))
+answers_at b address size false t = inl (grind (arith, nat_tests), refl)
+
+answers : (b : List ℕ) (address size : ℕ) → Answers b address size (certificates_at b address size)
+unfolding certificates_at
+answers b address size = answers_at b address size (nat_le (address + size) (length b)) refl
+
+pub is_listing : (b : List ℕ) (address size : ℕ) (cs : List CertificateView) → certificates_at b address size ≡ Ok cs → IsListing b address size cs
+is_listing b address size cs e = subst (Answers b address size) e (answers b address size)
+
+pub is_refused : (b : List ℕ) (address size : ℕ) (r : Refusal) → certificates_at b address size ≡ Err r → IsRefused b address size r
+is_refused b address size r e = subst (Answers b address size) e (answers b address size)
 
 one_ok : {X : Type 0} (r : Result X Refusal) (x y : X) → r ≡ Ok x → r ≡ Ok y → x ≡ y
 one_ok r x y e f = cc
