@@ -11,11 +11,11 @@ use Rattle.pe_core.specs.Rows.{rows}
 use Rattle.pe_core.specs.SectionMap.{place_of}
 use Rattle.pe_core.specs.declared.data_directories.DataDirectory.{DataDirectory}
 use Rattle.pe_core.specs.declared.options.ParseMode.{ParseMode}
-use Rattle.pe_core.specs.declared.options.ParseMode.TheVariants.{Strict, Permissive}
 use Rattle.pe_core.specs.declared.options.ParseOptions.{ParseOptions}
 use Rattle.pe_core.specs.declared.section_table.SectionTable.{SectionTable}
 use Rattle.peinfo.specs.declared.debug.DebugEntry.{DebugEntry}
 use Rattle.peinfo.specs.Hex.{hex}
+use Rattle.peinfo.specs.Modes.{empty_if_refused}
 
 -- a table of this size at this place: where it passes the end of the file it is refused, or cut at the end
 abbrev pub bounded : List ℕ → ParseMode → ℕ → Option ℕ → Result (ℕ × ℕ) Refusal
@@ -34,15 +34,9 @@ unfoldable pub debug_table : List ℕ → ParseOptions → List SectionTable →
 debug_table b opts sections None = Ok (0, 0)
 debug_table b opts sections (Some o) = table_of b opts sections o.windows_fields.file_alignment (present o.data_directories 6)
 
--- in permissive mode a table that is refused is empty
-abbrev pub empty_if_refused : ParseMode → Result (ℕ × ℕ) Refusal → Result (ℕ × ℕ) Refusal
-empty_if_refused mode (Ok table) = Ok table
-empty_if_refused Strict (Err refusal) = Err refusal
-empty_if_refused Permissive (Err refusal) = Ok (0, 0)
-
 -- the table whose lines are shown
 abbrev pub shown_table : List ℕ → ParseOptions → List SectionTable → Option OptionalHeaderView → Result (ℕ × ℕ) Refusal
-shown_table b opts sections optional = empty_if_refused opts.parse_mode (debug_table b opts sections optional)
+shown_table b opts sections optional = empty_if_refused opts.parse_mode (0, 0) (debug_table b opts sections optional)
 
 -- what is shown of a row of 28 bytes
 unfoldable pub debug_entry : List ℕ → ℕ → DebugEntry

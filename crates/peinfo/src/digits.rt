@@ -16,6 +16,20 @@ fn last_digit(n: u64) -> u8
     DIGITS[(n % 16) as usize]
 }
 
+/// The four hexadecimal digits, with zeros in front.
+#[tactic(auto, unfolding(crate::specs::Hex::hex))]
+pub fn hex_4(n: u16) -> [u8; 4]
+    ensures { result ≡ hex 4 n }
+{
+    let number = u64::from(n);
+    [
+        last_digit(number / 0x1000),
+        last_digit(number / 0x100),
+        last_digit(number / 0x10),
+        last_digit(number),
+    ]
+}
+
 /// The eight hexadecimal digits, with zeros in front.
 #[tactic(auto, unfolding(crate::specs::Hex::hex))]
 pub(crate) fn hex_8(n: u32) -> [u8; 8]

@@ -1,6 +1,7 @@
 //! Shows what is in PE files.
 #![tactic(auto)]
 
+mod certificates;
 mod command;
 mod counted_out;
 mod debug;

@@ -5,8 +5,8 @@ ghost use Rattle.pe_core.specs.Header.{optional_view};
 ghost use Rattle.pe_core.specs.Refusals.{GivesUnlessMemory};
 
 use crate::counted_out::{CountedOut, put_all};
-use crate::debug;
 use crate::digits::{hex_8, hex_16};
+use crate::{certificates, debug};
 use pe_core::{Error, Header, MAGIC_64, OptionalHeader, ParseOptions};
 use std::alloc::{AllocError, Allocator};
 use std::io;
@@ -66,25 +66,31 @@ fn push_image_line<A: Allocator>(
 
 /// The whole text, or the refusal of the image.
 #[tactic(auto, unfolding(crate::specs::Report::report_text))]
-fn text_of<A: Allocator>(alloc: A, bytes: &[u8], opts: &ParseOptions) -> pe_core::Result<Vec<u8, A>>
+fn text_of<A: Allocator + Copy>(
+    alloc: A,
+    bytes: &[u8],
+    opts: &ParseOptions,
+) -> pe_core::Result<Vec<u8, A>>
     ensures { GivesUnlessMemory (λ text. text.items) result (report_text bytes.now opts.now) }
 {
     let header = Header::parse_with_opts(bytes, opts)?;
     let coff = &header.coff_header;
     let place = header.dos_header.pe_pointer as usize + 24 + coff.size_of_optional_header as usize;
     let (place, size) = {
-        let sections = coff.sections(&alloc, bytes, place)?;
+        let sections = coff.sections(alloc, bytes, place)?;
         debug::shown_table(bytes, opts, &sections, &header.optional_header)?
     };
-    let lines = size / debug::ROW + 2;
-    let mut text = Vec::with_capacity(alloc, lines * LONGEST_LINE)?;
+    let certificates = certificates::shown(alloc, bytes, opts, &header.optional_header)?;
+    let lines = (size / debug::ROW + 2).saturating_add(certificates.len());
+    let mut text = Vec::with_capacity(alloc, lines.saturating_mul(LONGEST_LINE))?;
     push_image_line(&mut text, &header.optional_header)?;
     debug::push_lines(&mut text, bytes, place, size)?;
+    certificates::push_lines(&mut text, &certificates)?;
     Ok(text)
 }
 
-/// Shows an image: its line, and a line for each debug entry. The whole text is made before any of
-/// it is written.
+/// Shows an image: its line, a line for each debug entry, and one for each certificate. The whole
+/// text is made before any of it is written.
 pub fn report<A: Allocator, W: io::Write>(
     alloc: A,
     bytes: &[u8],
@@ -95,7 +101,7 @@ pub fn report<A: Allocator, W: io::Write>(
         (W.contents (writer_of out.old)) (W.contents (writer_of out.new))
         (failures_of out.old) (failures_of out.new) }
 {
-    let text = text_of(alloc, bytes, opts).map_err(ReportError::Parse)?;
+    let text = text_of(&alloc, bytes, opts).map_err(ReportError::Parse)?;
     if put_all(out, &text) {
         Ok(())
     } else {

@@ -6,7 +6,7 @@ mod writers;
 
 use crate::counted_out::CountedOut;
 use crate::report::{ReportError, report};
-use images::{headers_alone, low_pointer, put, with_debug};
+use images::{headers_alone, low_pointer, put, with_certificate, with_debug};
 use linked_list_allocator::LocalHeap;
 use pe_core::{Error, ParseMode, ParseOptions, Reason};
 use std::alloc::Global;
@@ -16,6 +16,10 @@ const HEADERS_LINE: &[u8] = b"image 64 entry 00001020 base 0000000140000000\n";
 
 const DEBUG_LINES: &[u8] = b"image 64 entry 00001000 base 0000000140000000\n\
 debug 16 0 00000000 00000000\n";
+
+const CERTIFICATE_LINES: &[u8] = b"image 64 entry 00001000 base 0000000140000000\n\
+debug 16 0 00000000 00000000\n\
+certificate 9 0200 0002\n";
 
 const CUT_LINES: &[u8] = b"image 64 entry 00001000 base 0000000140000000\n\
 debug 16 0 00000000 00000000\n\
@@ -101,9 +105,67 @@ fn refusals_of_images(rt: HostRuntime) -> Result<(), Fail> {
     Ok(())
 }
 
+/// The refusal of an image in strict mode.
+fn refusal(alloc: Global, bytes: &[u8]) -> Option<Reason> {
+    match text(alloc, bytes, ParseMode::Strict) {
+        Err(ReportError::Parse(Error::Malformed(reason))) => Some(reason),
+        _ => None,
+    }
+}
+
+#[test]
+fn certificates_of_images(rt: HostRuntime) -> Result<(), Fail> {
+    let alloc = rt.alloc();
+    let mut bytes = with_certificate(alloc)?;
+    for mode in [ParseMode::Strict, ParseMode::Permissive] {
+        assert_eq!(rt; text(alloc, &bytes, mode)?.as_slice(), CERTIFICATE_LINES);
+    }
+    let opts = ParseOptions {
+        parse_attribute_certificates: false,
+        ..ParseOptions::default()
+    };
+    let mut out = CountedOut::new(Vec::new(alloc));
+    report(alloc, &bytes, &opts, &mut out)?;
+    assert_eq!(rt; out.into_inner().as_slice(), DEBUG_LINES);
+
+    // A table that passes the end of the file, a revision that is none, and a type that is none.
+    for (place, byte, want) in [
+        (0xEC, 0x11, Reason::CertificateTable(0x411)),
+        (0x405, 3, Reason::CertificateRevision(0x0300)),
+        (0x406, 5, Reason::CertificateType(5)),
+        (0x401, 1, Reason::CertificateSize(0x109)),
+    ] {
+        let mut other = with_certificate(alloc)?;
+        put(&mut other, &[(place, &[byte])]);
+        assert_eq!(rt; refusal(alloc, &other), Some(want));
+        assert_eq!(rt;
+            text(alloc, &other, ParseMode::Permissive)?.as_slice(),
+            DEBUG_LINES
+        );
+    }
+    // A debug table that is refused is refused before the certificates are.
+    put(&mut bytes, &[(0xEC, &[0x11]), (0xFC, &[0, 0, 1, 0])]);
+    assert_eq!(rt; refusal(alloc, &bytes), Some(Reason::DebugBounds(0x10240)));
+    Ok(())
+}
+
+#[test]
+fn certificates_of_every_kind(rt: HostRuntime) -> Result<(), Fail> {
+    let alloc = rt.alloc();
+    let mut bytes = with_certificate(alloc)?;
+    put(
+        &mut bytes,
+        &[(0x400, &[1, 0, 0, 0, 0, 1, 4, 0, 7, 0, 0, 0, 0, 2, 1, 0])],
+    );
+    let lines = text(alloc, &bytes, ParseMode::Strict)?;
+    let want = b"certificate 1 0100 0004\ncertificate 7 0200 0001\n";
+    assert!(rt; lines.ends_with(want));
+    Ok(())
+}
+
 #[test]
 fn each_request_for_memory_refused(rt: HostRuntime) -> Result<(), Fail> {
-    let bytes = with_debug(rt.alloc())?;
+    let bytes = with_certificate(rt.alloc())?;
     let opts = ParseOptions::default();
     let mut is_done = false;
     for size in [0usize, 16, 32, 48, 64, 96, 128, 160, 192, 256, 320, 512] {
@@ -112,7 +174,7 @@ fn each_request_for_memory_refused(rt: HostRuntime) -> Result<(), Fail> {
         match report(&heap, &bytes, &opts, &mut out) {
             Ok(()) => {
                 is_done = true;
-                assert_eq!(rt; out.into_inner().as_slice(), DEBUG_LINES);
+                assert_eq!(rt; out.into_inner().as_slice(), CERTIFICATE_LINES);
             }
             Err(refusal) => {
                 assert!(rt; !is_done && matches!(refusal, ReportError::Parse(Error::Memory(_))));

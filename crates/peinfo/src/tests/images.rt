@@ -66,6 +66,17 @@ pub fn with_debug(alloc: Global) -> Result<Vec<u8>, AllocError> {
     )
 }
 
+/// The same with a certificate behind its section.
+pub fn with_certificate(alloc: Global) -> Result<Vec<u8>, AllocError> {
+    let mut bytes = with_debug(alloc)?;
+    let certificate = [9, 0, 0, 0, 0, 2, 2, 0, 0xAA];
+    put(
+        &mut bytes,
+        &[(0xE8, &[0, 4, 0, 0, 0x10, 0, 0, 0]), (0x400, &certificate)],
+    );
+    Ok(bytes)
+}
+
 /// An image whose header's pointer is below 64, without an optional header.
 pub fn low_pointer(alloc: Global) -> Result<Vec<u8>, AllocError> {
     image(

@@ -1,0 +1,209 @@
+-- Certificates one behind the other.
+use Rattle.std.proofs.Common.{Bool, cond, ◌≡◌, ℕ, zero, suc, ◌+◌, ◌<◌, ◌≤◌, true, false, nat_lt, nat_le, inl, inr, length, map, slice_get, Some, List, [], ◌∷◌, ◌++◌, Result, Ok, Err, Vec, refl, ap, sym, ◌∙◌, subst, arith}
+use Rattle.std.proofs.lemmas.Bool.Decides.{nat_tests}
+use Rattle.std.proofs.lemmas.List.{map_push}
+use Rattle.pe_core.specs.Refusals.{Refusal, CertificateTable, kind_of, GivesUnlessMemory, ◌>>=◌}
+use Rattle.pe_core.specs.declared.error.Error.{Error}
+use Rattle.pe_core.specs.declared.error.Error.TheVariants as errors
+use Rattle.pe_records.specs.declared.certificate_table.AttributeCertificate.{AttributeCertificate}
+use Rattle.pe_records.specs.Certificates.{CertificateView, certificate_at, certificate, certificate_tests, Stand, IsListing, CannotGoOn, IsRefused, certificates_from, certificates_at, certificate_view, Lists}
+
+-- the certificates stand one behind the other from p on, each begins before the end, and the last ends at q
+abbrev pub StandFrom : List ℕ → ℕ → ℕ → List CertificateView → ℕ → Type 0
+StandFrom b end p [] q = p ≡ q
+StandFrom b end p (c ∷ cs) q = (p < end) × (next : ℕ) × (certificate_at b p ≡ Ok (c, next)) × StandFrom b end next cs q
+
+-- one more behind them
+pub stand_push : (b : List ℕ) (end p : ℕ) (cs : List CertificateView) (c : CertificateView) (q r : ℕ) → StandFrom b end p cs q → q < end → certificate_at b q ≡ Ok (c, r) → StandFrom b end p (cs ++ c ∷ []) r
+stand_push b end p [] c q r s h e = (subst (λ (n : ℕ). n < end) (sym s) h, r, subst (λ (n : ℕ). certificate_at b n ≡ Ok (c, r)) (sym s) e, refl)
+stand_push b end p (x ∷ cs) c q r s h e = (s.0, s.1, s.2, stand_push b end s.1 cs c q r s.3 h e)
+
+-- the same of a list that is seen through a view
+pub stand_more : {X : Type 0} (f : X → CertificateView) (b : List ℕ) (end p : ℕ) (xs ys : List X) (x : X) (q r : ℕ) → StandFrom b end p (map f xs) q → q < end → certificate_at b q ≡ Ok (f x, r) → ys ≡ xs ++ x ∷ [] → StandFrom b end p (map f ys) r
+stand_more f b end p xs ys x q r s h e same = rw same (rw map_push (stand_push b end p (map f xs) (f x) q r s h e))
+
+-- the next place is further on
+pub next_above : (b : List ℕ) (p : ℕ) (c : CertificateView) (q : ℕ) → certificate_at b p ≡ Ok (c, q) → p < q
+unfolding certificate_at certificate certificate_tests
+next_above b p c q e = grind (arith, nat_tests)
+
+-- ---- the places of certificates that stand one behind the other
+
+abbrev shifted : ℕ → (ℕ → ℕ) → ℕ → ℕ
+shifted p f zero = p
+shifted p f (suc i) = f i
+
+pub record Placed (b : List ℕ) (end p : ℕ) (cs : List CertificateView) (q : ℕ) : Type 0 where
+  pub place : ℕ → ℕ
+  pub first : place 0 ≡ p
+  pub stand : Stand b end place cs
+  pub last : place (length cs) ≡ q
+
+shifted_before : (end p : ℕ) (f : ℕ → ℕ) (n : ℕ) → p < end → ((i : ℕ) → i < n → f i < end) → (i : ℕ) → i < suc n → shifted p f i < end
+shifted_before end p f n h k zero lt = h
+shifted_before end p f n h k (suc i) lt = k i (omega arith)
+
+shifted_behind : (b : List ℕ) (p : ℕ) (f : ℕ → ℕ) (c : CertificateView) (cs : List CertificateView) → certificate_at b p ≡ Ok (c, f 0) → ((i : ℕ) (d : CertificateView) → slice_get cs i ≡ Some d → certificate_at b (f i) ≡ Ok (d, f (suc i))) → (i : ℕ) (d : CertificateView) → slice_get (c ∷ cs) i ≡ Some d → certificate_at b (shifted p f i) ≡ Ok (d, shifted p f (suc i))
+shifted_behind b p f c cs e k zero d same = let is : c ≡ d = cc in rw (← is) e
+shifted_behind b p f c cs e k (suc i) d same = k i d same
+
+pub placed : (b : List ℕ) (end p : ℕ) (cs : List CertificateView) (q : ℕ) → StandFrom b end p cs q → Placed b end p cs q
+placed b end p [] q s = record {
+  place = λ i. p;
+  first = refl;
+  stand = record { before_end = λ i h. absurd (omega arith); behind = λ i c h. cc };
+  last = s;
+}
+placed b end p (c ∷ cs) q s =
+    let rest : Placed b end s.1 cs q = placed b end s.1 cs q s.3 in
+    let here : certificate_at b p ≡ Ok (c, rest.place 0) = rw rest.first s.2 in
+    record {
+      place = shifted p rest.place;
+      first = refl;
+      stand = record {
+        before_end = shifted_before end p rest.place (length cs) s.0 rest.stand.before_end;
+        behind = shifted_behind b p rest.place c cs here rest.stand.behind;
+      };
+      last = rest.last;
+    }
+
+pub unplaced : (b : List ℕ) (end : ℕ) (place : ℕ → ℕ) (cs : List CertificateView) → Stand b end place cs → StandFrom b end (place 0) cs (place (length cs))
+unplaced b end place [] s = refl
+unplaced b end place (c ∷ cs) s = (
+  s.before_end 0 (omega arith),
+  place 1,
+  s.behind 0 c refl,
+  unplaced b end (λ i. place (suc i)) cs (record { before_end = λ i h. s.before_end (suc i) (omega arith); behind = λ i d h. s.behind (suc i) d h }),
+)
+
+pub listing : (b : List ℕ) (address size end : ℕ) (cs : List CertificateView) (q : ℕ) → address + size ≤ length b → end ≡ address + size → StandFrom b end address cs q → end ≤ q → IsListing b address size cs
+listing b address size end cs q h same s k =
+    let is : Placed b (address + size) address cs q = placed b (address + size) address cs q (rw same at s) in
+    record { within = h; place = is.place; first = is.first; stand = is.stand; last = omega (arith, is.last) }
+
+pub refused : (b : List ℕ) (address size end : ℕ) (cs : List CertificateView) (q : ℕ) (r : Refusal) → address + size ≤ length b → end ≡ address + size → StandFrom b end address cs q → q < end → certificate_at b q ≡ Err r → CannotGoOn b address size r
+refused b address size end cs q r h same s k e =
+    let is : Placed b (address + size) address cs q = placed b (address + size) address cs q (rw same at s) in
+    record { within = h; certificates = cs; place = is.place; first = is.first; stand = is.stand; last = omega (arith, is.last); refused = rw is.last e }
+
+-- ---- the listing as a function
+
+yes : (m n : ℕ) → m < n → nat_lt m n ≡ true
+yes m n h = grind (arith, nat_tests)
+
+no : (m n : ℕ) → n ≤ m → nat_lt m n ≡ false
+no m n h = grind (arith, nat_tests)
+
+from_is : (b : List ℕ) (end n p : ℕ) (cs : List CertificateView) (q : ℕ) → StandFrom b end p cs q → end ≤ q → end ≤ p + n → certificates_from b end n p ≡ Ok cs
+unfolding certificates_from
+from_is b end zero p [] q s h k = refl
+from_is b end zero p (c ∷ cs) q s h k = let before : p < end = s.0 in absurd (omega arith)
+from_is b end (suc n) p [] q s h k = let here : p ≡ q = s in rw (no p end (omega arith)) refl
+from_is b end (suc n) p (c ∷ cs) q s h k =
+    let further : p < s.1 = next_above b p c s.1 s.2 in
+    rw (yes p end s.0, s.2, from_is b end n s.1 cs q s.3 h (omega arith)) refl
+
+from_refuses : (b : List ℕ) (end n p : ℕ) (cs : List CertificateView) (q : ℕ) (r : Refusal) → StandFrom b end p cs q → q < end → certificate_at b q ≡ Err r → end ≤ p + n → certificates_from b end n p ≡ Err r
+unfolding certificates_from
+from_refuses b end zero p [] q r s h e k = let here : p ≡ q = s in absurd (omega arith)
+from_refuses b end zero p (c ∷ cs) q r s h e k = let before : p < end = s.0 in absurd (omega arith)
+from_refuses b end (suc n) p [] q r s h e k = let here : p ≡ q = s in rw (here, yes q end h, e) refl
+from_refuses b end (suc n) p (c ∷ cs) q r s h e k =
+    let further : p < s.1 = next_above b p c s.1 s.2 in
+    rw (yes p end s.0, s.2, from_refuses b end n s.1 cs q r s.3 h e (omega arith)) refl
+
+inside : (m n : ℕ) → m ≤ n → nat_le m n ≡ true
+inside m n h = grind (arith, nat_tests)
+
+outside : (m n : ℕ) → n < m → nat_le m n ≡ false
+outside m n h = grind (arith, nat_tests)
+
+pub listing_is : (b : List ℕ) (address size : ℕ) (cs : List CertificateView) → IsListing b address size cs → certificates_at b address size ≡ Ok cs
+unfolding certificates_at
+listing_is b address size cs l =
+    let s : StandFrom b (address + size) address cs (l.place (length cs)) = rw l.first at (unplaced b (address + size) l.place cs l.stand) in
+    rw (inside (address + size) (length b) l.within) (from_is b (address + size) size address cs (l.place (length cs)) s l.last (omega arith))
+
+cannot_go_on : (b : List ℕ) (address size : ℕ) (r : Refusal) → CannotGoOn b address size r → certificates_at b address size ≡ Err r
+unfolding certificates_at
+cannot_go_on b address size r l =
+    let cs : List CertificateView = l.certificates in
+    let s : StandFrom b (address + size) address cs (l.place (length cs)) = rw l.first at (unplaced b (address + size) l.place cs l.stand) in
+    rw (inside (address + size) (length b) l.within) (from_refuses b (address + size) size address cs (l.place (length cs)) r s l.last l.refused (omega arith))
+
+past : (b : List ℕ) (address size : ℕ) → length b < address + size → certificates_at b address size ≡ Err CertificateTable
+unfolding certificates_at
+past b address size h = rw (outside (address + size) (length b) h) refl
+
+pub refusal_is : (b : List ℕ) (address size : ℕ) (r : Refusal) → IsRefused b address size r → certificates_at b address size ≡ Err r
+refusal_is b address size r (inl h) = past b address size h.0 ∙ ap (λ (x : Refusal). Err x) (sym h.1)
+refusal_is b address size r (inr h) = cannot_go_on b address size r h
+
+-- what lists a table gives its listing
+pub listed_is : {Z : Type 0} (b : List ℕ) (address size : ℕ) (r : Result (Vec AttributeCertificate Z) Error) → Lists b address size r → GivesUnlessMemory (λ (v : Vec AttributeCertificate Z). map certificate_view v.items) r (certificates_at b address size)
+listed_is b address size (Ok v) l = listing_is b address size (map certificate_view v.items) l
+listed_is b address size (Err (errors.Malformed x)) l = refusal_is b address size (kind_of (errors.Malformed x)) l
+listed_is b address size (Err (errors.BadMagic x)) l = refusal_is b address size (kind_of (errors.BadMagic x)) l
+listed_is b address size (Err (errors.Short x y)) l = refusal_is b address size (kind_of (errors.Short x y)) l
+listed_is b address size (Err (errors.Memory x)) l = tt
+
+-- what the function gives is a listing or a refusal
+abbrev Settles : List ℕ → ℕ → ℕ → Result (List CertificateView) Refusal → Type 0
+Settles b end p (Ok cs) = (q : ℕ) × StandFrom b end p cs q × (end ≤ q)
+Settles b end p (Err r) = (cs : List CertificateView) × (q : ℕ) × StandFrom b end p cs q × (q < end) × (certificate_at b q ≡ Err r)
+
+settles_more : (b : List ℕ) (end p : ℕ) (c : CertificateView) (next : ℕ) (r : Result (List CertificateView) Refusal) → p < end → certificate_at b p ≡ Ok (c, next) → Settles b end next r → Settles b end p (r >>= λ cs. Ok (c ∷ cs))
+settles_more b end p c next (Ok cs) h e s = (s.0, (h, next, e, s.1), s.2)
+settles_more b end p c next (Err r) h e s = (c ∷ s.0, s.1, (h, next, e, s.2), s.3, s.4)
+
+settles_step : (b : List ℕ) (end n p : ℕ) (t : Bool) (x : Result (CertificateView × ℕ) Refusal) → nat_lt p end ≡ t → certificate_at b p ≡ x → ((c : CertificateView) (next : ℕ) → certificate_at b p ≡ Ok (c, next) → Settles b end next (certificates_from b end n next)) → Settles b end p (cond t (x >>= λ c. certificates_from b end n c.1 >>= λ cs. Ok (c.0 ∷ cs)) (Ok []))
+settles_step b end n p false x t e k = (p, refl, grind (arith, nat_tests))
+settles_step b end n p true (Err r) t e k = ([], p, refl, grind (arith, nat_tests), e)
+settles_step b end n p true (Ok c) t e k = settles_more b end p c.0 c.1 (certificates_from b end n c.1) (grind (arith, nat_tests)) e (k c.0 c.1 e)
+
+settles : (b : List ℕ) (end n p : ℕ) → end ≤ p + n → Settles b end p (certificates_from b end n p)
+unfolding certificates_from
+settles b end zero p h = (p, refl, omega arith)
+settles b end (suc n) p h =
+    settles_step b end n p (nat_lt p end) (certificate_at b p) refl refl
+    (λ c next e. let further : p < next = next_above b p c next e in settles b end n next (omega arith))
+
+abbrev Answers : List ℕ → ℕ → ℕ → Result (List CertificateView) Refusal → Type 0
+Answers b address size (Ok cs) = IsListing b address size cs
+Answers b address size (Err r) = IsRefused b address size r
+
+answers_within : (b : List ℕ) (address size : ℕ) (r : Result (List CertificateView) Refusal) → address + size ≤ length b → Settles b (address + size) address r → Answers b address size r
+answers_within b address size (Ok cs) h s = listing b address size (address + size) cs s.0 h refl s.1 s.2
+answers_within b address size (Err r) h s = inr (refused b address size (address + size) s.0 s.1 r h refl s.2 s.3 s.4)
+
+answers_at : (b : List ℕ) (address size : ℕ) (t : Bool) → nat_le (address + size) (length b) ≡ t → Answers b address size (cond t (certificates_from b (address + size) size address) (Err CertificateTable))
+answers_at b address size true t = answers_within b address size (certificates_from b (address + size) size address) (grind (arith, nat_tests)) (settles b (address + size) size address (omega arith))
+answers_at b address size false t = inl (grind (arith, nat_tests), refl)
+
+answers : (b : List ℕ) (address size : ℕ) → Answers b address size (certificates_at b address size)
+unfolding certificates_at
+answers b address size = answers_at b address size (nat_le (address + size) (length b)) refl
+
+pub is_listing : (b : List ℕ) (address size : ℕ) (cs : List CertificateView) → certificates_at b address size ≡ Ok cs → IsListing b address size cs
+is_listing b address size cs e = subst (Answers b address size) e (answers b address size)
+
+pub is_refused : (b : List ℕ) (address size : ℕ) (r : Refusal) → certificates_at b address size ≡ Err r → IsRefused b address size r
+is_refused b address size r e = subst (Answers b address size) e (answers b address size)
+
+one_ok : {X : Type 0} (r : Result X Refusal) (x y : X) → r ≡ Ok x → r ≡ Ok y → x ≡ y
+one_ok r x y e f = cc
+
+one_err : {X : Type 0} (r : Result X Refusal) (x y : Refusal) → r ≡ Err x → r ≡ Err y → x ≡ y
+one_err r x y e f = cc
+
+not_both : {X : Type 0} (r : Result X Refusal) (x : X) (y : Refusal) → r ≡ Ok x → r ≡ Err y → ⊥
+not_both r x y e f = cc
+
+pub one_listing : (b : List ℕ) (address size : ℕ) (cs ds : List CertificateView) → IsListing b address size cs → IsListing b address size ds → cs ≡ ds
+one_listing b address size cs ds l m = one_ok (certificates_at b address size) cs ds (listing_is b address size cs l) (listing_is b address size ds m)
+
+pub one_refusal : (b : List ℕ) (address size : ℕ) (r s : Refusal) → IsRefused b address size r → IsRefused b address size s → r ≡ s
+one_refusal b address size r s l m = one_err (certificates_at b address size) r s (refusal_is b address size r l) (refusal_is b address size s m)
+
+pub apart : (b : List ℕ) (address size : ℕ) (cs : List CertificateView) (r : Refusal) → IsListing b address size cs → IsRefused b address size r → ⊥
+apart b address size cs r l m = not_both (certificates_at b address size) cs r (listing_is b address size cs l) (refusal_is b address size r m)

@@ -1,0 +1,3 @@
+pub mod CertificateListings
+pub mod CertificatePieces
+pub mod CertificatesReadAgain

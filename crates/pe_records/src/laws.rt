@@ -1,0 +1,30 @@
+//! Laws over the definitions. Each is the contract of a function that does nothing.
+
+ghost use Rattle.std.specs.Prelude.{◌≡◌, ℕ, ◌+◌, ◌%◌, ◌≤◌, ◌↔◌, List, Ok, Err, length};
+ghost use Rattle.pe_core.specs.Bytes.{splice};
+ghost use Rattle.pe_core.specs.Refusals.{Refusal};
+ghost use Rattle.pe_records.specs.Certificates.{CertificateView, certificate_at, certificates_at, IsListing, IsRefused};
+ghost use Rattle.pe_records.specs.CertificateWriting.{IsWhole, spell_certificate, padding, written_length, written_certificate};
+
+/// A table has one listing or one refusal, and never both: what the function gives.
+pub fn tables_have_one_listing()
+    ensures listing { (b : List ℕ) (address size : ℕ) (cs : List CertificateView) → IsListing b address size cs ↔ (certificates_at b address size ≡ Ok cs) }
+    ensures refusal { (b : List ℕ) (address size : ℕ) (r : Refusal) → IsRefused b address size r ↔ (certificates_at b address size ≡ Err r) }
+    ensures one_listing { (b : List ℕ) (address size : ℕ) (cs ds : List CertificateView) → IsListing b address size cs → IsListing b address size ds → cs ≡ ds }
+    ensures one_refusal { (b : List ℕ) (address size : ℕ) (r s : Refusal) → IsRefused b address size r → IsRefused b address size s → r ≡ s }
+    ensures apart { (b : List ℕ) (address size : ℕ) (cs : List CertificateView) (r : Refusal) → IsListing b address size cs → IsRefused b address size r → ⊥ }
+{}
+
+/// A certificate that is written at a multiple of eight, with the length that its body has, is read there again.
+#[tactic(auto, using(crate::proofs::CertificatesReadAgain::read_again))]
+pub fn written_certificates_are_read_again()
+    ensures { (b : List ℕ) (p : ℕ) (c : CertificateView) → IsWhole c → p % 8 ≡ 0 → p + written_length c ≤ length b →
+        certificate_at (splice b p (written_certificate c)) p ≡ Ok (c, p + written_length c) }
+{}
+
+/// A written certificate is its three pieces put in turn: the header, the body and the zeros.
+#[tactic(auto, using(crate::proofs::CertificatePieces::three_pieces))]
+pub fn certificates_are_three_pieces()
+    ensures { (b : List ℕ) (p : ℕ) (c : CertificateView) → p ≤ length b →
+        splice b p (written_certificate c) ≡ splice (splice (splice b p (spell_certificate c)) (p + 8) c.body) (p + 8 + length c.body) (padding c) }
+{}

@@ -1,0 +1,277 @@
+//! Attribute certificates: read, listed and written.
+
+use crate::images::image;
+use linked_list_allocator::LocalHeap;
+use pe_core::{Error, Reason};
+use pe_records::{
+    AttributeCertificate, AttributeCertificateRevision, AttributeCertificateType,
+    CertificateDirectoryTable, enumerate_certificates,
+};
+use std::alloc::Global;
+use std::test::Fail;
+
+#[test]
+fn numbers(rt: HostRuntime) -> Result<(), Fail> {
+    for (number, want) in [
+        (0x0100, AttributeCertificateRevision::Revision1_0),
+        (0x0200, AttributeCertificateRevision::Revision2_0),
+    ] {
+        let revision = AttributeCertificateRevision::try_from(number)?;
+        assert_eq!(rt; revision, want);
+        assert_eq!(rt; revision as u16, number);
+    }
+    for (number, want) in [
+        (1, AttributeCertificateType::X509),
+        (2, AttributeCertificateType::PkcsSignedData),
+        (3, AttributeCertificateType::Reserved1),
+        (4, AttributeCertificateType::TsStackSigned),
+    ] {
+        let kind = AttributeCertificateType::try_from(number)?;
+        assert_eq!(rt; kind, want);
+        assert_eq!(rt; kind as u16, number);
+    }
+    for number in [0, 1, 0x00FF, 0x0101, 0x0300, 0xFFFF] {
+        let refused = AttributeCertificateRevision::try_from(number);
+        assert!(rt;
+            matches!(refused, Err(Error::Malformed(Reason::CertificateRevision(n))) if n == number)
+        );
+    }
+    for number in [0, 5, 0x0100, 0xFFFF] {
+        let refused = AttributeCertificateType::try_from(number);
+        assert!(rt;
+            matches!(refused, Err(Error::Malformed(Reason::CertificateType(n))) if n == number)
+        );
+    }
+    Ok(())
+}
+
+#[test]
+fn reads(rt: HostRuntime) -> Result<(), Fail> {
+    let bytes = [9, 0, 0, 0, 0, 2, 2, 0, 0xAA, 0, 0, 0, 0, 0, 0, 0];
+    let mut offset = 0;
+    let read = AttributeCertificate::parse(&bytes, &mut offset)?;
+    assert_eq!(rt; read.length, 9);
+    assert_eq!(rt; read.revision, AttributeCertificateRevision::Revision2_0);
+    assert_eq!(rt;
+        read.certificate_type,
+        AttributeCertificateType::PkcsSignedData
+    );
+    assert_eq!(rt; read.certificate, [0xAA].as_slice());
+    assert_eq!(rt; offset, 16);
+
+    let without_body = [3, 0, 0, 0, 0, 2, 2, 0];
+    let mut offset = 0;
+    let read = AttributeCertificate::parse(&without_body, &mut offset)?;
+    assert_eq!(rt; read.length, 3);
+    assert!(rt; read.certificate.is_empty());
+    assert_eq!(rt; offset, 8);
+    Ok(())
+}
+
+/// The body may end the file without the zeros behind it: the offset then is past the file.
+#[test]
+fn reads_a_last_body(rt: HostRuntime) -> Result<(), Fail> {
+    let bytes = [0, 0, 9, 0, 0, 0, 0, 1, 1, 0, 0xBB];
+    let mut offset = 2;
+    let read = AttributeCertificate::parse(&bytes, &mut offset)?;
+    assert_eq!(rt; read.certificate, [0xBB].as_slice());
+    assert_eq!(rt; offset, 16);
+    Ok(())
+}
+
+#[test]
+fn refuses_in_order(rt: HostRuntime) -> Result<(), Fail> {
+    let cases: [(&[u8], Reason); 4] = [
+        (
+            &[8, 0, 0, 0, 0, 3, 2, 0],
+            Reason::CertificateRevision(0x0300),
+        ),
+        (
+            &[8, 0, 0, 0, 0, 3, 5, 0],
+            Reason::CertificateRevision(0x0300),
+        ),
+        (&[8, 0, 0, 0, 0, 2, 5, 0], Reason::CertificateType(5)),
+        (&[10, 0, 0, 0, 0, 3, 5, 0, 1], Reason::CertificateSize(10)),
+    ];
+    for (bytes, want) in cases {
+        let mut offset = 0;
+        let refused = AttributeCertificate::parse(bytes, &mut offset).err();
+        assert!(rt; matches!(refused, Some(Error::Malformed(reason)) if reason == want));
+        assert_eq!(rt; offset, 8);
+    }
+    for start in [1, 8, 9, usize::MAX] {
+        let mut offset = start;
+        let refused = AttributeCertificate::parse(&[8, 0, 0, 0, 0, 2, 2, 0], &mut offset).err();
+        assert!(rt; matches!(refused, Some(Error::Short { at, needed: 8 }) if at == start));
+        assert_eq!(rt; offset, start);
+    }
+    Ok(())
+}
+
+fn signed(length: u32, certificate: &[u8]) -> AttributeCertificate<'_> {
+    AttributeCertificate {
+        length,
+        revision: AttributeCertificateRevision::Revision2_0,
+        certificate_type: AttributeCertificateType::PkcsSignedData,
+        certificate,
+    }
+}
+
+#[test]
+fn lists_what_was_written(rt: HostRuntime) -> Result<(), Fail> {
+    let mut out = [0x55; 56];
+    let place = signed(9, &[1]).write_into(&mut out, 8)?;
+    assert_eq!(rt; place, 24);
+    let place = signed(17, &[1, 2, 3, 4, 5, 6, 7, 8, 9]).write_into(&mut out, place)?;
+    assert_eq!(rt; place, 48);
+    let want = [
+        0x55, 0x55, 0x55, 0x55, 0x55, 0x55, 0x55, 0x55, // before
+        9, 0, 0, 0, 0, 2, 2, 0, 1, 0, 0, 0, 0, 0, 0, 0, // 16 bytes
+        17, 0, 0, 0, 0, 2, 2, 0, 1, 2, 3, 4, 5, 6, 7, 8, 9, 0, 0, 0, 0, 0, 0, 0, // 24 bytes
+        0x55, 0x55, 0x55, 0x55, 0x55, 0x55, 0x55, 0x55, // behind
+    ];
+    assert_eq!(rt; out, want);
+    let listed = enumerate_certificates(rt.alloc(), &out, 8, 40)?;
+    assert_eq!(rt; listed.len(), 2);
+    for (certificate, want) in listed.iter().zip([9, 17]) {
+        assert_eq!(rt; certificate.length, want);
+        assert_eq!(rt; certificate.certificate.len() + 8, want as usize);
+    }
+    Ok(())
+}
+
+#[test]
+fn writes_where_it_fits(rt: HostRuntime) -> Result<(), Fail> {
+    let certificate = signed(17, &[1, 2, 3, 4, 5, 6, 7, 8, 9]);
+    for length in 0..40 {
+        let mut out = image(rt.alloc(), length, &[(0, &[7; 39])])?;
+        let refused = certificate.write_into(&mut out, 16).err();
+        assert!(rt;
+            matches!(
+                refused,
+                Some(Error::Malformed(Reason::WriteFit { end: 40, length: n })) if n == length
+            ),
+            "{length} bytes"
+        );
+        assert!(rt; out.iter().all(|byte| *byte == 7), "{length} bytes");
+    }
+    let mut out = image(rt.alloc(), 40, &[])?;
+    assert_eq!(rt; certificate.write_into(&mut out, 16)?, 40);
+    let far = certificate.write_into(&mut out, usize::MAX).err();
+    assert!(rt;
+        matches!(
+            far,
+            Some(Error::Malformed(Reason::WriteFit {
+                end: u64::MAX,
+                length: 40
+            }))
+        )
+    );
+    Ok(())
+}
+
+/// The end of a signed image of 0x410 bytes.
+fn signed_image(alloc: Global) -> Result<Vec<u8>, Fail> {
+    let certificate = [9, 0, 0, 0, 0, 2, 2, 0, 0xAA];
+    Ok(image(alloc, 0x410, &[(0x400, &certificate)])?)
+}
+
+#[test]
+fn lists_tables(rt: HostRuntime) -> Result<(), Fail> {
+    let bytes = signed_image(rt.alloc())?;
+    // The second table ends before the body does.
+    for size in [0x10, 8, 1] {
+        let listed = enumerate_certificates(rt.alloc(), &bytes, 0x400, size)?;
+        assert_eq!(rt; listed.len(), 1);
+        for certificate in &listed {
+            assert_eq!(rt; certificate.certificate, [0xAA].as_slice());
+        }
+    }
+    for address in [0, 0x400, 0x410] {
+        assert!(rt; enumerate_certificates(rt.alloc(), &bytes, address, 0)?.is_empty());
+    }
+    Ok(())
+}
+
+#[test]
+fn refuses_tables(rt: HostRuntime) -> Result<(), Fail> {
+    let bytes = signed_image(rt.alloc())?;
+    for (address, size, end) in [
+        (0x400, 0x11, 0x411),
+        (0x411, 0, 0x411),
+        (usize::MAX, 1, u64::MAX),
+        (0, usize::MAX, u64::MAX),
+    ] {
+        let refused = enumerate_certificates(rt.alloc(), &bytes, address, size).err();
+        assert!(rt;
+            matches!(refused, Some(Error::Malformed(Reason::CertificateTable(n))) if n == end)
+        );
+    }
+    // Zeros are no certificate, and the last seven bytes are too few for one.
+    let refused = enumerate_certificates(rt.alloc(), &bytes, 0x3F8, 8).err();
+    assert!(rt;
+        matches!(
+            refused,
+            Some(Error::Malformed(Reason::CertificateRevision(0)))
+        )
+    );
+    let refused = enumerate_certificates(rt.alloc(), &bytes, 0x409, 7).err();
+    assert!(rt;
+        matches!(
+            refused,
+            Some(Error::Short {
+                at: 0x409,
+                needed: 8
+            })
+        )
+    );
+    Ok(())
+}
+
+fn body_of<'a>(alloc: Global, bytes: &'a [u8]) -> Result<&'a [u8], Fail> {
+    let listed: CertificateDirectoryTable<'a> = enumerate_certificates(alloc, bytes, 0x400, 0x10)?;
+    match listed.first() {
+        Some(certificate) => Ok(certificate.certificate),
+        None => Err("no certificate")?,
+    }
+}
+
+/// A body belongs to the file, and outlives the vector of certificates.
+#[test]
+fn keeps_a_body(rt: HostRuntime) -> Result<(), Fail> {
+    let bytes = signed_image(rt.alloc())?;
+    assert_eq!(rt; body_of(rt.alloc(), &bytes)?, [0xAA].as_slice());
+    Ok(())
+}
+
+/// Ten certificates: the vector grows as they come, and each request for memory is refused by some heap.
+#[test]
+fn each_request_refused(rt: HostRuntime) -> Result<(), Fail> {
+    let mut bytes = image(rt.alloc(), 160, &[])?;
+    let mut place = 0;
+    for _ in 0..10 {
+        place = signed(9, &[1]).write_into(&mut bytes, place)?;
+    }
+    let mut done = false;
+    let mut refused = 0u32;
+    for size in [
+        0, 64, 128, 160, 192, 256, 320, 384, 512, 640, 768, 1024, 2048,
+    ] {
+        let heap = LocalHeap::new(rt.alloc(), size)?;
+        match enumerate_certificates(&heap, &bytes, 0, 160) {
+            Ok(listed) => {
+                done = true;
+                assert_eq!(rt; listed.len(), 10, "with {size} bytes");
+            }
+            Err(refusal) => {
+                assert!(rt;
+                    !done && matches!(refusal, Error::Memory(_)),
+                    "with {size} bytes"
+                );
+                refused = refused.wrapping_add(1);
+            }
+        }
+    }
+    assert!(rt; done && refused >= 3);
+    Ok(())
+}
