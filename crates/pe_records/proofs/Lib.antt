@@ -1,0 +1,2 @@
+pub mod EntriesInOrder
+pub mod PogoNames

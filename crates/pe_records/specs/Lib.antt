@@ -1,0 +1,3 @@
+pub mod DebugDirectory
+pub mod DebugRecords
+pub mod Pogo
