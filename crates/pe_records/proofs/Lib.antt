@@ -1,2 +1,5 @@
 pub mod EntriesInOrder
+pub mod EntryRuns
+pub mod DebugModes
 pub mod PogoNames
+pub mod PogoReadings

@@ -4,6 +4,7 @@
 #![tactic(auto)]
 
 mod debug;
+pub mod laws;
 
 pub use debug::{
     CODEVIEW_CV41_MAGIC, CODEVIEW_CV50_MAGIC, CODEVIEW_PDB20_MAGIC, CODEVIEW_PDB70_MAGIC,
