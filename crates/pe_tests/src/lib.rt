@@ -4,6 +4,8 @@
 #[cfg(test)]
 mod bytes;
 #[cfg(test)]
+mod debug;
+#[cfg(test)]
 mod headers;
 #[cfg(test)]
 mod images;
