@@ -114,27 +114,30 @@ fn entries_of_other_types(rt: HostRuntime) -> std::result::Result<(), Fail> {
     Ok(())
 }
 
-/// The table and the records of five entries; the CodeView record is of PDB 7.0 or of PDB 2.0.
+/// The table and the records of five entries; the CodeView record, of PDB 7.0 or of PDB 2.0, says this size.
 fn five_entries(
     alloc: Global,
     codeview: &[u8],
     size: u8,
 ) -> std::result::Result<Vec<u8>, AllocError> {
-    image(
+    let mut bytes = image(
         alloc,
         0xE0,
         &[
-            (0x0C, &[2, 0, 0, 0, size, 0, 0, 0, 0x90]),
+            (0x0C, &[2, 0, 0, 0, 0, 0, 0, 0, 0x90]),
             (0x28, &[12, 0, 0, 0, 20, 0, 0, 0, 0xB0]),
             (0x44, &[20, 0, 0, 0, 4, 0, 0, 0, 0xC4]),
             (0x60, &[16, 0, 0, 0, 7, 0, 0, 0, 0xC8]),
             (0x7C, &[13, 0, 0, 0, 16, 0, 0, 0, 0xD0]),
-            (0x90, codeview),
             (0xB0, &[1, 0, 0, 0, 2, 0, 0, 0, 3, 0, 0, 0, 4, 0, 0, 0, 5]),
             (0xC4, &[0x41, 0, 0, 0, 3, 0, 0, 0, 0xAA, 0xBB, 0xCC]),
             (0xD0, b"GCTL\0\x10\0\0\x03\0\0\0.a\0\0"),
         ],
-    )
+    )?;
+    for (byte, slot) in codeview.iter().zip(bytes.iter_mut().skip(0x90)) {
+        *slot = *byte;
+    }
+    Ok(with_byte(bytes, 0x10, size))
 }
 
 const PDB70: &[u8] =
