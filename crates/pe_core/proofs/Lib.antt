@@ -5,3 +5,4 @@ pub mod NumberBytes
 pub mod SpelledRecords
 pub mod SpelledOptional
 pub mod Modes
+pub mod PutNumbers

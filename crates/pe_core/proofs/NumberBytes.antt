@@ -5,7 +5,7 @@ use Rattle.std.proofs.lemmas.List.{places, same_lists}
 use native.Mathlib.Numerals.{unary_clauses}
 use Rattle.pe_core.specs.Bytes.{AreBytes, le, bytes_of}
 
-le-zero : (b : List ℕ) (p : ℕ) → le b p 0 ≡ 0
+pub le-zero : (b : List ℕ) (p : ℕ) → le b p 0 ≡ 0
 unfolding le
 le-zero b p = refl
 

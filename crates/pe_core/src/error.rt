@@ -82,7 +82,7 @@ pub enum Reason {
 }
 
 impl Reason {
-    /// The text of a reason about headers, sections, imports, certificates or debug data.
+    /// The text of a reason about headers, sections, imports or certificates.
     fn fmt_table<W: fmt::Write>(&self, f: &mut fmt::Formatter<W>) -> fmt::Result {
         match self {
             Reason::HeaderPointer(pointer) => write!(
@@ -111,6 +111,13 @@ impl Reason {
                 f,
                 "no section maps the address {address:#x} to the file"
             ),
+            other => other.fmt_debug(f),
+        }
+    }
+
+    /// The text of a reason about debug data.
+    fn fmt_debug<W: fmt::Write>(&self, f: &mut fmt::Formatter<W>) -> fmt::Result {
+        match self {
             Reason::DebugBounds(end) => write!(
                 f,
                 "the debug directory ends at {end:#x}, past the end of the file"

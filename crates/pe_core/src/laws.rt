@@ -1,11 +1,17 @@
 //! Laws over the definitions. Each is the contract of a function that does nothing.
 
-ghost use Rattle.std.specs.Prelude.{◌≡◌, ℕ, ◌+◌, ◌≤◌, List, Ok, length};
+ghost use Rattle.std.specs.Prelude.{◌≡◌, ℕ, ◌+◌, ◌<◌, ◌≤◌, ◌^◌, List, Ok, length};
 ghost use Rattle.pe_core.specs.declared.options.ParseMode.{ParseMode};
-ghost use Rattle.pe_core.specs.Bytes.{AreBytes, range};
+ghost use Rattle.pe_core.specs.Bytes.{AreBytes, range, le, bytes_of, put};
 ghost use Rattle.pe_core.specs.Header.{OptionalHeaderView, HeaderView, optional_header_at, header_at};
 ghost use Rattle.pe_core.specs.Records.{dos_header, coff_header, standard32, standard64, windows32, windows64, data_directory, section_table, te_header};
 ghost use Rattle.pe_core.specs.Spelling.{spell_dos, spell_coff, spell_standard32, spell_standard64, spell_windows32, spell_windows64, spell_directory, spell_section, spell_te, spell_optional};
+
+/// A number that is put at a place, where its bytes fit, is read there again.
+#[tactic(auto, using(crate::proofs::PutNumbers::numbers))]
+pub fn numbers_that_are_put_are_read_again()
+    ensures { (b : List ℕ) (p n number : ℕ) → p + n ≤ length b → number < 256 ^ n → le (put b p (bytes_of n number)) p n ≡ number }
+{}
 
 /// A record that is read at a place spells the bytes of that place, whatever they are.
 #[tactic(auto, using(crate::proofs::SpelledRecords::spelled_dos, crate::proofs::SpelledRecords::spelled_coff, crate::proofs::SpelledRecords::spelled_standard32, crate::proofs::SpelledRecords::spelled_standard64, crate::proofs::SpelledRecords::spelled_windows32, crate::proofs::SpelledRecords::spelled_windows64, crate::proofs::SpelledRecords::spelled_directory, crate::proofs::SpelledRecords::spelled_section, crate::proofs::SpelledRecords::spelled_te))]

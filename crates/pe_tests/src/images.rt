@@ -3,7 +3,11 @@
 use std::alloc::{AllocError, Global};
 
 /// A buffer of zeros with these bytes at these places.
-pub fn image(alloc: Global, len: usize, parts: &[(usize, &[u8])]) -> Result<Vec<u8>, AllocError> {
+pub(crate) fn image(
+    alloc: Global,
+    len: usize,
+    parts: &[(usize, &[u8])],
+) -> Result<Vec<u8>, AllocError> {
     let mut bytes = vec![in alloc; 0; len]?;
     for (place, part) in parts {
         for (byte, slot) in part.iter().zip(bytes.iter_mut().skip(*place)) {
@@ -14,7 +18,7 @@ pub fn image(alloc: Global, len: usize, parts: &[(usize, &[u8])]) -> Result<Vec<
 }
 
 /// An image of PE32+ with headers alone.
-pub fn headers_alone(alloc: Global) -> Result<Vec<u8>, AllocError> {
+pub(crate) fn headers_alone(alloc: Global) -> Result<Vec<u8>, AllocError> {
     image(
         alloc,
         0x200,
@@ -33,7 +37,7 @@ pub fn headers_alone(alloc: Global) -> Result<Vec<u8>, AllocError> {
 }
 
 /// An image whose DOS header points into itself.
-pub fn pointer_below_64(alloc: Global) -> Result<Vec<u8>, AllocError> {
+pub(crate) fn pointer_below_64(alloc: Global) -> Result<Vec<u8>, AllocError> {
     image(
         alloc,
         256,
@@ -47,7 +51,7 @@ pub fn pointer_below_64(alloc: Global) -> Result<Vec<u8>, AllocError> {
 }
 
 /// The buffer with this byte at this place.
-pub fn with_byte(mut bytes: Vec<u8>, place: usize, byte: u8) -> Vec<u8> {
+pub(crate) fn with_byte(mut bytes: Vec<u8>, place: usize, byte: u8) -> Vec<u8> {
     if let Some(slot) = bytes.get_mut(place) {
         *slot = byte;
     }

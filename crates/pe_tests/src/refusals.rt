@@ -5,159 +5,155 @@ use std::alloc::AllocError;
 use std::test::Fail;
 
 /// What a reader of a file meets.
-#[test]
-fn texts_of_reading(rt: HostRuntime) -> Result<(), Fail> {
-    for (reason, want) in [
-        (
-            Reason::HeaderPointer(0x30),
-            "the DOS header points to a PE header at 0x30, inside its own 64 bytes",
-        ),
-        (
-            Reason::ImportName(0x2010),
-            "the library's name at address 0x2010 has no end or is not UTF-8",
-        ),
-        (
-            Reason::StringTable(4),
-            "the string table has no text at 0x4",
-        ),
-        (
-            Reason::CertificateRevision(0x300),
-            "0x300 is no revision of a certificate",
-        ),
-        (
-            Reason::CertificateType(9),
-            "0x9 is no type of a certificate",
-        ),
-        (
-            Reason::CertificateSize(24),
-            "the file ends before a certificate of 24 bytes does",
-        ),
-        (
-            Reason::CertificateTable(0x411),
-            "the certificate table ends at 0x411, past the end of the file",
-        ),
-        (
-            Reason::Unmapped(0x3000),
-            "no section maps the address 0x3000 to the file",
-        ),
-        (
-            Reason::DebugBounds(0x500),
-            "the debug directory ends at 0x500, past the end of the file",
-        ),
-        (
-            Reason::DebugSize(20),
-            "20 bytes are too few for the debug record",
-        ),
-        (
-            Reason::DebugData(64),
-            "the file ends before the 64 bytes of a debug record do",
-        ),
-        (
-            Reason::PogoSize(4),
-            "a POGO record of 4 bytes holds no entries",
-        ),
-        (
-            Reason::PogoName {
-                place: 0x18,
-                length: 0x17,
-            },
-            "the POGO entry at 0x18 has no ended name in its 23 bytes",
-        ),
-        (
-            Reason::ExceptionSize(32),
-            "the exception directory's 32 bytes are no whole number of entries",
-        ),
-        (
-            Reason::ExceptionOffset(0x600),
-            "the exception directory's place 0x600 is past the end of the file",
-        ),
-        (
-            Reason::ExceptionBounds(0x618),
-            "the exception directory ends at 0x618, past the end of the file",
-        ),
-        (Reason::FunctionIndex(7), "there is no function 7"),
-        (
-            Reason::FunctionLink(0x1005),
-            "the link 0x1005 leads to no function entry",
-        ),
-        (
-            Reason::FunctionCycle(3),
-            "the links from function to function never end: 3 were followed",
-        ),
-        (
-            Reason::UnwindVersion(3),
-            "3 is no known version of an unwind record",
-        ),
-        (Reason::UnwindCode(0x4B), "0x4b begins no unwind code"),
-        (
-            Reason::Arm64Version(1),
-            "1 is no known version of an ARM64 unwind record",
-        ),
-        (
-            Reason::Arm64Stream {
-                length: 65_540,
-                start: 0x10,
-            },
-            "65540 bytes are no stream of ARM64 unwind codes to be read from 0x10",
-        ),
-        (
-            Reason::Arm64Cut(0x20),
-            "the ARM64 unwind code at 0x20 is cut",
-        ),
-        (
-            Reason::ResourceBounds(0x700),
-            "the resource directory ends at 0x700, past the end of the file",
-        ),
-        (
-            Reason::ResourceCycle(0x18),
-            "the resource directory at 0x18 leads back to itself",
-        ),
-        (
-            Reason::ResourceString(0x70),
-            "the version string at 0x70 is too long for its value",
-        ),
-    ] {
-        assert_eq!(rt; reason.to_string(rt.alloc())?.as_str(), want);
-        let error = Error::Malformed(reason);
-        assert_eq!(rt; error.to_string(rt.alloc())?.as_str(), want);
-    }
-    Ok(())
-}
+const READING: [(Reason, &str); 27] = [
+    (
+        Reason::HeaderPointer(0x30),
+        "the DOS header points to a PE header at 0x30, inside its own 64 bytes",
+    ),
+    (
+        Reason::ImportName(0x2010),
+        "the library's name at address 0x2010 has no end or is not UTF-8",
+    ),
+    (
+        Reason::StringTable(4),
+        "the string table has no text at 0x4",
+    ),
+    (
+        Reason::CertificateRevision(0x300),
+        "0x300 is no revision of a certificate",
+    ),
+    (
+        Reason::CertificateType(9),
+        "0x9 is no type of a certificate",
+    ),
+    (
+        Reason::CertificateSize(24),
+        "the file ends before a certificate of 24 bytes does",
+    ),
+    (
+        Reason::CertificateTable(0x411),
+        "the certificate table ends at 0x411, past the end of the file",
+    ),
+    (
+        Reason::Unmapped(0x3000),
+        "no section maps the address 0x3000 to the file",
+    ),
+    (
+        Reason::DebugBounds(0x500),
+        "the debug directory ends at 0x500, past the end of the file",
+    ),
+    (
+        Reason::DebugSize(20),
+        "20 bytes are too few for the debug record",
+    ),
+    (
+        Reason::DebugData(64),
+        "the file ends before the 64 bytes of a debug record do",
+    ),
+    (
+        Reason::PogoSize(4),
+        "a POGO record of 4 bytes holds no entries",
+    ),
+    (
+        Reason::PogoName {
+            place: 0x18,
+            length: 0x17,
+        },
+        "the POGO entry at 0x18 has no ended name in its 23 bytes",
+    ),
+    (
+        Reason::ExceptionSize(32),
+        "the exception directory's 32 bytes are no whole number of entries",
+    ),
+    (
+        Reason::ExceptionOffset(0x600),
+        "the exception directory's place 0x600 is past the end of the file",
+    ),
+    (
+        Reason::ExceptionBounds(0x618),
+        "the exception directory ends at 0x618, past the end of the file",
+    ),
+    (Reason::FunctionIndex(7), "there is no function 7"),
+    (
+        Reason::FunctionLink(0x1005),
+        "the link 0x1005 leads to no function entry",
+    ),
+    (
+        Reason::FunctionCycle(3),
+        "the links from function to function never end: 3 were followed",
+    ),
+    (
+        Reason::UnwindVersion(3),
+        "3 is no known version of an unwind record",
+    ),
+    (Reason::UnwindCode(0x4B), "0x4b begins no unwind code"),
+    (
+        Reason::Arm64Version(1),
+        "1 is no known version of an ARM64 unwind record",
+    ),
+    (
+        Reason::Arm64Stream {
+            length: 65_540,
+            start: 0x10,
+        },
+        "65540 bytes are no stream of ARM64 unwind codes to be read from 0x10",
+    ),
+    (
+        Reason::Arm64Cut(0x20),
+        "the ARM64 unwind code at 0x20 is cut",
+    ),
+    (
+        Reason::ResourceBounds(0x700),
+        "the resource directory ends at 0x700, past the end of the file",
+    ),
+    (
+        Reason::ResourceCycle(0x18),
+        "the resource directory at 0x18 leads back to itself",
+    ),
+    (
+        Reason::ResourceString(0x70),
+        "the version string at 0x70 is too long for its value",
+    ),
+];
 
 /// What a writer of an image and a reader of a terse one meet.
+const WRITING: [(Reason, &str); 7] = [
+    (
+        Reason::TeSize(39),
+        "a stripped size of 39 bytes is less than the 40 of a TE header",
+    ),
+    (Reason::NoOptionalHeader, "the image has no optional header"),
+    (
+        Reason::WriteAlignment(0x300),
+        "0x300 can't be the alignment of a written image",
+    ),
+    (
+        Reason::WriteSymbols(0x800),
+        "an image with COFF symbols, here at 0x800, can't be written",
+    ),
+    (
+        Reason::WriteOverlap(1, 2),
+        "sections 1 and 2 differ and share bytes of the file",
+    ),
+    (
+        Reason::WriteSection(3),
+        "the data of section 3 are not in the source",
+    ),
+    (
+        Reason::WriteFit {
+            end: 0x410,
+            length: 1_039,
+        },
+        "what is written ends at 0x410, past a buffer of 1039 bytes",
+    ),
+];
+
 #[test]
-fn texts_of_writing(rt: HostRuntime) -> Result<(), Fail> {
-    for (reason, want) in [
-        (
-            Reason::TeSize(39),
-            "a stripped size of 39 bytes is less than the 40 of a TE header",
-        ),
-        (Reason::NoOptionalHeader, "the image has no optional header"),
-        (
-            Reason::WriteAlignment(0x300),
-            "0x300 can't be the alignment of a written image",
-        ),
-        (
-            Reason::WriteSymbols(0x800),
-            "an image with COFF symbols, here at 0x800, can't be written",
-        ),
-        (
-            Reason::WriteOverlap(1, 2),
-            "sections 1 and 2 differ and share bytes of the file",
-        ),
-        (
-            Reason::WriteSection(3),
-            "the data of section 3 are not in the source",
-        ),
-        (
-            Reason::WriteFit {
-                end: 0x410,
-                length: 1_039,
-            },
-            "what is written ends at 0x410, past a buffer of 1039 bytes",
-        ),
-    ] {
-        assert_eq!(rt; reason.to_string(rt.alloc())?.as_str(), want);
+fn texts_of_reasons(rt: HostRuntime) -> Result<(), Fail> {
+    for (reason, want) in READING.iter().chain(WRITING.iter()) {
+        assert_eq!(rt; reason.to_string(rt.alloc())?.as_str(), *want);
+        let error = Error::Malformed(*reason);
+        assert_eq!(rt; error.to_string(rt.alloc())?.as_str(), *want);
     }
     Ok(())
 }

@@ -1,0 +1,5 @@
+pub mod DecimalText
+pub mod HexText
+pub mod Reading
+pub mod Words
+pub mod Writing

@@ -1,0 +1,28 @@
+-- A writer that counts its failures.
+use Rattle.std.specs.Prelude.{◌≡◌, ℕ, ◌+◌, ◌-◌, ◌^◌, ◌<◌, ◌⊎◌, min, List, length, take, Option}
+use Rattle.std.specs.Io.KnownBytes.{Appends}
+use Rattle.peinfo.specs.declared.counted_out.CountedOut.{CountedOut}
+
+abbrev pub writer_of : {W : Type 0} → CountedOut W → W
+writer_of out = out.writer
+
+abbrev pub failures_of : {W : Type 0} → CountedOut W → ℕ
+failures_of out = out.failures
+
+-- the greatest value of the counter
+abbrev pub MOST : ℕ
+MOST = 2 ^ 64 - 1
+
+-- one failure more, or still the greatest value
+abbrev pub one_more : ℕ → ℕ
+one_more n = min (n + 1) MOST
+
+-- it rose, or stands at its greatest value
+abbrev pub RoseOrFull : ℕ → ℕ → Type 0
+RoseOrFull old new = (old < new) ⊎ (new ≡ MOST)
+
+-- known bytes grew by a beginning of the text, and not by all of it
+pub record AppendsBeginning (old new : Option (List ℕ)) (text : List ℕ) : Type 0 where
+  pub count : ℕ
+  pub within : count < length text
+  pub written : Appends old new (take count text)

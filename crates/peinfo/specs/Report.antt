@@ -1,0 +1,41 @@
+-- The text that is shown of an image.
+use Rattle.std.specs.Prelude.{◌≡◌, ℕ, ◌+◌, ◌++◌, ◌==◌, List, Option, Some, None, Result, Ok, Err, codes, if◌then◌else◌}
+use Rattle.std.specs.Io.KnownBytes.{Appends, Keeps}
+use Rattle.pe_core.specs.Header.{OptionalHeaderView, header_at}
+use Rattle.pe_core.specs.Refusals.{Refusal, ◌>>=◌, UnlessMemory, kind_of}
+use Rattle.pe_core.specs.Sections.{sections_at}
+use Rattle.pe_core.specs.declared.options.ParseOptions.{ParseOptions}
+use Rattle.peinfo.specs.declared.report.ReportError.{ReportError}
+use Rattle.peinfo.specs.declared.report.ReportError.TheVariants.{Parse, Write}
+use Rattle.peinfo.specs.DebugEntries.{shown_table, debug_lines}
+use Rattle.peinfo.specs.Hex.{hex}
+use Rattle.peinfo.specs.Output.{AppendsBeginning, RoseOrFull}
+
+-- by the optional header's magic number
+abbrev pub width_text : ℕ → List ℕ
+width_text magic = if magic == 0x20B then codes "64" else codes "32"
+
+abbrev pub image_text : List ℕ → ℕ → ℕ → List ℕ
+image_text width entry base = codes "image " ++ width ++ codes " entry " ++ hex 8 entry ++ codes " base " ++ hex 16 base ++ codes "\n"
+
+-- the first line; without an optional header its numbers are 0
+unfoldable pub image_line : Option OptionalHeaderView → List ℕ
+image_line None = image_text (codes "32") 0 0
+image_line (Some o) = image_text (width_text o.standard_fields.magic) o.standard_fields.address_of_entry_point o.windows_fields.image_base
+
+-- the whole text, or the first refusal: of the header, of the sections, of the debug table
+unfoldable pub report_text : List ℕ → ParseOptions → Result (List ℕ) Refusal
+report_text b opts = do
+  header ← header_at b opts.parse_mode
+  sections ← sections_at b (header.dos_header.pe_pointer + 24 + header.coff_header.size_of_optional_header) header.coff_header.number_of_sections
+  table ← shown_table b opts sections header.optional_header
+  Ok (image_line header.optional_header ++ debug_lines b table.0 table.1)
+
+-- what a call did to known bytes and to the count of failures
+abbrev pub Reports : Result (Unit {0}) ReportError → Result (List ℕ) Refusal → Option (List ℕ) → Option (List ℕ) → ℕ → ℕ → Type 0
+-- exactly the text was written, and no write failed
+Reports (Ok u) defined old new failed_old failed_new = (text : List ℕ) × (defined ≡ Ok text) × Appends old new text × (failed_new ≡ failed_old)
+-- nothing was written
+Reports (Err (Parse e)) defined old new failed_old failed_new = UnlessMemory e (defined ≡ Err (kind_of e)) × Keeps old new × (failed_new ≡ failed_old)
+-- a beginning was written, and a write failed
+Reports (Err Write) defined old new failed_old failed_new = (text : List ℕ) × (defined ≡ Ok text) × AppendsBeginning old new text × RoseOrFull failed_old failed_new

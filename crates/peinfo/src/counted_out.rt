@@ -1,0 +1,93 @@
+//! A writer that counts its failures.
+
+ghost use Rattle.std.specs.Prelude.{◌≡◌, ◌<◌, ◌≤◌, [], length, take, IfSome, IfNone, Some};
+ghost use Rattle.std.specs.Bool.{OnTrue, OnFalse};
+ghost use Rattle.std.specs.Io.KnownBytes.{Appends, Keeps};
+
+use std::io::Write;
+
+/// A writer, and how many of its writes failed or took nothing.
+#[derive(Drop)]
+pub struct CountedOut<W> {
+    writer: W,
+    failures: u64,
+}
+
+impl<W: Write> CountedOut<W> {
+    ghost use Rattle.peinfo.specs.Output.{writer_of, failures_of, one_more};
+
+    /// A writer without failures so far.
+    pub fn new(writer: W) -> CountedOut<W>
+        ensures writer { writer_of result ≡ writer }
+        ensures failures { failures_of result ≡ 0 }
+    {
+        CountedOut {
+            writer,
+            failures: 0,
+        }
+    }
+
+    /// Gives the writer back, with what it holds.
+    pub fn into_inner(self) -> W
+        ensures { result ≡ writer_of self }
+    {
+        let CountedOut {
+            writer,
+            failures: _,
+        } = self;
+        writer
+    }
+
+    /// How many writes failed or took nothing. It stays at its greatest value.
+    pub fn failures(&self) -> u64
+        ensures { result ≡ failures_of self.now }
+    {
+        self.failures
+    }
+
+    /// One write: how much of the piece was taken. Nothing of a nonempty piece is a failure.
+    pub fn put(&mut self, piece: &[u8]) -> Option<usize>
+        ensures empty { piece.now ≡ [] → result ≡ Some 0 }
+        ensures bound { IfSome result (λ n. n ≤ length piece.now) }
+        ensures progress { 0 < length piece.now → IfSome result (λ n. 0 < n) }
+        ensures taken { IfSome result (λ n. Appends (W.contents (writer_of self.old))
+            (W.contents (writer_of self.new)) (take n piece.now)) }
+        ensures same { IfSome result (λ _. failures_of self.new ≡ failures_of self.old) }
+        ensures none { IfNone result (Keeps (W.contents (writer_of self.old))
+            (W.contents (writer_of self.new))) }
+        ensures counted { IfNone result (failures_of self.new ≡ one_more (failures_of self.old)) }
+    {
+        if piece.is_empty() {
+            return Some(0);
+        }
+        match self.writer.write(piece) {
+            Ok(n) if n > 0 => Some(n),
+            _ => {
+                self.failures = self.failures.saturating_add(1);
+                None
+            }
+        }
+    }
+}
+
+ghost use Rattle.peinfo.specs.Output.{writer_of, failures_of, AppendsBeginning, RoseOrFull};
+
+/// Writes the whole text, piece by piece, until a write fails or takes nothing.
+#[tactic(auto, using(crate::proofs::Writing::steps))]
+pub fn put_all<W: Write>(out: &mut CountedOut<W>, text: &[u8]) -> bool
+    ensures whole { OnTrue result (Appends (W.contents (writer_of out.old))
+        (W.contents (writer_of out.new)) text.now) }
+    ensures same { OnTrue result (failures_of out.new ≡ failures_of out.old) }
+    ensures beginning { OnFalse result (AppendsBeginning (W.contents (writer_of out.old))
+        (W.contents (writer_of out.new)) text.now) }
+    ensures counted { OnFalse result (RoseOrFull (failures_of out.old) (failures_of out.new)) }
+{
+    let mut rest = text;
+    while !rest.is_empty() {
+        match out.put(rest) {
+            None => return false,
+            Some(n) => rest = rest.split_at(n).1,
+        }
+    }
+    true
+}

@@ -1,0 +1,104 @@
+//! The text that is shown of an image.
+
+ghost use Rattle.std.specs.Prelude.{◌≡◌, ◌++◌, OnOk};
+ghost use Rattle.pe_core.specs.Header.{optional_view};
+ghost use Rattle.pe_core.specs.Refusals.{GivesUnlessMemory};
+
+use crate::counted_out::{CountedOut, put_all};
+use crate::debug;
+use crate::digits::{hex_8, hex_16};
+use pe_core::{Error, Header, MAGIC_64, OptionalHeader, ParseOptions};
+use std::alloc::{AllocError, Allocator};
+use std::io;
+
+/// Why there is no whole report.
+#[derive(Debug, Drop, thiserror::Error)]
+pub enum ReportError {
+    /// The image is refused, or memory was refused. Nothing was written.
+    #[error("{0}")]
+    Parse(Error),
+    /// A write failed. A beginning of the text was written.
+    #[error("the text could not be written")]
+    Write,
+}
+
+ghost use Rattle.peinfo.specs.Report.{image_line, image_text, report_text, Reports};
+ghost use Rattle.peinfo.specs.Output.{writer_of, failures_of};
+
+/// No line is longer: `image`, and `debug` with two numbers of ten digits.
+const LONGEST_LINE: usize = 46;
+
+fn push_image<A: Allocator>(
+    text: &mut Vec<u8, A>,
+    width: &[u8],
+    entry: u32,
+    base: u64,
+) -> Result<(), AllocError>
+    ensures { OnOk result (text.new.items ≡ text.old.items ++ image_text width.now entry base) }
+{
+    text.extend_from_slice(b"image ")?;
+    text.extend_from_slice(width)?;
+    text.extend_from_slice(b" entry ")?;
+    text.extend_from_slice(&hex_8(entry))?;
+    text.extend_from_slice(b" base ")?;
+    text.extend_from_slice(&hex_16(base))?;
+    text.push(b'\n')?;
+    Ok(())
+}
+
+#[tactic(auto, unfolding(crate::specs::Report::image_line))]
+fn push_image_line<A: Allocator>(
+    text: &mut Vec<u8, A>,
+    optional: &Option<OptionalHeader>,
+) -> Result<(), AllocError>
+    ensures { OnOk result (text.new.items ≡ text.old.items ++ image_line (optional_view optional.now)) }
+{
+    match optional {
+        None => push_image(text, b"32", 0, 0),
+        Some(optional) => {
+            let is_wide = optional.standard_fields.magic == MAGIC_64;
+            let entry = optional.standard_fields.address_of_entry_point;
+            let base = optional.windows_fields.image_base;
+            push_image(text, if is_wide { b"64" } else { b"32" }, entry, base)
+        }
+    }
+}
+
+/// The whole text, or the refusal of the image.
+#[tactic(auto, unfolding(crate::specs::Report::report_text))]
+fn text_of<A: Allocator>(alloc: A, bytes: &[u8], opts: &ParseOptions) -> pe_core::Result<Vec<u8, A>>
+    ensures { GivesUnlessMemory (λ text. text.items) result (report_text bytes.now opts.now) }
+{
+    let header = Header::parse_with_opts(bytes, opts)?;
+    let coff = &header.coff_header;
+    let place = header.dos_header.pe_pointer as usize + 24 + coff.size_of_optional_header as usize;
+    let (place, size) = {
+        let sections = coff.sections(&alloc, bytes, place)?;
+        debug::shown_table(bytes, opts, &sections, &header.optional_header)?
+    };
+    let lines = size / debug::ROW + 2;
+    let mut text = Vec::with_capacity(alloc, lines * LONGEST_LINE)?;
+    push_image_line(&mut text, &header.optional_header)?;
+    debug::push_lines(&mut text, bytes, place, size)?;
+    Ok(text)
+}
+
+/// Shows an image: its line, and a line for each debug entry. The whole text is made before any of
+/// it is written.
+pub fn report<A: Allocator, W: io::Write>(
+    alloc: A,
+    bytes: &[u8],
+    opts: &ParseOptions,
+    out: &mut CountedOut<W>,
+) -> Result<(), ReportError>
+    ensures { Reports result (report_text bytes.now opts.now)
+        (W.contents (writer_of out.old)) (W.contents (writer_of out.new))
+        (failures_of out.old) (failures_of out.new) }
+{
+    let text = text_of(alloc, bytes, opts).map_err(ReportError::Parse)?;
+    if put_all(out, &text) {
+        Ok(())
+    } else {
+        Err(ReportError::Write)
+    }
+}

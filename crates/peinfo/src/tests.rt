@@ -1,0 +1,126 @@
+mod fake;
+mod images;
+mod readers;
+mod runs;
+mod writers;
+
+use crate::counted_out::CountedOut;
+use crate::report::{ReportError, report};
+use images::{headers_alone, low_pointer, put, with_debug};
+use linked_list_allocator::LocalHeap;
+use pe_core::{Error, ParseMode, ParseOptions, Reason};
+use std::alloc::Global;
+use std::test::*;
+
+const HEADERS_LINE: &[u8] = b"image 64 entry 00001020 base 0000000140000000\n";
+
+const DEBUG_LINES: &[u8] = b"image 64 entry 00001000 base 0000000140000000\n\
+debug 16 0 00000000 00000000\n";
+
+const CUT_LINES: &[u8] = b"image 64 entry 00001000 base 0000000140000000\n\
+debug 16 0 00000000 00000000\n\
+debug 0 0 00000000 00000000\n\
+debug 0 0 00000000 00000000\n\
+debug 0 0 00000000 00000000\n\
+debug 0 0 00000000 00000000\n\
+debug 0 0 00000000 00000000\n\
+debug 0 0 00000000 00000000\n\
+debug 0 0 00000000 00000000\n\
+debug 0 0 00000000 00000000\n\
+debug 0 0 00000000 00000000\n\
+debug 0 0 00000000 00000000\n\
+debug 0 0 00000000 00000000\n\
+debug 0 0 00000000 00000000\n\
+debug 0 0 00000000 00000000\n\
+debug 0 0 00000000 00000000\n\
+debug 0 0 00000000 00000000\n\
+debug cut\n";
+
+const ZERO_LINE: &[u8] = b"image 32 entry 00000000 base 0000000000000000\n";
+
+/// The text of an image, with no failed write.
+fn text(alloc: Global, bytes: &[u8], mode: ParseMode) -> Result<Vec<u8>, ReportError> {
+    let opts = ParseOptions::default().with_parse_mode(mode);
+    let mut out = CountedOut::new(Vec::new(alloc));
+    report(alloc, bytes, &opts, &mut out)?;
+    Ok(out.into_inner())
+}
+
+#[test]
+fn texts_of_images(rt: HostRuntime) -> Result<(), Fail> {
+    let alloc = rt.alloc();
+    let headers = headers_alone(alloc)?;
+    assert_eq!(rt;
+        text(alloc, &headers, ParseMode::Strict)?.as_slice(),
+        HEADERS_LINE
+    );
+    let mut debug = with_debug(alloc)?;
+    assert_eq!(rt;
+        text(alloc, &debug, ParseMode::Strict)?.as_slice(),
+        DEBUG_LINES
+    );
+    put(&mut debug, &[(0xFC, &[0, 0, 1, 0])]);
+    assert_eq!(rt;
+        text(alloc, &debug, ParseMode::Permissive)?.as_slice(),
+        CUT_LINES
+    );
+    let low = low_pointer(alloc)?;
+    assert_eq!(rt;
+        text(alloc, &low, ParseMode::Permissive)?.as_slice(),
+        ZERO_LINE
+    );
+    Ok(())
+}
+
+#[test]
+fn refusals_of_images(rt: HostRuntime) -> Result<(), Fail> {
+    let alloc = rt.alloc();
+    let mut dos = headers_alone(alloc)?;
+    put(&mut dos, &[(0, &[0x3D])]);
+    let answer = text(alloc, &dos, ParseMode::Strict);
+    assert!(rt; matches!(answer, Err(ReportError::Parse(Error::BadMagic(0x5A3D)))));
+    let mut signature = headers_alone(alloc)?;
+    put(&mut signature, &[(0x79, &[5])]);
+    let answer = text(alloc, &signature, ParseMode::Strict);
+    assert!(rt; matches!(answer, Err(ReportError::Parse(Error::BadMagic(0x0550)))));
+    let answer = text(alloc, &[], ParseMode::Strict);
+    assert!(rt; matches!(answer, Err(ReportError::Parse(Error::Short { .. }))));
+    let low = low_pointer(alloc)?;
+    let answer = text(alloc, &low, ParseMode::Strict);
+    let pointer = Reason::HeaderPointer(0x30);
+    assert!(rt;
+        matches!(answer, Err(ReportError::Parse(Error::Malformed(reason))) if reason == pointer)
+    );
+    let mut cut = with_debug(alloc)?;
+    put(&mut cut, &[(0xFC, &[0, 0, 1, 0])]);
+    let answer = text(alloc, &cut, ParseMode::Strict);
+    let bounds = Reason::DebugBounds(0x10240);
+    assert!(rt;
+        matches!(answer, Err(ReportError::Parse(Error::Malformed(reason))) if reason == bounds)
+    );
+    Ok(())
+}
+
+#[test]
+fn each_request_for_memory_refused(rt: HostRuntime) -> Result<(), Fail> {
+    let bytes = with_debug(rt.alloc())?;
+    let opts = ParseOptions::default();
+    let mut is_done = false;
+    for size in [0usize, 16, 32, 48, 64, 96, 128, 160, 192, 256, 320, 512] {
+        let heap = LocalHeap::new(rt.alloc(), size)?;
+        let mut out = CountedOut::new(Vec::new(rt.alloc()));
+        match report(&heap, &bytes, &opts, &mut out) {
+            Ok(()) => {
+                is_done = true;
+                assert_eq!(rt; out.into_inner().as_slice(), DEBUG_LINES);
+            }
+            Err(refusal) => {
+                assert!(rt; !is_done && matches!(refusal, ReportError::Parse(Error::Memory(_))));
+                assert_eq!(rt; out.failures(), 0);
+                assert!(rt; out.into_inner().is_empty());
+            }
+        }
+    }
+    assert!(rt; is_done);
+    Ok(())
+}

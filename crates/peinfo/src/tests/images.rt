@@ -1,0 +1,81 @@
+//! Images made by hand.
+
+use std::alloc::{AllocError, Global};
+
+/// Puts the parts at their places.
+pub fn put(bytes: &mut [u8], parts: &[(usize, &[u8])]) {
+    for (place, part) in parts {
+        for (i, byte) in part.iter().enumerate() {
+            if let Some(at) = place.checked_add(i) {
+                if let Some(old) = bytes.get_mut(at) {
+                    *old = *byte;
+                }
+            }
+        }
+    }
+}
+
+/// Zeros, with the parts at their places.
+pub fn image(alloc: Global, len: usize, parts: &[(usize, &[u8])]) -> Result<Vec<u8>, AllocError> {
+    let mut bytes = vec![in alloc; 0; len]?;
+    put(&mut bytes, parts);
+    Ok(bytes)
+}
+
+/// An image of headers alone.
+pub fn headers_alone(alloc: Global) -> Result<Vec<u8>, AllocError> {
+    image(
+        alloc,
+        0x200,
+        &[
+            (0, b"MZ"),
+            (0x3C, &[0x78]),
+            (0x78, &[0x50, 0x45, 0, 0, 0x64, 0x86]),
+            (0x8C, &[0xF0, 0, 0x22, 0, 0x0B, 2]),
+            (0xA0, &[0x20, 0x10]),
+            (0xA8, &[0, 0, 0, 0x40, 1]),
+            (0xB0, &[0, 0x10]),
+            (0xB4, &[0, 2]),
+            (0xFC, &[0x10]),
+        ],
+    )
+}
+
+/// An image with a section and a debug entry.
+pub fn with_debug(alloc: Global) -> Result<Vec<u8>, AllocError> {
+    image(
+        alloc,
+        0x410,
+        &[
+            (0, b"MZ"),
+            (0x3C, &[0x40]),
+            (0x40, &[0x50, 0x45, 0, 0, 0x64, 0x86, 1, 0]),
+            (0x54, &[0xF0, 0, 0x22, 0, 0x0B, 2]),
+            (0x68, &[0, 0x10]),
+            (0x70, &[0, 0, 0, 0x40, 1]),
+            (0x78, &[0, 0x10]),
+            (0x7C, &[0, 2]),
+            (0xC4, &[0x10]),
+            (0xF8, &[0x40, 0x10, 0, 0, 0x1C, 0, 0, 0]),
+            (0x148, b".rdata"),
+            (0x150, &[0, 1, 0, 0, 0, 0x10, 0, 0, 0, 2, 0, 0, 0, 2]),
+            (0x16C, &[0x40, 0, 0, 0x40]),
+            (0x244, &[0x44, 0x33, 0x22, 0x11]),
+            (0x24C, &[0x10]),
+        ],
+    )
+}
+
+/// An image whose header's pointer is below 64, without an optional header.
+pub fn low_pointer(alloc: Global) -> Result<Vec<u8>, AllocError> {
+    image(
+        alloc,
+        256,
+        &[
+            (0, b"MZ"),
+            (0x3C, &[0x30]),
+            (0x30, b"PE"),
+            (0x34, &[0x4C, 1]),
+        ],
+    )
+}

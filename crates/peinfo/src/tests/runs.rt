@@ -1,0 +1,144 @@
+//! Runs of the program on a system in memory.
+
+use super::fake::{ENDLESS, FOLDER, FakeSystem, IMAGE};
+use super::images::{headers_alone, low_pointer, put, with_debug};
+use crate::input::{ReadError, read_all};
+use crate::run;
+use linked_list_allocator::LocalHeap;
+use std::alloc::{AllocError, Global};
+use std::cell::RefCell;
+use std::test::*;
+
+const USAGE_LINE: &[u8] =
+    b"usage: peinfo list FILE [--permissive] | at FILE HEXRVA | rewrite FILE OUT\n";
+
+fn words(alloc: Global, texts: &[&str]) -> Result<Vec<String>, AllocError> {
+    let mut all = Vec::new(alloc);
+    for text in texts {
+        all.push(String::from_str(alloc, text)?)?;
+    }
+    Ok(all)
+}
+
+fn holds(kept: &RefCell<Vec<u8>>, want: &[u8]) -> bool {
+    match kept.try_borrow() {
+        Ok(all) => all.as_slice() == want,
+        Err(_) => false,
+    }
+}
+
+/// One line that begins so.
+fn is_line(kept: &RefCell<Vec<u8>>, begin: &str) -> bool {
+    match kept.try_borrow() {
+        Ok(all) => {
+            all.starts_with(begin.as_bytes())
+                && all.ends_with(b"\n")
+                && all.iter().filter(|byte| **byte == b'\n').count() == 1
+        }
+        Err(_) => false,
+    }
+}
+
+/// Whether a run is done and prints this, and nothing more.
+fn shows(alloc: Global, image: &[u8], texts: &[&str], want: &[u8]) -> Result<bool, AllocError> {
+    let asked = words(alloc, texts)?;
+    let system = FakeSystem::new(alloc, image, false);
+    let status = run(&system, &asked);
+    Ok(status == 0 && holds(&system.printed, want) && holds(&system.complaints, b""))
+}
+
+#[test]
+fn shows_images(rt: HostRuntime) -> Result<(), Fail> {
+    let alloc = rt.alloc();
+    let strict = ["list", IMAGE].as_slice();
+    let permissive = ["list", IMAGE, "--permissive"].as_slice();
+    let headers = headers_alone(alloc)?;
+    assert!(rt; shows(alloc, &headers, strict, super::HEADERS_LINE)?);
+    let mut debug = with_debug(alloc)?;
+    assert!(rt; shows(alloc, &debug, strict, super::DEBUG_LINES)?);
+    put(&mut debug, &[(0xFC, &[0, 0, 1, 0])]);
+    assert!(rt; shows(alloc, &debug, permissive, super::CUT_LINES)?);
+    let low = low_pointer(alloc)?;
+    assert!(rt; shows(alloc, &low, permissive, super::ZERO_LINE)?);
+    Ok(())
+}
+
+#[test]
+fn refuses_images(rt: HostRuntime) -> Result<(), Fail> {
+    let alloc = rt.alloc();
+    let asked = words(alloc, &["list", IMAGE])?;
+    let mut dos = headers_alone(alloc)?;
+    put(&mut dos, &[(0, &[0x3D])]);
+    let mut signature = headers_alone(alloc)?;
+    put(&mut signature, &[(0x79, &[5])]);
+    let mut cut = with_debug(alloc)?;
+    put(&mut cut, &[(0xFC, &[0, 0, 1, 0])]);
+    for image in [dos, signature, Vec::new(alloc), low_pointer(alloc)?, cut] {
+        let system = FakeSystem::new(alloc, &image, false);
+        assert_eq!(rt; run(&system, &asked), 1);
+        assert!(rt; holds(&system.printed, b""));
+        assert!(rt; is_line(&system.complaints, "peinfo: \"image\" is refused: "));
+    }
+    Ok(())
+}
+
+#[test]
+fn judges_words_first(rt: HostRuntime) -> Result<(), Fail> {
+    let alloc = rt.alloc();
+    for texts in [
+        [].as_slice(),
+        &["list"],
+        &["list", IMAGE, "--strict"],
+        &["list", "--permissive", IMAGE],
+        &["list", IMAGE, "--permissive", "--permissive"],
+        &["show", IMAGE],
+        &["at", IMAGE, "1025"],
+        &["rewrite", IMAGE, "copy"],
+    ] {
+        let asked = words(alloc, texts)?;
+        let system = FakeSystem::new(alloc, &[], false);
+        assert_eq!(rt; run(&system, &asked), 2);
+        assert!(rt; holds(&system.printed, b""));
+        assert!(rt; holds(&system.complaints, USAGE_LINE));
+    }
+    Ok(())
+}
+
+#[test]
+fn names_faults(rt: HostRuntime) -> Result<(), Fail> {
+    let alloc = rt.alloc();
+    let image = with_debug(alloc)?;
+    for (path, is_full, begin) in [
+        ("missing", false, "peinfo: \"missing\" can't be opened: "),
+        (FOLDER, false, "peinfo: \"folder\" can't be read: "),
+        (ENDLESS, false, "peinfo: \"endless\" can't be read: "),
+        (
+            IMAGE,
+            true,
+            "peinfo: the report of \"image\" can't be written",
+        ),
+    ] {
+        let asked = words(alloc, &["list", path])?;
+        let system = FakeSystem::new(alloc, &image, is_full);
+        assert_eq!(rt; run(&system, &asked), 3, "{path}");
+        assert!(rt; holds(&system.printed, b""));
+        assert!(rt; is_line(&system.complaints, begin), "{path}");
+    }
+    Ok(())
+}
+
+#[test]
+fn reads_with_little_memory(rt: HostRuntime) -> Result<(), Fail> {
+    let image = headers_alone(rt.alloc())?;
+    let heap = LocalHeap::new(rt.alloc(), 65_000)?;
+    assert!(rt;
+        matches!(
+            read_all(&heap, &mut image.as_slice()),
+            Err(ReadError::Memory)
+        )
+    );
+    let heap = LocalHeap::new(rt.alloc(), 200_000)?;
+    let bytes = read_all(&heap, &mut image.as_slice())?;
+    assert!(rt; bytes.as_slice() == image.as_slice());
+    Ok(())
+}

@@ -1,0 +1,99 @@
+//! Writers that take little, or fail.
+
+use super::images::with_debug;
+use crate::counted_out::CountedOut;
+use crate::report::{ReportError, report};
+use pe_core::ParseOptions;
+use std::io;
+use std::test::*;
+
+#[derive(Clone, Copy, PartialEq, Eq)]
+enum Way {
+    Fails,
+    TakesNothing,
+    TakesOne,
+}
+
+/// A writer that takes ten bytes a write, and from its third write on behaves in its own way.
+#[derive(Drop)]
+struct Slow {
+    written: Vec<u8>,
+    writes: u64,
+    way: Way,
+}
+
+impl io::Write for Slow {
+    fn write(&mut self, buf: &[u8]) -> io::Result<usize> {
+        self.writes = self.writes.saturating_add(1);
+        let most = if self.writes < 3 {
+            10
+        } else {
+            match self.way {
+                Way::Fails => return Err(io::Error::from(io::ErrorKind::Interrupted)),
+                Way::TakesNothing => return Ok(0),
+                Way::TakesOne => 1,
+            }
+        };
+        let count = buf.len().min(most);
+        self.written.extend_from_slice(&buf[..count])?;
+        Ok(count)
+    }
+
+    fn flush(&mut self) -> io::Result<()> {
+        Ok(())
+    }
+}
+
+#[test]
+fn reports_to_slow_writers(rt: HostRuntime) -> Result<(), Fail> {
+    let bytes = with_debug(rt.alloc())?;
+    let opts = ParseOptions::default();
+    let begin = b"image 64 entry 00001".as_slice();
+    for (way, want, writes, failures) in [
+        (Way::Fails, begin, 3, 1),
+        (Way::TakesNothing, begin, 3, 1),
+        (Way::TakesOne, super::DEBUG_LINES, 57, 0),
+    ] {
+        let written = Vec::new(rt.alloc());
+        let mut out = CountedOut::new(Slow {
+            written,
+            writes: 0,
+            way,
+        });
+        match report(rt.alloc(), &bytes, &opts, &mut out) {
+            Ok(()) => assert!(rt; way == Way::TakesOne),
+            Err(refusal) => {
+                assert!(rt; way != Way::TakesOne && matches!(refusal, ReportError::Write));
+            }
+        }
+        assert_eq!(rt; out.failures(), failures);
+        let slow = out.into_inner();
+        assert_eq!(rt; slow.written.as_slice(), want);
+        assert_eq!(rt; slow.writes, writes);
+    }
+    Ok(())
+}
+
+#[test]
+fn counts_failed_writes_alone(rt: HostRuntime) -> Result<(), Fail> {
+    let mut out = CountedOut::new(Slow {
+        written: Vec::new(rt.alloc()),
+        writes: 0,
+        way: Way::Fails,
+    });
+    for (piece, taken, failures) in [
+        (b"".as_slice(), Some(0), 0),
+        (b"twelve bytes".as_slice(), Some(10), 0),
+        (b"es".as_slice(), Some(2), 0),
+        (b"lost".as_slice(), None, 1),
+        (b"".as_slice(), Some(0), 1),
+        (b"lost".as_slice(), None, 2),
+    ] {
+        assert_eq!(rt; out.put(piece), taken);
+        assert_eq!(rt; out.failures(), failures);
+    }
+    let slow = out.into_inner();
+    assert_eq!(rt; slow.writes, 4);
+    assert_eq!(rt; slow.written.as_slice(), b"twelve bytes".as_slice());
+    Ok(())
+}
