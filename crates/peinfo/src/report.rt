@@ -72,14 +72,14 @@ fn text_of<A: Allocator>(alloc: A, bytes: &[u8], opts: &ParseOptions) -> pe_core
     let header = Header::parse_with_opts(bytes, opts)?;
     let coff = &header.coff_header;
     let place = header.dos_header.pe_pointer as usize + 24 + coff.size_of_optional_header as usize;
-    let (place, size) = {
+    let debug = {
         let sections = coff.sections(&alloc, bytes, place)?;
-        debug::shown_table(bytes, opts, &sections, &header.optional_header)?
+        debug::shown_debug(bytes, opts, &sections, &header.optional_header)?
     };
-    let lines = size / debug::ROW + 2;
-    let mut text = Vec::with_capacity(alloc, lines * LONGEST_LINE)?;
+    let lines = debug::line_count(&debug).saturating_add(1);
+    let mut text = Vec::with_capacity(alloc, lines.saturating_mul(LONGEST_LINE))?;
     push_image_line(&mut text, &header.optional_header)?;
-    debug::push_lines(&mut text, bytes, place, size)?;
+    debug::push_lines(&mut text, &debug)?;
     Ok(text)
 }
 
