@@ -1,2 +1,5 @@
 pub mod Certificates
 pub mod CertificateWriting
+pub mod DebugDirectory
+pub mod DebugRecords
+pub mod Pogo

@@ -1,10 +1,26 @@
 //! Laws over the definitions. Each is the contract of a function that does nothing.
 
-ghost use Rattle.std.specs.Prelude.{◌≡◌, ℕ, ◌+◌, ◌%◌, ◌≤◌, ◌↔◌, List, Ok, Err, length};
+ghost use Rattle.std.specs.Prelude.{◌≡◌, ℕ, ◌+◌, ◌%◌, ◌≤◌, ◌↔◌, List, map, length, Option, Some, None, Result, Ok, Err};
 ghost use Rattle.pe_core.specs.Bytes.{splice};
 ghost use Rattle.pe_core.specs.Refusals.{Refusal};
 ghost use Rattle.pe_records.specs.Certificates.{CertificateView, certificate_at, certificates_at, IsListing, IsRefused};
 ghost use Rattle.pe_records.specs.CertificateWriting.{IsWhole, spell_certificate, padding, written_length, written_certificate};
+ghost use Rattle.std.specs.Iterator.{Drains};
+ghost use Rattle.pe_core.specs.declared.data_directories.DataDirectory.{DataDirectory};
+ghost use Rattle.pe_core.specs.declared.error.Error.{Error};
+ghost use Rattle.pe_core.specs.declared.options.ParseMode.{ParseMode};
+ghost use Rattle.pe_core.specs.declared.options.ParseOptions.{ParseOptions};
+ghost use Rattle.pe_core.specs.declared.section_table.SectionTable.{SectionTable};
+ghost use Rattle.pe_records.specs.declared.debug.ImageDebugDirectory.{ImageDebugDirectory};
+ghost use Rattle.pe_records.specs.declared.debug.ImageDebugDirectoryIterator.{ImageDebugDirectoryIterator};
+ghost use Rattle.pe_records.specs.declared.debug.pogo.POGOInfoEntry.{POGOInfoEntry};
+ghost use Rattle.pe_records.specs.declared.debug.pogo.POGOEntryIterator.{POGOEntryIterator};
+ghost use Rattle.pe_records.specs.DebugDirectory.{entries, count, rest_of, fixup_of, item_of};
+ghost use Rattle.pe_records.specs.DebugRecords.{DebugFields, Pdb70, Pdb20, pdb70_of, pdb20_of, debug_data};
+ghost use Rattle.pe_records.specs.Pogo.{Entry, Entries};
+ghost use Rattle.pe_records.specs.Pogo as Pogo;
+
+use crate::debug::{ImageDebugDirectoryIterator, POGOEntryIterator};
 
 /// A table has one listing or one refusal, and never both: what the function gives.
 pub fn tables_have_one_listing()
@@ -27,4 +43,47 @@ pub fn written_certificates_are_read_again()
 pub fn certificates_are_three_pieces()
     ensures { (b : List ℕ) (p : ℕ) (c : CertificateView) → p ≤ length b →
         splice b p (written_certificate c) ≡ splice (splice (splice b p (spell_certificate c)) (p + 8) c.body) (p + 8 + length c.body) (padding c) }
+{}
+
+/// The items that an iterator of debug entries gives are the entries of its bytes, as many as it tells, and it is
+/// over after a fault and after `None`.
+pub fn debug_iterators_give_the_entries()
+    ensures items { (s : ImageDebugDirectoryIterator) (xs : List (Result ImageDebugDirectory Error)) →
+        Drains ⟦<ImageDebugDirectoryIterator<'static> as Iterator>⟧.next_gives s xs → map item_of xs ≡ entries (fixup_of s) (rest_of s) }
+    ensures number { (fixup : ℕ) (b : List ℕ) → length (entries fixup b) ≡ count b }
+    ensures fault { (s t u : ImageDebugDirectoryIterator) (e : Error) (r : Option (Result ImageDebugDirectory Error)) →
+        ⟦<ImageDebugDirectoryIterator<'static> as Iterator>⟧.next_gives s (Some (Err e)) t →
+        ⟦<ImageDebugDirectoryIterator<'static> as Iterator>⟧.next_gives t r u → r ≡ None }
+    ensures none { (s t u : ImageDebugDirectoryIterator) (r : Option (Result ImageDebugDirectory Error)) →
+        ⟦<ImageDebugDirectoryIterator<'static> as Iterator>⟧.next_gives s None t →
+        ⟦<ImageDebugDirectoryIterator<'static> as Iterator>⟧.next_gives t r u → r ≡ None }
+{}
+
+/// The items that an iterator of POGO entries gives are the entries of its bytes, a stream has one reading, and the
+/// iterator is over after a fault and after `None`.
+pub fn pogo_streams_have_one_reading()
+    ensures items { (s : POGOEntryIterator) (xs : List (Result POGOInfoEntry Error)) →
+        Drains ⟦<POGOEntryIterator<'static> as Iterator>⟧.next_gives s xs → Entries (Pogo.rest_of s) (map Pogo.item_of xs) }
+    ensures once { (b : List ℕ) (xs ys : List (Result Entry Refusal)) →
+        Entries b xs → Entries b ys → xs ≡ ys }
+    ensures fault { (s t u : POGOEntryIterator) (e : Error) (r : Option (Result POGOInfoEntry Error)) →
+        ⟦<POGOEntryIterator<'static> as Iterator>⟧.next_gives s (Some (Err e)) t →
+        ⟦<POGOEntryIterator<'static> as Iterator>⟧.next_gives t r u → r ≡ None }
+    ensures none { (s t u : POGOEntryIterator) (r : Option (Result POGOInfoEntry Error)) →
+        ⟦<POGOEntryIterator<'static> as Iterator>⟧.next_gives s None t →
+        ⟦<POGOEntryIterator<'static> as Iterator>⟧.next_gives t r u → r ≡ None }
+{}
+
+/// Debug data and records that strict mode gives are those that permissive mode gives.
+#[tactic(auto, using(crate::proofs::DebugModes::strict_pdb70, crate::proofs::DebugModes::strict_pdb20, crate::proofs::DebugModes::strict_debug_data))]
+pub fn strict_debug_data_is_permissive()
+    ensures pdb70 { (o : ParseOptions) (b : List ℕ) (e : ImageDebugDirectory) (x : Option Pdb70) →
+        pdb70_of (record o { parse_mode = ParseMode.Strict }) b e ≡ Ok x →
+        pdb70_of (record o { parse_mode = ParseMode.Permissive }) b e ≡ Ok x }
+    ensures pdb20 { (o : ParseOptions) (b : List ℕ) (e : ImageDebugDirectory) (x : Option Pdb20) →
+        pdb20_of (record o { parse_mode = ParseMode.Strict }) b e ≡ Ok x →
+        pdb20_of (record o { parse_mode = ParseMode.Permissive }) b e ≡ Ok x }
+    ensures whole { (o : ParseOptions) (b : List ℕ) (d : DataDirectory) (sections : List SectionTable) (alignment fixup : ℕ) (x : DebugFields) →
+        debug_data (record o { parse_mode = ParseMode.Strict }) b d sections alignment fixup ≡ Ok x →
+        debug_data (record o { parse_mode = ParseMode.Permissive }) b d sections alignment fixup ≡ Ok x }
 {}

@@ -6,6 +6,8 @@ mod bytes;
 #[cfg(test)]
 mod certificates;
 #[cfg(test)]
+mod debug;
+#[cfg(test)]
 mod headers;
 #[cfg(test)]
 mod images;

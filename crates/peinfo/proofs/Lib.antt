@@ -3,3 +3,4 @@ pub mod HexText
 pub mod Reading
 pub mod Words
 pub mod Writing
+pub mod Lines

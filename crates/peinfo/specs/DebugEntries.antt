@@ -1,58 +1,49 @@
--- The table of debug entries, and the lines that are shown of it.
-use Rattle.std.specs.Prelude.{ℕ, ◌+◌, ◌-◌, ◌/◌, ◌%◌, ◌==◌, ◌++◌, List, [], length, Option, Some, None, Result, Ok, Err, codes, nat_le, min, if◌then◌else◌}
+-- The debug data of an image, and the lines that are shown of its entries.
+use Rattle.std.specs.Prelude.{ℕ, ◌++◌, List, [], Option, Some, None, Result, Ok, Err, codes}
 use Rattle.std.specs.List.{flat_map}
 use Rattle.std.specs.Fmt.{decimal}
-use Rattle.pe_core.specs.Bytes.{le}
 use Rattle.pe_core.specs.Directories.{present}
 use Rattle.pe_core.specs.Header.{OptionalHeaderView}
-use Rattle.pe_core.specs.Options.{is_permissive}
-use Rattle.pe_core.specs.Refusals.{Refusal, Unmapped, DebugBounds}
-use Rattle.pe_core.specs.Rows.{rows}
-use Rattle.pe_core.specs.SectionMap.{place_of}
+use Rattle.pe_core.specs.Refusals.{Refusal}
 use Rattle.pe_core.specs.declared.data_directories.DataDirectory.{DataDirectory}
 use Rattle.pe_core.specs.declared.options.ParseMode.{ParseMode}
 use Rattle.pe_core.specs.declared.options.ParseOptions.{ParseOptions}
 use Rattle.pe_core.specs.declared.section_table.SectionTable.{SectionTable}
-use Rattle.peinfo.specs.declared.debug.DebugEntry.{DebugEntry}
+use Rattle.pe_records.specs.DebugDirectory.{entries}
+use Rattle.pe_records.specs.DebugRecords.{DebugFields, debug_data}
+use Rattle.pe_records.specs.declared.debug.ImageDebugDirectory.{ImageDebugDirectory}
 use Rattle.peinfo.specs.Hex.{hex}
-use Rattle.peinfo.specs.Modes.{empty_if_refused}
+use Rattle.pe_core.specs.declared.options.ParseMode.TheVariants.{Strict, Permissive}
 
--- a table of this size at this place: where it passes the end of the file it is refused, or cut at the end
-abbrev pub bounded : List ℕ → ParseMode → ℕ → Option ℕ → Result (ℕ × ℕ) Refusal
-bounded b mode size None = Err Unmapped
-bounded b mode size (Some place) =
-    if nat_le (place + size) (length b) then Ok (place, size)
-    else (if is_permissive mode then (let start = min place (length b) in Ok (start, length b - start)) else Err DebugBounds)
+-- the debug data of a directory; in permissive mode those that are refused are left out
+abbrev pub by_mode : ParseMode → Result DebugFields Refusal → Result (Option DebugFields) Refusal
+by_mode mode (Ok debug) = Ok (Some debug)
+by_mode Strict (Err refusal) = Err refusal
+by_mode Permissive (Err refusal) = Ok None
 
--- the table of a directory; without one it is empty
-abbrev pub table_of : List ℕ → ParseOptions → List SectionTable → ℕ → Option DataDirectory → Result (ℕ × ℕ) Refusal
-table_of b opts sections alignment None = Ok (0, 0)
-table_of b opts sections alignment (Some d) = bounded b opts.parse_mode d.size (place_of opts.resolve_rva alignment sections d.virtual_address)
+abbrev pub of_directory : List ℕ → ParseOptions → List SectionTable → ℕ → Option DataDirectory → Result (Option DebugFields) Refusal
+of_directory b opts sections alignment None = Ok None
+of_directory b opts sections alignment (Some d) = by_mode opts.parse_mode (debug_data opts b d sections alignment 0)
 
--- the place and the size of the table: the debug directory is directory 6
-unfoldable pub debug_table : List ℕ → ParseOptions → List SectionTable → Option OptionalHeaderView → Result (ℕ × ℕ) Refusal
-debug_table b opts sections None = Ok (0, 0)
-debug_table b opts sections (Some o) = table_of b opts sections o.windows_fields.file_alignment (present o.data_directories 6)
+-- the debug data that are shown: those of directory 6
+unfoldable pub shown_debug : List ℕ → ParseOptions → List SectionTable → Option OptionalHeaderView → Result (Option DebugFields) Refusal
+shown_debug b opts sections None = Ok None
+shown_debug b opts sections (Some o) = of_directory b opts sections o.windows_fields.file_alignment (present o.data_directories 6)
 
--- the table whose lines are shown
-abbrev pub shown_table : List ℕ → ParseOptions → List SectionTable → Option OptionalHeaderView → Result (ℕ × ℕ) Refusal
-shown_table b opts sections optional = empty_if_refused opts.parse_mode (0, 0) (debug_table b opts sections optional)
-
--- what is shown of a row of 28 bytes
-unfoldable pub debug_entry : List ℕ → ℕ → DebugEntry
-debug_entry b p = record {
-  data_type = le b (p + 12) 4;
-  size_of_data = le b (p + 16) 4;
-  address_of_raw_data = le b (p + 20) 4;
-  pointer_to_raw_data = le b (p + 24) 4;
-}
-
-unfoldable pub entry_line : DebugEntry → List ℕ
+unfoldable pub entry_line : ImageDebugDirectory → List ℕ
 entry_line e =
     codes "debug " ++ decimal e.data_type ++ codes " " ++ decimal e.size_of_data
     ++ codes " " ++ hex 8 e.address_of_raw_data ++ codes " " ++ hex 8 e.pointer_to_raw_data ++ codes "\n"
 
--- a line for each whole row of 28 bytes, and one for a row that is cut
-unfoldable pub debug_lines : List ℕ → ℕ → ℕ → List ℕ
-debug_lines b p size = flat_map entry_line (rows (debug_entry b) 28 p (size / 28))
-    ++ (if size % 28 == 0 then [] else codes "debug cut\n")
+-- a line for an entry, and one for an entry that is cut
+abbrev pub item_line : Result ImageDebugDirectory Refusal → List ℕ
+item_line (Ok e) = entry_line e
+item_line (Err refusal) = codes "debug cut\n"
+
+-- the lines of the entries of a table
+abbrev pub entry_lines : ℕ → List ℕ → List ℕ
+entry_lines fixup table = flat_map item_line (entries fixup table)
+
+abbrev pub debug_lines : Option DebugFields → List ℕ
+debug_lines None = []
+debug_lines (Some debug) = entry_lines debug.fixup debug.table

@@ -1,99 +1,43 @@
-//! The table of debug entries, and its lines.
+//! The debug data, and the lines of their entries.
 
-ghost use Rattle.std.specs.Prelude.{◌≡◌, ◌+◌, ◌*◌, ◌≤◌, ◌++◌, length, codes, IfOk, OnOk};
-ghost use Rattle.pe_core.specs.Refusals.{Gives};
+ghost use Rattle.std.specs.Prelude.{◌≡◌, ◌++◌, codes, OnOk};
+ghost use Rattle.std.specs.Option.{option_map};
 ghost use Rattle.pe_core.specs.Header.{optional_view};
+ghost use Rattle.pe_core.specs.Refusals.{Gives};
+ghost use Rattle.pe_records.specs.DebugDirectory.{rest_of, fixup_of};
+ghost use Rattle.pe_records.specs.DebugRecords.{debug_view};
+ghost use Rattle.peinfo.specs.Hex.{hex};
+ghost use Rattle.peinfo.specs.DebugEntries.{shown_debug, entry_line, entry_lines, debug_lines};
 
 use crate::digits::{hex_8, push_decimal};
-use pe_core::{
-    Error, OptionalHeader, ParseMode, ParseOptions, Reason, SectionTable, find_offset, number32,
-};
+use pe_core::{OptionalHeader, ParseMode, ParseOptions, SectionTable};
+use pe_records::{DebugData, ImageDebugDirectory, ImageDebugDirectoryIterator};
 use std::alloc::{AllocError, Allocator};
 
-/// The bytes of a row of the table.
-pub const ROW: usize = 28;
-
-/// What a line shows of a row.
-#[derive(Clone, Copy, Debug, PartialEq)]
-struct DebugEntry {
-    data_type: u32,
-    size_of_data: u32,
-    address_of_raw_data: u32,
-    pointer_to_raw_data: u32,
-}
-
-ghost use Rattle.peinfo.specs.Hex.{hex};
-ghost use Rattle.peinfo.specs.DebugEntries.{debug_table, shown_table, debug_entry, entry_line, debug_lines};
-
-/// The place and the size of the table; without a directory it is empty.
-#[tactic(auto, unfolding(crate::specs::DebugEntries::debug_table))]
-fn table(
-    bytes: &[u8],
+/// The debug data that are shown: in permissive mode those that are refused are left out.
+#[tactic(auto, unfolding(crate::specs::DebugEntries::shown_debug))]
+pub fn shown_debug<'a>(
+    bytes: &'a [u8],
     opts: &ParseOptions,
     sections: &[SectionTable],
     optional: &Option<OptionalHeader>,
-) -> pe_core::Result<(usize, usize)>
-    ensures value { Gives (λ t. t) result
-        (debug_table bytes.now opts.now sections.now (optional_view optional.now)) }
-    ensures inside { IfOk result (λ t. t.0 + t.1 ≤ length bytes.now) }
+) -> pe_core::Result<Option<DebugData<'a>>>
+    ensures { Gives (option_map debug_view) result
+        (shown_debug bytes.entry.now opts.now sections.now (optional_view optional.now)) }
 {
     let Some(optional) = optional else {
-        return Ok((0, 0));
+        return Ok(None);
     };
     let Some(directory) = optional.data_directories.get_debug_table() else {
-        return Ok((0, 0));
+        return Ok(None);
     };
-    let address = directory.virtual_address as usize;
     let alignment = optional.windows_fields.file_alignment;
-    let Some(place) = find_offset(address, sections, alignment, opts) else {
-        return Err(Error::Malformed(Reason::Unmapped(address as u64)));
-    };
-    let size = directory.size as usize;
-    if size <= bytes.len() && place <= bytes.len() - size {
-        return Ok((place, size));
-    }
-    match opts.parse_mode {
-        ParseMode::Strict => {
-            let end = place.saturating_add(size) as u64;
-            Err(Error::Malformed(Reason::DebugBounds(end)))
-        }
-        ParseMode::Permissive => {
-            let start = place.min(bytes.len());
-            Ok((start, bytes.len() - start))
-        }
-    }
-}
-
-/// The table whose lines are shown: in permissive mode one that is refused is empty.
-pub(crate) fn shown_table(
-    bytes: &[u8],
-    opts: &ParseOptions,
-    sections: &[SectionTable],
-    optional: &Option<OptionalHeader>,
-) -> pe_core::Result<(usize, usize)>
-    ensures value { Gives (λ t. t) result
-        (shown_table bytes.now opts.now sections.now (optional_view optional.now)) }
-    ensures inside { IfOk result (λ t. t.0 + t.1 ≤ length bytes.now) }
-{
-    match table(bytes, opts, sections, optional) {
-        Ok(found) => Ok(found),
+    match DebugData::parse_with_opts(bytes, directory, sections, alignment, opts) {
+        Ok(debug) => Ok(Some(debug)),
         Err(refusal) => match opts.parse_mode {
             ParseMode::Strict => Err(refusal),
-            ParseMode::Permissive => Ok((0, 0)),
+            ParseMode::Permissive => Ok(None),
         },
-    }
-}
-
-#[tactic(auto, unfolding(crate::specs::DebugEntries::debug_entry))]
-fn entry_at(bytes: &[u8], place: usize) -> DebugEntry
-    requires { place + 28 ≤ length bytes.now }
-    ensures { result ≡ debug_entry bytes.now place }
-{
-    DebugEntry {
-        data_type: number32(bytes, place + 12),
-        size_of_data: number32(bytes, place + 16),
-        address_of_raw_data: number32(bytes, place + 20),
-        pointer_to_raw_data: number32(bytes, place + 24),
     }
 }
 
@@ -109,7 +53,10 @@ fn line_end(address: u32, pointer: u32) -> [u8; 19]
 }
 
 #[tactic(auto, unfolding(crate::specs::DebugEntries::entry_line))]
-fn push_line<A: Allocator>(text: &mut Vec<u8, A>, entry: &DebugEntry) -> Result<(), AllocError>
+fn push_line<A: Allocator>(
+    text: &mut Vec<u8, A>,
+    entry: &ImageDebugDirectory,
+) -> Result<(), AllocError>
     ensures { OnOk result (text.new.items ≡ text.old.items ++ entry_line entry.now) }
 {
     text.extend_from_slice(b"debug ")?;
@@ -119,24 +66,41 @@ fn push_line<A: Allocator>(text: &mut Vec<u8, A>, entry: &DebugEntry) -> Result<
     text.extend_from_slice(&line_end(entry.address_of_raw_data, entry.pointer_to_raw_data))
 }
 
-/// Adds a line for each whole row, and one for a row that is cut. Where memory is refused a
-/// beginning of them may stand there.
-#[tactic(auto, using(std::proofs::lemmas::Grind::common_steps), unfolding(crate::specs::DebugEntries::debug_lines, pe_core::specs::Rows::each))]
-pub(crate) fn push_lines<A: Allocator>(
-    text: &mut Vec<u8, A>,
-    bytes: &[u8],
-    place: usize,
-    size: usize,
-) -> Result<(), AllocError>
-    requires { place + size ≤ length bytes.now }
-    ensures { OnOk result (text.new.items ≡ text.old.items ++ debug_lines bytes.now place size) }
-{
-    for i in 0..size / ROW {
-        let entry = entry_at(bytes, place + ROW * i);
-        push_line(text, &entry)?;
+/// How many lines debug data have.
+pub fn line_count(debug: &Option<DebugData>) -> usize {
+    match debug {
+        None => 0,
+        Some(debug) => debug.entries().len(),
     }
-    if size % ROW != 0 {
-        text.extend_from_slice(b"debug cut\n")?;
+}
+
+/// Adds a line for each entry, and one for an entry that is cut.
+#[tactic(auto, using(crate::proofs::Lines::one_more, crate::proofs::Lines::no_more))]
+fn push_entries<A: Allocator>(
+    text: &mut Vec<u8, A>,
+    entries: ImageDebugDirectoryIterator,
+) -> Result<(), AllocError>
+    ensures { OnOk result
+        (text.new.items ≡ text.old.items ++ entry_lines (fixup_of entries.entry) (rest_of entries.entry)) }
+{
+    for item in entries {
+        match item {
+            Ok(entry) => push_line(text, &entry)?,
+            Err(_) => text.extend_from_slice(b"debug cut\n")?,
+        }
     }
     Ok(())
+}
+
+/// Adds the lines of debug data, if there are any.
+pub fn push_lines<A: Allocator>(
+    text: &mut Vec<u8, A>,
+    debug: &Option<DebugData>,
+) -> Result<(), AllocError>
+    ensures { OnOk result (text.new.items ≡ text.old.items ++ debug_lines (option_map debug_view debug.now)) }
+{
+    match debug {
+        None => Ok(()),
+        Some(debug) => push_entries(text, debug.entries()),
+    }
 }

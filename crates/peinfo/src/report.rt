@@ -76,15 +76,17 @@ fn text_of<A: Allocator + Copy>(
     let header = Header::parse_with_opts(bytes, opts)?;
     let coff = &header.coff_header;
     let place = header.dos_header.pe_pointer as usize + 24 + coff.size_of_optional_header as usize;
-    let (place, size) = {
+    let debug = {
         let sections = coff.sections(alloc, bytes, place)?;
-        debug::shown_table(bytes, opts, &sections, &header.optional_header)?
+        debug::shown_debug(bytes, opts, &sections, &header.optional_header)?
     };
     let certificates = certificates::shown(alloc, bytes, opts, &header.optional_header)?;
-    let lines = (size / debug::ROW + 2).saturating_add(certificates.len());
+    let lines = debug::line_count(&debug)
+        .saturating_add(certificates.len())
+        .saturating_add(1);
     let mut text = Vec::with_capacity(alloc, lines.saturating_mul(LONGEST_LINE))?;
     push_image_line(&mut text, &header.optional_header)?;
-    debug::push_lines(&mut text, bytes, place, size)?;
+    debug::push_lines(&mut text, &debug)?;
     certificates::push_lines(&mut text, &certificates)?;
     Ok(text)
 }

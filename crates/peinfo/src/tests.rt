@@ -14,6 +14,8 @@ use std::test::*;
 
 const HEADERS_LINE: &[u8] = b"image 64 entry 00001020 base 0000000140000000\n";
 
+const IMAGE_LINE: &[u8] = b"image 64 entry 00001000 base 0000000140000000\n";
+
 const DEBUG_LINES: &[u8] = b"image 64 entry 00001000 base 0000000140000000\n\
 debug 16 0 00000000 00000000\n";
 
@@ -67,6 +69,18 @@ fn texts_of_images(rt: HostRuntime) -> Result<(), Fail> {
     assert_eq!(rt;
         text(alloc, &debug, ParseMode::Permissive)?.as_slice(),
         CUT_LINES
+    );
+    let mut record = with_debug(alloc)?;
+    put(&mut record, &[(0x250, &[4]), (0x258, &[0, 4, 1])]);
+    assert!(rt;
+        matches!(
+            text(alloc, &record, ParseMode::Strict),
+            Err(ReportError::Parse(Error::Short { .. }))
+        )
+    );
+    assert_eq!(rt;
+        text(alloc, &record, ParseMode::Permissive)?.as_slice(),
+        IMAGE_LINE
     );
     let low = low_pointer(alloc)?;
     assert_eq!(rt;

@@ -1,0 +1,82 @@
+-- The debug directory: the table that it points to, and the entries of the table.
+-- (PE format: debug directory; the bounds by mode and the fixup are this project's profile.)
+use Rattle.std.specs.Prelude.{◌≡◌, ℕ, ◌+◌, ◌-◌, ◌*◌, ◌/◌, ◌%◌, ◌^◌, ◌==◌, List, [], ◌∷◌, ◌++◌, length, map, drop, Option, Some, None, Result, Ok, Err, if◌then◌else◌}
+use Rattle.std.specs.List.{find}
+use Rattle.pe_core.specs.Bytes.{le, holds, range}
+use Rattle.pe_core.specs.Options.{is_permissive}
+use Rattle.pe_core.specs.Refusals.{Refusal, Short, Unmapped, DebugBounds, kind_of}
+use Rattle.pe_core.specs.Rows.{each}
+use Rattle.pe_core.specs.SectionMap.{place_of}
+use Rattle.pe_core.specs.declared.data_directories.DataDirectory.{DataDirectory}
+use Rattle.pe_core.specs.declared.error.Error.{Error}
+use Rattle.pe_core.specs.declared.options.ParseMode.{ParseMode}
+use Rattle.pe_core.specs.declared.options.ParseOptions.{ParseOptions}
+use Rattle.pe_core.specs.declared.section_table.SectionTable.{SectionTable}
+use Rattle.pe_records.specs.declared.debug.ImageDebugDirectory.{ImageDebugDirectory}
+use Rattle.pe_records.specs.declared.debug.ImageDebugDirectoryIterator.{ImageDebugDirectoryIterator}
+
+-- ---- the table
+
+-- the bytes of a table of this size at this place: past the end of the file it is refused, or cut at the end
+abbrev pub table_at : List ℕ → ParseMode → ℕ → Option ℕ → Result (List ℕ) Refusal
+table_at b mode size None = Err Unmapped
+table_at b mode size (Some place) =
+    if holds b place size then Ok (range b place size)
+    else (if is_permissive mode then Ok (drop place b) else Err DebugBounds)
+
+-- the bytes of the table of a directory
+unfoldable pub directory_table : ParseOptions → List ℕ → DataDirectory → List SectionTable → ℕ → Result (List ℕ) Refusal
+directory_table o b d sections alignment = table_at b o.parse_mode d.size (place_of o.resolve_rva alignment sections d.virtual_address)
+
+-- ---- its entries
+
+-- the address less the fixup, modulo 2 ^ 32
+abbrev pub reduced : ℕ → ℕ → ℕ
+reduced fixup address = (address + (2 ^ 32 - fixup)) % 2 ^ 32
+
+-- the entry of 28 bytes at p
+unfoldable pub entry_at : ℕ → List ℕ → ℕ → ImageDebugDirectory
+entry_at fixup b p = record {
+  characteristics = le b p 4;
+  time_date_stamp = le b (p + 4) 4;
+  major_version = le b (p + 8) 2;
+  minor_version = le b (p + 10) 2;
+  data_type = le b (p + 12) 4;
+  size_of_data = le b (p + 16) 4;
+  address_of_raw_data = reduced fixup (le b (p + 20) 4);
+  pointer_to_raw_data = reduced fixup (le b (p + 24) 4);
+}
+
+-- the whole entries of a table, one every 28 bytes
+unfoldable pub whole_entries : ℕ → List ℕ → List ImageDebugDirectory
+whole_entries fixup b = each (λ i. entry_at fixup b (28 * i)) (length b / 28)
+
+-- the entries of a table, and one fault where a last one is cut
+unfoldable pub entries : ℕ → List ℕ → List (Result ImageDebugDirectory Refusal)
+entries fixup b = map (λ e. Ok e) (whole_entries fixup b) ++ (if length b % 28 == 0 then [] else Err Short ∷ [])
+
+-- how many entries that is, a cut one included
+abbrev pub count : List ℕ → ℕ
+count b = (length b + 27) / 28
+
+-- the first whole entry of a type
+abbrev pub first_of_type : ℕ → ℕ → List ℕ → Option ImageDebugDirectory
+first_of_type fixup kind b = find (λ e. e.data_type == kind) (whole_entries fixup b)
+
+-- ---- the iterator
+
+-- the bytes that an iterator has left, and its fixup
+abbrev pub rest_of : ImageDebugDirectoryIterator → List ℕ
+rest_of s = s.bytes.now
+
+abbrev pub fixup_of : ImageDebugDirectoryIterator → ℕ
+fixup_of s = s.rva_offset
+
+abbrev pub item_of : Result ImageDebugDirectory Error → Result ImageDebugDirectory Refusal
+item_of (Ok e) = Ok e
+item_of (Err e) = Err (kind_of e)
+
+-- what one call of next answers, and what it leaves: the first of the entries, and those behind it
+abbrev pub GivesEntry : ℕ → List ℕ → Option (Result ImageDebugDirectory Error) → List ℕ → Type 0
+GivesEntry fixup b None left = (entries fixup b ≡ []) × (left ≡ b)
+GivesEntry fixup b (Some item) left = entries fixup b ≡ item_of item ∷ entries fixup left

@@ -1,0 +1,140 @@
+//! CodeView records, which name the file of debugging symbols that belongs to an image.
+
+ghost use Rattle.std.specs.Prelude.{◌≡◌, ◌+◌, ◌-◌, ◌≤◌, length};
+ghost use Rattle.std.specs.Option.{option_map};
+ghost use Rattle.pe_core.specs.Options.{default_options};
+ghost use Rattle.pe_core.specs.Refusals.{Gives};
+ghost use Rattle.pe_records.specs.DebugRecords.{pdb70_view, pdb70_of, pdb70_record, pdb20_view, pdb20_of, pdb20_record};
+
+use crate::debug::ImageDebugDirectory;
+use crate::debug::constants::{CODEVIEW_PDB20_MAGIC, CODEVIEW_PDB70_MAGIC};
+use crate::debug::records::record_place;
+use pe_core::{Error, ParseMode, ParseOptions, Reason, Result, number32, require_bytes, u32_at};
+
+/// A PDB 7.0 record.
+#[derive(Clone, Copy, Debug, Default, PartialEq)]
+pub struct CodeviewPDB70DebugInfo<'a> {
+    /// 0x53445352, `RSDS`.
+    pub codeview_signature: u32,
+    /// The GUID under which a symbol server keeps the symbols.
+    pub signature: [u8; 16],
+    /// How often the symbols were written since they have this GUID.
+    pub age: u32,
+    /// The name of the file of symbols, with the zeros behind it.
+    pub filename: &'a [u8],
+}
+
+/// A PDB 2.0 record.
+#[derive(Clone, Copy, Debug, Default, PartialEq)]
+pub struct CodeviewPDB20DebugInfo<'a> {
+    /// 0x3031424E, `NB10`.
+    pub codeview_signature: u32,
+    pub codeview_offset: u32,
+    /// The number under which a symbol server keeps the symbols.
+    pub signature: u32,
+    /// How often the symbols were written since they have this signature.
+    pub age: u32,
+    /// The name of the file of symbols, with the zeros behind it.
+    pub filename: &'a [u8],
+}
+
+impl<'a> CodeviewPDB70DebugInfo<'a> {
+    #[tactic(auto, unfolding(crate::specs::DebugRecords::pdb70_record, crate::specs::DebugRecords::pdb70_at))]
+    fn at(bytes: &'a [u8], place: usize, size: u32, mode: ParseMode) -> Result<Option<Self>>
+        ensures { Gives (option_map pdb70_view) result (pdb70_record mode bytes.entry.now place size) }
+    {
+        if size < 24 {
+            return match mode {
+                ParseMode::Strict => Err(Error::Malformed(Reason::DebugSize(size))),
+                ParseMode::Permissive => Ok(None),
+            };
+        }
+        let codeview_signature = u32_at(bytes, place)?;
+        if codeview_signature != CODEVIEW_PDB70_MAGIC {
+            return Ok(None);
+        }
+        require_bytes(bytes, place + 4, 20)?;
+        let length = size as usize - 24;
+        if bytes.len() - (place + 24) < length {
+            return Err(Error::Malformed(Reason::DebugData(size)));
+        }
+        let mut signature = [0; 16];
+        signature.copy_from_slice(&bytes[place + 4..place + 20]);
+        Ok(Some(CodeviewPDB70DebugInfo {
+            codeview_signature,
+            signature,
+            age: number32(bytes, place + 20),
+            filename: &bytes[place + 24..place + 24 + length],
+        }))
+    }
+
+    /// The PDB 7.0 record of the entry, by the default options.
+    pub fn parse(bytes: &'a [u8], idd: &ImageDebugDirectory) -> Result<Option<Self>>
+        ensures { Gives (option_map pdb70_view) result (pdb70_of default_options bytes.entry.now idd.now) }
+    {
+        CodeviewPDB70DebugInfo::parse_with_opts(bytes, idd, &ParseOptions::default())
+    }
+
+    /// The PDB 7.0 record of the entry, `None` under another signature. Refusals in this order: `DebugSize` for a
+    /// size below 24, which is `None` in permissive mode; `Short`; `DebugData` where the file name isn't all there.
+    pub fn parse_with_opts(
+        bytes: &'a [u8],
+        idd: &ImageDebugDirectory,
+        opts: &ParseOptions,
+    ) -> Result<Option<Self>>
+        ensures { Gives (option_map pdb70_view) result (pdb70_of opts.now bytes.entry.now idd.now) }
+    {
+        let place = record_place(idd, opts);
+        CodeviewPDB70DebugInfo::at(bytes, place as usize, idd.size_of_data, opts.parse_mode)
+    }
+}
+
+impl<'a> CodeviewPDB20DebugInfo<'a> {
+    #[tactic(auto, unfolding(crate::specs::DebugRecords::pdb20_record, crate::specs::DebugRecords::pdb20_at))]
+    fn at(bytes: &'a [u8], place: usize, size: u32, mode: ParseMode) -> Result<Option<Self>>
+        ensures { Gives (option_map pdb20_view) result (pdb20_record mode bytes.entry.now place size) }
+    {
+        if size < 16 {
+            return match mode {
+                ParseMode::Strict => Err(Error::Malformed(Reason::DebugSize(size))),
+                ParseMode::Permissive => Ok(None),
+            };
+        }
+        let codeview_signature = u32_at(bytes, place)?;
+        if codeview_signature != CODEVIEW_PDB20_MAGIC {
+            return Ok(None);
+        }
+        require_bytes(bytes, place + 4, 12)?;
+        let length = size as usize - 16;
+        if bytes.len() - (place + 16) < length {
+            return Err(Error::Malformed(Reason::DebugData(size)));
+        }
+        Ok(Some(CodeviewPDB20DebugInfo {
+            codeview_signature,
+            codeview_offset: number32(bytes, place + 4),
+            signature: number32(bytes, place + 8),
+            age: number32(bytes, place + 12),
+            filename: &bytes[place + 16..place + 16 + length],
+        }))
+    }
+
+    /// The PDB 2.0 record of the entry, by the default options.
+    pub fn parse(bytes: &'a [u8], idd: &ImageDebugDirectory) -> Result<Option<Self>>
+        ensures { Gives (option_map pdb20_view) result (pdb20_of default_options bytes.entry.now idd.now) }
+    {
+        CodeviewPDB20DebugInfo::parse_with_opts(bytes, idd, &ParseOptions::default())
+    }
+
+    /// The PDB 2.0 record of the entry, `None` under another signature. Refusals in this order: `DebugSize` for a
+    /// size below 16, which is `None` in permissive mode; `Short`; `DebugData` where the file name isn't all there.
+    pub fn parse_with_opts(
+        bytes: &'a [u8],
+        idd: &ImageDebugDirectory,
+        opts: &ParseOptions,
+    ) -> Result<Option<Self>>
+        ensures { Gives (option_map pdb20_view) result (pdb20_of opts.now bytes.entry.now idd.now) }
+    {
+        let place = record_place(idd, opts);
+        CodeviewPDB20DebugInfo::at(bytes, place as usize, idd.size_of_data, opts.parse_mode)
+    }
+}

@@ -1,0 +1,168 @@
+//! The record of profile-guided optimization, and its entries.
+
+ghost use Rattle.std.specs.Prelude.{◌≡◌, ◌≢◌, ◌+◌, ◌-◌, ◌*◌, ◌/◌, ◌<◌, ◌≤◌, ℕ, List, [], Result, length, slice_index, IfSome, IfNone};
+ghost use Rattle.std.specs.Iterator.{at_most};
+ghost use Rattle.std.specs.Option.{option_map};
+ghost use Rattle.pe_core.specs.Options.{default_options};
+ghost use Rattle.pe_core.specs.Refusals.{Gives};
+ghost use Rattle.pe_records.specs.DebugRecords.{pogo_view, pogo_of, pogo_record};
+ghost use Rattle.pe_records.specs.Pogo.{Reads, GivesEntry, rest_of, up_to_four};
+
+use crate::debug::ImageDebugDirectory;
+use crate::debug::constants::{IMAGE_DEBUG_POGO_SIGNATURE_LTCG, IMAGE_DEBUG_POGO_SIGNATURE_PGU};
+use crate::debug::records::record_place;
+use pe_core::{Error, ParseOptions, Reason, Result, number32, require_bytes, u32_at};
+
+/// A record of profile-guided optimization.
+#[derive(Clone, Copy, Debug, Default, PartialEq)]
+pub struct POGOInfo<'a> {
+    /// 0x4C544347, `LTCG`, or 0x50475500, `PGU`.
+    pub signature: u32,
+    /// The bytes behind the signature.
+    pub bytes: &'a [u8],
+}
+
+impl<'a> POGOInfo<'a> {
+    #[tactic(auto, unfolding(crate::specs::DebugRecords::pogo_record))]
+    fn at(bytes: &'a [u8], place: usize, size: u32) -> Result<Option<Self>>
+        ensures { Gives (option_map pogo_view) result (pogo_record bytes.entry.now place size) }
+    {
+        let signature = u32_at(bytes, place)?;
+        if signature != IMAGE_DEBUG_POGO_SIGNATURE_LTCG
+            && signature != IMAGE_DEBUG_POGO_SIGNATURE_PGU
+        {
+            return Ok(None);
+        }
+        if size <= 4 {
+            return Err(Error::Malformed(Reason::PogoSize(size)));
+        }
+        let length = size as usize - 4;
+        if bytes.len() - (place + 4) < length {
+            return Err(Error::Malformed(Reason::DebugData(size)));
+        }
+        Ok(Some(POGOInfo {
+            signature,
+            bytes: &bytes[place + 4..place + 4 + length],
+        }))
+    }
+
+    /// The record of the entry, by the default options.
+    pub fn parse(bytes: &'a [u8], idd: &ImageDebugDirectory) -> Result<Option<Self>>
+        ensures { Gives (option_map pogo_view) result (pogo_of default_options bytes.entry.now idd.now) }
+    {
+        POGOInfo::parse_with_opts(bytes, idd, &ParseOptions::default())
+    }
+
+    /// The record of the entry, `None` under another signature. Refusals in this order: `Short`; `PogoSize` for a
+    /// size of at most 4; `DebugData` where its bytes aren't all there.
+    pub fn parse_with_opts(
+        bytes: &'a [u8],
+        idd: &ImageDebugDirectory,
+        opts: &ParseOptions,
+    ) -> Result<Option<Self>>
+        ensures { Gives (option_map pogo_view) result (pogo_of opts.now bytes.entry.now idd.now) }
+    {
+        POGOInfo::at(bytes, record_place(idd, opts) as usize, idd.size_of_data)
+    }
+
+    /// The entries of the record.
+    pub fn entries(&self) -> POGOEntryIterator<'a>
+        ensures { rest_of result ≡ self.now.bytes.now }
+    {
+        POGOEntryIterator::new(self.bytes)
+    }
+}
+
+/// A part of the image, and its name.
+#[derive(Clone, Copy, Debug, Default, PartialEq)]
+pub struct POGOInfoEntry<'a> {
+    /// The part's relative virtual address.
+    pub rva: u32,
+    /// In bytes.
+    pub size: u32,
+    /// The name with the zero byte that ends it.
+    pub name: &'a [u8],
+}
+
+/// Where the first zero byte is.
+fn first_zero(bytes: &[u8]) -> Option<usize>
+    ensures within { IfSome result (λ k. k < length bytes.now) }
+    ensures here { IfSome result (λ k. slice_index bytes.now k ≡ 0) }
+    ensures before { IfSome result (λ k. (j : ℕ) → j < k → slice_index bytes.now j ≢ 0) }
+    ensures none { IfNone result ((j : ℕ) → j < length bytes.now → slice_index bytes.now j ≢ 0) }
+{
+    for (i, byte) in bytes.iter().enumerate() {
+        if *byte == 0 {
+            return Some(i);
+        }
+    }
+    None
+}
+
+/// The entry that the bytes begin with, and how many bytes it has.
+#[tactic(auto, using(crate::proofs::PogoNames::begins_from, crate::proofs::PogoNames::none_short, crate::proofs::PogoNames::none_unended, crate::proofs::PogoNames::none_cut))]
+fn entry_at<'a>(bytes: &'a [u8]) -> Result<(POGOInfoEntry<'a>, usize)>
+    ensures entry { Reads bytes.entry.now result }
+{
+    require_bytes(bytes, 0, 8)?;
+    let rest = bytes.split_at(8).1;
+    let Some(zero) = first_zero(rest) else {
+        return Err(Error::Malformed(Reason::PogoName {
+            place: 8,
+            length: bytes.len(),
+        }));
+    };
+    let end = (8 + zero + 1 + 3) / 4 * 4;
+    if bytes.len() < end {
+        return Err(Error::Malformed(Reason::PogoName {
+            place: end,
+            length: bytes.len(),
+        }));
+    }
+    let entry = POGOInfoEntry {
+        rva: number32(bytes, 0),
+        size: number32(bytes, 4),
+        name: rest.split_at(zero + 1).0,
+    };
+    Ok((entry, end))
+}
+
+/// The entries that are left of a record. A rest that begins with no entry is one item, an error.
+#[derive(Clone, Copy, Debug)]
+pub struct POGOEntryIterator<'a> {
+    bytes: &'a [u8],
+}
+
+impl<'a> POGOEntryIterator<'a> {
+    /// The entries of these bytes, which stand behind a record's signature.
+    pub fn new(bytes: &'a [u8]) -> Self
+        ensures { rest_of result ≡ bytes.entry.now }
+    {
+        POGOEntryIterator { bytes }
+    }
+}
+
+impl<'a> Iterator for POGOEntryIterator<'a> {
+    type Item = Result<POGOInfoEntry<'a>>;
+
+    ghost next_gives = { λ s r t. GivesEntry (rest_of s) r (rest_of t) };
+
+    ghost remaining = { λ s. at_most (length (rest_of s)) };
+
+    fn next(&mut self) -> Option<Result<POGOInfoEntry<'a>>> {
+        let bytes = self.bytes;
+        if bytes.is_empty() {
+            return None;
+        }
+        match entry_at(bytes) {
+            Ok((entry, end)) => {
+                self.bytes = bytes.split_at(end).1;
+                Some(Ok(entry))
+            }
+            Err(error) => {
+                self.bytes = &[];
+                Some(Err(error))
+            }
+        }
+    }
+}

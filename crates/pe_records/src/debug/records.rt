@@ -1,0 +1,151 @@
+//! Records of fixed size, and the record of reproducible builds.
+
+ghost use Rattle.std.specs.Prelude.{◌≡◌, ◌+◌, ◌≤◌, length};
+ghost use Rattle.pe_core.specs.Options.{default_options};
+ghost use Rattle.pe_core.specs.Refusals.{Gives};
+ghost use Rattle.pe_records.specs.DebugRecords.{record_place, features_at, features_of, characteristics_of, repro_view, repro_of, repro_record};
+
+use crate::debug::ImageDebugDirectory;
+use pe_core::{Error, ParseOptions, Reason, Result, number32, require_bytes, u32_at};
+
+/// Where the record of an entry stands: at its pointer if addresses are mapped to places, else at its address.
+pub(crate) fn record_place(idd: &ImageDebugDirectory, opts: &ParseOptions) -> u32
+    ensures { result ≡ record_place opts.now.resolve_rva idd.now }
+{
+    if opts.resolve_rva {
+        idd.pointer_to_raw_data
+    } else {
+        idd.address_of_raw_data
+    }
+}
+
+/// How many functions of an image were compiled with which features of Visual C++.
+#[derive(Clone, Copy, Debug, Default, PartialEq)]
+pub struct VCFeatureInfo {
+    /// By a compiler before Visual C++ 11.
+    pub pre_vc_plusplus_count: u32,
+    /// From C and C++.
+    pub c_and_cplusplus_count: u32,
+    /// With checks of the stack (`/GS`).
+    pub guard_stack_count: u32,
+    /// With the checks of `/sdl`.
+    pub sdl_count: u32,
+    /// With guards of control flow.
+    pub guard_count: u32,
+}
+
+impl VCFeatureInfo {
+    /// The counts at a place where their 20 bytes are known to be there.
+    #[tactic(auto, unfolding(crate::specs::DebugRecords::features_at))]
+    fn at(bytes: &[u8], place: usize) -> VCFeatureInfo
+        requires { place + 20 ≤ length bytes.now }
+        ensures { result ≡ features_at bytes.now place }
+    {
+        VCFeatureInfo {
+            pre_vc_plusplus_count: number32(bytes, place),
+            c_and_cplusplus_count: number32(bytes, place + 4),
+            guard_stack_count: number32(bytes, place + 8),
+            sdl_count: number32(bytes, place + 12),
+            guard_count: number32(bytes, place + 16),
+        }
+    }
+
+    /// The counts of the entry, by the default options.
+    pub fn parse(bytes: &[u8], idd: &ImageDebugDirectory) -> Result<VCFeatureInfo>
+        ensures { Gives (λ r. r) result (features_of default_options bytes.now idd.now) }
+    {
+        VCFeatureInfo::parse_with_opts(bytes, idd, &ParseOptions::default())
+    }
+
+    /// The counts of the entry, whatever its size: 20 bytes, or `Short`.
+    pub fn parse_with_opts(
+        bytes: &[u8],
+        idd: &ImageDebugDirectory,
+        opts: &ParseOptions,
+    ) -> Result<VCFeatureInfo>
+        ensures { Gives (λ r. r) result (features_of opts.now bytes.now idd.now) }
+    {
+        let place = record_place(idd, opts) as usize;
+        require_bytes(bytes, place, 20)?;
+        Ok(VCFeatureInfo::at(bytes, place))
+    }
+}
+
+/// Characteristics of a library beyond those of the optional header.
+#[derive(Clone, Copy, Debug, Default, PartialEq)]
+pub struct ExDllCharacteristicsInfo {
+    /// A sum of the flags `IMAGE_DLLCHARACTERISTICS_EX_..`.
+    pub characteristics_ex: u32,
+}
+
+impl ExDllCharacteristicsInfo {
+    /// The characteristics of the entry, by the default options.
+    pub fn parse(bytes: &[u8], idd: &ImageDebugDirectory) -> Result<ExDllCharacteristicsInfo>
+        ensures { Gives (λ r. r) result (characteristics_of default_options bytes.now idd.now) }
+    {
+        ExDllCharacteristicsInfo::parse_with_opts(bytes, idd, &ParseOptions::default())
+    }
+
+    /// The characteristics of the entry, whatever its size: 4 bytes, or `Short`.
+    pub fn parse_with_opts(
+        bytes: &[u8],
+        idd: &ImageDebugDirectory,
+        opts: &ParseOptions,
+    ) -> Result<ExDllCharacteristicsInfo>
+        ensures { Gives (λ r. r) result (characteristics_of opts.now bytes.now idd.now) }
+    {
+        let characteristics_ex = u32_at(bytes, record_place(idd, opts) as usize)?;
+        Ok(ExDllCharacteristicsInfo { characteristics_ex })
+    }
+}
+
+/// What a reproducible build is known by.
+#[derive(Clone, Copy, Debug, PartialEq)]
+pub enum ReproInfo<'a> {
+    /// The entry's time stamp, which is a hash then.
+    TimeDateStamp(u32),
+    /// A hash of its own.
+    Buffer {
+        /// In bytes.
+        length: u32,
+        buffer: &'a [u8],
+    },
+}
+
+impl<'a> ReproInfo<'a> {
+    #[tactic(auto, unfolding(crate::specs::DebugRecords::repro_record))]
+    fn at(bytes: &'a [u8], place: usize, idd: &ImageDebugDirectory) -> Result<Self>
+        ensures { Gives repro_view result (repro_record bytes.entry.now place idd.now) }
+    {
+        if idd.size_of_data == 0 {
+            return Ok(ReproInfo::TimeDateStamp(idd.time_date_stamp));
+        }
+        let length = u32_at(bytes, place)?;
+        if bytes.len() - (place + 4) < length as usize {
+            return Err(Error::Malformed(Reason::DebugData(length)));
+        }
+        Ok(ReproInfo::Buffer {
+            length,
+            buffer: &bytes[place + 4..place + 4 + length as usize],
+        })
+    }
+
+    /// What the entry's build is known by, by the default options.
+    pub fn parse(bytes: &'a [u8], idd: &ImageDebugDirectory) -> Result<Self>
+        ensures { Gives repro_view result (repro_of default_options bytes.entry.now idd.now) }
+    {
+        ReproInfo::parse_with_opts(bytes, idd, &ParseOptions::default())
+    }
+
+    /// What the entry's build is known by: its time stamp if its size is 0, else a length of 4 bytes (`Short`) and
+    /// so many bytes (`DebugData`). The size isn't used further.
+    pub fn parse_with_opts(
+        bytes: &'a [u8],
+        idd: &ImageDebugDirectory,
+        opts: &ParseOptions,
+    ) -> Result<Self>
+        ensures { Gives repro_view result (repro_of opts.now bytes.entry.now idd.now) }
+    {
+        ReproInfo::at(bytes, record_place(idd, opts) as usize, idd)
+    }
+}
