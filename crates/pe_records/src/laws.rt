@@ -1,7 +1,7 @@
 //! Laws over the definitions. Each is the contract of a function that does nothing.
 
 ghost use Rattle.std.specs.Prelude.{◌≡◌, ℕ, ◌+◌, ◌%◌, ◌≤◌, ◌↔◌, List, Ok, Err, length};
-ghost use Rattle.pe_core.specs.Bytes.{splice};
+ghost use Rattle.pe_core.specs.Bytes.{AreBytes, splice};
 ghost use Rattle.pe_core.specs.Refusals.{Refusal};
 ghost use Rattle.pe_records.specs.Certificates.{CertificateView, certificate_at, certificates_at, IsListing, IsRefused};
 ghost use Rattle.pe_records.specs.CertificateWriting.{IsWhole, spell_certificate, padding, written_length, written_certificate};
@@ -27,4 +27,12 @@ pub fn written_certificates_are_read_again()
 pub fn certificates_are_three_pieces()
     ensures { (b : List ℕ) (p : ℕ) (c : CertificateView) → p ≤ length b →
         splice b p (written_certificate c) ≡ splice (splice (splice b p (spell_certificate c)) (p + 8) c.body) (p + 8 + length c.body) (padding c) }
+{}
+
+/// A certificate that is read has the body that its length says; at a multiple of eight it takes as many bytes as it
+/// does when it is written, up to the place behind it.
+#[tactic(auto, using(crate::proofs::CertificatesReadAgain::whole, crate::proofs::CertificatesReadAgain::next_place))]
+pub fn certificates_that_are_read_are_whole()
+    ensures whole { (b : List ℕ) (p : ℕ) (c : CertificateView) (next : ℕ) → AreBytes b → certificate_at b p ≡ Ok (c, next) → IsWhole c }
+    ensures next { (b : List ℕ) (p : ℕ) (c : CertificateView) (next : ℕ) → AreBytes b → p % 8 ≡ 0 → certificate_at b p ≡ Ok (c, next) → next ≡ p + written_length c }
 {}
