@@ -1,10 +1,10 @@
 //! Laws over the definitions. Each is the contract of a function that does nothing.
 
-ghost use Rattle.std.specs.Prelude.{◌≡◌, ℕ, ◌+◌, ◌%◌, ◌≤◌, ◌↔◌, List, Ok, Err, length};
+ghost use Rattle.std.specs.Prelude.{◌≡◌, ℕ, ◌+◌, ◌%◌, ◌≤◌, ◌↔◌, List, ◌∷◌, Ok, Err, length};
 ghost use Rattle.pe_core.specs.Bytes.{AreBytes, splice};
 ghost use Rattle.pe_core.specs.Refusals.{Refusal};
 ghost use Rattle.pe_records.specs.Certificates.{CertificateView, certificate_at, certificates_at, IsListing, IsRefused};
-ghost use Rattle.pe_records.specs.CertificateWriting.{IsWhole, spell_certificate, padding, written_length, written_certificate};
+ghost use Rattle.pe_records.specs.CertificateWriting.{IsWhole, spell_certificate, padding, written_length, written_certificate, written_certificates};
 
 /// A table has one listing or one refusal, and never both: what the function gives.
 pub fn tables_have_one_listing()
@@ -35,4 +35,14 @@ pub fn certificates_are_three_pieces()
 pub fn certificates_that_are_read_are_whole()
     ensures whole { (b : List ℕ) (p : ℕ) (c : CertificateView) (next : ℕ) → AreBytes b → certificate_at b p ≡ Ok (c, next) → IsWhole c }
     ensures next { (b : List ℕ) (p : ℕ) (c : CertificateView) (next : ℕ) → AreBytes b → p % 8 ≡ 0 → certificate_at b p ≡ Ok (c, next) → next ≡ p + written_length c }
+{}
+
+/// Listed certificates that are written one behind the other from the table's address on, a multiple of eight, into any
+/// buffer that has the table and room for them, are listed there again.
+pub fn written_listings_are_listed_again()
+    ensures again { (b buffer : List ℕ) (address size : ℕ) (cs : List CertificateView) → AreBytes b → address % 8 ≡ 0 → IsListing b address size cs →
+        address + size ≤ length buffer → address + length (written_certificates cs) ≤ length buffer →
+        IsListing (splice buffer address (written_certificates cs)) address size cs }
+    ensures in_turn { (b : List ℕ) (p : ℕ) (c : CertificateView) (cs : List CertificateView) → p ≤ length b →
+        splice b p (written_certificates (c ∷ cs)) ≡ splice (splice b p (written_certificate c)) (p + written_length c) (written_certificates cs) }
 {}
