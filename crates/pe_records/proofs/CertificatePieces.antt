@@ -7,7 +7,7 @@ use lib.Seq.{paste}
 use Rattle.pe_core.specs.Bytes.{bytes_of, holds, splice, put}
 use Rattle.pe_core.specs.Refusals.{Refusal, WriteFit, outcome}
 use Rattle.pe_records.specs.Certificates.{CertificateView}
-use Rattle.pe_records.specs.CertificateWriting.{spell_certificate, written_certificate, written_length, padding}
+use Rattle.pe_records.specs.CertificateWriting.{spell_certificate, written_certificate, written_certificates, written_length, padding}
 
 length-bytes_of : (w n : ℕ) → length (bytes_of w n) ≡ w
 unfolding bytes_of
@@ -64,3 +64,7 @@ three_pieces b p c h =
     ap (λ (n : ℕ). splice (splice b p (spell_certificate c)) (p + n) c.body) (sym h8) ∙ splice-splice b p (spell_certificate c) c.body h in
     let place : p + 8 + length c.body ≡ p + length (spell_certificate c ++ c.body) = simp length-append (omega arith) in
     sym (rw (two, place) (splice-splice b p (spell_certificate c ++ c.body) (padding c) h))
+
+-- the first of several certificates, and then the others
+pub in_turn : (b : List ℕ) (p : ℕ) (c : CertificateView) (cs : List CertificateView) → p ≤ length b → splice b p (written_certificates (c ∷ cs)) ≡ splice (splice b p (written_certificate c)) (p + written_length c) (written_certificates cs)
+in_turn b p c cs h = sym (ap (λ (n : ℕ). splice (splice b p (written_certificate c)) (p + n) (written_certificates cs)) (sym (length_written c)) ∙ splice-splice b p (written_certificate c) (written_certificates cs) h)

@@ -1,15 +1,17 @@
 -- What is written is read again.
-use Rattle.std.proofs.Common.{◌≡◌, true, nat_le, ℕ, ◌+◌, ◌-◌, ◌/◌, ◌%◌, ◌^◌, ◌<◌, ◌≤◌, List, ◌++◌, length, take, drop, get_or, Ok, refl, ap, sym, ◌∙◌, subst, append_assoc, add-zero, length-append, length-take-le, arith}
+use Rattle.std.proofs.Common.{[], ◌∷◌, ◌≡◌, true, nat_le, ℕ, ◌+◌, ◌-◌, ◌/◌, ◌%◌, ◌^◌, ◌<◌, ◌≤◌, List, ◌++◌, length, take, drop, get_or, Ok, refl, ap, sym, ◌∙◌, subst, append_assoc, add-zero, length-append, length-take, length-drop, length-take-le, arith}
 use Rattle.std.proofs.lemmas.Bool.Decides.{nat_tests}
 use Rattle.std.proofs.lemmas.List.{take_at, drop_at, get_or-append-add}
-use Rattle.pe_core.specs.Bytes.{le, bytes_of, range, splice}
+use Rattle.pe_core.specs.Bytes.{AreBytes, le, bytes_of, range, splice}
 use Rattle.pe_core.specs.SectionMap.{rounded_up}
 use Rattle.pe_records.specs.declared.certificate_table.AttributeCertificateRevision.{AttributeCertificateRevision}
 use Rattle.pe_records.specs.declared.certificate_table.AttributeCertificateRevision.TheVariants.{Revision1_0, Revision2_0}
 use Rattle.pe_records.specs.declared.certificate_table.AttributeCertificateType.{AttributeCertificateType}
 use Rattle.pe_records.specs.declared.certificate_table.AttributeCertificateType.TheVariants.{X509, PkcsSignedData, Reserved1, TsStackSigned}
-use Rattle.pe_records.specs.Certificates.{CertificateView, certificate_at, certificate, certificate_tests, revision_number, type_number, revision_of, type_of, is_revision, is_type}
-use Rattle.pe_records.specs.CertificateWriting.{spell_certificate, padding, written_certificate, written_length, IsWhole}
+use Rattle.pe_records.specs.Certificates.{CertificateView, certificate_at, certificate, certificate_tests, IsListing, revision_number, type_number, revision_of, type_of, is_revision, is_type}
+use Rattle.pe_records.proofs.CertificateListings.{StandFrom, unplaced, listing}
+use Rattle.pe_records.proofs.CertificatePieces.{length_written}
+use Rattle.pe_records.specs.CertificateWriting.{spell_certificate, padding, written_certificate, written_certificates, written_length, IsWhole}
 
 -- an element behind a front
 behind : (f xs : List ℕ) (p i k : ℕ) → length f ≡ p → k ≡ p + i → get_or (f ++ xs) k 0 ≡ get_or xs i 0
@@ -69,17 +71,15 @@ body_is f h m z p n e l k =
     let s : p + 8 + n - (p + 8) ≡ n = omega arith in
     ap (λ (i : ℕ). take i (drop (p + 8) (f ++ (h ++ (m ++ z))))) s ∙ ap (take n) d ∙ take_at m z n k
 
-pub read_again : (b : List ℕ) (p : ℕ) (c : CertificateView) → IsWhole c → p % 8 ≡ 0 → p + written_length c ≤ length b → certificate_at (splice b p (written_certificate c)) p ≡ Ok (c, p + written_length c)
-unfolding splice spell_certificate bytes_of
-read_again b p c w m room =
+-- a certificate that is written behind a front
+read_behind : (f tail : List ℕ) (p : ℕ) (c : CertificateView) → IsWhole c → p % 8 ≡ 0 → length f ≡ p → certificate_at (f ++ (written_certificate c ++ tail)) p ≡ Ok (c, p + written_length c)
+unfolding spell_certificate bytes_of
+read_behind f tail p c w m front =
     let fits : c.length < 2 ^ 32 = w.fits in
     let size : length c.body ≡ c.length - 8 = w.body in
-    let f : List ℕ = take p b in
     let h : List ℕ = spell_certificate c in
     let z : List ℕ = padding c in
-    let tail : List ℕ = drop (p + length (written_certificate c)) b in
-    let front : length f ≡ p = length-take-le p b (omega arith) in
-    let whole : splice b p (written_certificate c) ≡ f ++ (h ++ (c.body ++ (z ++ tail))) = ap (λ (x : List ℕ). f ++ (h ++ x)) (append_assoc c.body z tail) in
+    let whole : f ++ (written_certificate c ++ tail) ≡ f ++ (h ++ (c.body ++ (z ++ tail))) = ap (λ (x : List ℕ). f ++ (h ++ x)) (append_assoc c.body z tail) in
     let long : length (f ++ (h ++ (c.body ++ (z ++ tail)))) ≡ p + 8 + length c.body + length (z ++ tail) = simp length-append (omega arith) in
     ap (λ (x : List ℕ). certificate_at x p) whole
     ∙ certificate_from (f ++ (h ++ (c.body ++ (z ++ tail)))) p c (p + written_length c)
@@ -89,3 +89,65 @@ read_again b p c w m room =
     (omega arith) (omega arith)
     (body_is f h c.body (z ++ tail) p (c.length - 8) front refl size)
     (omega arith)
+
+pub read_again : (b : List ℕ) (p : ℕ) (c : CertificateView) → IsWhole c → p % 8 ≡ 0 → p + written_length c ≤ length b → certificate_at (splice b p (written_certificate c)) p ≡ Ok (c, p + written_length c)
+unfolding splice
+read_again b p c w m room = read_behind (take p b) (drop (p + length (written_certificate c)) b) p c w m (length-take-le p b (omega arith))
+
+-- ---- what is read is whole
+
+le_small : (b : List ℕ) (p : ℕ) → AreBytes b → le b p 4 < 2 ^ 32
+unfolding le
+le_small b p small =
+    let b0 = small (p + 0) in
+    let b1 = small (p + 1) in
+    let b2 = small (p + 2) in
+    let b3 = small (p + 3) in
+    omega arith
+
+range_length : (b : List ℕ) (p n : ℕ) → p + n ≤ length b → length (range b p n) ≡ n
+range_length b p n h = simp (length-take, length-drop) (omega arith)
+
+pub record Read (b : List ℕ) (p : ℕ) (c : CertificateView) (q : ℕ) : Type 0 where
+  pub size : c.length ≡ le b p 4
+  pub inside : p + 8 + (c.length - 8) ≤ length b
+  pub body : c.body ≡ range b (p + 8) (c.length - 8)
+  pub next : q ≡ rounded_up (p + 8 + (c.length - 8)) 8
+
+read : (b : List ℕ) (p : ℕ) (c : CertificateView) (q : ℕ) → certificate_at b p ≡ Ok (c, q) → Read b p c q
+unfolding certificate_at certificate certificate_tests
+read b p c q e = record { size = grind (arith, nat_tests); inside = grind (arith, nat_tests); body = grind (arith, nat_tests); next = grind (arith, nat_tests) }
+
+pub whole : (b : List ℕ) (p : ℕ) (c : CertificateView) (q : ℕ) → AreBytes b → certificate_at b p ≡ Ok (c, q) → IsWhole c
+whole b p c q small e =
+    let r : Read b p c q = read b p c q e in
+    record { fits = omega (arith, le_small b p small, r.size); body = ap length r.body ∙ range_length b (p + 8) (c.length - 8) r.inside }
+
+pub next_place : (b : List ℕ) (p : ℕ) (c : CertificateView) (q : ℕ) → AreBytes b → p % 8 ≡ 0 → certificate_at b p ≡ Ok (c, q) → q ≡ p + written_length c
+next_place b p c q small m e =
+    let r : Read b p c q = read b p c q e in
+    let w : IsWhole c = whole b p c q small e in
+    omega (arith, r.next, w.body)
+
+-- ---- certificates that are written one behind the other
+
+listed_behind : (b : List ℕ) (end p : ℕ) (cs : List CertificateView) (q : ℕ) (f tail : List ℕ) → AreBytes b → StandFrom b end p cs q → p % 8 ≡ 0 → length f ≡ p → StandFrom (f ++ (written_certificates cs ++ tail)) end p cs q
+listed_behind b end p [] q f tail small s m front = s
+listed_behind b end p (c ∷ cs) q f tail small s m front =
+    let w : IsWhole c = whole b p c s.1 small s.2 in
+    let next : s.1 ≡ p + written_length c = next_place b p c s.1 small m s.2 in
+    let rest : List ℕ = written_certificates cs in
+    let bytes : f ++ (written_certificates (c ∷ cs) ++ tail) ≡ f ++ (written_certificate c ++ (rest ++ tail)) = ap (λ (x : List ℕ). f ++ x) (append_assoc (written_certificate c) rest tail) in
+    let moved : (f ++ written_certificate c) ++ (rest ++ tail) ≡ f ++ (written_certificates (c ∷ cs) ++ tail) = append_assoc f (written_certificate c) (rest ++ tail) ∙ sym bytes in
+    let here : certificate_at (f ++ (written_certificates (c ∷ cs) ++ tail)) p ≡ Ok (c, s.1) = rw (bytes, next) (read_behind f (rest ++ tail) p c w m front) in
+    let long : length (f ++ written_certificate c) ≡ s.1 = omega (arith, length-append f (written_certificate c), length_written c, front, next) in
+    (s.0, s.1, here, subst (λ (x : List ℕ). StandFrom x end s.1 cs q) moved (listed_behind b end s.1 cs q (f ++ written_certificate c) tail small s.3 (omega (arith, next, m)) long))
+
+pub listed_again : (b old : List ℕ) (address size : ℕ) (cs : List CertificateView) → AreBytes b → address % 8 ≡ 0 → IsListing b address size cs → address + size ≤ length old → address + length (written_certificates cs) ≤ length old → IsListing (splice old address (written_certificates cs)) address size cs
+unfolding splice
+listed_again b old address size cs small m l room fit =
+    let s : StandFrom b (address + size) address cs (l.place (length cs)) = rw l.first at (unplaced b (address + size) l.place cs l.stand) in
+    let tail : List ℕ = drop (address + length (written_certificates cs)) old in
+    let long : address + size ≤ length (take address old ++ (written_certificates cs ++ tail)) = simp (length-append, length-take, length-drop) (omega arith) in
+    listing (take address old ++ (written_certificates cs ++ tail)) address size (address + size) cs (l.place (length cs)) long refl
+    (listed_behind b (address + size) address cs (l.place (length cs)) (take address old) tail small s m (length-take-le address old (omega arith))) l.last

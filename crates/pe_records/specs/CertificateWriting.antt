@@ -1,5 +1,6 @@
 -- Certificates as they are written: three pieces, one behind the other. (PE format: attribute certificate table.)
 use Rattle.std.specs.Prelude.{◌≡◌, ℕ, ◌+◌, ◌-◌, ◌^◌, ◌<◌, List, [], ◌∷◌, ◌++◌, length, replicate, Result}
+use Rattle.std.specs.List.{flat_map}
 use Rattle.pe_core.specs.Bytes.{bytes_of, holds}
 use Rattle.pe_core.specs.Refusals.{Refusal, WriteFit, outcome}
 use Rattle.pe_core.specs.SectionMap.{rounded_up}
@@ -20,6 +21,10 @@ padding c = replicate (written_length c - (8 + length c.body)) 0
 -- header, body and zeros
 abbrev pub written_certificate : CertificateView → List ℕ
 written_certificate c = spell_certificate c ++ c.body ++ padding c
+
+-- certificates that are written one behind the other
+abbrev pub written_certificates : List CertificateView → List ℕ
+written_certificates cs = flat_map written_certificate cs
 
 -- the place behind a certificate that is written at p, or `WriteFit` where it does not fit
 abbrev pub written_end : List ℕ → ℕ → CertificateView → Result ℕ Refusal

@@ -1,10 +1,10 @@
 //! Laws over the definitions. Each is the contract of a function that does nothing.
 
-ghost use Rattle.std.specs.Prelude.{◌≡◌, ℕ, ◌+◌, ◌%◌, ◌≤◌, ◌↔◌, List, map, length, Option, Some, None, Result, Ok, Err};
-ghost use Rattle.pe_core.specs.Bytes.{splice};
+ghost use Rattle.std.specs.Prelude.{◌≡◌, ℕ, ◌+◌, ◌%◌, ◌≤◌, ◌↔◌, List, ◌∷◌, map, length, Option, Some, None, Result, Ok, Err};
+ghost use Rattle.pe_core.specs.Bytes.{AreBytes, splice};
 ghost use Rattle.pe_core.specs.Refusals.{Refusal};
 ghost use Rattle.pe_records.specs.Certificates.{CertificateView, certificate_at, certificates_at, IsListing, IsRefused};
-ghost use Rattle.pe_records.specs.CertificateWriting.{IsWhole, spell_certificate, padding, written_length, written_certificate};
+ghost use Rattle.pe_records.specs.CertificateWriting.{IsWhole, spell_certificate, padding, written_length, written_certificate, written_certificates};
 ghost use Rattle.std.specs.Iterator.{Drains};
 ghost use Rattle.pe_core.specs.declared.data_directories.DataDirectory.{DataDirectory};
 ghost use Rattle.pe_core.specs.declared.error.Error.{Error};
@@ -45,6 +45,7 @@ pub fn certificates_are_three_pieces()
         splice b p (written_certificate c) ≡ splice (splice (splice b p (spell_certificate c)) (p + 8) c.body) (p + 8 + length c.body) (padding c) }
 {}
 
+<<<<<<< HEAD
 /// The items that an iterator of debug entries gives are the entries of its bytes, as many as it tells, and it is
 /// over after a fault and after `None`.
 pub fn debug_iterators_give_the_entries()
@@ -86,4 +87,22 @@ pub fn strict_debug_data_is_permissive()
     ensures whole { (o : ParseOptions) (b : List ℕ) (d : DataDirectory) (sections : List SectionTable) (alignment fixup : ℕ) (x : DebugFields) →
         debug_data (record o { parse_mode = ParseMode.Strict }) b d sections alignment fixup ≡ Ok x →
         debug_data (record o { parse_mode = ParseMode.Permissive }) b d sections alignment fixup ≡ Ok x }
+=======
+/// A certificate that is read has the body that its length says; at a multiple of eight it takes as many bytes as it
+/// does when it is written, up to the place behind it.
+#[tactic(auto, using(crate::proofs::CertificatesReadAgain::whole, crate::proofs::CertificatesReadAgain::next_place))]
+pub fn certificates_that_are_read_are_whole()
+    ensures whole { (b : List ℕ) (p : ℕ) (c : CertificateView) (next : ℕ) → AreBytes b → certificate_at b p ≡ Ok (c, next) → IsWhole c }
+    ensures next { (b : List ℕ) (p : ℕ) (c : CertificateView) (next : ℕ) → AreBytes b → p % 8 ≡ 0 → certificate_at b p ≡ Ok (c, next) → next ≡ p + written_length c }
+{}
+
+/// Listed certificates that are written one behind the other from the table's address on, a multiple of eight, into any
+/// buffer that has the table and room for them, are listed there again.
+pub fn written_listings_are_listed_again()
+    ensures again { (b buffer : List ℕ) (address size : ℕ) (cs : List CertificateView) → AreBytes b → address % 8 ≡ 0 → IsListing b address size cs →
+        address + size ≤ length buffer → address + length (written_certificates cs) ≤ length buffer →
+        IsListing (splice buffer address (written_certificates cs)) address size cs }
+    ensures in_turn { (b : List ℕ) (p : ℕ) (c : CertificateView) (cs : List CertificateView) → p ≤ length b →
+        splice b p (written_certificates (c ∷ cs)) ≡ splice (splice b p (written_certificate c)) (p + written_length c) (written_certificates cs) }
+>>>>>>> certs-work
 {}
