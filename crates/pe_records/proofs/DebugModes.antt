@@ -1,5 +1,5 @@
 -- What strict mode gives, permissive mode gives too.
-use Rattle.std.proofs.Common.{◌≡◌, ℕ, ◌+◌, ◌-◌, Bool, true, false, List, Option, Some, None, Result, Ok, Err, refl, ap, ◌∙◌}
+use Rattle.std.proofs.Common.{◌≡◌, ℕ, Bool, true, false, List, Option, Some, None, Result, Ok, Err, refl, ap, ◌∙◌}
 use Rattle.std.specs.Prelude.{drop, nat_lt, if◌then◌else◌}
 use Rattle.pe_core.specs.Bytes.{holds, range}
 use Rattle.pe_core.specs.Refusals.{Refusal, DebugSize, DebugBounds, ◌>>=◌}
@@ -11,7 +11,7 @@ use Rattle.pe_core.specs.declared.options.ParseOptions.{ParseOptions}
 use Rattle.pe_core.specs.declared.section_table.SectionTable.{SectionTable}
 use Rattle.pe_records.specs.declared.debug.ImageDebugDirectory.{ImageDebugDirectory}
 use Rattle.pe_records.specs.DebugDirectory.{directory_table, table_at, first_of_type}
-use Rattle.pe_records.specs.DebugRecords.{DebugFields, Pdb70, Pdb20, pdb70_record, pdb20_record, pdb70_of, pdb20_of, of_least_size, of_entry, records, debug_data, record_place}
+use Rattle.pe_records.specs.DebugRecords.{DebugFields, Pdb70, Pdb20, pdb70_record, pdb20_record, pdb70_of, pdb20_of, of_entry, records, debug_data, record_place}
 
 -- the same options in a mode
 abbrev in_mode : ParseMode → ParseOptions → ParseOptions

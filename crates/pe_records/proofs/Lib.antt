@@ -1,8 +1,9 @@
-pub mod CertificateListings
-pub mod CertificatePieces
-pub mod CertificatesReadAgain
 pub mod EntriesInOrder
 pub mod EntryRuns
 pub mod DebugModes
+pub mod SpelledDebug
 pub mod PogoNames
 pub mod PogoReadings
+pub mod CertificateListings
+pub mod CertificatePieces
+pub mod CertificatesReadAgain

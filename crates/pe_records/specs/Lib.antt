@@ -3,3 +3,4 @@ pub mod CertificateWriting
 pub mod DebugDirectory
 pub mod DebugRecords
 pub mod Pogo
+pub mod DebugSpelling

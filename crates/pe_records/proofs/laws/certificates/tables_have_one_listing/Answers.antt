@@ -1,5 +1,5 @@
 use Rattle.pe_records.proofs.CertificateListings.{listing_is, refusal_is, is_listing, is_refused, one_listing, one_refusal, apart}
-use Rattle.pe_records.proofs.laws.tables_have_one_listing.Goals as goal
+use Rattle.pe_records.proofs.laws.certificates.tables_have_one_listing.Goals as goal
 
 pub returns : goal.returns
 returns c = record {

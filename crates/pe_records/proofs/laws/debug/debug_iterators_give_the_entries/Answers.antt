@@ -1,6 +1,6 @@
 use Rattle.pe_records.proofs.EntriesInOrder.{entries_count}
 use Rattle.pe_records.proofs.EntryRuns.{entries_from_yields, over_after_fault, over_after_none}
-use Rattle.pe_records.proofs.laws.debug_iterators_give_the_entries.Goals as goal
+use Rattle.pe_records.proofs.laws.debug.debug_iterators_give_the_entries.Goals as goal
 
 pub returns : goal.returns
 returns c = record {

@@ -1,5 +1,5 @@
 use Rattle.pe_records.proofs.PogoReadings.{entries_from_yields, entries_once, over_after_fault, over_after_none}
-use Rattle.pe_records.proofs.laws.pogo_streams_have_one_reading.Goals as goal
+use Rattle.pe_records.proofs.laws.debug.pogo_streams_have_one_reading.Goals as goal
 
 pub returns : goal.returns
 returns c = record {
