@@ -23,10 +23,8 @@ image_text width entry base = codes "image " ++ width ++ codes " entry " ++ hex 
 unfoldable pub image_line : Option OptionalHeaderView → List ℕ
 image_line None = image_text (codes "32") 0 0
 image_line (Some o) = image_text (width_text o.standard_fields.magic) o.standard_fields.address_of_entry_point o.windows_fields.image_base
-    debug ← shown_debug b opts sections header.optional_header
-    certificates ← shown_certificates b opts header.optional_header
-    Ok (image_line header.optional_header ++ debug_lines debug ++ certificate_lines certificates)
 
+-- the whole text, or the first refusal: of the header, of the sections, of the debug data, of the certificates
 unfoldable pub report_text : List ℕ → ParseOptions → Result (List ℕ) Refusal
 report_text b opts = do
   header ← header_at b opts.parse_mode
