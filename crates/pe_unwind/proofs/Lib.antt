@@ -1,0 +1,4 @@
+pub mod Names
+pub mod Entries
+pub mod Searches
+pub mod SpellingLengths

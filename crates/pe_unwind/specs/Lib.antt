@@ -1,0 +1,5 @@
+pub mod Registers
+pub mod FunctionTable
+pub mod ScopeTable
+pub mod UnwindCodes
+pub mod CodeStream
