@@ -98,9 +98,18 @@ fn middle_operation(
     let value = u32::from(low) + 256 * u32::from(high);
     match opcode {
         1 => UnwindOperation::Alloc(value * 8),
-        4 => UnwindOperation::SaveNonVolatile(Register(info), frame_offset(frame_register, value * 8)),
-        6 => UnwindOperation::SaveXMM(Register(info + 17), frame_offset(frame_register, value * 16)),
-        _ => UnwindOperation::SaveXMM128(Register(info + 17), frame_offset(frame_register, value * 16)),
+        4 => UnwindOperation::SaveNonVolatile(
+            Register(info),
+            frame_offset(frame_register, value * 8),
+        ),
+        6 => UnwindOperation::SaveXMM(
+            Register(info + 17),
+            frame_offset(frame_register, value * 16),
+        ),
+        _ => UnwindOperation::SaveXMM128(
+            Register(info + 17),
+            frame_offset(frame_register, value * 16),
+        ),
     }
 }
 
@@ -127,7 +136,10 @@ fn long_operation(
         9 => UnwindOperation::SaveXMM128(Register(info + 17), frame_offset(frame_register, value)),
         _ => {
             if version == 1 {
-                UnwindOperation::SaveXMM128(Register(info + 17), frame_offset(frame_register, value))
+                UnwindOperation::SaveXMM128(
+                    Register(info + 17),
+                    frame_offset(frame_register, value),
+                )
             } else {
                 UnwindOperation::Noop
             }
