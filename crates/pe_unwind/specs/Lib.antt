@@ -3,3 +3,4 @@ pub mod FunctionTable
 pub mod ScopeTable
 pub mod UnwindCodes
 pub mod CodeStream
+pub mod UnwindRecord

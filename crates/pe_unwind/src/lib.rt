@@ -9,8 +9,10 @@ mod function_table;
 mod register;
 mod scope_table;
 mod unwind_code;
+mod unwind_info;
 
 pub use function_table::{RuntimeFunction, RuntimeFunctionIterator, search};
 pub use register::Register;
 pub use scope_table::{ScopeTableEntry, ScopeTableIterator};
 pub use unwind_code::{StackFrameOffset, UnwindCode, UnwindCodeIterator, UnwindOperation};
+pub use unwind_info::{UnwindHandler, UnwindInfo};
