@@ -13,9 +13,9 @@ use Rattle.pe_core.specs.CountedTable.{one_more}
 use Rattle.pe_unwind.specs.declared.function_table.RuntimeFunction.{RuntimeFunction}
 use Rattle.pe_unwind.specs.FunctionTable.{function_at, functions, NeverFalls, scan, if_before_end, digits, Finds}
 
-pub length-functions : (b : List ℕ) → length (functions b) ≡ length b / 12
+pub length_functions : (b : List ℕ) → length (functions b) ≡ length b / 12
 unfolding functions
-length-functions b = length-map-range_with_len (λ i. function_at b (12 * i)) 0 (length b / 12)
+length_functions b = length-map-range_with_len (λ i. function_at b (12 * i)) 0 (length b / 12)
 
 pub get_or-functions : (b : List ℕ) (i : ℕ) (d : RuntimeFunction) → i < length b / 12 → get_or (functions b) i d ≡ function_at b (12 * i)
 unfolding functions
@@ -64,7 +64,7 @@ begins-le b ordered i j h l =
     let at_i : (get_or (functions b) i d).begin_address ≡ (function_at b (12 * i)).begin_address = ap (λ (f : RuntimeFunction). f.begin_address) (get_or-functions b i d (omega arith)) in
     let at_j : (get_or (functions b) j d).begin_address ≡ (function_at b (12 * j)).begin_address = ap (λ (f : RuntimeFunction). f.begin_address) (get_or-functions b j d l) in
     ⊎_elim
-    (λ (lt : i < j). omega (arith, at_i, at_j, ordered i j d lt (omega (arith, length-functions b))))
+    (λ (lt : i < j). omega (arith, at_i, at_j, ordered i j d lt (omega (arith, length_functions b))))
     (λ (ge : j ≤ i). let same : i ≡ j = omega arith in rw same (omega arith))
     (cases_lt i j)
 
@@ -84,7 +84,7 @@ pub goes_up : (b : List ℕ) (a low high : ℕ) (found : Option RuntimeFunction)
 goes_up b a low high found m s from to passes =
     let d : RuntimeFunction = function_at b 0 in
     let inside : m < length b / 12 = omega (arith, s.within) in
-    let here : m < length (functions b) = omega (arith, length-functions b) in
+    let here : m < length (functions b) = omega (arith, length_functions b) in
     let at : get_or (functions b) m d ≡ function_at b (12 * m) = get_or-functions b m d inside in
     record {
       ordered = omega arith;
@@ -113,8 +113,8 @@ unfolding scan
 ends b a low high found s over o =
     let kept : filter (λ f. leb f.begin_address a) (functions b) ≡ take low (functions b) =
     filter_first (λ f. leb f.begin_address a) (functions b) low
-    (λ k d h l. let below : (function_at b (12 * k)).begin_address ≤ a = s.below o k h in rw (get_or-functions b k d (omega (arith, length-functions b))) (grind (arith, nat_tests)))
-    (λ k d h l. let above : a < (function_at b (12 * k)).begin_address = s.above o k (omega (arith, s.ordered)) (omega (arith, length-functions b)) in rw (get_or-functions b k d (omega (arith, length-functions b))) (grind (arith, nat_tests))) in
+    (λ k d h l. let below : (function_at b (12 * k)).begin_address ≤ a = s.below o k h in rw (get_or-functions b k d (omega (arith, length_functions b))) (grind (arith, nat_tests)))
+    (λ k d h l. let above : a < (function_at b (12 * k)).begin_address = s.above o k (omega (arith, s.ordered)) (omega (arith, length_functions b)) in rw (get_or-functions b k d (omega (arith, length_functions b))) (grind (arith, nat_tests))) in
     ap (if_before_end a) (s.last ∙ ap (last_or None) (sym kept))
 
 -- what is left after a halving has one digit less

@@ -4,3 +4,7 @@ pub mod ScopeTable
 pub mod UnwindCodes
 pub mod CodeStream
 pub mod UnwindRecord
+pub mod ExceptionTable
+pub mod Chains
+pub mod Links
+pub mod Unwinding

@@ -5,12 +5,14 @@
 //! those of Microsoft's x64 exception handling.
 #![tactic(auto)]
 
+mod exception;
 mod function_table;
 mod register;
 mod scope_table;
 mod unwind_code;
 mod unwind_info;
 
+pub use exception::ExceptionData;
 pub use function_table::{RuntimeFunction, RuntimeFunctionIterator, search};
 pub use register::Register;
 pub use scope_table::{ScopeTableEntry, ScopeTableIterator};
