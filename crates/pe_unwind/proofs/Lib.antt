@@ -4,3 +4,6 @@ pub mod Searches
 pub mod SpellingLengths
 pub mod Pigeonhole
 pub mod LinkChains
+pub mod Disjoint
+pub mod Streams
+pub mod OneChain

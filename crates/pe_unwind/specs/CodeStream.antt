@@ -32,7 +32,8 @@ Gives s (Some (Err e)) t =
     (0 < length s.content) × BeginsWithNone s.version s.frame s.content × IsFault s.version s.content (kind_of e) × (t ≡ with_left s [])
 
 -- the items of a stream: codes whose spellings follow one another, and one fault where no spelling begins what is left
-abbrev pub AreItems : ℕ → ℕ → List ℕ → List (Result UnwindCode Error) → Type 0
-AreItems v f bytes [] = bytes ≡ []
-AreItems v f bytes (Ok code ∷ items) = (n : ℕ) × BeginsWith v f bytes code n × AreItems v f (drop n bytes) items
-AreItems v f bytes (Err e ∷ items) = (0 < length bytes) × BeginsWithNone v f bytes × IsFault v bytes (kind_of e) × (items ≡ [])
+abbrev pub AreItems : CodeStream → List (Result UnwindCode Error) → Type 0
+AreItems s [] = s.content ≡ []
+AreItems s (Ok code ∷ items) = (n : ℕ) × BeginsWith s.version s.frame s.content code n × AreItems (with_left s (drop n s.content)) items
+AreItems s (Err e ∷ items) =
+    (0 < length s.content) × BeginsWithNone s.version s.frame s.content × IsFault s.version s.content (kind_of e) × (items ≡ [])

@@ -1,6 +1,6 @@
 -- The function table, and what a lookup in it gives. (x64 exception handling: function table.)
 use Rattle.std.specs.Prelude.{◌≡◌, ℕ, ◌*◌, ◌+◌, ◌/◌, ◌%◌, ◌<◌, ◌≤◌, ◌==◌, List, [], ◌∷◌, ◌++◌, Option, Some, None, Result, Ok, Err, if◌then◌else◌, nat_le, nat_lt, map, filter, length, AllPairs, Contains, IfSome}
-use Rattle.std.specs.List.{range_with_len, last_or}
+use Rattle.std.specs.List.{range_with_len, last_or, AllAdjacentBelow}
 use Rattle.std.specs.Int.Digits.{digits_of}
 use Rattle.pe_core.specs.Bytes.{le}
 use Rattle.pe_core.specs.Refusals.{Refusal, Short, kind_of}
@@ -36,6 +36,10 @@ items_of_functions s = function_items s.bytes.now
 -- begins never fall
 abbrev pub NeverFalls : List RuntimeFunction → Type 0
 NeverFalls fs = AllPairs (λ e f. e.begin_address ≤ f.begin_address) fs
+
+-- no end passes the next begin
+abbrev pub NoEndPassesNext : List RuntimeFunction → Type 0
+NoEndPassesNext fs = AllAdjacentBelow (λ e f. e.end_address ≤ f.begin_address) fs (length fs)
 
 -- the function covers the address
 abbrev pub Covers : ℕ → RuntimeFunction → Type 0

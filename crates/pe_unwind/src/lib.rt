@@ -7,6 +7,7 @@
 
 mod exception;
 mod function_table;
+pub mod laws;
 mod register;
 mod scope_table;
 mod unwind_code;
