@@ -11,3 +11,5 @@ mod images;
 mod refusals;
 #[cfg(test)]
 mod sections;
+#[cfg(test)]
+mod unwind;

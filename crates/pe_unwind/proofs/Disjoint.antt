@@ -1,11 +1,11 @@
 -- Where entries don't overlap, lookup finds the one that covers an address.
-use Rattle.std.proofs.Common.{◌≡◌, ◌↔◌, ℕ, suc, ◌+◌, ◌<◌, ◌≤◌, Bool, true, false, List, length, get_or, take, Option, Some, None, filter, refl, ap, sym, ◌∙◌, ⊎_elim, leb, arith, IsSome, is_some}
+use Rattle.std.proofs.Common.{◌≡◌, ◌↔◌, ℕ, ◌+◌, ◌<◌, ◌≤◌, List, length, get_or, take, Option, Some, None, filter, ap, ◌∙◌, ⊎_elim, leb, arith, IsSome, is_some}
 use Rattle.std.specs.List.{last_or, Any}
 use Rattle.std.proofs.lemmas.Bool.{cases_lt, false≢true}
 use Rattle.std.proofs.lemmas.Bool.Decides.{nat_tests}
 use Rattle.std.proofs.lemmas.List.{take_more, get_or_default}
 use Rattle.pe_unwind.specs.declared.function_table.RuntimeFunction.{RuntimeFunction}
-use Rattle.pe_unwind.specs.FunctionTable.{NeverFalls, NoEndPassesNext, Covers, Finds, scan, if_before_end}
+use Rattle.pe_unwind.specs.FunctionTable.{NeverFalls, NoEndPassesNext, Covers, Finds, scan}
 use Rattle.pe_unwind.proofs.Searches.{filter_first, last_or-append, before_end-inside}
 
 -- inside a list the default is never asked

@@ -1,9 +1,9 @@
 -- A chain of links has one answer.
-use Rattle.std.proofs.Common.{◌≡◌, ℕ, zero, suc, ◌-◌, ◌%◌, ◌==◌, if◌then◌else◌, true, false, eqb, Option, Some, None, Result, Ok, Err, ◌⊎◌, inl, inr, ⊎_elim, refl, ap, sym, ◌∙◌, subst, arith, option_and_then}
+use Rattle.std.proofs.Common.{◌≡◌, ℕ, zero, suc, ◌-◌, ◌%◌, ◌==◌, if◌then◌else◌, true, false, eqb, Option, Some, None, Result, Ok, Err, ◌⊎◌, inl, inr, ⊎_elim, refl, ap, sym, ◌∙◌, arith, option_and_then}
 use Rattle.std.proofs.lemmas.Bool.Decides.{nat_tests}
 use Rattle.pe_core.specs.Refusals.{Refusal, Unmapped, FunctionLink, FunctionCycle}
 use Rattle.pe_unwind.specs.Chains.{after}
-use Rattle.pe_unwind.specs.Links.{Table, IsOdd, IsEven, link, next, Reaches, Follows}
+use Rattle.pe_unwind.specs.Links.{Table, IsEven, link, next, Reaches, Follows}
 use Rattle.pe_unwind.proofs.LinkChains.{next-unmapped, next-no_entry, cycle_is_endless}
 
 -- steps come to one last state

@@ -1,7 +1,6 @@
 -- The items of a stream of unwind codes, and that there is one reading of it.
-use Rattle.std.proofs.Common.{◌≡◌, ℕ, zero, suc, ◌*◌, ◌%◌, ◌/◌, ◌<◌, ◌≤◌, List, [], ◌∷◌, length, drop, take, map, get_or, Option, Some, None, Result, Ok, Err, refl, ap, sym, ◌∙◌, subst, arith}
+use Rattle.std.proofs.Common.{◌≡◌, ℕ, zero, suc, ◌%◌, ◌/◌, ◌<◌, List, [], ◌∷◌, length, drop, take, map, Option, Some, None, Result, Ok, Err, refl, ap, sym, ◌∙◌, subst, arith}
 use Rattle.std.specs.Iterator.{Yields}
-use Rattle.std.proofs.lemmas.Bool.Decides.{nat_tests}
 use Rattle.pe_core.specs.Refusals.{Refusal, Short, UnwindCode as BadCode, kind_of}
 use Rattle.pe_core.specs.declared.error.Error.{Error}
 use Rattle.pe_unwind.specs.declared.unwind_code.UnwindCode.{UnwindCode}
@@ -9,7 +8,7 @@ use Rattle.pe_unwind.specs.declared.unwind_code.UnwindCodeIterator.{UnwindCodeIt
 use Rattle.pe_unwind.specs.declared.unwind_code.UnwindOperation.{UnwindOperation}
 use Rattle.pe_unwind.specs.CodeStream.{CodeStream, AreItems, Gives, stream_of, with_left}
 use Rattle.pe_unwind.specs.FunctionTable.{answer_of}
-use Rattle.pe_unwind.specs.UnwindCodes.{SpellsOperation, Spells, BeginsWith, BeginsWithNone, IsFault, slots_at}
+use Rattle.pe_unwind.specs.UnwindCodes.{SpellsOperation, Spells, BeginsWith, IsFault}
 use Rattle.pe_unwind.proofs.SpellingLengths.{begins_slots}
 
 abbrev pub Next : UnwindCodeIterator → Option (Result UnwindCode Error) → UnwindCodeIterator → Type 0

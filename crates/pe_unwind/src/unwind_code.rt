@@ -166,6 +166,55 @@ fn slots(version: u8, opcode: u8, info: u8) -> Option<usize>
     }
 }
 
+/// How many slots the code has that the bytes begin with, if they are all there. `Short` where some are missing,
+/// `UnwindCode` where no code begins so.
+fn slots_there(version: u8, bytes: &[u8]) -> Result<usize>
+    requires some { 0 < length bytes.now }
+    ensures slots { IfOk result (λ n. slots_at version (slice_index bytes.now 1 % 16) (slice_index bytes.now 1 / 16) ≡ Some n) }
+    ensures range { IfOk result (λ n. (1 ≤ n) × (n ≤ 3) × (2 * n ≤ length bytes.now)) }
+    ensures none { OnErr result ((f : ℕ) → BeginsWithNone version f bytes.now) }
+    ensures fault { IfErr result (λ e. IsFault version bytes.now (kind_of e)) }
+{
+    if bytes.len() < 2 {
+        return Err(Error::Short { at: 0, needed: 2 });
+    }
+    let Some(count) = slots(version, bytes[1] % 16, bytes[1] / 16) else {
+        return Err(Error::Malformed(Reason::UnwindCode(bytes[1])));
+    };
+    if bytes.len() < 2 * count {
+        return Err(Error::Short {
+            at: 0,
+            needed: 2 * count,
+        });
+    }
+    Ok(count)
+}
+
+/// The operation of a code that has so many slots, which are all there.
+fn operation_at(
+    version: u8,
+    frame_register: Register,
+    bytes: &[u8],
+    count: usize,
+) -> UnwindOperation
+    requires slots { slots_at version (slice_index bytes.now 1 % 16) (slice_index bytes.now 1 / 16) ≡ Some count }
+    requires least { 1 ≤ count }
+    requires most { count ≤ 3 }
+    requires fits { 2 * count ≤ length bytes.now }
+    ensures { BeginsWith version frame_register.0 bytes.now (record { code_offset = slice_index bytes.now 0; operation = result }) (2 * count) }
+{
+    let opcode = bytes[1] % 16;
+    let info = bytes[1] / 16;
+    match count {
+        1 => short_operation(version, bytes[0], opcode, info),
+        2 => middle_operation(version, frame_register, opcode, info, bytes[2], bytes[3]),
+        _ => {
+            let more = [bytes[2], bytes[3], bytes[4], bytes[5]];
+            long_operation(version, frame_register, opcode, info, more)
+        }
+    }
+}
+
 /// The code that the bytes begin with, and how many bytes it has. `Short` where its slots are not all there,
 /// `UnwindCode` where no code begins so.
 fn code_at(version: u8, frame_register: Register, bytes: &[u8]) -> Result<(UnwindCode, usize)>
@@ -175,60 +224,15 @@ fn code_at(version: u8, frame_register: Register, bytes: &[u8]) -> Result<(Unwin
     ensures none { OnErr result (BeginsWithNone version frame_register.0 bytes.now) }
     ensures fault { IfErr result (λ e. IsFault version bytes.now (kind_of e)) }
 {
-    if bytes.len() < 2 {
-        return Err(Error::Short { at: 0, needed: 2 });
-    }
-    let opcode = bytes[1] % 16;
-    let info = bytes[1] / 16;
-    let Some(count) = slots(version, opcode, info) else {
-        return Err(Error::Malformed(Reason::UnwindCode(bytes[1])));
-    };
-    if bytes.len() < 2 * count {
-        return Err(Error::Short {
-            at: 0,
-            needed: 2 * count,
-        });
-    }
-    let code_offset = bytes[0];
-    match count {
-        1 => {
-            let operation = short_operation(version, code_offset, opcode, info);
-            Ok((
-                UnwindCode {
-                    code_offset,
-                    operation,
-                },
-                2,
-            ))
+    match slots_there(version, bytes) {
+        Ok(count) => {
+            let code = UnwindCode {
+                code_offset: bytes[0],
+                operation: operation_at(version, frame_register, bytes, count),
+            };
+            Ok((code, 2 * count))
         }
-        2 => {
-            let operation = middle_operation(
-                version,
-                frame_register,
-                opcode,
-                info,
-                bytes[2],
-                bytes[3],
-            );
-            Ok((
-                UnwindCode {
-                    code_offset,
-                    operation,
-                },
-                4,
-            ))
-        }
-        _ => {
-            let more = [bytes[2], bytes[3], bytes[4], bytes[5]];
-            let operation = long_operation(version, frame_register, opcode, info, more);
-            Ok((
-                UnwindCode {
-                    code_offset,
-                    operation,
-                },
-                6,
-            ))
-        }
+        Err(error) => Err(error),
     }
 }
 

@@ -1,4 +1,4 @@
-use Rattle.std.proofs.Common.{ℕ, sym, ◌+◌, ◌-◌, ◌/◌, ◌≡◌, ◌∙◌, arith, ap}
+use Rattle.std.proofs.Common.{ℕ, ◌+◌, ◌-◌, ◌/◌, ◌≡◌, ◌∙◌, arith, ap}
 use Rattle.pe_core.specs.CountedTable.{Counted, one_more}
 use Rattle.pe_unwind.proofs.Searches.{step_up, step_down, digits-halved, le-one_more, one_more-le, finds_inside, finds_past, finds_none}
 use Rattle.pe_unwind.proofs.function_table.search.Goals as goal

@@ -1,6 +1,6 @@
-use Rattle.std.proofs.Common.{◌≡◌, ℕ, ◌-◌, ◌/◌, List, Some, length, ap, sym, ◌∙◌, arith}
+use Rattle.std.proofs.Common.{ℕ, ◌-◌, List, Some, length, ap, sym, ◌∙◌, arith}
 use Rattle.pe_unwind.specs.declared.function_table.RuntimeFunction.{RuntimeFunction}
-use Rattle.pe_unwind.specs.ExceptionTable.{exception_view, table_of}
+use Rattle.pe_unwind.specs.ExceptionTable.{exception_view}
 use Rattle.pe_unwind.specs.FunctionTable.{function_at}
 use Rattle.pe_unwind.specs.Links.{links_of}
 use Rattle.pe_unwind.proofs.LinkChains.{next_ok, no_entry-before, no_entry-inside, no_entry-behind}
