@@ -157,7 +157,8 @@ fn finds_as_the_search_does_without_order(rt: HostRuntime) -> Result<(), Fail> {
     }
     let bytes = table_of(rt.alloc(), &entries)?;
     let data = table_at_0(&bytes, 12000)?;
-    let mut found = 0;
+    let mut hit = false;
+    let mut missed = false;
     for function in &entries {
         let rva = function.begin_address;
         let mut table = data.table();
@@ -165,10 +166,12 @@ fn finds_as_the_search_does_without_order(rt: HostRuntime) -> Result<(), Fail> {
         let searched = search(&mut table, rva);
         assert_eq!(rt; data.find_function(rva)?, searched, "at {rva:#x}");
         if searched.is_some() {
-            found += 1;
+            hit = true;
+        } else {
+            missed = true;
         }
     }
-    assert!(rt; 0 < found && found < 1000);
+    assert!(rt; hit && missed);
     Ok(())
 }
 
@@ -187,9 +190,9 @@ fn lists_functions(rt: HostRuntime) -> Result<(), Fail> {
     assert_eq!(rt; functions.len(), 3);
     assert!(rt; matches!(functions.next(), Some(Ok(first)) if first == entry(0x10, 0x18, 1)));
     assert_eq!(rt; functions.size_hint(), (2, Some(2)));
-    let mut ends = 0;
+    let mut ends = 0u32;
     for function in &data {
-        ends += function?.end_address;
+        ends = ends.wrapping_add(function?.end_address);
     }
     assert_eq!(rt; ends, 0x70);
     assert_eq!(rt; functions.count(), 2);
@@ -356,7 +359,7 @@ fn first_operation(
     codes: &[u8],
 ) -> Result<Option<UnwindOperation>, AllocError> {
     let mut record = Vec::new(alloc);
-    for byte in [version, 0, (codes.len() / 2) as u8, frame_register] {
+    for byte in [version, 0, (codes.len().min(510) / 2) as u8, frame_register] {
         record.push(byte)?;
     }
     for byte in codes {
@@ -466,12 +469,10 @@ fn lists_codes_up_to_the_first_that_is_refused(rt: HostRuntime) -> Result<(), Fa
 
     let cut = [1, 4, 2, 0, 4, 0x11, 1, 2];
     let info = UnwindInfo::parse(&cut, 0)?;
-    let mut items = 0;
+    assert_eq!(rt; info.unwind_codes().count(), 1);
     for item in &info {
-        items += 1;
         assert!(rt; matches!(item, Err(Error::Short { .. })));
     }
-    assert_eq!(rt; items, 1);
     Ok(())
 }
 
