@@ -1,5 +1,6 @@
 pub mod Refusals
 pub mod Bytes
+pub mod CountedTable
 pub mod Text
 pub mod Options
 pub mod Narrow

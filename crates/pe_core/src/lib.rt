@@ -5,6 +5,7 @@
 #![tactic(auto)]
 
 mod bytes;
+mod counted_table;
 mod data_directories;
 mod error;
 mod header;
@@ -19,6 +20,7 @@ pub use bytes::{
     number8, number16, number32, number64, put_slice, put_u8, put_u16, put_u32, put_u64,
     require_bytes, slice_at, u8_at, u16_at, u32_at, u64_at,
 };
+pub use counted_table::CountedTable;
 pub use data_directories::{DataDirectories, DataDirectory, MOST_DIRECTORIES};
 pub use error::{Error, Reason, Result};
 pub use header::{

@@ -15,3 +15,5 @@ mod images;
 mod refusals;
 #[cfg(test)]
 mod sections;
+#[cfg(test)]
+mod unwind;

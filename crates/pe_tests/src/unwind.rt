@@ -1,0 +1,551 @@
+//! Exception data of x64: lookup, links, unwind records and their codes.
+
+use crate::images::{image, with_byte};
+use pe_core::{CountedTable, DataDirectory, Error, Header, ParseOptions, Reason, SectionTable};
+use pe_unwind::{
+    ExceptionData, Register, RuntimeFunction, ScopeTableEntry, StackFrameOffset, UnwindCode,
+    UnwindHandler, UnwindInfo, UnwindOperation, search,
+};
+use std::alloc::{AllocError, Global};
+use std::hash::{DefaultHasher, Hash, Hasher};
+use std::test::Fail;
+
+/// The default options with addresses that are their places.
+fn flat() -> ParseOptions {
+    ParseOptions {
+        resolve_rva: false,
+        ..ParseOptions::default()
+    }
+}
+
+/// The exception data of a function table at place 0.
+fn table_at_0(bytes: &[u8], size: u32) -> Result<ExceptionData<'_>, Error> {
+    let directory = DataDirectory {
+        virtual_address: 0,
+        size,
+    };
+    ExceptionData::parse_with_opts(bytes, directory, &[], 0x200, &flat())
+}
+
+fn entry(begin_address: u32, end_address: u32, unwind_info_address: u32) -> RuntimeFunction {
+    RuntimeFunction {
+        begin_address,
+        end_address,
+        unwind_info_address,
+    }
+}
+
+/// A table of these entries.
+fn table_of(alloc: Global, entries: &[RuntimeFunction]) -> Result<Vec<u8>, AllocError> {
+    let mut bytes = Vec::new(alloc);
+    for function in entries {
+        for number in [
+            function.begin_address,
+            function.end_address,
+            function.unwind_info_address,
+        ] {
+            for byte in u32::to_le_bytes(number) {
+                bytes.push(byte)?;
+            }
+        }
+    }
+    Ok(bytes)
+}
+
+/// An image with three functions, of which the third links to the second; its second record has two codes.
+fn image_with_functions(alloc: Global) -> Result<Vec<u8>, AllocError> {
+    image(
+        alloc,
+        0x410,
+        &[
+            (0, b"MZ"),
+            (0x3C, &[0x40]),
+            (0x40, &[0x50, 0x45, 0, 0, 0x64, 0x86, 1, 0]),
+            (0x54, &[0xF0, 0, 0x22, 0, 0x0B, 2]),
+            (0x68, &[0, 0x10]),
+            (0x70, &[0, 0, 0, 0x40, 1]),
+            (0x78, &[0, 0x10]),
+            (0x7C, &[0, 2]),
+            (0xC4, &[0x10]),
+            (0xE0, &[0, 0x10, 0, 0, 0x18, 0, 0, 0]),
+            (0x148, b".rdata"),
+            (0x150, &[0, 1, 0, 0, 0, 0x10, 0, 0, 0, 2, 0, 0, 0, 2, 0, 0]),
+            (0x16C, &[0x40, 0, 0, 0x40]),
+            (0x200, &[0, 0x10, 0, 0, 0x10, 0x10, 0, 0, 0x20, 0x10, 0, 0]),
+            (0x20C, &[0x20, 0x10, 0, 0, 0x40, 0x10, 0, 0, 1, 0x10, 0, 0]),
+            (0x220, &[1, 4, 2, 0, 4, 0x42, 1, 0x50]),
+        ],
+    )
+}
+
+#[test]
+fn finds_the_function_that_covers_an_address(rt: HostRuntime) -> Result<(), Fail> {
+    let bytes = table_of(
+        rt.alloc(),
+        &[entry(0x1000, 0x1010, 0), entry(0x1020, 0x1040, 0)],
+    )?;
+    let data = table_at_0(&bytes, 24)?;
+    assert_eq!(rt; data.len(), 2);
+    assert!(rt; !data.is_empty());
+    for (rva, want) in [
+        (0x0FFF, None),
+        (0x100F, Some(0x1000)),
+        (0x1010, None),
+        (0x1020, Some(0x1020)),
+        (0x1040, None),
+    ] {
+        let found = data
+            .find_function(rva)?
+            .map(|function| function.begin_address);
+        assert_eq!(rt; found, want, "at {rva:#x}");
+    }
+    let empty = table_at_0(&bytes, 0)?;
+    assert!(rt; empty.is_empty());
+    assert_eq!(rt; empty.find_function(0x1000)?, None);
+    Ok(())
+}
+
+/// Of two functions that begin alike the last is found, also where the first alone covers the address.
+#[test]
+fn finds_the_last_of_equal_begins(rt: HostRuntime) -> Result<(), Fail> {
+    let bytes = table_of(
+        rt.alloc(),
+        &[
+            entry(0x10, 0x18, 0),
+            entry(0x20, 0x30, 0),
+            entry(0x20, 0x28, 0),
+        ],
+    )?;
+    let data = table_at_0(&bytes, 36)?;
+    assert_eq!(rt; data.find_function(0x29)?, None);
+    assert_eq!(rt; data.find_function(0x21)?, Some(entry(0x20, 0x28, 0)));
+    assert_eq!(rt; data.get_function(2)?, entry(0x20, 0x28, 0));
+    assert!(rt;
+        matches!(
+            data.get_function(3),
+            Err(Error::Malformed(Reason::FunctionIndex(3)))
+        )
+    );
+    Ok(())
+}
+
+#[test]
+fn searches_in_few_reads(rt: HostRuntime) -> Result<(), Fail> {
+    let mut entries = Vec::new(rt.alloc());
+    for i in 0..1000u32 {
+        entries.push(entry(16 * i, 16 * i + 16, 0))?;
+    }
+    let bytes = table_of(rt.alloc(), &entries)?;
+    let mut table = CountedTable::new(&bytes);
+    for i in 0..1000u32 {
+        let before = table.reads();
+        let found = search(&mut table, 16 * i + 5);
+        assert_eq!(rt; found, Some(entry(16 * i, 16 * i + 16, 0)));
+        assert!(rt; table.reads() - before <= 12, "at {i}");
+    }
+    assert_eq!(rt; table.len(), 12000);
+    Ok(())
+}
+
+/// In a table without an order the lookup goes the way of the search, and misses what a look at every entry finds.
+#[test]
+fn finds_as_the_search_does_without_order(rt: HostRuntime) -> Result<(), Fail> {
+    let mut entries = Vec::new(rt.alloc());
+    for i in 0..1000u32 {
+        let begin = 16 * (7 * i % 1000);
+        entries.push(entry(begin, begin + 16, i))?;
+    }
+    let bytes = table_of(rt.alloc(), &entries)?;
+    let data = table_at_0(&bytes, 12000)?;
+    let mut hit = false;
+    let mut missed = false;
+    for function in &entries {
+        let rva = function.begin_address;
+        let mut table = data.table();
+        assert_eq!(rt; table.reads(), 0);
+        let searched = search(&mut table, rva);
+        assert_eq!(rt; data.find_function(rva)?, searched, "at {rva:#x}");
+        if searched.is_some() {
+            hit = true;
+        } else {
+            missed = true;
+        }
+    }
+    assert!(rt; hit && missed);
+    Ok(())
+}
+
+#[test]
+fn lists_functions(rt: HostRuntime) -> Result<(), Fail> {
+    let bytes = table_of(
+        rt.alloc(),
+        &[
+            entry(0x10, 0x18, 1),
+            entry(0x20, 0x30, 2),
+            entry(0x20, 0x28, 3),
+        ],
+    )?;
+    let data = table_at_0(&bytes, 36)?;
+    let mut functions = data.functions();
+    assert_eq!(rt; functions.len(), 3);
+    assert!(rt; matches!(functions.next(), Some(Ok(first)) if first == entry(0x10, 0x18, 1)));
+    assert_eq!(rt; functions.size_hint(), (2, Some(2)));
+    let mut ends = 0u32;
+    for function in &data {
+        ends = ends.wrapping_add(function?.end_address);
+    }
+    assert_eq!(rt; ends, 0x70);
+    assert_eq!(rt; functions.count(), 2);
+    Ok(())
+}
+
+#[test]
+fn refuses_damaged_tables(rt: HostRuntime) -> Result<(), Fail> {
+    let bytes = [0u8; 12];
+    assert!(rt;
+        matches!(
+            table_at_0(&bytes, 24),
+            Err(Error::Malformed(Reason::ExceptionBounds(24)))
+        )
+    );
+    assert!(rt;
+        matches!(
+            table_at_0(&bytes, 10),
+            Err(Error::Malformed(Reason::ExceptionSize(10)))
+        )
+    );
+    let odd = DataDirectory {
+        virtual_address: 2,
+        size: 12,
+    };
+    assert!(rt;
+        matches!(
+            ExceptionData::parse_with_opts(&bytes, odd, &[], 0x200, &flat()),
+            Err(Error::Malformed(Reason::ExceptionOffset(2)))
+        )
+    );
+    assert!(rt;
+        matches!(
+            ExceptionData::parse(&bytes, odd, &[], 0x200),
+            Err(Error::Malformed(Reason::Unmapped(2)))
+        )
+    );
+    Ok(())
+}
+
+/// An entry that links to itself never ends; one link of a table of one entry does.
+#[test]
+fn follows_links(rt: HostRuntime) -> Result<(), Fail> {
+    let endless = [0, 0x10, 0, 0, 0x10, 0x10, 0, 0, 1, 0, 0, 0];
+    let data = table_at_0(&endless, 12)?;
+    let function = data.get_function(0)?;
+    assert!(rt;
+        matches!(
+            data.get_unwind_info_with_opts(function, &[], &flat()),
+            Err(Error::Malformed(Reason::FunctionCycle(_)))
+        )
+    );
+
+    let ending = [0, 0x10, 0, 0, 0x10, 0x10, 0, 0, 0x0C, 0, 0, 0, 1, 0, 0, 0];
+    let data = table_at_0(&ending, 12)?;
+    let info = data.get_unwind_info_with_opts(entry(0, 0, 1), &[], &flat())?;
+    assert_eq!(rt; info.version, 1);
+    assert_eq!(rt; info.unwind_codes().count(), 0);
+
+    for address in [3, 13, 25] {
+        assert!(rt;
+            matches!(
+            data.get_unwind_info_with_opts(entry(0, 0, address), &[], &flat()),
+            Err(Error::Malformed(Reason::FunctionLink(at))) if at == address
+        )
+        );
+    }
+    assert!(rt;
+        matches!(
+            data.get_unwind_info(entry(0, 0, 13), &[]),
+            Err(Error::Malformed(Reason::Unmapped(12)))
+        )
+    );
+    Ok(())
+}
+
+#[test]
+fn reads_records(rt: HostRuntime) -> Result<(), Fail> {
+    let handled = [9, 0, 0, 0, 0, 0x10, 0, 0, 0, 0, 0, 0];
+    let info = UnwindInfo::parse(&handled, 0)?;
+    assert!(rt;
+        matches!(
+            info.handler,
+            Some(UnwindHandler::ExceptionHandler(0x1000, [0, 0, 0, 0]))
+        )
+    );
+    assert_eq!(rt;
+        info.c_scope_table_entries().map(|scopes| scopes.len()),
+        Some(0)
+    );
+
+    let too_many = [9, 0, 0, 0, 0, 0x10, 0, 0, 0, 0, 0, 0x10];
+    let info = UnwindInfo::parse(&too_many, 0)?;
+    assert!(rt; info.c_scope_table_entries().is_none());
+
+    let chained = [0x29, 0, 0, 0, 0, 0x10, 0, 0, 0x10, 0x10, 0, 0, 1, 0, 0, 0];
+    let info = UnwindInfo::parse(&chained, 0)?;
+    assert_eq!(rt; info.chained_info, Some(entry(0x1000, 0x1010, 1)));
+    assert!(rt; info.handler.is_none());
+
+    let framed = [0x12, 8, 1, 0x35, 8, 3, 0xEE, 0xEE, 0, 0x20, 0, 0, 0xAA];
+    let info = UnwindInfo::parse(&framed, 0)?;
+    assert_eq!(rt; (info.version, info.size_of_prolog), (2, 8));
+    assert_eq!(rt;
+        (info.frame_register, info.frame_register_offset),
+        (Register(5), 0x30)
+    );
+    assert!(rt;
+        matches!(
+            info.handler,
+            Some(UnwindHandler::TerminationHandler(0x2000, [0xAA]))
+        )
+    );
+    assert!(rt; info.c_scope_table_entries().is_none());
+
+    assert!(rt;
+        matches!(
+            UnwindInfo::parse(&[3], 0),
+            Err(Error::Malformed(Reason::UnwindVersion(3)))
+        )
+    );
+    assert!(rt; matches!(UnwindInfo::parse(&[1, 0, 0], 0), Err(Error::Short { .. })));
+    assert!(rt;
+        matches!(
+            UnwindInfo::parse(&[1, 0, 1, 0, 0], 0),
+            Err(Error::Short { .. })
+        )
+    );
+    assert!(rt; matches!(UnwindInfo::parse(&[], 0), Err(Error::Short { .. })));
+    Ok(())
+}
+
+#[test]
+fn reads_scope_tables(rt: HostRuntime) -> Result<(), Fail> {
+    let record = [
+        9, 0, 0, 0, 0, 0x10, 0, 0, 1, 0, 0, 0, 1, 0, 0, 0, 2, 0, 0, 0, 3, 0, 0, 0, 4, 0, 0, 0,
+    ];
+    let info = UnwindInfo::parse(&record, 0)?;
+    let Some(mut scopes) = info.c_scope_table_entries() else {
+        return Err(Fail::new("no scope table"));
+    };
+    let want = ScopeTableEntry {
+        begin: 1,
+        end: 2,
+        handler: 3,
+        target: 4,
+    };
+    assert_eq!(rt; scopes.size_hint(), (1, Some(1)));
+    assert_eq!(rt; scopes.next(), Some(want));
+    assert_eq!(rt; scopes.next(), None);
+    let mut first = DefaultHasher::new();
+    want.hash(&mut first);
+    let mut second = DefaultHasher::new();
+    want.hash(&mut second);
+    assert_eq!(rt; first.finish(), second.finish());
+    Ok(())
+}
+
+/// The operation of the first code of a record with this version, this frame register and these code bytes.
+fn first_operation(
+    alloc: Global,
+    version: u8,
+    frame_register: u8,
+    codes: &[u8],
+) -> Result<Option<UnwindOperation>, AllocError> {
+    let mut record = Vec::new(alloc);
+    for byte in [version, 0, (codes.len().min(510) / 2) as u8, frame_register] {
+        record.push(byte)?;
+    }
+    for byte in codes {
+        record.push(*byte)?;
+    }
+    let Ok(info) = UnwindInfo::parse(&record, 0) else {
+        return Ok(None);
+    };
+    match info.unwind_codes().next() {
+        Some(Ok(code)) => Ok(Some(code.operation)),
+        _ => Ok(None),
+    }
+}
+
+/// Each line of the table of codes, for both versions, with a frame register and without.
+#[test]
+fn reads_each_code(rt: HostRuntime) -> Result<(), Fail> {
+    use UnwindOperation::{
+        Alloc, Epilog, Noop, PushMachineFrame, PushNonVolatile, SaveNonVolatile, SaveXMM,
+        SaveXMM128, SetFPRegister,
+    };
+    let far = [9, 0x35, 4, 3, 2, 1];
+    for version in [1, 2] {
+        let read = |frame: u8, codes: &[u8]| first_operation(rt.alloc(), version, frame, codes);
+        assert_eq!(rt; read(0, &[1, 0x50])?, Some(PushNonVolatile(Register(5))));
+        assert_eq!(rt; read(0, &[1, 0x01, 4, 3])?, Some(Alloc(0x304 * 8)));
+        assert_eq!(rt; read(0, &[1, 0x11, 4, 3, 2, 1])?, Some(Alloc(0x01020304)));
+        assert_eq!(rt; read(0, &[1, 0x42])?, Some(Alloc(40)));
+        assert_eq!(rt; read(0, &[1, 0x03])?, Some(SetFPRegister));
+        assert_eq!(rt;
+            read(0, &[1, 0x34, 4, 3])?,
+            Some(SaveNonVolatile(Register(3), StackFrameOffset::RSP(0x304 * 8)))
+        );
+        assert_eq!(rt;
+            read(5, &far)?,
+            Some(SaveNonVolatile(Register(3), StackFrameOffset::FP(0x01020304)))
+        );
+        assert_eq!(rt;
+            read(0, &[1, 0x68, 4, 3])?,
+            Some(SaveXMM128(Register(23), StackFrameOffset::RSP(0x304 * 16)))
+        );
+        assert_eq!(rt;
+            read(5, &[1, 0x69, 4, 3, 2, 1])?,
+            Some(SaveXMM128(Register(23), StackFrameOffset::FP(0x01020304)))
+        );
+        assert_eq!(rt; read(0, &[1, 0x0A])?, Some(PushMachineFrame(false)));
+        assert_eq!(rt; read(0, &[1, 0x1A])?, Some(PushMachineFrame(true)));
+        assert_eq!(rt; read(0, &[1, 0x2A])?, None);
+    }
+    let read = |version: u8, codes: &[u8]| first_operation(rt.alloc(), version, 0, codes);
+    assert_eq!(rt;
+        read(1, &[1, 0x66, 4, 3])?,
+        Some(SaveXMM(Register(23), StackFrameOffset::RSP(0x304 * 16)))
+    );
+    assert_eq!(rt;
+        read(2, &[1, 0x66])?,
+        Some(Epilog {
+            offset_low_or_size: 1,
+            offset_high_or_flags: 6
+        })
+    );
+    assert_eq!(rt;
+        read(1, &[1, 0x67, 4, 3, 2, 1])?,
+        Some(SaveXMM128(Register(23), StackFrameOffset::RSP(0x01020304)))
+    );
+    assert_eq!(rt; read(2, &[1, 0x67, 4, 3, 2, 1])?, Some(Noop));
+    Ok(())
+}
+
+#[test]
+fn lists_codes_up_to_the_first_that_is_refused(rt: HostRuntime) -> Result<(), Fail> {
+    let record = [1, 4, 2, 0, 4, 0x42, 1, 0x50];
+    let info = UnwindInfo::parse(&record, 0)?;
+    let mut codes = info.unwind_codes();
+    assert_eq!(rt; codes.size_hint(), (1, Some(2)));
+    assert!(rt;
+        matches!(
+            codes.next(),
+            Some(Ok(UnwindCode {
+                code_offset: 4,
+                operation: UnwindOperation::Alloc(40)
+            }))
+        )
+    );
+    assert!(rt;
+        matches!(
+            codes.next(),
+            Some(Ok(UnwindCode {
+                code_offset: 1,
+                operation: UnwindOperation::PushNonVolatile(Register(5))
+            }))
+        )
+    );
+    assert_eq!(rt; codes.size_hint(), (0, Some(0)));
+    assert!(rt; codes.next().is_none());
+
+    let bad = [1, 4, 1, 0, 4, 0x4B];
+    let info = UnwindInfo::parse(&bad, 0)?;
+    let mut codes = info.unwind_codes();
+    assert!(rt;
+        matches!(
+            codes.next(),
+            Some(Err(Error::Malformed(Reason::UnwindCode(0x4B))))
+        )
+    );
+    assert!(rt; codes.next().is_none());
+
+    let cut = [1, 4, 2, 0, 4, 0x11, 1, 2];
+    let info = UnwindInfo::parse(&cut, 0)?;
+    assert_eq!(rt; info.unwind_codes().count(), 1);
+    for item in &info {
+        assert!(rt; matches!(item, Err(Error::Short { .. })));
+    }
+    Ok(())
+}
+
+#[test]
+fn names_registers(rt: HostRuntime) -> Result<(), Fail> {
+    for (number, name) in [
+        (0, "$rax"),
+        (5, "$rbp"),
+        (15, "$r15"),
+        (16, "$rip"),
+        (17, "$xmm0"),
+        (32, "$xmm15"),
+        (33, ""),
+        (255, ""),
+    ] {
+        assert_eq!(rt; Register(number).name(), name);
+    }
+    let text = format!(in rt.alloc(); "{}", Register(4))?;
+    assert_eq!(rt; text.as_str(), "$rsp");
+    assert!(rt; Register(3) < Register(4));
+    Ok(())
+}
+
+/// The handler's data of the record at a place. The record is gone when they are handed out.
+fn handler_data(bytes: &[u8], place: usize) -> Result<Option<&[u8]>, Error> {
+    let info = UnwindInfo::parse(bytes, place)?;
+    match info.handler {
+        Some(UnwindHandler::ExceptionHandler(_, behind)) => Ok(Some(behind)),
+        _ => Ok(None),
+    }
+}
+
+#[test]
+fn unwinds_at_an_address_of_an_image(rt: HostRuntime) -> Result<(), Fail> {
+    let bytes = image_with_functions(rt.alloc())?;
+    let opts = ParseOptions::default();
+    let header = Header::parse_with_opts(&bytes, &opts)?;
+    let sections = header.coff_header.sections(rt.alloc(), &bytes, 0x148)?;
+    let directory = DataDirectory {
+        virtual_address: 0x1000,
+        size: 0x18,
+    };
+    let data = ExceptionData::parse(&bytes, directory, &sections, 0x200)?;
+    let Some(info) = data.unwind_at(0x1025, &sections, &opts)? else {
+        return Err(Fail::new("no function"));
+    };
+    let mut operations = Vec::new(rt.alloc());
+    for code in &info {
+        operations.push(code?.operation)?;
+    }
+    assert!(rt;
+        operations.as_slice()
+            == [
+                UnwindOperation::Alloc(40),
+                UnwindOperation::PushNonVolatile(Register(5)),
+            ]
+            .as_slice()
+    );
+    assert!(rt; data.unwind_at(0x1010, &sections, &opts)?.is_none());
+
+    let handled = with_byte(bytes, 0x220, 9);
+    let kept = {
+        let again = ExceptionData::parse(&handled, directory, &sections, 0x200)?;
+        let place = again.unwind_at(0x1025, &sections, &opts)?;
+        match place.and_then(|found| found.handler) {
+            Some(UnwindHandler::ExceptionHandler(_, behind)) => Some(behind),
+            _ => None,
+        }
+    };
+    assert_eq!(rt; kept.map(|behind| behind.len()), Some(0x410 - 0x22C));
+    assert_eq!(rt;
+        handler_data(&handled, 0x220)?.map(|behind| behind.len()),
+        Some(0x410 - 0x22C)
+    );
+    Ok(())
+}

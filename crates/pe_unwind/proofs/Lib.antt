@@ -1,0 +1,9 @@
+pub mod Names
+pub mod Entries
+pub mod Searches
+pub mod SpellingLengths
+pub mod Pigeonhole
+pub mod LinkChains
+pub mod Disjoint
+pub mod Streams
+pub mod OneChain

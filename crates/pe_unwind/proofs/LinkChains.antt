@@ -1,0 +1,154 @@
+-- A chain with more links than entries never ends.
+use Rattle.std.proofs.Common.{◌≡◌, ◌≢◌, ℕ, suc, ◌+◌, ◌-◌, ◌*◌, ◌/◌, ◌%◌, ◌<◌, ◌≤◌, Bool, true, false, List, [], ◌∷◌, cond, eqb, leb, ltb, ◌&&◌, ◌||◌, ◌==◌, Option, Some, None, Result, Ok, Err, ◌↔◌, refl, ap, sym, ◌∙◌, subst, arith, add-one, IsSome, IsSomeAnd, is_some, option_and_then, unwrap_or}
+use Rattle.std.proofs.lemmas.Bool.{false≢true}
+use Rattle.std.proofs.lemmas.Bool.Decides.{nat_tests}
+use Rattle.std.proofs.lemmas.Option.{option_and_then_some, cond_some}
+use Rattle.pe_core.specs.Refusals.{Refusal, Short, UnwindVersion, Unmapped, FunctionLink, FunctionCycle, outcome, ◌>>=◌}
+use Rattle.pe_unwind.specs.Chains.{after, NeverStops}
+use Rattle.pe_unwind.proofs.Pigeonhole.{FollowsKey, HasKeysBelow, never_stops, after_more}
+use Rattle.pe_unwind.specs.FunctionTable.{function_at}
+use Rattle.pe_core.specs.Bytes.{holds}
+use Rattle.pe_unwind.specs.UnwindRecord.{UnwindInfoView, unwind_tests, unwind_record, ending_holds, behind_codes, flags_at, version_at, count_at}
+use Rattle.pe_unwind.specs.Unwinding.{Unwinds, record_at_place, record_at_address}
+use Rattle.pe_unwind.specs.Links.{Table, IsOdd, count, entry_at, link, next, address_of, IsEndless, Follows, Leads}
+
+pub next_ok : (t : Table) (u p : ℕ) → u % 2 ≡ 1 → t.place (u - 1) ≡ Some p → t.start ≤ p → (p - t.start) % 12 ≡ 0 → (p - t.start) / 12 < count t → next t u ≡ Some ((function_at t.entries (p - t.start)).unwind_info_address)
+unfolding next link entry_at
+next_ok t u p odd is from whole inside =
+    let test : eqb (u % 2) 1 ≡ true = grind (arith, nat_tests) in
+    let entry : (leb t.start p && eqb ((p - t.start) % 12) 0 && ltb ((p - t.start) / 12) (count t)) ≡ true = grind (arith, nat_tests) in
+    let same : 12 * ((p - t.start) / 12) ≡ p - t.start = omega arith in
+    rw test (rw is (rw entry (ap (λ (q : ℕ). Some ((function_at t.entries q).unwind_info_address)) same)))
+
+pub next-unmapped : (t : Table) (u : ℕ) → IsOdd u → t.place (u - 1) ≡ None → next t u ≡ None
+unfolding next link
+next-unmapped t u odd none =
+    let test : eqb (u % 2) 1 ≡ true = grind (arith, nat_tests) in
+    rw test (rw none refl)
+
+pub next-no_entry : (t : Table) (u p : ℕ) → IsOdd u → t.place (u - 1) ≡ Some p → entry_at t p ≡ None → next t u ≡ None
+unfolding next link
+next-no_entry t u p odd is none =
+    let test : eqb (u % 2) 1 ≡ true = grind (arith, nat_tests) in
+    rw test (rw is (rw none refl))
+
+-- the entry that an address leads to, or 0
+pub key : Table → ℕ → ℕ
+key t u = unwrap_or (link t u) 0
+
+next_some_at : (t : Table) (o : Option ℕ) (a : ℕ) → option_and_then (λ i. Some (address_of t i)) o ≡ Some a → (o ≡ Some (unwrap_or o 0)) × (a ≡ address_of t (unwrap_or o 0))
+next_some_at t None a h = cc
+next_some_at t (Some i) a h = (refl, cc)
+
+next_some : (t : Table) (u a : ℕ) → next t u ≡ Some a → (link t u ≡ Some (key t u)) × (a ≡ address_of t (key t u))
+unfolding next key
+next_some t u a h = next_some_at t (link t u) a h
+
+cond_of_some : (b : Bool) (o : Option ℕ) (y : ℕ) → cond b o None ≡ Some y → (b ≡ true) × (o ≡ Some y)
+cond_of_some true o y h = (refl, h)
+cond_of_some false o y h = cc
+
+entry_some : (t : Table) (p i : ℕ) → entry_at t p ≡ Some i → i < count t
+unfolding entry_at
+entry_some t p i h =
+    let found = cond_some (leb t.start p && eqb ((p - t.start) % 12) 0 && ltb ((p - t.start) / 12) (count t)) ((p - t.start) / 12) i h in
+    let test : (leb t.start p && eqb ((p - t.start) % 12) 0 && ltb ((p - t.start) / 12) (count t)) ≡ true = found.0 in
+    let same : (p - t.start) / 12 ≡ i = found.1 in
+    grind (arith, nat_tests)
+
+link_some : (t : Table) (u i : ℕ) → link t u ≡ Some i → IsOdd u × (i < count t)
+unfolding link
+link_some t u i h =
+    let found = cond_of_some (eqb (u % 2) 1) (option_and_then (entry_at t) (t.place (u - 1))) i h in
+    let test : eqb (u % 2) 1 ≡ true = found.0 in
+    (grind (arith, nat_tests), option_and_then_some (entry_at t) (t.place (u - 1)) i found.1 (λ p _ e. entry_some t p i e))
+
+follows_key : (t : Table) → FollowsKey (next t) (key t)
+follows_key t x y a b same to_a to_b =
+    (next_some t x a to_a).1 ∙ ap (address_of t) same ∙ sym (next_some t y b to_b).1
+
+keys_below : (t : Table) → HasKeysBelow (next t) (key t) (count t)
+keys_below t x a to = (link_some t x (key t x) (next_some t x a to).0).1
+
+odd_at : (t : Table) (u : ℕ) (o : Option ℕ) → next t u ≡ o → IsSome o → IsOdd u
+odd_at t u None e h = absurd (false≢true h)
+odd_at t u (Some a) e h = (link_some t u (key t u) (next_some t u a e).0).0
+
+endless_at : (t : Table) (u k : ℕ) (o : Option ℕ) → after (next t) k u ≡ o → IsSome o → NeverStops (next t) u → IsSomeAnd o IsOdd
+endless_at t u k None e h never = absurd (false≢true h)
+endless_at t u k (Some v) e h never =
+    odd_at t v (next t v) refl (rw (after_more (next t) k u v e) at (never (suc k)))
+
+pub endless-from_never_stops : (t : Table) (u : ℕ) → NeverStops (next t) u → IsEndless t u
+endless-from_never_stops t u never k = endless_at t u k (after (next t) k u) refl (never k) never
+
+-- more links than entries
+pub cycles : (t : Table) (u v : ℕ) → after (next t) (count t + 1) u ≡ Some v → IsEndless t u
+cycles t u v h =
+    let more : after (next t) (suc (count t)) u ≡ Some v = subst (λ (m : ℕ). after (next t) m u ≡ Some v) (add-one (count t)) h in
+    endless-from_never_stops t u (never_stops (next t) (key t) (count t) (follows_key t) (keys_below t) u (ap is_some more))
+
+-- a refusal of one step is the refusal of the chain
+pub follows-from_leads : (t : Table) (u k v : ℕ) (e : Refusal) → after (next t) k u ≡ Some v → v % 2 ≢ 0 → Leads t v (Err e) → Follows t u (Err e)
+follows-from_leads t u k v Unmapped is odd h = (v, (k, is), omega arith, h)
+follows-from_leads t u k v FunctionLink is odd h = (v, (k, is), omega arith, h.0, h.1, h.2)
+follows-from_leads t u k v other is odd h = absurd h
+
+stops_at : (t : Table) (u k v : ℕ) → after (next t) k u ≡ Some v → next t v ≡ None → IsEndless t u → ⊥
+stops_at t u k v is none endless = rw (after_more (next t) k u v is ∙ none) at (endless (suc k))
+
+-- a cycle is refused exactly where the chain is endless
+pub cycle_is_endless : (t : Table) (u : ℕ) (r : Result ℕ Refusal) → Follows t u r → (r ≡ Err FunctionCycle) ↔ IsEndless t u
+cycle_is_endless t u (Ok v) f = (λ e. cc, λ endless. absurd (let odd = rw f.0.1 at (endless f.0.0) in omega (arith, odd, f.1)))
+cycle_is_endless t u (Err Unmapped) f = (λ e. cc, λ endless. absurd (stops_at t u f.1.0 f.0 f.1.1 (next-unmapped t f.0 f.2 f.3) endless))
+cycle_is_endless t u (Err FunctionLink) f = (λ e. cc, λ endless. absurd (stops_at t u f.1.0 f.0 f.1.1 (next-no_entry t f.0 f.3 f.2 f.4 f.5) endless))
+cycle_is_endless t u (Err FunctionCycle) f = (λ e. f, λ endless. refl)
+cycle_is_endless t u (Err other) f = absurd f
+
+-- one more link
+pub one_more : (t : Table) (u k v w : ℕ) → after (next t) k u ≡ Some v → next t v ≡ Some w → after (next t) (k + 1) u ≡ Some w
+one_more t u k v w is to = rw add-one (after_more (next t) k u v is ∙ to)
+
+pub cycles_at : (t : Table) (u v k : ℕ) → k ≡ count t + 1 → after (next t) k u ≡ Some v → IsEndless t u
+cycles_at t u v k same h = cycles t u v (subst (λ (m : ℕ). after (next t) m u ≡ Some v) same h)
+
+-- a record is never refused as a cycle
+five_tests : {Y : Type 0} (a b c d e : Bool) (y : Y) → outcome ((a, Short) ∷ (b, UnwindVersion) ∷ (c, Short) ∷ (d, Short) ∷ (e, Short) ∷ []) y ≡ Err FunctionCycle → ⊥
+five_tests true true true true true y h = cc
+five_tests true true true true false y h = cc
+five_tests true true true false e y h = cc
+five_tests true true false d e y h = cc
+five_tests true false c d e y h = cc
+five_tests false b c d e y h = cc
+
+record_no_cycle : (b : List ℕ) (o : Option ℕ) → record_at_place b o ≡ Err FunctionCycle → ⊥
+unfolding unwind_tests
+record_no_cycle b None h = cc
+record_no_cycle b (Some p) h = five_tests (holds b p 1) (version_at b p == 1 || version_at b p == 2) (holds b p 4) (holds b (p + 4) (2 * count_at b p)) (ending_holds b (behind_codes b p) (flags_at b p)) (unwind_record b p) h
+
+other_value : {X Y : Type 0} (j k : Refusal) → Path (Result X Refusal) (Err j) (Err k) → Path (Result Y Refusal) (Err j) (Err k)
+other_value j k h = let same : j ≡ k = cc in ap (λ (e : Refusal). Err e) same
+
+cycle_at_end : (t : Table) (b : List ℕ) (u : ℕ) (end : Result ℕ Refusal) → Follows t u end → ((end >>= record_at_address t b) ≡ Err FunctionCycle) ↔ IsEndless t u
+cycle_at_end t b u (Ok v) f = (λ e. absurd (record_no_cycle b (t.place v) e), λ endless. absurd (let e = (cycle_is_endless t u (Ok v) f).1 endless in cc))
+cycle_at_end t b u (Err k) f = (
+  λ e. (cycle_is_endless t u (Err k) f).0 (other_value k FunctionCycle e),
+  λ endless. other_value k FunctionCycle ((cycle_is_endless t u (Err k) f).1 endless),
+)
+
+-- the call is refused as a cycle exactly where the chain is endless
+pub unwinds_cycle : (t : Table) (b : List ℕ) (u : ℕ) (answer : Result UnwindInfoView Refusal) → Unwinds t b u answer → (answer ≡ Err FunctionCycle) ↔ IsEndless t u
+unwinds_cycle t b u answer w = rw w.2 (cycle_at_end t b u w.0 w.1)
+
+-- places where no entry stands
+pub no_entry-before : (t : Table) (p : ℕ) → p < t.start → entry_at t p ≡ None
+unfolding entry_at
+no_entry-before t p h = grind (arith, nat_tests)
+
+pub no_entry-inside : (t : Table) (p : ℕ) → (p - t.start) % 12 ≢ 0 → entry_at t p ≡ None
+unfolding entry_at
+no_entry-inside t p h = grind (arith, nat_tests)
+
+pub no_entry-behind : (t : Table) (p : ℕ) → count t ≤ (p - t.start) / 12 → entry_at t p ≡ None
+unfolding entry_at
+no_entry-behind t p h = grind (arith, nat_tests)

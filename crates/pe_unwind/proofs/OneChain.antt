@@ -1,0 +1,67 @@
+-- A chain of links has one answer.
+use Rattle.std.proofs.Common.{◌≡◌, ℕ, zero, suc, ◌-◌, ◌%◌, ◌==◌, if◌then◌else◌, true, false, eqb, Option, Some, None, Result, Ok, Err, ◌⊎◌, inl, inr, ⊎_elim, refl, ap, sym, ◌∙◌, arith, option_and_then}
+use Rattle.std.proofs.lemmas.Bool.Decides.{nat_tests}
+use Rattle.pe_core.specs.Refusals.{Refusal, Unmapped, FunctionLink, FunctionCycle}
+use Rattle.pe_unwind.specs.Chains.{after}
+use Rattle.pe_unwind.specs.Links.{Table, IsEven, link, next, Reaches, Follows}
+use Rattle.pe_unwind.proofs.LinkChains.{next-unmapped, next-no_entry, cycle_is_endless}
+
+-- steps come to one last state
+stop_once_at : {X : Type 0} (step : X → Option X) (j k : ℕ) (o : Option X) (y z : X) → ((w : X) → after step j w ≡ Some y → after step k w ≡ Some z → y ≡ z) → option_and_then (after step j) o ≡ Some y → option_and_then (after step k) o ≡ Some z → y ≡ z
+stop_once_at step j k None y z later h i = cc
+stop_once_at step j k (Some w) y z later h i = later w h i
+
+stop_once : {X : Type 0} (step : X → Option X) (j k : ℕ) (x y z : X) → step y ≡ None → step z ≡ None → after step j x ≡ Some y → after step k x ≡ Some z → y ≡ z
+stop_once step zero zero x y z a b h i = cc
+stop_once step zero (suc k) x y z a b h i =
+    let same : x ≡ y = cc in
+    let none : step x ≡ None = ap step same ∙ a in
+    absurd (let e = rw none at i in cc)
+stop_once step (suc j) zero x y z a b h i =
+    let same : x ≡ z = cc in
+    let none : step x ≡ None = ap step same ∙ b in
+    absurd (let e = rw none at h in cc)
+stop_once step (suc j) (suc k) x y z a b h i = stop_once_at step j k (step x) y z (λ w. stop_once step j k w y z a b) h i
+
+next-even : (t : Table) (u : ℕ) → IsEven u → next t u ≡ None
+unfolding next link
+next-even t u even =
+    let test : eqb (u % 2) 1 ≡ false = grind (arith, nat_tests) in
+    rw test refl
+
+-- what the last address of a chain answers
+abbrev at_place : Option ℕ → Result ℕ Refusal
+at_place None = Err Unmapped
+at_place (Some p) = Err FunctionLink
+
+-- a chain that ends comes to a last address, which decides the answer
+abbrev EndsWith : Table → ℕ → Result ℕ Refusal → Type 0
+EndsWith t u a = (v : ℕ) × Reaches t u v × (next t v ≡ None) × (a ≡ (if v % 2 == 0 then Ok v else at_place (t.place (v - 1))))
+
+ends_or_cycles : (t : Table) (u : ℕ) (a : Result ℕ Refusal) → Follows t u a → (a ≡ Err FunctionCycle) ⊎ EndsWith t u a
+ends_or_cycles t u (Ok v) f =
+    let test : eqb (v % 2) 0 ≡ true = grind (arith, nat_tests, f.1) in
+    inr (v, f.0, next-even t v f.1, rw test refl)
+ends_or_cycles t u (Err Unmapped) f =
+    let test : eqb (f.0 % 2) 0 ≡ false = grind (arith, nat_tests, f.2) in
+    inr (f.0, f.1, next-unmapped t f.0 f.2 f.3, rw test (sym (ap at_place f.3)))
+ends_or_cycles t u (Err FunctionLink) f =
+    let test : eqb (f.0 % 2) 0 ≡ false = grind (arith, nat_tests, f.2) in
+    inr (f.0, f.1, next-no_entry t f.0 f.3 f.2 f.4 f.5, rw test (sym (ap at_place f.4)))
+ends_or_cycles t u (Err FunctionCycle) f = inl refl
+ends_or_cycles t u (Err other) f = absurd f
+
+one_end : (t : Table) (u : ℕ) (a b : Result ℕ Refusal) → EndsWith t u a → EndsWith t u b → a ≡ b
+one_end t u a b x y =
+    let same : x.0 ≡ y.0 = stop_once (next t) x.1.0 y.1.0 u x.0 y.0 x.2 y.2 x.1.1 y.1.1 in
+    x.3 ∙ ap (λ (v : ℕ). if v % 2 == 0 then Ok v else at_place (t.place (v - 1))) same ∙ sym y.3
+
+pub one_answer : (t : Table) (u : ℕ) (a b : Result ℕ Refusal) → Follows t u a → Follows t u b → a ≡ b
+one_answer t u a b f g =
+    ⊎_elim
+    (λ (e : a ≡ Err FunctionCycle). e ∙ sym ((cycle_is_endless t u b g).1 ((cycle_is_endless t u a f).0 e)))
+    (λ (x : EndsWith t u a). ⊎_elim
+    (λ (e : b ≡ Err FunctionCycle). (cycle_is_endless t u a f).1 ((cycle_is_endless t u b g).0 e) ∙ sym e)
+    (λ (y : EndsWith t u b). one_end t u a b x y)
+    (ends_or_cycles t u b g))
+    (ends_or_cycles t u a f)

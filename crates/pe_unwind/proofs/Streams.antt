@@ -1,0 +1,97 @@
+-- The items of a stream of unwind codes, and that there is one reading of it.
+use Rattle.std.proofs.Common.{◌≡◌, ℕ, zero, suc, ◌%◌, ◌/◌, ◌<◌, List, [], ◌∷◌, length, drop, take, map, Option, Some, None, Result, Ok, Err, refl, ap, sym, ◌∙◌, subst, arith}
+use Rattle.std.specs.Iterator.{Yields}
+use Rattle.pe_core.specs.Refusals.{Refusal, Short, UnwindCode as BadCode, kind_of}
+use Rattle.pe_core.specs.declared.error.Error.{Error}
+use Rattle.pe_unwind.specs.declared.unwind_code.UnwindCode.{UnwindCode}
+use Rattle.pe_unwind.specs.declared.unwind_code.UnwindCodeIterator.{UnwindCodeIterator}
+use Rattle.pe_unwind.specs.declared.unwind_code.UnwindOperation.{UnwindOperation}
+use Rattle.pe_unwind.specs.CodeStream.{CodeStream, AreItems, Gives, stream_of, with_left}
+use Rattle.pe_unwind.specs.FunctionTable.{answer_of}
+use Rattle.pe_unwind.specs.UnwindCodes.{SpellsOperation, Spells, BeginsWith, IsFault}
+use Rattle.pe_unwind.proofs.SpellingLengths.{begins_slots}
+
+abbrev pub Next : UnwindCodeIterator → Option (Result UnwindCode Error) → UnwindCodeIterator → Type 0
+Next s r t = Gives (stream_of s) r (stream_of t)
+
+begins_some : (v f : ℕ) (b : List ℕ) (code : UnwindCode) (n : ℕ) → BeginsWith v f b code n → 0 < length b
+begins_some v f [] code zero h = absurd h.1
+begins_some v f [] code (suc n) h = absurd h.1
+begins_some v f (x ∷ b) code n h = omega arith
+
+nothing_left : (s : CodeStream) (xs : List (Result UnwindCode Error)) → s.content ≡ [] → AreItems s xs → xs ≡ []
+nothing_left s [] e h = refl
+nothing_left s (Ok code ∷ xs) e h = absurd (omega (arith, begins_some s.version s.frame s.content code h.0 h.1, ap (λ (b : List ℕ). length b) e))
+nothing_left s (Err x ∷ xs) e h = absurd (omega (arith, h.0, ap (λ (b : List ℕ). length b) e))
+
+pub items_from_yields : (s t u : UnwindCodeIterator) (xs : List (Result UnwindCode Error)) → Yields Next s xs t → Next t None u → AreItems (stream_of s) xs
+items_from_yields s t u [] y end = subst (λ (r : UnwindCodeIterator). r.bytes.now ≡ []) (sym y) end.0
+items_from_yields s t u (Ok code ∷ xs) y end =
+    let j : UnwindCodeIterator = y.0 in
+    let rest : AreItems (stream_of j) xs = items_from_yields j t u xs y.2 end in
+    (y.1.0, y.1.1, subst (λ (r : CodeStream). AreItems r xs) y.1.3 rest)
+items_from_yields s t u (Err e ∷ xs) y end =
+    let j : UnwindCodeIterator = y.0 in
+    let rest : AreItems (stream_of j) xs = items_from_yields j t u xs y.2 end in
+    (y.1.0, y.1.1, y.1.2, nothing_left (stream_of j) xs (ap (λ (r : CodeStream). r.content) y.1.3) rest)
+
+-- one line spells one operation
+one_operation : (v f place op info : ℕ) (more : List ℕ) (o r : UnwindOperation) → SpellsOperation v f place op info more o → SpellsOperation v f place op info more r → o ≡ r
+one_operation v f place op info [] o r h k = grind arith
+one_operation v f place op info (a ∷ []) o r h k = absurd h
+one_operation v f place op info (a ∷ b ∷ []) o r h k = grind arith
+one_operation v f place op info (a ∷ b ∷ c ∷ []) o r h k = absurd h
+one_operation v f place op info (a ∷ b ∷ c ∷ d ∷ []) o r h k = grind arith
+one_operation v f place op info (a ∷ b ∷ c ∷ d ∷ e ∷ more) o r h k = absurd h
+
+one_spelled : (v f : ℕ) (x : List ℕ) (c d : UnwindCode) → Spells v f x c → Spells v f x d → c ≡ d
+one_spelled v f [] c d h k = absurd h
+one_spelled v f (a ∷ []) c d h k = absurd h
+one_spelled v f (a ∷ b ∷ more) c d h k =
+    let place : c.code_offset ≡ d.code_offset = h.0 ∙ sym k.0 in
+    let same : c.operation ≡ d.operation = one_operation v f a (b % 16) (b / 16) more c.operation d.operation h.1 k.1 in
+    ap (λ (p : ℕ). record { code_offset = p; operation = c.operation }) place ∙ ap (λ (o : UnwindOperation). record { code_offset = d.code_offset; operation = o }) same
+
+same_length : (v f : ℕ) (b : List ℕ) (c d : UnwindCode) (m n : ℕ) → BeginsWith v f b c m → BeginsWith v f b d n → m ≡ n
+same_length v f b c d m n h k =
+    let x = begins_slots v f b c m h in
+    let y = begins_slots v f b d n k in
+    let same : x.0 ≡ y.0 = let e : Some x.0 ≡ Some y.0 = sym x.1 ∙ y.1 in cc in
+    omega (arith, x.2, y.2, same)
+
+-- bytes begin with one code at most
+pub one_code : (v f : ℕ) (b : List ℕ) (c d : UnwindCode) (m n : ℕ) → BeginsWith v f b c m → BeginsWith v f b d n → (c ≡ d) × (m ≡ n)
+one_code v f b c d m n h k =
+    let same : m ≡ n = same_length v f b c d m n h k in
+    (one_spelled v f (take n b) c d (subst (λ (i : ℕ). Spells v f (take i b) c) same h.1) k.1, same)
+
+one_fault_bad : (v : ℕ) (b : List ℕ) (j : Refusal) → IsFault v b BadCode → IsFault v b j → BadCode ≡ j
+one_fault_bad v b Short h k = absurd (h k)
+one_fault_bad v b BadCode h k = refl
+one_fault_bad v b other h k = absurd k
+
+one_fault_short : (v : ℕ) (b : List ℕ) (j : Refusal) → IsFault v b Short → IsFault v b j → Short ≡ j
+one_fault_short v b Short h k = refl
+one_fault_short v b BadCode h k = absurd (k h)
+one_fault_short v b other h k = absurd k
+
+one_fault : (v : ℕ) (b : List ℕ) (i j : Refusal) → IsFault v b i → IsFault v b j → i ≡ j
+one_fault v b Short j h k = one_fault_short v b j h k
+one_fault v b BadCode j h k = one_fault_bad v b j h k
+one_fault v b other j h k = absurd h
+
+-- a stream has one list of items, up to the numbers in its refusal
+pub one_reading : (s : CodeStream) (xs ys : List (Result UnwindCode Error)) → AreItems s xs → AreItems s ys → map answer_of xs ≡ map answer_of ys
+one_reading s [] ys h k = sym (ap (map answer_of) (nothing_left s ys h k))
+one_reading s (Ok c ∷ xs) [] h k = absurd (omega (arith, begins_some s.version s.frame s.content c h.0 h.1, ap (λ (b : List ℕ). length b) k))
+one_reading s (Ok c ∷ xs) (Err e ∷ ys) h k = absurd (k.1 c h.0 h.1)
+one_reading s (Ok c ∷ xs) (Ok d ∷ ys) h k =
+    let same = one_code s.version s.frame s.content c d h.0 k.0 h.1 k.1 in
+    let rest : AreItems (with_left s (drop k.0 s.content)) xs = subst (λ (n : ℕ). AreItems (with_left s (drop n s.content)) xs) same.1 h.2 in
+    ap (λ (x : UnwindCode). Ok x ∷ map answer_of xs) same.0
+    ∙ ap (λ (zs : List (Result UnwindCode Refusal)). Ok d ∷ zs) (one_reading (with_left s (drop k.0 s.content)) xs ys rest k.2)
+one_reading s (Err e ∷ xs) [] h k = absurd (omega (arith, h.0, ap (λ (b : List ℕ). length b) k))
+one_reading s (Err e ∷ xs) (Ok d ∷ ys) h k = absurd (h.1 d k.0 k.1)
+one_reading s (Err e ∷ xs) (Err x ∷ ys) h k =
+    ap (λ (r : Refusal). Err r ∷ map answer_of xs) (one_fault s.version s.content (kind_of e) (kind_of x) h.2 k.2)
+    ∙ ap (λ (zs : List (Result UnwindCode Error)). Err (kind_of x) ∷ map answer_of zs) (h.3 ∙ sym k.3)

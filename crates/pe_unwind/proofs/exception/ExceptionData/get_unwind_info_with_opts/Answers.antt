@@ -1,0 +1,5 @@
+use Rattle.pe_unwind.proofs.LinkChains.{unwinds_cycle}
+use Rattle.pe_unwind.proofs.exception.ExceptionData.get_unwind_info_with_opts.Goals as goal
+
+pub returns-clause-cycle : goal.returns-clause-cycle
+returns-clause-cycle c = unwinds_cycle _ _ _ _ c.linked_record.ensures

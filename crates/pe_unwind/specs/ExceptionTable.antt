@@ -1,0 +1,42 @@
+-- The exception directory of an image. (PE format: the .pdata section.)
+use Rattle.std.specs.Prelude.{ℕ, ◌*◌, ◌/◌, ◌%◌, ◌==◌, List, [], ◌∷◌, length, Option, Some, None, Result, Err, if◌then◌else◌, nat_lt}
+use Rattle.pe_core.specs.Bytes.{holds, range}
+use Rattle.pe_core.specs.Refusals.{Refusal, Unmapped, ExceptionSize, ExceptionOffset, ExceptionBounds, FunctionIndex, outcome}
+use Rattle.pe_core.specs.SectionMap.{place_of}
+use Rattle.pe_core.specs.declared.data_directories.DataDirectory.{DataDirectory}
+use Rattle.pe_core.specs.declared.options.ParseOptions.{ParseOptions}
+use Rattle.pe_core.specs.declared.section_table.SectionTable.{SectionTable}
+use Rattle.pe_unwind.specs.declared.exception.ExceptionData.{ExceptionData}
+use Rattle.pe_unwind.specs.declared.function_table.RuntimeFunction.{RuntimeFunction}
+use Rattle.pe_unwind.specs.FunctionTable.{function_at}
+
+-- what callers see: the bytes, the table's place and size in them, and the file alignment
+pub record ExceptionView : Type 0 where
+  pub content : List ℕ
+  pub start : ℕ
+  pub size : ℕ
+  pub alignment : ℕ
+
+abbrev pub exception_view : ExceptionData → ExceptionView
+exception_view d = record { content = d.bytes.now; start = d.offset; size = d.size; alignment = d.file_alignment }
+
+-- the bytes of the function table
+abbrev pub table_of : ExceptionView → List ℕ
+table_of v = range v.content v.start v.size
+
+-- a directory of this size at a place, if it has one
+abbrev pub exception_at_place : List ℕ → ℕ → ℕ → Option ℕ → Result ExceptionView Refusal
+exception_at_place b size alignment None = Err Unmapped
+exception_at_place b size alignment (Some p) =
+    outcome ((p % 4 == 0, ExceptionOffset) ∷ (holds b p size, ExceptionBounds) ∷ []) (record { content = b; start = p; size = size; alignment = alignment })
+
+-- the exception directory with entries of this width
+unfoldable pub exception_at : ℕ → List ℕ → DataDirectory → List SectionTable → ℕ → ParseOptions → Result ExceptionView Refusal
+exception_at width b directory sections alignment opts =
+    if directory.size % width == 0
+    then exception_at_place b directory.size alignment (place_of opts.resolve_rva alignment sections directory.virtual_address)
+    else Err ExceptionSize
+
+-- the entry of a table with this index
+abbrev pub function_of : List ℕ → ℕ → Result RuntimeFunction Refusal
+function_of t i = outcome ((nat_lt i (length t / 12), FunctionIndex) ∷ []) (function_at t (12 * i))

@@ -1,0 +1,65 @@
+-- The function table, and what a lookup in it gives. (x64 exception handling: function table.)
+use Rattle.std.specs.Prelude.{◌≡◌, ℕ, ◌*◌, ◌+◌, ◌/◌, ◌%◌, ◌<◌, ◌≤◌, ◌==◌, List, [], ◌∷◌, ◌++◌, Option, Some, None, Result, Ok, Err, if◌then◌else◌, nat_le, nat_lt, map, filter, length, AllPairs, Contains, IfSome}
+use Rattle.std.specs.List.{range_with_len, last_or, AllAdjacentBelow}
+use Rattle.std.specs.Int.Digits.{digits_of}
+use Rattle.pe_core.specs.Bytes.{le}
+use Rattle.pe_core.specs.Refusals.{Refusal, Short, kind_of}
+use Rattle.pe_core.specs.declared.error.Error.{Error}
+use Rattle.pe_unwind.specs.declared.function_table.RuntimeFunction.{RuntimeFunction}
+use Rattle.pe_unwind.specs.declared.function_table.RuntimeFunctionIterator.{RuntimeFunctionIterator}
+
+-- the entry of 12 bytes at p
+abbrev pub function_at : List ℕ → ℕ → RuntimeFunction
+function_at b p = record {
+  begin_address = le b p 4;
+  end_address = le b (p + 4) 4;
+  unwind_info_address = le b (p + 8) 4;
+}
+
+-- the whole entries of a table
+unfoldable pub functions : List ℕ → List RuntimeFunction
+functions b = map (λ i. function_at b (12 * i)) (range_with_len 0 (length b / 12))
+
+-- the whole entries, and one fault where a last one is cut
+unfoldable pub function_items : List ℕ → List (Result RuntimeFunction Refusal)
+function_items b = map (λ f. Ok f) (functions b) ++ (if length b % 12 == 0 then [] else Err Short ∷ [])
+
+-- an answer with the kind of its refusal
+abbrev pub answer_of : {X : Type 0} → Result X Error → Result X Refusal
+answer_of (Ok x) = Ok x
+answer_of (Err e) = Err (kind_of e)
+
+-- what an iterator has left
+abbrev pub items_of_functions : RuntimeFunctionIterator → List (Result RuntimeFunction Refusal)
+items_of_functions s = function_items s.bytes.now
+
+-- begins never fall
+abbrev pub NeverFalls : List RuntimeFunction → Type 0
+NeverFalls fs = AllPairs (λ e f. e.begin_address ≤ f.begin_address) fs
+
+-- no end passes the next begin
+abbrev pub NoEndPassesNext : List RuntimeFunction → Type 0
+NoEndPassesNext fs = AllAdjacentBelow (λ e f. e.end_address ≤ f.begin_address) fs (length fs)
+
+-- the function covers the address
+abbrev pub Covers : ℕ → RuntimeFunction → Type 0
+Covers a f = (f.begin_address ≤ a) × (a < f.end_address)
+
+-- the entry, if the address is before its end
+abbrev pub if_before_end : ℕ → Option RuntimeFunction → Option RuntimeFunction
+if_before_end a None = None
+if_before_end a (Some f) = if nat_lt a f.end_address then Some f else None
+
+-- of the entries that begin at or before the address the last, if the address is before its end
+unfoldable pub scan : List RuntimeFunction → ℕ → Option RuntimeFunction
+scan fs a = if_before_end a (last_or None (filter (λ f. nat_le f.begin_address a) fs))
+
+-- what lookup gives: an entry that covers the address, or none; where begins never fall what the scan gives
+pub record Finds (fs : List RuntimeFunction) (a : ℕ) (found : Option RuntimeFunction) : Type 0 where
+  pub entry : IfSome found (Contains fs)
+  pub covers : IfSome found (Covers a)
+  pub scanned : NeverFalls fs → found ≡ scan fs a
+
+-- how many binary digits a number has; 0 has none
+unfoldable pub digits : ℕ → ℕ
+digits n = length (digits_of 2 n)

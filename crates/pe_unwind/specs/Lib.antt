@@ -1,0 +1,10 @@
+pub mod Registers
+pub mod FunctionTable
+pub mod ScopeTable
+pub mod UnwindCodes
+pub mod CodeStream
+pub mod UnwindRecord
+pub mod ExceptionTable
+pub mod Chains
+pub mod Links
+pub mod Unwinding

@@ -1,0 +1,69 @@
+-- Chains of links between the entries of a function table. (x64 exception handling; links by this project's profile.)
+use Rattle.std.specs.Prelude.{◌≡◌, ℕ, ◌-◌, ◌*◌, ◌/◌, ◌%◌, List, length, Option, Some, None, Result, Ok, Err, if◌then◌else◌, nat_le, nat_lt, ◌==◌, ◌&&◌, option_and_then, IsSomeAnd}
+use Rattle.pe_core.specs.Refusals.{Refusal, Unmapped, FunctionLink, FunctionCycle}
+use Rattle.pe_core.specs.SectionMap.{place_of}
+use Rattle.pe_core.specs.declared.options.ParseOptions.{ParseOptions}
+use Rattle.pe_core.specs.declared.section_table.SectionTable.{SectionTable}
+use Rattle.pe_unwind.specs.Chains.{after}
+use Rattle.pe_unwind.specs.ExceptionTable.{ExceptionView, table_of}
+use Rattle.pe_unwind.specs.FunctionTable.{function_at}
+
+-- the bytes of a function table, where they begin in the file, and the map from addresses to places
+pub record Table : Type 0 where
+  pub entries : List ℕ
+  pub start : ℕ
+  pub place : ℕ → Option ℕ
+
+-- the table of an exception directory
+abbrev pub links_of : ExceptionView → List SectionTable → ParseOptions → Table
+links_of v sections opts = record { entries = table_of v; start = v.start; place = place_of opts.resolve_rva v.alignment sections }
+
+-- how many entries there are
+abbrev pub count : Table → ℕ
+count t = length t.entries / 12
+
+abbrev pub IsOdd : ℕ → Type 0
+IsOdd u = u % 2 ≡ 1
+
+abbrev pub IsEven : ℕ → Type 0
+IsEven u = u % 2 ≡ 0
+
+-- the entry that stands at a place, if one does
+unfoldable pub entry_at : Table → ℕ → Option ℕ
+entry_at t p =
+    if nat_le t.start p && (p - t.start) % 12 == 0 && nat_lt ((p - t.start) / 12) (count t) then Some ((p - t.start) / 12) else None
+
+-- the entry that an odd address leads to
+unfoldable pub link : Table → ℕ → Option ℕ
+link t u = if u % 2 == 1 then option_and_then (entry_at t) (t.place (u - 1)) else None
+
+-- the unwind address of an entry
+abbrev pub address_of : Table → ℕ → ℕ
+address_of t i = (function_at t.entries (12 * i)).unwind_info_address
+
+-- the next address of the chain
+unfoldable pub next : Table → ℕ → Option ℕ
+next t u = option_and_then (λ i. Some (address_of t i)) (link t u)
+
+-- every address of the chain exists and is odd
+abbrev pub IsEndless : Table → ℕ → Type 0
+IsEndless t u = (k : ℕ) → IsSomeAnd (after (next t) k u) IsOdd
+
+-- the chain comes to this address
+abbrev pub Reaches : Table → ℕ → ℕ → Type 0
+Reaches t u v = (k : ℕ) × (after (next t) k u ≡ Some v)
+
+-- what following the chain from u answers: the even address at its end, or why there is none
+abbrev pub Follows : Table → ℕ → Result ℕ Refusal → Type 0
+Follows t u (Ok v) = Reaches t u v × IsEven v
+Follows t u (Err Unmapped) = (v : ℕ) × Reaches t u v × IsOdd v × (t.place (v - 1) ≡ None)
+Follows t u (Err FunctionLink) = (v : ℕ) × Reaches t u v × IsOdd v × (p : ℕ) × (t.place (v - 1) ≡ Some p) × (entry_at t p ≡ None)
+Follows t u (Err FunctionCycle) = IsEndless t u
+Follows t u (Err other) = ⊥
+
+-- what following one odd address answers
+abbrev pub Leads : Table → ℕ → Result ℕ Refusal → Type 0
+Leads t u (Ok v) = next t u ≡ Some v
+Leads t u (Err Unmapped) = t.place (u - 1) ≡ None
+Leads t u (Err FunctionLink) = (p : ℕ) × (t.place (u - 1) ≡ Some p) × (entry_at t p ≡ None)
+Leads t u (Err other) = ⊥

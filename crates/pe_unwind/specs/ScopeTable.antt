@@ -1,0 +1,23 @@
+-- The scope table of a handler for C. (x64 exception handling: the language-specific handler's data.)
+use Rattle.std.specs.Prelude.{ℕ, ◌*◌, ◌+◌, ◌/◌, List, map, length}
+use Rattle.std.specs.List.{range_with_len}
+use Rattle.pe_core.specs.Bytes.{le}
+use Rattle.pe_unwind.specs.declared.scope_table.ScopeTableEntry.{ScopeTableEntry}
+use Rattle.pe_unwind.specs.declared.scope_table.ScopeTableIterator.{ScopeTableIterator}
+
+-- the entry of 16 bytes at p
+abbrev pub scope_at : List ℕ → ℕ → ScopeTableEntry
+scope_at b p = record {
+  begin = le b p 4;
+  end = le b (p + 4) 4;
+  handler = le b (p + 8) 4;
+  target = le b (p + 12) 4;
+}
+
+-- the whole entries of a table
+unfoldable pub scopes : List ℕ → List ScopeTableEntry
+scopes b = map (λ i. scope_at b (16 * i)) (range_with_len 0 (length b / 16))
+
+-- what an iterator has left
+abbrev pub scopes_left : ScopeTableIterator → List ScopeTableEntry
+scopes_left s = scopes s.bytes.now

@@ -1,0 +1,82 @@
+-- The spellings of unwind codes. (x64 exception handling: unwind codes; opcodes 6 and 7 by this project's choice.)
+use Rattle.std.specs.Prelude.{◌≡◌, ℕ, ◌+◌, ◌*◌, ◌/◌, ◌%◌, ◌<◌, ◌≤◌, ◌⊎◌, if◌then◌else◌, nat_lt, ◌==◌, ◌||◌, List, [], ◌∷◌, length, take, Option, Some, None}
+use Rattle.pe_core.specs.Refusals.{Refusal, Short, UnwindCode as BadCode}
+use Rattle.pe_unwind.specs.declared.register.Register.{Register}
+use Rattle.pe_unwind.specs.declared.unwind_code.StackFrameOffset.{StackFrameOffset}
+use Rattle.pe_unwind.specs.declared.unwind_code.StackFrameOffset.TheVariants.{RSP, FP}
+use Rattle.pe_unwind.specs.declared.unwind_code.UnwindOperation.{UnwindOperation}
+use Rattle.pe_unwind.specs.declared.unwind_code.UnwindOperation.TheVariants.{PushNonVolatile, Alloc, SetFPRegister, SaveNonVolatile, SaveXMM, Epilog, SaveXMM128, PushMachineFrame, Noop}
+use Rattle.pe_unwind.specs.declared.unwind_code.UnwindCode.{UnwindCode}
+
+-- the register with a number, and the XMM register with a number
+abbrev pub integer : ℕ → Register
+integer n = record { 0 = n }
+
+abbrev pub xmm : ℕ → Register
+xmm n = record { 0 = n + 17 }
+
+-- an offset from the stack or, with a frame register, from the frame
+abbrev pub offset : ℕ → ℕ → StackFrameOffset
+offset f n = if f == 0 then RSP n else FP n
+
+-- what opcode and info say, behind which these bytes stand: a case for each line of the table
+abbrev pub SpellsOperation : ℕ → ℕ → ℕ → ℕ → ℕ → List ℕ → UnwindOperation → Type 0
+SpellsOperation v f place op info [] o =
+    ((op ≡ 0) × (o ≡ PushNonVolatile (integer info)))
+    ⊎ (((op ≡ 2) × (o ≡ Alloc (info * 8 + 8)))
+    ⊎ (((op ≡ 3) × (o ≡ SetFPRegister))
+    ⊎ (((op ≡ 6) × (v ≡ 2) × (o ≡ Epilog place info))
+    ⊎ ((op ≡ 10) × (info < 2) × (o ≡ PushMachineFrame (info == 1))))))
+SpellsOperation v f place op info (a ∷ b ∷ []) o =
+    ((op ≡ 1) × (info ≡ 0) × (o ≡ Alloc ((a + 256 * b) * 8)))
+    ⊎ (((op ≡ 4) × (o ≡ SaveNonVolatile (integer info) (offset f ((a + 256 * b) * 8))))
+    ⊎ (((op ≡ 6) × (v ≡ 1) × (o ≡ SaveXMM (xmm info) (offset f ((a + 256 * b) * 16))))
+    ⊎ ((op ≡ 8) × (o ≡ SaveXMM128 (xmm info) (offset f ((a + 256 * b) * 16))))))
+SpellsOperation v f place op info (a ∷ b ∷ c ∷ d ∷ []) o =
+    ((op ≡ 1) × (info ≡ 1) × (o ≡ Alloc (a + 256 * b + 65536 * c + 16777216 * d)))
+    ⊎ (((op ≡ 5) × (o ≡ SaveNonVolatile (integer info) (offset f (a + 256 * b + 65536 * c + 16777216 * d))))
+    ⊎ (((op ≡ 7) × (v ≡ 1) × (o ≡ SaveXMM128 (xmm info) (offset f (a + 256 * b + 65536 * c + 16777216 * d))))
+    ⊎ (((op ≡ 7) × (v ≡ 2) × (o ≡ Noop))
+    ⊎ ((op ≡ 9) × (o ≡ SaveXMM128 (xmm info) (offset f (a + 256 * b + 65536 * c + 16777216 * d)))))))
+SpellsOperation v f place op info other o = ⊥
+
+-- for version v and frame register f the bytes spell the code
+abbrev pub Spells : ℕ → ℕ → List ℕ → UnwindCode → Type 0
+Spells v f (place ∷ second ∷ more) code =
+    (code.code_offset ≡ place) × SpellsOperation v f place (second % 16) (second / 16) more code.operation
+Spells v f other code = ⊥
+
+-- the bytes begin with a code's spelling of so many bytes
+abbrev pub BeginsWith : ℕ → ℕ → List ℕ → UnwindCode → ℕ → Type 0
+BeginsWith v f bytes code n = (n ≤ length bytes) × Spells v f (take n bytes) code
+
+-- no spelling begins the bytes
+abbrev pub BeginsWithNone : ℕ → ℕ → List ℕ → Type 0
+BeginsWithNone v f bytes = (code : UnwindCode) (n : ℕ) → BeginsWith v f bytes code n → ⊥
+
+-- the last column of the table: how many slots a line with this opcode and info has
+abbrev pub slots_at : ℕ → ℕ → ℕ → Option ℕ
+slots_at v op info =
+    if op == 0 then Some 1
+    else (if op == 1 then (if info == 0 then Some 2 else (if info == 1 then Some 3 else None))
+    else (if op == 2 then Some 1
+    else (if op == 3 then Some 1
+    else (if op == 4 then Some 2
+    else (if op == 5 then Some 3
+    else (if op == 6 then (if v == 1 then Some 2 else (if v == 2 then Some 1 else None))
+    else (if op == 7 then (if v == 1 || v == 2 then Some 3 else None)
+    else (if op == 8 then Some 2
+    else (if op == 9 then Some 3
+    else (if op == 10 then (if nat_lt info 2 then Some 1 else None) else None))))))))))
+
+-- a line of the table begins like the bytes, and slots are missing
+abbrev pub IsCut : ℕ → List ℕ → Type 0
+IsCut v [] = ⊥
+IsCut v (place ∷ []) = Unit {0}
+IsCut v (place ∷ second ∷ more) = (k : ℕ) × (slots_at v (second % 16) (second / 16) ≡ Some k) × (2 + length more < 2 * k)
+
+-- what refuses bytes that begin with no spelling
+abbrev pub IsFault : ℕ → List ℕ → Refusal → Type 0
+IsFault v bytes Short = IsCut v bytes
+IsFault v bytes BadCode = IsCut v bytes → ⊥
+IsFault v bytes other = ⊥

@@ -1,0 +1,41 @@
+-- From an address to the unwind record of the function that covers it.
+use Rattle.std.specs.Prelude.{◌≡◌, ℕ, List, Option, Some, None, Result, Ok, Err}
+use Rattle.pe_core.specs.Refusals.{Refusal, Unmapped, kind_of, outcome, ◌>>=◌}
+use Rattle.pe_core.specs.declared.error.Error.{Error}
+use Rattle.pe_core.specs.declared.options.ParseOptions.{ParseOptions}
+use Rattle.pe_core.specs.declared.section_table.SectionTable.{SectionTable}
+use Rattle.pe_unwind.specs.declared.function_table.RuntimeFunction.{RuntimeFunction}
+use Rattle.pe_unwind.specs.ExceptionTable.{ExceptionView, table_of}
+use Rattle.pe_unwind.specs.FunctionTable.{functions, Finds}
+use Rattle.pe_unwind.specs.Links.{Table, Follows, links_of}
+use Rattle.pe_unwind.specs.UnwindRecord.{UnwindInfoView, unwind_tests, unwind_record}
+
+-- an answer with its value seen by view, and the kind of its refusal
+abbrev pub answer_by : {X Y : Type 0} → (X → Y) → Result X Error → Result Y Refusal
+answer_by view (Ok x) = Ok (view x)
+answer_by view (Err e) = Err (kind_of e)
+
+-- the unwind record at a place, if there is one
+abbrev pub record_at_place : List ℕ → Option ℕ → Result UnwindInfoView Refusal
+record_at_place b None = Err Unmapped
+record_at_place b (Some p) = outcome (unwind_tests b p) (unwind_record b p)
+
+-- the unwind record at an address
+abbrev pub record_at_address : Table → List ℕ → ℕ → Result UnwindInfoView Refusal
+record_at_address t b a = record_at_place b (t.place a)
+
+-- what asking for the record of an unwind address answers: the record at the end of its chain, or the chain's refusal
+abbrev pub Unwinds : Table → List ℕ → ℕ → Result UnwindInfoView Refusal → Type 0
+Unwinds t b u answer = (end : Result ℕ Refusal) × Follows t u end × (answer ≡ (end >>= record_at_address t b))
+
+-- the same of a function that lookup may have found
+abbrev pub UnwindsFound : Table → List ℕ → Option RuntimeFunction → Result (Option UnwindInfoView) Refusal → Type 0
+UnwindsFound t b None answer = answer ≡ Ok None
+UnwindsFound t b (Some f) (Ok None) = ⊥
+UnwindsFound t b (Some f) (Ok (Some i)) = Unwinds t b f.unwind_info_address (Ok i)
+UnwindsFound t b (Some f) (Err e) = Unwinds t b f.unwind_info_address (Err e)
+
+-- what asking for the record at an address of code answers
+abbrev pub UnwindsAt : ExceptionView → List SectionTable → ParseOptions → ℕ → Result (Option UnwindInfoView) Refusal → Type 0
+UnwindsAt v sections opts a answer =
+    (found : Option RuntimeFunction) × Finds (functions (table_of v)) a found × UnwindsFound (links_of v sections opts) v.content found answer

@@ -1,0 +1,285 @@
+//! Exception data: the function table of an image, lookup in it, and the records that it leads to.
+
+ghost use Rattle.std.specs.Prelude.{◌+◌, ◌≤◌, length};
+
+use crate::function_table::{RuntimeFunction, RuntimeFunctionIterator, read_function, search};
+use crate::unwind_info::UnwindInfo;
+use pe_core::{
+    CountedTable, DataDirectory, Error, ParseOptions, Reason, Result, SectionTable, find_offset,
+};
+
+/// The bytes of an entry for x64.
+const SIZE_OF_FUNCTION: usize = 12;
+
+/// The exception directory of an image: its function table, and the bytes in which its records stand.
+#[derive(Debug, Drop)]
+pub struct ExceptionData<'a> {
+    bytes: &'a [u8],
+    offset: usize,
+    size: usize,
+    file_alignment: u32,
+    ghost inside: { offset + size ≤ length bytes.now },
+}
+
+impl<'a> ExceptionData<'a> {
+    ghost use Rattle.std.specs.Prelude.{◌≡◌, ◌+◌, ◌-◌, ◌*◌, ◌/◌, ◌%◌, ◌<◌, ◌≤◌, ◌==◌, ◌↔◌, ℕ, length, Err, IsOkAnd};
+    ghost use Rattle.std.specs.Option.{option_map};
+    ghost use Rattle.pe_core.specs.Options.{default_options};
+    ghost use Rattle.pe_core.specs.Refusals.{Gives, FunctionCycle};
+    ghost use Rattle.pe_unwind.specs.ExceptionTable.{exception_view, exception_at, table_of, function_of};
+    ghost use Rattle.pe_unwind.specs.FunctionTable.{functions, function_items, items_of_functions, answer_of, Finds};
+    ghost use Rattle.pe_unwind.specs.Links.{Follows, Leads, IsEndless, links_of};
+    ghost use Rattle.pe_unwind.specs.Unwinding.{Unwinds, UnwindsAt, answer_by, record_at_address};
+    ghost use Rattle.pe_unwind.specs.UnwindRecord.{unwind_view};
+
+    /// The exception directory of an x64 image, with the default options.
+    pub fn parse(
+        bytes: &'a [u8],
+        directory: DataDirectory,
+        sections: &[SectionTable],
+        file_alignment: u32,
+    ) -> Result<ExceptionData<'a>>
+        ensures { Gives exception_view result (exception_at 12 bytes.entry.now directory sections.now file_alignment default_options) }
+    {
+        ExceptionData::parse_with_opts(
+            bytes,
+            directory,
+            sections,
+            file_alignment,
+            &ParseOptions::default(),
+        )
+    }
+
+    /// The exception directory of an x64 image. `ExceptionSize` where its size is no whole number of entries,
+    /// `Unmapped`, `ExceptionOffset` where its place is no multiple of four, `ExceptionBounds` where it passes the end.
+    #[tactic(auto, unfolding(crate::specs::ExceptionTable::exception_at))]
+    pub fn parse_with_opts(
+        bytes: &'a [u8],
+        directory: DataDirectory,
+        sections: &[SectionTable],
+        file_alignment: u32,
+        opts: &ParseOptions,
+    ) -> Result<ExceptionData<'a>>
+        ensures { Gives exception_view result (exception_at 12 bytes.entry.now directory sections.now file_alignment opts.now) }
+    {
+        let DataDirectory {
+            virtual_address,
+            size,
+        } = directory;
+        if size % 12 != 0 {
+            return Err(Error::Malformed(Reason::ExceptionSize(size)));
+        }
+        let Some(offset) = find_offset(virtual_address as usize, sections, file_alignment, opts)
+        else {
+            return Err(Error::Malformed(Reason::Unmapped(u64::from(virtual_address))));
+        };
+        if offset % 4 != 0 {
+            return Err(Error::Malformed(Reason::ExceptionOffset(offset as u64)));
+        }
+        let size = size as usize;
+        if bytes.len() < size || bytes.len() - size < offset {
+            let end = (offset as u64).saturating_add(size as u64);
+            return Err(Error::Malformed(Reason::ExceptionBounds(end)));
+        }
+        Ok(ExceptionData {
+            bytes,
+            offset,
+            size,
+            file_alignment,
+        })
+    }
+
+    /// The bytes of the function table.
+    fn table_bytes(&self) -> &'a [u8]
+        ensures bytes { result.now ≡ table_of (exception_view self.now) }
+        ensures size { length result.now ≡ (exception_view self.now).size }
+    {
+        let bytes = self.bytes;
+        &bytes[self.offset..self.offset + self.size]
+    }
+
+    /// How many whole entries for x64 the table has.
+    #[tactic(auto, using(crate::proofs::Searches::length_functions))]
+    pub fn len(&self) -> usize
+        ensures { result ≡ length (functions (table_of (exception_view self.now))) }
+    {
+        self.table_bytes().len() / SIZE_OF_FUNCTION
+    }
+
+    /// Whether the table has no bytes.
+    pub fn is_empty(&self) -> bool
+        ensures { result ≡ ((exception_view self.now).size == 0) }
+    {
+        self.size == 0
+    }
+
+    /// The entries in the order of the table.
+    pub fn functions(&self) -> RuntimeFunctionIterator<'a>
+        ensures { items_of_functions result ≡ function_items (table_of (exception_view self.now)) }
+    {
+        RuntimeFunctionIterator::new(self.table_bytes())
+    }
+
+    /// The entry with this index. `FunctionIndex` at or past `len()`.
+    pub fn get_function(&self, index: usize) -> Result<RuntimeFunction>
+        ensures { Gives (λ f. f) result (function_of (table_of (exception_view self.now)) index) }
+    {
+        let table = self.table_bytes();
+        if index < table.len() / SIZE_OF_FUNCTION {
+            Ok(read_function(table, SIZE_OF_FUNCTION * index))
+        } else {
+            Err(Error::Malformed(Reason::FunctionIndex(index)))
+        }
+    }
+
+    /// The table, with its reads counted from 0.
+    pub fn table(&self) -> CountedTable<'a>
+        ensures { result ≡ record { content = table_of (exception_view self.now); count = 0 } }
+    {
+        CountedTable::new(self.table_bytes())
+    }
+
+    /// The entry that covers an address, as `search` finds it. Never refused.
+    pub fn find_function(&self, rva: u32) -> Result<Option<RuntimeFunction>>
+        ensures { IsOkAnd result (Finds (functions (table_of (exception_view self.now))) rva) }
+    {
+        let mut table = self.table();
+        Ok(search(&mut table, rva))
+    }
+
+    /// The unwind address of the entry that an odd address leads to.
+    fn follow(&self, address: u32, sections: &[SectionTable], opts: &ParseOptions) -> Result<u32>
+        requires { address % 2 ≡ 1 }
+        ensures { Leads (links_of (exception_view self.now) sections.now opts.now) address (answer_of result) }
+    {
+        let Some(place) = find_offset(address as usize - 1, sections, self.file_alignment, opts)
+        else {
+            return Err(Error::Malformed(Reason::Unmapped(u64::from(address - 1))));
+        };
+        let table = self.table_bytes();
+        if place < self.offset
+            || (place - self.offset) % SIZE_OF_FUNCTION != 0
+            || table.len() / SIZE_OF_FUNCTION <= (place - self.offset) / SIZE_OF_FUNCTION
+        {
+            return Err(Error::Malformed(Reason::FunctionLink(address)));
+        }
+        Ok(read_function(table, place - self.offset).unwind_info_address)
+    }
+
+    /// The even address at the end of a chain of links.
+    fn record_address(
+        &self,
+        address: u32,
+        sections: &[SectionTable],
+        opts: &ParseOptions,
+    ) -> Result<u32>
+        ensures { Follows (links_of (exception_view self.now) sections.now opts.now) address (answer_of result) }
+    {
+        let mut current = address;
+        let entries = self.table_bytes().len() / SIZE_OF_FUNCTION;
+        for links in 0..entries + 1 {
+            if current % 2 == 0 {
+                return Ok(current);
+            }
+            match self.follow(current, sections, opts) {
+                Ok(next) => current = next,
+                Err(error) => return Err(error),
+            }
+        }
+        Err(Error::Malformed(Reason::FunctionCycle(entries + 1)))
+    }
+
+    /// The unwind record of a function, with the default options.
+    pub fn get_unwind_info(
+        &self,
+        function: RuntimeFunction,
+        sections: &[SectionTable],
+    ) -> Result<UnwindInfo<'a>>
+        ensures record { Unwinds (links_of (exception_view self.now) sections.now default_options) (exception_view self.now).content function.unwind_info_address (answer_by unwind_view result) }
+        ensures cycle { (answer_by unwind_view result ≡ Err FunctionCycle) ↔ IsEndless (links_of (exception_view self.now) sections.now default_options) function.unwind_info_address }
+    {
+        self.get_unwind_info_with_opts(function, sections, &ParseOptions::default())
+    }
+
+    /// The unwind record of a function. An odd unwind address is a link to the entry at that address less one:
+    /// `Unmapped`; `FunctionLink` where no entry stands there; `FunctionCycle` where the links never end. Then the place
+    /// of the record (`Unmapped`), and what refuses it.
+    pub fn get_unwind_info_with_opts(
+        &self,
+        function: RuntimeFunction,
+        sections: &[SectionTable],
+        opts: &ParseOptions,
+    ) -> Result<UnwindInfo<'a>>
+        ensures record { Unwinds (links_of (exception_view self.now) sections.now opts.now) (exception_view self.now).content function.unwind_info_address (answer_by unwind_view result) }
+        ensures cycle { (answer_by unwind_view result ≡ Err FunctionCycle) ↔ IsEndless (links_of (exception_view self.now) sections.now opts.now) function.unwind_info_address }
+    {
+        self.linked_record(function.unwind_info_address, sections, opts)
+    }
+
+    /// The record at the end of a chain of links.
+    fn linked_record(
+        &self,
+        address: u32,
+        sections: &[SectionTable],
+        opts: &ParseOptions,
+    ) -> Result<UnwindInfo<'a>>
+        ensures { Unwinds (links_of (exception_view self.now) sections.now opts.now) (exception_view self.now).content address (answer_by unwind_view result) }
+    {
+        match self.record_address(address, sections, opts) {
+            Ok(last) => self.record_at(last, sections, opts),
+            Err(error) => Err(error),
+        }
+    }
+
+    /// The record at an address.
+    fn record_at(
+        &self,
+        address: u32,
+        sections: &[SectionTable],
+        opts: &ParseOptions,
+    ) -> Result<UnwindInfo<'a>>
+        ensures { Gives unwind_view result (record_at_address (links_of (exception_view self.now) sections.now opts.now) (exception_view self.now).content address) }
+    {
+        match find_offset(address as usize, sections, self.file_alignment, opts) {
+            Some(place) => UnwindInfo::parse(self.bytes, place),
+            None => Err(Error::Malformed(Reason::Unmapped(u64::from(address)))),
+        }
+    }
+
+    /// The unwind record of the function that covers an address, if one does: lookup, links and record in one call.
+    pub fn unwind_at(
+        &self,
+        rva: u32,
+        sections: &[SectionTable],
+        opts: &ParseOptions,
+    ) -> Result<Option<UnwindInfo<'a>>>
+        ensures { UnwindsAt (exception_view self.now) sections.now opts.now rva (answer_by (option_map unwind_view) result) }
+    {
+        let mut table = self.table();
+        match search(&mut table, rva) {
+            None => Ok(None),
+            Some(function) => {
+                match self.linked_record(function.unwind_info_address, sections, opts) {
+                    Ok(info) => Ok(Some(info)),
+                    Err(error) => Err(error),
+                }
+            }
+        }
+    }
+}
+
+impl<'a, 'b> IntoIterator for &'b ExceptionData<'a> {
+    ghost use Rattle.std.specs.Prelude.{◌≡◌};
+    ghost use Rattle.pe_unwind.specs.ExceptionTable.{exception_view, table_of};
+    ghost use Rattle.pe_unwind.specs.FunctionTable.{function_items, items_of_functions};
+
+    type Item = Result<RuntimeFunction>;
+
+    type IntoIter = RuntimeFunctionIterator<'a>;
+
+    ghost into_iter_gives = { λ s it. items_of_functions it ≡ function_items (table_of (exception_view s.now)) };
+
+    fn into_iter(self) -> RuntimeFunctionIterator<'a> {
+        self.functions()
+    }
+}

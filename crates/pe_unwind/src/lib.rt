@@ -1,0 +1,21 @@
+//! Exception data of Windows executables: which function covers an address, and how its frame is unwound.
+//!
+//! A function table is searched by halves, links between its entries are followed to their end, and unwind records give
+//! their codes. Every call is proved to give what its definition in `specs/` gives, for every byte string. Layouts are
+//! those of Microsoft's x64 exception handling.
+#![tactic(auto)]
+
+mod exception;
+mod function_table;
+pub mod laws;
+mod register;
+mod scope_table;
+mod unwind_code;
+mod unwind_info;
+
+pub use exception::ExceptionData;
+pub use function_table::{RuntimeFunction, RuntimeFunctionIterator, search};
+pub use register::Register;
+pub use scope_table::{ScopeTableEntry, ScopeTableIterator};
+pub use unwind_code::{StackFrameOffset, UnwindCode, UnwindCodeIterator, UnwindOperation};
+pub use unwind_info::{UnwindHandler, UnwindInfo};
