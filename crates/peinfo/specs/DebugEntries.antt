@@ -7,13 +7,13 @@ use Rattle.pe_core.specs.Header.{OptionalHeaderView}
 use Rattle.pe_core.specs.Refusals.{Refusal}
 use Rattle.pe_core.specs.declared.data_directories.DataDirectory.{DataDirectory}
 use Rattle.pe_core.specs.declared.options.ParseMode.{ParseMode}
+use Rattle.pe_core.specs.declared.options.ParseMode.TheVariants.{Strict, Permissive}
 use Rattle.pe_core.specs.declared.options.ParseOptions.{ParseOptions}
 use Rattle.pe_core.specs.declared.section_table.SectionTable.{SectionTable}
-use Rattle.pe_records.specs.DebugDirectory.{entries}
+use Rattle.pe_records.specs.DebugDirectory.{entries, count}
 use Rattle.pe_records.specs.DebugRecords.{DebugFields, debug_data}
 use Rattle.pe_records.specs.declared.debug.ImageDebugDirectory.{ImageDebugDirectory}
 use Rattle.peinfo.specs.Hex.{hex}
-use Rattle.pe_core.specs.declared.options.ParseMode.TheVariants.{Strict, Permissive}
 
 -- the debug data of a directory; in permissive mode those that are refused are left out
 abbrev pub by_mode : ParseMode → Result DebugFields Refusal → Result (Option DebugFields) Refusal
@@ -47,3 +47,7 @@ entry_lines fixup table = flat_map item_line (entries fixup table)
 abbrev pub debug_lines : Option DebugFields → List ℕ
 debug_lines None = []
 debug_lines (Some debug) = entry_lines debug.fixup debug.table
+
+abbrev pub line_count : Option DebugFields → ℕ
+line_count None = 0
+line_count (Some debug) = count debug.table

@@ -7,7 +7,7 @@ ghost use Rattle.pe_core.specs.Refusals.{Gives};
 ghost use Rattle.pe_records.specs.DebugDirectory.{rest_of, fixup_of};
 ghost use Rattle.pe_records.specs.DebugRecords.{debug_view};
 ghost use Rattle.peinfo.specs.Hex.{hex};
-ghost use Rattle.peinfo.specs.DebugEntries.{shown_debug, entry_line, entry_lines, debug_lines};
+ghost use Rattle.peinfo.specs.DebugEntries.{shown_debug, entry_line, entry_lines, debug_lines, line_count};
 
 use crate::digits::{hex_8, push_decimal};
 use pe_core::{OptionalHeader, ParseMode, ParseOptions, SectionTable};
@@ -67,7 +67,9 @@ fn push_line<A: Allocator>(
 }
 
 /// How many lines debug data have.
-pub fn line_count(debug: &Option<DebugData>) -> usize {
+pub fn line_count(debug: &Option<DebugData>) -> usize
+    ensures { result ≡ line_count (option_map debug_view debug.now) }
+{
     match debug {
         None => 0,
         Some(debug) => debug.entries().len(),
