@@ -1,8 +1,5 @@
-needs: pe_core pe_records
-error: borrow-e0515
-
+// refused: borrow-e0515
 //! The body of a listed certificate is handed out of the function that owns the file's bytes.
-#![tactic(auto)]
 
 use pe_core::Result;
 use pe_records::enumerate_certificates;

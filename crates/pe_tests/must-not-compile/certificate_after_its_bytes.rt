@@ -1,8 +1,5 @@
-needs: pe_core pe_records
-error: borrow-e0505
-
+// refused: borrow-e0505
 //! A certificate is kept after the vector with the file's bytes is gone.
-#![tactic(auto)]
 
 use pe_core::Result;
 use pe_records::AttributeCertificate;
