@@ -197,6 +197,10 @@ debug_view d = record {
   pogo = option_map pogo_view d.pogo_info;
 }
 
+-- debug data without entries
+abbrev pub no_debug_data : DebugFields
+no_debug_data = record { table = []; fixup = 0; pdb70 = None; pdb20 = None; features = None; characteristics = None; repro = None; pogo = None }
+
 -- the records of a table, or the first refusal
 unfoldable pub records : ParseOptions → List ℕ → ℕ → List ℕ → Result DebugFields Refusal
 records o b fixup t = do

@@ -196,7 +196,7 @@ fn table<'a>(
 }
 
 /// The debug data of an image.
-#[derive(Clone, Debug, Default, Drop, PartialEq)]
+#[derive(Clone, Debug, Drop, PartialEq)]
 pub struct DebugData<'a> {
     table: &'a [u8],
     rva_offset: u32,
@@ -311,6 +311,26 @@ impl<'a> DebugData<'a> {
         ensures fixup { fixup_of result ≡ fixup_of_data self.now }
     {
         ImageDebugDirectoryIterator::new(self.table, self.rva_offset)
+    }
+}
+
+impl<'a> Default for DebugData<'a> {
+    ghost use Rattle.pe_records.specs.DebugRecords.{no_debug_data};
+
+    ghost is_default = { λ d. debug_view d ≡ no_debug_data };
+
+    /// Debug data without entries.
+    fn default() -> DebugData<'a> {
+        DebugData {
+            table: &[],
+            rva_offset: 0,
+            codeview_pdb70_debug_info: None,
+            codeview_pdb20_debug_info: None,
+            vcfeature_info: None,
+            ex_dll_characteristics_info: None,
+            repro_info: None,
+            pogo_info: None,
+        }
     }
 }
 
