@@ -4,3 +4,4 @@ pub mod Reading
 pub mod Words
 pub mod Writing
 pub mod Lines
+pub mod FunctionItems

@@ -6,24 +6,18 @@ use Rattle.pe_core.specs.Directories.{present}
 use Rattle.pe_core.specs.Header.{OptionalHeaderView}
 use Rattle.pe_core.specs.Refusals.{Refusal}
 use Rattle.pe_core.specs.declared.data_directories.DataDirectory.{DataDirectory}
-use Rattle.pe_core.specs.declared.options.ParseMode.{ParseMode}
-use Rattle.pe_core.specs.declared.options.ParseMode.TheVariants.{Strict, Permissive}
 use Rattle.pe_core.specs.declared.options.ParseOptions.{ParseOptions}
 use Rattle.pe_core.specs.declared.section_table.SectionTable.{SectionTable}
 use Rattle.pe_records.specs.DebugDirectory.{entries, count}
 use Rattle.pe_records.specs.DebugRecords.{DebugFields, debug_data}
 use Rattle.pe_records.specs.declared.debug.ImageDebugDirectory.{ImageDebugDirectory}
 use Rattle.peinfo.specs.Hex.{hex}
+use Rattle.peinfo.specs.Modes.{none_if_refused}
 
 -- the debug data of a directory; in permissive mode those that are refused are left out
-abbrev pub by_mode : ParseMode → Result DebugFields Refusal → Result (Option DebugFields) Refusal
-by_mode mode (Ok debug) = Ok (Some debug)
-by_mode Strict (Err refusal) = Err refusal
-by_mode Permissive (Err refusal) = Ok None
-
 abbrev pub of_directory : List ℕ → ParseOptions → List SectionTable → ℕ → Option DataDirectory → Result (Option DebugFields) Refusal
 of_directory b opts sections alignment None = Ok None
-of_directory b opts sections alignment (Some d) = by_mode opts.parse_mode (debug_data opts b d sections alignment 0)
+of_directory b opts sections alignment (Some d) = none_if_refused opts.parse_mode (debug_data opts b d sections alignment 0)
 
 -- the debug data that are shown: those of directory 6
 unfoldable pub shown_debug : List ℕ → ParseOptions → List SectionTable → Option OptionalHeaderView → Result (Option DebugFields) Refusal

@@ -95,7 +95,7 @@ fn push_entries<A: Allocator>(
 }
 
 /// Adds the lines of debug data, if there are any.
-pub fn push_lines<A: Allocator>(
+pub(crate) fn push_lines<A: Allocator>(
     text: &mut Vec<u8, A>,
     debug: &Option<DebugData>,
 ) -> Result<(), AllocError>

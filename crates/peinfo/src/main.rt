@@ -6,6 +6,7 @@ mod command;
 mod counted_out;
 mod debug;
 mod digits;
+mod functions;
 mod input;
 mod report;
 

@@ -6,7 +6,7 @@ ghost use Rattle.pe_core.specs.Refusals.{GivesUnlessMemory};
 
 use crate::counted_out::{CountedOut, put_all};
 use crate::digits::{hex_8, hex_16};
-use crate::{certificates, debug};
+use crate::{certificates, debug, functions};
 use pe_core::{Error, Header, MAGIC_64, OptionalHeader, ParseOptions};
 use std::alloc::{AllocError, Allocator};
 use std::io;
@@ -76,22 +76,30 @@ fn text_of<A: Allocator + Copy>(
     let header = Header::parse_with_opts(bytes, opts)?;
     let coff = &header.coff_header;
     let place = header.dos_header.pe_pointer as usize + 24 + coff.size_of_optional_header as usize;
-    let debug = {
+    let optional = &header.optional_header;
+    let (debug, exceptions) = {
         let sections = coff.sections(alloc, bytes, place)?;
-        debug::shown_debug(bytes, opts, &sections, &header.optional_header)?
+        let debug = debug::shown_debug(bytes, opts, &sections, optional)?;
+        let machine = coff.machine;
+        (
+            debug,
+            functions::shown_exceptions(bytes, opts, &sections, machine, optional)?,
+        )
     };
-    let certificates = certificates::shown(alloc, bytes, opts, &header.optional_header)?;
+    let certificates = certificates::shown(alloc, bytes, opts, optional)?;
     let lines = debug::line_count(&debug)
         .saturating_add(certificates.len())
+        .saturating_add(functions::line_count(&exceptions))
         .saturating_add(1);
     let mut text = Vec::with_capacity(alloc, lines.saturating_mul(LONGEST_LINE))?;
-    push_image_line(&mut text, &header.optional_header)?;
+    push_image_line(&mut text, optional)?;
     debug::push_lines(&mut text, &debug)?;
     certificates::push_lines(&mut text, &certificates)?;
+    functions::push_lines(&mut text, &exceptions)?;
     Ok(text)
 }
 
-/// Shows an image: its line, a line for each debug entry, and one for each certificate. The whole
+/// Shows an image: its line, and a line for each debug entry, certificate and x64 function. The whole
 /// text is made before any of it is written.
 pub fn report<A: Allocator, W: io::Write>(
     alloc: A,

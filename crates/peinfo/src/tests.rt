@@ -6,7 +6,7 @@ mod writers;
 
 use crate::counted_out::CountedOut;
 use crate::report::{ReportError, report};
-use images::{headers_alone, low_pointer, put, with_certificate, with_debug};
+use images::{headers_alone, low_pointer, put, with_certificate, with_debug, with_functions};
 use linked_list_allocator::LocalHeap;
 use pe_core::{Error, ParseMode, ParseOptions, Reason};
 use std::alloc::Global;
@@ -22,6 +22,12 @@ debug 16 0 00000000 00000000\n";
 const CERTIFICATE_LINES: &[u8] = b"image 64 entry 00001000 base 0000000140000000\n\
 debug 16 0 00000000 00000000\n\
 certificate 9 0200 0002\n";
+
+const FUNCTION_LINES: &[u8] = b"image 64 entry 00001000 base 0000000140000000\n\
+debug 16 0 00000000 00000000\n\
+certificate 9 0200 0002\n\
+function 00001000 00001010 00001020\n\
+function 00001020 00001040 00001001\n";
 
 const CUT_LINES: &[u8] = b"image 64 entry 00001000 base 0000000140000000\n\
 debug 16 0 00000000 00000000\n\
@@ -178,8 +184,36 @@ fn certificates_of_every_kind(rt: HostRuntime) -> Result<(), Fail> {
 }
 
 #[test]
+fn functions_of_images(rt: HostRuntime) -> Result<(), Fail> {
+    let alloc = rt.alloc();
+    let mut bytes = with_functions(alloc)?;
+    for mode in [ParseMode::Strict, ParseMode::Permissive] {
+        assert_eq!(rt; text(alloc, &bytes, mode)?.as_slice(), FUNCTION_LINES);
+    }
+    // A directory whose size is no whole number of entries, also before certificates that are refused.
+    put(&mut bytes, &[(0xE4, &[0x20])]);
+    assert_eq!(rt; refusal(alloc, &bytes), Some(Reason::ExceptionSize(32)));
+    assert_eq!(rt;
+        text(alloc, &bytes, ParseMode::Permissive)?.as_slice(),
+        CERTIFICATE_LINES
+    );
+    put(&mut bytes, &[(0xEC, &[0x11])]);
+    assert_eq!(rt; refusal(alloc, &bytes), Some(Reason::ExceptionSize(32)));
+    // Debug data are refused before exception data; on another machine there are none.
+    put(&mut bytes, &[(0xFC, &[0, 0, 1, 0])]);
+    assert_eq!(rt; refusal(alloc, &bytes), Some(Reason::DebugBounds(0x10240)));
+    let mut other = with_functions(alloc)?;
+    put(&mut other, &[(0x44, &[0x4C, 1])]);
+    assert_eq!(rt;
+        text(alloc, &other, ParseMode::Strict)?.as_slice(),
+        CERTIFICATE_LINES
+    );
+    Ok(())
+}
+
+#[test]
 fn each_request_for_memory_refused(rt: HostRuntime) -> Result<(), Fail> {
-    let bytes = with_certificate(rt.alloc())?;
+    let bytes = with_functions(rt.alloc())?;
     let opts = ParseOptions::default();
     let mut is_done = false;
     for size in [0usize, 16, 32, 48, 64, 96, 128, 160, 192, 256, 320, 512] {
@@ -188,7 +222,7 @@ fn each_request_for_memory_refused(rt: HostRuntime) -> Result<(), Fail> {
         match report(&heap, &bytes, &opts, &mut out) {
             Ok(()) => {
                 is_done = true;
-                assert_eq!(rt; out.into_inner().as_slice(), CERTIFICATE_LINES);
+                assert_eq!(rt; out.into_inner().as_slice(), FUNCTION_LINES);
             }
             Err(refusal) => {
                 assert!(rt; !is_done && matches!(refusal, ReportError::Parse(Error::Memory(_))));

@@ -77,6 +77,24 @@ pub fn with_certificate(alloc: Global) -> Result<Vec<u8>, AllocError> {
     Ok(bytes)
 }
 
+/// The same with a table of two functions.
+pub fn with_functions(alloc: Global) -> Result<Vec<u8>, AllocError> {
+    let mut bytes = with_certificate(alloc)?;
+    let functions = [
+        0, 0x10, 0, 0, 0x10, 0x10, 0, 0, 0x20, 0x10, 0, 0, 0x20, 0x10, 0, 0, 0x40, 0x10, 0, 0, 1,
+        0x10, 0, 0,
+    ];
+    put(
+        &mut bytes,
+        &[
+            (0xE0, &[0, 0x10, 0, 0, 0x18, 0, 0, 0]),
+            (0x200, &functions),
+            (0x220, &[1, 4, 2, 0, 4, 0x42, 1, 0x50]),
+        ],
+    );
+    Ok(bytes)
+}
+
 /// An image whose header's pointer is below 64, without an optional header.
 pub fn low_pointer(alloc: Global) -> Result<Vec<u8>, AllocError> {
     image(

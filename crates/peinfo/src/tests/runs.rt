@@ -1,7 +1,7 @@
 //! Runs of the program on a system in memory.
 
 use super::fake::{ENDLESS, FOLDER, FakeSystem, IMAGE};
-use super::images::{headers_alone, low_pointer, put, with_debug};
+use super::images::{headers_alone, low_pointer, put, with_debug, with_functions};
 use crate::input::{ReadError, read_all};
 use crate::run;
 use linked_list_allocator::LocalHeap;
@@ -54,6 +54,8 @@ fn shows_images(rt: HostRuntime) -> Result<(), Fail> {
     let permissive = ["list", IMAGE, "--permissive"].as_slice();
     let headers = headers_alone(alloc)?;
     assert!(rt; shows(alloc, &headers, strict, super::HEADERS_LINE)?);
+    let functions = with_functions(alloc)?;
+    assert!(rt; shows(alloc, &functions, strict, super::FUNCTION_LINES)?);
     let mut debug = with_debug(alloc)?;
     assert!(rt; shows(alloc, &debug, strict, super::DEBUG_LINES)?);
     put(&mut debug, &[(0xFC, &[0, 0, 1, 0])]);
