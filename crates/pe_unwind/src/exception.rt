@@ -2,14 +2,13 @@
 
 ghost use Rattle.std.specs.Prelude.{◌+◌, ◌≤◌, length};
 
-use crate::function_table::{RuntimeFunction, RuntimeFunctionIterator, read_function, search};
+use crate::function_table::{
+    RuntimeFunction, RuntimeFunctionIterator, SIZE_OF_FUNCTION, read_function, search,
+};
 use crate::unwind_info::UnwindInfo;
 use pe_core::{
     CountedTable, DataDirectory, Error, ParseOptions, Reason, Result, SectionTable, find_offset,
 };
-
-/// The bytes of an entry for x64.
-const SIZE_OF_FUNCTION: usize = 12;
 
 /// The exception directory of an image: its function table, and the bytes in which its records stand.
 #[derive(Debug, Drop)]
@@ -22,7 +21,7 @@ pub struct ExceptionData<'a> {
 }
 
 impl<'a> ExceptionData<'a> {
-    ghost use Rattle.std.specs.Prelude.{◌≡◌, ◌+◌, ◌-◌, ◌*◌, ◌/◌, ◌%◌, ◌<◌, ◌≤◌, ◌==◌, ◌↔◌, ℕ, length, Err, IsOkAnd};
+    ghost use Rattle.std.specs.Prelude.{◌≡◌, ◌%◌, ◌==◌, ◌↔◌, length, Err, IsOkAnd};
     ghost use Rattle.std.specs.Option.{option_map};
     ghost use Rattle.pe_core.specs.Options.{default_options};
     ghost use Rattle.pe_core.specs.Refusals.{Gives, FunctionCycle};
@@ -66,7 +65,7 @@ impl<'a> ExceptionData<'a> {
             virtual_address,
             size,
         } = directory;
-        if size % 12 != 0 {
+        if size as usize % SIZE_OF_FUNCTION != 0 {
             return Err(Error::Malformed(Reason::ExceptionSize(size)));
         }
         let Some(offset) = find_offset(virtual_address as usize, sections, file_alignment, opts)

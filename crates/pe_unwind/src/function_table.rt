@@ -1,15 +1,15 @@
 //! The function table: its entries, and the lookup of the one that covers an address.
 
-ghost use Rattle.std.specs.Prelude.{◌≡◌, ◌+◌, ◌-◌, ◌*◌, ◌/◌, ◌^◌, ◌<◌, ◌≤◌, ℕ, length, IfSome, Some};
-ghost use Rattle.std.specs.Iterator.{at_most, UpTo, YieldsFirstBy, item_count};
+ghost use Rattle.std.specs.Prelude.{◌≡◌, ◌+◌, ◌/◌, ◌≤◌, length, IfSome, Some};
+ghost use Rattle.std.specs.Iterator.{UpTo, YieldsFirstBy, item_count};
 ghost use Rattle.std.specs.Iterator.SizeHint.{IsWithinCount};
 ghost use Rattle.pe_core.specs.CountedTable.{after_read};
-ghost use Rattle.pe_unwind.specs.FunctionTable.{function_at, functions, function_items, items_of_functions, answer_of, digits, Finds};
+ghost use Rattle.pe_unwind.specs.FunctionTable.{function_at, functions, function_items, items_of_functions, answer_of, Finds, digits};
 
 use pe_core::{CountedTable, Error, Result, number32};
 
 /// The bytes of one entry.
-const SIZE_OF_FUNCTION: usize = 12;
+pub const SIZE_OF_FUNCTION: usize = 12;
 
 /// An entry of the function table: the addresses that a function covers, and where its unwind record stands.
 #[derive(Clone, Copy, Debug, Default, PartialEq)]

@@ -56,6 +56,11 @@ impl Register {
 }
 
 impl fmt::Display for Register {
+    ghost use Rattle.std.specs.Prelude.{Some};
+    ghost use Rattle.pe_unwind.specs.Registers.{register_name};
+
+    ghost output = { λ r. Some (register_name r.0) };
+
     fn fmt<W: fmt::Write>(&self, f: &mut fmt::Formatter<W>) -> fmt::Result {
         f.write_str(self.name())
     }
