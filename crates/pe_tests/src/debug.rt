@@ -260,6 +260,13 @@ fn bounds_of_the_table(rt: HostRuntime) -> std::result::Result<(), Fail> {
         let unmapped = DebugData::parse(&bytes, dd, &[], 512).err();
         assert!(rt; matches!(unmapped, Some(Error::Malformed(Reason::Unmapped(_)))));
     }
+    Ok(())
+}
+
+/// A byte behind five whole entries is a sixth that is cut.
+#[test]
+fn counts_a_cut_entry(rt: HostRuntime) -> std::result::Result<(), Fail> {
+    let bytes = five_entries(rt.alloc(), PDB70, 30)?;
     let cut = DataDirectory {
         virtual_address: 0,
         size: 141,
