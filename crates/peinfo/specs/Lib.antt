@@ -4,6 +4,7 @@ pub mod Modes
 pub mod DebugEntries
 pub mod CertificateLines
 pub mod FunctionLines
+pub mod Parts
 pub mod Report
 pub mod Command
 pub mod Reading

@@ -1,16 +1,16 @@
 -- The text that is shown of an image.
 use Rattle.std.specs.Prelude.{◌≡◌, ℕ, ◌+◌, ◌++◌, ◌==◌, List, Option, Some, None, Result, Ok, Err, codes, if◌then◌else◌}
 use Rattle.std.specs.Io.KnownBytes.{Appends, Keeps}
-use Rattle.pe_core.specs.Header.{OptionalHeaderView, header_at}
+use Rattle.pe_core.specs.Header.{OptionalHeaderView}
 use Rattle.pe_core.specs.Refusals.{Refusal, ◌>>=◌, UnlessMemory, kind_of}
-use Rattle.pe_core.specs.Sections.{sections_at}
 use Rattle.pe_core.specs.declared.options.ParseOptions.{ParseOptions}
 use Rattle.peinfo.specs.declared.report.ReportError.{ReportError}
 use Rattle.peinfo.specs.declared.report.ReportError.TheVariants.{Parse, Write}
-use Rattle.peinfo.specs.CertificateLines.{shown_certificates, certificate_lines}
-use Rattle.peinfo.specs.DebugEntries.{shown_debug, debug_lines}
-use Rattle.peinfo.specs.FunctionLines.{shown_exceptions, function_lines}
+use Rattle.peinfo.specs.CertificateLines.{certificate_lines}
+use Rattle.peinfo.specs.DebugEntries.{debug_lines}
+use Rattle.peinfo.specs.FunctionLines.{function_lines}
 use Rattle.peinfo.specs.Hex.{hex}
+use Rattle.peinfo.specs.Parts.{parts_of}
 use Rattle.peinfo.specs.Output.{AppendsBeginning, RoseOrFull}
 
 -- by the optional header's magic number
@@ -25,15 +25,11 @@ unfoldable pub image_line : Option OptionalHeaderView → List ℕ
 image_line None = image_text (codes "32") 0 0
 image_line (Some o) = image_text (width_text o.standard_fields.magic) o.standard_fields.address_of_entry_point o.windows_fields.image_base
 
--- the whole text, or the first refusal: of the header, of the sections, of the debug data, of the exception data, of the certificates
+-- the whole text, or the refusal of the image
 unfoldable pub report_text : List ℕ → ParseOptions → Result (List ℕ) Refusal
 report_text b opts = do
-  header ← header_at b opts.parse_mode
-  sections ← sections_at b (header.dos_header.pe_pointer + 24 + header.coff_header.size_of_optional_header) header.coff_header.number_of_sections
-  debug ← shown_debug b opts sections header.optional_header
-  exceptions ← shown_exceptions b opts sections header.coff_header.machine header.optional_header
-  certificates ← shown_certificates b opts header.optional_header
-  Ok (image_line header.optional_header ++ debug_lines debug ++ certificate_lines certificates ++ function_lines exceptions)
+  parts ← parts_of b opts
+  Ok (image_line parts.optional_header ++ debug_lines parts.debug ++ certificate_lines parts.certificates ++ function_lines parts.exceptions)
 
 -- what a call did to known bytes and to the count of failures
 abbrev pub Reports : Result (Unit {0}) ReportError → Result (List ℕ) Refusal → Option (List ℕ) → Option (List ℕ) → ℕ → ℕ → Type 0

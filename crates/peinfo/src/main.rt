@@ -8,6 +8,7 @@ mod debug;
 mod digits;
 mod functions;
 mod input;
+mod parts;
 mod report;
 
 ghost use Rattle.std.specs.Prelude.{◌≡◌, ◌↔◌, ◌≤◌, ◌≢◌, map, IsNone};

@@ -6,8 +6,9 @@ ghost use Rattle.pe_core.specs.Refusals.{GivesUnlessMemory};
 
 use crate::counted_out::{CountedOut, put_all};
 use crate::digits::{hex_8, hex_16};
+use crate::parts::Parts;
 use crate::{certificates, debug, functions};
-use pe_core::{Error, Header, MAGIC_64, OptionalHeader, ParseOptions};
+use pe_core::{Error, MAGIC_64, OptionalHeader, ParseOptions};
 use std::alloc::{AllocError, Allocator};
 use std::io;
 
@@ -73,29 +74,16 @@ fn text_of<A: Allocator + Copy>(
 ) -> pe_core::Result<Vec<u8, A>>
     ensures { GivesUnlessMemory (λ text. text.items) result (report_text bytes.now opts.now) }
 {
-    let header = Header::parse_with_opts(bytes, opts)?;
-    let coff = &header.coff_header;
-    let place = header.dos_header.pe_pointer as usize + 24 + coff.size_of_optional_header as usize;
-    let optional = &header.optional_header;
-    let (debug, exceptions) = {
-        let sections = coff.sections(alloc, bytes, place)?;
-        let debug = debug::shown_debug(bytes, opts, &sections, optional)?;
-        let machine = coff.machine;
-        (
-            debug,
-            functions::shown_exceptions(bytes, opts, &sections, machine, optional)?,
-        )
-    };
-    let certificates = certificates::shown(alloc, bytes, opts, optional)?;
-    let lines = debug::line_count(&debug)
-        .saturating_add(certificates.len())
-        .saturating_add(functions::line_count(&exceptions))
+    let parts = Parts::read(alloc, bytes, opts)?;
+    let lines = debug::line_count(&parts.debug)
+        .saturating_add(parts.certificates.len())
+        .saturating_add(functions::line_count(&parts.exceptions))
         .saturating_add(1);
     let mut text = Vec::with_capacity(alloc, lines.saturating_mul(LONGEST_LINE))?;
-    push_image_line(&mut text, optional)?;
-    debug::push_lines(&mut text, &debug)?;
-    certificates::push_lines(&mut text, &certificates)?;
-    functions::push_lines(&mut text, &exceptions)?;
+    push_image_line(&mut text, &parts.optional_header)?;
+    debug::push_lines(&mut text, &parts.debug)?;
+    certificates::push_lines(&mut text, &parts.certificates)?;
+    functions::push_lines(&mut text, &parts.exceptions)?;
     Ok(text)
 }
 
