@@ -5,3 +5,5 @@ pub mod Words
 pub mod Writing
 pub mod Lines
 pub mod FunctionItems
+pub mod FindTexts
+pub mod Numbers

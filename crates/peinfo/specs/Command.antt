@@ -1,5 +1,5 @@
 -- What the words of the command line ask for.
-use Rattle.std.specs.Prelude.{ℕ, List, [], ◌∷◌, Option, Some, None, codes, if◌then◌else◌}
+use Rattle.std.specs.Prelude.{ℕ, ◌+◌, ◌-◌, ◌*◌, ◌&&◌, ◌||◌, Bool, List, [], ◌∷◌, length, Option, Some, None, codes, nat_le, option_and_then, if◌then◌else◌}
 use Rattle.std.specs.Option.{option_map}
 use Rattle.std.specs.Str.{bytes_eq}
 use Rattle.pe_core.specs.declared.options.ParseMode.{ParseMode}
@@ -7,13 +7,14 @@ use Rattle.pe_core.specs.declared.options.ParseMode.TheVariants.{Strict, Permiss
 use Rattle.peinfo.specs.declared.command.Command.{Command}
 use Rattle.peinfo.specs.declared.command.Command.TheVariants as commands
 
--- the image of this file is to be shown
-pub record Asked : Type 0 where
-  pub file : List ℕ
-  pub mode : ParseMode
+-- the image of a file is to be shown in a mode, or the function that covers an address of it
+pub data Asked : Type 0 where
+  ListOf : List ℕ → ParseMode → Asked
+  FunctionAt : List ℕ → ℕ → Asked
 
 abbrev pub asked_by : Command → Asked
-asked_by (commands.List file mode) = record { file = file.now; mode = mode }
+asked_by (commands.List file mode) = ListOf file.now mode
+asked_by (commands.At file rva) = FunctionAt file.now rva
 
 -- nothing after the file, or `--permissive`
 abbrev pub mode_of : List (List ℕ) → Option ParseMode
@@ -21,9 +22,36 @@ mode_of [] = Some Strict
 mode_of (word ∷ []) = if bytes_eq word (codes "--permissive") then Some Permissive else None
 mode_of (word ∷ more ∷ rest) = None
 
--- `list FILE` or `list FILE --permissive`, and nothing else
+-- a code is one of these, from the first to the last
+abbrev pub is_between : ℕ → ℕ → ℕ → Bool
+is_between first last code = nat_le first code && nat_le code last
+
+-- the value of a hexadecimal digit of either case: 48 is `0`, 65 is `A`, 97 is `a`
+unfoldable pub digit_of : ℕ → Option ℕ
+digit_of code =
+    if is_between 48 57 code then Some (code - 48)
+    else (if is_between 65 70 code then Some (code - 55)
+    else (if is_between 97 102 code then Some (code - 87) else None))
+
+-- the number that these digits make behind a number that others made
+unfoldable pub number_behind : ℕ → List ℕ → Option ℕ
+number_behind front [] = Some front
+number_behind front (code ∷ codes) = option_and_then (λ digit. number_behind (16 * front + digit) codes) (digit_of code)
+
+-- one to eight hexadecimal digits
+abbrev pub rva_of : List ℕ → Option ℕ
+rva_of word = if nat_le 1 (length word) && nat_le (length word) 8 then number_behind 0 word else None
+
+-- one word after the file, an address
+abbrev pub rva_word : List (List ℕ) → Option ℕ
+rva_word [] = None
+rva_word (word ∷ []) = rva_of word
+rva_word (word ∷ more ∷ rest) = None
+
+-- `list FILE`, `list FILE --permissive` or `at FILE HEXRVA`, and nothing else
 abbrev pub asked_of : List (List ℕ) → Option Asked
 asked_of [] = None
 asked_of (name ∷ []) = None
 asked_of (name ∷ file ∷ rest) =
-    if bytes_eq name (codes "list") then option_map (λ mode. record { file = file; mode = mode }) (mode_of rest) else None
+    if bytes_eq name (codes "list") then option_map (λ mode. ListOf file mode) (mode_of rest)
+    else (if bytes_eq name (codes "at") then option_map (λ rva. FunctionAt file rva) (rva_word rest) else None)

@@ -8,3 +8,4 @@ pub mod Parts
 pub mod Report
 pub mod Command
 pub mod Reading
+pub mod Find

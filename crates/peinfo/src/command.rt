@@ -1,6 +1,6 @@
 //! What the words of the command line ask for.
 
-ghost use Rattle.std.specs.Prelude.{◌≡◌, map};
+ghost use Rattle.std.specs.Prelude.{◌≡◌, ◌*◌, ◌<◌, ◌≤◌, ◌^◌, length, map, IfSome};
 ghost use Rattle.std.specs.Option.{option_map};
 ghost use Rattle.std.specs.String.{string_bytes};
 
@@ -11,9 +11,11 @@ use pe_core::ParseMode;
 pub enum Command<'a> {
     /// Shows the image in a file.
     List { file: &'a str, mode: ParseMode },
+    /// Shows the function that covers an address of the image in a file.
+    At { file: &'a str, rva: u32 },
 }
 
-ghost use Rattle.peinfo.specs.Command.{mode_of, asked_of, asked_by};
+ghost use Rattle.peinfo.specs.Command.{mode_of, asked_of, asked_by, digit_of, number_behind, rva_of, rva_word};
 
 /// The mode that the words after the file ask for.
 #[tactic(auto, using(crate::proofs::Words::shapes))]
@@ -27,6 +29,55 @@ fn mode_of(words: &[String]) -> Option<ParseMode>
     }
 }
 
+/// The value of a hexadecimal digit of either case.
+#[tactic(auto, unfolding(crate::specs::Command::digit_of))]
+fn digit_of(code: u8) -> Option<u8>
+    ensures value { result ≡ digit_of code }
+    ensures small { IfSome result (λ digit. digit < 16) }
+{
+    match code {
+        b'0'..=b'9' => Some(code - b'0'),
+        b'A'..=b'F' => Some(code - b'A' + 10),
+        b'a'..=b'f' => Some(code - b'a' + 10),
+        _ => None,
+    }
+}
+
+/// The number of at most eight hexadecimal digits.
+#[tactic(auto, using(crate::proofs::Numbers::steps), unfolding(crate::specs::Command::number_behind))]
+fn number_of(digits: &[u8]) -> Option<u32>
+    requires { length digits.now ≤ 8 }
+    ensures { result ≡ number_behind 0 digits.now }
+{
+    let mut number = 0u64;
+    for code in digits {
+        let digit = digit_of(*code)?;
+        number = 16 * number + u64::from(digit);
+    }
+    Some(number as u32)
+}
+
+/// The address that a word of one to eight hexadecimal digits tells.
+fn rva_of(word: &[u8]) -> Option<u32>
+    ensures { result ≡ rva_of word.now }
+{
+    if word.is_empty() || word.len() > 8 {
+        return None;
+    }
+    number_of(word)
+}
+
+/// The address that the words after the file tell, if they are one word.
+#[tactic(auto, using(crate::proofs::Words::shapes))]
+fn rva_of_words(words: &[String]) -> Option<u32>
+    ensures { result ≡ rva_word (map string_bytes words.now) }
+{
+    match words {
+        [word] => rva_of(word.as_bytes()),
+        _ => None,
+    }
+}
+
 /// The command of the words after the program's name. None where they are misused.
 #[tactic(auto, using(crate::proofs::Words::shapes))]
 pub fn command_of<'a>(words: &'a [String]) -> Option<Command<'a>>
@@ -36,6 +87,10 @@ pub fn command_of<'a>(words: &'a [String]) -> Option<Command<'a>>
         [name, file, rest @ ..] if name.as_str() == "list" => {
             let mode = mode_of(rest)?;
             Some(Command::List { file, mode })
+        }
+        [name, file, rest @ ..] if name.as_str() == "at" => {
+            let rva = rva_of_words(rest)?;
+            Some(Command::At { file, rva })
         }
         _ => None,
     }

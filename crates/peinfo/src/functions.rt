@@ -60,8 +60,9 @@ fn line_end(begin: u32, end: u32, unwind: u32) -> [u8; 27]
     line
 }
 
+/// Adds the line of a function.
 #[tactic(auto, unfolding(crate::specs::FunctionLines::function_line))]
-fn push_line<A: Allocator>(
+pub(crate) fn push_line<A: Allocator>(
     text: &mut Vec<u8, A>,
     function: &RuntimeFunction,
 ) -> Result<(), AllocError>

@@ -1,0 +1,78 @@
+//! The function that covers an address.
+
+ghost use Rattle.std.specs.Prelude.{◌≡◌, ◌++◌, OnOk};
+ghost use Rattle.std.specs.Option.{option_map};
+ghost use Rattle.pe_core.specs.Options.{default_options};
+ghost use Rattle.pe_unwind.specs.ExceptionTable.{exception_view};
+ghost use Rattle.pe_unwind.specs.FunctionTable.{Finds};
+ghost use Rattle.peinfo.specs.Find.{functions_of, found_line, GivesFindText, FindReports};
+ghost use Rattle.peinfo.specs.Output.{writer_of, failures_of};
+ghost use Rattle.peinfo.specs.Parts.{parts_of};
+
+use crate::counted_out::{CountedOut, put_all};
+use crate::functions;
+use crate::parts::Parts;
+use crate::report::ReportError;
+use pe_core::ParseOptions;
+use pe_unwind::{ExceptionData, RuntimeFunction};
+use std::alloc::{AllocError, Allocator};
+use std::io;
+
+/// The function that covers the address, if exception data have one.
+#[tactic(auto, using(crate::proofs::FindTexts::nothing_found))]
+fn found_in(exceptions: &Option<ExceptionData>, rva: u32) -> Option<RuntimeFunction>
+    ensures { Finds (functions_of (option_map exception_view exceptions.now)) rva result }
+{
+    match exceptions {
+        None => None,
+        Some(exceptions) => match exceptions.find_function(rva) {
+            Ok(found) => found,
+            Err(_) => None,
+        },
+    }
+}
+
+/// Adds the line of a function that is found, or `none`.
+fn push_found<A: Allocator>(
+    text: &mut Vec<u8, A>,
+    found: Option<RuntimeFunction>,
+) -> Result<(), AllocError>
+    ensures { OnOk result (text.new.items ≡ text.old.items ++ found_line found) }
+{
+    match found {
+        None => text.extend_from_slice(b"none\n"),
+        Some(function) => functions::push_line(text, &function),
+    }
+}
+
+/// The line of the function that covers the address, or the refusal of the image.
+#[tactic(auto, using(crate::proofs::FindTexts::find_text))]
+fn text_of<A: Allocator + Copy>(alloc: A, bytes: &[u8], rva: u32) -> pe_core::Result<Vec<u8, A>>
+    ensures { GivesFindText result (parts_of bytes.now default_options) rva }
+{
+    let parts = Parts::read(alloc, bytes, &ParseOptions::default())?;
+    let found = found_in(&parts.exceptions, rva);
+    let mut text = Vec::new(alloc);
+    push_found(&mut text, found)?;
+    Ok(text)
+}
+
+/// Shows the x64 function that covers an address of the image, or `none`. The image is read strictly, with the default
+/// options.
+pub fn find<A: Allocator, W: io::Write>(
+    alloc: A,
+    bytes: &[u8],
+    rva: u32,
+    out: &mut CountedOut<W>,
+) -> Result<(), ReportError>
+    ensures { FindReports result (parts_of bytes.now default_options) rva
+        (W.contents (writer_of out.old)) (W.contents (writer_of out.new))
+        (failures_of out.old) (failures_of out.new) }
+{
+    let text = text_of(&alloc, bytes, rva).map_err(ReportError::Parse)?;
+    if put_all(out, &text) {
+        Ok(())
+    } else {
+        Err(ReportError::Write)
+    }
+}
