@@ -5,6 +5,7 @@ mod runs;
 mod writers;
 
 use crate::counted_out::CountedOut;
+use crate::find::find;
 use crate::report::{ReportError, report};
 use images::{headers_alone, low_pointer, put, with_certificate, with_debug, with_functions};
 use linked_list_allocator::LocalHeap;
@@ -232,5 +233,36 @@ fn each_request_for_memory_refused(rt: HostRuntime) -> Result<(), Fail> {
         }
     }
     assert!(rt; is_done);
+    Ok(())
+}
+
+#[test]
+fn functions_that_cover_an_address(rt: HostRuntime) -> Result<(), Fail> {
+    let alloc = rt.alloc();
+    let mut bytes = with_functions(alloc)?;
+    for (rva, want) in [
+        (0x0FFF, b"none\n".as_slice()),
+        (0x100F, b"function 00001000 00001010 00001020\n"),
+        (0x1010, b"none\n"),
+        (0x1025, b"function 00001020 00001040 00001001\n"),
+    ] {
+        let mut out = CountedOut::new(Vec::new(alloc));
+        find(alloc, &bytes, rva, &mut out)?;
+        assert_eq!(rt; out.failures(), 0);
+        assert_eq!(rt; out.into_inner().as_slice(), want);
+    }
+    // The image of another machine has no such functions; one that strict mode refuses is refused.
+    put(&mut bytes, &[(0x44, &[0x64, 0xAA])]);
+    let mut out = CountedOut::new(Vec::new(alloc));
+    find(alloc, &bytes, 0x1025, &mut out)?;
+    assert_eq!(rt; out.into_inner().as_slice(), b"none\n".as_slice());
+    put(&mut bytes, &[(0xEC, &[0x11])]);
+    let mut out = CountedOut::new(Vec::new(alloc));
+    let answer = find(alloc, &bytes, 0x1025, &mut out);
+    let table = Reason::CertificateTable(0x411);
+    assert!(rt;
+        matches!(answer, Err(ReportError::Parse(Error::Malformed(reason))) if reason == table)
+    );
+    assert!(rt; out.into_inner().is_empty());
     Ok(())
 }

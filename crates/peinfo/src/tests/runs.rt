@@ -66,6 +66,27 @@ fn shows_images(rt: HostRuntime) -> Result<(), Fail> {
 }
 
 #[test]
+fn shows_functions(rt: HostRuntime) -> Result<(), Fail> {
+    let alloc = rt.alloc();
+    let image = with_functions(alloc)?;
+    let second = b"function 00001020 00001040 00001001\n".as_slice();
+    for (rva, want) in [
+        ("1025", second),
+        ("103f", second),
+        ("103F", second),
+        ("00001025", second),
+        ("1010", b"none\n"),
+        ("FFFFFFFF", b"none\n"),
+        ("0", b"none\n"),
+    ] {
+        assert!(rt; shows(alloc, &image, &["at", IMAGE, rva], want)?, "{rva}");
+    }
+    let headers = headers_alone(alloc)?;
+    assert!(rt; shows(alloc, &headers, &["at", IMAGE, "1025"], b"none\n")?);
+    Ok(())
+}
+
+#[test]
 fn refuses_images(rt: HostRuntime) -> Result<(), Fail> {
     let alloc = rt.alloc();
     let asked = words(alloc, &["list", IMAGE])?;
@@ -94,7 +115,12 @@ fn judges_words_first(rt: HostRuntime) -> Result<(), Fail> {
         &["list", "--permissive", IMAGE],
         &["list", IMAGE, "--permissive", "--permissive"],
         &["show", IMAGE],
-        &["at", IMAGE, "1025"],
+        &["at", IMAGE],
+        &["at", IMAGE, ""],
+        &["at", IMAGE, "0x1025"],
+        &["at", IMAGE, "102g"],
+        &["at", IMAGE, "000001025"],
+        &["at", IMAGE, "1025", "--chain"],
         &["rewrite", IMAGE, "copy"],
     ] {
         let asked = words(alloc, texts)?;
