@@ -288,6 +288,11 @@ fn reads_records(rt: HostRuntime) -> Result<(), Fail> {
     let info = UnwindInfo::parse(&too_many, 0)?;
     assert!(rt; info.c_scope_table_entries().is_none());
 
+    Ok(())
+}
+
+#[test]
+fn reads_chained_and_framed_records(rt: HostRuntime) -> Result<(), Fail> {
     let chained = [0x29, 0, 0, 0, 0, 0x10, 0, 0, 0x10, 0x10, 0, 0, 1, 0, 0, 0];
     let info = UnwindInfo::parse(&chained, 0)?;
     assert_eq!(rt; info.chained_info, Some(entry(0x1000, 0x1010, 1)));
@@ -308,6 +313,11 @@ fn reads_records(rt: HostRuntime) -> Result<(), Fail> {
     );
     assert!(rt; info.c_scope_table_entries().is_none());
 
+    Ok(())
+}
+
+#[test]
+fn refuses_damaged_records(rt: HostRuntime) -> Result<(), Fail> {
     assert!(rt;
         matches!(
             UnwindInfo::parse(&[3], 0),
@@ -374,12 +384,11 @@ fn first_operation(
     }
 }
 
-/// Each line of the table of codes, for both versions, with a frame register and without.
+/// Each line of the table of codes that no version changes, with a frame register and without.
 #[test]
-fn reads_each_code(rt: HostRuntime) -> Result<(), Fail> {
+fn reads_codes_of_both_versions(rt: HostRuntime) -> Result<(), Fail> {
     use UnwindOperation::{
-        Alloc, Epilog, Noop, PushMachineFrame, PushNonVolatile, SaveNonVolatile, SaveXMM,
-        SaveXMM128, SetFPRegister,
+        Alloc, PushMachineFrame, PushNonVolatile, SaveNonVolatile, SaveXMM128, SetFPRegister,
     };
     let far = [9, 0x35, 4, 3, 2, 1];
     for version in [1, 2] {
@@ -409,6 +418,13 @@ fn reads_each_code(rt: HostRuntime) -> Result<(), Fail> {
         assert_eq!(rt; read(0, &[1, 0x1A])?, Some(PushMachineFrame(true)));
         assert_eq!(rt; read(0, &[1, 0x2A])?, None);
     }
+    Ok(())
+}
+
+/// The lines of opcodes 6 and 7, which each version reads in its own way.
+#[test]
+fn reads_codes_by_version(rt: HostRuntime) -> Result<(), Fail> {
+    use UnwindOperation::{Epilog, Noop, SaveXMM, SaveXMM128};
     let read = |version: u8, codes: &[u8]| first_operation(rt.alloc(), version, 0, codes);
     assert_eq!(rt;
         read(1, &[1, 0x66, 4, 3])?,
@@ -430,7 +446,7 @@ fn reads_each_code(rt: HostRuntime) -> Result<(), Fail> {
 }
 
 #[test]
-fn lists_codes_up_to_the_first_that_is_refused(rt: HostRuntime) -> Result<(), Fail> {
+fn lists_codes(rt: HostRuntime) -> Result<(), Fail> {
     let record = [1, 4, 2, 0, 4, 0x42, 1, 0x50];
     let info = UnwindInfo::parse(&record, 0)?;
     let mut codes = info.unwind_codes();
@@ -456,6 +472,11 @@ fn lists_codes_up_to_the_first_that_is_refused(rt: HostRuntime) -> Result<(), Fa
     assert_eq!(rt; codes.size_hint(), (0, Some(0)));
     assert!(rt; codes.next().is_none());
 
+    Ok(())
+}
+
+#[test]
+fn ends_at_the_first_code_that_is_refused(rt: HostRuntime) -> Result<(), Fail> {
     let bad = [1, 4, 1, 0, 4, 0x4B];
     let info = UnwindInfo::parse(&bad, 0)?;
     let mut codes = info.unwind_codes();
@@ -505,17 +526,19 @@ fn handler_data(bytes: &[u8], place: usize) -> Result<Option<&[u8]>, Error> {
     }
 }
 
+/// Where the function table of the image stands.
+const FUNCTIONS: DataDirectory = DataDirectory {
+    virtual_address: 0x1000,
+    size: 0x18,
+};
+
 #[test]
 fn unwinds_at_an_address_of_an_image(rt: HostRuntime) -> Result<(), Fail> {
     let bytes = image_with_functions(rt.alloc())?;
     let opts = ParseOptions::default();
     let header = Header::parse_with_opts(&bytes, &opts)?;
     let sections = header.coff_header.sections(rt.alloc(), &bytes, 0x148)?;
-    let directory = DataDirectory {
-        virtual_address: 0x1000,
-        size: 0x18,
-    };
-    let data = ExceptionData::parse(&bytes, directory, &sections, 0x200)?;
+    let data = ExceptionData::parse(&bytes, FUNCTIONS, &sections, 0x200)?;
     let Some(info) = data.unwind_at(0x1025, &sections, &opts)? else {
         return Err(Fail::new("no function"));
     };
@@ -533,9 +556,17 @@ fn unwinds_at_an_address_of_an_image(rt: HostRuntime) -> Result<(), Fail> {
     );
     assert!(rt; data.unwind_at(0x1010, &sections, &opts)?.is_none());
 
-    let handled = with_byte(bytes, 0x220, 9);
+    Ok(())
+}
+
+#[test]
+fn keeps_the_data_of_a_handler(rt: HostRuntime) -> Result<(), Fail> {
+    let handled = with_byte(image_with_functions(rt.alloc())?, 0x220, 9);
+    let opts = ParseOptions::default();
+    let header = Header::parse_with_opts(&handled, &opts)?;
+    let sections = header.coff_header.sections(rt.alloc(), &handled, 0x148)?;
     let kept = {
-        let again = ExceptionData::parse(&handled, directory, &sections, 0x200)?;
+        let again = ExceptionData::parse(&handled, FUNCTIONS, &sections, 0x200)?;
         let place = again.unwind_at(0x1025, &sections, &opts)?;
         match place.and_then(|found| found.handler) {
             Some(UnwindHandler::ExceptionHandler(_, behind)) => Some(behind),
