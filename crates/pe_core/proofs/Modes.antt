@@ -1,5 +1,5 @@
 -- What strict mode accepts, permissive mode accepts too.
-use Rattle.std.proofs.Common.{◌≡◌, ℕ, Bool, true, false, List, [], ◌∷◌, Result, Ok, Err, refl}
+use Rattle.std.proofs.Common.{◌≡◌, ℕ, Bool, true, false, List, [], ◌∷◌, Ok}
 use Rattle.std.specs.Prelude.{◌||◌, ◌==◌, ◌+◌, nat_le, if◌then◌else◌}
 use Rattle.pe_core.specs.Bytes.{le, holds}
 use Rattle.pe_core.specs.Records.{dos_header, coff_header}

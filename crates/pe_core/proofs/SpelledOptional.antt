@@ -1,6 +1,6 @@
 -- An optional header that is read at a place spells the bytes of that place.
-use Rattle.std.proofs.Common.{◌≡◌, ℕ, zero, suc, ◌+◌, ◌-◌, ◌*◌, ◌≤◌, Bool, true, false, cond, List, [], ◌∷◌, ◌++◌, length, Result, Ok, Err, refl, ap, sym, ◌∙◌, arith, append_assoc, add-one}
-use Rattle.std.specs.Prelude.{slice_range, ◌==◌, ◌||◌, min, nat_le}
+use Rattle.std.proofs.Common.{◌≡◌, ℕ, zero, suc, ◌+◌, ◌-◌, ◌*◌, ◌≤◌, Bool, true, false, List, [], ◌∷◌, ◌++◌, length, Ok, refl, ap, sym, ◌∙◌, arith}
+use Rattle.std.specs.Prelude.{slice_range, ◌==◌, ◌||◌}
 use Rattle.std.specs.List.{flat_map}
 use Rattle.std.proofs.lemmas.Bool.Decides.{nat_tests}
 use Rattle.std.proofs.lemmas.Grind.{flat_map-append}
@@ -8,11 +8,11 @@ use Rattle.std.proofs.lemmas.List.{append-nil, places}
 use Rattle.pe_core.proofs.NumberBytes.{range_join}
 use Rattle.pe_core.proofs.SpelledRecords.{spelled_standard32, spelled_standard64, spelled_windows32, spelled_windows64, spelled_directory}
 use Rattle.pe_core.specs.Bytes.{AreBytes, le, holds, range}
-use Rattle.pe_core.specs.Directories.{kept, directories}
+use Rattle.pe_core.specs.Directories.{kept}
 use Rattle.pe_core.specs.Header.{OptionalHeaderView, is_wide, directories_place, optional_header, optional_header_tests, optional_header_at}
 use Rattle.pe_core.specs.Records.{standard32, standard64, windows32, windows64, data_directory}
 use Rattle.pe_core.specs.Refusals.{Refusal, Short, BadMagic, outcome}
-use Rattle.pe_core.specs.Rows.{each, rows}
+use Rattle.pe_core.specs.Rows.{each}
 use Rattle.pe_core.specs.Spelling.{spell_standard32, spell_standard64, spell_windows32, spell_windows64, spell_directory, spell_optional}
 
 -- what is accepted passed its last test

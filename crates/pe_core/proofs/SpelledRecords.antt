@@ -1,5 +1,5 @@
 -- A record that is read at a place spells the bytes of that place.
-use Rattle.std.proofs.Common.{◌≡◌, ℕ, zero, suc, ◌+◌, ◌*◌, ◌≤◌, List, [], ◌∷◌, ◌++◌, length, refl, ap, sym, ◌∙◌, arith, append_assoc}
+use Rattle.std.proofs.Common.{◌≡◌, ℕ, ◌+◌, ◌≤◌, List, [], ◌∷◌, ◌++◌, length, refl, arith}
 use Rattle.std.specs.Prelude.{slice_range}
 use Rattle.pe_core.proofs.NumberBytes.{bytes_of-le, range_join}
 use Rattle.pe_core.specs.Bytes.{AreBytes, le, bytes_of, range}

@@ -1,12 +1,11 @@
 -- Steps from left to right are the first test that fails.
-use Rattle.std.proofs.Common.{◌≡◌, ℕ, ◌+◌, arith, Bool, true, false, cond, eqb, leb, List, [], ◌∷◌, ◌++◌, Option, Some, None, Result, Ok, Err, refl, ap, ◌∙◌}
-use Rattle.std.specs.Prelude.{◌==◌, ◌||◌, nat_le, slice_range}
-use Rattle.pe_core.specs.Bytes.{le, holds, record_at}
-use Rattle.pe_core.specs.Options.{is_permissive}
-use Rattle.pe_core.specs.Refusals.{Refusal, Short, BadMagic, HeaderPointer, outcome, ◌>>=◌}
+use Rattle.std.proofs.Common.{◌≡◌, ℕ, ◌+◌, arith, Bool, true, false, cond, List, [], ◌∷◌, Option, Some, None, Ok, refl, ap, ◌∙◌}
+use Rattle.std.specs.Prelude.{◌==◌, slice_range}
+use Rattle.pe_core.specs.Bytes.{le}
+use Rattle.pe_core.specs.Refusals.{Refusal, outcome, ◌>>=◌}
 use Rattle.pe_core.specs.Records.{dos_header, coff_header}
 use Rattle.pe_core.specs.Header.{OptionalHeaderView, HeaderView, optional_header_tests, optional_header, header_tests, header, header_at}
-use Rattle.pe_core.specs.HeaderSteps.{demand, header_in_steps}
+use Rattle.pe_core.specs.HeaderSteps.{header_in_steps}
 use Rattle.pe_core.specs.declared.options.ParseMode.{ParseMode}
 
 mapped : {A B : Type 0} (tests : List (Bool × Refusal)) (x : A) (f : A → B) → (outcome tests x >>= λ y. Ok (f y)) ≡ outcome tests (f x)

@@ -1,10 +1,10 @@
 -- The headers read from left to right, as the parser reads them. `proofs/Steps` proves that this is `header_at`.
-use Rattle.std.specs.Prelude.{ℕ, ◌+◌, ◌==◌, ◌||◌, Bool, Option, Some, None, List, Result, Ok, Err, nat_le, slice_range, if◌then◌else◌}
+use Rattle.std.specs.Prelude.{ℕ, ◌+◌, ◌==◌, ◌||◌, Bool, Some, None, List, Result, Ok, Err, nat_le, slice_range, if◌then◌else◌}
 use Rattle.pe_core.specs.Bytes.{le, record_at}
 use Rattle.pe_core.specs.Options.{is_permissive}
 use Rattle.pe_core.specs.Refusals.{Refusal, BadMagic, HeaderPointer, ◌>>=◌}
 use Rattle.pe_core.specs.Records.{dos_header, coff_header}
-use Rattle.pe_core.specs.Header.{OptionalHeaderView, HeaderView, optional_header_at}
+use Rattle.pe_core.specs.Header.{HeaderView, optional_header_at}
 use Rattle.pe_core.specs.declared.options.ParseMode.{ParseMode}
 
 -- goes on only if the test holds

@@ -1,5 +1,5 @@
 -- Section headers. (PE format: section table.)
-use Rattle.std.specs.Prelude.{ℕ, ◌+◌, ◌*◌, ◌<◌, ◌≤◌, ◌==◌, List, [], ◌∷◌, Option, Some, None, Result, if◌then◌else◌}
+use Rattle.std.specs.Prelude.{ℕ, ◌+◌, ◌*◌, ◌<◌, ◌≤◌, ◌==◌, List, Option, Some, None, Result, if◌then◌else◌}
 use Rattle.std.specs.List.{before_first}
 use Rattle.pe_core.specs.Bytes.{holds, range, record_at}
 use Rattle.pe_core.specs.Records.{section_table}

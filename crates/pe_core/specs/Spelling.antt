@@ -1,5 +1,5 @@
 -- Records as bytes: each field in its width, in the order in which the fields stand. (PE format.)
-use Rattle.std.specs.Prelude.{ℕ, List, [], ◌++◌, ◌==◌, if◌then◌else◌}
+use Rattle.std.specs.Prelude.{ℕ, List, ◌++◌, ◌==◌, if◌then◌else◌}
 use Rattle.std.specs.List.{flat_map}
 use Rattle.pe_core.specs.Bytes.{bytes_of}
 use Rattle.pe_core.specs.Header.{OptionalHeaderView}

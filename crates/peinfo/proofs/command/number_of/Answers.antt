@@ -1,4 +1,4 @@
-use Rattle.std.proofs.Common.{◌<◌, ◌≤◌, ◌^◌, arith}
+use Rattle.std.proofs.Common.{◌<◌, ◌^◌, arith}
 use Rattle.peinfo.proofs.Numbers.{power_small}
 use Rattle.peinfo.proofs.command.number_of.Goals as goal
 

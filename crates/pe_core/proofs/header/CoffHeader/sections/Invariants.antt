@@ -1,4 +1,4 @@
-use Rattle.std.proofs.Common.{◌≡◌, ◌+◌, ◌*◌}
+use Rattle.std.proofs.Common.{◌≡◌}
 use Rattle.pe_core.specs.Records.{section_table}
 use Rattle.pe_core.specs.Rows.{rows}
 use Rattle.pe_core.proofs.header.CoffHeader.sections.Given as goal
