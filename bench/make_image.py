@@ -1,10 +1,10 @@
 #!/usr/bin/env python3
 """Makes PE32+ images to measure on, and the text that `peinfo list` has to print of them.
 
-    bench/make_image.py ENTRIES BYTES FILE
+    bench/make_image.py ENTRIES BYTES FILE [FUNCTIONS]
 
-The image has one section, .rdata, with a debug table of ENTRIES entries, and is filled up to BYTES bytes if that is
-more. Without entries it has no debug directory. Every field of an entry is other than zero and varies from entry
+The image has one section, .rdata, with a debug table of ENTRIES entries and behind it a function table of FUNCTIONS
+entries, and is filled up to BYTES bytes if that is more. Without entries a table has no directory. Every field of an entry is other than zero and varies from entry
 to entry. The types are of those that have no record of their own to be read (as CodeView's have), and pointers
 and addresses lie in the section, so that other readers take the image too.
 """
@@ -16,6 +16,7 @@ HEADERS = 0x200
 ADDRESS = 0x1000
 BASE = 0x140000000
 ROW = 28
+FUNCTION = 12
 # COFF, FPO, misc, exception, fixup, omap (two), Borland, class id, ILTCG, MPX, portable PDB, PDB checksum, perfmap.
 TYPES = [1, 3, 4, 5, 6, 7, 8, 9, 11, 14, 15, 17, 19, 21]
 
@@ -32,14 +33,20 @@ def entry(i, room):
             ADDRESS + place, HEADERS + place)
 
 
-def raw_size(entries, total):
-    return rounded_up(max(entries * ROW, total - HEADERS, 0x200), 0x200)
+def function(i):
+    """The three fields of function i: functions stand one behind the other."""
+    return (ADDRESS + 16 * i, ADDRESS + 16 * i + 16, ADDRESS + i % 0x4000 * 4)
 
 
-def image(entries, total):
+def raw_size(entries, total, functions=0):
+    return rounded_up(max(entries * ROW + functions * FUNCTION, total - HEADERS, 0x200), 0x200)
+
+
+def image(entries, total, functions=0):
     """The bytes of an image."""
-    raw = raw_size(entries, total)
+    raw = raw_size(entries, total, functions)
     table = b"".join(struct.pack("<IIHHIIII", *entry(i, raw)) for i in range(entries))
+    table += b"".join(struct.pack("<III", *function(i)) for i in range(functions))
     # What follows the table is no zeros, so that no file system keeps holes in its place.
     piece = bytes((i * 167 + 13) % 251 + 1 for i in range(65536))
     body = (table + piece * ((raw - len(table)) // len(piece) + 1))[:raw]
@@ -52,27 +59,32 @@ def image(entries, total):
     directories = [(0, 0)] * 16
     if entries:
         directories[6] = (ADDRESS, entries * ROW)
+    if functions:
+        directories[3] = (ADDRESS + entries * ROW, functions * FUNCTION)
     section = struct.pack("<8sIIIIIIHHI", b".rdata", raw, ADDRESS, raw, HEADERS, 0, 0, 0, 0, 0x40000040)
     head = dos + b"PE\0\0" + coff + standard + windows + b"".join(struct.pack("<II", *d) for d in directories) + section
     return head.ljust(HEADERS, b"\0") + body
 
 
-def listing(entries, total):
+def listing(entries, total, functions=0):
     """What `peinfo list` prints of it."""
-    raw = raw_size(entries, total)
+    raw = raw_size(entries, total, functions)
     lines = [f"image 64 entry {ADDRESS:08x} base {BASE:016x}\n"]
     for i in range(entries):
         *_, kind, size, address, pointer = entry(i, raw)
         lines.append(f"debug {kind} {size} {address:08x} {pointer:08x}\n")
+    for i in range(functions):
+        begin, end, unwind = function(i)
+        lines.append(f"function {begin:08x} {end:08x} {unwind:08x}\n")
     return "".join(lines)
 
 
 def main(words):
-    if len(words) != 3 or not all(word.isdecimal() for word in words[:2]):
-        print("usage: bench/make_image.py ENTRIES BYTES FILE", file=sys.stderr)
+    if len(words) not in (3, 4) or not all(word.isdecimal() for word in words[:2] + words[3:]):
+        print("usage: bench/make_image.py ENTRIES BYTES FILE [FUNCTIONS]", file=sys.stderr)
         return 2
     with open(words[2], "wb") as file:
-        file.write(image(int(words[0]), int(words[1])))
+        file.write(image(int(words[0]), int(words[1]), *map(int, words[3:])))
     return 0
 
 
