@@ -11,7 +11,7 @@ use Rattle.pe_unwind.specs.declared.scope_table.ScopeTableEntry.{ScopeTableEntry
 use Rattle.pe_unwind.specs.FunctionTable.{function_at, functions, function_items}
 use Rattle.pe_unwind.specs.ScopeTable.{scope_at, scopes}
 
-le_behind : (b : List ℕ) (k p q n : ℕ) → q ≡ k + p → le (drop k b) p n ≡ le b q n
+pub le_behind : (b : List ℕ) (k p q n : ℕ) → q ≡ k + p → le (drop k b) p n ≡ le b q n
 unfolding le
 le_behind b k p q zero e = refl
 le_behind b k p q (suc n) e =
@@ -26,7 +26,7 @@ scope_behind : (b : List ℕ) (p q : ℕ) → q ≡ 16 + p → scope_at (drop 16
 scope_behind b p q e =
     simp (le_behind b 16 p q 4 e, le_behind b 16 (p + 4) (q + 4) 4 (omega arith), le_behind b 16 (p + 8) (q + 8) 4 (omega arith), le_behind b 16 (p + 12) (q + 12) 4 (omega arith))
 
-moved : {X : Type 0} (f g : ℕ → X) (a n : ℕ) → ((i : ℕ) → f (i + 1) ≡ g i) → map f (range_with_len (a + 1) n) ≡ map g (range_with_len a n)
+pub moved : {X : Type 0} (f g : ℕ → X) (a n : ℕ) → ((i : ℕ) → f (i + 1) ≡ g i) → map f (range_with_len (a + 1) n) ≡ map g (range_with_len a n)
 moved f g a zero h = refl
 moved {X} f g a (suc n) h = ap (λ (x : X). x ∷ map f (range_with_len (a + 1 + 1) n)) (h a) ∙ ap (λ (xs : List X). g a ∷ xs) (moved f g (a + 1) n h)
 
