@@ -8,3 +8,4 @@ pub mod ExceptionTable
 pub mod Chains
 pub mod Links
 pub mod Unwinding
+pub mod Arm64Words
