@@ -1,4 +1,5 @@
 pub mod Registers
+pub mod TableEntries
 pub mod FunctionTable
 pub mod ScopeTable
 pub mod UnwindCodes
