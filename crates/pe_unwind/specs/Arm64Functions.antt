@@ -1,8 +1,9 @@
 -- The ARM64 function table. (ARM64 exception handling: .pdata records.)
-use Rattle.std.specs.Prelude.{ℕ, ◌*◌, ◌+◌, ◌/◌, ◌%◌, ◌==◌, List, [], ◌∷◌, ◌++◌, Result, Ok, Err, if◌then◌else◌, map, length, nat_lt}
-use Rattle.std.specs.List.{range_with_len}
+use Rattle.std.specs.Prelude.{ℕ, ◌*◌, ◌+◌, ◌/◌, ◌==◌, Bool, not, List, [], ◌∷◌, Result, length, nat_lt}
 use Rattle.pe_core.specs.Bytes.{le}
-use Rattle.pe_core.specs.Refusals.{Refusal, Short, FunctionIndex, outcome}
+use Rattle.pe_core.specs.Refusals.{Refusal, FunctionIndex, outcome}
+use Rattle.pe_unwind.specs.Arm64Words.{bits}
+use Rattle.pe_unwind.specs.TableEntries.{whole_entries, entry_items}
 use Rattle.pe_unwind.specs.declared.arm64.function.Arm64RuntimeFunction.{Arm64RuntimeFunction}
 use Rattle.pe_unwind.specs.declared.arm64.function.Arm64RuntimeFunctionIterator.{Arm64RuntimeFunctionIterator}
 
@@ -13,13 +14,17 @@ arm64_function_at b p = record {
   unwind_data = le b (p + 4) 4;
 }
 
+-- the unwind data are packed into the entry
+abbrev pub is_packed : Arm64RuntimeFunction → Bool
+is_packed f = not (bits f.unwind_data 0 2 == 0)
+
 -- the whole entries of a table
 unfoldable pub arm64_functions : List ℕ → List Arm64RuntimeFunction
-arm64_functions b = map (λ i. arm64_function_at b (8 * i)) (range_with_len 0 (length b / 8))
+arm64_functions b = whole_entries arm64_function_at 8 b
 
 -- the whole entries, and one fault where a last one is cut
 unfoldable pub arm64_function_items : List ℕ → List (Result Arm64RuntimeFunction Refusal)
-arm64_function_items b = map (λ f. Ok f) (arm64_functions b) ++ (if length b % 8 == 0 then [] else Err Short ∷ [])
+arm64_function_items b = entry_items arm64_function_at 8 b
 
 -- what an iterator has left
 abbrev pub items_of_arm64_functions : Arm64RuntimeFunctionIterator → List (Result Arm64RuntimeFunction Refusal)

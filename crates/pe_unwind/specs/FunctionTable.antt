@@ -1,12 +1,13 @@
 -- The function table, and what a lookup in it gives. (x64 exception handling: function table.)
-use Rattle.std.specs.Prelude.{◌≡◌, ℕ, ◌*◌, ◌+◌, ◌/◌, ◌%◌, ◌<◌, ◌≤◌, ◌==◌, List, [], ◌∷◌, ◌++◌, Option, Some, None, Result, Ok, Err, if◌then◌else◌, nat_le, nat_lt, map, filter, length, AllPairs, Contains, IfSome}
-use Rattle.std.specs.List.{range_with_len, last_or, AllAdjacentBelow}
+use Rattle.std.specs.Prelude.{◌≡◌, ℕ, ◌+◌, ◌<◌, ◌≤◌, List, Option, Some, None, Result, Ok, Err, if◌then◌else◌, nat_le, nat_lt, filter, length, AllPairs, Contains, IfSome}
+use Rattle.std.specs.List.{last_or, AllAdjacentBelow}
 use Rattle.std.specs.Int.Digits.{digits_of}
 use Rattle.pe_core.specs.Bytes.{le}
-use Rattle.pe_core.specs.Refusals.{Refusal, Short, kind_of}
+use Rattle.pe_core.specs.Refusals.{Refusal, kind_of}
 use Rattle.pe_core.specs.declared.error.Error.{Error}
 use Rattle.pe_unwind.specs.declared.function_table.RuntimeFunction.{RuntimeFunction}
 use Rattle.pe_unwind.specs.declared.function_table.RuntimeFunctionIterator.{RuntimeFunctionIterator}
+use Rattle.pe_unwind.specs.TableEntries.{whole_entries, entry_items}
 
 -- the entry of 12 bytes at p
 abbrev pub function_at : List ℕ → ℕ → RuntimeFunction
@@ -18,11 +19,11 @@ function_at b p = record {
 
 -- the whole entries of a table
 unfoldable pub functions : List ℕ → List RuntimeFunction
-functions b = map (λ i. function_at b (12 * i)) (range_with_len 0 (length b / 12))
+functions b = whole_entries function_at 12 b
 
 -- the whole entries, and one fault where a last one is cut
 unfoldable pub function_items : List ℕ → List (Result RuntimeFunction Refusal)
-function_items b = map (λ f. Ok f) (functions b) ++ (if length b % 12 == 0 then [] else Err Short ∷ [])
+function_items b = entry_items function_at 12 b
 
 -- an answer with the kind of its refusal
 abbrev pub answer_of : {X : Type 0} → Result X Error → Result X Refusal

@@ -1,4 +1,5 @@
 pub mod Registers
+pub mod TableEntries
 pub mod FunctionTable
 pub mod ScopeTable
 pub mod UnwindCodes
@@ -9,3 +10,4 @@ pub mod Chains
 pub mod Links
 pub mod Unwinding
 pub mod Arm64Functions
+pub mod Arm64Words

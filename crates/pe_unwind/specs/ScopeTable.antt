@@ -1,9 +1,9 @@
 -- The scope table of a handler for C. (x64 exception handling: the language-specific handler's data.)
-use Rattle.std.specs.Prelude.{ℕ, ◌*◌, ◌+◌, ◌/◌, List, map, length}
-use Rattle.std.specs.List.{range_with_len}
+use Rattle.std.specs.Prelude.{ℕ, ◌+◌, List}
 use Rattle.pe_core.specs.Bytes.{le}
 use Rattle.pe_unwind.specs.declared.scope_table.ScopeTableEntry.{ScopeTableEntry}
 use Rattle.pe_unwind.specs.declared.scope_table.ScopeTableIterator.{ScopeTableIterator}
+use Rattle.pe_unwind.specs.TableEntries.{whole_entries}
 
 -- the entry of 16 bytes at p
 abbrev pub scope_at : List ℕ → ℕ → ScopeTableEntry
@@ -16,7 +16,7 @@ scope_at b p = record {
 
 -- the whole entries of a table
 unfoldable pub scopes : List ℕ → List ScopeTableEntry
-scopes b = map (λ i. scope_at b (16 * i)) (range_with_len 0 (length b / 16))
+scopes b = whole_entries scope_at 16 b
 
 -- what an iterator has left
 abbrev pub scopes_left : ScopeTableIterator → List ScopeTableEntry
