@@ -1,6 +1,7 @@
 pub mod Names
 pub mod TableEntries
 pub mod Entries
+pub mod EpilogScopes
 pub mod Searches
 pub mod SpellingLengths
 pub mod Pigeonhole

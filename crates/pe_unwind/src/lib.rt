@@ -14,7 +14,9 @@ mod scope_table;
 mod unwind_code;
 mod unwind_info;
 
-pub use arm64::words::{Arm64EpilogScope, Arm64UnwindExtension, Arm64UnwindHeader};
+pub use arm64::words::{
+    Arm64EpilogScope, Arm64EpilogScopeIterator, Arm64UnwindExtension, Arm64UnwindHeader,
+};
 pub use exception::ExceptionData;
 pub use function_table::{RuntimeFunction, RuntimeFunctionIterator, search};
 pub use register::Register;
