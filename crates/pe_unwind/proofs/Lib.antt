@@ -9,3 +9,4 @@ pub mod LinkChains
 pub mod Disjoint
 pub mod Streams
 pub mod OneChain
+pub mod Arm64Entries

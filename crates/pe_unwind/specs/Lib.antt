@@ -9,4 +9,5 @@ pub mod ExceptionTable
 pub mod Chains
 pub mod Links
 pub mod Unwinding
+pub mod Arm64Functions
 pub mod Arm64Words

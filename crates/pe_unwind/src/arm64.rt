@@ -1,3 +1,4 @@
 //! ARM64 exception data.
 
+pub mod function;
 pub mod words;

@@ -1,7 +1,10 @@
 //! Exception data: the function table of an image, lookup in it, and the records that it leads to.
 
-ghost use Rattle.std.specs.Prelude.{◌+◌, ◌≤◌, length};
+ghost use Rattle.std.specs.Prelude.{◌+◌, ◌<◌, ◌≤◌, length};
 
+use crate::arm64::function::{
+    Arm64RuntimeFunction, Arm64RuntimeFunctionIterator, SIZE_OF_ARM64_FUNCTION, read_arm64_function,
+};
 use crate::function_table::{
     RuntimeFunction, RuntimeFunctionIterator, SIZE_OF_FUNCTION, read_function, search,
 };
@@ -26,6 +29,7 @@ impl<'a> ExceptionData<'a> {
     ghost use Rattle.pe_core.specs.Options.{default_options};
     ghost use Rattle.pe_core.specs.Refusals.{Gives, FunctionCycle};
     ghost use Rattle.pe_unwind.specs.ExceptionTable.{exception_view, exception_at, table_of, function_of};
+    ghost use Rattle.pe_unwind.specs.Arm64Functions.{arm64_functions, arm64_function_items, items_of_arm64_functions, arm64_function_of};
     ghost use Rattle.pe_unwind.specs.FunctionTable.{functions, function_items, items_of_functions, answer_of, Finds};
     ghost use Rattle.pe_unwind.specs.Links.{Follows, Leads, IsEndless, links_of};
     ghost use Rattle.pe_unwind.specs.Unwinding.{Unwinds, UnwindsAt, answer_by, record_at_address};
@@ -51,7 +55,6 @@ impl<'a> ExceptionData<'a> {
 
     /// The exception directory of an x64 image. `ExceptionSize` where its size is no whole number of entries,
     /// `Unmapped`, `ExceptionOffset` where its place is no multiple of four, `ExceptionBounds` where it passes the end.
-    #[tactic(auto, unfolding(crate::specs::ExceptionTable::exception_at))]
     pub fn parse_with_opts(
         bytes: &'a [u8],
         directory: DataDirectory,
@@ -61,11 +64,42 @@ impl<'a> ExceptionData<'a> {
     ) -> Result<ExceptionData<'a>>
         ensures { Gives exception_view result (exception_at 12 bytes.entry.now directory sections.now file_alignment opts.now) }
     {
+        let width = SIZE_OF_FUNCTION;
+        ExceptionData::parse_table(bytes, directory, sections, file_alignment, opts, width)
+    }
+
+    /// The exception directory of an ARM64 image, whose entries have 8 bytes. Refused as `parse_with_opts` refuses.
+    pub fn parse_arm64_with_opts(
+        bytes: &'a [u8],
+        directory: DataDirectory,
+        sections: &[SectionTable],
+        file_alignment: u32,
+        opts: &ParseOptions,
+    ) -> Result<ExceptionData<'a>>
+        ensures { Gives exception_view result (exception_at 8 bytes.entry.now directory sections.now file_alignment opts.now) }
+    {
+        let width = SIZE_OF_ARM64_FUNCTION;
+        ExceptionData::parse_table(bytes, directory, sections, file_alignment, opts, width)
+    }
+
+    /// The exception directory whose entries have this width.
+    #[tactic(auto, unfolding(crate::specs::ExceptionTable::exception_at))]
+    fn parse_table(
+        bytes: &'a [u8],
+        directory: DataDirectory,
+        sections: &[SectionTable],
+        file_alignment: u32,
+        opts: &ParseOptions,
+        width: usize,
+    ) -> Result<ExceptionData<'a>>
+        requires { 0 < width }
+        ensures { Gives exception_view result (exception_at width bytes.entry.now directory sections.now file_alignment opts.now) }
+    {
         let DataDirectory {
             virtual_address,
             size,
         } = directory;
-        if size as usize % SIZE_OF_FUNCTION != 0 {
+        if size as usize % width != 0 {
             return Err(Error::Malformed(Reason::ExceptionSize(size)));
         }
         let Some(offset) = find_offset(virtual_address as usize, sections, file_alignment, opts)
@@ -105,6 +139,14 @@ impl<'a> ExceptionData<'a> {
         self.table_bytes().len() / SIZE_OF_FUNCTION
     }
 
+    /// How many whole entries for ARM64 the table has.
+    #[tactic(auto, using(crate::proofs::Arm64Entries::whole_count))]
+    pub fn len_arm64(&self) -> usize
+        ensures { result ≡ length (arm64_functions (table_of (exception_view self.now))) }
+    {
+        self.table_bytes().len() / SIZE_OF_ARM64_FUNCTION
+    }
+
     /// Whether the table has no bytes.
     pub fn is_empty(&self) -> bool
         ensures { result ≡ ((exception_view self.now).size == 0) }
@@ -126,6 +168,25 @@ impl<'a> ExceptionData<'a> {
         let table = self.table_bytes();
         if index < table.len() / SIZE_OF_FUNCTION {
             Ok(read_function(table, SIZE_OF_FUNCTION * index))
+        } else {
+            Err(Error::Malformed(Reason::FunctionIndex(index)))
+        }
+    }
+
+    /// The entries for ARM64 in the order of the table.
+    pub fn functions_arm64(&self) -> Arm64RuntimeFunctionIterator<'a>
+        ensures { items_of_arm64_functions result ≡ arm64_function_items (table_of (exception_view self.now)) }
+    {
+        Arm64RuntimeFunctionIterator::new(self.table_bytes())
+    }
+
+    /// The entry for ARM64 with this index. `FunctionIndex` at or past `len_arm64()`.
+    pub fn get_function_arm64(&self, index: usize) -> Result<Arm64RuntimeFunction>
+        ensures { Gives (λ f. f) result (arm64_function_of (table_of (exception_view self.now)) index) }
+    {
+        let table = self.table_bytes();
+        if index < table.len() / SIZE_OF_ARM64_FUNCTION {
+            Ok(read_arm64_function(table, SIZE_OF_ARM64_FUNCTION * index))
         } else {
             Err(Error::Malformed(Reason::FunctionIndex(index)))
         }

@@ -14,6 +14,7 @@ mod scope_table;
 mod unwind_code;
 mod unwind_info;
 
+pub use arm64::function::{Arm64RuntimeFunction, Arm64RuntimeFunctionIterator};
 pub use arm64::words::{
     Arm64EpilogScope, Arm64EpilogScopeIterator, Arm64UnwindExtension, Arm64UnwindHeader,
 };

@@ -3,19 +3,21 @@ use Rattle.std.specs.Prelude.{◌≡◌, ℕ, List, [], Option, Some, None, Resu
 use Rattle.std.specs.Io.KnownBytes.{Appends, Keeps}
 use Rattle.pe_core.specs.Refusals.{Refusal, UnlessMemory, kind_of}
 use Rattle.pe_core.specs.declared.error.Error.{Error}
-use Rattle.pe_unwind.specs.ExceptionTable.{ExceptionView, table_of}
+use Rattle.pe_unwind.specs.ExceptionTable.{table_of}
 use Rattle.pe_unwind.specs.FunctionTable.{functions, Finds}
 use Rattle.pe_unwind.specs.declared.function_table.RuntimeFunction.{RuntimeFunction}
+use Rattle.peinfo.specs.Exceptions.{MachineExceptions, ForX64, ForArm64}
 use Rattle.peinfo.specs.FunctionLines.{function_line}
 use Rattle.peinfo.specs.Output.{AppendsBeginning, RoseOrFull}
 use Rattle.peinfo.specs.Parts.{PartsView}
 use Rattle.peinfo.specs.declared.report.ReportError.{ReportError}
 use Rattle.peinfo.specs.declared.report.ReportError.TheVariants.{Parse, Write}
 
--- the functions of exception data; without them there are none
-abbrev pub functions_of : Option ExceptionView → List RuntimeFunction
+-- the x64 functions of exception data; without them, and of ARM64, there are none
+abbrev pub functions_of : Option MachineExceptions → List RuntimeFunction
 functions_of None = []
-functions_of (Some exceptions) = functions (table_of exceptions)
+functions_of (Some (ForX64 exceptions)) = functions (table_of exceptions)
+functions_of (Some (ForArm64 exceptions)) = []
 
 abbrev pub found_line : Option RuntimeFunction → List ℕ
 found_line None = codes "none\n"

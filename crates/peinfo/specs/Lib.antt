@@ -3,6 +3,7 @@ pub mod Output
 pub mod Modes
 pub mod DebugEntries
 pub mod CertificateLines
+pub mod Exceptions
 pub mod FunctionLines
 pub mod Parts
 pub mod Report

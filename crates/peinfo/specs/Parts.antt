@@ -7,20 +7,19 @@ use Rattle.pe_core.specs.Sections.{sections_at}
 use Rattle.pe_core.specs.declared.options.ParseOptions.{ParseOptions}
 use Rattle.pe_records.specs.Certificates.{CertificateView, certificate_view}
 use Rattle.pe_records.specs.DebugRecords.{DebugFields, debug_view}
-use Rattle.pe_unwind.specs.ExceptionTable.{ExceptionView, exception_view}
 use Rattle.peinfo.specs.CertificateLines.{shown_certificates}
 use Rattle.peinfo.specs.DebugEntries.{shown_debug}
-use Rattle.peinfo.specs.FunctionLines.{shown_exceptions}
+use Rattle.peinfo.specs.Exceptions.{MachineExceptions, machine_view, shown_exceptions}
 use Rattle.peinfo.specs.declared.parts.Parts.{Parts}
 
 pub record PartsView : Type 0 where
   pub optional_header : Option OptionalHeaderView
   pub debug : Option DebugFields
-  pub exceptions : Option ExceptionView
+  pub exceptions : Option MachineExceptions
   pub certificates : List CertificateView
 
 abbrev pub parts_view : {Z : Type 0} → Parts Z → PartsView
-parts_view p = record { optional_header = optional_view p.optional_header; debug = option_map debug_view p.debug; exceptions = option_map exception_view p.exceptions; certificates = map certificate_view p.certificates.items }
+parts_view p = record { optional_header = optional_view p.optional_header; debug = option_map debug_view p.debug; exceptions = option_map machine_view p.exceptions; certificates = map certificate_view p.certificates.items }
 
 -- the parts, or the first refusal: of the header, of the sections, of the debug data, of the exception data, of the certificates
 unfoldable pub parts_of : List ℕ → ParseOptions → Result PartsView Refusal

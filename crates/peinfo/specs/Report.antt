@@ -31,6 +31,12 @@ report_text b opts = do
   parts ← parts_of b opts
   Ok (image_line parts.optional_header ++ debug_lines parts.debug ++ certificate_lines parts.certificates ++ function_lines parts.exceptions)
 
+-- the exit status of an answer: done, refused, or a fault of standard output
+abbrev pub status_by : Result (Unit {0}) ReportError → ℕ
+status_by (Ok u) = 0
+status_by (Err (Parse e)) = 1
+status_by (Err Write) = 3
+
 -- what a call did to known bytes and to the count of failures
 abbrev pub Reports : Result (Unit {0}) ReportError → Result (List ℕ) Refusal → Option (List ℕ) → Option (List ℕ) → ℕ → ℕ → Type 0
 -- exactly the text was written, and no write failed

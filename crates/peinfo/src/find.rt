@@ -3,29 +3,30 @@
 ghost use Rattle.std.specs.Prelude.{◌≡◌, ◌++◌, OnOk};
 ghost use Rattle.std.specs.Option.{option_map};
 ghost use Rattle.pe_core.specs.Options.{default_options};
-ghost use Rattle.pe_unwind.specs.ExceptionTable.{exception_view};
 ghost use Rattle.pe_unwind.specs.FunctionTable.{Finds};
+ghost use Rattle.peinfo.specs.Exceptions.{machine_view};
 ghost use Rattle.peinfo.specs.Find.{functions_of, found_line, GivesFindText, FindReports};
 ghost use Rattle.peinfo.specs.Output.{writer_of, failures_of};
 ghost use Rattle.peinfo.specs.Parts.{parts_of};
 
 use crate::counted_out::{CountedOut, put_all};
+use crate::exceptions::Exceptions;
 use crate::functions;
 use crate::parts::Parts;
 use crate::report::ReportError;
 use pe_core::ParseOptions;
-use pe_unwind::{ExceptionData, RuntimeFunction};
+use pe_unwind::RuntimeFunction;
 use std::alloc::{AllocError, Allocator};
 use std::io;
 
 /// The function that covers the address, if exception data have one.
 #[tactic(auto, using(crate::proofs::FindTexts::nothing_found))]
-fn found_in(exceptions: &Option<ExceptionData>, rva: u32) -> Option<RuntimeFunction>
-    ensures { Finds (functions_of (option_map exception_view exceptions.now)) rva result }
+fn found_in(exceptions: &Option<Exceptions>, rva: u32) -> Option<RuntimeFunction>
+    ensures { Finds (functions_of (option_map machine_view exceptions.now)) rva result }
 {
     match exceptions {
-        None => None,
-        Some(exceptions) => match exceptions.find_function(rva) {
+        None | Some(Exceptions::Arm64(_)) => None,
+        Some(Exceptions::X64(exceptions)) => match exceptions.find_function(rva) {
             Ok(found) => found,
             Err(_) => None,
         },

@@ -6,6 +6,7 @@ mod command;
 mod counted_out;
 mod debug;
 mod digits;
+mod exceptions;
 mod find;
 mod functions;
 mod input;
@@ -15,6 +16,7 @@ mod report;
 ghost use Rattle.std.specs.Prelude.{◌≡◌, ◌↔◌, ◌≤◌, ◌≢◌, map, IsNone, IfErr};
 ghost use Rattle.std.specs.String.{string_bytes};
 ghost use Rattle.peinfo.specs.Command.{asked_of};
+ghost use Rattle.peinfo.specs.Report.{status_by};
 
 use command::{Command, command_of};
 use counted_out::CountedOut;
@@ -58,8 +60,7 @@ fn bytes_of<R: Files + Eprint + AllocGlobal>(rt: &R, path: &str) -> Result<Vec<u
 
 /// The status of an answer. A failure is one line on standard error.
 fn status_of<R: Eprint>(rt: &R, path: &str, answer: Result<(), ReportError>) -> u8
-    ensures not_misused { result ≢ 2 }
-    ensures known { result ≤ 3 }
+    ensures { result ≡ status_by answer }
 {
     match answer {
         Ok(()) => DONE,

@@ -1,9 +1,9 @@
 //! The parts of an image that are shown, read in their order.
 
-use crate::{certificates, debug, functions};
+use crate::exceptions::Exceptions;
+use crate::{certificates, debug, exceptions};
 use pe_core::{Header, OptionalHeader, ParseOptions};
 use pe_records::{CertificateDirectoryTable, DebugData};
-use pe_unwind::ExceptionData;
 use std::alloc::Allocator;
 
 /// What is shown of an image.
@@ -11,7 +11,7 @@ use std::alloc::Allocator;
 pub struct Parts<'a, A: Allocator + Copy + Drop> {
     pub optional_header: Option<OptionalHeader>,
     pub debug: Option<DebugData<'a>>,
-    pub exceptions: Option<ExceptionData<'a>>,
+    pub exceptions: Option<Exceptions<'a>>,
     pub certificates: CertificateDirectoryTable<'a, A>,
 }
 
@@ -37,7 +37,7 @@ impl<'a, A: Allocator + Copy + Drop> Parts<'a, A> {
             let machine = coff.machine;
             (
                 debug,
-                functions::shown_exceptions(bytes, opts, &sections, machine, optional)?,
+                exceptions::shown(bytes, opts, &sections, machine, optional)?,
             )
         };
         let certificates = certificates::shown(alloc, bytes, opts, optional)?;

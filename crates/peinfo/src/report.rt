@@ -7,7 +7,7 @@ ghost use Rattle.pe_core.specs.Refusals.{GivesUnlessMemory};
 use crate::counted_out::{CountedOut, put_all};
 use crate::digits::{hex_8, hex_16};
 use crate::parts::Parts;
-use crate::{certificates, debug, functions};
+use crate::{certificates, debug, exceptions};
 use pe_core::{Error, MAGIC_64, OptionalHeader, ParseOptions};
 use std::alloc::{AllocError, Allocator};
 use std::io;
@@ -77,18 +77,18 @@ fn text_of<A: Allocator + Copy>(
     let parts = Parts::read(alloc, bytes, opts)?;
     let lines = debug::line_count(&parts.debug)
         .saturating_add(parts.certificates.len())
-        .saturating_add(functions::line_count(&parts.exceptions))
+        .saturating_add(exceptions::line_count(&parts.exceptions))
         .saturating_add(1);
     let mut text = Vec::with_capacity(alloc, lines.saturating_mul(LONGEST_LINE))?;
     push_image_line(&mut text, &parts.optional_header)?;
     debug::push_lines(&mut text, &parts.debug)?;
     certificates::push_lines(&mut text, &parts.certificates)?;
-    functions::push_lines(&mut text, &parts.exceptions)?;
+    exceptions::push_lines(&mut text, &parts.exceptions)?;
     Ok(text)
 }
 
-/// Shows an image: its line, and a line for each debug entry, certificate and x64 function. The whole
-/// text is made before any of it is written.
+/// Shows an image: its line, and a line for each debug entry, certificate and function. The whole text
+/// is made before any of it is written.
 pub fn report<A: Allocator, W: io::Write>(
     alloc: A,
     bytes: &[u8],

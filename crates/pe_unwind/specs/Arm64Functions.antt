@@ -1,0 +1,30 @@
+-- The ARM64 function table. (ARM64 exception handling: .pdata records.)
+use Rattle.std.specs.Prelude.{ℕ, ◌*◌, ◌+◌, ◌/◌, List, [], ◌∷◌, Result, length, nat_lt}
+use Rattle.pe_core.specs.Bytes.{le}
+use Rattle.pe_core.specs.Refusals.{Refusal, FunctionIndex, outcome}
+use Rattle.pe_unwind.specs.declared.arm64.function.Arm64RuntimeFunction.{Arm64RuntimeFunction}
+use Rattle.pe_unwind.specs.declared.arm64.function.Arm64RuntimeFunctionIterator.{Arm64RuntimeFunctionIterator}
+use Rattle.pe_unwind.specs.TableEntries.{whole_entries, entry_items}
+
+-- the entry of 8 bytes at p
+abbrev pub arm64_function_at : List ℕ → ℕ → Arm64RuntimeFunction
+arm64_function_at b p = record {
+  begin_address = le b p 4;
+  unwind_data = le b (p + 4) 4;
+}
+
+-- the whole entries of a table
+unfoldable pub arm64_functions : List ℕ → List Arm64RuntimeFunction
+arm64_functions b = whole_entries arm64_function_at 8 b
+
+-- the whole entries, and one fault where a last one is cut
+unfoldable pub arm64_function_items : List ℕ → List (Result Arm64RuntimeFunction Refusal)
+arm64_function_items b = entry_items arm64_function_at 8 b
+
+-- what an iterator has left
+abbrev pub items_of_arm64_functions : Arm64RuntimeFunctionIterator → List (Result Arm64RuntimeFunction Refusal)
+items_of_arm64_functions s = arm64_function_items s.bytes.now
+
+-- the entry of a table with this index
+abbrev pub arm64_function_of : List ℕ → ℕ → Result Arm64RuntimeFunction Refusal
+arm64_function_of t i = outcome ((nat_lt i (length t / 8), FunctionIndex) ∷ []) (arm64_function_at t (8 * i))
