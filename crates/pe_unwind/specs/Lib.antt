@@ -8,3 +8,5 @@ pub mod ExceptionTable
 pub mod Chains
 pub mod Links
 pub mod Unwinding
+pub mod Arm64Encoding
+pub mod Arm64Tiling

@@ -5,6 +5,7 @@
 //! those of Microsoft's x64 exception handling.
 #![tactic(auto)]
 
+mod arm64;
 mod exception;
 mod function_table;
 pub mod laws;
@@ -13,6 +14,9 @@ mod scope_table;
 mod unwind_code;
 mod unwind_info;
 
+pub use arm64::codes::{
+    Arm64CustomStackCase, Arm64UnwindCode, Arm64UnwindCodeData, Arm64UnwindCodeIterator,
+};
 pub use exception::ExceptionData;
 pub use function_table::{RuntimeFunction, RuntimeFunctionIterator, search};
 pub use register::Register;

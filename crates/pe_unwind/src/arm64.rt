@@ -1,0 +1,3 @@
+//! ARM64 exception data.
+
+pub mod codes;
