@@ -14,7 +14,11 @@ mod scope_table;
 mod unwind_code;
 mod unwind_info;
 
+pub use arm64::codes::{
+    Arm64CustomStackCase, Arm64UnwindCode, Arm64UnwindCodeData, Arm64UnwindCodeIterator,
+};
 pub use arm64::function::{Arm64RuntimeFunction, Arm64RuntimeFunctionIterator};
+pub use arm64::info::{Arm64ExceptionHandler, Arm64UnwindInfo};
 pub use arm64::words::{
     Arm64EpilogScope, Arm64EpilogScopeIterator, Arm64UnwindExtension, Arm64UnwindHeader,
 };
