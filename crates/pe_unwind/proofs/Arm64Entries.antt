@@ -25,6 +25,7 @@ pub functions_count : (b : List ℕ) → length (arm64_function_items b) ≡ (le
 unfolding arm64_function_items
 functions_count b = omega (arith, entry_items-count arm64_function_at 8 b)
 
+-- the whole entries alone
 pub whole_count : (b : List ℕ) → length (arm64_functions b) ≡ length b / 8
 unfolding arm64_functions
 whole_count b = whole_entries-count arm64_function_at 8 b

@@ -1,10 +1,11 @@
 -- The ARM64 function table. (ARM64 exception handling: .pdata records.)
-use Rattle.std.specs.Prelude.{ℕ, ◌*◌, ◌+◌, ◌/◌, List, [], ◌∷◌, Result, length, nat_lt}
+use Rattle.std.specs.Prelude.{ℕ, ◌*◌, ◌+◌, ◌/◌, ◌==◌, Bool, not, List, [], ◌∷◌, Result, length, nat_lt}
 use Rattle.pe_core.specs.Bytes.{le}
 use Rattle.pe_core.specs.Refusals.{Refusal, FunctionIndex, outcome}
+use Rattle.pe_unwind.specs.Arm64Words.{bits}
+use Rattle.pe_unwind.specs.TableEntries.{whole_entries, entry_items}
 use Rattle.pe_unwind.specs.declared.arm64.function.Arm64RuntimeFunction.{Arm64RuntimeFunction}
 use Rattle.pe_unwind.specs.declared.arm64.function.Arm64RuntimeFunctionIterator.{Arm64RuntimeFunctionIterator}
-use Rattle.pe_unwind.specs.TableEntries.{whole_entries, entry_items}
 
 -- the entry of 8 bytes at p
 abbrev pub arm64_function_at : List ℕ → ℕ → Arm64RuntimeFunction
@@ -12,6 +13,10 @@ arm64_function_at b p = record {
   begin_address = le b p 4;
   unwind_data = le b (p + 4) 4;
 }
+
+-- the unwind data are packed into the entry
+abbrev pub is_packed : Arm64RuntimeFunction → Bool
+is_packed f = not (bits f.unwind_data 0 2 == 0)
 
 -- the whole entries of a table
 unfoldable pub arm64_functions : List ℕ → List Arm64RuntimeFunction

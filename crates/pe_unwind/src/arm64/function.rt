@@ -1,12 +1,35 @@
 //! The ARM64 function table: its entries, and what is packed in them.
 
-ghost use Rattle.std.specs.Prelude.{◌≡◌, ◌+◌, ◌≤◌, length, IfSome, Some};
+ghost use Rattle.std.specs.Prelude.{◌≡◌, ◌+◌, ◌*◌, ◌≤◌, ◌==◌, length, IfSome, Some};
 ghost use Rattle.std.specs.Iterator.{UpTo, YieldsFirstBy, item_count};
 ghost use Rattle.std.specs.Iterator.SizeHint.{IsWithinCount};
 ghost use Rattle.pe_unwind.specs.FunctionTable.{answer_of};
-ghost use Rattle.pe_unwind.specs.Arm64Functions.{arm64_function_at, arm64_function_items, items_of_arm64_functions};
+ghost use Rattle.pe_unwind.specs.Arm64Words.{bits};
+ghost use Rattle.pe_unwind.specs.Arm64Functions.{is_packed, arm64_function_at, arm64_function_items, items_of_arm64_functions};
 
+use super::words::bits;
 use pe_core::{Error, Result, number32};
+
+/// The flag of an entry whose unwind data are the address of an unwind record.
+pub const ARM64_PDATA_REF_TO_FULL_XDATA: u32 = 0;
+
+/// The flag of an entry with the packed unwind data of a function.
+pub const ARM64_PDATA_PACKED_UNWIND_FUNCTION: u32 = 1;
+
+/// The flag of an entry with the packed unwind data of a part of a function, which has no prolog.
+pub const ARM64_PDATA_PACKED_UNWIND_FRAGMENT: u32 = 2;
+
+/// No frame chain, and the link register is not saved.
+pub const ARM64_PDATA_CR_UNCHAINED: u32 = 0;
+
+/// No frame chain; the link register is saved.
+pub const ARM64_PDATA_CR_UNCHAINED_SAVED_LR: u32 = 1;
+
+/// A frame chain, with a return address that is signed.
+pub const ARM64_PDATA_CR_CHAINED_WITH_PAC: u32 = 2;
+
+/// A frame chain.
+pub const ARM64_PDATA_CR_CHAINED: u32 = 3;
 
 /// The bytes of one entry.
 pub const SIZE_OF_ARM64_FUNCTION: usize = 8;
@@ -18,6 +41,75 @@ pub struct Arm64RuntimeFunction {
     pub begin_address: u32,
     /// The address of the unwind record or, by the two lowest bits, the unwind data themselves, packed.
     pub unwind_data: u32,
+}
+
+impl Arm64RuntimeFunction {
+    /// How the unwind data are given: 0 by the address of an unwind record; else packed, 1 of a whole function, 2 of a
+    /// part of one that has no prolog. 3 is reserved. (`ARM64_PDATA_REF_TO_FULL_XDATA`,
+    /// `ARM64_PDATA_PACKED_UNWIND_FUNCTION`, `ARM64_PDATA_PACKED_UNWIND_FRAGMENT`.)
+    pub fn flag(&self) -> u32
+        ensures { result ≡ bits self.now.unwind_data 0 2 }
+    {
+        bits(self.unwind_data, 0, 2)
+    }
+
+    /// Packed: the length of the function in bytes.
+    pub fn function_length(&self) -> u32
+        ensures { result ≡ 4 * bits self.now.unwind_data 2 11 }
+    {
+        bits(self.unwind_data, 2, 11) * 4
+    }
+
+    /// Packed: how many floating-point registers are saved, from d8 on, less one; 0 where none is (RegF).
+    pub fn reg_f(&self) -> u32
+        ensures { result ≡ bits self.now.unwind_data 13 3 }
+    {
+        bits(self.unwind_data, 13, 3)
+    }
+
+    /// Packed: how many integer registers are saved, from x19 on (RegI).
+    pub fn reg_i(&self) -> u32
+        ensures { result ≡ bits self.now.unwind_data 16 4 }
+    {
+        bits(self.unwind_data, 16, 4)
+    }
+
+    /// Packed: whether the prolog stores the parameter registers x0 to x7 (H).
+    pub fn h(&self) -> bool
+        ensures { result ≡ (bits self.now.unwind_data 20 1 == 1) }
+    {
+        bits(self.unwind_data, 20, 1) == 1
+    }
+
+    /// Packed: whether the function sets up a frame chain, and how it returns (CR): 0 unchained, 1 unchained with the
+    /// link register saved, 2 chained with a signed return address, 3 chained. (`ARM64_PDATA_CR_UNCHAINED`,
+    /// `ARM64_PDATA_CR_UNCHAINED_SAVED_LR`, `ARM64_PDATA_CR_CHAINED_WITH_PAC`, `ARM64_PDATA_CR_CHAINED`.)
+    pub fn cr(&self) -> u32
+        ensures { result ≡ bits self.now.unwind_data 21 2 }
+    {
+        bits(self.unwind_data, 21, 2)
+    }
+
+    /// Packed: the bytes of stack that the function takes.
+    pub fn frame_size(&self) -> u32
+        ensures { result ≡ 16 * bits self.now.unwind_data 23 9 }
+    {
+        bits(self.unwind_data, 23, 9) * 16
+    }
+
+    /// Whether the unwind data are packed into the entry.
+    pub fn is_packed(&self) -> bool
+        ensures { result ≡ is_packed self.now }
+    {
+        self.flag() != ARM64_PDATA_REF_TO_FULL_XDATA
+    }
+
+    /// Not packed: the address of the unwind record, the unwind data without its two lowest bits.
+    pub fn unwind_data_rva(&self) -> u32
+        ensures { result ≡ 4 * bits self.now.unwind_data 2 30 }
+    {
+        bits(self.unwind_data, 2, 30) * 4
+    }
 }
 
 /// Reads the entry at a place that is known to have one.
