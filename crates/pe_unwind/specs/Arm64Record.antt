@@ -1,7 +1,7 @@
 -- ARM64 unwind records. (ARM64 exception handling: .xdata records.)
-use Rattle.std.specs.Prelude.{Bool, ℕ, ◌+◌, ◌*◌, ◌==◌, ◌||◌, List, [], ◌∷◌, length, drop, Option, Some, None, Result, if◌then◌else◌}
+use Rattle.std.specs.Prelude.{◌≡◌, Bool, ◌++◌, is_some, IfSome, ℕ, ◌+◌, ◌*◌, ◌==◌, ◌||◌, List, [], ◌∷◌, length, drop, Option, Some, None, Result, if◌then◌else◌}
 use Rattle.std.specs.Option.{option_map}
-use Rattle.pe_core.specs.Bytes.{le, holds, range}
+use Rattle.pe_core.specs.Bytes.{le, bytes_of, holds, range}
 use Rattle.pe_core.specs.Refusals.{Refusal, Short, Arm64Version, outcome}
 use Rattle.pe_unwind.specs.declared.arm64.info.Arm64ExceptionHandler.{Arm64ExceptionHandler}
 use Rattle.pe_unwind.specs.declared.arm64.info.Arm64UnwindInfo.{Arm64UnwindInfo}
@@ -112,3 +112,19 @@ size_at b =
 -- the epilog scopes of a record, if it has some
 abbrev pub scopes_of : Arm64InfoView → Option (List (Result Arm64EpilogScope Refusal))
 scopes_of i = if has_epilog i.header || length i.scopes == 0 then None else Some (epilog_scope_items i.scopes)
+
+-- a word's bytes, if there is a word
+abbrev pub word_bytes : Option ℕ → List ℕ
+word_bytes None = []
+word_bytes (Some word) = bytes_of 4 word
+
+-- the bytes are those of a record: header, extension word, scopes, codes, address of the handler, and the rest, each of
+-- the size that the header and the extension word give it; the rest is a handler's data
+pub record AreRecord (bytes : List ℕ) (i : Arm64InfoView) (rest : List ℕ) : Type 0 where
+  pub joined : bytes ≡ bytes_of 4 i.header ++ (word_bytes i.extension ++ (i.scopes ++ (i.codes ++ (word_bytes (option_map (λ h. h.rva) i.handler) ++ rest))))
+  pub version : bits i.header 18 2 ≡ 0
+  pub extension : is_some i.extension ≡ has_extension i.header
+  pub scopes : length i.scopes ≡ 4 * scope_count i.header i.extension
+  pub codes : length i.codes ≡ 4 * code_words i.header i.extension
+  pub handler : is_some i.handler ≡ has_handler i.header
+  pub behind : IfSome i.handler (λ h. h.bytes ≡ rest)
