@@ -2,6 +2,8 @@
 #![tactic(auto)]
 
 #[cfg(test)]
+mod arm64_records;
+#[cfg(test)]
 mod bytes;
 #[cfg(test)]
 mod certificates;

@@ -1,10 +1,11 @@
 //! Laws over the definitions. Each is the contract of a function that does nothing.
 
-ghost use Rattle.std.specs.Prelude.{◌≡◌, ◌↔◌, ℕ, List, Option, Some, Result, IsSome, IsTrue, map};
+ghost use Rattle.std.specs.Prelude.{◌≡◌, ◌↔◌, ◌+◌, ◌≤◌, ℕ, List, length, drop, Option, Some, Result, Ok, IsSome, IfSome, IsTrue, map};
 ghost use Rattle.std.specs.Iterator.{Drains};
 ghost use Rattle.std.specs.List.{Any};
 ghost use Rattle.std.specs.Ordering.{nat_cmp};
 ghost use Rattle.std.specs.declared.cmp.Ordering.TheVariants.{Equal};
+ghost use Rattle.pe_core.specs.Bytes.{AreBytes};
 ghost use Rattle.pe_core.specs.Refusals.{Refusal};
 ghost use Rattle.pe_core.specs.declared.error.Error.{Error};
 ghost use Rattle.pe_unwind.specs.declared.function_table.RuntimeFunction.{RuntimeFunction};
@@ -12,6 +13,7 @@ ghost use Rattle.pe_unwind.specs.declared.register.Register.{Register};
 ghost use Rattle.pe_unwind.specs.declared.scope_table.ScopeTableEntry.{ScopeTableEntry};
 ghost use Rattle.pe_unwind.specs.declared.unwind_code.UnwindCode.{UnwindCode};
 ghost use Rattle.pe_unwind.specs.declared.unwind_code.UnwindCodeIterator.{UnwindCodeIterator};
+ghost use Rattle.pe_unwind.specs.Arm64Record.{Arm64InfoView, AreRecord, info_at, record_size, size_at};
 ghost use Rattle.pe_unwind.specs.CodeStream.{CodeStream, AreItems, stream_of};
 ghost use Rattle.pe_unwind.specs.FunctionTable.{NeverFalls, NoEndPassesNext, Covers, Finds, answer_of};
 ghost use Rattle.pe_unwind.specs.Links.{Table, Follows};
@@ -58,4 +60,19 @@ pub fn one_stream_of_codes()
 #[tactic(auto, using(crate::proofs::OneChain::one_answer))]
 pub fn one_answer_of_links()
     ensures { (t : Table) (u : ℕ) (a b : Result ℕ Refusal) → Follows t u a → Follows t u b → a ≡ b }
+{}
+
+/// An ARM64 unwind record that is given is the concatenation of its parts: header, extension word, scopes, codes, address
+/// of the handler, rest.
+pub fn arm64_records_are_concatenations()
+    ensures { (b : List ℕ) (p : ℕ) (i : Arm64InfoView) → AreBytes b → info_at b p ≡ Ok i → AreRecord (drop p b) i (drop (p + record_size i.header i.extension) b) }
+{}
+
+/// Where an ARM64 unwind record is given, its size is too, and is that of its words; the record ends in the bytes, and a
+/// handler's data are all bytes behind it.
+#[tactic(auto, using(crate::proofs::Arm64Records::sized, crate::proofs::Arm64Records::inside))]
+pub fn arm64_records_have_their_size()
+    ensures size { (b : List ℕ) (i : Arm64InfoView) → info_at b 0 ≡ Ok i → size_at b ≡ Ok (record_size i.header i.extension) }
+    ensures inside { (b : List ℕ) (p : ℕ) (i : Arm64InfoView) → info_at b p ≡ Ok i → p + record_size i.header i.extension ≤ length b }
+    ensures handler { (b : List ℕ) (p : ℕ) (i : Arm64InfoView) → info_at b p ≡ Ok i → IfSome i.handler (λ h. h.bytes ≡ drop (p + record_size i.header i.extension) b) }
 {}
