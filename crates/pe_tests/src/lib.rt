@@ -2,6 +2,7 @@
 #![tactic(auto)]
 
 #[cfg(test)]
+mod arm64_functions;
 mod bytes;
 #[cfg(test)]
 mod certificates;
