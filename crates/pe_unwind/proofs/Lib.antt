@@ -7,3 +7,7 @@ pub mod LinkChains
 pub mod Disjoint
 pub mod Streams
 pub mod OneChain
+pub mod Arm64Lengths
+pub mod Arm64OneCode
+pub mod Arm64Whole
+pub mod Arm64Streams

@@ -1,5 +1,7 @@
 -- Streams of ARM64 unwind codes, one behind the other.
-use Rattle.std.specs.Prelude.{◌≡◌, ◌≢◌, ℕ, ◌+◌, ◌-◌, ◌/◌, ◌%◌, ◌<◌, ◌≤◌, Bool, nat_le, ◌==◌, List, [], ◌∷◌, ◌++◌, length, drop, Option, Some, None, Result, Ok, Err}
+use Rattle.std.specs.Prelude.{◌≡◌, ◌≢◌, ℕ, ◌+◌, ◌-◌, ◌/◌, ◌%◌, ◌<◌, ◌≤◌, ◌↔◌, IsTrue, nat_le, ◌==◌, List, [], ◌∷◌, ◌++◌, length, drop, Option, Some, None, Result, Ok, Err}
+use Rattle.std.specs.List.{list_any}
+use Rattle.std.specs.Result.{is_err}
 use Rattle.pe_core.specs.Refusals.{Refusal, Arm64Stream, Arm64Cut, kind_of, outcome}
 use Rattle.pe_core.specs.declared.error.Error.{Error}
 use Rattle.pe_unwind.specs.declared.arm64.codes.Arm64UnwindCodeData.{Arm64UnwindCodeData}
@@ -53,3 +55,11 @@ abbrev pub codes_of : List (Result Arm64UnwindCodeData Error) → List ℕ
 codes_of [] = []
 codes_of (Ok item ∷ items) = encoding item.code ++ codes_of items
 codes_of (Err e ∷ items) = codes_of items
+
+-- the bytes are those of the items' codes, one behind the other, and then a rest that begins with none: not empty exactly
+-- if one of the items is a cut
+pub record Joins (bytes : List ℕ) (items : List (Result Arm64UnwindCodeData Error)) : Type 0 where
+  pub rest : List ℕ
+  pub joined : bytes ≡ codes_of items ++ rest
+  pub none : BeginsWithNone rest
+  pub cut : IsTrue (list_any is_err items) ↔ (0 < length rest)
