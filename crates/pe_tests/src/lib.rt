@@ -2,6 +2,8 @@
 #![tactic(auto)]
 
 #[cfg(test)]
+mod arm64_codes;
+#[cfg(test)]
 mod bytes;
 #[cfg(test)]
 mod certificates;

@@ -89,7 +89,7 @@ none_of_no_bytes c h = absurd (omega (arith, begins_some [] c h))
 code_then_rest : (bytes : List ℕ) (at : ℕ) (item : Arm64UnwindCodeData) → IsItem bytes at (Ok item) → drop at bytes ≡ encoding item.code ++ drop (at + item.len) bytes
 code_then_rest bytes at item h =
     let behind : drop (length (encoding item.code)) (drop at bytes) ≡ drop (at + item.len) bytes =
-        drop_more bytes at (length (encoding item.code)) ∙ ap (λ (n : ℕ). drop (at + n) bytes) (sym h.2) in
+    drop_more bytes at (length (encoding item.code)) ∙ ap (λ (n : ℕ). drop (at + n) bytes) (sym h.2) in
     h.0.spelled ∙ ap (λ (x : List ℕ). encoding item.code ++ x) behind
 
 -- a tiling's codes are the bytes, one behind the other, up to a rest
@@ -119,10 +119,11 @@ joined bytes at (Err e ∷ xs) h = record {
 short_rest : (bytes : List ℕ) → 0 < length bytes → All (λ x. x < 256) bytes → BeginsWithNone bytes → length bytes < 5
 short_rest bytes some all none =
     elim (code_or_cut bytes some all) [
-      inl code ↦ absurd (none code.0 code.1)
-    | inr cut ↦
-        let bound = some_bytes cut.code cut.legal in
-        omega (arith, bound.1, cut.some, ap (λ (x : List ℕ). length x) cut.spelled, length-append bytes cut.missing) ]
+      | inl code ↦ absurd (none code.0 code.1)
+      | inr cut ↦
+          let bound = some_bytes cut.code cut.legal in
+          omega (arith, bound.1, cut.some, ap (λ (x : List ℕ). length x) cut.spelled, length-append bytes cut.missing)
+    ]
 
 -- a tiling has an item for each five bytes at least, and for each byte at most
 pub item_counts : (bytes : List ℕ) (at : ℕ) (xs : List (Result Arm64UnwindCodeData Error)) → All (λ x. x < 256) bytes → Tiles bytes at xs → ((length bytes - at + 4) / 5 ≤ length xs) × (length xs ≤ length bytes - at)

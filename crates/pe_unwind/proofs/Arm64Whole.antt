@@ -118,11 +118,15 @@ code_or_cut [] some all = absurd (omega (arith, some))
 code_or_cut (b ∷ rest) some h256 =
     let all : AreBytes (b ∷ rest) = bytes_of_all (b ∷ rest) h256 in
     elim (len_cases b (get_or rest 0 0)) [
-      inl h ↦ with_one b rest all.0 (len_of_one b (get_or rest 0 0) h)
-    | inr h ↦ elim h [
-        inl h ↦ with_two b rest all.0 all.1 h
+      | inl h ↦ with_one b rest all.0 (len_of_one b (get_or rest 0 0) h)
       | inr h ↦ elim h [
-          inl h ↦ with_three b rest all.0 all.1 h
+        | inl h ↦ with_two b rest all.0 all.1 h
         | inr h ↦ elim h [
-            inl h ↦ with_four b rest all.0 all.1 h
-          | inr h ↦ subst (λ (x : ℕ). Answer (x ∷ rest)) (sym h.1) (with_five rest all.1) ] ] ] ]
+          | inl h ↦ with_three b rest all.0 all.1 h
+          | inr h ↦ elim h [
+            | inl h ↦ with_four b rest all.0 all.1 h
+            | inr h ↦ subst (λ (x : ℕ). Answer (x ∷ rest)) (sym h.1) (with_five rest all.1)
+          ]
+        ]
+      ]
+    ]
