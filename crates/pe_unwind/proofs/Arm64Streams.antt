@@ -1,17 +1,15 @@
 -- The items of a stream of ARM64 codes, and that there is one tiling of it.
-use Rattle.std.proofs.Common.{◌≡◌, ◌<◌, ◌≤◌, ◌↔◌, ◌+◌, ◌-◌, ◌/◌, ◌⊎◌, ℕ, All, IsTrue, true, List, [], ◌∷◌, ◌++◌, length, drop, map, Option, Some, None, Result, Ok, Err, refl, ap, sym, ◌∙◌, subst, arith, append_assoc, inl, inr}
+use Rattle.std.proofs.Common.{◌≡◌, ◌<◌, ◌≤◌, ◌+◌, ◌-◌, ◌/◌, ℕ, All, List, [], ◌∷◌, ◌++◌, length, drop, map, Option, None, Result, Ok, Err, refl, ap, sym, ◌∙◌, subst, arith, append_assoc, inl, inr}
 use Rattle.std.proofs.lemmas.Grind.{common_steps}
 use Rattle.std.proofs.lemmas.List.{length-append, length-drop, drop_all}
 use Rattle.std.proofs.lemmas.List.Elements.{All-drop}
 use Rattle.std.specs.Iterator.{Yields}
-use Rattle.std.specs.List.{list_any}
-use Rattle.std.specs.Result.{is_err}
 use Rattle.pe_core.specs.Refusals.{Refusal, kind_of}
 use Rattle.pe_core.specs.declared.error.Error.{Error}
 use Rattle.pe_unwind.specs.declared.arm64.codes.Arm64UnwindCode.{Arm64UnwindCode}
 use Rattle.pe_unwind.specs.declared.arm64.codes.Arm64UnwindCodeData.{Arm64UnwindCodeData}
 use Rattle.pe_unwind.specs.declared.arm64.codes.Arm64UnwindCodeIterator.{Arm64UnwindCodeIterator}
-use Rattle.pe_unwind.specs.Arm64Encoding.{encoding, Legal, BeginsWith, BeginsWithNone, IsCut}
+use Rattle.pe_unwind.specs.Arm64Encoding.{encoding, Legal, BeginsWith, BeginsWithNone}
 use Rattle.pe_unwind.specs.Arm64Tiling.{CodePlace, place_of, IsItem, Tiles, Gives, codes_of, Joins}
 use Rattle.pe_unwind.specs.FunctionTable.{answer_of}
 use Rattle.pe_unwind.proofs.Arm64OneCode.{begins_once}

@@ -1,13 +1,12 @@
 -- Every byte string but the empty one begins with an ARM64 code, or is cut.
-use Rattle.std.proofs.Common.{◌≡◌, ℕ, zero, suc, ◌+◌, ◌-◌, ◌*◌, ◌/◌, ◌%◌, ◌<◌, ◌≤◌, ◌⊎◌, inl, inr, true, false, if◌then◌else◌, nat_lt, ◌==◌, List, [], ◌∷◌, ◌++◌, length, get_or, drop, take, refl, ap, sym, ◌∙◌, subst, arith}
+use Rattle.std.proofs.Common.{◌≡◌, ℕ, suc, ◌+◌, ◌*◌, ◌<◌, ◌⊎◌, inl, inr, List, [], ◌∷◌, ◌++◌, length, get_or, drop, refl, ap, sym, ◌∙◌, subst, arith}
 use Rattle.std.specs.Prelude.{All}
 use Rattle.std.proofs.lemmas.Bool.Decides.{nat_tests}
-use Rattle.std.proofs.lemmas.Grind.{common_steps}
 use Rattle.pe_unwind.specs.declared.arm64.codes.Arm64UnwindCode.{Arm64UnwindCode}
 use Rattle.pe_unwind.specs.declared.arm64.codes.Arm64UnwindCode.TheVariants.{Reserved}
 use Rattle.std.proofs.Math.Seq.{drop-append_seam}
 use Rattle.pe_unwind.specs.Arm64Encoding.{encoding, Legal, len_at, Encodes, BeginsWith, IsCut}
-use Rattle.pe_unwind.proofs.Arm64OneCode.{one_high, one, two, three, four, code_of}
+use Rattle.pe_unwind.proofs.Arm64OneCode.{one, two, three, four}
 
 one_legal : (b : ℕ) → b < 256 → len_at b 0 ≡ 1 → Legal (one b)
 one_legal b r h = grind (arith, nat_tests)
