@@ -2,7 +2,10 @@
 #![tactic(auto)]
 
 #[cfg(test)]
+mod arm64_codes;
+#[cfg(test)]
 mod arm64_functions;
+#[cfg(test)]
 mod bytes;
 #[cfg(test)]
 mod certificates;

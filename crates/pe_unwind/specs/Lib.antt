@@ -11,3 +11,5 @@ pub mod Links
 pub mod Unwinding
 pub mod Arm64Functions
 pub mod Arm64Words
+pub mod Arm64Encoding
+pub mod Arm64Tiling

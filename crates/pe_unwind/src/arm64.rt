@@ -1,4 +1,5 @@
 //! ARM64 exception data.
 
+pub mod codes;
 pub mod function;
 pub mod words;

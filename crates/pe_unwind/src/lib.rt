@@ -21,6 +21,9 @@ pub use arm64::function::{
     Arm64RuntimeFunctionIterator,
 };
 pub use arm64::words::{Arm64EpilogScope, Arm64UnwindExtension, Arm64UnwindHeader};
+pub use arm64::codes::{
+    Arm64CustomStackCase, Arm64UnwindCode, Arm64UnwindCodeData, Arm64UnwindCodeIterator,
+};
 pub use exception::ExceptionData;
 pub use function_table::{RuntimeFunction, RuntimeFunctionIterator, search};
 pub use register::Register;

@@ -1,0 +1,65 @@
+-- Streams of ARM64 unwind codes, one behind the other.
+use Rattle.std.specs.Prelude.{◌≡◌, ℕ, ◌+◌, ◌-◌, ◌%◌, ◌<◌, ◌≤◌, ◌↔◌, IsTrue, nat_le, ◌==◌, List, [], ◌∷◌, ◌++◌, length, drop, Option, Some, None, Result, Ok, Err}
+use Rattle.std.specs.List.{list_any}
+use Rattle.std.specs.Result.{is_err}
+use Rattle.pe_core.specs.Refusals.{Refusal, Arm64Stream, Arm64Cut, kind_of, outcome}
+use Rattle.pe_core.specs.declared.error.Error.{Error}
+use Rattle.pe_unwind.specs.declared.arm64.codes.Arm64UnwindCodeData.{Arm64UnwindCodeData}
+use Rattle.pe_unwind.specs.declared.arm64.codes.Arm64UnwindCodeIterator.{Arm64UnwindCodeIterator}
+use Rattle.pe_unwind.specs.Arm64Encoding.{encoding, BeginsWith, BeginsWithNone}
+
+-- the whole bytes, and where the next code begins
+pub record CodePlace : Type 0 where
+  pub content : List ℕ
+  pub at : ℕ
+
+-- where an iterator stands
+abbrev pub place_of : Arm64UnwindCodeIterator → CodePlace
+place_of s = record { content = s.bytes.now; at = s.offset }
+
+-- how many bytes are left
+abbrev pub left_at : CodePlace → ℕ
+left_at s = length s.content - s.at
+
+-- whole words of four bytes, at most 4,294,967,292 of them, read from a place in them or at their end
+abbrev pub stream_at : List ℕ → ℕ → Result CodePlace Refusal
+stream_at bytes start =
+    outcome ((length bytes % 4 == 0, Arm64Stream) ∷ (nat_le start (length bytes), Arm64Stream) ∷ (nat_le (length bytes) 4294967292, Arm64Stream) ∷ [])
+    (record { content = bytes; at = start })
+
+-- an item of the bytes at a place: the code that begins there, with the place and its length, or a cut where none begins
+abbrev pub IsItem : List ℕ → ℕ → Result Arm64UnwindCodeData Error → Type 0
+IsItem bytes at (Ok item) = BeginsWith (drop at bytes) item.code × (item.offset ≡ at) × (item.len ≡ length (encoding item.code))
+IsItem bytes at (Err e) = BeginsWithNone (drop at bytes) × (kind_of e ≡ Arm64Cut)
+
+-- where the item behind it begins; behind a cut nothing comes
+abbrev pub behind : List ℕ → ℕ → Result Arm64UnwindCodeData Error → ℕ
+behind bytes at (Ok item) = at + item.len
+behind bytes at (Err e) = length bytes
+
+-- these are all items of the bytes from a place on: codes that follow one another, and one cut where none begins what is
+-- left; behind a cut nothing comes
+abbrev pub Tiles : List ℕ → ℕ → List (Result Arm64UnwindCodeData Error) → Type 0
+Tiles bytes at [] = length bytes ≤ at
+Tiles bytes at (Ok item ∷ items) = (at < length bytes) × IsItem bytes at (Ok item) × Tiles bytes (at + item.len) items
+Tiles bytes at (Err e ∷ items) = (at < length bytes) × IsItem bytes at (Err e) × (items ≡ [])
+
+-- what one call of next answers, and where it leaves the iterator
+abbrev pub Gives : CodePlace → Option (Result Arm64UnwindCodeData Error) → CodePlace → Type 0
+Gives s None t = (length s.content ≤ s.at) × (t ≡ s)
+Gives s (Some item) t =
+    (s.at < length s.content) × IsItem s.content s.at item × (t ≡ record { content = s.content; at = behind s.content s.at item })
+
+-- the bytes of all codes among the items, one behind the other
+abbrev pub codes_of : List (Result Arm64UnwindCodeData Error) → List ℕ
+codes_of [] = []
+codes_of (Ok item ∷ items) = encoding item.code ++ codes_of items
+codes_of (Err e ∷ items) = codes_of items
+
+-- the bytes are those of the items' codes, one behind the other, and then a rest that begins with none: not empty exactly
+-- if one of the items is a cut
+pub record Joins (bytes : List ℕ) (items : List (Result Arm64UnwindCodeData Error)) : Type 0 where
+  pub rest : List ℕ
+  pub joined : bytes ≡ codes_of items ++ rest
+  pub none : BeginsWithNone rest
+  pub cut : IsTrue (list_any is_err items) ↔ (0 < length rest)
