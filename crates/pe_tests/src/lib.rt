@@ -6,6 +6,8 @@ mod arm64_codes;
 #[cfg(test)]
 mod arm64_functions;
 #[cfg(test)]
+mod arm64_records;
+#[cfg(test)]
 mod bytes;
 #[cfg(test)]
 mod certificates;

@@ -1,6 +1,8 @@
 pub mod Names
 pub mod TableEntries
 pub mod Entries
+pub mod EpilogScopes
+pub mod Arm64Records
 pub mod Searches
 pub mod SpellingLengths
 pub mod Pigeonhole

@@ -1,6 +1,35 @@
 -- Words of ARM64 exception data. Bit 0 is the lowest. (ARM64 exception handling: .xdata records, epilog scopes.)
-use Rattle.std.specs.Prelude.{ℕ, ◌/◌, ◌%◌, ◌^◌}
+use Rattle.std.specs.Prelude.{ℕ, ◌/◌, ◌%◌, ◌^◌, ◌==◌, ◌&&◌, Bool, List, Result}
+use Rattle.pe_core.specs.Bytes.{le}
+use Rattle.pe_core.specs.Refusals.{Refusal}
+use Rattle.pe_unwind.specs.declared.arm64.words.Arm64EpilogScope.{Arm64EpilogScope}
+use Rattle.pe_unwind.specs.declared.arm64.words.Arm64EpilogScopeIterator.{Arm64EpilogScopeIterator}
+use Rattle.pe_unwind.specs.TableEntries.{entry_items}
 
 -- the number in so many bits of a word, from bit `first` on
 abbrev pub bits : ℕ → ℕ → ℕ → ℕ
 bits word first count = word / 2 ^ first % 2 ^ count
+
+-- X of a header: the record ends in the address of a handler
+abbrev pub has_handler : ℕ → Bool
+has_handler header = bits header 20 1 == 1
+
+-- E of a header: it describes the one epilog, and no scopes follow
+abbrev pub has_epilog : ℕ → Bool
+has_epilog header = bits header 21 1 == 1
+
+-- both counts of a header are 0: an extension word has them
+abbrev pub has_extension : ℕ → Bool
+has_extension header = bits header 22 5 == 0 && bits header 27 5 == 0
+
+-- the epilog scope of 4 bytes at p
+abbrev pub epilog_scope_at : List ℕ → ℕ → Arm64EpilogScope
+epilog_scope_at b p = record { 0 = le b p 4 }
+
+-- the whole scopes of these bytes, and one fault where a last one is cut
+unfoldable pub epilog_scope_items : List ℕ → List (Result Arm64EpilogScope Refusal)
+epilog_scope_items b = entry_items epilog_scope_at 4 b
+
+-- what an iterator has left
+abbrev pub epilog_scopes_left : Arm64EpilogScopeIterator → List (Result Arm64EpilogScope Refusal)
+epilog_scopes_left s = epilog_scope_items s.bytes.now

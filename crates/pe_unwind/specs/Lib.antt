@@ -11,5 +11,7 @@ pub mod Links
 pub mod Unwinding
 pub mod Arm64Functions
 pub mod Arm64Words
+pub mod Arm64Record
+pub mod Arm64Unwinding
 pub mod Arm64Encoding
 pub mod Arm64Tiling

@@ -2,4 +2,5 @@
 
 pub mod codes;
 pub mod function;
+pub mod info;
 pub mod words;

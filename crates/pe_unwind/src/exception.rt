@@ -5,6 +5,7 @@ ghost use Rattle.std.specs.Prelude.{◌+◌, ◌<◌, ◌≤◌, length};
 use crate::arm64::function::{
     Arm64RuntimeFunction, Arm64RuntimeFunctionIterator, SIZE_OF_ARM64_FUNCTION, read_arm64_function,
 };
+use crate::arm64::info::Arm64UnwindInfo;
 use crate::function_table::{
     RuntimeFunction, RuntimeFunctionIterator, SIZE_OF_FUNCTION, read_function, search,
 };
@@ -30,6 +31,8 @@ impl<'a> ExceptionData<'a> {
     ghost use Rattle.pe_core.specs.Refusals.{Gives, FunctionCycle};
     ghost use Rattle.pe_unwind.specs.ExceptionTable.{exception_view, exception_at, table_of, function_of};
     ghost use Rattle.pe_unwind.specs.Arm64Functions.{arm64_functions, arm64_function_items, items_of_arm64_functions, arm64_function_of};
+    ghost use Rattle.pe_unwind.specs.Arm64Record.{info_view};
+    ghost use Rattle.pe_unwind.specs.Arm64Unwinding.{info_of_function};
     ghost use Rattle.pe_unwind.specs.FunctionTable.{functions, function_items, items_of_functions, answer_of, Finds};
     ghost use Rattle.pe_unwind.specs.Links.{Follows, Leads, IsEndless, links_of};
     ghost use Rattle.pe_unwind.specs.Unwinding.{Unwinds, UnwindsAt, answer_by, record_at_address};
@@ -303,6 +306,37 @@ impl<'a> ExceptionData<'a> {
         match find_offset(address as usize, sections, self.file_alignment, opts) {
             Some(place) => UnwindInfo::parse(self.bytes, place),
             None => Err(Error::Malformed(Reason::Unmapped(u64::from(address)))),
+        }
+    }
+
+    /// The unwind record of an ARM64 function, with the default options.
+    pub fn get_unwind_info_arm64(
+        &self,
+        function: Arm64RuntimeFunction,
+        sections: &[SectionTable],
+    ) -> Option<Result<Arm64UnwindInfo<'a>>>
+        ensures { option_map (answer_by info_view) result ≡ info_of_function (exception_view self.now) sections.now default_options function }
+    {
+        self.get_unwind_info_arm64_with_opts(function, sections, &ParseOptions::default())
+    }
+
+    /// The unwind record of an ARM64 function: `None` where its unwind data are packed, else the record at their address
+    /// (`Unmapped`), and what refuses it.
+    pub fn get_unwind_info_arm64_with_opts(
+        &self,
+        function: Arm64RuntimeFunction,
+        sections: &[SectionTable],
+        opts: &ParseOptions,
+    ) -> Option<Result<Arm64UnwindInfo<'a>>>
+        ensures { option_map (answer_by info_view) result ≡ info_of_function (exception_view self.now) sections.now opts.now function }
+    {
+        if function.is_packed() {
+            return None;
+        }
+        let address = function.unwind_data_rva();
+        match find_offset(address as usize, sections, self.file_alignment, opts) {
+            Some(place) => Some(Arm64UnwindInfo::parse(self.bytes, place)),
+            None => Some(Err(Error::Malformed(Reason::Unmapped(u64::from(address))))),
         }
     }
 

@@ -1,10 +1,11 @@
 //! Laws over the definitions. Each is the contract of a function that does nothing.
 
-ghost use Rattle.std.specs.Prelude.{◌≡◌, ◌+◌, ◌-◌, ◌/◌, ◌<◌, ◌≤◌, ◌↔◌, ◌⊎◌, ℕ, All, List, length, drop, Option, Some, Result, IsSome, IsTrue, map};
+ghost use Rattle.std.specs.Prelude.{◌≡◌, ◌+◌, ◌-◌, ◌/◌, ◌<◌, ◌≤◌, ◌↔◌, ◌⊎◌, ℕ, All, List, length, drop, Option, Some, Result, Ok, IsSome, IfSome, IsTrue, map};
 ghost use Rattle.std.specs.Iterator.{Drains};
 ghost use Rattle.std.specs.List.{Any};
 ghost use Rattle.std.specs.Ordering.{nat_cmp};
 ghost use Rattle.std.specs.declared.cmp.Ordering.TheVariants.{Equal};
+ghost use Rattle.pe_core.specs.Bytes.{AreBytes};
 ghost use Rattle.pe_core.specs.Refusals.{Refusal};
 ghost use Rattle.pe_core.specs.declared.error.Error.{Error};
 ghost use Rattle.pe_unwind.specs.declared.function_table.RuntimeFunction.{RuntimeFunction};
@@ -17,6 +18,7 @@ ghost use Rattle.pe_unwind.specs.declared.arm64.codes.Arm64UnwindCodeData.{Arm64
 ghost use Rattle.pe_unwind.specs.declared.arm64.codes.Arm64UnwindCodeIterator.{Arm64UnwindCodeIterator};
 ghost use Rattle.pe_unwind.specs.Arm64Encoding.{encoding, Legal, BeginsWith as BeginsWithCode, BeginsWithNone, IsCut};
 ghost use Rattle.pe_unwind.specs.Arm64Tiling.{Tiles, Joins, place_of};
+ghost use Rattle.pe_unwind.specs.Arm64Record.{Arm64InfoView, AreRecord, info_at, record_size, size_at};
 ghost use Rattle.pe_unwind.specs.CodeStream.{CodeStream, AreItems, stream_of};
 ghost use Rattle.pe_unwind.specs.FunctionTable.{NeverFalls, NoEndPassesNext, Covers, Finds, answer_of};
 ghost use Rattle.pe_unwind.specs.Links.{Table, Follows};
@@ -87,4 +89,19 @@ pub fn one_tiling_of_arm64_codes()
     ensures joined { (b : List ℕ) (at : ℕ) (xs : List (Result Arm64UnwindCodeData Error)) → Tiles b at xs → Joins (drop at b) xs }
     ensures counts { (b : List ℕ) (at : ℕ) (xs : List (Result Arm64UnwindCodeData Error)) → All (λ x. x < 256) b → Tiles b at xs →
         ((length b - at + 4) / 5 ≤ length xs) × (length xs ≤ length b - at) }
+{}
+
+/// An ARM64 unwind record that is given is the concatenation of its parts: header, extension word, scopes, codes, address
+/// of the handler, rest.
+pub fn arm64_records_are_concatenations()
+    ensures { (b : List ℕ) (p : ℕ) (i : Arm64InfoView) → AreBytes b → info_at b p ≡ Ok i → AreRecord (drop p b) i (drop (p + record_size i.header i.extension) b) }
+{}
+
+/// Where an ARM64 unwind record is given, its size is too, and is that of its words; the record ends in the bytes, and a
+/// handler's data are all bytes behind it.
+#[tactic(auto, using(crate::proofs::Arm64Records::sized, crate::proofs::Arm64Records::inside))]
+pub fn arm64_records_have_their_size()
+    ensures size { (b : List ℕ) (i : Arm64InfoView) → info_at b 0 ≡ Ok i → size_at b ≡ Ok (record_size i.header i.extension) }
+    ensures inside { (b : List ℕ) (p : ℕ) (i : Arm64InfoView) → info_at b p ≡ Ok i → p + record_size i.header i.extension ≤ length b }
+    ensures handler { (b : List ℕ) (p : ℕ) (i : Arm64InfoView) → info_at b p ≡ Ok i → IfSome i.handler (λ h. h.bytes ≡ drop (p + record_size i.header i.extension) b) }
 {}

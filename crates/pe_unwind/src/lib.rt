@@ -14,15 +14,18 @@ mod scope_table;
 mod unwind_code;
 mod unwind_info;
 
+pub use arm64::codes::{
+    Arm64CustomStackCase, Arm64UnwindCode, Arm64UnwindCodeData, Arm64UnwindCodeIterator,
+};
 pub use arm64::function::{
     ARM64_PDATA_CR_CHAINED, ARM64_PDATA_CR_CHAINED_WITH_PAC, ARM64_PDATA_CR_UNCHAINED,
     ARM64_PDATA_CR_UNCHAINED_SAVED_LR, ARM64_PDATA_PACKED_UNWIND_FRAGMENT,
     ARM64_PDATA_PACKED_UNWIND_FUNCTION, ARM64_PDATA_REF_TO_FULL_XDATA, Arm64RuntimeFunction,
     Arm64RuntimeFunctionIterator,
 };
-pub use arm64::words::{Arm64EpilogScope, Arm64UnwindExtension, Arm64UnwindHeader};
-pub use arm64::codes::{
-    Arm64CustomStackCase, Arm64UnwindCode, Arm64UnwindCodeData, Arm64UnwindCodeIterator,
+pub use arm64::info::{Arm64ExceptionHandler, Arm64UnwindInfo};
+pub use arm64::words::{
+    Arm64EpilogScope, Arm64EpilogScopeIterator, Arm64UnwindExtension, Arm64UnwindHeader,
 };
 pub use exception::ExceptionData;
 pub use function_table::{RuntimeFunction, RuntimeFunctionIterator, search};

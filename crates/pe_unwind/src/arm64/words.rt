@@ -1,7 +1,15 @@
 //! Words of ARM64 exception data, and the fields that are packed into their bits.
 
-ghost use Rattle.std.specs.Prelude.{◌≡◌, ◌*◌, ◌<◌, ◌==◌, ◌&&◌};
-ghost use Rattle.pe_unwind.specs.Arm64Words.{bits};
+ghost use Rattle.std.specs.Prelude.{◌≡◌, ◌*◌, ◌<◌, ◌==◌, length, IfSome, Some};
+ghost use Rattle.std.specs.Iterator.{UpTo, YieldsFirstBy, item_count};
+ghost use Rattle.std.specs.Iterator.SizeHint.{IsWithinCount};
+ghost use Rattle.pe_unwind.specs.Arm64Words.{bits, has_handler, has_epilog, has_extension, epilog_scope_items, epilog_scopes_left};
+ghost use Rattle.pe_unwind.specs.FunctionTable.{answer_of};
+
+use pe_core::{Error, Result, number32};
+
+/// The bytes of one epilog scope.
+const SIZE_OF_EPILOG_SCOPE: usize = 4;
 
 /// The number in so many bits of a word, from bit `first` on.
 pub fn bits(word: u32, first: u32, count: u32) -> u32
@@ -33,14 +41,14 @@ impl Arm64UnwindHeader {
 
     /// Whether the record ends in the address of a handler (X).
     pub fn exception_data_present(&self) -> bool
-        ensures { result ≡ (bits (self.now).0 20 1 == 1) }
+        ensures { result ≡ has_handler (self.now).0 }
     {
         bits(self.0, 20, 1) == 1
     }
 
     /// Whether the one epilog is described by this word, and no scopes follow (E).
     pub fn epilog_in_header(&self) -> bool
-        ensures { result ≡ (bits (self.now).0 21 1 == 1) }
+        ensures { result ≡ has_epilog (self.now).0 }
     {
         bits(self.0, 21, 1) == 1
     }
@@ -61,7 +69,7 @@ impl Arm64UnwindHeader {
 
     /// Whether an extension word follows, which has the two counts in place of this one.
     pub fn has_extension(&self) -> bool
-        ensures { result ≡ (bits (self.now).0 22 5 == 0 && bits (self.now).0 27 5 == 0) }
+        ensures { result ≡ has_extension (self.now).0 }
     {
         self.epilog_count() == 0 && self.code_words() == 0
     }
@@ -111,5 +119,64 @@ impl Arm64EpilogScope {
         ensures { result ≡ bits (self.now).0 22 10 }
     {
         bits(self.0, 22, 10)
+    }
+}
+
+/// The epilog scopes that are left. A cut last one is one item, refused as `Short`.
+#[derive(Debug, Drop)]
+pub struct Arm64EpilogScopeIterator<'a> {
+    bytes: &'a [u8],
+}
+
+impl<'a> Arm64EpilogScopeIterator<'a> {
+    /// The epilog scopes of these bytes.
+    pub fn new(bytes: &'a [u8]) -> Self
+        ensures { epilog_scopes_left result ≡ epilog_scope_items bytes.entry.now }
+    {
+        Arm64EpilogScopeIterator { bytes }
+    }
+}
+
+impl<'a> Iterator for Arm64EpilogScopeIterator<'a> {
+    type Item = Result<Arm64EpilogScope>;
+
+    ghost next_gives = { YieldsFirstBy answer_of epilog_scopes_left };
+
+    ghost remaining = { item_count epilog_scopes_left };
+
+    #[tactic(auto, using(crate::proofs::EpilogScopes::epilog_scopes_more, crate::proofs::EpilogScopes::epilog_scopes_cut, crate::proofs::EpilogScopes::epilog_scopes_none))]
+    fn next(&mut self) -> Option<Result<Arm64EpilogScope>> {
+        let bytes = self.bytes;
+        if bytes.is_empty() {
+            return None;
+        }
+        if bytes.len() < SIZE_OF_EPILOG_SCOPE {
+            self.bytes = bytes.split_at(bytes.len()).1;
+            return Some(Err(Error::Short {
+                at: 0,
+                needed: SIZE_OF_EPILOG_SCOPE,
+            }));
+        }
+        self.bytes = bytes.split_at(SIZE_OF_EPILOG_SCOPE).1;
+        Some(Ok(Arm64EpilogScope(number32(bytes, 0))))
+    }
+
+    #[tactic(auto, using(crate::proofs::EpilogScopes::epilog_scopes_count))]
+    fn size_hint(&self) -> (usize, Option<usize>)
+        ensures lower { IsWithinCount result.0 (item_count epilog_scopes_left self.now) }
+        ensures upper { IfSome result.1 (UpTo (item_count epilog_scopes_left self.now)) }
+        ensures exact { result ≡ (length (epilog_scopes_left self.now), Some (length (epilog_scopes_left self.now))) }
+    {
+        let scopes = self.len();
+        (scopes, Some(scopes))
+    }
+}
+
+impl<'a> ExactSizeIterator for Arm64EpilogScopeIterator<'a> {
+    #[tactic(auto, using(crate::proofs::EpilogScopes::epilog_scopes_count))]
+    fn len(&self) -> usize
+        ensures { result ≡ length (epilog_scopes_left self.now) }
+    {
+        (self.bytes.len() + (SIZE_OF_EPILOG_SCOPE - 1)) / SIZE_OF_EPILOG_SCOPE
     }
 }

@@ -1,0 +1,277 @@
+//! ARM64 unwind records: their words, scopes, codes and handler, and the functions that they belong to.
+
+use pe_core::{DataDirectory, Error, ParseOptions, Reason};
+use pe_unwind::{
+    Arm64EpilogScope, Arm64EpilogScopeIterator, Arm64ExceptionHandler, Arm64RuntimeFunction,
+    Arm64UnwindCode, Arm64UnwindExtension, Arm64UnwindHeader, Arm64UnwindInfo, ExceptionData,
+};
+use std::test::Fail;
+
+/// A record with one scope, one word of codes, a handler, and one byte of the handler's data.
+const HANDLED: [u8; 17] = [
+    0x04, 0, 0x50, 0x08, 0x03, 0, 0x38, 0, 0x41, 0x81, 0xE4, 0xE3, 0, 0x20, 0, 0, 0xAA,
+];
+
+/// A record with an extension word, which counts one scope and one word of codes.
+const EXTENDED: [u8; 16] = [
+    0x04, 0, 0, 0, 1, 0, 1, 0, 0x03, 0, 0x38, 0, 0xE4, 0xE3, 0xE3, 0xE3,
+];
+
+/// Whether this is the refusal of so many bytes at a place.
+fn is_short<T>(answer: &Result<T, Error>, place: usize, count: usize) -> bool {
+    matches!(answer, Err(Error::Short { at, needed }) if *at == place && *needed == count)
+}
+
+/// The default options with addresses that are their places.
+fn flat() -> ParseOptions {
+    ParseOptions {
+        resolve_rva: false,
+        ..ParseOptions::default()
+    }
+}
+
+#[test]
+fn reads_words(rt: HostRuntime) -> Result<(), Fail> {
+    let header = Arm64UnwindHeader(0x0850_0004);
+    assert_eq!(rt; (header.function_length(), header.version()), (16, 0));
+    assert!(rt; header.exception_data_present() && !header.epilog_in_header());
+    assert_eq!(rt; (header.epilog_count(), header.code_words()), (1, 1));
+    assert!(rt; !header.has_extension());
+    let full = Arm64UnwindHeader(0xFFFF_FFFF);
+    assert_eq!(rt; (full.function_length(), full.version()), (0xF_FFFC, 3));
+    assert_eq!(rt; (full.epilog_count(), full.code_words()), (31, 31));
+    assert!(rt; full.epilog_in_header());
+    assert!(rt; Arm64UnwindHeader(0x003F_FFFF).has_extension());
+
+    let extension = Arm64UnwindExtension(0xFF12_FFFE);
+    assert_eq!(rt;
+        (extension.epilog_count(), extension.code_words()),
+        (0xFFFE, 0x12)
+    );
+
+    let scope = Arm64EpilogScope(0xFFC4_0001);
+    assert_eq!(rt; (scope.start_offset_words(), scope.condition()), (4, 1));
+    assert_eq!(rt; scope.start_index(), 1023);
+    Ok(())
+}
+
+#[test]
+fn reads_a_record_with_a_handler(rt: HostRuntime) -> Result<(), Fail> {
+    let info = Arm64UnwindInfo::parse(&HANDLED, 0)?;
+    assert_eq!(rt; (info.header.function_length(), info.extension), (16, None));
+    assert_eq!(rt; Arm64UnwindInfo::size(&HANDLED)?, 16);
+
+    let mut scopes = info
+        .epilog_scopes()
+        .unwrap_or(Arm64EpilogScopeIterator::new(&[]));
+    assert_eq!(rt; (scopes.len(), scopes.size_hint()), (1, (1, Some(1))));
+    let Some(Ok(scope)) = scopes.next() else {
+        assert!(rt; false, "there is no scope");
+        return Ok(());
+    };
+    assert_eq!(rt;
+        (
+            scope.start_offset_words(),
+            scope.condition(),
+            scope.start_index()
+        ),
+        (12, 14, 0)
+    );
+    assert!(rt; scopes.next().is_none());
+
+    let mut codes = info.unwind_codes(0)?;
+    for (offset, code) in [
+        (0, Arm64UnwindCode::SaveFpLr { offset_bytes: 8 }),
+        (1, Arm64UnwindCode::SaveFpLrPreindexed { offset_bytes: 16 }),
+        (2, Arm64UnwindCode::End),
+        (3, Arm64UnwindCode::Nop),
+    ] {
+        assert!(rt;
+            matches!(codes.next(), Some(Ok(item)) if item.offset == offset && item.code == code && item.len == 1)
+        );
+    }
+    assert!(rt; codes.next().is_none());
+    Ok(())
+}
+
+/// What was taken from a record stays when the record is gone.
+#[test]
+fn keeps_the_handler(rt: HostRuntime) -> Result<(), Fail> {
+    let (handler, mut codes) = {
+        let info = Arm64UnwindInfo::parse(&HANDLED, 0)?;
+        let codes = info.unwind_codes(3)?;
+        (info.exception_handler, codes)
+    };
+    assert_eq!(rt;
+        handler,
+        Some(Arm64ExceptionHandler {
+            rva: 0x2000,
+            bytes: &[0xAA],
+        })
+    );
+    assert!(rt; matches!(codes.next(), Some(Ok(item)) if item.offset == 3));
+    assert!(rt; codes.next().is_none());
+    Ok(())
+}
+
+#[test]
+fn reads_a_record_with_an_extension(rt: HostRuntime) -> Result<(), Fail> {
+    let info = Arm64UnwindInfo::parse(&EXTENDED, 0)?;
+    assert_eq!(rt; info.extension, Some(Arm64UnwindExtension(0x0001_0001)));
+    assert_eq!(rt; info.exception_handler, None);
+    assert_eq!(rt; Arm64UnwindInfo::size(&EXTENDED)?, 16);
+    assert_eq!(rt; info.epilog_scopes().map(|scopes| scopes.len()), Some(1));
+    assert_eq!(rt; info.unwind_codes(0)?.count(), 4);
+    assert!(rt;
+        matches!(
+            info.unwind_codes(5),
+            Err(Error::Malformed(Reason::Arm64Stream {
+                length: 4,
+                start: 5
+            }))
+        )
+    );
+
+    // Both counts of the extension word are 0 too.
+    let empty = [0u8; 8];
+    let info = Arm64UnwindInfo::parse(&empty, 0)?;
+    assert!(rt; info.epilog_scopes().is_none());
+    assert!(rt; info.unwind_codes(0)?.next().is_none());
+    assert_eq!(rt; Arm64UnwindInfo::size(&empty)?, 8);
+    Ok(())
+}
+
+/// A header that describes the one epilog has the index of its first code in place of a count of scopes.
+#[test]
+fn reads_records_with_the_epilog_in_the_header(rt: HostRuntime) -> Result<(), Fail> {
+    let short = [0x04, 0, 0xE0, 0x08, 0xE4, 0xE3, 0xE3, 0xE3];
+    let info = Arm64UnwindInfo::parse(&short, 0)?;
+    assert!(rt; info.header.epilog_in_header());
+    assert_eq!(rt; info.header.epilog_count(), 3);
+    assert!(rt; info.epilog_scopes().is_none());
+    assert_eq!(rt; info.unwind_codes(3)?.count(), 1);
+    assert_eq!(rt; Arm64UnwindInfo::size(&short)?, 8);
+
+    let extended = [0x04, 0, 0x20, 0, 5, 0, 1, 0, 0xE4, 0xE3, 0xE3, 0xE3];
+    let info = Arm64UnwindInfo::parse(&extended, 0)?;
+    assert!(rt; info.epilog_scopes().is_none());
+    assert_eq!(rt; info.unwind_codes(0)?.count(), 4);
+    assert_eq!(rt; Arm64UnwindInfo::size(&extended)?, 12);
+    Ok(())
+}
+
+#[test]
+fn refuses_cut_records(rt: HostRuntime) -> Result<(), Fail> {
+    for length in 0..16usize {
+        let place = length / 4 * 4;
+        let cut = &HANDLED[..length];
+        assert!(rt;
+            is_short(&Arm64UnwindInfo::parse(cut, 0), place, 4),
+            "at {length}"
+        );
+        assert_eq!(rt;
+            is_short(&Arm64UnwindInfo::size(cut), 0, 4),
+            length < 4,
+            "at {length}"
+        );
+
+        let cut = &EXTENDED[..length];
+        assert!(rt;
+            is_short(&Arm64UnwindInfo::parse(cut, 0), place, 4),
+            "at {length}"
+        );
+        assert_eq!(rt;
+            is_short(&Arm64UnwindInfo::size(cut), place, 4),
+            length < 8,
+            "at {length}"
+        );
+    }
+    let whole = Arm64UnwindInfo::parse(&HANDLED[..16], 0)?;
+    assert_eq!(rt;
+        whole.exception_handler,
+        Some(Arm64ExceptionHandler {
+            rva: 0x2000,
+            bytes: &[],
+        })
+    );
+    assert!(rt; is_short(&Arm64UnwindInfo::parse(&HANDLED, usize::MAX), usize::MAX, 4));
+    Ok(())
+}
+
+/// The version is tested before what follows it, and not for a size.
+#[test]
+fn refuses_other_versions(rt: HostRuntime) -> Result<(), Fail> {
+    for version in 1..4u8 {
+        let record = [0x04, 0, 4 * version, 0];
+        assert!(rt;
+            matches!(
+                Arm64UnwindInfo::parse(&record, 0),
+                Err(Error::Malformed(Reason::Arm64Version(was))) if was == u32::from(version)
+            )
+        );
+        assert!(rt; is_short(&Arm64UnwindInfo::size(&record), 4, 4));
+    }
+    Ok(())
+}
+
+#[test]
+fn gives_cut_scopes_once(rt: HostRuntime) -> Result<(), Fail> {
+    let mut scopes = Arm64EpilogScopeIterator::new(&[3, 0, 0x38, 0, 1]);
+    assert_eq!(rt; scopes.len(), 2);
+    assert!(rt; matches!(scopes.next(), Some(Ok(Arm64EpilogScope(0x0038_0003)))));
+    assert!(rt; matches!(scopes.next(), Some(Err(Error::Short { at: 0, needed: 4 }))));
+    assert!(rt; scopes.next().is_none());
+    assert!(rt; scopes.next().is_none());
+    Ok(())
+}
+
+/// A function's record by its address, none where the unwind data are packed.
+#[test]
+fn finds_records_of_functions(rt: HostRuntime) -> Result<(), Fail> {
+    let bytes = [
+        0, 0x10, 0, 0, 0x10, 0, 0, 0, 0x20, 0x10, 0, 0, 0x21, 0, 0x62, 0x01, 0x04, 0, 0xE0, 0x08,
+        0xE4, 0xE3, 0xE3, 0xE3,
+    ];
+    let directory = DataDirectory {
+        virtual_address: 0,
+        size: 16,
+    };
+    let data = ExceptionData::parse_arm64_with_opts(&bytes, directory, &[], 0x200, &flat())?;
+    assert_eq!(rt; data.len_arm64(), 2);
+
+    let full = data.get_function_arm64(0)?;
+    let Some(Ok(info)) = data.get_unwind_info_arm64_with_opts(full, &[], &flat()) else {
+        assert!(rt; false, "there is no record");
+        return Ok(());
+    };
+    assert_eq!(rt;
+        (info.header.function_length(), info.header.code_words()),
+        (16, 1)
+    );
+    assert!(rt;
+        matches!(
+            data.get_unwind_info_arm64(full, &[]),
+            Some(Err(Error::Malformed(Reason::Unmapped(16))))
+        )
+    );
+
+    let packed = data.get_function_arm64(1)?;
+    assert_eq!(rt; packed.unwind_data, 0x0162_0021);
+    assert!(rt; data.get_unwind_info_arm64(packed, &[]).is_none());
+    assert!(rt;
+        data.get_unwind_info_arm64_with_opts(packed, &[], &flat())
+            .is_none()
+    );
+
+    let behind = Arm64RuntimeFunction {
+        begin_address: 0,
+        unwind_data: 0x18,
+    };
+    assert!(rt;
+        matches!(
+            data.get_unwind_info_arm64_with_opts(behind, &[], &flat()),
+            Some(Err(Error::Short { at: 24, needed: 4 }))
+        )
+    );
+    Ok(())
+}

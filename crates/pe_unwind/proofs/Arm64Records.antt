@@ -1,0 +1,167 @@
+-- An ARM64 unwind record that is given is the concatenation of its parts.
+use Rattle.std.proofs.Common.{rules, ◌≡◌, ℕ, ◌+◌, ◌-◌, ◌*◌, ◌≤◌, Bool, true, false, List, [], ◌∷◌, ◌++◌, length, take, drop, Option, Some, None, Ok, refl, ap, sym, ◌∙◌, subst, arith}
+use Rattle.std.specs.Prelude.{if◌then◌else◌, is_some, IfSome, ◌==◌}
+use Rattle.std.specs.Option.{option_map}
+use Rattle.std.proofs.lemmas.Bool.Decides.{nat_tests}
+use Rattle.std.proofs.lemmas.List.{take-append-drop, drop-drop, places}
+use Rattle.pe_core.proofs.NumberBytes.{bytes_of-le}
+use Rattle.pe_core.specs.Bytes.{AreBytes, le, bytes_of, holds, range}
+use Rattle.std.proofs.lemmas.Bool.{eqb-true}
+use Rattle.pe_core.specs.Refusals.{Refusal, Short, Arm64Version, outcome}
+use Rattle.pe_unwind.specs.Arm64Record.{Arm64HandlerView, Arm64InfoView, extension_size, extension_at, scope_count, code_words, handler_size, handler_at, scopes_place, codes_place, handler_place, record_size, info_with, info_tests, info_at, size_at, word_bytes, AreRecord}
+use Rattle.pe_unwind.specs.Arm64Words.{bits, has_handler, has_extension}
+
+-- what is given passed its tests
+passed : {Y : Type 0} (s t u v w x : Bool) (i j k l m n : Refusal) (y o : Y) →
+    outcome ((s, i) ∷ (t, j) ∷ (u, k) ∷ (v, l) ∷ (w, m) ∷ (x, n) ∷ []) y ≡ Ok o →
+    (s ≡ true) × (t ≡ true) × (u ≡ true) × (v ≡ true) × (w ≡ true) × (x ≡ true) × (y ≡ o)
+passed true true true true true true i j k l m n y o e = (refl, refl, refl, refl, refl, refl, cc)
+passed true true true true true false i j k l m n y o e = absurd cc
+passed true true true true false x i j k l m n y o e = absurd cc
+passed true true true false w x i j k l m n y o e = absurd cc
+passed true true false v w x i j k l m n y o e = absurd cc
+passed true false u v w x i j k l m n y o e = absurd cc
+passed false t u v w x i j k l m n y o e = absurd cc
+
+there : (b : List ℕ) (p n : ℕ) → holds b p n ≡ true → p + n ≤ length b
+there b p n e = grind (arith, nat_tests)
+
+held : (b : List ℕ) (p n : ℕ) → p + n ≤ length b → holds b p n ≡ true
+held b p n h = grind (arith, nat_tests)
+
+-- the bytes from p on are n of them, and those behind
+next_range : (b : List ℕ) (p n : ℕ) → drop p b ≡ range b p n ++ drop (p + n) b
+next_range b p n =
+    let count : p + n - p ≡ n = omega arith in
+    rw count (sym (take-append-drop n (drop p b)) ∙ ap (λ (rest : List ℕ). take n (drop p b) ++ rest) (drop-drop n p b))
+
+next_word : (b : List ℕ) (p : ℕ) → AreBytes b → p + 4 ≤ length b → drop p b ≡ bytes_of 4 (le b p 4) ++ drop (p + 4) b
+next_word b p small h = next_range b p 4 ∙ ap (λ (word : List ℕ). word ++ drop (p + 4) b) (sym (bytes_of-le b p 4 small h))
+
+-- a word that may be left out
+next_extension : (t : Bool) (b : List ℕ) (p : ℕ) → AreBytes b → p + (if t then 4 else 0) ≤ length b → drop p b ≡ word_bytes (if t then Some (le b p 4) else None) ++ drop (p + (if t then 4 else 0)) b
+next_extension true b p small h = next_word b p small h
+next_extension false b p small h = let none : p + 0 ≡ p = omega arith in rw none refl
+
+abbrev handler_if : Bool → List ℕ → ℕ → Option Arm64HandlerView
+handler_if t b q = if t then Some (record { rva = le b q 4; bytes = drop (q + 4) b }) else None
+
+next_handler : (t : Bool) (b : List ℕ) (p : ℕ) → AreBytes b → p + (if t then 4 else 0) ≤ length b → drop p b ≡ word_bytes (option_map (λ h. h.rva) (handler_if t b p)) ++ drop (p + (if t then 4 else 0)) b
+next_handler true b p small h = next_word b p small h
+next_handler false b p small h = let none : p + 0 ≡ p = omega arith in rw none refl
+
+data_behind : (t : Bool) (b : List ℕ) (q : ℕ) → IfSome (handler_if t b q) (λ h. h.bytes ≡ drop (q + (if t then 4 else 0)) b)
+data_behind true b q = refl
+data_behind false b q = tt
+
+there_if : {X : Type 0} (t : Bool) (x : X) → is_some (if t then Some x else None) ≡ t
+there_if true x = refl
+there_if false x = refl
+
+length_range : (b : List ℕ) (p n : ℕ) → p + n ≤ length b → length (range b p n) ≡ n
+length_range b p n h = search (rules, places)
+
+-- the sum of the sizes, from p on
+end : (p x s c h : ℕ) → p + 4 + x + s + c + h ≡ p + (4 + x + s + c + h)
+end p x s c h = omega arith
+
+-- one part behind the other
+chain : {a b c d e f g : List ℕ} (v w x y z : List ℕ) → a ≡ v ++ b → b ≡ w ++ c → c ≡ x ++ d → d ≡ y ++ e → e ≡ z ++ f → f ≡ g → a ≡ v ++ (w ++ (x ++ (y ++ (z ++ g))))
+chain v w x y z h i j k l m = simp (h, i, j, k, l, m) refl
+
+parts : (b : List ℕ) (p header : ℕ) (extension : Option ℕ) → AreBytes b → header ≡ le b p 4 → extension ≡ extension_at b (p + 4) header →
+    p + 4 ≤ length b → bits header 18 2 ≡ 0 → p + 4 + extension_size header ≤ length b → scopes_place p header + 4 * scope_count header extension ≤ length b →
+    codes_place p header extension + 4 * code_words header extension ≤ length b → handler_place p header extension + handler_size header ≤ length b →
+    AreRecord (drop p b) (info_with b p header extension) (drop (p + record_size header extension) b)
+parts b p header extension small first second h v hx hs hc hh =
+    let x : ℕ = extension_size header in
+    let s : ℕ = 4 * scope_count header extension in
+    let c : ℕ = 4 * code_words header extension in
+    let n : ℕ = handler_size header in
+    let i : Arm64InfoView = info_with b p header extension in
+    let rva : List ℕ = word_bytes (option_map (λ h. h.rva) i.handler) in
+    let sum : p + 4 + x + s + c + n ≡ p + record_size header extension = end p x s c n in
+    let rest : drop (p + 4 + x + s + c + n) b ≡ drop (p + record_size header extension) b = ap (λ (k : ℕ). drop k b) sum in
+    let e : drop p b ≡ bytes_of 4 header ++ drop (p + 4) b = next_word b p small h ∙ ap (λ (word : ℕ). bytes_of 4 word ++ drop (p + 4) b) (sym first) in
+    let f : drop (p + 4) b ≡ word_bytes extension ++ drop (p + 4 + x) b =
+    next_extension (has_extension header) b (p + 4) small hx ∙ ap (λ (word : Option ℕ). word_bytes word ++ drop (p + 4 + x) b) (sym second) in
+    let g : drop (p + 4 + x) b ≡ i.scopes ++ drop (p + 4 + x + s) b = next_range b (p + 4 + x) s in
+    let k : drop (p + 4 + x + s) b ≡ i.codes ++ drop (p + 4 + x + s + c) b = next_range b (p + 4 + x + s) c in
+    let l : drop (p + 4 + x + s + c) b ≡ rva ++ drop (p + 4 + x + s + c + n) b = next_handler (has_handler header) b (p + 4 + x + s + c) small hh in
+    record {
+      joined = chain (bytes_of 4 header) (word_bytes extension) i.scopes i.codes rva e f g k l rest;
+      version = v;
+      extension = ap (λ (word : Option ℕ). is_some word) second ∙ there_if (has_extension header) (le b (p + 4) 4);
+      scopes = length_range b (p + 4 + x) s hs;
+      codes = length_range b (p + 4 + x + s) c hc;
+      handler = there_if (has_handler header) (record { rva = le b (p + 4 + x + s + c) 4; bytes = drop (p + 4 + x + s + c + 4) b });
+      behind = subst (λ (d : List ℕ). IfSome i.handler (λ h. h.bytes ≡ d)) rest (data_behind (has_handler header) b (p + 4 + x + s + c));
+    }
+
+-- the facts of a record that is given
+record Given (b : List ℕ) (p header : ℕ) (extension : Option ℕ) (i : Arm64InfoView) : Type 0 where
+  first : p + 4 ≤ length b
+  version : bits header 18 2 ≡ 0
+  second : p + 4 + extension_size header ≤ length b
+  scopes : scopes_place p header + 4 * scope_count header extension ≤ length b
+  codes : codes_place p header extension + 4 * code_words header extension ≤ length b
+  handler : handler_place p header extension + handler_size header ≤ length b
+  value : info_with b p header extension ≡ i
+
+facts : (b : List ℕ) (p header : ℕ) (extension : Option ℕ) (i : Arm64InfoView) → outcome (info_tests b p header extension) (info_with b p header extension) ≡ Ok i → Given b p header extension i
+facts b p header extension i e =
+    let s : ℕ = 4 * scope_count header extension in
+    let c : ℕ = 4 * code_words header extension in
+    let t = passed (holds b p 4) (bits header 18 2 == 0) (holds b (p + 4) (extension_size header)) (holds b (scopes_place p header) s) (holds b (codes_place p header extension) c) (holds b (handler_place p header extension) (handler_size header)) Short Arm64Version Short Short Short Short (info_with b p header extension) i e in
+    record {
+      first = there b p 4 t.0;
+      version = eqb-true _ _ t.1;
+      second = there b (p + 4) (extension_size header) t.2;
+      scopes = there b (scopes_place p header) s t.3;
+      codes = there b (codes_place p header extension) c t.4;
+      handler = there b (handler_place p header extension) (handler_size header) t.5;
+      value = t.6;
+    }
+
+-- the record that stands at a place is the concatenation of its parts
+pub concatenated : (b : List ℕ) (p : ℕ) (i : Arm64InfoView) → AreBytes b → info_at b p ≡ Ok i → AreRecord (drop p b) i (drop (p + record_size i.header i.extension) b)
+unfolding info_at
+concatenated b p i small given =
+    let header : ℕ = le b p 4 in
+    let extension : Option ℕ = extension_at b (p + 4) header in
+    let g = facts b p header extension i given in
+    subst (λ (j : Arm64InfoView). AreRecord (drop p b) j (drop (p + record_size j.header j.extension) b)) g.value
+    (parts b p header extension small refl refl g.first g.version g.second g.scopes g.codes g.handler)
+
+-- the size of a record that is given
+pub sized : (b : List ℕ) (i : Arm64InfoView) → info_at b 0 ≡ Ok i → size_at b ≡ Ok (record_size i.header i.extension)
+unfolding info_at size_at
+sized b i given =
+    let header : ℕ = le b 0 4 in
+    let extension : Option ℕ = extension_at b 4 header in
+    let g = facts b 0 header extension i given in
+    let first : holds b 0 4 ≡ true = held b 0 4 g.first in
+    let second : holds b 4 (extension_size header) ≡ true = held b 4 (extension_size header) g.second in
+    subst (λ (j : Arm64InfoView). size_at b ≡ Ok (record_size j.header j.extension)) g.value (rw (first, second) refl)
+
+-- it lies in the bytes
+pub inside : (b : List ℕ) (p : ℕ) (i : Arm64InfoView) → info_at b p ≡ Ok i → p + record_size i.header i.extension ≤ length b
+unfolding info_at
+inside b p i given =
+    let header : ℕ = le b p 4 in
+    let extension : Option ℕ = extension_at b (p + 4) header in
+    let g = facts b p header extension i given in
+    let sum = end p (extension_size header) (4 * scope_count header extension) (4 * code_words header extension) (handler_size header) in
+    subst (λ (j : Arm64InfoView). p + record_size j.header j.extension ≤ length b) g.value (subst (λ (k : ℕ). k ≤ length b) sum g.handler)
+
+-- and a handler's data are the bytes behind it
+pub behind_record : (b : List ℕ) (p : ℕ) (i : Arm64InfoView) → info_at b p ≡ Ok i → IfSome i.handler (λ h. h.bytes ≡ drop (p + record_size i.header i.extension) b)
+unfolding info_at
+behind_record b p i given =
+    let header : ℕ = le b p 4 in
+    let extension : Option ℕ = extension_at b (p + 4) header in
+    let q : ℕ = handler_place p header extension in
+    let g = facts b p header extension i given in
+    let sum : q + handler_size header ≡ p + record_size header extension = end p (extension_size header) (4 * scope_count header extension) (4 * code_words header extension) (handler_size header) in
+    subst (λ (j : Arm64InfoView). IfSome j.handler (λ h. h.bytes ≡ drop (p + record_size j.header j.extension) b)) g.value
+    (subst (λ (k : ℕ). IfSome (handler_at b q header) (λ h. h.bytes ≡ drop k b)) sum (data_behind (has_handler header) b q))

@@ -1,0 +1,173 @@
+//! ARM64 unwind records.
+
+ghost use Rattle.std.specs.Prelude.{◌≡◌, ◌+◌, ◌*◌, ◌≤◌, [], ◌∷◌, length, Result};
+ghost use Rattle.std.specs.Option.{option_map};
+ghost use Rattle.pe_core.specs.Refusals.{Gives, Short, outcome};
+ghost use Rattle.pe_core.specs.Bytes.{holds};
+ghost use Rattle.pe_unwind.specs.Arm64Words.{epilog_scopes_left};
+ghost use Rattle.pe_unwind.specs.Arm64Record.{extension_view, handler_view, info_view, extension_size, extension_at, scope_count, code_words, handler_size, handler_at, info_at, size_at, scopes_of};
+ghost use Rattle.pe_unwind.specs.Arm64Tiling.{place_of, stream_at};
+
+use crate::arm64::codes::Arm64UnwindCodeIterator;
+use crate::arm64::words::{Arm64EpilogScopeIterator, Arm64UnwindExtension, Arm64UnwindHeader};
+use pe_core::{Error, Reason, Result, number32, require_bytes, slice_at, u32_at};
+
+/// The bytes of one word.
+const SIZE_OF_WORD: usize = 4;
+
+/// What is called when an exception passes through a function.
+#[derive(Clone, Debug, Drop, PartialEq, Eq)]
+pub struct Arm64ExceptionHandler<'a> {
+    /// The address of the handler.
+    pub rva: u32,
+    /// All bytes behind that address in the record, to the end of the file: the handler's data.
+    pub bytes: &'a [u8],
+}
+
+/// How the frame of an ARM64 function is unwound.
+#[derive(Clone, Debug, Drop)]
+pub struct Arm64UnwindInfo<'a> {
+    /// The first word.
+    pub header: Arm64UnwindHeader,
+    /// The second word, where the header has no counts.
+    pub extension: Option<Arm64UnwindExtension>,
+    /// The handler, if there is one.
+    pub exception_handler: Option<Arm64ExceptionHandler<'a>>,
+    scope_bytes: &'a [u8],
+    code_bytes: &'a [u8],
+}
+
+/// The extension word behind a header, if the header has no counts.
+fn extension_behind(
+    bytes: &[u8],
+    place: usize,
+    header: Arm64UnwindHeader,
+) -> Result<Option<Arm64UnwindExtension>>
+    requires { place ≤ length bytes.now }
+    ensures { Gives extension_view result (outcome ((holds bytes.now place (extension_size header.0), Short) ∷ []) (extension_at bytes.now place header.0)) }
+{
+    if header.has_extension() {
+        Ok(Some(Arm64UnwindExtension(u32_at(bytes, place)?)))
+    } else {
+        Ok(None)
+    }
+}
+
+/// How many epilog scopes follow.
+fn count_of_scopes(header: Arm64UnwindHeader, extension: Option<Arm64UnwindExtension>) -> usize
+    ensures value { result ≡ scope_count header.0 (extension_view extension) }
+    ensures small { result ≤ 65535 }
+{
+    if header.epilog_in_header() {
+        return 0;
+    }
+    match extension {
+        Some(extension) => extension.epilog_count() as usize,
+        None => header.epilog_count() as usize,
+    }
+}
+
+/// How many words of unwind codes follow.
+fn count_of_code_words(header: Arm64UnwindHeader, extension: Option<Arm64UnwindExtension>) -> usize
+    ensures value { result ≡ code_words header.0 (extension_view extension) }
+    ensures small { result ≤ 255 }
+{
+    match extension {
+        Some(extension) => extension.code_words() as usize,
+        None => header.code_words() as usize,
+    }
+}
+
+/// The handler behind the codes, if the header says that there is one.
+fn handler_behind(
+    bytes: &[u8],
+    place: usize,
+    header: Arm64UnwindHeader,
+) -> Result<Option<Arm64ExceptionHandler<'_>>>
+    requires { place ≤ length bytes.now }
+    ensures { Gives (option_map handler_view) result (outcome ((holds bytes.now place (handler_size header.0), Short) ∷ []) (handler_at bytes.now place header.0)) }
+{
+    if !header.exception_data_present() {
+        return Ok(None);
+    }
+    require_bytes(bytes, place, SIZE_OF_WORD)?;
+    Ok(Some(Arm64ExceptionHandler {
+        rva: number32(bytes, place),
+        bytes: bytes.split_at(place + SIZE_OF_WORD).1,
+    }))
+}
+
+impl<'a> Arm64UnwindInfo<'a> {
+    /// The record at a place of the bytes. `Short` where a part is not all there, `Arm64Version` unless its version is 0.
+    #[tactic(auto, unfolding(crate::specs::Arm64Record::info_at))]
+    pub fn parse(bytes: &'a [u8], offset: usize) -> Result<Arm64UnwindInfo<'a>>
+        ensures { Gives info_view result (info_at bytes.entry.now offset) }
+    {
+        let header = Arm64UnwindHeader(u32_at(bytes, offset)?);
+        if header.version() != 0 {
+            return Err(Error::Malformed(Reason::Arm64Version(header.version())));
+        }
+        let extension = extension_behind(bytes, offset + SIZE_OF_WORD, header)?;
+        let scopes = if extension.is_some() {
+            offset + 2 * SIZE_OF_WORD
+        } else {
+            offset + SIZE_OF_WORD
+        };
+        let scope_bytes = slice_at(
+            bytes,
+            scopes,
+            SIZE_OF_WORD * count_of_scopes(header, extension),
+        )?;
+        let codes = scopes + scope_bytes.len();
+        let code_bytes = slice_at(
+            bytes,
+            codes,
+            SIZE_OF_WORD * count_of_code_words(header, extension),
+        )?;
+        let exception_handler = handler_behind(bytes, codes + code_bytes.len(), header)?;
+        Ok(Arm64UnwindInfo {
+            header,
+            extension,
+            exception_handler,
+            scope_bytes,
+            code_bytes,
+        })
+    }
+
+    /// How many bytes the record at the start of these bytes has, up to its handler's data. It reads the header and the
+    /// extension word, and is refused as `Short` where one of them is not there.
+    #[tactic(auto, unfolding(crate::specs::Arm64Record::size_at))]
+    pub fn size(bytes: &[u8]) -> Result<usize>
+        ensures { Gives (λ n. n) result (size_at bytes.now) }
+    {
+        let header = Arm64UnwindHeader(u32_at(bytes, 0)?);
+        let extension = extension_behind(bytes, SIZE_OF_WORD, header)?;
+        let mut words = 1
+            + count_of_scopes(header, extension)
+            + count_of_code_words(header, extension);
+        if extension.is_some() {
+            words += 1;
+        }
+        if header.exception_data_present() {
+            words += 1;
+        }
+        Ok(SIZE_OF_WORD * words)
+    }
+
+    /// The epilog scopes. `None` where the header describes the one epilog, or where there are no scopes.
+    pub fn epilog_scopes(&self) -> Option<Arm64EpilogScopeIterator<'a>>
+        ensures { option_map epilog_scopes_left result ≡ scopes_of (info_view self.now) }
+    {
+        if self.header.epilog_in_header() || self.scope_bytes.is_empty() {
+            return None;
+        }
+        Some(Arm64EpilogScopeIterator::new(self.scope_bytes))
+    }
+
+    /// The unwind codes from this index on, which counts bytes. `Arm64Stream` where it is behind their end.
+    pub fn unwind_codes(&self, start_index: u16) -> Result<Arm64UnwindCodeIterator<'a>>
+        ensures { Gives place_of result (stream_at (info_view self.now).codes start_index) }
+    {
+        Arm64UnwindCodeIterator::new(self.code_bytes, usize::from(start_index))
+    }
+}
