@@ -2,6 +2,10 @@
 #![tactic(auto)]
 
 #[cfg(test)]
+mod arm64_codes;
+#[cfg(test)]
+mod arm64_functions;
+#[cfg(test)]
 mod arm64_records;
 #[cfg(test)]
 mod bytes;

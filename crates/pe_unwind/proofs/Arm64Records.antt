@@ -1,6 +1,6 @@
 -- An ARM64 unwind record that is given is the concatenation of its parts.
 use Rattle.std.proofs.Common.{rules, ◌≡◌, ℕ, ◌+◌, ◌-◌, ◌*◌, ◌≤◌, Bool, true, false, List, [], ◌∷◌, ◌++◌, length, take, drop, Option, Some, None, Ok, refl, ap, sym, ◌∙◌, subst, arith}
-use Rattle.std.specs.Prelude.{slice_range, if◌then◌else◌, is_some, IfSome, ◌==◌}
+use Rattle.std.specs.Prelude.{if◌then◌else◌, is_some, IfSome, ◌==◌}
 use Rattle.std.specs.Option.{option_map}
 use Rattle.std.proofs.lemmas.Bool.Decides.{nat_tests}
 use Rattle.std.proofs.lemmas.List.{take-append-drop, drop-drop, places}
@@ -84,7 +84,7 @@ parts b p header extension small first second h v hx hs hc hh =
     let rest : drop (p + 4 + x + s + c + n) b ≡ drop (p + record_size header extension) b = ap (λ (k : ℕ). drop k b) sum in
     let e : drop p b ≡ bytes_of 4 header ++ drop (p + 4) b = next_word b p small h ∙ ap (λ (word : ℕ). bytes_of 4 word ++ drop (p + 4) b) (sym first) in
     let f : drop (p + 4) b ≡ word_bytes extension ++ drop (p + 4 + x) b =
-        next_extension (has_extension header) b (p + 4) small hx ∙ ap (λ (word : Option ℕ). word_bytes word ++ drop (p + 4 + x) b) (sym second) in
+    next_extension (has_extension header) b (p + 4) small hx ∙ ap (λ (word : Option ℕ). word_bytes word ++ drop (p + 4 + x) b) (sym second) in
     let g : drop (p + 4 + x) b ≡ i.scopes ++ drop (p + 4 + x + s) b = next_range b (p + 4 + x) s in
     let k : drop (p + 4 + x + s) b ≡ i.codes ++ drop (p + 4 + x + s + c) b = next_range b (p + 4 + x + s) c in
     let l : drop (p + 4 + x + s + c) b ≡ rva ++ drop (p + 4 + x + s + c + n) b = next_handler (has_handler header) b (p + 4 + x + s + c) small hh in

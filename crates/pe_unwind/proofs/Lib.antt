@@ -11,3 +11,7 @@ pub mod Disjoint
 pub mod Streams
 pub mod OneChain
 pub mod Arm64Entries
+pub mod Arm64Lengths
+pub mod Arm64OneCode
+pub mod Arm64Whole
+pub mod Arm64Streams

@@ -25,7 +25,7 @@ left_at s = length s.content - s.at
 abbrev pub stream_at : List ℕ → ℕ → Result CodePlace Refusal
 stream_at bytes start =
     outcome ((length bytes % 4 == 0, Arm64Stream) ∷ (nat_le start (length bytes), Arm64Stream) ∷ (nat_le (length bytes) 4294967292, Arm64Stream) ∷ [])
-        (record { content = bytes; at = start })
+    (record { content = bytes; at = start })
 
 -- an item of the bytes at a place: the code that begins there, with the place and its length, or a cut where none begins
 abbrev pub IsItem : List ℕ → ℕ → Result Arm64UnwindCodeData Error → Type 0

@@ -1,6 +1,6 @@
 //! Laws over the definitions. Each is the contract of a function that does nothing.
 
-ghost use Rattle.std.specs.Prelude.{◌≡◌, ◌↔◌, ◌+◌, ◌≤◌, ℕ, List, length, drop, Option, Some, Result, Ok, IsSome, IfSome, IsTrue, map};
+ghost use Rattle.std.specs.Prelude.{◌≡◌, ◌+◌, ◌-◌, ◌/◌, ◌<◌, ◌≤◌, ◌↔◌, ◌⊎◌, ℕ, All, List, length, drop, Option, Some, Result, Ok, IsSome, IfSome, IsTrue, map};
 ghost use Rattle.std.specs.Iterator.{Drains};
 ghost use Rattle.std.specs.List.{Any};
 ghost use Rattle.std.specs.Ordering.{nat_cmp};
@@ -13,12 +13,18 @@ ghost use Rattle.pe_unwind.specs.declared.register.Register.{Register};
 ghost use Rattle.pe_unwind.specs.declared.scope_table.ScopeTableEntry.{ScopeTableEntry};
 ghost use Rattle.pe_unwind.specs.declared.unwind_code.UnwindCode.{UnwindCode};
 ghost use Rattle.pe_unwind.specs.declared.unwind_code.UnwindCodeIterator.{UnwindCodeIterator};
+ghost use Rattle.pe_unwind.specs.declared.arm64.codes.Arm64UnwindCode.{Arm64UnwindCode};
+ghost use Rattle.pe_unwind.specs.declared.arm64.codes.Arm64UnwindCodeData.{Arm64UnwindCodeData};
+ghost use Rattle.pe_unwind.specs.declared.arm64.codes.Arm64UnwindCodeIterator.{Arm64UnwindCodeIterator};
+ghost use Rattle.pe_unwind.specs.Arm64Encoding.{encoding, Legal, BeginsWith as BeginsWithCode, BeginsWithNone, IsCut};
+ghost use Rattle.pe_unwind.specs.Arm64Tiling.{Tiles, Joins, place_of};
 ghost use Rattle.pe_unwind.specs.Arm64Record.{Arm64InfoView, AreRecord, info_at, record_size, size_at};
 ghost use Rattle.pe_unwind.specs.CodeStream.{CodeStream, AreItems, stream_of};
 ghost use Rattle.pe_unwind.specs.FunctionTable.{NeverFalls, NoEndPassesNext, Covers, Finds, answer_of};
 ghost use Rattle.pe_unwind.specs.Links.{Table, Follows};
 ghost use Rattle.pe_unwind.specs.UnwindCodes.{BeginsWith};
 
+use crate::arm64::codes::Arm64UnwindCodeIterator;
 use crate::register::Register;
 use crate::scope_table::ScopeTableEntry;
 use crate::unwind_code::UnwindCodeIterator;
@@ -60,6 +66,29 @@ pub fn one_stream_of_codes()
 #[tactic(auto, using(crate::proofs::OneChain::one_answer))]
 pub fn one_answer_of_links()
     ensures { (t : Table) (u : ℕ) (a b : Result ℕ Refusal) → Follows t u a → Follows t u b → a ≡ b }
+{}
+
+/// Legal ARM64 codes are equal exactly if their bytes are. Each has 1 to 5 bytes. Bytes begin with one code at most, and
+/// where they are a proper beginning of a code's, with none; all others that are not empty begin with one.
+pub fn arm64_codes_and_bytes()
+    ensures equal { (c d : Arm64UnwindCode) → Legal c → Legal d → ((c ≡ d) ↔ (encoding c ≡ encoding d)) }
+    ensures sizes { (c : Arm64UnwindCode) → Legal c → (1 ≤ length (encoding c)) × (length (encoding c) ≤ 5) }
+    ensures bytes { (c : Arm64UnwindCode) → Legal c → All (λ x. x < 256) (encoding c) }
+    ensures one { (b : List ℕ) (c d : Arm64UnwindCode) → BeginsWithCode b c → BeginsWithCode b d → c ≡ d }
+    ensures cut { (b : List ℕ) → IsCut b → BeginsWithNone b }
+    ensures every { (b : List ℕ) → 0 < length b → All (λ x. x < 256) b → ((c : Arm64UnwindCode) × BeginsWithCode b c) ⊎ IsCut b }
+{}
+
+/// The items that an iterator of ARM64 codes gives tile its stream from where it stands. A stream has one tiling, up to
+/// the numbers in a refusal: all its codes' bytes, one behind the other, and then a rest that begins with none, for which
+/// there is a cut if it is not empty. It has an item for each five bytes at least, and for each byte at most.
+pub fn one_tiling_of_arm64_codes()
+    ensures whole { (s : Arm64UnwindCodeIterator) (xs : List (Result Arm64UnwindCodeData Error)) →
+        Drains ⟦<Arm64UnwindCodeIterator<'static> as Iterator>⟧.next_gives s xs → Tiles (place_of s).content (place_of s).at xs }
+    ensures tiling { (b : List ℕ) (at : ℕ) (xs ys : List (Result Arm64UnwindCodeData Error)) → Tiles b at xs → Tiles b at ys → map answer_of xs ≡ map answer_of ys }
+    ensures joined { (b : List ℕ) (at : ℕ) (xs : List (Result Arm64UnwindCodeData Error)) → Tiles b at xs → Joins (drop at b) xs }
+    ensures counts { (b : List ℕ) (at : ℕ) (xs : List (Result Arm64UnwindCodeData Error)) → All (λ x. x < 256) b → Tiles b at xs →
+        ((length b - at + 4) / 5 ≤ length xs) × (length xs ≤ length b - at) }
 {}
 
 /// An ARM64 unwind record that is given is the concatenation of its parts: header, extension word, scopes, codes, address

@@ -30,6 +30,13 @@ certificate 9 0200 0002\n\
 function 00001000 00001010 00001020\n\
 function 00001020 00001040 00001001\n";
 
+const ARM64_FUNCTION_LINES: &[u8] = b"image 64 entry 00001000 base 0000000140000000\n\
+debug 16 0 00000000 00000000\n\
+certificate 9 0200 0002\n\
+function64 00001000 00001010\n\
+function64 00001020 00001020\n\
+function64 00001040 00001001\n";
+
 const CUT_LINES: &[u8] = b"image 64 entry 00001000 base 0000000140000000\n\
 debug 16 0 00000000 00000000\n\
 debug 0 0 00000000 00000000\n\
@@ -207,6 +214,29 @@ fn functions_of_images(rt: HostRuntime) -> Result<(), Fail> {
     put(&mut other, &[(0x44, &[0x4C, 1])]);
     assert_eq!(rt;
         text(alloc, &other, ParseMode::Strict)?.as_slice(),
+        CERTIFICATE_LINES
+    );
+    Ok(())
+}
+
+#[test]
+fn arm64_functions_of_images(rt: HostRuntime) -> Result<(), Fail> {
+    let alloc = rt.alloc();
+    let mut bytes = with_functions(alloc)?;
+    put(&mut bytes, &[(0x44, &[0x64, 0xAA])]);
+    for mode in [ParseMode::Strict, ParseMode::Permissive] {
+        assert_eq!(rt; text(alloc, &bytes, mode)?.as_slice(), ARM64_FUNCTION_LINES);
+    }
+    // Two entries are whole for ARM64 and not for x64.
+    put(&mut bytes, &[(0xE4, &[0x10])]);
+    let lines = text(alloc, &bytes, ParseMode::Strict)?;
+    assert!(rt; lines.ends_with(b"\nfunction64 00001020 00001020\n"));
+    put(&mut bytes, &[(0x44, &[0x64, 0x86])]);
+    assert_eq!(rt; refusal(alloc, &bytes), Some(Reason::ExceptionSize(16)));
+    put(&mut bytes, &[(0x44, &[0x64, 0xAA]), (0xE4, &[0x0C])]);
+    assert_eq!(rt; refusal(alloc, &bytes), Some(Reason::ExceptionSize(12)));
+    assert_eq!(rt;
+        text(alloc, &bytes, ParseMode::Permissive)?.as_slice(),
         CERTIFICATE_LINES
     );
     Ok(())

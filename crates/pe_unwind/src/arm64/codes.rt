@@ -3,7 +3,6 @@
 ghost use Rattle.std.specs.Prelude.{◌≡◌, ◌≢◌, ◌+◌, ◌-◌, ◌*◌, ◌/◌, ◌%◌, ◌^◌, ◌<◌, ◌≤◌, ◌⊎◌, ℕ, [], ◌∷◌, length, IfSome, IfNone, Some};
 ghost use Rattle.std.specs.Iterator.{at_most, UpTo};
 ghost use Rattle.std.specs.Iterator.SizeHint.{IsWithinCount};
-ghost use Rattle.pe_core.specs.Refusals.{Gives as Answers};
 ghost use Rattle.pe_unwind.specs.Arm64Encoding.{encoding, Encodes, len_at, BeginsWith, BeginsWithNone};
 
 use pe_core::{Error, Reason, Result};
@@ -453,12 +452,13 @@ pub struct Arm64UnwindCodeIterator<'a> {
 }
 
 impl<'a> Arm64UnwindCodeIterator<'a> {
+    ghost use Rattle.pe_core.specs.Refusals.{Gives};
     ghost use Rattle.pe_unwind.specs.Arm64Tiling.{place_of, stream_at};
 
     /// The codes of these bytes from a place on. `Arm64Stream` if the bytes are no whole words of four, the place is past
     /// their end, or there are more than 4,294,967,292.
     pub fn new(bytes: &'a [u8], start: usize) -> Result<Self>
-        ensures { Answers place_of result (stream_at bytes.entry.now start) }
+        ensures { Gives place_of result (stream_at bytes.entry.now start) }
     {
         if bytes.len() % 4 != 0 || bytes.len() < start || 4294967292 < bytes.len() {
             return Err(Error::Malformed(Reason::Arm64Stream {

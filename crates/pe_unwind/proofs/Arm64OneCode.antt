@@ -1,0 +1,245 @@
+-- The one ARM64 code of each byte string.
+use Rattle.std.proofs.Common.{◌≡◌, ◌<◌, ◌≤◌, ℕ, zero, suc, ◌+◌, ◌-◌, ◌*◌, ◌/◌, ◌%◌, true, false, if◌then◌else◌, nat_lt, ◌==◌, List, [], ◌∷◌, ◌++◌, length, get_or, drop, take, refl, ap, sym, ◌∙◌, arith, append_assoc}
+use Rattle.std.proofs.lemmas.Bool.Decides.{nat_tests}
+use Rattle.pe_unwind.specs.declared.arm64.codes.Arm64CustomStackCase.TheVariants.{TrapFrame, MachineFrame, Context, EcContext, ClearUnwoundToCall}
+use Rattle.pe_unwind.specs.declared.arm64.codes.Arm64UnwindCode.{Arm64UnwindCode}
+use Rattle.pe_unwind.specs.declared.arm64.codes.Arm64UnwindCode.TheVariants.{AllocSmall, SaveR19R20Preindexed, SaveFpLr, SaveFpLrPreindexed, AllocMedium, SaveRegPair, SaveRegPairPreindexed, SaveReg, SaveRegPreindexed, SaveLrPair, SaveFRegPair, SaveFRegPairPreindexed, SaveFReg, SaveFRegPreindexed, AllocZ, AllocLarge, SetFp, AddFp, Nop, End, EndC, SaveNext, SaveAnyReg, SaveZReg, SavePReg, CustomStack, PacSignLr, Reserved}
+use Rattle.std.proofs.lemmas.Grind.{common_steps}
+use Rattle.std.proofs.lemmas.List.{length-append}
+use Rattle.pe_unwind.proofs.Arm64Lengths.{len_of_encoding}
+use Rattle.pe_unwind.specs.Arm64Encoding.{encoding, Legal, len_at, BeginsWith, BeginsWithNone, IsCut}
+
+-- the code of one byte from C0h on
+abbrev pub one_high : ℕ → Arm64UnwindCode
+one_high b =
+    if b == 0xE1 then SetFp
+    else (if b == 0xE3 then Nop
+    else (if b == 0xE4 then End
+    else (if b == 0xE5 then EndC
+    else (if b == 0xE6 then SaveNext
+    else (if b == 0xE8 then CustomStack TrapFrame
+    else (if b == 0xE9 then CustomStack MachineFrame
+    else (if b == 0xEA then CustomStack Context
+    else (if b == 0xEB then CustomStack EcContext
+    else (if b == 0xEC then CustomStack ClearUnwoundToCall
+    else (if b == 0xFC then PacSignLr
+    else Reserved b 0 0))))))))))
+
+-- the code of one byte
+abbrev pub one : ℕ → Arm64UnwindCode
+one b =
+    if nat_lt b 0x20 then AllocSmall (16 * b)
+    else (if nat_lt b 0x40 then SaveR19R20Preindexed (8 * (b - 0x20))
+    else (if nat_lt b 0x80 then SaveFpLr (8 * (b - 0x40))
+    else (if nat_lt b 0xC0 then SaveFpLrPreindexed (8 * (b - 0x80) + 8)
+    else one_high b)))
+
+-- the code of two bytes
+abbrev pub two : ℕ → ℕ → Arm64UnwindCode
+two b c =
+    if nat_lt b 0xC8 then AllocMedium (16 * (256 * (b - 0xC0) + c))
+    else (if nat_lt b 0xCC then SaveRegPair (19 + 4 * (b % 4) + c / 64) (8 * (c % 64))
+    else (if nat_lt b 0xD0 then SaveRegPairPreindexed (19 + 4 * (b % 4) + c / 64) (8 * (c % 64) + 8)
+    else (if nat_lt b 0xD4 then SaveReg (19 + 4 * (b % 4) + c / 64) (8 * (c % 64))
+    else (if nat_lt b 0xD6 then SaveRegPreindexed (19 + 8 * (b % 2) + c / 32) (8 * (c % 32) + 8)
+    else (if nat_lt b 0xD8 then SaveLrPair (19 + 2 * (4 * (b % 2) + c / 64)) (8 * (c % 64))
+    else (if nat_lt b 0xDA then SaveFRegPair (8 + 4 * (b % 2) + c / 64) (8 * (c % 64))
+    else (if nat_lt b 0xDC then SaveFRegPairPreindexed (8 + 4 * (b % 2) + c / 64) (8 * (c % 64) + 8)
+    else (if nat_lt b 0xDE then SaveFReg (8 + 4 * (b % 2) + c / 64) (8 * (c % 64))
+    else (if nat_lt b 0xDF then SaveFRegPreindexed (8 + c / 32) (8 * (c % 32) + 8)
+    else (if nat_lt b 0xE0 then AllocZ c
+    else (if b == 0xE2 then AddFp c (8 * c)
+    else Reserved b c 1)))))))))))
+
+-- the unit of an offset, by the kind and the second byte
+abbrev pub any_scale : ℕ → ℕ → ℕ
+any_scale k c = if nat_lt c 32 then (if k == 2 then 16 else 8) else 16
+
+-- the code of three bytes
+abbrev pub three : ℕ → ℕ → ℕ → Arm64UnwindCode
+three b c d =
+    if b == 0xF9 then Reserved b (256 * c + d) 2
+    else (if nat_lt d 192 then SaveAnyReg (d / 64) (c / 64 == 1) (c / 32 % 2 == 1) (c % 32) (any_scale (d / 64) c * (d % 64))
+    else (if nat_lt (c % 32) 16 then SaveZReg (c % 16) (64 * (c / 32) + d % 64) else SavePReg (c % 16) (64 * (c / 32) + d % 64)))
+
+abbrev pub four : ℕ → ℕ → ℕ → ℕ → Arm64UnwindCode
+four b c d e = if b == 0xE0 then AllocLarge (16 * (65536 * c + 256 * d + e)) else Reserved b (65536 * c + 256 * d + e) 3
+
+-- the code that the bytes are
+abbrev pub code_of : List ℕ → Arm64UnwindCode
+code_of [] = Nop
+code_of (b ∷ []) = one b
+code_of (b ∷ c ∷ []) = two b c
+code_of (b ∷ c ∷ d ∷ []) = three b c d
+code_of (b ∷ c ∷ d ∷ e ∷ []) = four b c d e
+code_of (b ∷ c ∷ d ∷ e ∷ f ∷ rest) = Reserved b (16777216 * c + 65536 * d + 256 * e + f) 4
+
+code_of-AllocSmall : (n : ℕ) → Legal (AllocSmall n) → code_of (encoding (AllocSmall n)) ≡ AllocSmall n
+code_of-AllocSmall n h = grind (arith, nat_tests)
+
+code_of-SaveR19R20Preindexed : (o : ℕ) → Legal (SaveR19R20Preindexed o) → code_of (encoding (SaveR19R20Preindexed o)) ≡ SaveR19R20Preindexed o
+code_of-SaveR19R20Preindexed o h = grind (arith, nat_tests)
+
+code_of-SaveFpLr : (o : ℕ) → Legal (SaveFpLr o) → code_of (encoding (SaveFpLr o)) ≡ SaveFpLr o
+code_of-SaveFpLr o h = grind (arith, nat_tests)
+
+code_of-SaveFpLrPreindexed : (o : ℕ) → Legal (SaveFpLrPreindexed o) → code_of (encoding (SaveFpLrPreindexed o)) ≡ SaveFpLrPreindexed o
+code_of-SaveFpLrPreindexed o h = grind (arith, nat_tests)
+
+code_of-AllocMedium : (n : ℕ) → Legal (AllocMedium n) → code_of (encoding (AllocMedium n)) ≡ AllocMedium n
+code_of-AllocMedium n h = grind (arith, nat_tests)
+
+code_of-SaveRegPair : (r o : ℕ) → Legal (SaveRegPair r o) → code_of (encoding (SaveRegPair r o)) ≡ SaveRegPair r o
+code_of-SaveRegPair r o h = grind (arith, nat_tests)
+
+code_of-SaveRegPairPreindexed : (r o : ℕ) → Legal (SaveRegPairPreindexed r o) → code_of (encoding (SaveRegPairPreindexed r o)) ≡ SaveRegPairPreindexed r o
+code_of-SaveRegPairPreindexed r o h = grind (arith, nat_tests)
+
+code_of-SaveReg : (r o : ℕ) → Legal (SaveReg r o) → code_of (encoding (SaveReg r o)) ≡ SaveReg r o
+code_of-SaveReg r o h = grind (arith, nat_tests)
+
+code_of-SaveRegPreindexed : (r o : ℕ) → Legal (SaveRegPreindexed r o) → code_of (encoding (SaveRegPreindexed r o)) ≡ SaveRegPreindexed r o
+code_of-SaveRegPreindexed r o h = grind (arith, nat_tests)
+
+code_of-SaveLrPair : (r o : ℕ) → Legal (SaveLrPair r o) → code_of (encoding (SaveLrPair r o)) ≡ SaveLrPair r o
+code_of-SaveLrPair r o h = grind (arith, nat_tests)
+
+code_of-SaveFRegPair : (r o : ℕ) → Legal (SaveFRegPair r o) → code_of (encoding (SaveFRegPair r o)) ≡ SaveFRegPair r o
+code_of-SaveFRegPair r o h = grind (arith, nat_tests)
+
+code_of-SaveFRegPairPreindexed : (r o : ℕ) → Legal (SaveFRegPairPreindexed r o) → code_of (encoding (SaveFRegPairPreindexed r o)) ≡ SaveFRegPairPreindexed r o
+code_of-SaveFRegPairPreindexed r o h = grind (arith, nat_tests)
+
+code_of-SaveFReg : (r o : ℕ) → Legal (SaveFReg r o) → code_of (encoding (SaveFReg r o)) ≡ SaveFReg r o
+code_of-SaveFReg r o h = grind (arith, nat_tests)
+
+code_of-SaveFRegPreindexed : (r o : ℕ) → Legal (SaveFRegPreindexed r o) → code_of (encoding (SaveFRegPreindexed r o)) ≡ SaveFRegPreindexed r o
+code_of-SaveFRegPreindexed r o h = grind (arith, nat_tests)
+
+code_of-AllocZ : (z : ℕ) → Legal (AllocZ z) → code_of (encoding (AllocZ z)) ≡ AllocZ z
+code_of-AllocZ z h = grind (arith, nat_tests)
+
+code_of-AllocLarge : (n : ℕ) → Legal (AllocLarge n) → code_of (encoding (AllocLarge n)) ≡ AllocLarge n
+code_of-AllocLarge n h = grind (arith, nat_tests)
+
+code_of-AddFp : (z o : ℕ) → Legal (AddFp z o) → code_of (encoding (AddFp z o)) ≡ AddFp z o
+code_of-AddFp z o h = grind (arith, nat_tests)
+
+code_of-any_true_true : (k r o : ℕ) → Legal (SaveAnyReg k true true r o) → code_of (encoding (SaveAnyReg k true true r o)) ≡ SaveAnyReg k true true r o
+code_of-any_true_true k r o h = grind (arith, nat_tests)
+
+code_of-any_true_false : (k r o : ℕ) → Legal (SaveAnyReg k true false r o) → code_of (encoding (SaveAnyReg k true false r o)) ≡ SaveAnyReg k true false r o
+code_of-any_true_false k r o h = grind (arith, nat_tests)
+
+code_of-any_false_true : (k r o : ℕ) → Legal (SaveAnyReg k false true r o) → code_of (encoding (SaveAnyReg k false true r o)) ≡ SaveAnyReg k false true r o
+code_of-any_false_true k r o h = grind (arith, nat_tests)
+
+code_of-any_false_false : (k r o : ℕ) → Legal (SaveAnyReg k false false r o) → code_of (encoding (SaveAnyReg k false false r o)) ≡ SaveAnyReg k false false r o
+code_of-any_false_false k r o h = grind (arith, nat_tests)
+
+code_of-SaveZReg : (r o : ℕ) → Legal (SaveZReg r o) → code_of (encoding (SaveZReg r o)) ≡ SaveZReg r o
+code_of-SaveZReg r o h = grind (arith, nat_tests)
+
+code_of-SavePReg : (r o : ℕ) → Legal (SavePReg r o) → code_of (encoding (SavePReg r o)) ≡ SavePReg r o
+code_of-SavePReg r o h = grind (arith, nat_tests)
+
+code_of-reserved_0 : (b v : ℕ) → Legal (Reserved b v 0) → code_of (encoding (Reserved b v 0)) ≡ Reserved b v 0
+code_of-reserved_0 b v h = grind (arith, nat_tests)
+
+code_of-reserved_1 : (b v : ℕ) → Legal (Reserved b v 1) → code_of (encoding (Reserved b v 1)) ≡ Reserved b v 1
+code_of-reserved_1 b v h = grind (arith, nat_tests)
+
+code_of-reserved_2 : (b v : ℕ) → Legal (Reserved b v 2) → code_of (encoding (Reserved b v 2)) ≡ Reserved b v 2
+code_of-reserved_2 b v h = grind (arith, nat_tests)
+
+code_of-reserved_3 : (b v : ℕ) → Legal (Reserved b v 3) → code_of (encoding (Reserved b v 3)) ≡ Reserved b v 3
+code_of-reserved_3 b v h = grind (arith, nat_tests)
+
+code_of-reserved_4 : (b v : ℕ) → Legal (Reserved b v 4) → code_of (encoding (Reserved b v 4)) ≡ Reserved b v 4
+code_of-reserved_4 b v h = grind (arith, nat_tests)
+
+-- the bytes of a legal code give the code
+pub code_of-encoding : (c : Arm64UnwindCode) → Legal c → code_of (encoding c) ≡ c
+code_of-encoding (AllocSmall n) h = code_of-AllocSmall n h
+code_of-encoding (SaveR19R20Preindexed o) h = code_of-SaveR19R20Preindexed o h
+code_of-encoding (SaveFpLr o) h = code_of-SaveFpLr o h
+code_of-encoding (SaveFpLrPreindexed o) h = code_of-SaveFpLrPreindexed o h
+code_of-encoding (AllocMedium n) h = code_of-AllocMedium n h
+code_of-encoding (SaveRegPair r o) h = code_of-SaveRegPair r o h
+code_of-encoding (SaveRegPairPreindexed r o) h = code_of-SaveRegPairPreindexed r o h
+code_of-encoding (SaveReg r o) h = code_of-SaveReg r o h
+code_of-encoding (SaveRegPreindexed r o) h = code_of-SaveRegPreindexed r o h
+code_of-encoding (SaveLrPair r o) h = code_of-SaveLrPair r o h
+code_of-encoding (SaveFRegPair r o) h = code_of-SaveFRegPair r o h
+code_of-encoding (SaveFRegPairPreindexed r o) h = code_of-SaveFRegPairPreindexed r o h
+code_of-encoding (SaveFReg r o) h = code_of-SaveFReg r o h
+code_of-encoding (SaveFRegPreindexed r o) h = code_of-SaveFRegPreindexed r o h
+code_of-encoding (AllocZ z) h = code_of-AllocZ z h
+code_of-encoding (AllocLarge n) h = code_of-AllocLarge n h
+code_of-encoding SetFp h = refl
+code_of-encoding (AddFp z o) h = code_of-AddFp z o h
+code_of-encoding Nop h = refl
+code_of-encoding End h = refl
+code_of-encoding EndC h = refl
+code_of-encoding SaveNext h = refl
+code_of-encoding (SaveAnyReg k true true r o) h = code_of-any_true_true k r o h
+code_of-encoding (SaveAnyReg k true false r o) h = code_of-any_true_false k r o h
+code_of-encoding (SaveAnyReg k false true r o) h = code_of-any_false_true k r o h
+code_of-encoding (SaveAnyReg k false false r o) h = code_of-any_false_false k r o h
+code_of-encoding (SaveZReg r o) h = code_of-SaveZReg r o h
+code_of-encoding (SavePReg r o) h = code_of-SavePReg r o h
+code_of-encoding (CustomStack TrapFrame) h = refl
+code_of-encoding (CustomStack MachineFrame) h = refl
+code_of-encoding (CustomStack Context) h = refl
+code_of-encoding (CustomStack EcContext) h = refl
+code_of-encoding (CustomStack ClearUnwoundToCall) h = refl
+code_of-encoding PacSignLr h = refl
+code_of-encoding (Reserved b v zero) h = code_of-reserved_0 b v h
+code_of-encoding (Reserved b v (suc zero)) h = code_of-reserved_1 b v h
+code_of-encoding (Reserved b v (suc (suc zero))) h = code_of-reserved_2 b v h
+code_of-encoding (Reserved b v (suc (suc (suc zero)))) h = code_of-reserved_3 b v h
+code_of-encoding (Reserved b v (suc (suc (suc (suc zero))))) h = code_of-reserved_4 b v h
+code_of-encoding (Reserved b v (suc (suc (suc (suc (suc n)))))) h = absurd h
+
+-- two legal codes are equal exactly if their bytes are
+pub encoding_once : (c d : Arm64UnwindCode) → Legal c → Legal d → encoding c ≡ encoding d → c ≡ d
+encoding_once c d h k same = sym (code_of-encoding c h) ∙ ap code_of same ∙ code_of-encoding d k
+
+take_front : (a b : List ℕ) → take (length a) (a ++ b) ≡ a
+take_front a b = grind (arith, common_steps)
+
+-- the bytes of one code are no beginning of another's
+pub begins_once : (bytes : List ℕ) (c d : Arm64UnwindCode) → BeginsWith bytes c → BeginsWith bytes d → c ≡ d
+begins_once bytes c d h k =
+    let len_c : len_at (get_or bytes 0 0) (get_or bytes 1 0) ≡ length (encoding c) = rw (← h.spelled) at (len_of_encoding c (drop (length (encoding c)) bytes) h.legal) in
+    let len_d : len_at (get_or bytes 0 0) (get_or bytes 1 0) ≡ length (encoding d) = rw (← k.spelled) at (len_of_encoding d (drop (length (encoding d)) bytes) k.legal) in
+    let front_c : take (length (encoding c)) bytes ≡ encoding c = ap (take (length (encoding c))) h.spelled ∙ take_front (encoding c) (drop (length (encoding c)) bytes) in
+    let front_d : take (length (encoding d)) bytes ≡ encoding d = ap (take (length (encoding d))) k.spelled ∙ take_front (encoding d) (drop (length (encoding d)) bytes) in
+    let same : length (encoding c) ≡ length (encoding d) = sym len_c ∙ len_d in
+    encoding_once c d h.legal k.legal (sym front_c ∙ ap (λ (n : ℕ). take n bytes) same ∙ front_d)
+
+drop_front : (a b : List ℕ) → drop (length a) (a ++ b) ≡ b
+drop_front a b = grind (arith, common_steps)
+
+whole_front : (a : List ℕ) → a ≡ a ++ drop (length a) a
+whole_front a = grind (arith, common_steps)
+
+-- a code's bytes begin with it
+whole_begins : (c : Arm64UnwindCode) → Legal c → BeginsWith (encoding c) c
+whole_begins c legal = record { legal = legal; spelled = whole_front (encoding c) }
+
+-- a code's bytes without their end begin with no code
+none_of_more : (bytes : List ℕ) (d c : Arm64UnwindCode) (missing : List ℕ) → Legal d → 0 < length missing → bytes ++ missing ≡ encoding d → BeginsWith bytes c → ⊥
+none_of_more bytes d c missing legal some spelled h =
+    let n : ℕ = length (encoding c) in
+    let fits : n ≤ length bytes = omega (arith, ap (λ (x : List ℕ). length x) h.spelled, length-append (encoding c) (drop n bytes)) in
+    let first : encoding d ≡ encoding c ++ (drop n bytes ++ missing) = sym spelled ∙ ap (λ (x : List ℕ). x ++ missing) h.spelled ∙ append_assoc (encoding c) (drop n bytes) missing in
+    let c_first : BeginsWith (encoding d) c = record { legal = h.legal; spelled = first ∙ ap (λ (x : List ℕ). encoding c ++ x) (sym (ap (drop n) first ∙ drop_front (encoding c) (drop n bytes ++ missing))) } in
+    let same : c ≡ d = begins_once (encoding d) c d c_first (whole_begins d legal) in
+    let long : length (encoding d) ≡ length bytes + length missing = sym (ap (λ (x : List ℕ). length x) spelled) ∙ length-append bytes missing in
+    let as_long : n ≡ length (encoding d) = ap (λ (x : Arm64UnwindCode). length (encoding x)) same in
+    omega arith
+
+-- what is cut begins with no code
+pub cut_begins_none : (bytes : List ℕ) → IsCut bytes → BeginsWithNone bytes
+cut_begins_none bytes cut = λ c h. none_of_more bytes cut.code c cut.missing cut.legal cut.some cut.spelled h

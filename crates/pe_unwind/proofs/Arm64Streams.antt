@@ -1,0 +1,136 @@
+-- The items of a stream of ARM64 codes, and that there is one tiling of it.
+use Rattle.std.proofs.Common.{◌≡◌, ◌<◌, ◌≤◌, ◌+◌, ◌-◌, ◌/◌, ℕ, All, List, [], ◌∷◌, ◌++◌, length, drop, map, Option, None, Result, Ok, Err, refl, ap, sym, ◌∙◌, subst, arith, append_assoc, inl, inr}
+use Rattle.std.proofs.lemmas.Grind.{common_steps}
+use Rattle.std.proofs.lemmas.List.{length-append, length-drop, drop_all}
+use Rattle.std.proofs.lemmas.List.Elements.{All-drop}
+use Rattle.std.specs.Iterator.{Yields}
+use Rattle.pe_core.specs.Refusals.{Refusal, kind_of}
+use Rattle.pe_core.specs.declared.error.Error.{Error}
+use Rattle.pe_unwind.specs.declared.arm64.codes.Arm64UnwindCode.{Arm64UnwindCode}
+use Rattle.pe_unwind.specs.declared.arm64.codes.Arm64UnwindCodeData.{Arm64UnwindCodeData}
+use Rattle.pe_unwind.specs.declared.arm64.codes.Arm64UnwindCodeIterator.{Arm64UnwindCodeIterator}
+use Rattle.pe_unwind.specs.Arm64Encoding.{encoding, Legal, BeginsWith, BeginsWithNone}
+use Rattle.pe_unwind.specs.Arm64Tiling.{CodePlace, place_of, IsItem, Tiles, Gives, codes_of, Joins}
+use Rattle.pe_unwind.specs.FunctionTable.{answer_of}
+use Rattle.pe_unwind.proofs.Arm64OneCode.{begins_once}
+use Rattle.pe_unwind.proofs.Arm64Whole.{code_or_cut}
+
+abbrev pub Next : Arm64UnwindCodeIterator → Option (Result Arm64UnwindCodeData Error) → Arm64UnwindCodeIterator → Type 0
+Next s r t = Gives (place_of s) r (place_of t)
+
+abbrev pub TilesFrom : CodePlace → List (Result Arm64UnwindCodeData Error) → Type 0
+TilesFrom s xs = Tiles s.content s.at xs
+
+nothing_left : (bytes : List ℕ) (at : ℕ) (xs : List (Result Arm64UnwindCodeData Error)) → length bytes ≤ at → Tiles bytes at xs → xs ≡ []
+nothing_left bytes at [] over h = refl
+nothing_left bytes at (Ok item ∷ xs) over h = absurd (omega (arith, over, h.0))
+nothing_left bytes at (Err e ∷ xs) over h = absurd (omega (arith, over, h.0))
+
+-- the items of a whole run tile the bytes from where the iterator stood
+pub tiles_from_yields : (s t u : Arm64UnwindCodeIterator) (xs : List (Result Arm64UnwindCodeData Error)) → Yields Next s xs t → Next t None u → TilesFrom (place_of s) xs
+tiles_from_yields s t u [] y end = subst (λ (r : Arm64UnwindCodeIterator). TilesFrom (place_of r) []) (sym y) end.0
+tiles_from_yields s t u (Ok item ∷ xs) y end =
+    let j : Arm64UnwindCodeIterator = y.0 in
+    let rest : TilesFrom (place_of j) xs = tiles_from_yields j t u xs y.2 end in
+    (y.1.0, y.1.1, subst (λ (p : CodePlace). TilesFrom p xs) y.1.2 rest)
+tiles_from_yields s t u (Err e ∷ xs) y end =
+    let j : Arm64UnwindCodeIterator = y.0 in
+    let rest : TilesFrom (place_of j) xs = tiles_from_yields j t u xs y.2 end in
+    let over : Tiles (place_of s).content (length (place_of s).content) xs = subst (λ (p : CodePlace). TilesFrom p xs) y.1.2 rest in
+    (y.1.0, y.1.1, nothing_left (place_of s).content (length (place_of s).content) xs (omega arith) over)
+
+item_of : ℕ → Arm64UnwindCode → ℕ → Arm64UnwindCodeData
+item_of offset code len = record { offset = offset; code = code; len = len }
+
+item_from_fields : (d e : Arm64UnwindCodeData) → d.offset ≡ e.offset → d.code ≡ e.code → d.len ≡ e.len → d ≡ e
+unfolding item_of
+item_from_fields d e offset code len =
+    ap (λ (n : ℕ). item_of n d.code d.len) offset ∙ ap (λ (c : Arm64UnwindCode). item_of e.offset c d.len) code ∙ ap (λ (n : ℕ). item_of e.offset e.code n) len
+
+-- at one place of the bytes is one code
+one_item : (bytes : List ℕ) (at : ℕ) (d e : Arm64UnwindCodeData) → IsItem bytes at (Ok d) → IsItem bytes at (Ok e) → d ≡ e
+one_item bytes at d e h k =
+    let code : d.code ≡ e.code = begins_once (drop at bytes) d.code e.code h.0 k.0 in
+    let len : d.len ≡ e.len = h.2 ∙ ap (λ (c : Arm64UnwindCode). length (encoding c)) code ∙ sym k.2 in
+    item_from_fields d e (h.1 ∙ sym k.1) code len
+
+-- one list of items tiles the bytes, up to the numbers in a refusal
+pub one_tiling : (bytes : List ℕ) (at : ℕ) (xs ys : List (Result Arm64UnwindCodeData Error)) → Tiles bytes at xs → Tiles bytes at ys → map answer_of xs ≡ map answer_of ys
+one_tiling bytes at [] ys h k = sym (ap (map answer_of) (nothing_left bytes at ys h k))
+one_tiling bytes at (x ∷ xs) [] h k = ap (map answer_of) (nothing_left bytes at (x ∷ xs) k h)
+one_tiling bytes at (Ok d ∷ xs) (Err e ∷ ys) h k = absurd (k.1.0 d.code h.1.0)
+one_tiling bytes at (Err e ∷ xs) (Ok d ∷ ys) h k = absurd (h.1.0 d.code k.1.0)
+one_tiling bytes at (Err e ∷ xs) (Err f ∷ ys) h k =
+    ap (λ (r : Refusal). Err r ∷ map answer_of xs) (h.1.1 ∙ sym k.1.1)
+    ∙ ap (λ (zs : List (Result Arm64UnwindCodeData Error)). Err (kind_of f) ∷ map answer_of zs) (h.2 ∙ sym k.2)
+one_tiling bytes at (Ok d ∷ xs) (Ok e ∷ ys) h k =
+    let same : d ≡ e = one_item bytes at d e h.1 k.1 in
+    let from_e : Tiles bytes (at + e.len) xs = subst (λ (i : Arm64UnwindCodeData). Tiles bytes (at + i.len) xs) same h.2 in
+    ap (λ (i : Arm64UnwindCodeData). Ok i ∷ map answer_of xs) same
+    ∙ ap (λ (zs : List (Result Arm64UnwindCodeData Refusal)). Ok e ∷ zs) (one_tiling bytes (at + e.len) xs ys from_e k.2)
+
+some_bytes : (c : Arm64UnwindCode) → Legal c → (1 ≤ length (encoding c)) × (length (encoding c) ≤ 5)
+some_bytes c legal = grind (arith, common_steps)
+
+drop_more : (bytes : List ℕ) (m n : ℕ) → drop n (drop m bytes) ≡ drop (m + n) bytes
+drop_more bytes m n = grind (arith, common_steps)
+
+begins_some : (bytes : List ℕ) (c : Arm64UnwindCode) → BeginsWith bytes c → 0 < length bytes
+begins_some bytes c h =
+    let some = some_bytes c h.legal in
+    omega (arith, some.0, ap (λ (x : List ℕ). length x) h.spelled, length-append (encoding c) (drop (length (encoding c)) bytes))
+
+none_of_no_bytes : BeginsWithNone []
+none_of_no_bytes c h = absurd (omega (arith, begins_some [] c h))
+
+-- behind a code at a place stand the bytes from the place of the next on
+code_then_rest : (bytes : List ℕ) (at : ℕ) (item : Arm64UnwindCodeData) → IsItem bytes at (Ok item) → drop at bytes ≡ encoding item.code ++ drop (at + item.len) bytes
+code_then_rest bytes at item h =
+    let behind : drop (length (encoding item.code)) (drop at bytes) ≡ drop (at + item.len) bytes =
+    drop_more bytes at (length (encoding item.code)) ∙ ap (λ (n : ℕ). drop (at + n) bytes) (sym h.2) in
+    h.0.spelled ∙ ap (λ (x : List ℕ). encoding item.code ++ x) behind
+
+-- a tiling's codes are the bytes, one behind the other, up to a rest
+pub joined : (bytes : List ℕ) (at : ℕ) (xs : List (Result Arm64UnwindCodeData Error)) → Tiles bytes at xs → Joins (drop at bytes) xs
+joined bytes at [] h = record {
+  rest = [];
+  joined = drop_all at bytes h;
+  none = none_of_no_bytes;
+  cut = ((λ f. absurd (grind (arith, common_steps, f))), λ some. absurd (omega (arith, some)));
+}
+joined bytes at (Ok item ∷ xs) h =
+    let more : Joins (drop (at + item.len) bytes) xs = joined bytes (at + item.len) xs h.2 in
+    record {
+      rest = more.rest;
+      joined = code_then_rest bytes at item h.1 ∙ ap (λ (x : List ℕ). encoding item.code ++ x) more.joined ∙ sym (append_assoc (encoding item.code) (codes_of xs) more.rest);
+      none = more.none;
+      cut = more.cut;
+    }
+joined bytes at (Err e ∷ xs) h = record {
+  rest = drop at bytes;
+  joined = ap (λ (ys : List (Result Arm64UnwindCodeData Error)). codes_of ys ++ drop at bytes) (sym h.2);
+  none = h.1.0;
+  cut = ((λ _. omega (arith, length-drop at bytes, h.0)), λ _. refl);
+}
+
+-- what begins with no code has fewer than five bytes
+short_rest : (bytes : List ℕ) → 0 < length bytes → All (λ x. x < 256) bytes → BeginsWithNone bytes → length bytes < 5
+short_rest bytes some all none =
+    elim (code_or_cut bytes some all) [
+      | inl code ↦ absurd (none code.0 code.1)
+      | inr cut ↦
+          let bound = some_bytes cut.code cut.legal in
+          omega (arith, bound.1, cut.some, ap (λ (x : List ℕ). length x) cut.spelled, length-append bytes cut.missing)
+    ]
+
+-- a tiling has an item for each five bytes at least, and for each byte at most
+pub item_counts : (bytes : List ℕ) (at : ℕ) (xs : List (Result Arm64UnwindCodeData Error)) → All (λ x. x < 256) bytes → Tiles bytes at xs → ((length bytes - at + 4) / 5 ≤ length xs) × (length xs ≤ length bytes - at)
+item_counts bytes at [] all h = (omega (arith, h), omega (arith, h))
+item_counts bytes at (Ok item ∷ xs) all h =
+    let more = item_counts bytes (at + item.len) xs all h.2 in
+    let bound = some_bytes item.code h.1.0.legal in
+    (omega (arith, h.0, h.1.2, bound.0, bound.1, more.0), omega (arith, h.0, h.1.2, bound.0, bound.1, more.1))
+item_counts bytes at (Err e ∷ xs) all h =
+    let short = short_rest (drop at bytes) (omega (arith, length-drop at bytes, h.0)) (All-drop (λ x. x < 256) at bytes all) h.1.0 in
+    let over : length xs ≡ 0 = ap (λ (ys : List (Result Arm64UnwindCodeData Error)). length ys) h.2 in
+    (omega (arith, length-drop at bytes, short, over), omega (arith, h.0, over))
