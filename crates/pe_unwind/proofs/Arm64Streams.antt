@@ -10,13 +10,13 @@ use Rattle.pe_unwind.specs.declared.arm64.codes.Arm64UnwindCode.{Arm64UnwindCode
 use Rattle.pe_unwind.specs.declared.arm64.codes.Arm64UnwindCodeData.{Arm64UnwindCodeData}
 use Rattle.pe_unwind.specs.declared.arm64.codes.Arm64UnwindCodeIterator.{Arm64UnwindCodeIterator}
 use Rattle.pe_unwind.specs.Arm64Encoding.{encoding, Legal, BeginsWith, BeginsWithNone}
-use Rattle.pe_unwind.specs.Arm64Tiling.{CodePlace, place_of, IsItem, Tiles, Gives, codes_of, Joins}
+use Rattle.pe_unwind.specs.Arm64Tiling.{CodePlace, stream_place, IsItem, Tiles, Gives, codes_of, Joins}
 use Rattle.pe_unwind.specs.FunctionTable.{answer_of}
 use Rattle.pe_unwind.proofs.Arm64OneCode.{begins_once}
 use Rattle.pe_unwind.proofs.Arm64Whole.{code_or_cut}
 
 abbrev pub Next : Arm64UnwindCodeIterator → Option (Result Arm64UnwindCodeData Error) → Arm64UnwindCodeIterator → Type 0
-Next s r t = Gives (place_of s) r (place_of t)
+Next s r t = Gives (stream_place s) r (stream_place t)
 
 abbrev pub TilesFrom : CodePlace → List (Result Arm64UnwindCodeData Error) → Type 0
 TilesFrom s xs = Tiles s.content s.at xs
@@ -27,17 +27,17 @@ nothing_left bytes at (Ok item ∷ xs) over h = absurd (omega (arith, over, h.0)
 nothing_left bytes at (Err e ∷ xs) over h = absurd (omega (arith, over, h.0))
 
 -- the items of a whole run tile the bytes from where the iterator stood
-pub tiles_from_yields : (s t u : Arm64UnwindCodeIterator) (xs : List (Result Arm64UnwindCodeData Error)) → Yields Next s xs t → Next t None u → TilesFrom (place_of s) xs
-tiles_from_yields s t u [] y end = subst (λ (r : Arm64UnwindCodeIterator). TilesFrom (place_of r) []) (sym y) end.0
+pub tiles_from_yields : (s t u : Arm64UnwindCodeIterator) (xs : List (Result Arm64UnwindCodeData Error)) → Yields Next s xs t → Next t None u → TilesFrom (stream_place s) xs
+tiles_from_yields s t u [] y end = subst (λ (r : Arm64UnwindCodeIterator). TilesFrom (stream_place r) []) (sym y) end.0
 tiles_from_yields s t u (Ok item ∷ xs) y end =
     let j : Arm64UnwindCodeIterator = y.0 in
-    let rest : TilesFrom (place_of j) xs = tiles_from_yields j t u xs y.2 end in
+    let rest : TilesFrom (stream_place j) xs = tiles_from_yields j t u xs y.2 end in
     (y.1.0, y.1.1, subst (λ (p : CodePlace). TilesFrom p xs) y.1.2 rest)
 tiles_from_yields s t u (Err e ∷ xs) y end =
     let j : Arm64UnwindCodeIterator = y.0 in
-    let rest : TilesFrom (place_of j) xs = tiles_from_yields j t u xs y.2 end in
-    let over : Tiles (place_of s).content (length (place_of s).content) xs = subst (λ (p : CodePlace). TilesFrom p xs) y.1.2 rest in
-    (y.1.0, y.1.1, nothing_left (place_of s).content (length (place_of s).content) xs (omega arith) over)
+    let rest : TilesFrom (stream_place j) xs = tiles_from_yields j t u xs y.2 end in
+    let over : Tiles (stream_place s).content (length (stream_place s).content) xs = subst (λ (p : CodePlace). TilesFrom p xs) y.1.2 rest in
+    (y.1.0, y.1.1, nothing_left (stream_place s).content (length (stream_place s).content) xs (omega arith) over)
 
 item_of : ℕ → Arm64UnwindCode → ℕ → Arm64UnwindCodeData
 item_of offset code len = record { offset = offset; code = code; len = len }

@@ -14,8 +14,8 @@ pub record CodePlace : Type 0 where
   pub at : ℕ
 
 -- where an iterator stands
-abbrev pub place_of : Arm64UnwindCodeIterator → CodePlace
-place_of s = record { content = s.bytes.now; at = s.offset }
+abbrev pub stream_place : Arm64UnwindCodeIterator → CodePlace
+stream_place s = record { content = s.bytes.now; at = s.offset }
 
 -- how many bytes are left
 abbrev pub left_at : CodePlace → ℕ

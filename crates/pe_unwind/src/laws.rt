@@ -17,7 +17,7 @@ ghost use Rattle.pe_unwind.specs.declared.arm64.codes.Arm64UnwindCode.{Arm64Unwi
 ghost use Rattle.pe_unwind.specs.declared.arm64.codes.Arm64UnwindCodeData.{Arm64UnwindCodeData};
 ghost use Rattle.pe_unwind.specs.declared.arm64.codes.Arm64UnwindCodeIterator.{Arm64UnwindCodeIterator};
 ghost use Rattle.pe_unwind.specs.Arm64Encoding.{encoding, Legal, BeginsWith as BeginsWithCode, BeginsWithNone, IsCut};
-ghost use Rattle.pe_unwind.specs.Arm64Tiling.{Tiles, Joins, place_of};
+ghost use Rattle.pe_unwind.specs.Arm64Tiling.{Tiles, Joins, stream_place};
 ghost use Rattle.pe_unwind.specs.Arm64Record.{Arm64InfoView, AreRecord, info_at, record_size, size_at};
 ghost use Rattle.pe_unwind.specs.CodeStream.{CodeStream, AreItems, stream_of};
 ghost use Rattle.pe_unwind.specs.FunctionTable.{NeverFalls, NoEndPassesNext, Covers, Finds, answer_of};
@@ -84,7 +84,7 @@ pub fn arm64_codes_and_bytes()
 /// there is a cut if it is not empty. It has an item for each five bytes at least, and for each byte at most.
 pub fn one_tiling_of_arm64_codes()
     ensures whole { (s : Arm64UnwindCodeIterator) (xs : List (Result Arm64UnwindCodeData Error)) →
-        Drains ⟦<Arm64UnwindCodeIterator<'static> as Iterator>⟧.next_gives s xs → Tiles (place_of s).content (place_of s).at xs }
+        Drains ⟦<Arm64UnwindCodeIterator<'static> as Iterator>⟧.next_gives s xs → Tiles (stream_place s).content (stream_place s).at xs }
     ensures tiling { (b : List ℕ) (at : ℕ) (xs ys : List (Result Arm64UnwindCodeData Error)) → Tiles b at xs → Tiles b at ys → map answer_of xs ≡ map answer_of ys }
     ensures joined { (b : List ℕ) (at : ℕ) (xs : List (Result Arm64UnwindCodeData Error)) → Tiles b at xs → Joins (drop at b) xs }
     ensures counts { (b : List ℕ) (at : ℕ) (xs : List (Result Arm64UnwindCodeData Error)) → All (λ x. x < 256) b → Tiles b at xs →

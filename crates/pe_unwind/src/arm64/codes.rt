@@ -443,6 +443,9 @@ pub struct Arm64UnwindCodeData {
     pub len: u8,
 }
 
+/// The bytes of the longest stream: each place fits 32 bits.
+const LONGEST_STREAM: usize = 0xFFFF_FFFC;
+
 /// The codes of a stream from a place on, also those behind an `End`. `Arm64Cut` where a code is cut, and then over.
 #[derive(Drop)]
 pub struct Arm64UnwindCodeIterator<'a> {
@@ -453,14 +456,14 @@ pub struct Arm64UnwindCodeIterator<'a> {
 
 impl<'a> Arm64UnwindCodeIterator<'a> {
     ghost use Rattle.pe_core.specs.Refusals.{Gives};
-    ghost use Rattle.pe_unwind.specs.Arm64Tiling.{place_of, stream_at};
+    ghost use Rattle.pe_unwind.specs.Arm64Tiling.{stream_place, stream_at};
 
     /// The codes of these bytes from a place on. `Arm64Stream` if the bytes are no whole words of four, the place is past
     /// their end, or there are more than 4,294,967,292.
     pub fn new(bytes: &'a [u8], start: usize) -> Result<Self>
-        ensures { Gives place_of result (stream_at bytes.entry.now start) }
+        ensures { Gives stream_place result (stream_at bytes.entry.now start) }
     {
-        if bytes.len() % 4 != 0 || bytes.len() < start || 4294967292 < bytes.len() {
+        if bytes.len() % 4 != 0 || bytes.len() < start || LONGEST_STREAM < bytes.len() {
             return Err(Error::Malformed(Reason::Arm64Stream {
                 length: bytes.len(),
                 start,
@@ -474,20 +477,20 @@ impl<'a> Arm64UnwindCodeIterator<'a> {
 }
 
 impl<'a> Iterator for Arm64UnwindCodeIterator<'a> {
-    ghost use Rattle.pe_unwind.specs.Arm64Tiling.{place_of, left_at, Gives};
+    ghost use Rattle.pe_unwind.specs.Arm64Tiling.{stream_place, left_at, Gives};
 
     type Item = Result<Arm64UnwindCodeData>;
 
-    ghost next_gives = { λ s r t. Gives (place_of s) r (place_of t) };
+    ghost next_gives = { λ s r t. Gives (stream_place s) r (stream_place t) };
 
-    ghost remaining = { λ s. at_most (left_at (place_of s)) };
+    ghost remaining = { λ s. at_most (left_at (stream_place s)) };
 
     /// At least one item for each five bytes that are left, at most one for each.
     fn size_hint(&self) -> (usize, Option<usize>)
-        ensures lower { IsWithinCount result.0 (at_most (left_at (place_of self.now))) }
-        ensures upper { IfSome result.1 (UpTo (at_most (left_at (place_of self.now)))) }
-        ensures least { result.0 ≡ (left_at (place_of self.now) + 4) / 5 }
-        ensures most { result.1 ≡ Some (left_at (place_of self.now)) }
+        ensures lower { IsWithinCount result.0 (at_most (left_at (stream_place self.now))) }
+        ensures upper { IfSome result.1 (UpTo (at_most (left_at (stream_place self.now)))) }
+        ensures least { result.0 ≡ (left_at (stream_place self.now) + 4) / 5 }
+        ensures most { result.1 ≡ Some (left_at (stream_place self.now)) }
     {
         let left = self.bytes.len().saturating_sub(self.offset);
         (left.div_ceil(5), Some(left))

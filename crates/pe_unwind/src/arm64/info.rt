@@ -6,7 +6,7 @@ ghost use Rattle.pe_core.specs.Refusals.{Gives, Short, outcome};
 ghost use Rattle.pe_core.specs.Bytes.{holds};
 ghost use Rattle.pe_unwind.specs.Arm64Words.{epilog_scopes_left};
 ghost use Rattle.pe_unwind.specs.Arm64Record.{extension_view, handler_view, info_view, extension_size, extension_at, scope_count, code_words, handler_size, handler_at, info_at, size_at, scopes_of};
-ghost use Rattle.pe_unwind.specs.Arm64Tiling.{place_of, stream_at};
+ghost use Rattle.pe_unwind.specs.Arm64Tiling.{stream_place, stream_at};
 
 use crate::arm64::codes::Arm64UnwindCodeIterator;
 use crate::arm64::words::{Arm64EpilogScopeIterator, Arm64UnwindExtension, Arm64UnwindHeader};
@@ -166,7 +166,7 @@ impl<'a> Arm64UnwindInfo<'a> {
 
     /// The unwind codes from this index on, which counts bytes. `Arm64Stream` where it is behind their end.
     pub fn unwind_codes(&self, start_index: u16) -> Result<Arm64UnwindCodeIterator<'a>>
-        ensures { Gives place_of result (stream_at (info_view self.now).codes start_index) }
+        ensures { Gives stream_place result (stream_at (info_view self.now).codes start_index) }
     {
         Arm64UnwindCodeIterator::new(self.code_bytes, usize::from(start_index))
     }

@@ -104,7 +104,7 @@ impl Arm64EpilogScope {
     pub fn start_offset_words(&self) -> u32
         ensures { result ≡ 4 * bits (self.now).0 0 18 }
     {
-        bits(self.0, 0, 18) * 4
+        4 * bits(self.0, 0, 18)
     }
 
     /// The condition under which the epilog runs.
