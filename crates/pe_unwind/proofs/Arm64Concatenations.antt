@@ -124,4 +124,4 @@ read b rest i are words =
     let value : info_with b 0 i.header i.extension ≡ i = same_info i (range b (4 + x) s) (range b (4 + x + s) c) (handler_at b (4 + x + s + c) i.header) scopes codes handler in
     by_words b i (le b 0 4) (extension_at b 4 (le b 0 4)) first (ap (extension_at b 4) first ∙ second)
     (all_pass (holds b 0 4) (bits i.header 18 2 == 0) (holds b 4 x) (holds b (4 + x) s) (holds b (4 + x + s) c) (holds b (4 + x + s + c) n) Short Arm64Version Short Short Short Short (info_with b 0 i.header i.extension) (held b 0 4 (omega (arith, total))) (ap (λ (k : ℕ). k == 0) are.version) (held b 4 x (omega (arith, total))) (held b (4 + x) s (omega (arith, total))) (held b (4 + x + s) c (omega (arith, total))) (held b (4 + x + s + c) n (omega (arith, total)))
-     ∙ ap (λ (j : Arm64InfoView). Ok j) value)
+    ∙ ap (λ (j : Arm64InfoView). Ok j) value)
