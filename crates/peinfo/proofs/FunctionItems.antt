@@ -31,9 +31,9 @@ no_lines line true = refl
 no_lines line false = refl
 
 pub whole_items : (b : List ℕ) → item_lines function_line (function_items b) ≡ flat_map function_line (functions b)
-unfolding function_items
+unfolding function_items functions
 whole_items b = lines_of_whole function_line (functions b) (cond (length b % 12 == 0) [] (Err Short ∷ [])) (no_lines function_line (length b % 12 == 0))
 
 pub whole_items_64 : (b : List ℕ) → item_lines function64_line (arm64_function_items b) ≡ flat_map function64_line (arm64_functions b)
-unfolding arm64_function_items
+unfolding arm64_function_items arm64_functions
 whole_items_64 b = lines_of_whole function64_line (arm64_functions b) (cond (length b % 8 == 0) [] (Err Short ∷ [])) (no_lines function64_line (length b % 8 == 0))
