@@ -115,14 +115,13 @@ fn refuses_tables(rt: HostRuntime) -> Result<(), Fail> {
         virtual_address: 0x1000,
         size: 8,
     };
-    let answer = ExceptionData::parse_arm64_with_opts(
-        &TABLE,
-        directory,
-        &[],
-        0x200,
-        &ParseOptions::default(),
+    let opts = ParseOptions::default();
+    assert!(rt;
+        matches!(
+            ExceptionData::parse_arm64_with_opts(&TABLE, directory, &[], 0x200, &opts),
+            Err(Error::Malformed(Reason::Unmapped(0x1000)))
+        )
     );
-    assert!(rt; matches!(answer, Err(Error::Malformed(Reason::Unmapped(0x1000)))));
     Ok(())
 }
 

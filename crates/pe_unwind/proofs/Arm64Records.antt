@@ -26,7 +26,7 @@ passed false t u v w x i j k l m n y o e = absurd cc
 there : (b : List ℕ) (p n : ℕ) → holds b p n ≡ true → p + n ≤ length b
 there b p n e = grind (arith, nat_tests)
 
-held : (b : List ℕ) (p n : ℕ) → p + n ≤ length b → holds b p n ≡ true
+pub held : (b : List ℕ) (p n : ℕ) → p + n ≤ length b → holds b p n ≡ true
 held b p n h = grind (arith, nat_tests)
 
 -- the bytes from p on are n of them, and those behind

@@ -3,6 +3,7 @@ pub mod TableEntries
 pub mod Entries
 pub mod EpilogScopes
 pub mod Arm64Records
+pub mod Arm64Concatenations
 pub mod Searches
 pub mod SpellingLengths
 pub mod Pigeonhole

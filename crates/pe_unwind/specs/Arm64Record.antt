@@ -1,5 +1,5 @@
 -- ARM64 unwind records. (ARM64 exception handling: .xdata records.)
-use Rattle.std.specs.Prelude.{◌≡◌, Bool, ◌++◌, is_some, IfSome, ℕ, ◌+◌, ◌*◌, ◌==◌, ◌||◌, List, [], ◌∷◌, length, drop, Option, Some, None, Result, if◌then◌else◌}
+use Rattle.std.specs.Prelude.{◌≡◌, ◌<◌, ◌^◌, Bool, ◌++◌, is_some, IfSome, ℕ, ◌+◌, ◌*◌, ◌==◌, ◌||◌, List, [], ◌∷◌, length, drop, Option, Some, None, Result, if◌then◌else◌}
 use Rattle.std.specs.Option.{option_map}
 use Rattle.pe_core.specs.Bytes.{le, bytes_of, holds, range}
 use Rattle.pe_core.specs.Refusals.{Refusal, Short, Arm64Version, outcome}
@@ -128,3 +128,9 @@ pub record AreRecord (bytes : List ℕ) (i : Arm64InfoView) (rest : List ℕ) : 
   pub codes : length i.codes ≡ 4 * code_words i.header i.extension
   pub handler : is_some i.handler ≡ has_handler i.header
   pub behind : IfSome i.handler (λ h. h.bytes ≡ rest)
+
+-- the words of a record fit their four bytes
+pub record HasWords (i : Arm64InfoView) : Type 0 where
+  pub header : i.header < 2 ^ 32
+  pub extension : IfSome i.extension (λ word. word < 2 ^ 32)
+  pub handler : IfSome i.handler (λ h. h.rva < 2 ^ 32)

@@ -18,7 +18,7 @@ ghost use Rattle.pe_unwind.specs.declared.arm64.codes.Arm64UnwindCodeData.{Arm64
 ghost use Rattle.pe_unwind.specs.declared.arm64.codes.Arm64UnwindCodeIterator.{Arm64UnwindCodeIterator};
 ghost use Rattle.pe_unwind.specs.Arm64Encoding.{encoding, Legal, BeginsWith as BeginsWithCode, BeginsWithNone, IsCut};
 ghost use Rattle.pe_unwind.specs.Arm64Tiling.{Tiles, Joins, stream_place};
-ghost use Rattle.pe_unwind.specs.Arm64Record.{Arm64InfoView, AreRecord, info_at, record_size, size_at};
+ghost use Rattle.pe_unwind.specs.Arm64Record.{Arm64InfoView, AreRecord, HasWords, info_at, record_size, size_at};
 ghost use Rattle.pe_unwind.specs.CodeStream.{CodeStream, AreItems, stream_of};
 ghost use Rattle.pe_unwind.specs.FunctionTable.{NeverFalls, NoEndPassesNext, Covers, Finds, answer_of};
 ghost use Rattle.pe_unwind.specs.Links.{Table, Follows};
@@ -92,9 +92,10 @@ pub fn one_tiling_of_arm64_codes()
 {}
 
 /// An ARM64 unwind record that is given is the concatenation of its parts: header, extension word, scopes, codes, address
-/// of the handler, rest.
+/// of the handler, rest. And bytes that are such a concatenation are read as that record.
 pub fn arm64_records_are_concatenations()
-    ensures { (b : List ℕ) (p : ℕ) (i : Arm64InfoView) → AreBytes b → info_at b p ≡ Ok i → AreRecord (drop p b) i (drop (p + record_size i.header i.extension) b) }
+    ensures given { (b : List ℕ) (p : ℕ) (i : Arm64InfoView) → AreBytes b → info_at b p ≡ Ok i → AreRecord (drop p b) i (drop (p + record_size i.header i.extension) b) }
+    ensures read { (b rest : List ℕ) (i : Arm64InfoView) → AreRecord b i rest → HasWords i → info_at b 0 ≡ Ok i }
 {}
 
 /// Where an ARM64 unwind record is given, its size is too, and is that of its words; the record ends in the bytes, and a

@@ -1,0 +1,127 @@
+-- Bytes that are the concatenation of a record's parts are read as that record.
+use Rattle.std.proofs.Common.{rules, ◌≡◌, ℕ, zero, suc, ◌+◌, ◌*◌, ◌/◌, ◌%◌, ◌^◌, ◌<◌, Bool, true, false, List, [], ◌∷◌, ◌++◌, length, drop, Option, Some, None, Ok, refl, ap, sym, ◌∙◌, subst, arith, append_assoc, length-append}
+use Rattle.std.specs.Prelude.{slice_index, if◌then◌else◌, is_some, IfSome, ◌==◌}
+use Rattle.std.specs.Option.{option_map}
+use Rattle.std.proofs.Math.Nat.{pow-suc}
+use Rattle.std.proofs.lemmas.List.{places, same_lists}
+use Rattle.std.proofs.Math.Seq.{drop-append_seam}
+use Rattle.pe_core.proofs.NumberBytes.{le-zero, le-cons}
+use Rattle.pe_core.specs.Bytes.{le, bytes_of, holds, range}
+use Rattle.pe_core.specs.Refusals.{Refusal, Short, Arm64Version, outcome}
+use Rattle.pe_unwind.specs.Arm64Record.{Arm64HandlerView, Arm64InfoView, extension_size, extension_at, scope_count, code_words, handler_size, handler_at, info_with, info_tests, info_at, word_bytes, AreRecord, HasWords}
+use Rattle.pe_unwind.specs.Arm64Words.{bits, has_handler, has_extension}
+use Rattle.pe_unwind.proofs.Arm64Records.{held}
+
+length-bytes_of : (n number : ℕ) → length (bytes_of n number) ≡ n
+unfolding bytes_of
+length-bytes_of zero number = refl
+length-bytes_of (suc n) number = ap suc (length-bytes_of n (number / 256))
+
+byte_behind : (front : List ℕ) (x : ℕ) (rest : List ℕ) (p : ℕ) → length front ≡ p → slice_index (front ++ x ∷ rest) p ≡ x
+byte_behind front x rest p e = grind (arith, places)
+
+-- the number behind what stands in front of it
+le-behind : (n number : ℕ) (front rest : List ℕ) (p : ℕ) → length front ≡ p → number < 256 ^ n → le (front ++ (bytes_of n number ++ rest)) p n ≡ number
+unfolding bytes_of
+le-behind zero number front rest p e small = le-zero _ p ∙ omega arith
+le-behind (suc n) number front rest p e small =
+    let x = number % 256 in
+    let behind = bytes_of n (number / 256) ++ rest in
+    let below : number / 256 < 256 ^ n = omega (arith, pow-suc 256 n) in
+    let moved : (front ++ x ∷ []) ++ behind ≡ front ++ x ∷ behind = append_assoc front (x ∷ []) behind in
+    let count : length (front ++ x ∷ []) ≡ suc p = omega (arith, length-append front (x ∷ [])) in
+    let others : le ((front ++ x ∷ []) ++ behind) (suc p) n ≡ number / 256 = le-behind n (number / 256) (front ++ x ∷ []) rest (suc p) count below in
+    let same : le (front ++ x ∷ behind) (suc p) n ≡ number / 256 = rw moved at others in
+    let first : slice_index (front ++ x ∷ behind) p ≡ x = byte_behind front x behind p e in
+    omega (arith, le-cons (front ++ x ∷ behind) p n, same, first)
+
+length_word : (t : Bool) (o : Option ℕ) → is_some o ≡ t → length (word_bytes o) ≡ (if t then 4 else 0)
+length_word true (Some w) e = length-bytes_of 4 w
+length_word true None e = absurd cc
+length_word false (Some w) e = absurd cc
+length_word false None e = refl
+
+some_map : (o : Option Arm64HandlerView) → is_some (option_map (λ h. h.rva) o) ≡ is_some o
+some_map (Some h) = refl
+some_map None = refl
+
+-- the parts at their places
+read_word : (t : Bool) (o : Option ℕ) (front rest : List ℕ) (p : ℕ) → is_some o ≡ t → IfSome o (λ w. w < 2 ^ 32) → length front ≡ p →
+    (if t then Some (le (front ++ (word_bytes o ++ rest)) p 4) else None) ≡ o
+read_word true (Some w) front rest p e small at = ap (λ (n : ℕ). Some n) (le-behind 4 w front rest p at small)
+read_word true None front rest p e small at = absurd cc
+read_word false (Some w) front rest p e small at = absurd cc
+read_word false None front rest p e small at = refl
+
+dropped : (front rest : List ℕ) (p : ℕ) → length front ≡ p → drop p (front ++ rest) ≡ rest
+dropped front rest p e = subst (λ (k : ℕ). drop k (front ++ rest) ≡ rest) e (drop-append_seam front rest)
+
+read_handler : (t : Bool) (o : Option Arm64HandlerView) (front rest : List ℕ) (p : ℕ) → is_some o ≡ t → IfSome o (λ h. h.rva < 2 ^ 32) → IfSome o (λ h. h.bytes ≡ rest) → length front ≡ p →
+    (let b : List ℕ = front ++ (word_bytes (option_map (λ h. h.rva) o) ++ rest) in if t then Some (record { rva = le b p 4; bytes = drop (p + 4) b }) else None) ≡ o
+read_handler true (Some h) front rest p e small same at =
+    let word : List ℕ = bytes_of 4 h.rva in
+    let count : length (front ++ word) ≡ p + 4 = omega (arith, length-append front word, length-bytes_of 4 h.rva) in
+    let number : le (front ++ (word ++ rest)) p 4 ≡ h.rva = le-behind 4 h.rva front rest p at small in
+    let data_at : drop (p + 4) (front ++ (word ++ rest)) ≡ h.bytes = ap (drop (p + 4)) (sym (append_assoc front word rest)) ∙ dropped (front ++ word) rest (p + 4) count ∙ sym same in
+    ap (λ (n : ℕ). Some (record { rva = n; bytes = drop (p + 4) (front ++ (word ++ rest)) })) number ∙ ap (λ (d : List ℕ). Some (record { rva = h.rva; bytes = d })) data_at
+read_handler true None front rest p e small same at = absurd cc
+read_handler false (Some h) front rest p e small same at = absurd cc
+read_handler false None front rest p e small same at = refl
+
+read_range : (front part rest : List ℕ) (p n : ℕ) → length front ≡ p → length part ≡ n → range (front ++ (part ++ rest)) p n ≡ part
+read_range front part rest p n e f = same_lists _ _ (search (rules, places)) (λ k d lt. grind (arith, places))
+
+all_pass : {Y : Type 0} (s t u v w x : Bool) (i j k l m n : Refusal) (y : Y) → s ≡ true → t ≡ true → u ≡ true → v ≡ true → w ≡ true → x ≡ true →
+    outcome ((s, i) ∷ (t, j) ∷ (u, k) ∷ (v, l) ∷ (w, m) ∷ (x, n) ∷ []) y ≡ Ok y
+all_pass s t u v w x i j k l m n y a b c d e f = rw (a, b, c, d, e, f) refl
+
+-- a record with these scopes, codes and handler
+same_info : (i : Arm64InfoView) (s c : List ℕ) (h : Option Arm64HandlerView) → s ≡ i.scopes → c ≡ i.codes → h ≡ i.handler →
+    (let j : Arm64InfoView = record { header = i.header; extension = i.extension; scopes = s; codes = c; handler = h } in j) ≡ i
+same_info i s c h e f g =
+    ap (λ (part : List ℕ). let j : Arm64InfoView = record { header = i.header; extension = i.extension; scopes = part; codes = c; handler = h } in j) e
+    ∙ ap (λ (part : List ℕ). let j : Arm64InfoView = record { header = i.header; extension = i.extension; scopes = i.scopes; codes = part; handler = h } in j) f
+    ∙ ap (λ (o : Option Arm64HandlerView). let j : Arm64InfoView = record { header = i.header; extension = i.extension; scopes = i.scopes; codes = i.codes; handler = o } in j) g
+
+-- with the words that the bytes begin with
+by_words : (b : List ℕ) (i : Arm64InfoView) (header : ℕ) (extension : Option ℕ) → header ≡ i.header → extension ≡ i.extension →
+    outcome (info_tests b 0 i.header i.extension) (info_with b 0 i.header i.extension) ≡ Ok i → outcome (info_tests b 0 header extension) (info_with b 0 header extension) ≡ Ok i
+by_words b i header extension e f h =
+    subst (λ (w : ℕ). outcome (info_tests b 0 w extension) (info_with b 0 w extension) ≡ Ok i) (sym e)
+    (subst (λ (w : Option ℕ). outcome (info_tests b 0 i.header w) (info_with b 0 i.header w) ≡ Ok i) (sym f) h)
+
+length_of_parts : (h x s c r rest : List ℕ) → length ((((h ++ x) ++ s) ++ c) ++ (r ++ rest)) ≡ length h + length x + length s + length c + length r + length rest
+length_of_parts h x s c r rest = simp length-append (omega arith)
+
+-- bytes that are the parts of a record, one after the other, are read as that record
+pub read : (b rest : List ℕ) (i : Arm64InfoView) → AreRecord b i rest → HasWords i → info_at b 0 ≡ Ok i
+unfolding info_at
+read b rest i are words =
+    let x : ℕ = extension_size i.header in
+    let s : ℕ = 4 * scope_count i.header i.extension in
+    let c : ℕ = 4 * code_words i.header i.extension in
+    let n : ℕ = handler_size i.header in
+    let h : List ℕ = bytes_of 4 i.header in
+    let w : List ℕ = word_bytes i.extension in
+    let r : List ℕ = word_bytes (option_map (λ h. h.rva) i.handler) in
+    let at_header : b ≡ h ++ (w ++ (i.scopes ++ (i.codes ++ (r ++ rest)))) = are.joined in
+    let at_scopes : b ≡ (h ++ w) ++ (i.scopes ++ (i.codes ++ (r ++ rest))) = at_header ∙ sym (append_assoc h w (i.scopes ++ (i.codes ++ (r ++ rest)))) in
+    let at_codes : b ≡ ((h ++ w) ++ i.scopes) ++ (i.codes ++ (r ++ rest)) = at_scopes ∙ sym (append_assoc (h ++ w) i.scopes (i.codes ++ (r ++ rest))) in
+    let at_handler : b ≡ (((h ++ w) ++ i.scopes) ++ i.codes) ++ (r ++ rest) = at_codes ∙ sym (append_assoc ((h ++ w) ++ i.scopes) i.codes (r ++ rest)) in
+    let size_h : length h ≡ 4 = length-bytes_of 4 i.header in
+    let size_w : length w ≡ x = length_word (has_extension i.header) i.extension are.extension in
+    let some_r : is_some (option_map (λ h. h.rva) i.handler) ≡ has_handler i.header = some_map i.handler ∙ are.handler in
+    let size_r : length r ≡ n = length_word (has_handler i.header) (option_map (λ h. h.rva) i.handler) some_r in
+    let total : length b ≡ 4 + x + s + c + n + length rest = ap (λ (l : List ℕ). length l) at_handler ∙ length_of_parts h w i.scopes i.codes r rest ∙ omega (arith, size_h, size_w, size_r, are.scopes, are.codes) in
+    let before_scopes : length (h ++ w) ≡ 4 + x = omega (arith, length-append h w, size_h, size_w) in
+    let before_codes : length ((h ++ w) ++ i.scopes) ≡ 4 + x + s = omega (arith, length-append (h ++ w) i.scopes, before_scopes, are.scopes) in
+    let before_handler : length (((h ++ w) ++ i.scopes) ++ i.codes) ≡ 4 + x + s + c = omega (arith, length-append ((h ++ w) ++ i.scopes) i.codes, before_codes, are.codes) in
+    let first : le b 0 4 ≡ i.header = ap (λ (l : List ℕ). le l 0 4) at_header ∙ le-behind 4 i.header [] (w ++ (i.scopes ++ (i.codes ++ (r ++ rest)))) 0 refl words.header in
+    let second : extension_at b 4 i.header ≡ i.extension = ap (λ (l : List ℕ). extension_at l 4 i.header) at_header ∙ read_word (has_extension i.header) i.extension h (i.scopes ++ (i.codes ++ (r ++ rest))) 4 are.extension words.extension size_h in
+    let scopes : range b (4 + x) s ≡ i.scopes = ap (λ (l : List ℕ). range l (4 + x) s) at_scopes ∙ read_range (h ++ w) i.scopes (i.codes ++ (r ++ rest)) (4 + x) s before_scopes are.scopes in
+    let codes : range b (4 + x + s) c ≡ i.codes = ap (λ (l : List ℕ). range l (4 + x + s) c) at_codes ∙ read_range ((h ++ w) ++ i.scopes) i.codes (r ++ rest) (4 + x + s) c before_codes are.codes in
+    let handler : handler_at b (4 + x + s + c) i.header ≡ i.handler = ap (λ (l : List ℕ). handler_at l (4 + x + s + c) i.header) at_handler ∙ read_handler (has_handler i.header) i.handler (((h ++ w) ++ i.scopes) ++ i.codes) rest (4 + x + s + c) are.handler words.handler are.behind before_handler in
+    let value : info_with b 0 i.header i.extension ≡ i = same_info i (range b (4 + x) s) (range b (4 + x + s) c) (handler_at b (4 + x + s + c) i.header) scopes codes handler in
+    by_words b i (le b 0 4) (extension_at b 4 (le b 0 4)) first (ap (extension_at b 4) first ∙ second)
+    (all_pass (holds b 0 4) (bits i.header 18 2 == 0) (holds b 4 x) (holds b (4 + x) s) (holds b (4 + x + s) c) (holds b (4 + x + s + c) n) Short Arm64Version Short Short Short Short (info_with b 0 i.header i.extension) (held b 0 4 (omega (arith, total))) (ap (λ (k : ℕ). k == 0) are.version) (held b 4 x (omega (arith, total))) (held b (4 + x) s (omega (arith, total))) (held b (4 + x + s) c (omega (arith, total))) (held b (4 + x + s + c) n (omega (arith, total)))
+    ∙ ap (λ (j : Arm64InfoView). Ok j) value)
