@@ -110,11 +110,15 @@ fn reads_a_record_with_a_handler(rt: HostRuntime) -> Result<(), Fail> {
 /// What was taken from a record stays when the record is gone.
 #[test]
 fn keeps_the_handler(rt: HostRuntime) -> Result<(), Fail> {
-    let (handler, mut codes) = {
+    let (handler, mut codes, mut scopes) = {
         let info = Arm64UnwindInfo::parse(&HANDLED, 0)?;
         let codes = info.unwind_codes(3)?;
-        (info.exception_handler, codes)
+        let scopes = info
+            .epilog_scopes()
+            .unwrap_or(Arm64EpilogScopeIterator::new(&[]));
+        (info.exception_handler, codes, scopes)
     };
+    assert!(rt; matches!(scopes.next(), Some(Ok(scope)) if fields(scope) == (12, 14, 0)));
     assert_eq!(rt;
         handler,
         Some(Arm64ExceptionHandler {
@@ -253,16 +257,19 @@ fn gives_cut_scopes_once(rt: HostRuntime) -> Result<(), Fail> {
     Ok(())
 }
 
-/// A function's record by its address, none where the unwind data are packed.
+/// A function's record by its address, which stays when the exception data are gone; none where the unwind data are
+/// packed.
 #[test]
 fn finds_records_of_functions(rt: HostRuntime) -> Result<(), Fail> {
     let bytes = [
         0, 0x10, 0, 0, 0x10, 0, 0, 0, 0x20, 0x10, 0, 0, 0x21, 0, 0x62, 0x01, 0x04, 0, 0xE0, 0x08,
         0xE4, 0xE3, 0xE3, 0xE3,
     ];
-    let data = two_entries(&bytes, 0, &[], &flat())?;
-    let full = data.get_function_arm64(0)?;
-    let Some(Ok(info)) = data.get_unwind_info_arm64_with_opts(full, &[], &flat()) else {
+    let kept = {
+        let data = two_entries(&bytes, 0, &[], &flat())?;
+        data.get_unwind_info_arm64_with_opts(data.get_function_arm64(0)?, &[], &flat())
+    };
+    let Some(Ok(info)) = kept else {
         assert!(rt; false, "there is no record");
         return Ok(());
     };
@@ -270,6 +277,8 @@ fn finds_records_of_functions(rt: HostRuntime) -> Result<(), Fail> {
         (info.header.function_length(), info.header.code_words()),
         (16, 1)
     );
+    let data = two_entries(&bytes, 0, &[], &flat())?;
+    let full = data.get_function_arm64(0)?;
     assert!(rt;
         matches!(
             data.get_unwind_info_arm64(full, &[]),
