@@ -64,6 +64,7 @@ fn reads_packed_fields(rt: HostRuntime) -> Result<(), Fail> {
     assert_eq!(rt; whole.unwind_data_rva(), 0x2004);
     assert_eq!(rt; entry(0, 0x2007).unwind_data_rva(), 0x2004);
     assert_eq!(rt; entry(0, 2).flag(), ARM64_PDATA_PACKED_UNWIND_FRAGMENT);
+    assert_eq!(rt; Arm64RuntimeFunction::default(), entry(0, 0));
     for (bits, want) in [
         (0, ARM64_PDATA_CR_UNCHAINED),
         (0x0020_0000, ARM64_PDATA_CR_UNCHAINED_SAVED_LR),

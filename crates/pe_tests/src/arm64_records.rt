@@ -1,9 +1,10 @@
 //! ARM64 unwind records: their words, scopes, codes and handler, and the functions that they belong to.
 
-use pe_core::{DataDirectory, Error, ParseOptions, Reason};
+use pe_core::{DataDirectory, Error, ParseOptions, Reason, SectionTable};
 use pe_unwind::{
     Arm64EpilogScope, Arm64EpilogScopeIterator, Arm64ExceptionHandler, Arm64RuntimeFunction,
-    Arm64UnwindCode, Arm64UnwindExtension, Arm64UnwindHeader, Arm64UnwindInfo, ExceptionData,
+    Arm64UnwindCode, Arm64UnwindCodeData, Arm64UnwindExtension, Arm64UnwindHeader, Arm64UnwindInfo,
+    ExceptionData,
 };
 use std::test::Fail;
 
@@ -28,6 +29,29 @@ fn flat() -> ParseOptions {
         resolve_rva: false,
         ..ParseOptions::default()
     }
+}
+
+/// The offset in bytes, the condition and the index of a scope.
+fn fields(scope: Arm64EpilogScope) -> (u32, u32, u32) {
+    (
+        scope.start_offset_words(),
+        scope.condition(),
+        scope.start_index(),
+    )
+}
+
+/// The exception data of a table of two entries at an address.
+fn two_entries<'a>(
+    bytes: &'a [u8],
+    virtual_address: u32,
+    sections: &[SectionTable],
+    opts: &ParseOptions,
+) -> Result<ExceptionData<'a>, Error> {
+    let directory = DataDirectory {
+        virtual_address,
+        size: 16,
+    };
+    ExceptionData::parse_arm64_with_opts(bytes, directory, sections, 0x200, opts)
 }
 
 #[test]
@@ -65,18 +89,7 @@ fn reads_a_record_with_a_handler(rt: HostRuntime) -> Result<(), Fail> {
         .epilog_scopes()
         .unwrap_or(Arm64EpilogScopeIterator::new(&[]));
     assert_eq!(rt; (scopes.len(), scopes.size_hint()), (1, (1, Some(1))));
-    let Some(Ok(scope)) = scopes.next() else {
-        assert!(rt; false, "there is no scope");
-        return Ok(());
-    };
-    assert_eq!(rt;
-        (
-            scope.start_offset_words(),
-            scope.condition(),
-            scope.start_index()
-        ),
-        (12, 14, 0)
-    );
+    assert!(rt; matches!(scopes.next(), Some(Ok(scope)) if fields(scope) == (12, 14, 0)));
     assert!(rt; scopes.next().is_none());
 
     let mut codes = info.unwind_codes(0)?;
@@ -97,11 +110,15 @@ fn reads_a_record_with_a_handler(rt: HostRuntime) -> Result<(), Fail> {
 /// What was taken from a record stays when the record is gone.
 #[test]
 fn keeps_the_handler(rt: HostRuntime) -> Result<(), Fail> {
-    let (handler, mut codes) = {
+    let (handler, mut codes, mut scopes) = {
         let info = Arm64UnwindInfo::parse(&HANDLED, 0)?;
         let codes = info.unwind_codes(3)?;
-        (info.exception_handler, codes)
+        let scopes = info
+            .epilog_scopes()
+            .unwrap_or(Arm64EpilogScopeIterator::new(&[]));
+        (info.exception_handler, codes, scopes)
     };
+    assert!(rt; matches!(scopes.next(), Some(Ok(scope)) if fields(scope) == (12, 14, 0)));
     assert_eq!(rt;
         handler,
         Some(Arm64ExceptionHandler {
@@ -120,8 +137,23 @@ fn reads_a_record_with_an_extension(rt: HostRuntime) -> Result<(), Fail> {
     assert_eq!(rt; info.extension, Some(Arm64UnwindExtension(0x0001_0001)));
     assert_eq!(rt; info.exception_handler, None);
     assert_eq!(rt; Arm64UnwindInfo::size(&EXTENDED)?, 16);
-    assert_eq!(rt; info.epilog_scopes().map(|scopes| scopes.len()), Some(1));
-    assert_eq!(rt; info.unwind_codes(0)?.count(), 4);
+    let mut scopes = info
+        .epilog_scopes()
+        .unwrap_or(Arm64EpilogScopeIterator::new(&[]));
+    assert!(rt; matches!(scopes.next(), Some(Ok(scope)) if fields(scope) == (12, 14, 0)));
+    assert!(rt; scopes.next().is_none());
+    let mut codes = info.unwind_codes(0)?;
+    for (offset, code) in [
+        (0, Arm64UnwindCode::End),
+        (1, Arm64UnwindCode::Nop),
+        (2, Arm64UnwindCode::Nop),
+        (3, Arm64UnwindCode::Nop),
+    ] {
+        assert!(rt;
+            matches!(codes.next(), Some(Ok(item)) if item.offset == offset && item.code == code && item.len == 1)
+        );
+    }
+    assert!(rt; codes.next().is_none());
     assert!(rt;
         matches!(
             info.unwind_codes(5),
@@ -225,22 +257,19 @@ fn gives_cut_scopes_once(rt: HostRuntime) -> Result<(), Fail> {
     Ok(())
 }
 
-/// A function's record by its address, none where the unwind data are packed.
+/// A function's record by its address, which stays when the exception data are gone; none where the unwind data are
+/// packed.
 #[test]
 fn finds_records_of_functions(rt: HostRuntime) -> Result<(), Fail> {
     let bytes = [
         0, 0x10, 0, 0, 0x10, 0, 0, 0, 0x20, 0x10, 0, 0, 0x21, 0, 0x62, 0x01, 0x04, 0, 0xE0, 0x08,
         0xE4, 0xE3, 0xE3, 0xE3,
     ];
-    let directory = DataDirectory {
-        virtual_address: 0,
-        size: 16,
+    let kept = {
+        let data = two_entries(&bytes, 0, &[], &flat())?;
+        data.get_unwind_info_arm64_with_opts(data.get_function_arm64(0)?, &[], &flat())
     };
-    let data = ExceptionData::parse_arm64_with_opts(&bytes, directory, &[], 0x200, &flat())?;
-    assert_eq!(rt; data.len_arm64(), 2);
-
-    let full = data.get_function_arm64(0)?;
-    let Some(Ok(info)) = data.get_unwind_info_arm64_with_opts(full, &[], &flat()) else {
+    let Some(Ok(info)) = kept else {
         assert!(rt; false, "there is no record");
         return Ok(());
     };
@@ -248,6 +277,8 @@ fn finds_records_of_functions(rt: HostRuntime) -> Result<(), Fail> {
         (info.header.function_length(), info.header.code_words()),
         (16, 1)
     );
+    let data = two_entries(&bytes, 0, &[], &flat())?;
+    let full = data.get_function_arm64(0)?;
     assert!(rt;
         matches!(
             data.get_unwind_info_arm64(full, &[]),
@@ -262,16 +293,123 @@ fn finds_records_of_functions(rt: HostRuntime) -> Result<(), Fail> {
         data.get_unwind_info_arm64_with_opts(packed, &[], &flat())
             .is_none()
     );
+    Ok(())
+}
 
+/// A record that is cut or of another version is refused, an address behind the bytes too.
+#[test]
+fn refuses_records_of_functions(rt: HostRuntime) -> Result<(), Fail> {
+    let bytes = [
+        0, 0x10, 0, 0, 0x10, 0, 0, 0, 0x20, 0x10, 0, 0, 0x14, 0, 0, 0, 0x04, 0, 0xE4, 0x08, 0x04,
+        0, 0xE0, 0x08,
+    ];
+    let data = two_entries(&bytes, 0, &[], &flat())?;
+    let other_version = data.get_function_arm64(0)?;
+    assert!(rt;
+        matches!(
+            data.get_unwind_info_arm64_with_opts(other_version, &[], &flat()),
+            Some(Err(Error::Malformed(Reason::Arm64Version(1))))
+        )
+    );
+    let cut = data.get_function_arm64(1)?;
     let behind = Arm64RuntimeFunction {
         begin_address: 0,
         unwind_data: 0x18,
     };
-    assert!(rt;
-        matches!(
-            data.get_unwind_info_arm64_with_opts(behind, &[], &flat()),
-            Some(Err(Error::Short { at: 24, needed: 4 }))
-        )
+    for function in [cut, behind] {
+        assert!(rt;
+            matches!(
+                data.get_unwind_info_arm64_with_opts(function, &[], &flat()),
+                Some(Err(Error::Short { at: 24, needed: 4 }))
+            )
+        );
+    }
+    Ok(())
+}
+
+/// The table and its records at addresses that a section maps, by the default options: each function's codes.
+#[test]
+fn reads_codes_of_each_function(rt: HostRuntime) -> Result<(), Fail> {
+    let bytes = [
+        0, 0x10, 0, 0, 0x10, 0x10, 0, 0, 0x20, 0x10, 0, 0, 0x21, 0, 0x62, 0x01, 0x04, 0, 0xE0,
+        0x08, 0xC8, 0x42, 0xE4, 0xE3,
+    ];
+    let sections = [SectionTable {
+        name: *b".rdata\0\0",
+        virtual_size: 0x100,
+        virtual_address: 0x1000,
+        size_of_raw_data: 0x200,
+        pointer_to_raw_data: 0,
+        pointer_to_relocations: 0,
+        pointer_to_linenumbers: 0,
+        number_of_relocations: 0,
+        number_of_linenumbers: 0,
+        characteristics: 0,
+    }];
+    let data = two_entries(&bytes, 0x1000, &sections, &ParseOptions::default())?;
+    let mut found = Vec::new(rt.alloc());
+    for function in data.functions_arm64() {
+        if let Some(info) = data.get_unwind_info_arm64(function?, &sections) {
+            for item in info?.unwind_codes(0)? {
+                found.push(item?)?;
+            }
+        }
+    }
+    let pair = Arm64UnwindCode::SaveRegPair {
+        first_reg: 20,
+        offset_bytes: 16,
+    };
+    let want = [
+        (0, pair, 2),
+        (2, Arm64UnwindCode::End, 1),
+        (3, Arm64UnwindCode::Nop, 1),
+    ]
+    .map(|(offset, code, len)| Arm64UnwindCodeData { offset, code, len });
+    assert_eq!(rt; found.as_slice(), want.as_slice());
+    Ok(())
+}
+
+/// A record with every part: an extension word, two scopes, one word of codes, a handler and its data, from place 4 on.
+#[test]
+fn reads_a_record_with_every_part(rt: HostRuntime) -> Result<(), Fail> {
+    let bytes = [
+        0xEE, 0xEE, 0xEE, 0xEE, 0x08, 0, 0x10, 0, 2, 0, 1, 0, 0x01, 0, 0, 0, 0x02, 0, 0x40, 0,
+        0xE4, 0xE4, 0xE3, 0xE3, 0x00, 0x30, 0, 0, 7, 8, 9,
+    ];
+    let info = Arm64UnwindInfo::parse(&bytes, 4)?.clone()?;
+    assert_eq!(rt; info.header.function_length(), 32);
+    assert_eq!(rt; info.extension, Some(Arm64UnwindExtension(0x0001_0002)));
+    let mut scopes = info
+        .epilog_scopes()
+        .unwrap_or(Arm64EpilogScopeIterator::new(&[]));
+    assert_eq!(rt; scopes.len(), 2);
+    assert!(rt; matches!(scopes.next(), Some(Ok(scope)) if fields(scope) == (4, 0, 0)));
+    assert!(rt; matches!(scopes.next(), Some(Ok(scope)) if fields(scope) == (8, 0, 1)));
+    assert!(rt; scopes.next().is_none());
+    assert_eq!(rt; info.unwind_codes(1)?.count(), 3);
+    assert_eq!(rt; Arm64UnwindInfo::size(&bytes[4..])?, 24);
+    assert_eq!(rt;
+        info.exception_handler,
+        Some(Arm64ExceptionHandler {
+            rva: 0x3000,
+            bytes: &[7, 8, 9],
+        })
     );
+    Ok(())
+}
+
+/// The greatest counts: a header's 31 scopes and 31 words of codes, an extension word's 65,535 and 255; each with a
+/// handler, and with the epilog in the header in place of the scopes.
+#[test]
+fn sizes_of_the_greatest_records(rt: HostRuntime) -> Result<(), Fail> {
+    for (bytes, want) in [
+        ([0, 0, 0xD0, 0xFF, 0, 0, 0, 0], 4 + 124 + 124 + 4),
+        ([0, 0, 0xF0, 0xFF, 0, 0, 0, 0], 4 + 124 + 4),
+        ([0, 0, 0x10, 0, 0xFF, 0xFF, 0xFF, 0], 8 + 262_140 + 1020 + 4),
+        ([0, 0, 0x30, 0, 0xFF, 0xFF, 0xFF, 0], 8 + 1020 + 4),
+        ([0, 0, 0, 0, 0, 0, 0, 0xFF], 8),
+    ] {
+        assert_eq!(rt; Arm64UnwindInfo::size(&bytes)?, want);
+    }
     Ok(())
 }

@@ -1,9 +1,9 @@
--- Bytes that are the concatenation of a record's parts are read as that record.
-use Rattle.std.proofs.Common.{rules, ◌≡◌, ℕ, zero, suc, ◌+◌, ◌*◌, ◌/◌, ◌%◌, ◌^◌, ◌<◌, Bool, true, false, List, [], ◌∷◌, ◌++◌, length, drop, Option, Some, None, Ok, refl, ap, sym, ◌∙◌, subst, arith, append_assoc, length-append}
+-- Bytes that are the concatenation of a record's parts, from a place on, are read as that record.
+use Rattle.std.proofs.Common.{rules, ◌≡◌, ℕ, zero, suc, ◌+◌, ◌*◌, ◌/◌, ◌%◌, ◌^◌, ◌<◌, Bool, true, false, List, [], ◌∷◌, ◌++◌, length, take, drop, Option, Some, None, Ok, refl, ap, sym, ◌∙◌, subst, arith, append_assoc, length-append}
 use Rattle.std.specs.Prelude.{slice_index, if◌then◌else◌, is_some, IfSome, ◌==◌}
 use Rattle.std.specs.Option.{option_map}
 use Rattle.std.proofs.Math.Nat.{pow-suc}
-use Rattle.std.proofs.lemmas.List.{places, same_lists}
+use Rattle.std.proofs.lemmas.List.{length-drop, length-take-le, places, same_lists, take-append-drop}
 use Rattle.std.proofs.Math.Seq.{drop-append_seam}
 use Rattle.pe_core.proofs.NumberBytes.{le-zero, le-cons}
 use Rattle.pe_core.specs.Bytes.{le, bytes_of, holds, range}
@@ -84,44 +84,49 @@ same_info i s c h e f g =
     ∙ ap (λ (o : Option Arm64HandlerView). let j : Arm64InfoView = record { header = i.header; extension = i.extension; scopes = i.scopes; codes = i.codes; handler = o } in j) g
 
 -- with the words that the bytes begin with
-by_words : (b : List ℕ) (i : Arm64InfoView) (header : ℕ) (extension : Option ℕ) → header ≡ i.header → extension ≡ i.extension →
-    outcome (info_tests b 0 i.header i.extension) (info_with b 0 i.header i.extension) ≡ Ok i → outcome (info_tests b 0 header extension) (info_with b 0 header extension) ≡ Ok i
-by_words b i header extension e f h =
-    subst (λ (w : ℕ). outcome (info_tests b 0 w extension) (info_with b 0 w extension) ≡ Ok i) (sym e)
-    (subst (λ (w : Option ℕ). outcome (info_tests b 0 i.header w) (info_with b 0 i.header w) ≡ Ok i) (sym f) h)
+by_words : (b : List ℕ) (p : ℕ) (i : Arm64InfoView) (header : ℕ) (extension : Option ℕ) → header ≡ i.header → extension ≡ i.extension →
+    outcome (info_tests b p i.header i.extension) (info_with b p i.header i.extension) ≡ Ok i → outcome (info_tests b p header extension) (info_with b p header extension) ≡ Ok i
+by_words b p i header extension e f h =
+    subst (λ (w : ℕ). outcome (info_tests b p w extension) (info_with b p w extension) ≡ Ok i) (sym e)
+    (subst (λ (w : Option ℕ). outcome (info_tests b p i.header w) (info_with b p i.header w) ≡ Ok i) (sym f) h)
 
-length_of_parts : (h x s c r rest : List ℕ) → length ((((h ++ x) ++ s) ++ c) ++ (r ++ rest)) ≡ length h + length x + length s + length c + length r + length rest
+length_of_parts : (h x s c r rest : List ℕ) → length (h ++ (x ++ (s ++ (c ++ (r ++ rest))))) ≡ length h + length x + length s + length c + length r + length rest
 length_of_parts h x s c r rest = simp length-append (omega arith)
 
--- bytes that are the parts of a record, one after the other, are read as that record
-pub read : (b rest : List ℕ) (i : Arm64InfoView) → AreRecord b i rest → HasWords i → info_at b 0 ≡ Ok i
+-- bytes that are, from a place on, the parts of a record, one after the other, are read as that record
+pub read : (b rest : List ℕ) (p : ℕ) (i : Arm64InfoView) → AreRecord (drop p b) i rest → HasWords i → info_at b p ≡ Ok i
 unfolding info_at
-read b rest i are words =
+read b rest p i are words =
     let x : ℕ = extension_size i.header in
     let s : ℕ = 4 * scope_count i.header i.extension in
     let c : ℕ = 4 * code_words i.header i.extension in
     let n : ℕ = handler_size i.header in
+    let f : List ℕ = take p b in
     let h : List ℕ = bytes_of 4 i.header in
     let w : List ℕ = word_bytes i.extension in
     let r : List ℕ = word_bytes (option_map (λ h. h.rva) i.handler) in
-    let at_header : b ≡ h ++ (w ++ (i.scopes ++ (i.codes ++ (r ++ rest)))) = are.joined in
-    let at_scopes : b ≡ (h ++ w) ++ (i.scopes ++ (i.codes ++ (r ++ rest))) = at_header ∙ sym (append_assoc h w (i.scopes ++ (i.codes ++ (r ++ rest)))) in
-    let at_codes : b ≡ ((h ++ w) ++ i.scopes) ++ (i.codes ++ (r ++ rest)) = at_scopes ∙ sym (append_assoc (h ++ w) i.scopes (i.codes ++ (r ++ rest))) in
-    let at_handler : b ≡ (((h ++ w) ++ i.scopes) ++ i.codes) ++ (r ++ rest) = at_codes ∙ sym (append_assoc ((h ++ w) ++ i.scopes) i.codes (r ++ rest)) in
     let size_h : length h ≡ 4 = length-bytes_of 4 i.header in
     let size_w : length w ≡ x = length_word (has_extension i.header) i.extension are.extension in
     let some_r : is_some (option_map (λ h. h.rva) i.handler) ≡ has_handler i.header = some_map i.handler ∙ are.handler in
     let size_r : length r ≡ n = length_word (has_handler i.header) (option_map (λ h. h.rva) i.handler) some_r in
-    let total : length b ≡ 4 + x + s + c + n + length rest = ap (λ (l : List ℕ). length l) at_handler ∙ length_of_parts h w i.scopes i.codes r rest ∙ omega (arith, size_h, size_w, size_r, are.scopes, are.codes) in
-    let before_scopes : length (h ++ w) ≡ 4 + x = omega (arith, length-append h w, size_h, size_w) in
-    let before_codes : length ((h ++ w) ++ i.scopes) ≡ 4 + x + s = omega (arith, length-append (h ++ w) i.scopes, before_scopes, are.scopes) in
-    let before_handler : length (((h ++ w) ++ i.scopes) ++ i.codes) ≡ 4 + x + s + c = omega (arith, length-append ((h ++ w) ++ i.scopes) i.codes, before_codes, are.codes) in
-    let first : le b 0 4 ≡ i.header = ap (λ (l : List ℕ). le l 0 4) at_header ∙ le-behind 4 i.header [] (w ++ (i.scopes ++ (i.codes ++ (r ++ rest)))) 0 refl words.header in
-    let second : extension_at b 4 i.header ≡ i.extension = ap (λ (l : List ℕ). extension_at l 4 i.header) at_header ∙ read_word (has_extension i.header) i.extension h (i.scopes ++ (i.codes ++ (r ++ rest))) 4 are.extension words.extension size_h in
-    let scopes : range b (4 + x) s ≡ i.scopes = ap (λ (l : List ℕ). range l (4 + x) s) at_scopes ∙ read_range (h ++ w) i.scopes (i.codes ++ (r ++ rest)) (4 + x) s before_scopes are.scopes in
-    let codes : range b (4 + x + s) c ≡ i.codes = ap (λ (l : List ℕ). range l (4 + x + s) c) at_codes ∙ read_range ((h ++ w) ++ i.scopes) i.codes (r ++ rest) (4 + x + s) c before_codes are.codes in
-    let handler : handler_at b (4 + x + s + c) i.header ≡ i.handler = ap (λ (l : List ℕ). handler_at l (4 + x + s + c) i.header) at_handler ∙ read_handler (has_handler i.header) i.handler (((h ++ w) ++ i.scopes) ++ i.codes) rest (4 + x + s + c) are.handler words.handler are.behind before_handler in
-    let value : info_with b 0 i.header i.extension ≡ i = same_info i (range b (4 + x) s) (range b (4 + x + s) c) (handler_at b (4 + x + s + c) i.header) scopes codes handler in
-    by_words b i (le b 0 4) (extension_at b 4 (le b 0 4)) first (ap (extension_at b 4) first ∙ second)
-    (all_pass (holds b 0 4) (bits i.header 18 2 == 0) (holds b 4 x) (holds b (4 + x) s) (holds b (4 + x + s) c) (holds b (4 + x + s + c) n) Short Arm64Version Short Short Short Short (info_with b 0 i.header i.extension) (held b 0 4 (omega (arith, total))) (ap (λ (k : ℕ). k == 0) are.version) (held b 4 x (omega (arith, total))) (held b (4 + x) s (omega (arith, total))) (held b (4 + x + s) c (omega (arith, total))) (held b (4 + x + s + c) n (omega (arith, total)))
+    let behind : length (drop p b) ≡ 4 + x + s + c + n + length rest = ap (λ (l : List ℕ). length l) are.joined ∙ length_of_parts h w i.scopes i.codes r rest ∙ omega (arith, size_h, size_w, size_r, are.scopes, are.codes) in
+    let total : length b ≡ p + 4 + x + s + c + n + length rest = omega (arith, behind, length-drop p b) in
+    let size_f : length f ≡ p = length-take-le p b (omega (arith, total)) in
+    let at_header : b ≡ f ++ (h ++ (w ++ (i.scopes ++ (i.codes ++ (r ++ rest))))) = sym (take-append-drop p b) ∙ ap (λ (l : List ℕ). f ++ l) are.joined in
+    let at_extension : b ≡ (f ++ h) ++ (w ++ (i.scopes ++ (i.codes ++ (r ++ rest)))) = at_header ∙ sym (append_assoc f h (w ++ (i.scopes ++ (i.codes ++ (r ++ rest))))) in
+    let at_scopes : b ≡ ((f ++ h) ++ w) ++ (i.scopes ++ (i.codes ++ (r ++ rest))) = at_extension ∙ sym (append_assoc (f ++ h) w (i.scopes ++ (i.codes ++ (r ++ rest)))) in
+    let at_codes : b ≡ (((f ++ h) ++ w) ++ i.scopes) ++ (i.codes ++ (r ++ rest)) = at_scopes ∙ sym (append_assoc ((f ++ h) ++ w) i.scopes (i.codes ++ (r ++ rest))) in
+    let at_handler : b ≡ ((((f ++ h) ++ w) ++ i.scopes) ++ i.codes) ++ (r ++ rest) = at_codes ∙ sym (append_assoc (((f ++ h) ++ w) ++ i.scopes) i.codes (r ++ rest)) in
+    let before_extension : length (f ++ h) ≡ p + 4 = omega (arith, length-append f h, size_f, size_h) in
+    let before_scopes : length ((f ++ h) ++ w) ≡ p + 4 + x = omega (arith, length-append (f ++ h) w, before_extension, size_w) in
+    let before_codes : length (((f ++ h) ++ w) ++ i.scopes) ≡ p + 4 + x + s = omega (arith, length-append ((f ++ h) ++ w) i.scopes, before_scopes, are.scopes) in
+    let before_handler : length ((((f ++ h) ++ w) ++ i.scopes) ++ i.codes) ≡ p + 4 + x + s + c = omega (arith, length-append (((f ++ h) ++ w) ++ i.scopes) i.codes, before_codes, are.codes) in
+    let first : le b p 4 ≡ i.header = ap (λ (l : List ℕ). le l p 4) at_header ∙ le-behind 4 i.header f (w ++ (i.scopes ++ (i.codes ++ (r ++ rest)))) p size_f words.header in
+    let second : extension_at b (p + 4) i.header ≡ i.extension = ap (λ (l : List ℕ). extension_at l (p + 4) i.header) at_extension ∙ read_word (has_extension i.header) i.extension (f ++ h) (i.scopes ++ (i.codes ++ (r ++ rest))) (p + 4) are.extension words.extension before_extension in
+    let scopes : range b (p + 4 + x) s ≡ i.scopes = ap (λ (l : List ℕ). range l (p + 4 + x) s) at_scopes ∙ read_range ((f ++ h) ++ w) i.scopes (i.codes ++ (r ++ rest)) (p + 4 + x) s before_scopes are.scopes in
+    let codes : range b (p + 4 + x + s) c ≡ i.codes = ap (λ (l : List ℕ). range l (p + 4 + x + s) c) at_codes ∙ read_range (((f ++ h) ++ w) ++ i.scopes) i.codes (r ++ rest) (p + 4 + x + s) c before_codes are.codes in
+    let handler : handler_at b (p + 4 + x + s + c) i.header ≡ i.handler = ap (λ (l : List ℕ). handler_at l (p + 4 + x + s + c) i.header) at_handler ∙ read_handler (has_handler i.header) i.handler ((((f ++ h) ++ w) ++ i.scopes) ++ i.codes) rest (p + 4 + x + s + c) are.handler words.handler are.behind before_handler in
+    let value : info_with b p i.header i.extension ≡ i = same_info i (range b (p + 4 + x) s) (range b (p + 4 + x + s) c) (handler_at b (p + 4 + x + s + c) i.header) scopes codes handler in
+    by_words b p i (le b p 4) (extension_at b (p + 4) (le b p 4)) first (ap (extension_at b (p + 4)) first ∙ second)
+    (all_pass (holds b p 4) (bits i.header 18 2 == 0) (holds b (p + 4) x) (holds b (p + 4 + x) s) (holds b (p + 4 + x + s) c) (holds b (p + 4 + x + s + c) n) Short Arm64Version Short Short Short Short (info_with b p i.header i.extension) (held b p 4 (omega (arith, total))) (ap (λ (k : ℕ). k == 0) are.version) (held b (p + 4) x (omega (arith, total))) (held b (p + 4 + x) s (omega (arith, total))) (held b (p + 4 + x + s) c (omega (arith, total))) (held b (p + 4 + x + s + c) n (omega (arith, total)))
     ∙ ap (λ (j : Arm64InfoView). Ok j) value)

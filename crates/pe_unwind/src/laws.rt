@@ -95,7 +95,7 @@ pub fn one_tiling_of_arm64_codes()
 /// of the handler, rest. And bytes that are such a concatenation are read as that record.
 pub fn arm64_records_are_concatenations()
     ensures given { (b : List ℕ) (p : ℕ) (i : Arm64InfoView) → AreBytes b → info_at b p ≡ Ok i → AreRecord (drop p b) i (drop (p + record_size i.header i.extension) b) }
-    ensures read { (b rest : List ℕ) (i : Arm64InfoView) → AreRecord b i rest → HasWords i → info_at b 0 ≡ Ok i }
+    ensures read { (b rest : List ℕ) (p : ℕ) (i : Arm64InfoView) → AreRecord (drop p b) i rest → HasWords i → info_at b p ≡ Ok i }
 {}
 
 /// Where an ARM64 unwind record is given, its size is too, and is that of its words; the record ends in the bytes, and a

@@ -139,7 +139,7 @@ pub enum Arm64UnwindCode {
     End,
     /// Ends the codes of this part of a function that is chained to another.
     EndC,
-    /// Saved the pair of registers behind the pair of the code before.
+    /// Saved the pair of registers behind the pair that the instruction before it saved, whose code stands behind this one.
     SaveNext,
     /// Saved any register, or a pair.
     SaveAnyReg {

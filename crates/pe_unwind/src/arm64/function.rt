@@ -32,7 +32,7 @@ pub const ARM64_PDATA_CR_CHAINED_WITH_PAC: u32 = 2;
 pub const ARM64_PDATA_CR_CHAINED: u32 = 3;
 
 /// The bytes of one entry.
-pub const SIZE_OF_ARM64_FUNCTION: usize = 8;
+pub(crate) const SIZE_OF_ARM64_FUNCTION: usize = 8;
 
 /// An entry of the ARM64 function table: where a function begins, and how its frame is unwound.
 #[derive(Clone, Copy, Debug, Default, PartialEq)]
@@ -113,7 +113,7 @@ impl Arm64RuntimeFunction {
 }
 
 /// Reads the entry at a place that is known to have one.
-pub fn read_arm64_function(bytes: &[u8], place: usize) -> Arm64RuntimeFunction
+pub(crate) fn read_arm64_function(bytes: &[u8], place: usize) -> Arm64RuntimeFunction
     requires { place + 8 ≤ length bytes.now }
     ensures { result ≡ arm64_function_at bytes.now place }
 {

@@ -12,7 +12,7 @@ use pe_core::{Error, Result, number32};
 const SIZE_OF_EPILOG_SCOPE: usize = 4;
 
 /// The number in so many bits of a word, from bit `first` on.
-pub fn bits(word: u32, first: u32, count: u32) -> u32
+pub(crate) fn bits(word: u32, first: u32, count: u32) -> u32
     requires inside { first < 32 }
     requires less { count < 32 }
     ensures { result ≡ bits word first count }
@@ -107,7 +107,7 @@ impl Arm64EpilogScope {
         4 * bits(self.0, 0, 18)
     }
 
-    /// The condition under which the epilog runs.
+    /// The four bits behind the offset: reserved for ARM64, a condition in the records of ARM.
     pub fn condition(&self) -> u32
         ensures { result ≡ bits (self.now).0 18 4 }
     {
