@@ -1,18 +1,20 @@
 -- The items of a stream of ARM64 codes, and that there is one tiling of it.
-use Rattle.std.proofs.Common.{◌≡◌, ◌<◌, ◌≤◌, ◌+◌, ◌-◌, ◌/◌, ℕ, All, List, [], ◌∷◌, ◌++◌, length, drop, map, Option, None, Result, Ok, Err, refl, ap, sym, ◌∙◌, subst, arith, append_assoc, inl, inr}
+use Rattle.std.proofs.Common.{◌≡◌, zero, suc, ◌<◌, ◌≤◌, ◌+◌, ◌-◌, ◌/◌, ℕ, All, List, [], ◌∷◌, ◌++◌, length, drop, map, Option, None, Result, Ok, Err, refl, ap, sym, ◌∙◌, subst, arith, append_assoc, inl, inr}
 use Rattle.std.proofs.lemmas.Grind.{common_steps}
 use Rattle.std.proofs.lemmas.List.{length-append, length-drop, drop_all}
 use Rattle.std.proofs.lemmas.List.Elements.{All-drop}
 use Rattle.std.specs.Iterator.{Yields}
 use Rattle.pe_core.specs.Refusals.{Refusal, kind_of}
 use Rattle.pe_core.specs.declared.error.Error.{Error}
+use Rattle.pe_core.specs.declared.error.Error.TheVariants.{Malformed}
+use Rattle.pe_core.specs.declared.error.Reason.TheVariants as reasons
 use Rattle.pe_unwind.specs.declared.arm64.codes.Arm64UnwindCode.{Arm64UnwindCode}
 use Rattle.pe_unwind.specs.declared.arm64.codes.Arm64UnwindCodeData.{Arm64UnwindCodeData}
 use Rattle.pe_unwind.specs.declared.arm64.codes.Arm64UnwindCodeIterator.{Arm64UnwindCodeIterator}
 use Rattle.pe_unwind.specs.Arm64Encoding.{encoding, Legal, BeginsWith, BeginsWithNone}
 use Rattle.pe_unwind.specs.Arm64Tiling.{CodePlace, stream_place, IsItem, Tiles, Gives, codes_of, Joins}
 use Rattle.pe_unwind.specs.FunctionTable.{answer_of}
-use Rattle.pe_unwind.proofs.Arm64OneCode.{begins_once}
+use Rattle.pe_unwind.proofs.Arm64OneCode.{begins_once, cut_begins_none}
 use Rattle.pe_unwind.proofs.Arm64Whole.{code_or_cut}
 
 abbrev pub Next : Arm64UnwindCodeIterator → Option (Result Arm64UnwindCodeData Error) → Arm64UnwindCodeIterator → Type 0
@@ -134,3 +136,29 @@ item_counts bytes at (Err e ∷ xs) all h =
     let short = short_rest (drop at bytes) (omega (arith, length-drop at bytes, h.0)) (All-drop (λ x. x < 256) at bytes all) h.1.0 in
     let over : length xs ≡ 0 = ap (λ (ys : List (Result Arm64UnwindCodeData Error)). length ys) h.2 in
     (omega (arith, length-drop at bytes, short, over), omega (arith, h.0, over))
+
+-- a list of items that tiles the bytes from a place on
+abbrev pub Tiling : List ℕ → ℕ → Type 0
+Tiling bytes at = (xs : List (Result Arm64UnwindCodeData Error)) × Tiles bytes at xs
+
+-- the item at a place, and those behind it
+tiling_step : (bytes left : List ℕ) (at : ℕ) → drop at bytes ≡ left → All (λ x. x < 256) bytes → ((n : ℕ) → 1 ≤ n → Tiling bytes (at + n)) → Tiling bytes at
+tiling_step bytes [] at here all more = ([], omega (arith, length-drop at bytes, ap (λ (x : List ℕ). length x) here))
+tiling_step bytes (x ∷ left) at here all more =
+    let some : at < length bytes = omega (arith, length-drop at bytes, ap (λ (y : List ℕ). length y) here) in
+    elim (code_or_cut (drop at bytes) (omega (arith, length-drop at bytes, some)) (All-drop (λ x. x < 256) at bytes all)) [
+      | inl code ↦
+          let bound = some_bytes code.0 code.1.legal in
+          let behind = more (length (encoding code.0)) bound.0 in
+          (Ok (record { offset = at; code = code.0; len = length (encoding code.0) }) ∷ behind.0, (some, (code.1, refl, refl), behind.1))
+      | inr cut ↦ (Err (Malformed (reasons.Arm64Cut at)) ∷ [], (some, (cut_begins_none (drop at bytes) cut, refl), refl))
+    ]
+
+tiling_of_left : (n : ℕ) (bytes : List ℕ) (at : ℕ) → length bytes ≤ at + n → All (λ x. x < 256) bytes → Tiling bytes at
+tiling_of_left zero bytes at few all = ([], omega (arith, few))
+tiling_of_left (suc n) bytes at few all =
+    tiling_step bytes (drop at bytes) at refl all (λ k some. tiling_of_left n bytes (at + k) (omega (arith, few, some)) all)
+
+-- every byte string has a tiling
+pub some_tiling : (bytes : List ℕ) (at : ℕ) → All (λ x. x < 256) bytes → Tiling bytes at
+some_tiling bytes at all = tiling_of_left (length bytes) bytes at (omega arith) all

@@ -79,12 +79,14 @@ pub fn arm64_codes_and_bytes()
     ensures every { (b : List ℕ) → 0 < length b → All (λ x. x < 256) b → ((c : Arm64UnwindCode) × BeginsWithCode b c) ⊎ IsCut b }
 {}
 
-/// The items that an iterator of ARM64 codes gives tile its stream from where it stands. A stream has one tiling, up to
-/// the numbers in a refusal: all its codes' bytes, one behind the other, and then a rest that begins with none, for which
-/// there is a cut if it is not empty. It has an item for each five bytes at least, and for each byte at most.
+/// The items that an iterator of ARM64 codes gives tile its stream from where it stands. Every byte string has a tiling
+/// from each place on, and one alone, up to the numbers in a refusal: all its codes' bytes, one behind the other, and then
+/// a rest that begins with none, for which there is a cut if it is not empty. It has an item for each five bytes at least,
+/// and for each byte at most.
 pub fn one_tiling_of_arm64_codes()
     ensures whole { (s : Arm64UnwindCodeIterator) (xs : List (Result Arm64UnwindCodeData Error)) →
         Drains ⟦<Arm64UnwindCodeIterator<'static> as Iterator>⟧.next_gives s xs → Tiles (stream_place s).content (stream_place s).at xs }
+    ensures exists { (b : List ℕ) (at : ℕ) → All (λ x. x < 256) b → (xs : List (Result Arm64UnwindCodeData Error)) × Tiles b at xs }
     ensures tiling { (b : List ℕ) (at : ℕ) (xs ys : List (Result Arm64UnwindCodeData Error)) → Tiles b at xs → Tiles b at ys → map answer_of xs ≡ map answer_of ys }
     ensures joined { (b : List ℕ) (at : ℕ) (xs : List (Result Arm64UnwindCodeData Error)) → Tiles b at xs → Joins (drop at b) xs }
     ensures counts { (b : List ℕ) (at : ℕ) (xs : List (Result Arm64UnwindCodeData Error)) → All (λ x. x < 256) b → Tiles b at xs →

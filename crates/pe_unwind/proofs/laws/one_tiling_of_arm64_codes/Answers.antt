@@ -1,4 +1,4 @@
-use Rattle.pe_unwind.proofs.Arm64Streams.{tiles_from_yields, one_tiling, joined, item_counts}
+use Rattle.pe_unwind.proofs.Arm64Streams.{tiles_from_yields, some_tiling, one_tiling, joined, item_counts}
 use Rattle.pe_unwind.proofs.laws.one_tiling_of_arm64_codes.Goals as goal
 
 pub returns-clause-whole : goal.returns-clause-whole
@@ -12,3 +12,6 @@ returns-clause-joined _ = joined
 
 pub returns-clause-counts : goal.returns-clause-counts
 returns-clause-counts _ = item_counts
+
+pub returns-clause-exists : goal.returns-clause-exists
+returns-clause-exists _ = some_tiling
