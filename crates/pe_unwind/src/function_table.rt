@@ -9,7 +9,7 @@ ghost use Rattle.pe_unwind.specs.FunctionTable.{function_at, functions, function
 use pe_core::{CountedTable, Error, Result, number32};
 
 /// The bytes of one entry.
-pub const SIZE_OF_FUNCTION: usize = 12;
+pub(crate) const SIZE_OF_FUNCTION: usize = 12;
 
 /// An entry of the function table: the addresses that a function covers, and where its unwind record stands.
 #[derive(Clone, Copy, Debug, Default, PartialEq)]
@@ -23,7 +23,7 @@ pub struct RuntimeFunction {
 }
 
 /// Reads the entry at a place that is known to have one.
-pub fn read_function(bytes: &[u8], place: usize) -> RuntimeFunction
+pub(crate) fn read_function(bytes: &[u8], place: usize) -> RuntimeFunction
     requires { place + 12 ≤ length bytes.now }
     ensures { result ≡ function_at bytes.now place }
 {

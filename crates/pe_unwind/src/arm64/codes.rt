@@ -23,7 +23,8 @@ pub enum Arm64CustomStackCase {
 }
 
 /// What one instruction did. Integer registers are counted from `x0`, floating-point registers from `d0`; sizes and
-/// offsets are in bytes. A preindexed store moves the stack pointer down by its offset first.
+/// offsets are in bytes. A preindexed store moves the stack pointer down by its offset first; of `SaveAnyReg` its field
+/// tells more.
 #[derive(Clone, Copy, Debug, PartialEq, Eq)]
 pub enum Arm64UnwindCode {
     /// Made room on the stack, below 512 bytes.
@@ -139,7 +140,8 @@ pub enum Arm64UnwindCode {
     End,
     /// Ends the codes of this part of a function that is chained to another.
     EndC,
-    /// Saved the pair of registers behind the pair that the instruction before it saved, whose code stands behind this one.
+    /// Saved the pair of registers behind the pair that the instruction before it saved, whose code stands behind this
+    /// one.
     SaveNext,
     /// Saved any register, or a pair.
     SaveAnyReg {
@@ -151,7 +153,8 @@ pub enum Arm64UnwindCode {
         preindexed: bool,
         /// The register, from 0 to 31.
         reg: u8,
-        /// A multiple of 16 for a pair, a preindexed store or a vector, else of 8.
+        /// The number in the code times 16 for a pair, a preindexed store or a vector, else times 8. Assemblers that
+        /// count that number from one where the store is preindexed, as LLVM's does, mean 16 bytes more there.
         offset_bytes: u32,
     },
     /// Saved a scalable vector.
