@@ -29,4 +29,5 @@ pub use header::{
 pub use optional_header::{MAGIC_32, MAGIC_64, OptionalHeader, StandardFields, WindowsFields};
 pub use options::{ParseMode, ParseOptions};
 pub use section_table::SectionTable;
+pub use text::text_at;
 pub use utils::find_offset;
