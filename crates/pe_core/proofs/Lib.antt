@@ -1,6 +1,11 @@
 pub mod Steps
 pub mod Map
+pub mod SectionCuts
+pub mod SectionHalves
 pub mod Texts
+pub mod TextEnds
+pub mod FirstZero
+pub mod TextRuns
 pub mod NumberBytes
 pub mod SpelledRecords
 pub mod SpelledOptional

@@ -25,7 +25,7 @@ fn rounded_up(n: u64, unit: u32) -> u64
 }
 
 /// Where the section's bytes begin in the file when it is mapped.
-fn raw_start(section: &SectionTable) -> u64
+pub(crate) fn raw_start(section: &SectionTable) -> u64
     ensures place { result ≡ raw_start section.now }
     ensures small { result < 2 ^ 32 }
 {
@@ -34,7 +34,7 @@ fn raw_start(section: &SectionTable) -> u64
 
 /// How many addresses the section covers.
 #[tactic(auto, unfolding(crate::specs::SectionMap::reach))]
-fn reach(section: &SectionTable, alignment: u32) -> u64
+pub(crate) fn reach(section: &SectionTable, alignment: u32) -> u64
     requires { 0 < alignment }
     ensures count { result ≡ reach alignment section.now }
     ensures small { result < 2 ^ 33 }
