@@ -13,5 +13,6 @@ pub mod HeaderSteps
 pub mod Spelling
 pub mod Sections
 pub mod SectionMap
+pub mod Exports
 pub mod SectionPieces
 pub mod SectionIndex

@@ -8,6 +8,7 @@ mod bytes;
 mod counted_table;
 mod data_directories;
 mod error;
+mod export;
 mod header;
 pub mod laws;
 mod many_texts;
@@ -26,6 +27,7 @@ pub use bytes::{
 pub use counted_table::CountedTable;
 pub use data_directories::{DataDirectories, DataDirectory, MOST_DIRECTORIES};
 pub use error::{Error, Reason, Result};
+pub use export::{Export, ExportData, ExportDirectoryTable};
 pub use header::{
     CoffHeader, DOS_MAGIC, DosHeader, Header, PE_MAGIC, SIZE_OF_DOS_HEADER, TeHeader,
 };

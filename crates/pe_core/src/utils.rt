@@ -3,8 +3,10 @@
 ghost use Rattle.std.specs.Prelude.{◌≡◌, ◌+◌, ◌<◌, ◌≤◌, ◌^◌, IsTrue, OnSome};
 ghost use Rattle.std.specs.Option.{option_copied};
 ghost use Rattle.std.specs.List.{find};
-ghost use Rattle.pe_core.specs.SectionMap.{rounded_up, raw_start, reach, covers, place_of};
+ghost use Rattle.pe_core.specs.Refusals.{Gives};
+ghost use Rattle.pe_core.specs.SectionMap.{rounded_up, raw_start, reach, covers, mapped, place_of};
 
+use crate::error::{Error, Reason, Result};
 use crate::options::ParseOptions;
 use crate::section_table::SectionTable;
 
@@ -87,4 +89,19 @@ pub fn find_offset(
     }
     let section = section_of(sections, file_alignment, rva)?;
     Some(rva - section.virtual_address as usize + raw_start(section) as usize)
+}
+
+/// The place in the file of a relative virtual address, or `Unmapped`.
+pub(crate) fn mapped_place(
+    rva: u32,
+    sections: &[SectionTable],
+    file_alignment: u32,
+    opts: &ParseOptions,
+) -> Result<usize>
+    ensures { Gives (λ p. p) result (mapped (place_of opts.now.resolve_rva file_alignment sections.now rva)) }
+{
+    match find_offset(rva as usize, sections, file_alignment, opts) {
+        Some(place) => Ok(place),
+        None => Err(Error::Malformed(Reason::Unmapped(u64::from(rva)))),
+    }
 }
