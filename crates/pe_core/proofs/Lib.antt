@@ -11,3 +11,4 @@ pub mod SpelledRecords
 pub mod SpelledOptional
 pub mod Modes
 pub mod PutNumbers
+pub mod ExportLists

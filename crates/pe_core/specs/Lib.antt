@@ -14,5 +14,6 @@ pub mod Spelling
 pub mod Sections
 pub mod SectionMap
 pub mod Exports
+pub mod ExportSteps
 pub mod SectionPieces
 pub mod SectionIndex

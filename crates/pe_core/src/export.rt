@@ -1,16 +1,23 @@
 //! Exports: the export directory, and the list of what it names.
 
-ghost use Rattle.std.specs.Prelude.{◌≡◌, ◌*◌, ◌+◌, ◌/◌, ◌≤◌, length, map, IfOk};
-ghost use Rattle.std.specs.Option.{option_map};
+ghost use Rattle.std.specs.Prelude.{◌≡◌, ◌*◌, ◌+◌, ◌/◌, ◌≤◌, length, map, Ok};
+ghost use Rattle.std.specs.Option.{option_and_then, option_map};
+ghost use Rattle.pe_core.specs.Bytes.{le};
+ghost use Rattle.pe_core.specs.ExportSteps.{exports_from};
 ghost use Rattle.pe_core.specs.Exports.{export_data_view, export_data_at, export_view, exports, image_name, table_at, entry_of, named_export};
 ghost use Rattle.pe_core.specs.Options.{default_options};
 ghost use Rattle.pe_core.specs.Refusals.{Gives, GivesUnlessMemory};
+ghost use Rattle.pe_core.specs.Rows.{each};
+ghost use Rattle.pe_core.specs.SectionIndex.{place_or_end};
 ghost use Rattle.pe_core.specs.SectionMap.{place_of};
+ghost use Rattle.pe_core.specs.Text.{texts_of};
 
-use crate::bytes::{number16, number32, require_bytes, slice_at};
+use crate::bytes::{number16, number32, require_bytes, slice_at, u32_at};
 use crate::data_directories::DataDirectory;
 use crate::error::Result;
+use crate::many_texts::texts_at;
 use crate::options::ParseOptions;
+use crate::section_index::SectionIndex;
 use crate::section_table::SectionTable;
 use crate::text::text_at;
 use crate::utils::{find_offset, mapped_place};
@@ -180,3 +187,108 @@ pub struct Export<'a> {
     pub offset: Option<usize>,
 }
 
+/// The ordinal of entry `i` of the name table.
+fn ordinal_of(ordinals: &[u8], i: usize) -> Option<u16>
+    ensures { result ≡ entry_of 2 ordinals.now i }
+{
+    if i < ordinals.len() / 2 {
+        Some(number16(ordinals, 2 * i))
+    } else {
+        None
+    }
+}
+
+/// The address that an ordinal stands for.
+fn address_of(addresses: &[u8], ordinal: u16) -> Option<u32>
+    ensures { result ≡ entry_of 4 addresses.now ordinal }
+{
+    u32_at(addresses, 4 * ordinal as usize).ok()
+}
+
+/// The export of entry `i` of the name table, whose name this is.
+fn named_export<'a, A: Allocator>(
+    name: Option<&'a str>,
+    i: usize,
+    export_data: &ExportData<'_>,
+    index: &SectionIndex<'_, A>,
+) -> Option<Export<'a>>
+    ensures { option_map export_view result ≡ option_and_then (named_export (place_of index.now.resolve index.now.alignment index.now.sections) (export_data_view export_data.now) i) (option_map (λ s. s.now) name.entry) }
+{
+    let name = name?;
+    let ordinal = ordinal_of(export_data.ordinals, i)?;
+    let rva = address_of(export_data.addresses, ordinal)?;
+    Some(Export {
+        name,
+        rva,
+        offset: index.find(rva as usize),
+    })
+}
+
+/// The exports of all these names.
+fn named_exports<'a, A: Allocator>(
+    alloc: A,
+    names: &[Option<&'a str>],
+    export_data: &ExportData<'_>,
+    index: &SectionIndex<'_, A>,
+) -> Result<Vec<Export<'a>, A>>
+    ensures { GivesUnlessMemory (λ v. map export_view v.items) result (Ok (exports_from (place_of index.now.resolve index.now.alignment index.now.sections) (export_data_view export_data.now) 0 (texts_of names.now))) }
+{
+    let mut exports = Vec::with_capacity(alloc, names.len())?;
+    for (i, name) in names.iter().enumerate() {
+        if let Some(export) = named_export(*name, i, export_data, index) {
+            exports.push(export)?;
+        }
+    }
+    Ok(exports)
+}
+
+/// The places of all names, by the name table.
+#[tactic(auto, unfolding(crate::specs::Rows::each))]
+fn name_places<A: Allocator>(
+    alloc: A,
+    names: &[u8],
+    index: &SectionIndex<'_, A>,
+) -> Result<Vec<usize, A>>
+    ensures { GivesUnlessMemory (λ v. v.items) result (Ok (each (λ i. place_or_end (place_of index.now.resolve index.now.alignment index.now.sections (le names.now (4 * i) 4))) (length names.now / 4))) }
+{
+    let count = names.len() / 4;
+    let mut places = Vec::with_capacity(alloc, count)?;
+    for i in 0..count {
+        places.push(index.find_or_end(number32(names, 4 * i)))?;
+    }
+    Ok(places)
+}
+
+/// The exports that have names, their addresses mapped by the index.
+#[tactic(auto, using(crate::proofs::ExportLists::listed))]
+fn exports_by_index<'a, A: Allocator + Copy + Drop>(
+    alloc: A,
+    bytes: &'a [u8],
+    export_data: &ExportData<'_>,
+    index: &SectionIndex<'_, A>,
+) -> Result<Vec<Export<'a>, A>>
+    ensures { GivesUnlessMemory (λ v. map export_view v.items) result (Ok (exports (place_of index.now.resolve index.now.alignment index.now.sections) bytes.entry.now (export_data_view export_data.now))) }
+{
+    let places = name_places(alloc, export_data.names, index)?;
+    let names = texts_at(alloc, bytes, &places)?;
+    named_exports(alloc, &names, export_data, index)
+}
+
+impl<'a> Export<'a> {
+    /// The exports that have names, in the order of the name table: of each entry the name at its address, and by its
+    /// ordinal the address of what is exported. Entries are left out whose name has no place, no end or is not UTF-8,
+    /// or whose ordinal is not in the address table. Refused for want of memory alone.
+    pub fn parse_with_opts<A: Allocator + Copy + Drop>(
+        alloc: A,
+        bytes: &'a [u8],
+        export_data: &ExportData<'_>,
+        sections: &[SectionTable],
+        file_alignment: u32,
+        opts: &ParseOptions,
+    ) -> Result<Vec<Export<'a>, A>>
+        ensures { GivesUnlessMemory (λ v. map export_view v.items) result (Ok (exports (place_of opts.now.resolve_rva file_alignment sections.now) bytes.entry.now (export_data_view export_data.now))) }
+    {
+        let index = SectionIndex::new(alloc, sections, file_alignment, opts)?;
+        exports_by_index(alloc, bytes, export_data, &index)
+    }
+}

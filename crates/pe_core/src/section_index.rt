@@ -2,6 +2,7 @@
 
 ghost use Rattle.std.specs.Prelude.{◌≡◌, ◌+◌, ◌-◌, ◌<◌, ◌≤◌, ◌^◌, IfOk, IfErr};
 ghost use Rattle.pe_core.specs.SectionMap.{place_of};
+ghost use Rattle.pe_core.specs.SectionIndex.{place_or_end};
 ghost use Rattle.pe_core.specs.declared.error.Error.TheVariants.{Memory};
 
 use crate::error::Result;
@@ -75,5 +76,11 @@ impl<'a, A: Allocator> SectionIndex<'a, A> {
                 Some(rva - owner.address as usize + owner.place as usize)
             }
         }
+    }
+    /// The same for readers of texts: an address without a place gets one where no byte stands.
+    pub(crate) fn find_or_end(&self, rva: u32) -> usize
+        ensures { result ≡ place_or_end (place_of self.now.resolve self.now.alignment self.now.sections rva) }
+    {
+        self.find(rva as usize).unwrap_or(usize::MAX)
     }
 }
