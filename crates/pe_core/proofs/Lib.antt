@@ -1,9 +1,15 @@
 pub mod Steps
 pub mod Map
+pub mod SectionCuts
+pub mod SectionHalves
 pub mod Texts
+pub mod TextEnds
+pub mod FirstZero
+pub mod TextRuns
 pub mod NumberBytes
 pub mod SpelledRecords
 pub mod SpelledOptional
 pub mod Modes
 pub mod PutNumbers
 pub mod TableEntries
+pub mod ExportLists

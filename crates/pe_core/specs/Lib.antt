@@ -2,6 +2,7 @@ pub mod Refusals
 pub mod Bytes
 pub mod CountedTable
 pub mod Text
+pub mod TextRuns
 pub mod Options
 pub mod Narrow
 pub mod Records
@@ -12,3 +13,7 @@ pub mod HeaderSteps
 pub mod Spelling
 pub mod Sections
 pub mod SectionMap
+pub mod Exports
+pub mod ExportSteps
+pub mod SectionPieces
+pub mod SectionIndex

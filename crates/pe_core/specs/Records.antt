@@ -2,6 +2,7 @@
 use Rattle.std.specs.Prelude.{ℕ, ◌+◌, List}
 use Rattle.pe_core.specs.Bytes.{le, range}
 use Rattle.pe_core.specs.declared.data_directories.DataDirectory.{DataDirectory}
+use Rattle.pe_core.specs.declared.export.ExportDirectoryTable.{ExportDirectoryTable}
 use Rattle.pe_core.specs.declared.header.DosHeader.{DosHeader}
 use Rattle.pe_core.specs.declared.header.CoffHeader.{CoffHeader}
 use Rattle.pe_core.specs.declared.header.TeHeader.{TeHeader}
@@ -140,4 +141,20 @@ te_header b p = record {
   image_base = le b (p + 16) 8;
   reloc_dir = data_directory b (p + 24);
   debug_dir = data_directory b (p + 32);
+}
+
+-- an export directory, 40 bytes
+unfoldable pub export_directory : List ℕ → ℕ → ExportDirectoryTable
+export_directory b p = record {
+  characteristics = le b p 4;
+  time_date_stamp = le b (p + 4) 4;
+  major = le b (p + 8) 2;
+  minor = le b (p + 10) 2;
+  name_rva = le b (p + 12) 4;
+  ordinal_base = le b (p + 16) 4;
+  address_table_entries = le b (p + 20) 4;
+  number_of_name_pointers = le b (p + 24) 4;
+  address_table_rva = le b (p + 28) 4;
+  name_pointer_rva = le b (p + 32) 4;
+  ordinal_table_rva = le b (p + 36) 4;
 }

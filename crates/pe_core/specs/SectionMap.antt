@@ -1,7 +1,8 @@
 -- The map from addresses to places in the file. (This project's profile.)
-use Rattle.std.specs.Prelude.{ℕ, ◌+◌, ◌-◌, ◌*◌, ◌/◌, ◌==◌, ◌&&◌, min, Bool, not, List, [], ◌∷◌, filter, Option, Some, None, nat_le, nat_lt, if◌then◌else◌}
+use Rattle.std.specs.Prelude.{ℕ, ◌+◌, ◌-◌, ◌*◌, ◌/◌, ◌==◌, ◌&&◌, min, Bool, not, List, [], ◌∷◌, filter, Option, Some, None, Result, Ok, Err, nat_le, nat_lt, if◌then◌else◌}
 use Rattle.std.specs.Option.{option_map}
 use Rattle.std.specs.Int.{is_power_of_two}
+use Rattle.pe_core.specs.Refusals.{Refusal, Unmapped}
 use Rattle.pe_core.specs.Sections.{raw_end}
 use Rattle.pe_core.specs.declared.section_table.SectionTable.{SectionTable}
 
@@ -37,3 +38,8 @@ place_of resolve alignment sections address =
     else (if is_power_of_two alignment
     then option_map (λ s. address - s.virtual_address + raw_start s) (first (filter (covers alignment address) sections))
     else None)
+
+-- the place that an address has, or `Unmapped`
+abbrev pub mapped : Option ℕ → Result ℕ Refusal
+mapped None = Err Unmapped
+mapped (Some p) = Ok p

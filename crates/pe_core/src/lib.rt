@@ -8,11 +8,15 @@ mod bytes;
 mod counted_table;
 mod data_directories;
 mod error;
+mod export;
 mod header;
 pub mod laws;
+mod many_texts;
 mod optional_header;
 mod options;
+mod section_index;
 mod section_map;
+mod section_pieces;
 mod section_table;
 mod text;
 
@@ -23,6 +27,7 @@ pub use bytes::{
 pub use counted_table::CountedTable;
 pub use data_directories::{DataDirectories, DataDirectory, MOST_DIRECTORIES};
 pub use error::{Error, Reason, Result};
+pub use export::{Export, ExportData, ExportDirectoryTable};
 pub use header::{
     CoffHeader, DOS_MAGIC, DosHeader, Header, PE_MAGIC, SIZE_OF_DOS_HEADER, TeHeader,
 };
@@ -30,3 +35,4 @@ pub use optional_header::{MAGIC_32, MAGIC_64, OptionalHeader, StandardFields, Wi
 pub use options::{ParseMode, ParseOptions};
 pub use section_map::{find_offset, rounded_up};
 pub use section_table::SectionTable;
+pub use text::text_at;

@@ -3,8 +3,10 @@
 ghost use Rattle.std.specs.Prelude.{◌≡◌, ◌+◌, ◌<◌, ◌≤◌, ◌^◌, IsTrue, OnSome};
 ghost use Rattle.std.specs.Option.{option_copied};
 ghost use Rattle.std.specs.List.{find};
-ghost use Rattle.pe_core.specs.SectionMap.{rounded_up, raw_start, reach, covers, place_of};
+ghost use Rattle.pe_core.specs.Refusals.{Gives};
+ghost use Rattle.pe_core.specs.SectionMap.{rounded_up, raw_start, reach, covers, mapped, place_of};
 
+use crate::error::{Error, Reason, Result};
 use crate::options::ParseOptions;
 use crate::section_table::SectionTable;
 
@@ -25,7 +27,7 @@ pub fn rounded_up(n: usize, unit: usize) -> usize
 }
 
 /// Where the section's bytes begin in the file when it is mapped.
-fn raw_start(section: &SectionTable) -> usize
+pub(crate) fn raw_start(section: &SectionTable) -> usize
     ensures place { result ≡ raw_start section.now }
     ensures small { result < 2 ^ 32 }
 {
@@ -34,7 +36,7 @@ fn raw_start(section: &SectionTable) -> usize
 
 /// How many addresses the section covers.
 #[tactic(auto, unfolding(crate::specs::SectionMap::reach))]
-fn reach(section: &SectionTable, alignment: u32) -> usize
+pub(crate) fn reach(section: &SectionTable, alignment: u32) -> usize
     requires { 0 < alignment }
     ensures count { result ≡ reach alignment section.now }
     ensures small { result < 2 ^ 33 }
@@ -88,4 +90,19 @@ pub fn find_offset(
     }
     let section = section_of(sections, file_alignment, rva)?;
     Some(rva - section.virtual_address as usize + raw_start(section))
+}
+
+/// The place in the file of a relative virtual address, or `Unmapped`.
+pub(crate) fn mapped_place(
+    rva: u32,
+    sections: &[SectionTable],
+    file_alignment: u32,
+    opts: &ParseOptions,
+) -> Result<usize>
+    ensures { Gives (λ p. p) result (mapped (place_of opts.now.resolve_rva file_alignment sections.now rva)) }
+{
+    match find_offset(rva as usize, sections, file_alignment, opts) {
+        Some(place) => Ok(place),
+        None => Err(Error::Malformed(Reason::Unmapped(u64::from(rva)))),
+    }
 }

@@ -1,9 +1,9 @@
-//! Bytes that are text.
+//! Bytes that are text, and texts that a zero ends.
 
-ghost use Rattle.std.specs.Prelude.{◌≡◌, ◌==◌, position};
+ghost use Rattle.std.specs.Prelude.{◌≡◌, ◌==◌, drop, position};
 ghost use Rattle.std.specs.List.{before_first};
 ghost use Rattle.std.specs.Option.{option_map};
-ghost use Rattle.pe_core.specs.Text.{text_of};
+ghost use Rattle.pe_core.specs.Text.{text_of, text_at};
 
 /// The bytes as text. `None` if they are not UTF-8.
 #[tactic(auto, using(crate::proofs::Texts::utf8_tests))]
@@ -13,7 +13,8 @@ pub(crate) fn text_of(bytes: &[u8]) -> Option<&str>
     str::from_utf8(bytes).ok()
 }
 
-fn first_zero(bytes: &[u8]) -> Option<usize>
+/// Where the first zero is.
+pub(crate) fn first_zero(bytes: &[u8]) -> Option<usize>
     ensures { result ≡ position (λ c. c == 0) bytes.now }
 {
     bytes.iter().position(|byte| *byte == 0)
@@ -28,4 +29,27 @@ pub(crate) fn before_zero(bytes: &[u8]) -> &[u8]
         Some(length) => &bytes[..length],
         None => bytes,
     }
+}
+
+/// The bytes from the place on. None behind their end.
+#[tactic(auto, using(crate::proofs::Texts::rests))]
+pub(crate) fn from_place(bytes: &[u8], place: usize) -> &[u8]
+    ensures { result.now ≡ drop place bytes.now }
+{
+    if place <= bytes.len() {
+        &bytes[place..]
+    } else {
+        &[]
+    }
+}
+
+/// The text at the place: the bytes from there up to the first zero. `None` if no zero follows, if the bytes in front
+/// of it are not UTF-8, or if the place is past the end.
+#[tactic(auto, using(crate::proofs::Texts::to_zero))]
+pub fn text_at(bytes: &[u8], place: usize) -> Option<&str>
+    ensures { option_map (λ s. s.now) result ≡ text_at bytes.now place }
+{
+    let rest = from_place(bytes, place);
+    let length = first_zero(rest)?;
+    text_of(&rest[..length])
 }

@@ -1,0 +1,294 @@
+//! Exports: the export directory, and the list of what it names.
+
+ghost use Rattle.std.specs.Prelude.{◌≡◌, ◌*◌, ◌+◌, ◌/◌, ◌≤◌, length, map, Ok};
+ghost use Rattle.std.specs.Option.{option_and_then, option_map};
+ghost use Rattle.pe_core.specs.Bytes.{le};
+ghost use Rattle.pe_core.specs.ExportSteps.{exports_from};
+ghost use Rattle.pe_core.specs.Exports.{export_data_view, export_data_at, export_view, exports, image_name, table_at, entry_of, named_export};
+ghost use Rattle.pe_core.specs.Options.{default_options};
+ghost use Rattle.pe_core.specs.Refusals.{Gives, GivesUnlessMemory};
+ghost use Rattle.pe_core.specs.Rows.{each};
+ghost use Rattle.pe_core.specs.SectionIndex.{place_or_end};
+ghost use Rattle.pe_core.specs.SectionMap.{place_of};
+ghost use Rattle.pe_core.specs.Text.{texts_of};
+
+use crate::bytes::{number16, number32, require_bytes, slice_at, u32_at};
+use crate::data_directories::DataDirectory;
+use crate::error::Result;
+use crate::many_texts::texts_at;
+use crate::options::ParseOptions;
+use crate::section_index::SectionIndex;
+use crate::section_table::SectionTable;
+use crate::text::text_at;
+use crate::section_map::{find_offset, mapped_place};
+use std::alloc::Allocator;
+
+/// The size of an export directory in bytes.
+const SIZE_OF_EXPORT_DIRECTORY: usize = 40;
+
+/// The export directory, 40 bytes.
+#[derive(Clone, Copy, Debug, PartialEq)]
+pub struct ExportDirectoryTable {
+    /// Reserved.
+    pub characteristics: u32,
+    /// In seconds since the beginning of 1970, or a hash.
+    pub time_date_stamp: u32,
+    pub major: u16,
+    pub minor: u16,
+    /// The relative virtual address of the image's name, or 0.
+    pub name_rva: u32,
+    /// The ordinal of the first entry of the address table.
+    pub ordinal_base: u32,
+    /// How many entries of 4 bytes the address table has.
+    pub address_table_entries: u32,
+    /// How many entries the name table, of 4 bytes each, and the ordinal table, of 2, have.
+    pub number_of_name_pointers: u32,
+    /// A relative virtual address.
+    pub address_table_rva: u32,
+    /// A relative virtual address.
+    pub name_pointer_rva: u32,
+    /// A relative virtual address.
+    pub ordinal_table_rva: u32,
+}
+
+impl ExportDirectoryTable {
+    ghost use Rattle.pe_core.specs.Records.{export_directory};
+
+    /// The export directory at a place where its 40 bytes are known to be there.
+    #[tactic(auto, unfolding(crate::specs::Records::export_directory))]
+    fn at(bytes: &[u8], place: usize) -> ExportDirectoryTable
+        requires { place + 40 ≤ length bytes.now }
+        ensures { result ≡ export_directory bytes.now place }
+    {
+        ExportDirectoryTable {
+            characteristics: number32(bytes, place),
+            time_date_stamp: number32(bytes, place + 4),
+            major: number16(bytes, place + 8),
+            minor: number16(bytes, place + 10),
+            name_rva: number32(bytes, place + 12),
+            ordinal_base: number32(bytes, place + 16),
+            address_table_entries: number32(bytes, place + 20),
+            number_of_name_pointers: number32(bytes, place + 24),
+            address_table_rva: number32(bytes, place + 28),
+            name_pointer_rva: number32(bytes, place + 32),
+            ordinal_table_rva: number32(bytes, place + 36),
+        }
+    }
+}
+
+/// The image's name, if it has one.
+fn image_name<'a>(
+    bytes: &'a [u8],
+    rva: u32,
+    sections: &[SectionTable],
+    file_alignment: u32,
+    opts: &ParseOptions,
+) -> Option<&'a str>
+    ensures { option_map (λ s. s.now) result ≡ image_name (place_of opts.now.resolve_rva file_alignment sections.now) bytes.entry.now rva }
+{
+    if rva == 0 {
+        return None;
+    }
+    let place = find_offset(rva as usize, sections, file_alignment, opts)?;
+    text_at(bytes, place)
+}
+
+/// The table of so many bytes at the address.
+fn table_at<'a>(
+    bytes: &'a [u8],
+    rva: u32,
+    size: usize,
+    sections: &[SectionTable],
+    file_alignment: u32,
+    opts: &ParseOptions,
+) -> Result<&'a [u8]>
+    ensures { Gives (λ s. s.now) result (table_at (place_of opts.now.resolve_rva file_alignment sections.now) bytes.entry.now rva size) }
+{
+    if size == 0 {
+        return Ok(&[]);
+    }
+    let place = mapped_place(rva, sections, file_alignment, opts)?;
+    slice_at(bytes, place, size)
+}
+
+/// The export directory of an image and its three tables.
+#[derive(Debug, Drop)]
+pub struct ExportData<'a> {
+    pub directory: ExportDirectoryTable,
+    /// The image's name. `None` if its address is 0 or has no place, if no zero ends it, or if it is not UTF-8.
+    pub name: Option<&'a str>,
+    /// The address table, 4 bytes an entry.
+    pub addresses: &'a [u8],
+    /// The name table, 4 bytes an entry.
+    pub names: &'a [u8],
+    /// The ordinal table, 2 bytes an entry.
+    pub ordinals: &'a [u8],
+}
+
+impl<'a> ExportData<'a> {
+    /// The export directory, with the default options.
+    pub fn parse(
+        bytes: &'a [u8],
+        directory: DataDirectory,
+        sections: &[SectionTable],
+        file_alignment: u32,
+    ) -> Result<ExportData<'a>>
+        ensures { Gives export_data_view result (export_data_at (place_of default_options.resolve_rva file_alignment sections.now) bytes.entry.now directory.virtual_address) }
+    {
+        ExportData::parse_with_opts(
+            bytes,
+            directory,
+            sections,
+            file_alignment,
+            &ParseOptions::default(),
+        )
+    }
+
+    /// The export directory: 40 bytes at the directory's address, `Unmapped` or `Short`; then the tables of addresses,
+    /// names and ordinals, each `Unmapped` or `Short` unless it has no entries. The directory's size isn't used.
+    #[tactic(auto, unfolding(crate::specs::Exports::export_data_at))]
+    pub fn parse_with_opts(
+        bytes: &'a [u8],
+        directory: DataDirectory,
+        sections: &[SectionTable],
+        file_alignment: u32,
+        opts: &ParseOptions,
+    ) -> Result<ExportData<'a>>
+        ensures { Gives export_data_view result (export_data_at (place_of opts.now.resolve_rva file_alignment sections.now) bytes.entry.now directory.virtual_address) }
+    {
+        let place = mapped_place(directory.virtual_address, sections, file_alignment, opts)?;
+        require_bytes(bytes, place, SIZE_OF_EXPORT_DIRECTORY)?;
+        let directory = ExportDirectoryTable::at(bytes, place);
+        let size = 4 * directory.address_table_entries as usize;
+        let rva = directory.address_table_rva;
+        let addresses = table_at(bytes, rva, size, sections, file_alignment, opts)?;
+        let count = directory.number_of_name_pointers as usize;
+        let rva = directory.name_pointer_rva;
+        let names = table_at(bytes, rva, 4 * count, sections, file_alignment, opts)?;
+        let rva = directory.ordinal_table_rva;
+        let ordinals = table_at(bytes, rva, 2 * count, sections, file_alignment, opts)?;
+        Ok(ExportData {
+            directory,
+            name: image_name(bytes, directory.name_rva, sections, file_alignment, opts),
+            addresses,
+            names,
+            ordinals,
+        })
+    }
+}
+
+/// An export that has a name.
+#[derive(Debug, Drop)]
+pub struct Export<'a> {
+    pub name: &'a str,
+    /// A relative virtual address.
+    pub rva: u32,
+    /// Its place in the file. `None` if no section maps it.
+    pub offset: Option<usize>,
+}
+
+/// The ordinal of entry `i` of the name table.
+fn ordinal_of(ordinals: &[u8], i: usize) -> Option<u16>
+    ensures { result ≡ entry_of 2 ordinals.now i }
+{
+    if i < ordinals.len() / 2 {
+        Some(number16(ordinals, 2 * i))
+    } else {
+        None
+    }
+}
+
+/// The address that an ordinal stands for.
+fn address_of(addresses: &[u8], ordinal: u16) -> Option<u32>
+    ensures { result ≡ entry_of 4 addresses.now ordinal }
+{
+    u32_at(addresses, 4 * ordinal as usize).ok()
+}
+
+/// The export of entry `i` of the name table, whose name this is.
+fn named_export<'a, A: Allocator>(
+    name: Option<&'a str>,
+    i: usize,
+    export_data: &ExportData<'_>,
+    index: &SectionIndex<'_, A>,
+) -> Option<Export<'a>>
+    ensures { option_map export_view result ≡ option_and_then (named_export (place_of index.now.resolve index.now.alignment index.now.sections) (export_data_view export_data.now) i) (option_map (λ s. s.now) name.entry) }
+{
+    let name = name?;
+    let ordinal = ordinal_of(export_data.ordinals, i)?;
+    let rva = address_of(export_data.addresses, ordinal)?;
+    Some(Export {
+        name,
+        rva,
+        offset: index.find(rva as usize),
+    })
+}
+
+/// The exports of all these names.
+fn named_exports<'a, A: Allocator>(
+    alloc: A,
+    names: &[Option<&'a str>],
+    export_data: &ExportData<'_>,
+    index: &SectionIndex<'_, A>,
+) -> Result<Vec<Export<'a>, A>>
+    ensures { GivesUnlessMemory (λ v. map export_view v.items) result (Ok (exports_from (place_of index.now.resolve index.now.alignment index.now.sections) (export_data_view export_data.now) 0 (texts_of names.now))) }
+{
+    let mut exports = Vec::with_capacity(alloc, names.len())?;
+    for (i, name) in names.iter().enumerate() {
+        if let Some(export) = named_export(*name, i, export_data, index) {
+            exports.push(export)?;
+        }
+    }
+    Ok(exports)
+}
+
+/// The places of all names, by the name table.
+#[tactic(auto, unfolding(crate::specs::Rows::each))]
+fn name_places<A: Allocator>(
+    alloc: A,
+    names: &[u8],
+    index: &SectionIndex<'_, A>,
+) -> Result<Vec<usize, A>>
+    ensures { GivesUnlessMemory (λ v. v.items) result (Ok (each (λ i. place_or_end (place_of index.now.resolve index.now.alignment index.now.sections (le names.now (4 * i) 4))) (length names.now / 4))) }
+{
+    let count = names.len() / 4;
+    let mut places = Vec::with_capacity(alloc, count)?;
+    for i in 0..count {
+        places.push(index.find_or_end(number32(names, 4 * i)))?;
+    }
+    Ok(places)
+}
+
+/// The exports that have names, their addresses mapped by the index.
+#[tactic(auto, using(crate::proofs::ExportLists::listed))]
+fn exports_by_index<'a, A: Allocator + Copy + Drop>(
+    alloc: A,
+    bytes: &'a [u8],
+    export_data: &ExportData<'_>,
+    index: &SectionIndex<'_, A>,
+) -> Result<Vec<Export<'a>, A>>
+    ensures { GivesUnlessMemory (λ v. map export_view v.items) result (Ok (exports (place_of index.now.resolve index.now.alignment index.now.sections) bytes.entry.now (export_data_view export_data.now))) }
+{
+    let places = name_places(alloc, export_data.names, index)?;
+    let names = texts_at(alloc, bytes, &places)?;
+    named_exports(alloc, &names, export_data, index)
+}
+
+impl<'a> Export<'a> {
+    /// The exports that have names, in the order of the name table: of each entry the name at its address, and by its
+    /// ordinal the address of what is exported. Entries are left out whose name has no place, no end or is not UTF-8,
+    /// or whose ordinal is not in the address table. Refused for want of memory alone.
+    pub fn parse_with_opts<A: Allocator + Copy + Drop>(
+        alloc: A,
+        bytes: &'a [u8],
+        export_data: &ExportData<'_>,
+        sections: &[SectionTable],
+        file_alignment: u32,
+        opts: &ParseOptions,
+    ) -> Result<Vec<Export<'a>, A>>
+        ensures { GivesUnlessMemory (λ v. map export_view v.items) result (Ok (exports (place_of opts.now.resolve_rva file_alignment sections.now) bytes.entry.now (export_data_view export_data.now))) }
+    {
+        let index = SectionIndex::new(alloc, sections, file_alignment, opts)?;
+        exports_by_index(alloc, bytes, export_data, &index)
+    }
+}

@@ -1,0 +1,179 @@
+//! The texts at many places of a byte string, each byte read about once.
+
+ghost use Rattle.std.specs.Prelude.{◌≡◌, ℕ, ◌≤◌, ◌-◌, length, drop, map, IfOk, OnOk, All, []};
+ghost use Rattle.std.specs.Option.{option_map};
+ghost use Rattle.pe_core.specs.Text.{text_of, text_at, texts_of};
+ghost use Rattle.pe_core.specs.TextRuns.{AreFirstTexts, IsLastText, IsRun, last_of};
+
+use crate::text::{first_zero, from_place, text_at};
+use std::alloc::{AllocError, Allocator};
+
+/// A run of so many bytes is worth keeping.
+const LONG: usize = 64;
+
+/// The places from `start` to `end`, with the first zero behind them at `end`, or with none behind them.
+#[derive(Clone, Copy, Debug)]
+struct Run<'a> {
+    start: usize,
+    end: usize,
+    /// The longest text in front of the zero.
+    text: Option<&'a str>,
+}
+
+/// The longest end of the bytes that is text.
+fn last_text(bytes: &[u8]) -> &str
+    ensures { IsLastText bytes.now result.now }
+{
+    let mut begin = 0;
+    loop {
+        match str::from_utf8(&bytes[begin..]) {
+            Ok(text) => return text,
+            Err(error) => begin += error.valid_up_to() + 1,
+        }
+    }
+}
+
+/// The text from a place of a text on, if a character begins there.
+#[tactic(auto, using(crate::proofs::TextEnds::ends_of_text))]
+fn text_from(text: &str, place: usize) -> Option<&str>
+    requires { place ≤ length text.now }
+    ensures { option_map (λ s. s.now) result ≡ text_of (drop place text.now) }
+{
+    if text.is_char_boundary(place) {
+        Some(&text[place..])
+    } else {
+        None
+    }
+}
+
+/// The run that starts at a place.
+fn run_from(bytes: &[u8], start: usize) -> Run<'_>
+    ensures run { IsRun bytes.now result }
+    ensures start { result.start ≡ start }
+    ensures rises { start ≤ result.end }
+{
+    let rest = from_place(bytes, start);
+    match first_zero(rest) {
+        Some(n) => Run {
+            start,
+            end: start + n,
+            text: Some(last_text(&rest[..n])),
+        },
+        None => Run {
+            start,
+            end: usize::MAX,
+            text: None,
+        },
+    }
+}
+
+/// The text at a place of a run.
+#[tactic(auto, unfolding(crate::specs::TextRuns::last_of))]
+fn text_of_run<'a>(run: &Run<'a>, place: usize) -> Option<&'a str>
+    requires { place ≤ run.now.end }
+    ensures { option_map (λ s. s.now) result ≡ last_of (option_map (λ s. s.now) run.now.text) (run.now.end - place) }
+{
+    let n = run.end - place;
+    match run.text {
+        Some(text) if n <= text.len() => text_from(text, text.len() - n),
+        _ => None,
+    }
+}
+
+/// The text at a place, by the run if the place lies in it, and else by a run from there, which replaces it. The
+/// number says how many bytes were read.
+fn text_by_run<'a>(bytes: &'a [u8], run: &mut Run<'a>, place: usize) -> (Option<&'a str>, usize)
+    requires { IsRun bytes.now run.old }
+    ensures run { IsRun bytes.entry.now run.new }
+    ensures text { option_map (λ s. s.now) result.0 ≡ text_at bytes.entry.now place }
+{
+    if run.start <= place && place <= run.end {
+        return (text_of_run(run, place), 0);
+    }
+    *run = run_from(bytes, place);
+    (
+        text_of_run(run, place),
+        run.end.min(bytes.len()).saturating_sub(place),
+    )
+}
+
+/// Appends the texts at the first places, until as many bytes were read for them as there are.
+fn push_first_texts<'a, A: Allocator>(
+    bytes: &'a [u8],
+    places: &[usize],
+    texts: &mut Vec<Option<&'a str>, A>,
+) -> Result<(), AllocError>
+    requires { texts.old.items ≡ [] }
+    ensures { OnOk result (AreFirstTexts bytes.entry.now places.now texts.new.items) }
+{
+    let mut left = bytes.len();
+    let mut run = run_from(bytes, bytes.len());
+    for place in places {
+        if left == 0 {
+            break;
+        }
+        let (text, read) = text_by_run(bytes, &mut run, *place);
+        left = left.saturating_sub(read);
+        texts.push(text)?;
+    }
+    Ok(())
+}
+
+/// Runs by rising starts. Each of the places lies in one of them, or a short way in front of a zero.
+fn long_runs_at<'a, A: Allocator + Copy + Drop>(
+    alloc: A,
+    bytes: &'a [u8],
+    places: &[usize],
+) -> Result<Vec<Run<'a>, A>, AllocError>
+    ensures { IfOk result (λ runs. All (IsRun bytes.entry.now) runs.items) }
+{
+    let mut rising = Vec::new(alloc);
+    rising.extend_from_slice(places)?;
+    rising.sort_unstable();
+    let mut runs: Vec<Run<'a>, A> = Vec::new(alloc);
+    let mut run = run_from(bytes, usize::MAX);
+    for place in &rising {
+        let place = *place;
+        if place < run.start || run.end < place {
+            run = run_from(bytes, place);
+            if run.end - run.start >= LONG {
+                runs.push(run)?;
+            }
+        }
+    }
+    Ok(runs)
+}
+
+/// The text at a place, by the runs if it lies in one of them.
+fn text_among<'a>(bytes: &'a [u8], runs: &[Run<'a>], place: usize) -> Option<&'a str>
+    requires { All (IsRun bytes.now) runs.now }
+    ensures { option_map (λ s. s.now) result ≡ text_at bytes.entry.now place }
+{
+    let after = runs.partition_point(|run| run.start <= place);
+    if 0 < after {
+        let run = runs[after - 1];
+        if run.start <= place && place <= run.end {
+            return text_of_run(&run, place);
+        }
+    }
+    text_at(bytes, place)
+}
+
+/// The texts at the places, in their order. It takes about as long as to sort the places and to read each byte twice,
+/// however many of the places lie in one text.
+pub(crate) fn texts_at<'a, A: Allocator + Copy + Drop>(
+    alloc: A,
+    bytes: &'a [u8],
+    places: &[usize],
+) -> Result<Vec<Option<&'a str>, A>, AllocError>
+    ensures { IfOk result (λ texts. texts_of texts.items ≡ map (text_at bytes.entry.now) places.now) }
+{
+    let mut texts = Vec::with_capacity(alloc, places.len())?;
+    push_first_texts(bytes, places, &mut texts)?;
+    let later = &places[texts.len()..];
+    let runs = long_runs_at(alloc, bytes, later)?;
+    for place in later {
+        texts.push(text_among(bytes, &runs, *place))?;
+    }
+    Ok(texts)
+}

@@ -1,0 +1,86 @@
+//! The index of a list of sections.
+
+ghost use Rattle.std.specs.Prelude.{◌≡◌, ◌+◌, ◌-◌, ◌<◌, ◌≤◌, ◌^◌, IfOk, IfErr};
+ghost use Rattle.pe_core.specs.SectionMap.{place_of};
+ghost use Rattle.pe_core.specs.SectionIndex.{place_or_end};
+ghost use Rattle.pe_core.specs.declared.error.Error.TheVariants.{Memory};
+
+use crate::error::Result;
+use crate::options::ParseOptions;
+use crate::section_pieces::{Piece, owner_of, pieces_of};
+use crate::section_table::SectionTable;
+use crate::section_map::find_offset;
+use std::alloc::Allocator;
+use std::marker::Model;
+
+/// Up to how many sections they are searched one by one.
+const FEW: usize = 8;
+
+/// A list of sections, made ready for many lookups.
+#[derive(Drop)]
+pub(crate) struct SectionIndex<'a, A: Allocator> {
+    sections: &'a [SectionTable],
+    file_alignment: u32,
+    opts: ParseOptions,
+    pieces: Option<Vec<Piece, A>>,
+}
+
+impl<'a, A: Allocator> Model for SectionIndex<'a, A> {
+    ghost use Rattle.std.specs.Prelude.{IfSome};
+    ghost use Rattle.pe_core.specs.SectionIndex.{Indexed, Agrees};
+
+    ghost Value = { Indexed };
+
+    ghost view = { λ s. record { resolve = s.opts.resolve_rva; alignment = s.file_alignment; sections = s.sections.now } };
+
+    ghost invariant = { λ s. IfSome s.pieces (λ v. Agrees s.opts.resolve_rva s.file_alignment s.sections.now v.items) };
+}
+
+impl<'a, A: Allocator> SectionIndex<'a, A> {
+    /// The index of the sections.
+    pub(crate) fn new(
+        alloc: A,
+        sections: &'a [SectionTable],
+        file_alignment: u32,
+        opts: &ParseOptions,
+    ) -> Result<Self>
+    where
+        A: Copy,
+        ensures made { IfOk result (λ index. index ≡ record { resolve = opts.now.resolve_rva; alignment = file_alignment; sections = sections.entry.now }) }
+        ensures refused { IfErr result (λ error. error ≡ Memory record {}) }
+    {
+        let pieces = if opts.resolve_rva
+            && file_alignment.is_power_of_two()
+            && sections.len() > FEW
+        {
+            Some(pieces_of(alloc, sections, file_alignment)?)
+        } else {
+            None
+        };
+        Ok(SectionIndex {
+            sections,
+            file_alignment,
+            opts: *opts,
+            pieces,
+        })
+    }
+
+    /// The place in the file of the address, as `find_offset` gives it.
+    pub(crate) fn find(&self, rva: usize) -> Option<usize>
+        ensures { result ≡ place_of self.now.resolve self.now.alignment self.now.sections rva }
+    {
+        match &self.pieces {
+            None => find_offset(rva, self.sections, self.file_alignment, &self.opts),
+            Some(pieces) => {
+                let owner = owner_of(pieces, rva)?;
+                Some(rva - owner.address as usize + owner.place as usize)
+            }
+        }
+    }
+    /// The same for readers of texts: an address without a place gets one where no byte stands.
+    pub(crate) fn find_or_end(&self, rva: u32) -> usize
+        ensures { result ≡ place_or_end (place_of self.now.resolve self.now.alignment self.now.sections rva) }
+    {
+        self.find(rva as usize).unwrap_or(usize::MAX)
+    }
+}
