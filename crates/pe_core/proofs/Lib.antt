@@ -1,6 +1,7 @@
 pub mod Steps
 pub mod Map
 pub mod Texts
+pub mod Pieces
 pub mod NumberBytes
 pub mod SpelledRecords
 pub mod SpelledOptional

@@ -12,3 +12,7 @@ pub mod HeaderSteps
 pub mod Spelling
 pub mod Sections
 pub mod SectionMap
+pub mod Relocations
+pub mod Symbols
+pub mod Strings
+pub mod TerseHeader

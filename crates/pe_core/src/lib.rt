@@ -12,7 +12,10 @@ mod header;
 pub mod laws;
 mod optional_header;
 mod options;
+mod relocation;
 mod section_table;
+mod strtab;
+mod symbol;
 mod text;
 mod utils;
 
@@ -24,10 +27,14 @@ pub use counted_table::CountedTable;
 pub use data_directories::{DataDirectories, DataDirectory, MOST_DIRECTORIES};
 pub use error::{Error, Reason, Result};
 pub use header::{
-    CoffHeader, DOS_MAGIC, DosHeader, Header, PE_MAGIC, SIZE_OF_DOS_HEADER, TeHeader,
+    CoffHeader, DOS_MAGIC, DosHeader, Header, PE_MAGIC, SIZE_OF_DOS_HEADER, SIZE_OF_TE_HEADER,
+    TE_MAGIC, TeHeader,
 };
 pub use optional_header::{MAGIC_32, MAGIC_64, OptionalHeader, StandardFields, WindowsFields};
 pub use options::{ParseMode, ParseOptions};
+pub use relocation::RelocationData;
 pub use section_table::SectionTable;
+pub use strtab::Strtab;
+pub use symbol::{SIZE_OF_SYMBOL, Symbol, SymbolIterator, SymbolTable};
 pub use text::text_at;
 pub use utils::find_offset;
