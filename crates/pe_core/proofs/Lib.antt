@@ -2,6 +2,7 @@ pub mod Steps
 pub mod Map
 pub mod Texts
 pub mod Pieces
+pub mod SymbolRows
 pub mod NumberBytes
 pub mod SpelledRecords
 pub mod SpelledOptional

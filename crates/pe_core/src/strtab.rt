@@ -24,6 +24,13 @@ pub struct Strtab<'a> {
     pub bytes: &'a [u8],
 }
 
+/// That a string table has no text at a place, counted from its size field.
+fn no_text_at(place: usize) -> Error
+    ensures { kind_of result ≡ StringTable }
+{
+    Error::Malformed(Reason::StringTable(u32::try_from(place).unwrap_or(u32::MAX)))
+}
+
 /// The bytes up to the first zero, and those behind it.
 #[tactic(auto, using(crate::proofs::Pieces::cut_at_zero))]
 fn cut_at_zero(bytes: &[u8]) -> (&[u8], &[u8])
@@ -36,9 +43,10 @@ fn cut_at_zero(bytes: &[u8]) -> (&[u8], &[u8])
     }
 }
 
-/// The first string of these bytes, and what is behind the zero that ends it. `StringTable` if it is not UTF-8.
+/// The first string of these bytes, which end a table of so many bytes, and what is behind the zero that ends it.
+/// `StringTable` if it is not UTF-8.
 #[tactic(auto, using(crate::proofs::Pieces::first_piece))]
-fn first_string(bytes: &[u8]) -> Result<(&str, &[u8])>
+fn first_string(bytes: &[u8], table_size: usize) -> Result<(&str, &[u8])>
     requires { 0 < length bytes.now }
     ensures string { IfOk result (λ x. pieces bytes.now ≡ x.0.now ∷ pieces x.1.now) }
     ensures text { IfOk result (λ x. is_utf8 x.0.now ≡ true) }
@@ -49,19 +57,19 @@ fn first_string(bytes: &[u8]) -> Result<(&str, &[u8])>
     let (piece, behind) = cut_at_zero(bytes);
     match text_of(piece) {
         Some(string) => Ok((string, behind)),
-        None => Err(Error::Malformed(Reason::StringTable(0))),
+        None => Err(no_text_at(table_size.saturating_sub(bytes.len()))),
     }
 }
 
-/// How many strings these bytes have, if each is UTF-8.
+/// How many strings these bytes have, which end a table of so many bytes, if each is UTF-8.
 #[tactic(auto, using(crate::proofs::Pieces::no_pieces, crate::proofs::Pieces::room))]
-fn count_strings(bytes: &[u8]) -> Result<usize>
+fn count_strings(bytes: &[u8], table_size: usize) -> Result<usize>
     ensures { Gives (λ n. n) result (outcome ((list_all is_utf8 (pieces bytes.now), StringTable) ∷ []) (length (pieces bytes.now))) }
 {
     let mut rest = bytes;
     let mut count = 0;
     while !rest.is_empty() {
-        rest = first_string(rest)?.1;
+        rest = first_string(rest, table_size)?.1;
         count += 1;
     }
     Ok(count)
@@ -75,13 +83,12 @@ fn strings_at(bytes: &[u8], place: usize) -> Result<Option<Strtab<'_>>>
         return Ok(None);
     }
     let left = bytes.len().saturating_sub(place);
-    let refused = Error::Malformed(Reason::StringTable(u32::try_from(left).unwrap_or(u32::MAX)));
     if left < SIZE_FIELD {
-        return Err(refused);
+        return Err(no_text_at(left));
     }
     let size = (number32(bytes, place) as usize).max(SIZE_FIELD);
     if left < size {
-        return Err(refused);
+        return Err(no_text_at(left));
     }
     Ok(Some(Strtab {
         bytes: &bytes[place..place + size],
@@ -109,10 +116,11 @@ impl<'a> Strtab<'a> {
     pub fn to_vec<A: Allocator>(&self, alloc: A) -> Result<Vec<&'a str, A>>
         ensures { GivesUnlessMemory (λ v. map (λ s. s.now) v.items) result (all_strings self.now.bytes.now) }
     {
+        let table_size = self.bytes.len();
         let mut rest = from_place(self.bytes, SIZE_FIELD);
-        let mut strings = Vec::with_capacity(alloc, count_strings(rest)?)?;
+        let mut strings = Vec::with_capacity(alloc, count_strings(rest, table_size)?)?;
         while !rest.is_empty() {
-            let (string, behind) = first_string(rest)?;
+            let (string, behind) = first_string(rest, table_size)?;
             strings.push(string)?;
             rest = behind;
         }
