@@ -6,6 +6,8 @@ pub mod Texts
 pub mod TextEnds
 pub mod FirstZero
 pub mod TextRuns
+pub mod Pieces
+pub mod SymbolRows
 pub mod NumberBytes
 pub mod SpelledRecords
 pub mod SpelledOptional

@@ -17,3 +17,7 @@ pub mod Exports
 pub mod ExportSteps
 pub mod SectionPieces
 pub mod SectionIndex
+pub mod Relocations
+pub mod Symbols
+pub mod Strings
+pub mod TerseHeader

@@ -3,8 +3,9 @@
 ghost use Rattle.std.specs.Prelude.{◌≡◌, ◌+◌, ◌≤◌, length};
 ghost use Rattle.pe_core.specs.Bytes.{record_at};
 ghost use Rattle.pe_core.specs.Refusals.{Gives};
+ghost use Rattle.pe_core.specs.TerseHeader.{reduced};
 
-use crate::bytes::{number16, number32, require_bytes, u32_at};
+use crate::bytes::{number8, number16, number32, number64, require_bytes, u32_at};
 use crate::data_directories::DataDirectory;
 use crate::error::{Error, Reason, Result};
 use crate::optional_header::OptionalHeader;
@@ -18,6 +19,12 @@ pub const PE_MAGIC: u32 = 0x4550;
 
 /// The size of a DOS header in bytes.
 pub const SIZE_OF_DOS_HEADER: u32 = 64;
+
+/// The signature of a terse image, `VZ`.
+pub const TE_MAGIC: u16 = 0x5A56;
+
+/// The size of the header of a terse image in bytes.
+pub const SIZE_OF_TE_HEADER: u16 = 40;
 
 /// The header that an image begins with, 64 bytes.
 #[derive(Clone, Copy, Debug, PartialEq)]
@@ -108,6 +115,105 @@ pub struct TeHeader {
     pub reloc_dir: DataDirectory,
     /// The debug entries.
     pub debug_dir: DataDirectory,
+}
+
+/// The number less the offset, modulo 2^32.
+pub(crate) fn reduced(number: u32, offset: u32) -> u32
+    ensures { result ≡ reduced offset number }
+{
+    number.wrapping_sub(offset)
+}
+
+impl DataDirectory {
+    ghost use Rattle.pe_core.specs.TerseHeader.{reduced_directory, reduced_debug};
+
+    /// The directory with its address reduced.
+    fn reduced(self, offset: u32) -> DataDirectory
+        ensures { result ≡ reduced_directory offset self }
+    {
+        DataDirectory {
+            virtual_address: reduced(self.virtual_address, offset),
+            size: self.size,
+        }
+    }
+
+    /// The same, unless the directory is absent.
+    fn reduced_if_present(self, offset: u32) -> DataDirectory
+        ensures { result ≡ reduced_debug offset self }
+    {
+        if self.virtual_address == 0 && self.size == 0 {
+            self
+        } else {
+            self.reduced(offset)
+        }
+    }
+}
+
+impl TeHeader {
+    ghost use Rattle.pe_core.specs.Records.{te_header};
+    ghost use Rattle.pe_core.specs.TerseHeader.{rva_offset, rva_offset_of, reduced_header, te_header_of};
+
+    /// The header at the beginning of the bytes, where its 40 bytes are known to be there.
+    #[tactic(auto, unfolding(crate::specs::Records::te_header))]
+    fn at_start(bytes: &[u8]) -> TeHeader
+        requires { 40 ≤ length bytes.now }
+        ensures { result ≡ te_header bytes.now 0 }
+    {
+        TeHeader {
+            signature: number16(bytes, 0),
+            machine: number16(bytes, 2),
+            number_of_sections: number8(bytes, 4),
+            subsystem: number8(bytes, 5),
+            stripped_size: number16(bytes, 6),
+            entry_point: number32(bytes, 8),
+            base_of_code: number32(bytes, 12),
+            image_base: number64(bytes, 16),
+            reloc_dir: DataDirectory::at(bytes, 24),
+            debug_dir: DataDirectory::at(bytes, 32),
+        }
+    }
+
+    /// How many more bytes of headers were dropped than this header has, which is what addresses and raw pointers are
+    /// reduced by. `TeSize` if fewer than 40 were dropped.
+    pub fn rva_offset(&self) -> Result<u32>
+        ensures { Gives (λ n. n) result (rva_offset_of self.now) }
+    {
+        if self.stripped_size < SIZE_OF_TE_HEADER {
+            return Err(Error::Malformed(Reason::TeSize(self.stripped_size)));
+        }
+        Ok(u32::from(self.stripped_size - SIZE_OF_TE_HEADER))
+    }
+
+    /// The header with its addresses reduced by the offset.
+    #[tactic(auto, unfolding(crate::specs::TerseHeader::reduced_header))]
+    fn reduced(self, offset: u32) -> TeHeader
+        requires { offset ≡ rva_offset self }
+        ensures { result ≡ reduced_header self }
+    {
+        TeHeader {
+            entry_point: reduced(self.entry_point, offset),
+            base_of_code: reduced(self.base_of_code, offset),
+            reloc_dir: self.reloc_dir.reduced(offset),
+            debug_dir: self.debug_dir.reduced_if_present(offset),
+            ..self
+        }
+    }
+
+    /// The header at the beginning of the bytes. Its entry point, its base of code and the addresses of its two
+    /// directories are reduced by the bytes of headers that were dropped, beyond its own 40, modulo 2^32; a debug directory
+    /// of two zeros stays so. Refusals in this order: `Short`, `BadMagic`, `TeSize` if fewer than 40 bytes were dropped.
+    #[tactic(auto, unfolding(crate::specs::TerseHeader::te_header_of, crate::specs::TerseHeader::te_tests, crate::specs::Records::te_header))]
+    pub fn parse(bytes: &[u8]) -> Result<TeHeader>
+        ensures { Gives (λ t. t) result (te_header_of bytes.now) }
+    {
+        require_bytes(bytes, 0, SIZE_OF_TE_HEADER as usize)?;
+        let header = TeHeader::at_start(bytes);
+        if header.signature != TE_MAGIC {
+            return Err(Error::BadMagic(u64::from(header.signature)));
+        }
+        let offset = header.rva_offset()?;
+        Ok(header.reduced(offset))
+    }
 }
 
 /// All headers of an image in front of its sections.

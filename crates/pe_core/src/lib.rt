@@ -14,10 +14,13 @@ pub mod laws;
 mod many_texts;
 mod optional_header;
 mod options;
+mod relocation;
 mod section_index;
 mod section_map;
 mod section_pieces;
 mod section_table;
+mod strtab;
+mod symbol;
 mod text;
 
 pub use bytes::{
@@ -29,10 +32,14 @@ pub use data_directories::{DataDirectories, DataDirectory, MOST_DIRECTORIES};
 pub use error::{Error, Reason, Result};
 pub use export::{Export, ExportData, ExportDirectoryTable};
 pub use header::{
-    CoffHeader, DOS_MAGIC, DosHeader, Header, PE_MAGIC, SIZE_OF_DOS_HEADER, TeHeader,
+    CoffHeader, DOS_MAGIC, DosHeader, Header, PE_MAGIC, SIZE_OF_DOS_HEADER, SIZE_OF_TE_HEADER,
+    TE_MAGIC, TeHeader,
 };
 pub use optional_header::{MAGIC_32, MAGIC_64, OptionalHeader, StandardFields, WindowsFields};
 pub use options::{ParseMode, ParseOptions};
+pub use relocation::RelocationData;
 pub use section_map::{find_offset, rounded_up};
 pub use section_table::SectionTable;
+pub use strtab::Strtab;
+pub use symbol::{SIZE_OF_SYMBOL, Symbol, SymbolIterator, SymbolTable};
 pub use text::text_at;

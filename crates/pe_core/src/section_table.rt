@@ -6,7 +6,7 @@ ghost use Rattle.pe_core.specs.Refusals.{Gives};
 
 use crate::bytes::{number16, number32, require_bytes, slice_at};
 use crate::error::Result;
-use crate::header::CoffHeader;
+use crate::header::{CoffHeader, SIZE_OF_TE_HEADER, TeHeader, reduced};
 use crate::text::{before_zero, text_of};
 use std::alloc::Allocator;
 
@@ -122,6 +122,45 @@ impl CoffHeader {
         let mut sections = Vec::with_capacity(alloc, count)?;
         for i in 0..count {
             sections.push(SectionTable::at(bytes, place + 40 * i))?;
+        }
+        Ok(sections)
+    }
+}
+
+impl SectionTable {
+    ghost use Rattle.pe_core.specs.TerseHeader.{reduced_section};
+
+    /// The section header with its address and its raw pointer reduced by the offset.
+    #[tactic(auto, unfolding(crate::specs::TerseHeader::reduced_section))]
+    fn reduced(self, offset: u32) -> SectionTable
+        ensures { result ≡ reduced_section offset self }
+    {
+        SectionTable {
+            virtual_address: reduced(self.virtual_address, offset),
+            pointer_to_raw_data: reduced(self.pointer_to_raw_data, offset),
+            ..self
+        }
+    }
+}
+
+impl TeHeader {
+    ghost use Rattle.pe_core.specs.Refusals.{GivesUnlessMemory};
+    ghost use Rattle.pe_core.specs.TerseHeader.{te_sections_of};
+
+    /// The section headers, which stand behind the header's 40 bytes. The address and the raw pointer of each are
+    /// reduced as the header's addresses are. Refusals in this order: `TeSize` if fewer than 40 bytes were dropped,
+    /// `Short` if the section headers are not all there, `Memory`.
+    #[tactic(auto, unfolding(crate::specs::Rows::each, crate::specs::TerseHeader::te_sections_of))]
+    pub fn sections<A: Allocator>(&self, alloc: A, bytes: &[u8]) -> Result<Vec<SectionTable, A>>
+        ensures { GivesUnlessMemory (λ v. v.items) result (te_sections_of bytes.now self.now) }
+    {
+        let offset = self.rva_offset()?;
+        let place = SIZE_OF_TE_HEADER as usize;
+        let count = self.number_of_sections as usize;
+        require_bytes(bytes, place, 40 * count)?;
+        let mut sections = Vec::with_capacity(alloc, count)?;
+        for row in 0..count {
+            sections.push(SectionTable::at(bytes, place + 40 * row).reduced(offset))?;
         }
         Ok(sections)
     }

@@ -20,6 +20,12 @@ mod images;
 #[cfg(test)]
 mod refusals;
 #[cfg(test)]
+mod relocations;
+#[cfg(test)]
 mod sections;
+#[cfg(test)]
+mod symbols;
+#[cfg(test)]
+mod terse_images;
 #[cfg(test)]
 mod unwind;

@@ -1,0 +1,107 @@
+-- COFF symbols. (PE format: COFF symbol table.)
+use Rattle.std.specs.Prelude.{◌≡◌, ℕ, zero, suc, ◌+◌, ◌*◌, ◌/◌, ◌<◌, ◌≤◌, ◌==◌, List, [], ◌∷◌, length, Option, Some, None, Result, Ok, Err, nat_le, slice_index, if◌then◌else◌}
+use Rattle.std.specs.Borrow.{Bor}
+use Rattle.std.specs.Int.{w16, cast_signed}
+use Rattle.std.specs.List.{before_first}
+use Rattle.std.specs.Option.{option_map}
+use Rattle.pe_core.specs.Bytes.{le, range, record_at}
+use Rattle.pe_core.specs.Refusals.{Refusal, StringTable}
+use Rattle.pe_core.specs.Text.{text_of, text_at}
+use Rattle.pe_core.specs.declared.header.CoffHeader.{CoffHeader}
+use Rattle.pe_core.specs.declared.symbol.Symbol.{Symbol}
+use Rattle.pe_core.specs.declared.symbol.SymbolTable.{SymbolTable}
+use Rattle.pe_core.specs.declared.symbol.SymbolIterator.{SymbolIterator}
+
+-- ---- one symbol
+
+-- the symbol at p, 18 bytes
+unfoldable pub symbol : List ℕ → ℕ → Symbol
+symbol b p = record {
+  name = range b p 8;
+  value = le b (p + 8) 4;
+  section_number = cast_signed w16 (le b (p + 12) 2);
+  typ = le b (p + 14) 2;
+  storage_class = le b (p + 16) 1;
+  number_of_aux_symbols = le b (p + 17) 1;
+}
+
+-- the name that stands in the eight bytes themselves: they begin with no zero, and are text up to the first
+abbrev pub inline_name : List ℕ → Option (List ℕ)
+inline_name name = if slice_index name 0 == 0 then None else text_of (before_first (λ c. c == 0) name)
+
+-- where the last four of the eight bytes say that the name is, counted from the size field of the string table
+abbrev pub name_offset : Symbol → ℕ
+name_offset s = le s.name 4 4
+
+-- the text at an offset of a string table, which is not inside its size field
+abbrev pub string_at : List ℕ → ℕ → Option (List ℕ)
+string_at table offset = if nat_le 4 offset then text_at table offset else None
+
+-- this text, or the refusal where there is none
+abbrev pub or_no_text : Option (List ℕ) → Result (List ℕ) Refusal
+or_no_text None = Err StringTable
+or_no_text (Some text) = Ok text
+
+-- the name of a symbol over the string table: the one in its eight bytes, or the string that they lead to
+unfoldable pub symbol_name : Symbol → List ℕ → Result (List ℕ) Refusal
+symbol_name s table = or_no_text (if slice_index s.name 0 == 0 then string_at table (name_offset s) else inline_name s.name)
+
+-- ---- the table
+
+-- how many rows of 18 bytes there are
+abbrev pub row_count : List ℕ → ℕ
+row_count b = length b / 18
+
+-- the symbol in a row, and the row behind it and its auxiliary ones
+abbrev pub symbol_in : List ℕ → ℕ → Symbol
+symbol_in b row = symbol b (18 * row)
+
+abbrev pub row_behind : List ℕ → ℕ → ℕ
+row_behind b row = row + 1 + (symbol_in b row).number_of_aux_symbols
+
+-- the row of symbol k: the first is 0, the next stands behind the auxiliary rows of the one before
+unfoldable pub row_of : List ℕ → ℕ → ℕ
+row_of b zero = 0
+row_of b (suc k) = row_behind b (row_of b k)
+
+-- a symbol with its row and the name in its eight bytes
+pub record SymbolItem : Type 0 where
+  pub row : ℕ
+  pub name : Option (List ℕ)
+  pub symbol : Symbol
+
+abbrev pub item_in : List ℕ → ℕ → SymbolItem
+item_in b row = record { row = row; name = inline_name (symbol_in b row).name; symbol = symbol_in b row }
+
+-- the symbols of a table from a row on, up to its end
+abbrev pub AreSymbols : List ℕ → ℕ → List SymbolItem → Type 0
+AreSymbols b row [] = row_count b ≤ row
+AreSymbols b row (item ∷ more) = (row < row_count b) × (item ≡ item_in b row) × AreSymbols b (row_behind b row) more
+
+-- ---- the iterator
+
+-- a table, and the row where an iterator stands
+abbrev pub table_of : SymbolIterator → List ℕ
+table_of s = s.bytes.now
+
+abbrev pub row_at : SymbolIterator → ℕ
+row_at s = s.row
+
+abbrev pub item_view : ℕ × Option (Bor (List ℕ)) × Symbol → SymbolItem
+item_view item = record { row = item.0; name = option_map (λ s. s.now) item.1; symbol = item.2 }
+
+-- what one call of next answers, and the row that it leaves
+abbrev pub GivesSymbol : List ℕ → ℕ → Option (ℕ × Option (Bor (List ℕ)) × Symbol) → ℕ → Type 0
+GivesSymbol b row None left = (row_count b ≤ row) × (left ≡ row)
+GivesSymbol b row (Some item) left = (row < row_count b) × (item_view item ≡ item_in b row) × (left ≡ row_behind b row)
+
+-- ---- the tables of an object or image
+
+-- the bytes of the symbols: none where the header says that there are none
+unfoldable pub symbols_of : List ℕ → CoffHeader → Result (Option (List ℕ)) Refusal
+symbols_of b c =
+    if c.pointer_to_symbol_table == 0 then Ok None
+    else record_at b c.pointer_to_symbol_table (18 * c.number_of_symbol_table) (Some (range b c.pointer_to_symbol_table (18 * c.number_of_symbol_table)))
+
+abbrev pub table_view : Option SymbolTable → Option (List ℕ)
+table_view t = option_map (λ s. s.bytes.now) t

@@ -1,0 +1,163 @@
+//! COFF symbols.
+
+ghost use Rattle.std.specs.Prelude.{◌≡◌, ◌+◌, ◌-◌, ◌*◌, ◌/◌, ◌≤◌, length};
+ghost use Rattle.std.specs.Iterator.{at_most};
+ghost use Rattle.std.specs.Option.{option_map};
+ghost use Rattle.pe_core.specs.Bytes.{le, record_at};
+ghost use Rattle.pe_core.specs.Refusals.{Gives};
+ghost use Rattle.pe_core.specs.Symbols.{inline_name};
+
+use crate::bytes::{number8, number16, number32, require_bytes, slice_at};
+use crate::error::{Error, Reason, Result};
+use crate::header::CoffHeader;
+use crate::strtab::Strtab;
+use crate::text::{before_zero, text_of};
+
+/// The size of a symbol in bytes.
+pub const SIZE_OF_SYMBOL: usize = 18;
+
+/// A row of the COFF symbols, 18 bytes.
+#[derive(Clone, Copy, Debug, PartialEq)]
+pub struct Symbol {
+    /// Text filled up with zeros; or four zeros, and four bytes for the offset of a longer name in the string table.
+    pub name: [u8; 8],
+    /// What it means depends on the storage class, as an offset in the section.
+    pub value: u32,
+    /// The number of the section, the first being 1; 0, -1 and -2 say that there is none.
+    pub section_number: i16,
+    pub typ: u16,
+    pub storage_class: u8,
+    /// How many of the rows behind it tell more of it.
+    pub number_of_aux_symbols: u8,
+}
+
+/// The name that stands in the eight bytes themselves. `None` if they begin with a zero, or are not UTF-8 up to the
+/// first.
+fn inline_name(name: &[u8]) -> Option<&str>
+    requires { length name.now ≡ 8 }
+    ensures { option_map (λ s. s.now) result ≡ inline_name name.now }
+{
+    if name[0] == 0 {
+        None
+    } else {
+        text_of(before_zero(name))
+    }
+}
+
+impl Symbol {
+    ghost use Rattle.pe_core.specs.Symbols.{symbol, symbol_name};
+
+    /// The symbol at a place where its 18 bytes are known to be there.
+    #[tactic(auto, unfolding(crate::specs::Symbols::symbol))]
+    fn at(bytes: &[u8], place: usize) -> Symbol
+        requires { place + 18 ≤ length bytes.now }
+        ensures { result ≡ symbol bytes.now place }
+    {
+        let mut name = [0; 8];
+        name.copy_from_slice(&bytes[place..place + 8]);
+        Symbol {
+            name,
+            value: number32(bytes, place + 8),
+            section_number: number16(bytes, place + 12).cast_signed(),
+            typ: number16(bytes, place + 14),
+            storage_class: number8(bytes, place + 16),
+            number_of_aux_symbols: number8(bytes, place + 17),
+        }
+    }
+
+    /// The symbol at the place.
+    pub fn parse(bytes: &[u8], place: usize) -> Result<Symbol>
+        ensures { Gives (λ s. s) result (record_at bytes.now place 18 (symbol bytes.now place)) }
+    {
+        require_bytes(bytes, place, SIZE_OF_SYMBOL)?;
+        Ok(Symbol::at(bytes, place))
+    }
+
+    /// The name: the one in the eight bytes themselves, or, where they begin with a zero, the string at the offset in
+    /// the last four of them, which counts the string table's size field. `StringTable` where no string is there, it
+    /// has no zero at its end, or it is not UTF-8.
+    #[tactic(auto, unfolding(crate::specs::Symbols::symbol_name))]
+    pub fn name<'a>(&'a self, strings: &Strtab<'a>) -> Result<&'a str>
+        ensures { Gives (λ s. s.now) result (symbol_name self.entry.now strings.now.bytes.now) }
+    {
+        let offset = number32(&self.name, 4);
+        let name = if self.name[0] == 0 {
+            strings.string_at(offset as usize)
+        } else {
+            inline_name(&self.name)
+        };
+        name.ok_or(Error::Malformed(Reason::StringTable(offset)))
+    }
+}
+
+/// The COFF symbols of an object or image.
+#[derive(Clone, Copy, Debug, PartialEq)]
+pub struct SymbolTable<'a> {
+    /// The rows of 18 bytes, a range of the input.
+    pub bytes: &'a [u8],
+}
+
+impl<'a> SymbolTable<'a> {
+    ghost use Rattle.pe_core.specs.Symbols.{table_of, row_at};
+
+    /// The symbols, each with its row and the name in its eight bytes, if it has one. The rows that tell more of a
+    /// symbol are passed over.
+    pub fn iter(&self) -> SymbolIterator<'a>
+        ensures table { table_of result ≡ self.now.bytes.now }
+        ensures first { row_at result ≡ 0 }
+    {
+        SymbolIterator {
+            bytes: self.bytes,
+            row: 0,
+        }
+    }
+}
+
+/// The symbols that are left of a table.
+#[derive(Clone, Copy, Debug)]
+pub struct SymbolIterator<'a> {
+    bytes: &'a [u8],
+    row: usize,
+}
+
+impl<'a> Iterator for SymbolIterator<'a> {
+    ghost use Rattle.pe_core.specs.Symbols.{table_of, row_at, row_count, GivesSymbol};
+
+    type Item = (usize, Option<&'a str>, Symbol);
+
+    ghost next_gives = { λ s r t. GivesSymbol (table_of s) (row_at s) r (row_at t) × (table_of t ≡ table_of s) };
+
+    ghost remaining = { λ s. at_most (row_count (table_of s) - row_at s) };
+
+    #[tactic(auto, unfolding(crate::specs::Symbols::symbol))]
+    fn next(&mut self) -> Option<(usize, Option<&'a str>, Symbol)> {
+        let bytes = self.bytes;
+        let row = self.row;
+        if row >= bytes.len() / SIZE_OF_SYMBOL {
+            return None;
+        }
+        let place = SIZE_OF_SYMBOL * row;
+        let symbol = Symbol::at(bytes, place);
+        let name = inline_name(&bytes[place..place + 8]);
+        self.row = row + 1 + usize::from(symbol.number_of_aux_symbols);
+        Some((row, name, symbol))
+    }
+}
+
+impl CoffHeader {
+    ghost use Rattle.pe_core.specs.Symbols.{symbols_of, table_view};
+
+    /// The COFF symbols. `None` where their pointer is 0, `Short` where they are not all there.
+    #[tactic(auto, unfolding(crate::specs::Symbols::symbols_of))]
+    pub fn symbols<'a>(&self, bytes: &'a [u8]) -> Result<Option<SymbolTable<'a>>>
+        ensures { Gives table_view result (symbols_of bytes.entry.now self.now) }
+    {
+        let place = self.pointer_to_symbol_table as usize;
+        if place == 0 {
+            return Ok(None);
+        }
+        let size = SIZE_OF_SYMBOL * self.number_of_symbol_table as usize;
+        let bytes = slice_at(bytes, place, size)?;
+        Ok(Some(SymbolTable { bytes }))
+    }
+}

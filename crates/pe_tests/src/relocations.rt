@@ -1,0 +1,67 @@
+//! Base relocations.
+
+use pe_core::{DataDirectory, Error, ParseOptions, Reason, RelocationData, SectionTable};
+use std::test::Fail;
+
+/// One section, whose addresses begin at 0x1000 and whose bytes begin at 0.
+const SECTION: SectionTable = SectionTable {
+    name: *b".reloc\0\0",
+    virtual_size: 0x100,
+    virtual_address: 0x1000,
+    size_of_raw_data: 0x200,
+    pointer_to_raw_data: 0,
+    pointer_to_relocations: 0,
+    pointer_to_linenumbers: 0,
+    number_of_relocations: 0,
+    number_of_linenumbers: 0,
+    characteristics: 0,
+};
+
+#[test]
+fn gives_the_bytes_of_the_directory(rt: HostRuntime) -> Result<(), Fail> {
+    let bytes = b"\0\x10\0\0\x0C\0\0\0\x08\x30\0\0";
+    let dd = DataDirectory {
+        virtual_address: 0x1000,
+        size: 12,
+    };
+    let data = RelocationData::parse(bytes, dd, &[SECTION], 0x200)?;
+    assert_eq!(rt; data.bytes, bytes.as_slice());
+    let behind = DataDirectory {
+        virtual_address: 0x1004,
+        size: 8,
+    };
+    let data = RelocationData::parse(bytes, behind, &[SECTION], 0x200)?;
+    assert_eq!(rt; data.bytes, &bytes[4..]);
+    let flat = ParseOptions::te();
+    let dd = DataDirectory {
+        virtual_address: 11,
+        size: 1,
+    };
+    let data = RelocationData::parse_with_opts(bytes, dd, &[], 0, &flat)?;
+    assert_eq!(rt; data.bytes, &bytes[11..]);
+    Ok(())
+}
+
+#[test]
+fn refuses_relocations(rt: HostRuntime) -> Result<(), Fail> {
+    let bytes = [0; 12];
+    let unmapped = DataDirectory {
+        virtual_address: 0x3000,
+        size: 8,
+    };
+    match RelocationData::parse(&bytes, unmapped, &[SECTION], 0x200) {
+        Err(Error::Malformed(reason)) => assert_eq!(rt; reason, Reason::Unmapped(0x3000)),
+        _ => return Err(Fail::new("an address without a place is read")),
+    }
+    let cut = DataDirectory {
+        virtual_address: 0x1004,
+        size: 9,
+    };
+    assert!(rt;
+        matches!(
+            RelocationData::parse(&bytes, cut, &[SECTION], 0x200),
+            Err(Error::Short { at: 4, needed: 9 })
+        )
+    );
+    Ok(())
+}
