@@ -4,7 +4,7 @@ use Rattle.pe_core.specs.Refusals.{Refusal, Unmapped, FunctionLink, FunctionCycl
 use Rattle.pe_core.specs.SectionMap.{place_of}
 use Rattle.pe_core.specs.declared.options.ParseOptions.{ParseOptions}
 use Rattle.pe_core.specs.declared.section_table.SectionTable.{SectionTable}
-use Rattle.pe_unwind.specs.Chains.{after}
+use Rattle.pe_core.specs.Chains.{after}
 use Rattle.pe_unwind.specs.ExceptionTable.{ExceptionView, table_of}
 use Rattle.pe_unwind.specs.FunctionTable.{function_at}
 

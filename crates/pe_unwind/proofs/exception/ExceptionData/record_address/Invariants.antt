@@ -1,5 +1,5 @@
 use Rattle.std.proofs.Common.{◌≡◌, Some}
-use Rattle.pe_unwind.specs.Chains.{after}
+use Rattle.pe_core.specs.Chains.{after}
 use Rattle.pe_unwind.specs.ExceptionTable.{exception_view}
 use Rattle.pe_unwind.specs.Links.{next, links_of}
 use Rattle.pe_unwind.proofs.exception.ExceptionData.record_address.Given as goal
