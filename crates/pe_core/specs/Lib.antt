@@ -12,3 +12,4 @@ pub mod HeaderSteps
 pub mod Spelling
 pub mod Sections
 pub mod SectionMap
+pub mod Chains

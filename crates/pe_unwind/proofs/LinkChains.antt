@@ -4,8 +4,8 @@ use Rattle.std.proofs.lemmas.Bool.{false≢true}
 use Rattle.std.proofs.lemmas.Bool.Decides.{nat_tests}
 use Rattle.std.proofs.lemmas.Option.{option_and_then_some, cond_some}
 use Rattle.pe_core.specs.Refusals.{Refusal, Short, UnwindVersion, Unmapped, FunctionLink, FunctionCycle, outcome, ◌>>=◌}
-use Rattle.pe_unwind.specs.Chains.{after, NeverStops}
-use Rattle.pe_unwind.proofs.Pigeonhole.{FollowsKey, HasKeysBelow, KeyDecides, never_stops, repeats, after_more}
+use Rattle.pe_core.specs.Chains.{after, NeverStops, FollowsKey, HasKeysBelow, KeyDecides}
+use Rattle.pe_core.proofs.Pigeonhole.{never_stops, repeats, after_more}
 use Rattle.pe_unwind.specs.FunctionTable.{function_at}
 use Rattle.pe_core.specs.Bytes.{holds}
 use Rattle.pe_unwind.specs.UnwindRecord.{UnwindInfoView, unwind_tests, unwind_record, ending_holds, behind_codes, flags_at, version_at, count_at}

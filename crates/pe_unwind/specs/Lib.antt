@@ -6,7 +6,6 @@ pub mod UnwindCodes
 pub mod CodeStream
 pub mod UnwindRecord
 pub mod ExceptionTable
-pub mod Chains
 pub mod Links
 pub mod LinkSteps
 pub mod Unwinding

@@ -4,8 +4,8 @@ use Rattle.pe_core.specs.Refusals.{Refusal, Unmapped, FunctionLink, FunctionCycl
 use Rattle.pe_core.specs.SectionMap.{place_of}
 use Rattle.pe_core.specs.declared.options.ParseOptions.{ParseOptions}
 use Rattle.pe_core.specs.declared.section_table.SectionTable.{SectionTable}
+use Rattle.pe_core.specs.Chains.{after}
 use Rattle.pe_unwind.specs.declared.links.Links.{Links}
-use Rattle.pe_unwind.specs.Chains.{after}
 use Rattle.pe_unwind.specs.ExceptionTable.{ExceptionView, table_of}
 use Rattle.pe_unwind.specs.FunctionTable.{function_at}
 
