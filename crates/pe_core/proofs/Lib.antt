@@ -15,3 +15,4 @@ pub mod Modes
 pub mod PutNumbers
 pub mod TableEntries
 pub mod ExportLists
+pub mod Pigeonhole

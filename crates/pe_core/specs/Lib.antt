@@ -21,3 +21,4 @@ pub mod Relocations
 pub mod Symbols
 pub mod Strings
 pub mod TerseHeader
+pub mod Chains

@@ -2,9 +2,10 @@
 
 pub mod symbols;
 
-ghost use Rattle.std.specs.Prelude.{◌≡◌, ℕ, ◌+◌, ◌<◌, ◌≤◌, ◌^◌, List, Ok, length};
+ghost use Rattle.std.specs.Prelude.{◌≡◌, ℕ, ◌+◌, ◌<◌, ◌≤◌, ◌^◌, List, Ok, Option, Some, IsSome, length};
 ghost use Rattle.pe_core.specs.declared.options.ParseMode.{ParseMode};
 ghost use Rattle.pe_core.specs.Bytes.{AreBytes, range, le, bytes_of, put};
+ghost use Rattle.pe_core.specs.Chains.{after, NeverStops, FollowsKey, HasKeysBelow, KeyDecides};
 ghost use Rattle.pe_core.specs.Header.{OptionalHeaderView, HeaderView, optional_header_at, header_at};
 ghost use Rattle.pe_core.specs.Records.{dos_header, coff_header, standard32, standard64, windows32, windows64, data_directory, section_table, te_header};
 ghost use Rattle.pe_core.specs.Spelling.{spell_dos, spell_coff, spell_standard32, spell_standard64, spell_windows32, spell_windows64, spell_directory, spell_section, spell_te, spell_optional};
@@ -39,4 +40,13 @@ pub fn optional_headers_spell_their_bytes()
 #[tactic(auto, using(crate::proofs::Modes::strict_header))]
 pub fn strict_headers_are_permissive()
     ensures { (b : List ℕ) (h : HeaderView) → header_at b ParseMode.Strict ≡ Ok h → header_at b ParseMode.Permissive ≡ Ok h }
+{}
+
+/// Steps never stop once there are more of them than keys, where each state that has a next one has a key below a number
+/// and equal keys are followed alike. Where equal keys have the same step, steps never stop once a key comes again.
+pub fn steps_that_never_stop<X>()
+    ensures more { (step : X → Option X) (key : X → ℕ) (n : ℕ) (x : X) →
+        FollowsKey step key → HasKeysBelow step key n → IsSome (after step (n + 1) x) → NeverStops step x }
+    ensures again { (step : X → Option X) (key : X → ℕ) (x y z : X) (i d : ℕ) →
+        KeyDecides step key → after step i x ≡ Some y → after step (d + 1) y ≡ Some z → key y ≡ key z → NeverStops step x }
 {}

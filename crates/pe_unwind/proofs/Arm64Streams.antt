@@ -11,14 +11,14 @@ use Rattle.pe_core.specs.declared.error.Reason.TheVariants as reasons
 use Rattle.pe_unwind.specs.declared.arm64.codes.Arm64UnwindCode.{Arm64UnwindCode}
 use Rattle.pe_unwind.specs.declared.arm64.codes.Arm64UnwindCodeData.{Arm64UnwindCodeData}
 use Rattle.pe_unwind.specs.declared.arm64.codes.Arm64UnwindCodeIterator.{Arm64UnwindCodeIterator}
-use Rattle.pe_unwind.specs.Arm64Encoding.{encoding, Legal, BeginsWith, BeginsWithNone}
-use Rattle.pe_unwind.specs.Arm64Tiling.{CodePlace, stream_place, IsItem, Tiles, Gives, codes_of, Joins}
+use Rattle.pe_unwind.specs.Arm64Encoding.{encoding, Legal, BeginsWithArm64Code, BeginsWithNoArm64Code}
+use Rattle.pe_unwind.specs.Arm64Tiling.{CodePlace, stream_place, IsItem, Tiles, GivesArm64Code, codes_of, Joins}
 use Rattle.pe_unwind.specs.FunctionTable.{answer_of}
 use Rattle.pe_unwind.proofs.Arm64OneCode.{begins_once, cut_begins_none}
 use Rattle.pe_unwind.proofs.Arm64Whole.{code_or_cut}
 
 abbrev pub Next : Arm64UnwindCodeIterator → Option (Result Arm64UnwindCodeData Error) → Arm64UnwindCodeIterator → Type 0
-Next s r t = Gives (stream_place s) r (stream_place t)
+Next s r t = GivesArm64Code (stream_place s) r (stream_place t)
 
 abbrev pub TilesFrom : CodePlace → List (Result Arm64UnwindCodeData Error) → Type 0
 TilesFrom s xs = Tiles s.content s.at xs
@@ -77,12 +77,12 @@ some_bytes c legal = grind (arith, common_steps)
 drop_more : (bytes : List ℕ) (m n : ℕ) → drop n (drop m bytes) ≡ drop (m + n) bytes
 drop_more bytes m n = grind (arith, common_steps)
 
-begins_some : (bytes : List ℕ) (c : Arm64UnwindCode) → BeginsWith bytes c → 0 < length bytes
+begins_some : (bytes : List ℕ) (c : Arm64UnwindCode) → BeginsWithArm64Code bytes c → 0 < length bytes
 begins_some bytes c h =
     let some = some_bytes c h.legal in
     omega (arith, some.0, ap (λ (x : List ℕ). length x) h.spelled, length-append (encoding c) (drop (length (encoding c)) bytes))
 
-none_of_no_bytes : BeginsWithNone []
+none_of_no_bytes : BeginsWithNoArm64Code []
 none_of_no_bytes c h = absurd (omega (arith, begins_some [] c h))
 
 -- behind a code at a place stand the bytes from the place of the next on
@@ -116,7 +116,7 @@ joined bytes at (Err e ∷ xs) h = record {
 }
 
 -- what begins with no code has fewer than five bytes
-short_rest : (bytes : List ℕ) → 0 < length bytes → All (λ x. x < 256) bytes → BeginsWithNone bytes → length bytes < 5
+short_rest : (bytes : List ℕ) → 0 < length bytes → All (λ x. x < 256) bytes → BeginsWithNoArm64Code bytes → length bytes < 5
 short_rest bytes some all none =
     elim (code_or_cut bytes some all) [
       | inl code ↦ absurd (none code.0 code.1)

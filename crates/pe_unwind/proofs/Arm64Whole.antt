@@ -5,7 +5,7 @@ use Rattle.std.proofs.lemmas.Bool.Decides.{nat_tests}
 use Rattle.pe_unwind.specs.declared.arm64.codes.Arm64UnwindCode.{Arm64UnwindCode}
 use Rattle.pe_unwind.specs.declared.arm64.codes.Arm64UnwindCode.TheVariants.{Reserved}
 use Rattle.std.proofs.Math.Seq.{drop-append_seam}
-use Rattle.pe_unwind.specs.Arm64Encoding.{encoding, Legal, len_at, Encodes, BeginsWith, IsCut}
+use Rattle.pe_unwind.specs.Arm64Encoding.{encoding, Legal, len_at, Encodes, BeginsWithArm64Code, IsCutArm64Code}
 use Rattle.pe_unwind.proofs.Arm64OneCode.{one, two, three, four}
 
 one_legal : (b : ℕ) → b < 256 → len_at b 0 ≡ 1 → Legal (one b)
@@ -44,13 +44,13 @@ len_of_one : (b c : ℕ) → len_at b c ≡ 1 → len_at b 0 ≡ 1
 len_of_one b c h = grind (arith, nat_tests)
 
 -- the bytes of a code, and what follows, begin with it
-begins : (bytes rest : List ℕ) (code : Arm64UnwindCode) → Legal code → encoding code ≡ bytes → BeginsWith (bytes ++ rest) code
+begins : (bytes rest : List ℕ) (code : Arm64UnwindCode) → Legal code → encoding code ≡ bytes → BeginsWithArm64Code (bytes ++ rest) code
 begins bytes rest code legal spelled = record {
   legal = legal;
   spelled = subst (λ (x : List ℕ). bytes ++ rest ≡ x ++ drop (length x) (bytes ++ rest)) (sym spelled) (ap (λ (x : List ℕ). bytes ++ x) (sym (drop-append_seam bytes rest)));
 }
 
-cut : (bytes missing : List ℕ) (code : Arm64UnwindCode) → Legal code → 0 < length missing → encoding code ≡ bytes ++ missing → IsCut bytes
+cut : (bytes missing : List ℕ) (code : Arm64UnwindCode) → Legal code → 0 < length missing → encoding code ≡ bytes ++ missing → IsCutArm64Code bytes
 cut bytes missing code legal some spelled = record { code = code; missing = missing; legal = legal; some = some; spelled = sym spelled }
 
 -- each is below 256, one by one
@@ -63,7 +63,7 @@ bytes_of_all [] all = tt
 bytes_of_all (x ∷ xs) all = (all 0 0 (omega arith), bytes_of_all xs (λ k d h. all (suc k) d (omega (arith, h))))
 
 abbrev pub Answer : List ℕ → Type 0
-Answer b = ((c : Arm64UnwindCode) × BeginsWith b c) ⊎ IsCut b
+Answer b = ((c : Arm64UnwindCode) × BeginsWithArm64Code b c) ⊎ IsCutArm64Code b
 
 -- bytes whose first code has one byte, two, three, four or five
 with_one : (b : ℕ) (rest : List ℕ) → b < 256 → len_at b 0 ≡ 1 → Answer (b ∷ rest)
@@ -112,7 +112,7 @@ with_five (c ∷ d ∷ e ∷ f ∷ rest) all =
     inl (five c d e f, begins (0xFB ∷ c ∷ d ∷ e ∷ f ∷ []) rest (five c d e f) code.legal code.spelled)
 
 -- every byte string but the empty one begins with a code, or is cut
-pub code_or_cut : (b : List ℕ) → 0 < length b → All (λ x. x < 256) b → ((c : Arm64UnwindCode) × BeginsWith b c) ⊎ IsCut b
+pub code_or_cut : (b : List ℕ) → 0 < length b → All (λ x. x < 256) b → ((c : Arm64UnwindCode) × BeginsWithArm64Code b c) ⊎ IsCutArm64Code b
 code_or_cut [] some all = absurd (omega (arith, some))
 code_or_cut (b ∷ rest) some h256 =
     let all : AreBytes (b ∷ rest) = bytes_of_all (b ∷ rest) h256 in

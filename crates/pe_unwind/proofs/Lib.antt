@@ -6,7 +6,6 @@ pub mod Arm64Records
 pub mod Arm64Concatenations
 pub mod Searches
 pub mod SpellingLengths
-pub mod Pigeonhole
 pub mod LinkChains
 pub mod Disjoint
 pub mod Streams

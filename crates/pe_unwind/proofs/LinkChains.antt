@@ -4,13 +4,18 @@ use Rattle.std.proofs.lemmas.Bool.{false≢true}
 use Rattle.std.proofs.lemmas.Bool.Decides.{nat_tests}
 use Rattle.std.proofs.lemmas.Option.{option_and_then_some, cond_some}
 use Rattle.pe_core.specs.Refusals.{Refusal, Short, UnwindVersion, Unmapped, FunctionLink, FunctionCycle, outcome, ◌>>=◌}
-use Rattle.pe_unwind.specs.Chains.{after, NeverStops}
-use Rattle.pe_unwind.proofs.Pigeonhole.{FollowsKey, HasKeysBelow, never_stops, after_more}
+use Rattle.pe_core.specs.Chains.{after, NeverStops, FollowsKey, HasKeysBelow, KeyDecides}
+use Rattle.pe_core.proofs.Pigeonhole.{never_stops, repeats, after_more}
 use Rattle.pe_unwind.specs.FunctionTable.{function_at}
 use Rattle.pe_core.specs.Bytes.{holds}
 use Rattle.pe_unwind.specs.UnwindRecord.{UnwindInfoView, unwind_tests, unwind_record, ending_holds, behind_codes, flags_at, version_at, count_at}
-use Rattle.pe_unwind.specs.Unwinding.{Unwinds, record_at_place, record_at_address}
-use Rattle.pe_unwind.specs.Links.{Table, IsOdd, count, entry_at, link, next, address_of, IsEndless, Follows, Leads}
+use Rattle.pe_core.specs.declared.options.ParseOptions.{ParseOptions}
+use Rattle.pe_core.specs.declared.section_table.SectionTable.{SectionTable}
+use Rattle.pe_unwind.specs.declared.function_table.RuntimeFunction.{RuntimeFunction}
+use Rattle.pe_unwind.specs.ExceptionTable.{ExceptionView}
+use Rattle.pe_unwind.specs.Unwinding.{Unwinds, UnwindsFound, UnwindsAt, CyclesAt, record_at_place, record_at_address}
+use Rattle.pe_unwind.specs.Links.{Table, IsOdd, count, entry_at, link, next, address_of, IsEndless, Follows, links_of}
+use Rattle.pe_unwind.specs.LinkSteps.{Leads}
 
 pub next_ok : (t : Table) (u p : ℕ) → u % 2 ≡ 1 → t.place (u - 1) ≡ Some p → t.start ≤ p → (p - t.start) % 12 ≡ 0 → (p - t.start) / 12 < count t → next t u ≡ Some ((function_at t.entries (p - t.start)).unwind_info_address)
 unfolding next link entry_at
@@ -105,12 +110,52 @@ cycle_is_endless t u (Err FunctionLink) f = (λ e. cc, λ endless. absurd (stops
 cycle_is_endless t u (Err FunctionCycle) f = (λ e. f, λ endless. refl)
 cycle_is_endless t u (Err other) f = absurd f
 
--- one more link
-pub one_more : (t : Table) (u k v w : ℕ) → after (next t) k u ≡ Some v → next t v ≡ Some w → after (next t) (k + 1) u ≡ Some w
+-- the chain has come to this address after so many links, and to the saved one before or now
+pub record FollowedTo (t : Table) (u links current saved : ℕ) : Type 0 where
+  pub reached : after (next t) links u ≡ Some current
+  pub before : ℕ
+  pub since : ℕ
+  pub to_saved : after (next t) before u ≡ Some saved
+  pub from_saved : after (next t) since saved ≡ Some current
+
+pub follow_starts : (t : Table) (u : ℕ) → FollowedTo t u 0 u u
+follow_starts t u = record { reached = refl; before = 0; since = 0; to_saved = refl; from_saved = refl }
+
+one_more : (t : Table) (u k v w : ℕ) → after (next t) k u ≡ Some v → next t v ≡ Some w → after (next t) (k + 1) u ≡ Some w
 one_more t u k v w is to = rw add-one (after_more (next t) k u v is ∙ to)
 
-pub cycles_at : (t : Table) (u v k : ℕ) → k ≡ count t + 1 → after (next t) k u ≡ Some v → IsEndless t u
-cycles_at t u v k same h = cycles t u v (subst (λ (m : ℕ). after (next t) m u ≡ Some v) same h)
+-- one more link, by which the saved address stays
+pub keeps_saved : (t : Table) (u k v w saved same : ℕ) → FollowedTo t u k v saved → next t v ≡ Some w → same ≡ saved → FollowedTo t u (k + 1) w same
+keeps_saved t u k v w saved same h to is = record {
+  reached = one_more t u k v w h.reached to;
+  before = h.before;
+  since = h.since + 1;
+  to_saved = rw is h.to_saved;
+  from_saved = rw is (one_more t saved h.since v w h.from_saved to);
+}
+
+-- and one by which it moves
+pub moves_saved : (t : Table) (u k v w saved moved : ℕ) → FollowedTo t u k v saved → next t v ≡ Some w → moved ≡ w → FollowedTo t u (k + 1) w moved
+moves_saved t u k v w saved moved h to is = record {
+  reached = one_more t u k v w h.reached to;
+  before = k + 1;
+  since = 0;
+  to_saved = rw is (one_more t u k v w h.reached to);
+  from_saved = ap (λ (x : ℕ). Some x) is;
+}
+
+address_decides : (t : Table) → KeyDecides (next t) (λ u. u)
+address_decides t x y same = ap (next t) same
+
+-- the saved address comes again
+pub comes_again : (t : Table) (u k v w saved : ℕ) → FollowedTo t u k v saved → next t v ≡ Some w → w ≡ saved → IsEndless t u
+comes_again t u k v w saved h to same =
+    endless-from_never_stops t u
+    (repeats (next t) (λ x. x) (address_decides t) u saved w h.before h.since h.to_saved (after_more (next t) h.since saved v h.from_saved ∙ to) (sym same))
+
+-- more links than entries were followed
+pub too_long : (t : Table) (u k v saved : ℕ) → FollowedTo t u k v saved → k ≡ count t + 1 → IsEndless t u
+too_long t u k v saved h same = cycles t u v (subst (λ (m : ℕ). after (next t) m u ≡ Some v) same h.reached)
 
 -- a record is never refused as a cycle
 five_tests : {Y : Type 0} (a b c d e : Bool) (y : Y) → outcome ((a, Short) ∷ (b, UnwindVersion) ∷ (c, Short) ∷ (d, Short) ∷ (e, Short) ∷ []) y ≡ Err FunctionCycle → ⊥
@@ -139,6 +184,19 @@ cycle_at_end t b u (Err k) f = (
 -- the call is refused as a cycle exactly where the chain is endless
 pub unwinds_cycle : (t : Table) (b : List ℕ) (u : ℕ) (answer : Result UnwindInfoView Refusal) → Unwinds t b u answer → (answer ≡ Err FunctionCycle) ↔ IsEndless t u
 unwinds_cycle t b u answer w = rw w.2 (cycle_at_end t b u w.0 w.1)
+
+-- the same of the function that lookup found
+cycle_found : (t : Table) (b : List ℕ) (found : Option RuntimeFunction) (answer : Result (Option UnwindInfoView) Refusal) → UnwindsFound t b found answer → (answer ≡ Err FunctionCycle) ↔ IsSomeAnd found (λ f. IsEndless t f.unwind_info_address)
+cycle_found t b None answer w = (λ e. absurd (let same : Path (Result (Option UnwindInfoView) Refusal) (Ok None) (Err FunctionCycle) = sym w ∙ e in cc), λ h. absurd h)
+cycle_found t b (Some f) (Ok None) w = absurd w
+cycle_found t b (Some f) (Ok (Some i)) w = (λ e. absurd (let same : Path (Result (Option UnwindInfoView) Refusal) (Ok (Some i)) (Err FunctionCycle) = e in cc), λ endless. absurd (let same = (unwinds_cycle t b f.unwind_info_address (Ok i) w).1 endless in cc))
+cycle_found t b (Some f) (Err k) w = (
+  λ e. (unwinds_cycle t b f.unwind_info_address (Err k) w).0 (other_value k FunctionCycle e),
+  λ endless. other_value k FunctionCycle ((unwinds_cycle t b f.unwind_info_address (Err k) w).1 endless),
+)
+
+pub cycles_at_code : (v : ExceptionView) (sections : List SectionTable) (opts : ParseOptions) (a : ℕ) (answer : Result (Option UnwindInfoView) Refusal) → UnwindsAt v sections opts a answer → CyclesAt v sections opts a answer
+cycles_at_code v sections opts a answer w = (w.0, w.1, cycle_found (links_of v sections opts) v.content w.0 answer w.2)
 
 -- places where no entry stands
 pub no_entry-before : (t : Table) (p : ℕ) → p < t.start → entry_at t p ≡ None

@@ -6,15 +6,15 @@ use Rattle.pe_core.specs.declared.error.Error.{Error}
 use Rattle.pe_unwind.specs.declared.unwind_code.UnwindCode.{UnwindCode}
 use Rattle.pe_unwind.specs.declared.unwind_code.UnwindCodeIterator.{UnwindCodeIterator}
 use Rattle.pe_unwind.specs.declared.unwind_code.UnwindOperation.{UnwindOperation}
-use Rattle.pe_unwind.specs.CodeStream.{CodeStream, AreItems, Gives, stream_of, with_left}
+use Rattle.pe_unwind.specs.CodeStream.{CodeStream, AreItems, GivesCode, stream_of, with_left}
 use Rattle.pe_unwind.specs.FunctionTable.{answer_of}
-use Rattle.pe_unwind.specs.UnwindCodes.{SpellsOperation, Spells, BeginsWith, IsFault}
+use Rattle.pe_unwind.specs.UnwindCodes.{SpellsOperation, Spells, BeginsWithCode, IsFault}
 use Rattle.pe_unwind.proofs.SpellingLengths.{begins_slots}
 
 abbrev pub Next : UnwindCodeIterator → Option (Result UnwindCode Error) → UnwindCodeIterator → Type 0
-Next s r t = Gives (stream_of s) r (stream_of t)
+Next s r t = GivesCode (stream_of s) r (stream_of t)
 
-begins_some : (v f : ℕ) (b : List ℕ) (code : UnwindCode) (n : ℕ) → BeginsWith v f b code n → 0 < length b
+begins_some : (v f : ℕ) (b : List ℕ) (code : UnwindCode) (n : ℕ) → BeginsWithCode v f b code n → 0 < length b
 begins_some v f [] code zero h = absurd h.1
 begins_some v f [] code (suc n) h = absurd h.1
 begins_some v f (x ∷ b) code n h = omega arith
@@ -52,7 +52,7 @@ one_spelled v f (a ∷ b ∷ more) c d h k =
     let same : c.operation ≡ d.operation = one_operation v f a (b % 16) (b / 16) more c.operation d.operation h.1 k.1 in
     ap (λ (p : ℕ). record { code_offset = p; operation = c.operation }) place ∙ ap (λ (o : UnwindOperation). record { code_offset = d.code_offset; operation = o }) same
 
-same_length : (v f : ℕ) (b : List ℕ) (c d : UnwindCode) (m n : ℕ) → BeginsWith v f b c m → BeginsWith v f b d n → m ≡ n
+same_length : (v f : ℕ) (b : List ℕ) (c d : UnwindCode) (m n : ℕ) → BeginsWithCode v f b c m → BeginsWithCode v f b d n → m ≡ n
 same_length v f b c d m n h k =
     let x = begins_slots v f b c m h in
     let y = begins_slots v f b d n k in
@@ -60,7 +60,7 @@ same_length v f b c d m n h k =
     omega (arith, x.2, y.2, same)
 
 -- bytes begin with one code at most
-pub one_code : (v f : ℕ) (b : List ℕ) (c d : UnwindCode) (m n : ℕ) → BeginsWith v f b c m → BeginsWith v f b d n → (c ≡ d) × (m ≡ n)
+pub one_code : (v f : ℕ) (b : List ℕ) (c d : UnwindCode) (m n : ℕ) → BeginsWithCode v f b c m → BeginsWithCode v f b d n → (c ≡ d) × (m ≡ n)
 one_code v f b c d m n h k =
     let same : m ≡ n = same_length v f b c d m n h k in
     (one_spelled v f (take n b) c d (subst (λ (i : ℕ). Spells v f (take i b) c) same h.1) k.1, same)

@@ -112,16 +112,16 @@ pub record Encodes (bytes : List ℕ) (code : Arm64UnwindCode) : Type 0 where
   pub spelled : encoding code ≡ bytes
 
 -- the bytes begin with those of a legal code
-pub record BeginsWith (bytes : List ℕ) (code : Arm64UnwindCode) : Type 0 where
+pub record BeginsWithArm64Code (bytes : List ℕ) (code : Arm64UnwindCode) : Type 0 where
   pub legal : Legal code
   pub spelled : bytes ≡ encoding code ++ drop (length (encoding code)) bytes
 
 -- the bytes begin with no code's
-abbrev pub BeginsWithNone : List ℕ → Type 0
-BeginsWithNone bytes = (code : Arm64UnwindCode) → BeginsWith bytes code → ⊥
+abbrev pub BeginsWithNoArm64Code : List ℕ → Type 0
+BeginsWithNoArm64Code bytes = (code : Arm64UnwindCode) → BeginsWithArm64Code bytes code → ⊥
 
 -- the bytes are a proper beginning of a legal code's: some more make them whole
-pub record IsCut (bytes : List ℕ) : Type 0 where
+pub record IsCutArm64Code (bytes : List ℕ) : Type 0 where
   pub code : Arm64UnwindCode
   pub missing : List ℕ
   pub legal : Legal code

@@ -25,8 +25,8 @@ pub record Arm64InfoView : Type 0 where
 abbrev pub extension_view : Option Arm64UnwindExtension → Option ℕ
 extension_view e = option_map (λ w. w.0) e
 
-abbrev pub handler_view : Arm64ExceptionHandler → Arm64HandlerView
-handler_view h = record { rva = h.rva; bytes = h.bytes.now }
+abbrev pub arm64_handler_view : Arm64ExceptionHandler → Arm64HandlerView
+arm64_handler_view h = record { rva = h.rva; bytes = h.bytes.now }
 
 abbrev pub info_view : Arm64UnwindInfo → Arm64InfoView
 info_view i = record {
@@ -34,7 +34,7 @@ info_view i = record {
   extension = extension_view i.extension;
   scopes = i.scope_bytes.now;
   codes = i.code_bytes.now;
-  handler = option_map handler_view i.exception_handler;
+  handler = option_map arm64_handler_view i.exception_handler;
 }
 
 -- a header with no counts is followed by an extension word, which has them

@@ -6,7 +6,7 @@ use Rattle.pe_core.specs.Refusals.{Refusal, Arm64Stream, Arm64Cut, kind_of, outc
 use Rattle.pe_core.specs.declared.error.Error.{Error}
 use Rattle.pe_unwind.specs.declared.arm64.codes.Arm64UnwindCodeData.{Arm64UnwindCodeData}
 use Rattle.pe_unwind.specs.declared.arm64.codes.Arm64UnwindCodeIterator.{Arm64UnwindCodeIterator}
-use Rattle.pe_unwind.specs.Arm64Encoding.{encoding, BeginsWith, BeginsWithNone}
+use Rattle.pe_unwind.specs.Arm64Encoding.{encoding, BeginsWithArm64Code, BeginsWithNoArm64Code}
 
 -- the whole bytes, and where the next code begins
 pub record CodePlace : Type 0 where
@@ -29,8 +29,8 @@ stream_at bytes start =
 
 -- an item of the bytes at a place: the code that begins there, with the place and its length, or a cut where none begins
 abbrev pub IsItem : List ℕ → ℕ → Result Arm64UnwindCodeData Error → Type 0
-IsItem bytes at (Ok item) = BeginsWith (drop at bytes) item.code × (item.offset ≡ at) × (item.len ≡ length (encoding item.code))
-IsItem bytes at (Err e) = BeginsWithNone (drop at bytes) × (kind_of e ≡ Arm64Cut)
+IsItem bytes at (Ok item) = BeginsWithArm64Code (drop at bytes) item.code × (item.offset ≡ at) × (item.len ≡ length (encoding item.code))
+IsItem bytes at (Err e) = BeginsWithNoArm64Code (drop at bytes) × (kind_of e ≡ Arm64Cut)
 
 -- where the item behind it begins; behind a cut nothing comes
 abbrev pub behind : List ℕ → ℕ → Result Arm64UnwindCodeData Error → ℕ
@@ -45,9 +45,9 @@ Tiles bytes at (Ok item ∷ items) = (at < length bytes) × IsItem bytes at (Ok 
 Tiles bytes at (Err e ∷ items) = (at < length bytes) × IsItem bytes at (Err e) × (items ≡ [])
 
 -- what one call of next answers, and where it leaves the iterator
-abbrev pub Gives : CodePlace → Option (Result Arm64UnwindCodeData Error) → CodePlace → Type 0
-Gives s None t = (length s.content ≤ s.at) × (t ≡ s)
-Gives s (Some item) t =
+abbrev pub GivesArm64Code : CodePlace → Option (Result Arm64UnwindCodeData Error) → CodePlace → Type 0
+GivesArm64Code s None t = (length s.content ≤ s.at) × (t ≡ s)
+GivesArm64Code s (Some item) t =
     (s.at < length s.content) × IsItem s.content s.at item × (t ≡ record { content = s.content; at = behind s.content s.at item })
 
 -- the bytes of all codes among the items, one behind the other
@@ -61,5 +61,5 @@ codes_of (Err e ∷ items) = codes_of items
 pub record Joins (bytes : List ℕ) (items : List (Result Arm64UnwindCodeData Error)) : Type 0 where
   pub rest : List ℕ
   pub joined : bytes ≡ codes_of items ++ rest
-  pub none : BeginsWithNone rest
+  pub none : BeginsWithNoArm64Code rest
   pub cut : IsTrue (list_any is_err items) ↔ (0 < length rest)

@@ -4,7 +4,7 @@ use Rattle.pe_core.specs.Refusals.{kind_of}
 use Rattle.pe_core.specs.declared.error.Error.{Error}
 use Rattle.pe_unwind.specs.declared.unwind_code.UnwindCode.{UnwindCode}
 use Rattle.pe_unwind.specs.declared.unwind_code.UnwindCodeIterator.{UnwindCodeIterator}
-use Rattle.pe_unwind.specs.UnwindCodes.{BeginsWith, BeginsWithNone, IsFault}
+use Rattle.pe_unwind.specs.UnwindCodes.{BeginsWithCode, BeginsWithNoCode, IsFault}
 
 -- code bytes, with the version and the frame register that they are read by
 pub record CodeStream : Type 0 where
@@ -25,15 +25,15 @@ abbrev pub with_left : CodeStream → List ℕ → CodeStream
 with_left s left = record { content = left; version = s.version; frame = s.frame }
 
 -- what one call of next answers, and what it leaves
-abbrev pub Gives : CodeStream → Option (Result UnwindCode Error) → CodeStream → Type 0
-Gives s None t = (s.content ≡ []) × (t ≡ s)
-Gives s (Some (Ok code)) t = (n : ℕ) × BeginsWith s.version s.frame s.content code n × (0 < n) × (t ≡ with_left s (drop n s.content))
-Gives s (Some (Err e)) t =
-    (0 < length s.content) × BeginsWithNone s.version s.frame s.content × IsFault s.version s.content (kind_of e) × (t ≡ with_left s [])
+abbrev pub GivesCode : CodeStream → Option (Result UnwindCode Error) → CodeStream → Type 0
+GivesCode s None t = (s.content ≡ []) × (t ≡ s)
+GivesCode s (Some (Ok code)) t = (n : ℕ) × BeginsWithCode s.version s.frame s.content code n × (0 < n) × (t ≡ with_left s (drop n s.content))
+GivesCode s (Some (Err e)) t =
+    (0 < length s.content) × BeginsWithNoCode s.version s.frame s.content × IsFault s.version s.content (kind_of e) × (t ≡ with_left s [])
 
 -- the items of a stream: codes whose spellings follow one another, and one fault where no spelling begins what is left
 abbrev pub AreItems : CodeStream → List (Result UnwindCode Error) → Type 0
 AreItems s [] = s.content ≡ []
-AreItems s (Ok code ∷ items) = (n : ℕ) × BeginsWith s.version s.frame s.content code n × AreItems (with_left s (drop n s.content)) items
+AreItems s (Ok code ∷ items) = (n : ℕ) × BeginsWithCode s.version s.frame s.content code n × AreItems (with_left s (drop n s.content)) items
 AreItems s (Err e ∷ items) =
-    (0 < length s.content) × BeginsWithNone s.version s.frame s.content × IsFault s.version s.content (kind_of e) × (items ≡ [])
+    (0 < length s.content) × BeginsWithNoCode s.version s.frame s.content × IsFault s.version s.content (kind_of e) × (items ≡ [])

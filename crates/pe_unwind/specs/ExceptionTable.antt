@@ -6,19 +6,15 @@ use Rattle.pe_core.specs.SectionMap.{place_of}
 use Rattle.pe_core.specs.declared.data_directories.DataDirectory.{DataDirectory}
 use Rattle.pe_core.specs.declared.options.ParseOptions.{ParseOptions}
 use Rattle.pe_core.specs.declared.section_table.SectionTable.{SectionTable}
-use Rattle.pe_unwind.specs.declared.exception.ExceptionData.{ExceptionData}
 use Rattle.pe_unwind.specs.declared.function_table.RuntimeFunction.{RuntimeFunction}
 use Rattle.pe_unwind.specs.FunctionTable.{function_at}
 
--- what callers see: the bytes, the table's place and size in them, and the file alignment
+-- what callers see of an exception directory: the bytes, the table's place and size in them, and the file alignment
 pub record ExceptionView : Type 0 where
   pub content : List ℕ
   pub start : ℕ
   pub size : ℕ
   pub alignment : ℕ
-
-abbrev pub exception_view : ExceptionData → ExceptionView
-exception_view d = record { content = d.bytes.now; start = d.offset; size = d.size; alignment = d.file_alignment }
 
 -- the bytes of the function table
 abbrev pub table_of : ExceptionView → List ℕ

@@ -6,8 +6,8 @@ pub mod UnwindCodes
 pub mod CodeStream
 pub mod UnwindRecord
 pub mod ExceptionTable
-pub mod Chains
 pub mod Links
+pub mod LinkSteps
 pub mod Unwinding
 pub mod Arm64Functions
 pub mod Arm64Words

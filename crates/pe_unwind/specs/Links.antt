@@ -4,7 +4,8 @@ use Rattle.pe_core.specs.Refusals.{Refusal, Unmapped, FunctionLink, FunctionCycl
 use Rattle.pe_core.specs.SectionMap.{place_of}
 use Rattle.pe_core.specs.declared.options.ParseOptions.{ParseOptions}
 use Rattle.pe_core.specs.declared.section_table.SectionTable.{SectionTable}
-use Rattle.pe_unwind.specs.Chains.{after}
+use Rattle.pe_core.specs.Chains.{after}
+use Rattle.pe_unwind.specs.declared.links.Links.{Links}
 use Rattle.pe_unwind.specs.ExceptionTable.{ExceptionView, table_of}
 use Rattle.pe_unwind.specs.FunctionTable.{function_at}
 
@@ -17,6 +18,10 @@ pub record Table : Type 0 where
 -- the table of an exception directory
 abbrev pub links_of : ExceptionView → List SectionTable → ParseOptions → Table
 links_of v sections opts = record { entries = table_of v; start = v.start; place = place_of opts.resolve_rva v.alignment sections }
+
+-- the same, seen in what follows the links
+abbrev pub table_view : Links → Table
+table_view l = record { entries = l.table.now; start = l.start; place = place_of l.opts.now.resolve_rva l.file_alignment l.sections.now }
 
 -- how many entries there are
 abbrev pub count : Table → ℕ
@@ -60,10 +65,3 @@ Follows t u (Err Unmapped) = (v : ℕ) × Reaches t u v × IsOdd v × (t.place (
 Follows t u (Err FunctionLink) = (v : ℕ) × Reaches t u v × IsOdd v × (p : ℕ) × (t.place (v - 1) ≡ Some p) × (entry_at t p ≡ None)
 Follows t u (Err FunctionCycle) = IsEndless t u
 Follows t u (Err other) = ⊥
-
--- what following one odd address answers
-abbrev pub Leads : Table → ℕ → Result ℕ Refusal → Type 0
-Leads t u (Ok v) = next t u ≡ Some v
-Leads t u (Err Unmapped) = t.place (u - 1) ≡ None
-Leads t u (Err FunctionLink) = (p : ℕ) × (t.place (u - 1) ≡ Some p) × (entry_at t p ≡ None)
-Leads t u (Err other) = ⊥

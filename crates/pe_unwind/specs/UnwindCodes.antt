@@ -47,12 +47,12 @@ Spells v f (place ∷ second ∷ more) code =
 Spells v f other code = ⊥
 
 -- the bytes begin with a code's spelling of so many bytes
-abbrev pub BeginsWith : ℕ → ℕ → List ℕ → UnwindCode → ℕ → Type 0
-BeginsWith v f bytes code n = (n ≤ length bytes) × Spells v f (take n bytes) code
+abbrev pub BeginsWithCode : ℕ → ℕ → List ℕ → UnwindCode → ℕ → Type 0
+BeginsWithCode v f bytes code n = (n ≤ length bytes) × Spells v f (take n bytes) code
 
 -- no spelling begins the bytes
-abbrev pub BeginsWithNone : ℕ → ℕ → List ℕ → Type 0
-BeginsWithNone v f bytes = (code : UnwindCode) (n : ℕ) → BeginsWith v f bytes code n → ⊥
+abbrev pub BeginsWithNoCode : ℕ → ℕ → List ℕ → Type 0
+BeginsWithNoCode v f bytes = (code : UnwindCode) (n : ℕ) → BeginsWithCode v f bytes code n → ⊥
 
 -- the last column of the table: how many slots a line with this opcode and info has
 abbrev pub slots_at : ℕ → ℕ → ℕ → Option ℕ
@@ -70,13 +70,13 @@ slots_at v op info =
     else (if op == 10 then (if nat_lt info 2 then Some 1 else None) else None))))))))))
 
 -- a line of the table begins like the bytes, and slots are missing
-abbrev pub IsCut : ℕ → List ℕ → Type 0
-IsCut v [] = ⊥
-IsCut v (place ∷ []) = Unit {0}
-IsCut v (place ∷ second ∷ more) = (k : ℕ) × (slots_at v (second % 16) (second / 16) ≡ Some k) × (2 + length more < 2 * k)
+abbrev pub IsCutCode : ℕ → List ℕ → Type 0
+IsCutCode v [] = ⊥
+IsCutCode v (place ∷ []) = Unit {0}
+IsCutCode v (place ∷ second ∷ more) = (k : ℕ) × (slots_at v (second % 16) (second / 16) ≡ Some k) × (2 + length more < 2 * k)
 
 -- what refuses bytes that begin with no spelling
 abbrev pub IsFault : ℕ → List ℕ → Refusal → Type 0
-IsFault v bytes Short = IsCut v bytes
-IsFault v bytes BadCode = IsCut v bytes → ⊥
+IsFault v bytes Short = IsCutCode v bytes
+IsFault v bytes BadCode = IsCutCode v bytes → ⊥
 IsFault v bytes other = ⊥

@@ -1,13 +1,13 @@
 -- From an address to the unwind record of the function that covers it.
-use Rattle.std.specs.Prelude.{◌≡◌, ℕ, List, Option, Some, None, Result, Ok, Err}
-use Rattle.pe_core.specs.Refusals.{Refusal, Unmapped, kind_of, outcome, ◌>>=◌}
+use Rattle.std.specs.Prelude.{◌≡◌, ◌↔◌, IsSomeAnd, ℕ, List, Option, Some, None, Result, Ok, Err}
+use Rattle.pe_core.specs.Refusals.{Refusal, Unmapped, FunctionCycle, kind_of, outcome, ◌>>=◌}
 use Rattle.pe_core.specs.declared.error.Error.{Error}
 use Rattle.pe_core.specs.declared.options.ParseOptions.{ParseOptions}
 use Rattle.pe_core.specs.declared.section_table.SectionTable.{SectionTable}
 use Rattle.pe_unwind.specs.declared.function_table.RuntimeFunction.{RuntimeFunction}
 use Rattle.pe_unwind.specs.ExceptionTable.{ExceptionView, table_of}
 use Rattle.pe_unwind.specs.FunctionTable.{functions, Finds}
-use Rattle.pe_unwind.specs.Links.{Table, Follows, links_of}
+use Rattle.pe_unwind.specs.Links.{Table, Follows, IsEndless, links_of}
 use Rattle.pe_unwind.specs.UnwindRecord.{UnwindInfoView, unwind_tests, unwind_record}
 
 -- an answer with its value seen by view, and the kind of its refusal
@@ -39,3 +39,9 @@ UnwindsFound t b (Some f) (Err e) = Unwinds t b f.unwind_info_address (Err e)
 abbrev pub UnwindsAt : ExceptionView → List SectionTable → ParseOptions → ℕ → Result (Option UnwindInfoView) Refusal → Type 0
 UnwindsAt v sections opts a answer =
     (found : Option RuntimeFunction) × Finds (functions (table_of v)) a found × UnwindsFound (links_of v sections opts) v.content found answer
+
+-- such an answer is refused as a cycle exactly where the chain of the function that lookup found is endless
+abbrev pub CyclesAt : ExceptionView → List SectionTable → ParseOptions → ℕ → Result (Option UnwindInfoView) Refusal → Type 0
+CyclesAt v sections opts a answer =
+    (found : Option RuntimeFunction) × Finds (functions (table_of v)) a found
+    × ((answer ≡ Err FunctionCycle) ↔ IsSomeAnd found (λ f. IsEndless (links_of v sections opts) f.unwind_info_address))

@@ -1,7 +1,5 @@
 //! Exception data: the function table of an image, lookup in it, and the records that it leads to.
 
-ghost use Rattle.std.specs.Prelude.{◌+◌, ◌<◌, ◌≤◌, length};
-
 use crate::arm64::function::{
     Arm64RuntimeFunction, Arm64RuntimeFunctionIterator, SIZE_OF_ARM64_FUNCTION, read_arm64_function,
 };
@@ -9,33 +7,57 @@ use crate::arm64::info::Arm64UnwindInfo;
 use crate::function_table::{
     RuntimeFunction, RuntimeFunctionIterator, SIZE_OF_FUNCTION, read_function, search,
 };
+use crate::links::Links;
 use crate::unwind_info::UnwindInfo;
 use pe_core::{
     CountedTable, DataDirectory, Error, ParseOptions, Reason, Result, SectionTable, find_offset,
 };
+use std::fmt;
+use std::marker::Model;
 
 /// The exception directory of an image: its function table, and the bytes in which its records stand.
-#[derive(Debug, Drop)]
+#[derive(Drop)]
 pub struct ExceptionData<'a> {
     bytes: &'a [u8],
     offset: usize,
     size: usize,
     file_alignment: u32,
-    ghost inside: { offset + size ≤ length bytes.now },
+}
+
+impl<'a> Model for ExceptionData<'a> {
+    ghost use Rattle.std.specs.Prelude.{◌+◌, ◌≤◌, length};
+    ghost use Rattle.pe_unwind.specs.ExceptionTable.{ExceptionView};
+
+    ghost Value = { ExceptionView };
+
+    ghost view = { λ d. record { content = d.bytes.now; start = d.offset; size = d.size; alignment = d.file_alignment } };
+
+    ghost invariant = { λ d. d.offset + d.size ≤ length d.bytes.now };
+}
+
+/// Tells where the table is, without the bytes of the file.
+impl<'a> fmt::Debug for ExceptionData<'a> {
+    fn fmt<W: fmt::Write>(&self, f: &mut fmt::Formatter<W>) -> fmt::Result {
+        f.debug_struct("ExceptionData")
+            .field("offset", &self.offset)
+            .field("size", &self.size)
+            .field("file_alignment", &self.file_alignment)
+            .finish()
+    }
 }
 
 impl<'a> ExceptionData<'a> {
-    ghost use Rattle.std.specs.Prelude.{◌≡◌, ◌%◌, ◌==◌, ◌↔◌, length, Err, IsOkAnd};
+    ghost use Rattle.std.specs.Prelude.{◌≡◌, ◌<◌, ◌==◌, ◌↔◌, length, Err, IsOkAnd};
     ghost use Rattle.std.specs.Option.{option_map};
     ghost use Rattle.pe_core.specs.Options.{default_options};
     ghost use Rattle.pe_core.specs.Refusals.{Gives, FunctionCycle};
-    ghost use Rattle.pe_unwind.specs.ExceptionTable.{exception_view, exception_at, table_of, function_of};
+    ghost use Rattle.pe_unwind.specs.ExceptionTable.{exception_at, table_of, function_of};
     ghost use Rattle.pe_unwind.specs.Arm64Functions.{arm64_functions, arm64_function_items, items_of_arm64_functions, arm64_function_of};
     ghost use Rattle.pe_unwind.specs.Arm64Record.{info_view};
     ghost use Rattle.pe_unwind.specs.Arm64Unwinding.{info_of_function};
     ghost use Rattle.pe_unwind.specs.FunctionTable.{functions, function_items, items_of_functions, answer_of, Finds};
-    ghost use Rattle.pe_unwind.specs.Links.{Follows, Leads, IsEndless, links_of};
-    ghost use Rattle.pe_unwind.specs.Unwinding.{Unwinds, UnwindsAt, answer_by, record_at_address};
+    ghost use Rattle.pe_unwind.specs.Links.{IsEndless, links_of, table_view};
+    ghost use Rattle.pe_unwind.specs.Unwinding.{Unwinds, UnwindsAt, CyclesAt, answer_by, record_at_address};
     ghost use Rattle.pe_unwind.specs.UnwindRecord.{unwind_view};
 
     /// The exception directory of an x64 image, with the default options.
@@ -45,7 +67,7 @@ impl<'a> ExceptionData<'a> {
         sections: &[SectionTable],
         file_alignment: u32,
     ) -> Result<ExceptionData<'a>>
-        ensures { Gives exception_view result (exception_at 12 bytes.entry.now directory sections.now file_alignment default_options) }
+        ensures { Gives (λ d. d) result (exception_at 12 bytes.entry.now directory sections.now file_alignment default_options) }
     {
         ExceptionData::parse_with_opts(
             bytes,
@@ -65,7 +87,7 @@ impl<'a> ExceptionData<'a> {
         file_alignment: u32,
         opts: &ParseOptions,
     ) -> Result<ExceptionData<'a>>
-        ensures { Gives exception_view result (exception_at 12 bytes.entry.now directory sections.now file_alignment opts.now) }
+        ensures { Gives (λ d. d) result (exception_at 12 bytes.entry.now directory sections.now file_alignment opts.now) }
     {
         let width = SIZE_OF_FUNCTION;
         ExceptionData::parse_table(bytes, directory, sections, file_alignment, opts, width)
@@ -79,7 +101,7 @@ impl<'a> ExceptionData<'a> {
         file_alignment: u32,
         opts: &ParseOptions,
     ) -> Result<ExceptionData<'a>>
-        ensures { Gives exception_view result (exception_at 8 bytes.entry.now directory sections.now file_alignment opts.now) }
+        ensures { Gives (λ d. d) result (exception_at 8 bytes.entry.now directory sections.now file_alignment opts.now) }
     {
         let width = SIZE_OF_ARM64_FUNCTION;
         ExceptionData::parse_table(bytes, directory, sections, file_alignment, opts, width)
@@ -96,7 +118,7 @@ impl<'a> ExceptionData<'a> {
         width: usize,
     ) -> Result<ExceptionData<'a>>
         requires { 0 < width }
-        ensures { Gives exception_view result (exception_at width bytes.entry.now directory sections.now file_alignment opts.now) }
+        ensures { Gives (λ d. d) result (exception_at width bytes.entry.now directory sections.now file_alignment opts.now) }
     {
         let DataDirectory {
             virtual_address,
@@ -127,8 +149,8 @@ impl<'a> ExceptionData<'a> {
 
     /// The bytes of the function table.
     fn table_bytes(&self) -> &'a [u8]
-        ensures bytes { result.now ≡ table_of (exception_view self.now) }
-        ensures size { length result.now ≡ (exception_view self.now).size }
+        ensures bytes { result.now ≡ table_of self.now }
+        ensures size { length result.now ≡ self.now.size }
     {
         let bytes = self.bytes;
         &bytes[self.offset..self.offset + self.size]
@@ -137,7 +159,7 @@ impl<'a> ExceptionData<'a> {
     /// How many whole entries for x64 the table has.
     #[tactic(auto, using(crate::proofs::Searches::length_functions))]
     pub fn len(&self) -> usize
-        ensures { result ≡ length (functions (table_of (exception_view self.now))) }
+        ensures { result ≡ length (functions (table_of self.now)) }
     {
         self.table_bytes().len() / SIZE_OF_FUNCTION
     }
@@ -145,28 +167,28 @@ impl<'a> ExceptionData<'a> {
     /// How many whole entries for ARM64 the table has.
     #[tactic(auto, using(crate::proofs::Arm64Entries::whole_count))]
     pub fn len_arm64(&self) -> usize
-        ensures { result ≡ length (arm64_functions (table_of (exception_view self.now))) }
+        ensures { result ≡ length (arm64_functions (table_of self.now)) }
     {
         self.table_bytes().len() / SIZE_OF_ARM64_FUNCTION
     }
 
     /// Whether the table has no bytes.
     pub fn is_empty(&self) -> bool
-        ensures { result ≡ ((exception_view self.now).size == 0) }
+        ensures { result ≡ (self.now.size == 0) }
     {
         self.size == 0
     }
 
     /// The entries in the order of the table.
     pub fn functions(&self) -> RuntimeFunctionIterator<'a>
-        ensures { items_of_functions result ≡ function_items (table_of (exception_view self.now)) }
+        ensures { items_of_functions result ≡ function_items (table_of self.now) }
     {
         RuntimeFunctionIterator::new(self.table_bytes())
     }
 
     /// The entry with this index. `FunctionIndex` at or past `len()`.
     pub fn get_function(&self, index: usize) -> Result<RuntimeFunction>
-        ensures { Gives (λ f. f) result (function_of (table_of (exception_view self.now)) index) }
+        ensures { Gives (λ f. f) result (function_of (table_of self.now) index) }
     {
         let table = self.table_bytes();
         if index < table.len() / SIZE_OF_FUNCTION {
@@ -178,14 +200,14 @@ impl<'a> ExceptionData<'a> {
 
     /// The entries for ARM64 in the order of the table.
     pub fn functions_arm64(&self) -> Arm64RuntimeFunctionIterator<'a>
-        ensures { items_of_arm64_functions result ≡ arm64_function_items (table_of (exception_view self.now)) }
+        ensures { items_of_arm64_functions result ≡ arm64_function_items (table_of self.now) }
     {
         Arm64RuntimeFunctionIterator::new(self.table_bytes())
     }
 
     /// The entry for ARM64 with this index. `FunctionIndex` at or past `len_arm64()`.
     pub fn get_function_arm64(&self, index: usize) -> Result<Arm64RuntimeFunction>
-        ensures { Gives (λ f. f) result (arm64_function_of (table_of (exception_view self.now)) index) }
+        ensures { Gives (λ f. f) result (arm64_function_of (table_of self.now) index) }
     {
         let table = self.table_bytes();
         if index < table.len() / SIZE_OF_ARM64_FUNCTION {
@@ -197,59 +219,30 @@ impl<'a> ExceptionData<'a> {
 
     /// The table, with its reads counted from 0.
     pub fn table(&self) -> CountedTable<'a>
-        ensures { result ≡ record { content = table_of (exception_view self.now); count = 0 } }
+        ensures { result ≡ record { content = table_of self.now; count = 0 } }
     {
         CountedTable::new(self.table_bytes())
     }
 
     /// The entry that covers an address, as `search` finds it. Never refused.
     pub fn find_function(&self, rva: u32) -> Result<Option<RuntimeFunction>>
-        ensures { IsOkAnd result (Finds (functions (table_of (exception_view self.now))) rva) }
+        ensures { IsOkAnd result (Finds (functions (table_of self.now)) rva) }
     {
         let mut table = self.table();
         Ok(search(&mut table, rva))
     }
 
-    /// The unwind address of the entry that an odd address leads to.
-    fn follow(&self, address: u32, sections: &[SectionTable], opts: &ParseOptions) -> Result<u32>
-        requires { address % 2 ≡ 1 }
-        ensures { Leads (links_of (exception_view self.now) sections.now opts.now) address (answer_of result) }
+    /// The table's links, under these sections and options.
+    fn links<'b>(&self, sections: &'b [SectionTable], opts: &'b ParseOptions) -> Links<'a, 'b>
+        ensures { table_view result ≡ links_of self.now sections.now opts.now }
     {
-        let Some(place) = find_offset(address as usize - 1, sections, self.file_alignment, opts)
-        else {
-            return Err(Error::Malformed(Reason::Unmapped(u64::from(address - 1))));
-        };
-        let table = self.table_bytes();
-        if place < self.offset
-            || (place - self.offset) % SIZE_OF_FUNCTION != 0
-            || table.len() / SIZE_OF_FUNCTION <= (place - self.offset) / SIZE_OF_FUNCTION
-        {
-            return Err(Error::Malformed(Reason::FunctionLink(address)));
+        Links {
+            table: self.table_bytes(),
+            start: self.offset,
+            sections,
+            file_alignment: self.file_alignment,
+            opts,
         }
-        Ok(read_function(table, place - self.offset).unwind_info_address)
-    }
-
-    /// The even address at the end of a chain of links.
-    fn record_address(
-        &self,
-        address: u32,
-        sections: &[SectionTable],
-        opts: &ParseOptions,
-    ) -> Result<u32>
-        ensures { Follows (links_of (exception_view self.now) sections.now opts.now) address (answer_of result) }
-    {
-        let mut current = address;
-        let entries = self.table_bytes().len() / SIZE_OF_FUNCTION;
-        for links in 0..entries + 1 {
-            if current % 2 == 0 {
-                return Ok(current);
-            }
-            match self.follow(current, sections, opts) {
-                Ok(next) => current = next,
-                Err(error) => return Err(error),
-            }
-        }
-        Err(Error::Malformed(Reason::FunctionCycle(entries + 1)))
     }
 
     /// The unwind record of a function, with the default options.
@@ -258,8 +251,8 @@ impl<'a> ExceptionData<'a> {
         function: RuntimeFunction,
         sections: &[SectionTable],
     ) -> Result<UnwindInfo<'a>>
-        ensures record { Unwinds (links_of (exception_view self.now) sections.now default_options) (exception_view self.now).content function.unwind_info_address (answer_by unwind_view result) }
-        ensures cycle { (answer_by unwind_view result ≡ Err FunctionCycle) ↔ IsEndless (links_of (exception_view self.now) sections.now default_options) function.unwind_info_address }
+        ensures record { Unwinds (links_of self.now sections.now default_options) self.now.content function.unwind_info_address (answer_by unwind_view result) }
+        ensures cycle { (answer_by unwind_view result ≡ Err FunctionCycle) ↔ IsEndless (links_of self.now sections.now default_options) function.unwind_info_address }
     {
         self.get_unwind_info_with_opts(function, sections, &ParseOptions::default())
     }
@@ -273,37 +266,26 @@ impl<'a> ExceptionData<'a> {
         sections: &[SectionTable],
         opts: &ParseOptions,
     ) -> Result<UnwindInfo<'a>>
-        ensures record { Unwinds (links_of (exception_view self.now) sections.now opts.now) (exception_view self.now).content function.unwind_info_address (answer_by unwind_view result) }
-        ensures cycle { (answer_by unwind_view result ≡ Err FunctionCycle) ↔ IsEndless (links_of (exception_view self.now) sections.now opts.now) function.unwind_info_address }
+        ensures record { Unwinds (links_of self.now sections.now opts.now) self.now.content function.unwind_info_address (answer_by unwind_view result) }
+        ensures cycle { (answer_by unwind_view result ≡ Err FunctionCycle) ↔ IsEndless (links_of self.now sections.now opts.now) function.unwind_info_address }
     {
-        self.linked_record(function.unwind_info_address, sections, opts)
+        let links = self.links(sections, opts);
+        self.linked_record(&links, function.unwind_info_address)
     }
 
     /// The record at the end of a chain of links.
-    fn linked_record(
-        &self,
-        address: u32,
-        sections: &[SectionTable],
-        opts: &ParseOptions,
-    ) -> Result<UnwindInfo<'a>>
-        ensures { Unwinds (links_of (exception_view self.now) sections.now opts.now) (exception_view self.now).content address (answer_by unwind_view result) }
+    fn linked_record(&self, links: &Links<'a, '_>, address: u32) -> Result<UnwindInfo<'a>>
+        ensures { Unwinds (table_view links.now) self.now.content address (answer_by unwind_view result) }
     {
-        match self.record_address(address, sections, opts) {
-            Ok(last) => self.record_at(last, sections, opts),
-            Err(error) => Err(error),
-        }
+        let last = links.end_of(address)?;
+        self.record_at(links, last)
     }
 
     /// The record at an address.
-    fn record_at(
-        &self,
-        address: u32,
-        sections: &[SectionTable],
-        opts: &ParseOptions,
-    ) -> Result<UnwindInfo<'a>>
-        ensures { Gives unwind_view result (record_at_address (links_of (exception_view self.now) sections.now opts.now) (exception_view self.now).content address) }
+    fn record_at(&self, links: &Links<'a, '_>, address: u32) -> Result<UnwindInfo<'a>>
+        ensures { Gives unwind_view result (record_at_address (table_view links.now) self.now.content address) }
     {
-        match find_offset(address as usize, sections, self.file_alignment, opts) {
+        match links.place(address) {
             Some(place) => UnwindInfo::parse(self.bytes, place),
             None => Err(Error::Malformed(Reason::Unmapped(u64::from(address)))),
         }
@@ -315,7 +297,7 @@ impl<'a> ExceptionData<'a> {
         function: Arm64RuntimeFunction,
         sections: &[SectionTable],
     ) -> Option<Result<Arm64UnwindInfo<'a>>>
-        ensures { option_map (answer_by info_view) result ≡ info_of_function (exception_view self.now) sections.now default_options function }
+        ensures { option_map (answer_by info_view) result ≡ info_of_function self.now sections.now default_options function }
     {
         self.get_unwind_info_arm64_with_opts(function, sections, &ParseOptions::default())
     }
@@ -328,7 +310,7 @@ impl<'a> ExceptionData<'a> {
         sections: &[SectionTable],
         opts: &ParseOptions,
     ) -> Option<Result<Arm64UnwindInfo<'a>>>
-        ensures { option_map (answer_by info_view) result ≡ info_of_function (exception_view self.now) sections.now opts.now function }
+        ensures { option_map (answer_by info_view) result ≡ info_of_function self.now sections.now opts.now function }
     {
         if function.is_packed() {
             return None;
@@ -347,31 +329,41 @@ impl<'a> ExceptionData<'a> {
         sections: &[SectionTable],
         opts: &ParseOptions,
     ) -> Result<Option<UnwindInfo<'a>>>
-        ensures { UnwindsAt (exception_view self.now) sections.now opts.now rva (answer_by (option_map unwind_view) result) }
+        ensures record { UnwindsAt self.now sections.now opts.now rva (answer_by (option_map unwind_view) result) }
+        ensures cycle { CyclesAt self.now sections.now opts.now rva (answer_by (option_map unwind_view) result) }
+    {
+        self.record_at_code(rva, sections, opts)
+    }
+
+    /// Lookup, links and record.
+    fn record_at_code(
+        &self,
+        rva: u32,
+        sections: &[SectionTable],
+        opts: &ParseOptions,
+    ) -> Result<Option<UnwindInfo<'a>>>
+        ensures { UnwindsAt self.now sections.now opts.now rva (answer_by (option_map unwind_view) result) }
     {
         let mut table = self.table();
-        match search(&mut table, rva) {
-            None => Ok(None),
-            Some(function) => {
-                match self.linked_record(function.unwind_info_address, sections, opts) {
-                    Ok(info) => Ok(Some(info)),
-                    Err(error) => Err(error),
-                }
-            }
-        }
+        let Some(function) = search(&mut table, rva) else {
+            return Ok(None);
+        };
+        let links = self.links(sections, opts);
+        let info = self.linked_record(&links, function.unwind_info_address)?;
+        Ok(Some(info))
     }
 }
 
 impl<'a, 'b> IntoIterator for &'b ExceptionData<'a> {
     ghost use Rattle.std.specs.Prelude.{◌≡◌};
-    ghost use Rattle.pe_unwind.specs.ExceptionTable.{exception_view, table_of};
+    ghost use Rattle.pe_unwind.specs.ExceptionTable.{table_of};
     ghost use Rattle.pe_unwind.specs.FunctionTable.{function_items, items_of_functions};
 
     type Item = Result<RuntimeFunction>;
 
     type IntoIter = RuntimeFunctionIterator<'a>;
 
-    ghost into_iter_gives = { λ s it. items_of_functions it ≡ function_items (table_of (exception_view s.now)) };
+    ghost into_iter_gives = { λ s it. items_of_functions it ≡ function_items (table_of s.now) };
 
     fn into_iter(self) -> RuntimeFunctionIterator<'a> {
         self.functions()

@@ -107,15 +107,16 @@ fn next_function(table: &mut CountedTable, place: usize) -> RuntimeFunction
     }
 }
 
-/// The entry that covers an address. It reads at most two entries more than the binary digits of their number.
+/// The entry that covers an address. It reads at most as many entries as their number has binary digits.
 ///
 /// Where begins never fall it is the last entry that begins at or before the address, if that entry ends behind it. On
 /// any other table it is some entry that covers the address, or none.
+#[tactic(auto, using(crate::proofs::Searches::length_functions))]
 pub fn search(table: &mut CountedTable, rva: u32) -> Option<RuntimeFunction>
     ensures found { Finds (functions table.old.content) rva result }
     ensures kept { table.new.content ≡ table.old.content }
     ensures counted { table.old.count ≤ table.new.count }
-    ensures cost { table.new.count ≤ table.old.count + digits (length table.old.content / 12) + 2 }
+    ensures cost { table.new.count ≤ table.old.count + digits (length (functions table.old.content)) }
 {
     let mut low = 0;
     let mut high = table.len() / SIZE_OF_FUNCTION;

@@ -9,6 +9,7 @@ mod arm64;
 mod exception;
 mod function_table;
 pub mod laws;
+mod links;
 mod register;
 mod scope_table;
 mod unwind_code;

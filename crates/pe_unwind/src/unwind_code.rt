@@ -4,8 +4,8 @@ ghost use Rattle.std.specs.Prelude.{◌≡◌, ◌*◌, ◌/◌, ◌%◌, ◌<�
 ghost use Rattle.std.specs.Iterator.{at_most, UpTo};
 ghost use Rattle.std.specs.Iterator.SizeHint.{IsWithinCount};
 ghost use Rattle.pe_core.specs.Refusals.{kind_of};
-ghost use Rattle.pe_unwind.specs.UnwindCodes.{SpellsOperation, BeginsWith, BeginsWithNone, IsFault, slots_at, offset};
-ghost use Rattle.pe_unwind.specs.CodeStream.{stream_of, slots_left, Gives};
+ghost use Rattle.pe_unwind.specs.UnwindCodes.{SpellsOperation, BeginsWithCode, BeginsWithNoCode, IsFault, slots_at, offset};
+ghost use Rattle.pe_unwind.specs.CodeStream.{stream_of, slots_left, GivesCode};
 
 use crate::register::Register;
 use pe_core::{Error, Reason, Result};
@@ -172,7 +172,7 @@ fn slots_there(version: u8, bytes: &[u8]) -> Result<usize>
     requires some { 0 < length bytes.now }
     ensures slots { IfOk result (λ n. slots_at version (slice_index bytes.now 1 % 16) (slice_index bytes.now 1 / 16) ≡ Some n) }
     ensures range { IfOk result (λ n. (1 ≤ n) × (n ≤ 3) × (2 * n ≤ length bytes.now)) }
-    ensures none { OnErr result ((f : ℕ) → BeginsWithNone version f bytes.now) }
+    ensures none { OnErr result ((f : ℕ) → BeginsWithNoCode version f bytes.now) }
     ensures fault { IfErr result (λ e. IsFault version bytes.now (kind_of e)) }
 {
     if bytes.len() < 2 {
@@ -201,7 +201,7 @@ fn operation_at(
     requires least { 1 ≤ count }
     requires most { count ≤ 3 }
     requires fits { 2 * count ≤ length bytes.now }
-    ensures { BeginsWith version frame_register.0 bytes.now (record { code_offset = slice_index bytes.now 0; operation = result }) (2 * count) }
+    ensures { BeginsWithCode version frame_register.0 bytes.now (record { code_offset = slice_index bytes.now 0; operation = result }) (2 * count) }
 {
     let opcode = bytes[1] % 16;
     let info = bytes[1] / 16;
@@ -219,9 +219,9 @@ fn operation_at(
 /// `UnwindCode` where no code begins so.
 fn code_at(version: u8, frame_register: Register, bytes: &[u8]) -> Result<(UnwindCode, usize)>
     requires some { 0 < length bytes.now }
-    ensures ok { IfOk result (λ x. BeginsWith version frame_register.0 bytes.now x.0 x.1) }
+    ensures ok { IfOk result (λ x. BeginsWithCode version frame_register.0 bytes.now x.0 x.1) }
     ensures len { IfOk result (λ x. (2 ≤ x.1) × (x.1 ≤ length bytes.now)) }
-    ensures none { OnErr result (BeginsWithNone version frame_register.0 bytes.now) }
+    ensures none { OnErr result (BeginsWithNoCode version frame_register.0 bytes.now) }
     ensures fault { IfErr result (λ e. IsFault version bytes.now (kind_of e)) }
 {
     match slots_there(version, bytes) {
@@ -260,7 +260,7 @@ impl<'a> UnwindCodeIterator<'a> {
 impl<'a> Iterator for UnwindCodeIterator<'a> {
     type Item = Result<UnwindCode>;
 
-    ghost next_gives = { λ s r t. Gives (stream_of s) r (stream_of t) };
+    ghost next_gives = { λ s r t. GivesCode (stream_of s) r (stream_of t) };
 
     ghost remaining = { λ s. at_most (slots_left (stream_of s)) };
 

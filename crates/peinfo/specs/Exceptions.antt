@@ -6,7 +6,7 @@ use Rattle.pe_core.specs.Refusals.{Refusal, ◌>>=◌}
 use Rattle.pe_core.specs.declared.data_directories.DataDirectory.{DataDirectory}
 use Rattle.pe_core.specs.declared.options.ParseOptions.{ParseOptions}
 use Rattle.pe_core.specs.declared.section_table.SectionTable.{SectionTable}
-use Rattle.pe_unwind.specs.ExceptionTable.{ExceptionView, exception_view, exception_at}
+use Rattle.pe_unwind.specs.ExceptionTable.{ExceptionView, exception_at}
 use Rattle.peinfo.specs.Modes.{empty_if_refused}
 use Rattle.peinfo.specs.declared.exceptions.Exceptions.{Exceptions}
 use Rattle.peinfo.specs.declared.exceptions.Exceptions.TheVariants as machines
@@ -17,8 +17,8 @@ pub data MachineExceptions : Type 0 where
   ForArm64 : ExceptionView → MachineExceptions
 
 abbrev pub machine_view : Exceptions → MachineExceptions
-machine_view (machines.X64 data_of_x64) = ForX64 (exception_view data_of_x64)
-machine_view (machines.Arm64 data_of_arm64) = ForArm64 (exception_view data_of_arm64)
+machine_view (machines.X64 data_of_x64) = ForX64 data_of_x64
+machine_view (machines.Arm64 data_of_arm64) = ForArm64 data_of_arm64
 
 -- the exception data of a directory, with entries of 12 bytes for x64, of 8 bytes for ARM64, and none for another machine
 abbrev pub machine_exceptions : List ℕ → ParseOptions → List SectionTable → ℕ → ℕ → DataDirectory → Result (Option MachineExceptions) Refusal

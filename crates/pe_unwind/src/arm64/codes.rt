@@ -3,7 +3,7 @@
 ghost use Rattle.std.specs.Prelude.{◌≡◌, ◌≢◌, ◌+◌, ◌-◌, ◌*◌, ◌/◌, ◌%◌, ◌^◌, ◌<◌, ◌≤◌, ◌⊎◌, ℕ, [], ◌∷◌, length, IfSome, IfNone, Some};
 ghost use Rattle.std.specs.Iterator.{at_most, UpTo};
 ghost use Rattle.std.specs.Iterator.SizeHint.{IsWithinCount};
-ghost use Rattle.pe_unwind.specs.Arm64Encoding.{encoding, Encodes, len_at, BeginsWith, BeginsWithNone};
+ghost use Rattle.pe_unwind.specs.Arm64Encoding.{encoding, Encodes, len_at, BeginsWithArm64Code, BeginsWithNoArm64Code};
 
 use pe_core::{Error, Reason, Result};
 
@@ -411,10 +411,10 @@ fn code_len(first: u8, second: u8) -> usize
 
 /// The code that the bytes begin with, and how many bytes it has. `None` with no bytes, and for a code that is cut.
 fn code_at(bytes: &[u8]) -> Option<(Arm64UnwindCode, usize)>
-    ensures some { IfSome result (λ x. BeginsWith bytes.now x.0) }
+    ensures some { IfSome result (λ x. BeginsWithArm64Code bytes.now x.0) }
     ensures len { IfSome result (λ x. x.1 ≡ length (encoding x.0)) }
     ensures fits { IfSome result (λ x. (0 < x.1) × (x.1 ≤ 5) × (x.1 ≤ length bytes.now)) }
-    ensures none { IfNone result (BeginsWithNone bytes.now) }
+    ensures none { IfNone result (BeginsWithNoArm64Code bytes.now) }
 {
     if bytes.is_empty() {
         return None;
@@ -480,11 +480,11 @@ impl<'a> Arm64UnwindCodeIterator<'a> {
 }
 
 impl<'a> Iterator for Arm64UnwindCodeIterator<'a> {
-    ghost use Rattle.pe_unwind.specs.Arm64Tiling.{stream_place, left_at, Gives};
+    ghost use Rattle.pe_unwind.specs.Arm64Tiling.{stream_place, left_at, GivesArm64Code};
 
     type Item = Result<Arm64UnwindCodeData>;
 
-    ghost next_gives = { λ s r t. Gives (stream_place s) r (stream_place t) };
+    ghost next_gives = { λ s r t. GivesArm64Code (stream_place s) r (stream_place t) };
 
     ghost remaining = { λ s. at_most (left_at (stream_place s)) };
 

@@ -5,7 +5,7 @@ ghost use Rattle.std.specs.Option.{option_map};
 ghost use Rattle.pe_core.specs.Refusals.{Gives, Short, outcome};
 ghost use Rattle.pe_core.specs.Bytes.{holds};
 ghost use Rattle.pe_unwind.specs.Arm64Words.{epilog_scopes_left};
-ghost use Rattle.pe_unwind.specs.Arm64Record.{extension_view, handler_view, info_view, extension_size, extension_at, scope_count, code_words, handler_size, handler_at, info_at, size_at, scopes_of};
+ghost use Rattle.pe_unwind.specs.Arm64Record.{extension_view, arm64_handler_view, info_view, extension_size, extension_at, scope_count, code_words, handler_size, handler_at, info_at, size_at, scopes_of};
 ghost use Rattle.pe_unwind.specs.Arm64Tiling.{stream_place, stream_at};
 
 use crate::arm64::codes::Arm64UnwindCodeIterator;
@@ -85,7 +85,7 @@ fn handler_behind(
     header: Arm64UnwindHeader,
 ) -> Result<Option<Arm64ExceptionHandler<'_>>>
     requires { place ≤ length bytes.now }
-    ensures { Gives (option_map handler_view) result (outcome ((holds bytes.now place (handler_size header.0), Short) ∷ []) (handler_at bytes.now place header.0)) }
+    ensures { Gives (option_map arm64_handler_view) result (outcome ((holds bytes.now place (handler_size header.0), Short) ∷ []) (handler_at bytes.now place header.0)) }
 {
     if !header.exception_data_present() {
         return Ok(None);

@@ -1,11 +1,11 @@
 -- More steps than there are keys: the steps never stop.
-use Rattle.std.proofs.Common.{◌≡◌, ◌≢◌, ℕ, zero, suc, ◌+◌, ◌<◌, ◌≤◌, Bool, true, false, eqb, List, [], ◌∷◌, length, Option, Some, None, ◌⊎◌, inl, inr, ⊎_elim, option_and_then, ◌||◌, refl, ap, sym, ◌∙◌, subst, arith, IsSome}
+use Rattle.std.proofs.Common.{◌≡◌, ◌≢◌, ℕ, zero, suc, ◌+◌, ◌<◌, ◌≤◌, Bool, true, false, eqb, List, [], ◌∷◌, length, Option, Some, None, ◌⊎◌, inl, inr, ⊎_elim, option_and_then, ◌||◌, refl, ap, sym, ◌∙◌, subst, arith, add-one, IsSome}
 use Rattle.std.specs.List.{IsDistinct, AllByRecursion, list_any}
 use Rattle.std.proofs.lemmas.Bool.{cases_eq, false≢true}
 use Rattle.std.proofs.lemmas.Map.Keys.{IsDistinct-cons}
 use Rattle.std.proofs.lemmas.Map.Steps.{length-le_from_distinct_below}
 use Rattle.std.proofs.lemmas.Bool.Decides.{nat_tests}
-use Rattle.pe_unwind.specs.Chains.{after, NeverStops}
+use Rattle.pe_core.specs.Chains.{after, NeverStops, FollowsKey, HasKeysBelow, KeyDecides}
 
 -- exactly k steps, and then none
 abbrev pub StopsAfter : {X : Type 0} → (X → Option X) → X → ℕ → Type 0
@@ -29,14 +29,6 @@ stops_once step x (suc j) zero s t = cc (s.1, t)
 stops_once {X} step x (suc j) (suc k) s t =
     let same : s.0 ≡ t.0 = cc (s.1, t.1) in
     ap suc (stops_once step t.0 j k (subst (λ (y : X). StopsAfter step y j) same s.2) t.2)
-
--- after equal keys the same steps follow
-abbrev pub FollowsKey : {X : Type 0} → (X → Option X) → (X → ℕ) → Type 0
-FollowsKey {X} step key = (x y a b : X) → key x ≡ key y → step x ≡ Some a → step y ≡ Some b → a ≡ b
-
--- a state that has a next one has a key below n
-abbrev pub HasKeysBelow : {X : Type 0} → (X → Option X) → (X → ℕ) → ℕ → Type 0
-HasKeysBelow {X} step key n = (x a : X) → step x ≡ Some a → key x < n
 
 -- a state further from the end has another key
 pub keys_apart : {X : Type 0} (step : X → Option X) (key : X → ℕ) → FollowsKey step key → (x y : X) (j k : ℕ) (s : StopsAfter step y j) → StopsAfter step x k → j < k → AllByRecursion (λ q. eqb (key x) q ≡ false) (keys step key y j s)
@@ -127,10 +119,6 @@ stops_later step (suc d) (suc j) x y s h =
     let rest = stops_later step d j s.0 y s.2 (rw s.1 at h) in
     (rest.0, omega (arith, rest.1), rest.2)
 
--- equal keys have the same step
-abbrev pub KeyDecides : {X : Type 0} → (X → Option X) → (X → ℕ) → Type 0
-KeyDecides {X} step key = (x y : X) → key x ≡ key y → step x ≡ step y
-
 pub follows_from_decides : {X : Type 0} (step : X → Option X) (key : X → ℕ) → KeyDecides step key → FollowsKey step key
 follows_from_decides step key decides x y a b same to_a to_b =
     let equal : step x ≡ step y = decides x y same in cc
@@ -156,3 +144,12 @@ repeats step key decides e x y i d to_x to_y same k =
 -- a state with no next one ends the steps
 pub stops_at : {X : Type 0} (step : X → Option X) (k : ℕ) (x y : X) → after step k x ≡ Some y → step y ≡ None → NeverStops step x → ⊥
 stops_at step k x y to none never = false≢true (rw (after_more step k x y to ∙ none) at (never (suc k)))
+
+-- the same in the words of the laws
+pub more_steps_than_keys : {X : Type 0} (step : X → Option X) (key : X → ℕ) (n : ℕ) (x : X) → FollowsKey step key → HasKeysBelow step key n → IsSome (after step (n + 1) x) → NeverStops step x
+more_steps_than_keys {X} step key n x follows below more =
+    never_stops step key n follows below x (subst (λ (m : ℕ). IsSome (after step m x)) (add-one n) more)
+
+pub key_comes_again : {X : Type 0} (step : X → Option X) (key : X → ℕ) (x y z : X) (i d : ℕ) → KeyDecides step key → after step i x ≡ Some y → after step (d + 1) y ≡ Some z → key y ≡ key z → NeverStops step x
+key_comes_again {X} step key x y z i d decides to_y to_z same =
+    repeats step key decides x y z i d to_y (subst (λ (m : ℕ). after step m y ≡ Some z) (add-one d) to_z) same

@@ -1,5 +1,5 @@
 use Rattle.pe_unwind.proofs.Arm64Streams.{tiles_from_yields, some_tiling, one_tiling, joined, item_counts}
-use Rattle.pe_unwind.proofs.laws.one_tiling_of_arm64_codes.Goals as goal
+use Rattle.pe_unwind.proofs.laws.arm64.one_tiling_of_arm64_codes.Goals as goal
 
 pub returns-clause-whole : goal.returns-clause-whole
 returns-clause-whole _ = λ s xs d. tiles_from_yields s d.1.0 d.0 xs d.1.1 d.1.2

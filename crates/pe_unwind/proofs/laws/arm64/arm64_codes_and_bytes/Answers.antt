@@ -2,7 +2,7 @@ use Rattle.std.proofs.Common.{ap}
 use Rattle.pe_unwind.specs.Arm64Encoding.{encoding}
 use Rattle.pe_unwind.proofs.Arm64OneCode.{encoding_once, begins_once, cut_begins_none}
 use Rattle.pe_unwind.proofs.Arm64Whole.{code_or_cut}
-use Rattle.pe_unwind.proofs.laws.arm64_codes_and_bytes.Goals as goal
+use Rattle.pe_unwind.proofs.laws.arm64.arm64_codes_and_bytes.Goals as goal
 
 pub returns-clause-equal : goal.returns-clause-equal
 returns-clause-equal _ = λ a b h k. (ap encoding, encoding_once a b h k)

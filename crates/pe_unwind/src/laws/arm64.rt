@@ -1,0 +1,56 @@
+//! Laws of ARM64: unwind codes, their streams, and records.
+
+ghost use Rattle.std.specs.Prelude.{◌≡◌, ◌+◌, ◌-◌, ◌/◌, ◌<◌, ◌≤◌, ◌↔◌, ◌⊎◌, ℕ, All, List, length, drop, Result, Ok, IfSome, map};
+ghost use Rattle.std.specs.Iterator.{Drains};
+ghost use Rattle.pe_core.specs.Bytes.{AreBytes};
+ghost use Rattle.pe_core.specs.declared.error.Error.{Error};
+ghost use Rattle.pe_unwind.specs.declared.arm64.codes.Arm64UnwindCode.{Arm64UnwindCode};
+ghost use Rattle.pe_unwind.specs.declared.arm64.codes.Arm64UnwindCodeData.{Arm64UnwindCodeData};
+ghost use Rattle.pe_unwind.specs.declared.arm64.codes.Arm64UnwindCodeIterator.{Arm64UnwindCodeIterator};
+ghost use Rattle.pe_unwind.specs.Arm64Encoding.{encoding, Legal, BeginsWithArm64Code, BeginsWithNoArm64Code, IsCutArm64Code};
+ghost use Rattle.pe_unwind.specs.Arm64Tiling.{Tiles, Joins, stream_place};
+ghost use Rattle.pe_unwind.specs.Arm64Record.{Arm64InfoView, AreRecord, HasWords, info_at, record_size, size_at};
+ghost use Rattle.pe_unwind.specs.FunctionTable.{answer_of};
+
+use crate::arm64::codes::Arm64UnwindCodeIterator;
+
+/// Legal ARM64 codes are equal exactly if their bytes are. Each has 1 to 5 bytes. Bytes begin with one code at most, and
+/// where they are a proper beginning of a code's, with none; all others that are not empty begin with one.
+pub fn arm64_codes_and_bytes()
+    ensures equal { (c d : Arm64UnwindCode) → Legal c → Legal d → ((c ≡ d) ↔ (encoding c ≡ encoding d)) }
+    ensures sizes { (c : Arm64UnwindCode) → Legal c → (1 ≤ length (encoding c)) × (length (encoding c) ≤ 5) }
+    ensures bytes { (c : Arm64UnwindCode) → Legal c → All (λ x. x < 256) (encoding c) }
+    ensures one { (b : List ℕ) (c d : Arm64UnwindCode) → BeginsWithArm64Code b c → BeginsWithArm64Code b d → c ≡ d }
+    ensures cut { (b : List ℕ) → IsCutArm64Code b → BeginsWithNoArm64Code b }
+    ensures every { (b : List ℕ) → 0 < length b → All (λ x. x < 256) b → ((c : Arm64UnwindCode) × BeginsWithArm64Code b c) ⊎ IsCutArm64Code b }
+{}
+
+/// The items that an iterator of ARM64 codes gives tile its stream from where it stands. Every byte string has a tiling
+/// from each place on, and one alone, up to the numbers in a refusal: all its codes' bytes, one behind the other, and then
+/// a rest that begins with none, for which there is a cut if it is not empty. It has an item for each five bytes at least,
+/// and for each byte at most.
+pub fn one_tiling_of_arm64_codes()
+    ensures whole { (s : Arm64UnwindCodeIterator) (xs : List (Result Arm64UnwindCodeData Error)) →
+        Drains ⟦<Arm64UnwindCodeIterator<'static> as Iterator>⟧.next_gives s xs → Tiles (stream_place s).content (stream_place s).at xs }
+    ensures exists { (b : List ℕ) (at : ℕ) → All (λ x. x < 256) b → (xs : List (Result Arm64UnwindCodeData Error)) × Tiles b at xs }
+    ensures tiling { (b : List ℕ) (at : ℕ) (xs ys : List (Result Arm64UnwindCodeData Error)) → Tiles b at xs → Tiles b at ys → map answer_of xs ≡ map answer_of ys }
+    ensures joined { (b : List ℕ) (at : ℕ) (xs : List (Result Arm64UnwindCodeData Error)) → Tiles b at xs → Joins (drop at b) xs }
+    ensures counts { (b : List ℕ) (at : ℕ) (xs : List (Result Arm64UnwindCodeData Error)) → All (λ x. x < 256) b → Tiles b at xs →
+        ((length b - at + 4) / 5 ≤ length xs) × (length xs ≤ length b - at) }
+{}
+
+/// An ARM64 unwind record that is given is the concatenation of its parts: header, extension word, scopes, codes, address
+/// of the handler, rest. And bytes that are such a concatenation are read as that record.
+pub fn arm64_records_are_concatenations()
+    ensures given { (b : List ℕ) (p : ℕ) (i : Arm64InfoView) → AreBytes b → info_at b p ≡ Ok i → AreRecord (drop p b) i (drop (p + record_size i.header i.extension) b) }
+    ensures read { (b rest : List ℕ) (p : ℕ) (i : Arm64InfoView) → AreRecord (drop p b) i rest → HasWords i → info_at b p ≡ Ok i }
+{}
+
+/// Where an ARM64 unwind record is given, its size is too, and is that of its words; the record ends in the bytes, and a
+/// handler's data are all bytes behind it.
+#[tactic(auto, using(crate::proofs::Arm64Records::sized, crate::proofs::Arm64Records::inside))]
+pub fn arm64_records_have_their_size()
+    ensures size { (b : List ℕ) (i : Arm64InfoView) → info_at b 0 ≡ Ok i → size_at b ≡ Ok (record_size i.header i.extension) }
+    ensures inside { (b : List ℕ) (p : ℕ) (i : Arm64InfoView) → info_at b p ≡ Ok i → p + record_size i.header i.extension ≤ length b }
+    ensures handler { (b : List ℕ) (p : ℕ) (i : Arm64InfoView) → info_at b p ≡ Ok i → IfSome i.handler (λ h. h.bytes ≡ drop (p + record_size i.header i.extension) b) }
+{}

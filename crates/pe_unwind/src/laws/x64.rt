@@ -1,0 +1,61 @@
+//! Laws of x64: lookup, links, unwind codes, registers and scope tables.
+
+ghost use Rattle.std.specs.Prelude.{◌≡◌, ◌/◌, ◌<◌, ◌↔◌, ℕ, List, Option, Some, Result, IsSome, IsTrue, map};
+ghost use Rattle.std.specs.Iterator.{Drains};
+ghost use Rattle.std.specs.List.{Any};
+ghost use Rattle.std.specs.Ordering.{nat_cmp};
+ghost use Rattle.std.specs.declared.cmp.Ordering.TheVariants.{Equal};
+ghost use Rattle.pe_core.specs.Refusals.{Refusal};
+ghost use Rattle.pe_core.specs.declared.error.Error.{Error};
+ghost use Rattle.pe_unwind.specs.declared.function_table.RuntimeFunction.{RuntimeFunction};
+ghost use Rattle.pe_unwind.specs.declared.register.Register.{Register};
+ghost use Rattle.pe_unwind.specs.declared.scope_table.ScopeTableEntry.{ScopeTableEntry};
+ghost use Rattle.pe_unwind.specs.declared.unwind_code.UnwindCode.{UnwindCode};
+ghost use Rattle.pe_unwind.specs.declared.unwind_code.UnwindCodeIterator.{UnwindCodeIterator};
+ghost use Rattle.pe_unwind.specs.CodeStream.{CodeStream, AreItems, stream_of};
+ghost use Rattle.pe_unwind.specs.FunctionTable.{NeverFalls, NoEndPassesNext, Covers, Finds, answer_of};
+ghost use Rattle.pe_unwind.specs.Links.{Table, Follows};
+ghost use Rattle.pe_unwind.specs.UnwindCodes.{BeginsWithCode};
+
+use crate::register::Register;
+use crate::scope_table::ScopeTableEntry;
+use crate::unwind_code::UnwindCodeIterator;
+use std::hash::Hash;
+
+/// Where begins never fall and no end passes the next begin, lookup finds an entry exactly where some entry covers the
+/// address.
+#[tactic(auto, using(crate::proofs::Disjoint::finds_covering))]
+pub fn disjoint_functions()
+    ensures { (fs : List RuntimeFunction) (a : ℕ) (found : Option RuntimeFunction) →
+        NeverFalls fs → NoEndPassesNext fs → Finds fs a found → (IsSome found ↔ Any (Covers a) fs) }
+{}
+
+/// The order of registers is that of their numbers, and its equality is theirs.
+pub fn registers_in_order()
+    ensures order { (r s : Register) → ⟦<Register as Ord>⟧.cmp r s ≡ nat_cmp r.0 s.0 }
+    ensures partial { (r s : Register) → ⟦<Register as PartialOrd>⟧.partial_cmp r s ≡ Some (nat_cmp r.0 s.0) }
+    ensures ties { (r s : Register) → (⟦<Register as Ord>⟧.cmp r s ≡ Equal) ↔ IsTrue (⟦<Register as PartialEq>⟧.eq r s) }
+    ensures equal { (r s : Register) → IsTrue (⟦<Register as PartialEq>⟧.eq r s) ↔ (r ≡ s) }
+{}
+
+/// Equal entries of a scope table hash alike.
+pub fn equal_scopes_hash_alike()
+    ensures { (x y : ScopeTableEntry) → IsTrue (⟦<ScopeTableEntry as PartialEq>⟧.eq x y) →
+        ⟦<ScopeTableEntry as Hash>⟧.hash_input x ≡ ⟦<ScopeTableEntry as Hash>⟧.hash_input y }
+{}
+
+/// The items that an iterator of unwind codes gives are the items of its stream. Bytes begin with one code at most, so a
+/// stream has one list of items, up to the numbers in a refusal.
+#[tactic(auto, using(crate::proofs::Streams::one_code, crate::proofs::Streams::one_reading))]
+pub fn one_stream_of_codes()
+    ensures whole { (s : UnwindCodeIterator) (xs : List (Result UnwindCode Error)) →
+        Drains ⟦<UnwindCodeIterator<'static> as Iterator>⟧.next_gives s xs → AreItems (stream_of s) xs }
+    ensures code { (v f : ℕ) (b : List ℕ) (c d : UnwindCode) (m n : ℕ) → BeginsWithCode v f b c m → BeginsWithCode v f b d n → (c ≡ d) × (m ≡ n) }
+    ensures items { (s : CodeStream) (xs ys : List (Result UnwindCode Error)) → AreItems s xs → AreItems s ys → map answer_of xs ≡ map answer_of ys }
+{}
+
+/// A chain of links has one answer.
+#[tactic(auto, using(crate::proofs::OneChain::one_answer))]
+pub fn one_answer_of_links()
+    ensures { (t : Table) (u : ℕ) (a b : Result ℕ Refusal) → Follows t u a → Follows t u b → a ≡ b }
+{}

@@ -1,0 +1,77 @@
+//! Links between the entries of a function table: an odd unwind address leads to another entry.
+
+ghost use Rattle.std.specs.Prelude.{◌≡◌, ◌%◌};
+ghost use Rattle.pe_unwind.specs.FunctionTable.{answer_of};
+ghost use Rattle.pe_unwind.specs.LinkSteps.{Leads};
+ghost use Rattle.pe_unwind.specs.Links.{table_view, Follows};
+
+use crate::function_table::{SIZE_OF_FUNCTION, read_function};
+use pe_core::{Error, ParseOptions, Reason, Result, SectionTable, find_offset};
+
+/// The entries of a function table, and what maps addresses to places in the file.
+#[derive(Clone, Copy)]
+pub(crate) struct Links<'a, 'b> {
+    /// The bytes of the table.
+    pub table: &'a [u8],
+    /// Where the table begins in the file.
+    pub start: usize,
+    pub sections: &'b [SectionTable],
+    pub file_alignment: u32,
+    pub opts: &'b ParseOptions,
+}
+
+impl<'a, 'b> Links<'a, 'b> {
+    /// The place of an address.
+    pub fn place(&self, address: u32) -> Option<usize>
+        ensures { result ≡ (table_view self.now).place address }
+    {
+        find_offset(
+            address as usize,
+            self.sections,
+            self.file_alignment,
+            self.opts,
+        )
+    }
+
+    /// The unwind address of the entry that an odd address leads to.
+    fn follow(&self, address: u32) -> Result<u32>
+        requires { address % 2 ≡ 1 }
+        ensures { Leads (table_view self.now) address (answer_of result) }
+    {
+        let Some(place) = self.place(address - 1) else {
+            return Err(Error::Malformed(Reason::Unmapped(u64::from(address - 1))));
+        };
+        if place < self.start
+            || (place - self.start) % SIZE_OF_FUNCTION != 0
+            || self.table.len() / SIZE_OF_FUNCTION <= (place - self.start) / SIZE_OF_FUNCTION
+        {
+            return Err(Error::Malformed(Reason::FunctionLink(address)));
+        }
+        Ok(read_function(self.table, place - self.start).unwind_info_address)
+    }
+
+    /// The even address at the end of a chain of links. One address is saved after 1, 2, 4, 8 and so on links, so a ring
+    /// ends after about as many links as it has, and those before it.
+    pub fn end_of(&self, address: u32) -> Result<u32>
+        ensures { Follows (table_view self.now) address (answer_of result) }
+    {
+        let mut current = address;
+        let mut saved = address;
+        let mut power: usize = 1;
+        let entries = self.table.len() / SIZE_OF_FUNCTION;
+        for links in 0..entries + 1 {
+            if current % 2 == 0 {
+                return Ok(current);
+            }
+            current = self.follow(current)?;
+            if current == saved {
+                return Err(Error::Malformed(Reason::FunctionCycle(links + 1)));
+            }
+            if links + 1 == power {
+                saved = current;
+                power = power.saturating_mul(2);
+            }
+        }
+        Err(Error::Malformed(Reason::FunctionCycle(entries + 1)))
+    }
+}
