@@ -1,15 +1,13 @@
 -- The texts at the places that have one zero behind them.
-use Rattle.std.proofs.Common.{◌≡◌, ℕ, ◌+◌, ◌-◌, ◌≤◌, ◌<◌, cond, List, [], ◌++◌, map, length, take, drop, Option, Some, None, refl, sym, ap, arith, ◌∙◌, inl, inr, eq-zero-or-pos}
+use Rattle.std.proofs.Common.{◌≡◌, ℕ, ◌+◌, ◌-◌, ◌≤◌, ◌<◌, cond, List, ◌++◌, map, length, take, drop, Option, Some, None, refl, sym, ap, arith, ◌∙◌, inl, inr, eq-zero-or-pos}
 use Rattle.std.specs.Prelude.{position, nat_le, ◌==◌}
-use Rattle.std.specs.Option.{option_and_then}
-use Rattle.std.specs.Str.{IsUtf8}
-use Rattle.std.proofs.lemmas.List.{length-drop, length-take-le, drop-drop, drop-take, drop_all, take_rest, take-append-drop, map-append}
+use Rattle.std.proofs.lemmas.List.{length-drop, length-take-le, drop-drop, drop-take, take_rest, take-append-drop, map-append}
 use Rattle.std.proofs.lemmas.List.Quantifiers.{position-Some}
 use Rattle.std.proofs.lemmas.Bool.Decides.{nat_tests}
 use Rattle.pe_core.specs.Text.{text_of, text_to_zero, text_at}
 use Rattle.pe_core.specs.TextRuns.{IsLastText, last_of}
 use Rattle.pe_core.proofs.Texts.{zero_found, zero_missing}
-use Rattle.pe_core.proofs.TextEnds.{text_of-text, text_of-other}
+use Rattle.pe_core.proofs.TextEnds.{text_of-other}
 use Rattle.pe_core.proofs.FirstZero.{position-drop, position-drop-none}
 
 many : (n m : ℕ) (o : Option (List ℕ)) → m < n → cond (nat_le n m) o None ≡ None

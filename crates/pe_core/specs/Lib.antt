@@ -4,6 +4,7 @@ pub mod CountedTable
 pub mod Text
 pub mod TextRuns
 pub mod Options
+pub mod Modes
 pub mod Narrow
 pub mod Records
 pub mod Rows

@@ -1,6 +1,7 @@
 -- Records of one width that stand one after the other.
-use Rattle.std.specs.Prelude.{◌≡◌, ℕ, zero, suc, ◌+◌, ◌*◌, ◌/◌, ◌%◌, ◌<◌, ◌==◌, List, [], ◌∷◌, ◌++◌, length, map, drop, Option, Some, None, Result, Ok, Err, if◌then◌else◌}
-use Rattle.pe_core.specs.Refusals.{Refusal, Short, kind_of}
+use Rattle.std.specs.Prelude.{◌≡◌, ℕ, zero, suc, ◌+◌, ◌*◌, ◌/◌, ◌%◌, ◌<◌, ◌==◌, ◌||◌, List, [], ◌∷◌, ◌++◌, length, map, drop, Option, Some, None, Result, Ok, Err, if◌then◌else◌}
+use Rattle.pe_core.specs.Bytes.{holds}
+use Rattle.pe_core.specs.Refusals.{Refusal, Short, kind_of, outcome}
 use Rattle.pe_core.specs.declared.error.Error.{Error}
 
 -- the list f 0, f 1, .., f (n - 1)
@@ -11,6 +12,10 @@ each f (suc n) = each f n ++ f n ∷ []
 -- n records of this width from place p on, read by `record_of`
 abbrev pub rows : {X : Type 0} → (ℕ → X) → ℕ → ℕ → ℕ → List X
 rows record_of width p n = each (λ i. record_of (p + width * i)) n
+
+-- n records of this width from place p on, or `Short` where they are not all there: no records are no read
+abbrev pub rows_at : {X : Type 0} → (List ℕ → ℕ → X) → ℕ → List ℕ → ℕ → ℕ → Result (List X) Refusal
+rows_at record_at width b p n = outcome ((n == 0 || holds b p (width * n), Short) ∷ []) (rows (record_at b) width p n)
 
 -- the whole entries of these bytes, each read by `entry_at`
 abbrev pub whole_entries : {X : Type 0} → (List ℕ → ℕ → X) → ℕ → List ℕ → List X

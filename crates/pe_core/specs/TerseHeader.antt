@@ -3,8 +3,8 @@
 use Rattle.std.specs.Prelude.{ℕ, ◌+◌, ◌-◌, ◌*◌, ◌%◌, ◌^◌, ◌==◌, ◌&&◌, List, [], ◌∷◌, Bool, Result, nat_le, if◌then◌else◌}
 use Rattle.pe_core.specs.Bytes.{le, holds}
 use Rattle.pe_core.specs.Records.{section_table, te_header}
-use Rattle.pe_core.specs.Refusals.{Refusal, Short, BadMagic, TeSize, outcome}
-use Rattle.pe_core.specs.Rows.{rows}
+use Rattle.pe_core.specs.Refusals.{Refusal, Short, BadMagic, TeSize, outcome, ◌>>=◌}
+use Rattle.pe_core.specs.Rows.{rows_at}
 use Rattle.pe_core.specs.declared.data_directories.DataDirectory.{DataDirectory}
 use Rattle.pe_core.specs.declared.header.TeHeader.{TeHeader}
 use Rattle.pe_core.specs.declared.section_table.SectionTable.{SectionTable}
@@ -71,6 +71,4 @@ reduced_section offset s = record {
 
 -- the section headers behind the header, each reduced
 unfoldable pub te_sections_of : List ℕ → TeHeader → Result (List SectionTable) Refusal
-te_sections_of b t = outcome
-    ((nat_le 40 t.stripped_size, TeSize) ∷ (holds b 40 (40 * t.number_of_sections), Short) ∷ [])
-    (rows (λ p. reduced_section (rva_offset t) (section_table b p)) 40 40 t.number_of_sections)
+te_sections_of b t = rva_offset_of t >>= λ offset. rows_at (λ c p. reduced_section offset (section_table c p)) 40 b 40 t.number_of_sections

@@ -26,6 +26,12 @@ pub const TE_MAGIC: u16 = 0x5A56;
 /// The size of the header of a terse image in bytes.
 pub const SIZE_OF_TE_HEADER: u16 = 40;
 
+/// The size of the PE signature in bytes.
+pub(crate) const SIZE_OF_PE_SIGNATURE: usize = 4;
+
+/// The size of a COFF header in bytes.
+pub(crate) const SIZE_OF_COFF_HEADER: usize = 20;
+
 /// The header that an image begins with, 64 bytes.
 #[derive(Clone, Copy, Debug, PartialEq)]
 pub struct DosHeader {

@@ -4,7 +4,7 @@ ghost use Rattle.std.specs.Prelude.{◌≡◌, ◌<◌, ◌==◌, [], ◌∷◌,
 ghost use Rattle.std.specs.List.{before_first, after_first, list_all};
 ghost use Rattle.std.specs.Str.{is_utf8};
 ghost use Rattle.std.specs.Option.{option_map};
-ghost use Rattle.pe_core.specs.Refusals.{Gives, GivesUnlessMemory, StringTable, kind_of, outcome};
+ghost use Rattle.pe_core.specs.Refusals.{Gives, GivesUnlessMemoryAfter, StringTable, kind_of, outcome};
 ghost use Rattle.pe_core.specs.Strings.{pieces, strings_at, strings_view};
 
 use crate::bytes::{number32, require_bytes};
@@ -114,7 +114,8 @@ impl<'a> Strtab<'a> {
     /// a zero unless it is empty. `StringTable` if one is not UTF-8; `Memory`.
     #[tactic(auto, using(crate::proofs::Pieces::no_pieces, std::proofs::lemmas::Grind::common_steps))]
     pub fn to_vec<A: Allocator>(&self, alloc: A) -> Result<Vec<&'a str, A>>
-        ensures { GivesUnlessMemory (λ v. map (λ s. s.now) v.items) result (all_strings self.now.bytes.now) }
+        ensures { GivesUnlessMemoryAfter (all_strings self.now.bytes.now) (λ v. map (λ s. s.now) v.items)
+            result (all_strings self.now.bytes.now) }
     {
         let table_size = self.bytes.len();
         let mut rest = from_place(self.bytes, SIZE_FIELD);

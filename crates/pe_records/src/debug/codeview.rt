@@ -46,10 +46,7 @@ impl<'a> CodeviewPDB70DebugInfo<'a> {
         ensures { Gives (option_map pdb70_view) result (pdb70_record mode bytes.entry.now place size) }
     {
         if size < 24 {
-            return match mode {
-                ParseMode::Strict => Err(Error::Malformed(Reason::DebugSize(size))),
-                ParseMode::Permissive => Ok(None),
-            };
+            return mode.none_if_refused(Err(Error::Malformed(Reason::DebugSize(size))));
         }
         let codeview_signature = u32_at(bytes, place)?;
         if codeview_signature != CODEVIEW_PDB70_MAGIC {
@@ -95,10 +92,7 @@ impl<'a> CodeviewPDB20DebugInfo<'a> {
         ensures { Gives (option_map pdb20_view) result (pdb20_record mode bytes.entry.now place size) }
     {
         if size < 16 {
-            return match mode {
-                ParseMode::Strict => Err(Error::Malformed(Reason::DebugSize(size))),
-                ParseMode::Permissive => Ok(None),
-            };
+            return mode.none_if_refused(Err(Error::Malformed(Reason::DebugSize(size))));
         }
         let codeview_signature = u32_at(bytes, place)?;
         if codeview_signature != CODEVIEW_PDB20_MAGIC {
