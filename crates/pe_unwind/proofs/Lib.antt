@@ -1,4 +1,5 @@
 pub mod Names
+pub mod Fields
 pub mod TableEntries
 pub mod Entries
 pub mod EpilogScopes

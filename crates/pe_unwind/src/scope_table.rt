@@ -8,7 +8,7 @@ ghost use Rattle.pe_unwind.specs.ScopeTable.{scope_at, scopes, scopes_left};
 use pe_core::number32;
 
 /// The bytes of one entry.
-const SIZE_OF_SCOPE: usize = 16;
+pub(crate) const SIZE_OF_SCOPE: usize = 16;
 
 /// A guarded range of code.
 #[derive(Clone, Copy, Debug, Default, PartialEq, Eq, Hash)]
