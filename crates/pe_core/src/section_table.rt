@@ -85,11 +85,11 @@ impl SectionTable {
     }
 
     /// Where the section's bytes end in the file.
-    pub(crate) fn raw_end(&self) -> u64
+    pub(crate) fn raw_end(&self) -> usize
         ensures value { result ≡ raw_end self.now }
         ensures small { result < 2 ^ 33 }
     {
-        u64::from(self.pointer_to_raw_data) + u64::from(self.size_of_raw_data)
+        self.pointer_to_raw_data as usize + self.size_of_raw_data as usize
     }
 
     /// Whether the two sections have a byte of the file in common.
@@ -97,7 +97,7 @@ impl SectionTable {
         ensures { IsTrue result ↔ SharesRawByte self.now other.now }
     {
         let start = self.pointer_to_raw_data.max(other.pointer_to_raw_data);
-        u64::from(start) < self.raw_end().min(other.raw_end())
+        (start as usize) < self.raw_end().min(other.raw_end())
     }
 }
 

@@ -23,3 +23,5 @@ mod refusals;
 mod sections;
 #[cfg(test)]
 mod unwind;
+#[cfg(test)]
+mod unwind_texts;

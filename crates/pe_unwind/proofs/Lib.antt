@@ -1,6 +1,5 @@
 pub mod Names
 pub mod Fields
-pub mod TableEntries
 pub mod Entries
 pub mod EpilogScopes
 pub mod Arm64Records

@@ -6,7 +6,7 @@ use Rattle.pe_unwind.specs.declared.unwind_code.UnwindOperation.{UnwindOperation
 use Rattle.pe_unwind.specs.declared.unwind_code.UnwindCode.{UnwindCode}
 use Rattle.pe_core.specs.Bytes.{AreBytes, le}
 use Rattle.pe_unwind.specs.declared.unwind_code.UnwindOperation.TheVariants.{PushNonVolatile, Alloc, SetFPRegister, SaveNonVolatile, SaveXMM, Epilog, SaveXMM128, PushMachineFrame, Noop}
-use Rattle.pe_unwind.specs.UnwindCodes.{SpellsOperation, Spells, BeginsWithCode, IsCutCode, integer, xmm, offset}
+use Rattle.pe_unwind.specs.UnwindCodes.{SpellsOperation, BeginsWithCode, IsCutCode, integer, xmm, offset}
 use Rattle.pe_unwind.specs.CodeSlots.{slots_at}
 
 one_slot : (v f place op info : ℕ) (o : UnwindOperation) → SpellsOperation v f place op info [] o → slots_at v op info ≡ Some 1

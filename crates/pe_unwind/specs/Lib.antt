@@ -1,5 +1,4 @@
 pub mod Registers
-pub mod TableEntries
 pub mod FunctionTable
 pub mod ScopeTable
 pub mod UnwindCodes
