@@ -29,3 +29,5 @@ mod symbols;
 mod terse_images;
 #[cfg(test)]
 mod unwind;
+#[cfg(test)]
+mod unwind_texts;

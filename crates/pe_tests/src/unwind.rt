@@ -3,8 +3,9 @@
 use crate::images::{image, with_byte};
 use pe_core::{CountedTable, DataDirectory, Error, Header, ParseOptions, Reason, SectionTable};
 use pe_unwind::{
-    ExceptionData, Register, RuntimeFunction, ScopeTableEntry, StackFrameOffset, UnwindCode,
-    UnwindHandler, UnwindInfo, UnwindOperation, search,
+    ExceptionData, Register, RuntimeFunction, RuntimeFunctionIterator, ScopeTableEntry,
+    ScopeTableIterator, StackFrameOffset, UnwindCode, UnwindCodeIterator, UnwindHandler,
+    UnwindInfo, UnwindOperation, search,
 };
 use std::alloc::{AllocError, Global};
 use std::hash::{DefaultHasher, Hash, Hasher};
@@ -141,7 +142,7 @@ fn searches_in_few_reads(rt: HostRuntime) -> Result<(), Fail> {
         let before = table.reads();
         let found = search(&mut table, 16 * i + 5);
         assert_eq!(rt; found, Some(entry(16 * i, 16 * i + 16, 0)));
-        assert!(rt; table.reads() - before <= 12, "at {i}");
+        assert!(rt; table.reads() - before <= 10, "at {i}");
     }
     assert_eq!(rt; table.len(), 12000);
     Ok(())
@@ -242,7 +243,13 @@ fn follows_links(rt: HostRuntime) -> Result<(), Fail> {
     assert!(rt;
         matches!(
             data.get_unwind_info_with_opts(function, &[], &flat()),
-            Err(Error::Malformed(Reason::FunctionCycle(_)))
+            Err(Error::Malformed(Reason::FunctionCycle(1)))
+        )
+    );
+    assert!(rt;
+        matches!(
+            data.unwind_at(0x1000, &[], &flat()),
+            Err(Error::Malformed(Reason::FunctionCycle(1)))
         )
     );
 
@@ -266,6 +273,85 @@ fn follows_links(rt: HostRuntime) -> Result<(), Fail> {
             Err(Error::Malformed(Reason::Unmapped(12)))
         )
     );
+    Ok(())
+}
+
+/// How many links were followed is told: a ring is met again after as many links as it has, a long one at the first saved
+/// address that lies in it.
+#[test]
+fn counts_links_of_rings(rt: HostRuntime) -> Result<(), Fail> {
+    let mut entries = Vec::new(rt.alloc());
+    for i in 0..10u32 {
+        entries.push(entry(0, 0, 12 * i + 13))?;
+    }
+    // From entry 10 back to entry 8: a ring of three, of which entry 8 is the first that is met.
+    entries.push(entry(0, 0, 12 * 8 + 1))?;
+    let bytes = table_of(rt.alloc(), &entries)?;
+    let data = table_at_0(&bytes, 132)?;
+    for (first, links) in [(8, 7), (4, 7), (0, 11)] {
+        assert!(rt;
+            matches!(
+                data.get_unwind_info_with_opts(entry(0, 0, 12 * first + 1), &[], &flat()),
+                Err(Error::Malformed(Reason::FunctionCycle(count))) if count == links
+            ),
+            "from {first}"
+        );
+    }
+    Ok(())
+}
+
+#[test]
+fn tells_the_address_of_a_record(rt: HostRuntime) -> Result<(), Fail> {
+    let bytes = table_of(rt.alloc(), &[entry(0x10, 0x18, 0x2000)])?;
+    let data = table_at_0(&bytes, 12)?;
+    assert!(rt;
+        matches!(
+            data.get_unwind_info(data.get_function(0)?, &[]),
+            Err(Error::Malformed(Reason::Unmapped(0x2000)))
+        )
+    );
+    assert!(rt;
+        matches!(
+            data.unwind_at(0x10, &[], &flat()),
+            Err(Error::Short {
+                at: 0x2000,
+                needed: 1
+            })
+        )
+    );
+    Ok(())
+}
+
+#[test]
+fn names_a_cut_entry_once(rt: HostRuntime) -> Result<(), Fail> {
+    let mut functions = RuntimeFunctionIterator::new(&[0; 13]);
+    assert_eq!(rt; functions.len(), 2);
+    assert!(rt; matches!(functions.next(), Some(Ok(_))));
+    assert!(rt;
+        matches!(
+            functions.next(),
+            Some(Err(Error::Short { at: 0, needed: 12 }))
+        )
+    );
+    assert_eq!(rt; functions.len(), 0);
+    assert!(rt; functions.next().is_none() && functions.next().is_none());
+    let mut scopes = ScopeTableIterator::new(&[0; 17]);
+    assert_eq!(rt; scopes.len(), 1);
+    assert!(rt; scopes.next().is_some());
+    assert!(rt; scopes.next().is_none() && scopes.next().is_none());
+    Ok(())
+}
+
+/// A code whose second byte is missing, and one whose operand is.
+#[test]
+fn tells_the_bytes_that_a_cut_code_needs(rt: HostRuntime) -> Result<(), Fail> {
+    for (bytes, count) in [(&[4u8][..], 2), (&[4, 0x01, 1][..], 4), (&[4, 0x11, 1, 2][..], 6)] {
+        let mut codes = UnwindCodeIterator::new(bytes, 1, Register(0));
+        assert!(rt;
+            matches!(codes.next(), Some(Err(Error::Short { at: 0, needed })) if needed == count)
+        );
+        assert!(rt; codes.next().is_none());
+    }
     Ok(())
 }
 

@@ -2,7 +2,7 @@
 use Rattle.std.proofs.Common.{◌≡◌, ℕ, ◌+◌, ◌/◌, ◌<◌, ◌≤◌, List, [], ◌∷◌, length, drop, Ok, Err, arith}
 use Rattle.pe_core.specs.Refusals.{Short}
 use Rattle.pe_unwind.specs.Arm64Functions.{arm64_function_at, arm64_functions, arm64_function_items}
-use Rattle.pe_unwind.proofs.TableEntries.{ReadsBehind, le_behind, whole_entries-count, entry_items-more, entry_items-none, entry_items-cut, entry_items-count}
+use Rattle.pe_core.proofs.TableEntries.{ReadsBehind, le_behind, length-whole_entries, entry_items-more, entry_items-none, entry_items-cut, length-entry_items}
 
 function_behind : ReadsBehind arm64_function_at 8
 function_behind b p q e = simp (le_behind b 8 p q 4 e, le_behind b 8 (p + 4) (q + 4) 4 (omega arith))
@@ -23,9 +23,9 @@ functions_cut b left some cut e = entry_items-cut arm64_function_at 8 b left som
 
 pub functions_count : (b : List ℕ) → length (arm64_function_items b) ≡ (length b + 7) / 8
 unfolding arm64_function_items
-functions_count b = omega (arith, entry_items-count arm64_function_at 8 b)
+functions_count b = omega (arith, length-entry_items arm64_function_at 8 b)
 
 -- the whole entries alone
 pub whole_count : (b : List ℕ) → length (arm64_functions b) ≡ length b / 8
 unfolding arm64_functions
-whole_count b = whole_entries-count arm64_function_at 8 b
+whole_count b = length-whole_entries arm64_function_at 8 b

@@ -4,7 +4,8 @@ use Rattle.std.proofs.lemmas.Bool.Decides.{nat_tests}
 use Rattle.pe_unwind.specs.declared.arm64.codes.Arm64CustomStackCase.TheVariants.{TrapFrame, MachineFrame, Context, EcContext, ClearUnwoundToCall}
 use Rattle.pe_unwind.specs.declared.arm64.codes.Arm64UnwindCode.{Arm64UnwindCode}
 use Rattle.pe_unwind.specs.declared.arm64.codes.Arm64UnwindCode.TheVariants.{AllocSmall, SaveR19R20Preindexed, SaveFpLr, SaveFpLrPreindexed, AllocMedium, SaveRegPair, SaveRegPairPreindexed, SaveReg, SaveRegPreindexed, SaveLrPair, SaveFRegPair, SaveFRegPairPreindexed, SaveFReg, SaveFRegPreindexed, AllocZ, AllocLarge, SetFp, AddFp, Nop, End, EndC, SaveNext, SaveAnyReg, SaveZReg, SavePReg, CustomStack, PacSignLr, Reserved}
-use Rattle.pe_unwind.specs.Arm64Encoding.{encoding, Legal, len_at}
+use Rattle.pe_unwind.specs.Arm64Encoding.{encoding, Legal}
+use Rattle.pe_unwind.specs.Arm64CodeLengths.{len_at}
 
 -- the first two bytes of a stream tell how long its first code is
 pub len_of_encoding : (c : Arm64UnwindCode) (rest : List ℕ) → Legal c → len_at (get_or (encoding c ++ rest) 0 0) (get_or (encoding c ++ rest) 1 0) ≡ length (encoding c)

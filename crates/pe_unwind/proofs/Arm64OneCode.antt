@@ -7,7 +7,8 @@ use Rattle.pe_unwind.specs.declared.arm64.codes.Arm64UnwindCode.TheVariants.{All
 use Rattle.std.proofs.lemmas.Grind.{common_steps}
 use Rattle.std.proofs.lemmas.List.{length-append}
 use Rattle.pe_unwind.proofs.Arm64Lengths.{len_of_encoding}
-use Rattle.pe_unwind.specs.Arm64Encoding.{encoding, Legal, len_at, BeginsWithArm64Code, BeginsWithNoArm64Code, IsCutArm64Code}
+use Rattle.pe_unwind.specs.Arm64Encoding.{encoding, Legal, BeginsWithArm64Code, BeginsWithNoArm64Code, IsCutArm64Code}
+use Rattle.pe_unwind.specs.Arm64CodeLengths.{len_at}
 
 -- the code of one byte from C0h on
 abbrev pub one_high : ℕ → Arm64UnwindCode

@@ -5,7 +5,8 @@ use Rattle.std.proofs.lemmas.Bool.Decides.{nat_tests}
 use Rattle.pe_unwind.specs.declared.arm64.codes.Arm64UnwindCode.{Arm64UnwindCode}
 use Rattle.pe_unwind.specs.declared.arm64.codes.Arm64UnwindCode.TheVariants.{Reserved}
 use Rattle.std.proofs.Math.Seq.{drop-append_seam}
-use Rattle.pe_unwind.specs.Arm64Encoding.{encoding, Legal, len_at, Encodes, BeginsWithArm64Code, IsCutArm64Code}
+use Rattle.pe_unwind.specs.Arm64Encoding.{encoding, Legal, BeginsWithArm64Code, IsCutArm64Code}
+use Rattle.pe_unwind.specs.Arm64CodeLengths.{len_at, Encodes}
 use Rattle.pe_unwind.proofs.Arm64OneCode.{one, two, three, four}
 
 one_legal : (b : ℕ) → b < 256 → len_at b 0 ≡ 1 → Legal (one b)

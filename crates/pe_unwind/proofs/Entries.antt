@@ -3,7 +3,7 @@ use Rattle.std.proofs.Common.{◌≡◌, ℕ, ◌+◌, ◌/◌, ◌<◌, ◌≤�
 use Rattle.pe_core.specs.Refusals.{Short}
 use Rattle.pe_unwind.specs.FunctionTable.{function_at, function_items}
 use Rattle.pe_unwind.specs.ScopeTable.{scope_at, scopes}
-use Rattle.pe_unwind.proofs.TableEntries.{ReadsBehind, le_behind, whole_entries-more, whole_entries-none, whole_entries-count, entry_items-more, entry_items-none, entry_items-cut, entry_items-count}
+use Rattle.pe_core.proofs.TableEntries.{ReadsBehind, le_behind, whole_entries-more, whole_entries-none, length-whole_entries, entry_items-more, entry_items-none, entry_items-cut, length-entry_items}
 
 function_behind : ReadsBehind function_at 12
 function_behind b p q e =
@@ -29,7 +29,7 @@ functions_cut b left some cut e = entry_items-cut function_at 12 b left some cut
 
 pub functions_count : (b : List ℕ) → length (function_items b) ≡ (length b + 11) / 12
 unfolding function_items
-functions_count b = omega (arith, entry_items-count function_at 12 b)
+functions_count b = omega (arith, length-entry_items function_at 12 b)
 
 -- the same of scope tables, which are never cut
 pub scopes_more : (b : List ℕ) → 16 ≤ length b → scopes b ≡ scope_at b 0 ∷ scopes (drop 16 b)
@@ -42,4 +42,4 @@ scopes_none b h = whole_entries-none scope_at 16 b h
 
 pub scopes_count : (b : List ℕ) → length (scopes b) ≡ length b / 16
 unfolding scopes
-scopes_count b = whole_entries-count scope_at 16 b
+scopes_count b = length-whole_entries scope_at 16 b

@@ -2,7 +2,7 @@
 use Rattle.std.proofs.Common.{◌≡◌, ℕ, ◌+◌, ◌/◌, ◌<◌, ◌≤◌, List, [], ◌∷◌, length, drop, Ok, Err, arith}
 use Rattle.pe_core.specs.Refusals.{Short}
 use Rattle.pe_unwind.specs.Arm64Words.{epilog_scope_at, epilog_scope_items}
-use Rattle.pe_unwind.proofs.TableEntries.{ReadsBehind, le_behind, entry_items-more, entry_items-none, entry_items-cut, entry_items-count}
+use Rattle.pe_core.proofs.TableEntries.{ReadsBehind, le_behind, entry_items-more, entry_items-none, entry_items-cut, length-entry_items}
 
 scope_behind : ReadsBehind epilog_scope_at 4
 scope_behind b p q e = simp (le_behind b 4 p q 4 e)
@@ -21,4 +21,4 @@ epilog_scopes_cut b left some cut e = entry_items-cut epilog_scope_at 4 b left s
 
 pub epilog_scopes_count : (b : List ℕ) → length (epilog_scope_items b) ≡ (length b + 3) / 4
 unfolding epilog_scope_items
-epilog_scopes_count b = omega (arith, entry_items-count epilog_scope_at 4 b)
+epilog_scopes_count b = omega (arith, length-entry_items epilog_scope_at 4 b)

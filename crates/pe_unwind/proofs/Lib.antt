@@ -1,5 +1,5 @@
 pub mod Names
-pub mod TableEntries
+pub mod Fields
 pub mod Entries
 pub mod EpilogScopes
 pub mod Arm64Records

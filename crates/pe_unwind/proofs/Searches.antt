@@ -5,21 +5,21 @@ use Rattle.std.specs.Int.Digits.{digits_of}
 use Rattle.std.proofs.lemmas.Int.Digits.{length-digits_of_step, length-digits_of-le, number_lt, number_digits_of, all_below_base_digits_of}
 use Rattle.std.proofs.lemmas.List.{take_more}
 use Rattle.std.proofs.Math.Seq.{take-nil}
-use Rattle.std.proofs.lemmas.List.FromFn.{get_or-map-range_with_len, length-map-range_with_len}
 use Rattle.std.proofs.lemmas.List.Elements.{Contains-get_or}
 use Rattle.std.proofs.lemmas.Bool.{cases_lt}
 use Rattle.std.proofs.lemmas.Bool.Decides.{nat_tests}
+use Rattle.pe_core.proofs.TableEntries.{length-whole_entries, get_or-whole_entries}
 use Rattle.pe_core.specs.CountedTable.{one_more}
 use Rattle.pe_unwind.specs.declared.function_table.RuntimeFunction.{RuntimeFunction}
 use Rattle.pe_unwind.specs.FunctionTable.{function_at, functions, NeverFalls, scan, if_before_end, digits, Finds}
 
 pub length_functions : (b : List ℕ) → length (functions b) ≡ length b / 12
 unfolding functions
-length_functions b = length-map-range_with_len (λ i. function_at b (12 * i)) 0 (length b / 12)
+length_functions b = length-whole_entries function_at 12 b
 
 pub get_or-functions : (b : List ℕ) (i : ℕ) (d : RuntimeFunction) → i < length b / 12 → get_or (functions b) i d ≡ function_at b (12 * i)
 unfolding functions
-get_or-functions b i d h = get_or-map-range_with_len (λ j. function_at b (12 * j)) 0 (length b / 12) i i d h (omega arith)
+get_or-functions b i d h = get_or-whole_entries function_at 12 b i d h
 
 -- the first half passes, the rest does not: a filter keeps the first half
 pub filter_first : {X : Type 0} (p : X → Bool) (xs : List X) (i : ℕ) → ((k : ℕ) (d : X) → k < i → k < length xs → p (get_or xs k d) ≡ true) → ((k : ℕ) (d : X) → i ≤ k → k < length xs → p (get_or xs k d) ≡ false) → filter p xs ≡ take i xs

@@ -65,20 +65,20 @@ one_code v f b c d m n h k =
     let same : m ≡ n = same_length v f b c d m n h k in
     (one_spelled v f (take n b) c d (subst (λ (i : ℕ). Spells v f (take i b) c) same h.1) k.1, same)
 
-one_fault_bad : (v : ℕ) (b : List ℕ) (j : Refusal) → IsFault v b BadCode → IsFault v b j → BadCode ≡ j
-one_fault_bad v b Short h k = absurd (h k)
-one_fault_bad v b BadCode h k = refl
-one_fault_bad v b other h k = absurd k
+one_fault_bad : (v f : ℕ) (b : List ℕ) (j : Refusal) → IsFault v f b BadCode → IsFault v f b j → BadCode ≡ j
+one_fault_bad v f b Short h k = absurd (h k)
+one_fault_bad v f b BadCode h k = refl
+one_fault_bad v f b other h k = absurd k
 
-one_fault_short : (v : ℕ) (b : List ℕ) (j : Refusal) → IsFault v b Short → IsFault v b j → Short ≡ j
-one_fault_short v b Short h k = refl
-one_fault_short v b BadCode h k = absurd (k h)
-one_fault_short v b other h k = absurd k
+one_fault_short : (v f : ℕ) (b : List ℕ) (j : Refusal) → IsFault v f b Short → IsFault v f b j → Short ≡ j
+one_fault_short v f b Short h k = refl
+one_fault_short v f b BadCode h k = absurd (k h)
+one_fault_short v f b other h k = absurd k
 
-one_fault : (v : ℕ) (b : List ℕ) (i j : Refusal) → IsFault v b i → IsFault v b j → i ≡ j
-one_fault v b Short j h k = one_fault_short v b j h k
-one_fault v b BadCode j h k = one_fault_bad v b j h k
-one_fault v b other j h k = absurd h
+one_fault : (v f : ℕ) (b : List ℕ) (i j : Refusal) → IsFault v f b i → IsFault v f b j → i ≡ j
+one_fault v f b Short j h k = one_fault_short v f b j h k
+one_fault v f b BadCode j h k = one_fault_bad v f b j h k
+one_fault v f b other j h k = absurd h
 
 -- a stream has one list of items, up to the numbers in its refusal
 pub one_reading : (s : CodeStream) (xs ys : List (Result UnwindCode Error)) → AreItems s xs → AreItems s ys → map answer_of xs ≡ map answer_of ys
@@ -93,5 +93,5 @@ one_reading s (Ok c ∷ xs) (Ok d ∷ ys) h k =
 one_reading s (Err e ∷ xs) [] h k = absurd (omega (arith, h.0, ap (λ (b : List ℕ). length b) k))
 one_reading s (Err e ∷ xs) (Ok d ∷ ys) h k = absurd (h.1 d k.0 k.1)
 one_reading s (Err e ∷ xs) (Err x ∷ ys) h k =
-    ap (λ (r : Refusal). Err r ∷ map answer_of xs) (one_fault s.version s.content (kind_of e) (kind_of x) h.2 k.2)
+    ap (λ (r : Refusal). Err r ∷ map answer_of xs) (one_fault s.version s.frame s.content (kind_of e) (kind_of x) h.2 k.2)
     ∙ ap (λ (zs : List (Result UnwindCode Error)). Err (kind_of x) ∷ map answer_of zs) (h.3 ∙ sym k.3)

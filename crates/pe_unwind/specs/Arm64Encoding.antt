@@ -1,6 +1,6 @@
 -- The bytes of ARM64 unwind codes: a line for each line of the table. (ARM64 exception handling: unwind codes; reserved
 -- codes by this project's choice.)
-use Rattle.std.specs.Prelude.{◌≡◌, nat_eq, ℕ, zero, suc, ◌+◌, ◌-◌, ◌*◌, ◌/◌, ◌%◌, ◌^◌, ◌<◌, ◌≤◌, ◌⊎◌, Bool, true, false, if◌then◌else◌, List, [], ◌∷◌, ◌++◌, length, drop, nat_lt, ◌==◌}
+use Rattle.std.specs.Prelude.{◌≡◌, nat_eq, ℕ, zero, suc, ◌+◌, ◌-◌, ◌*◌, ◌/◌, ◌%◌, ◌^◌, ◌<◌, ◌≤◌, ◌⊎◌, Bool, true, false, if◌then◌else◌, List, [], ◌∷◌, ◌++◌, length, drop}
 use Rattle.pe_unwind.specs.declared.arm64.codes.Arm64CustomStackCase.{Arm64CustomStackCase}
 use Rattle.pe_unwind.specs.declared.arm64.codes.Arm64CustomStackCase.TheVariants.{TrapFrame, MachineFrame, Context, EcContext, ClearUnwoundToCall}
 use Rattle.pe_unwind.specs.declared.arm64.codes.Arm64UnwindCode.{Arm64UnwindCode}
@@ -106,11 +106,6 @@ Legal (CustomStack what) = Unit {0}
 Legal PacSignLr = Unit {0}
 Legal (Reserved opcode value n) = IsReserved opcode value n
 
--- the bytes are those of a legal code
-pub record Encodes (bytes : List ℕ) (code : Arm64UnwindCode) : Type 0 where
-  pub legal : Legal code
-  pub spelled : encoding code ≡ bytes
-
 -- the bytes begin with those of a legal code
 pub record BeginsWithArm64Code (bytes : List ℕ) (code : Arm64UnwindCode) : Type 0 where
   pub legal : Legal code
@@ -127,16 +122,3 @@ pub record IsCutArm64Code (bytes : List ℕ) : Type 0 where
   pub legal : Legal code
   pub some : 0 < length missing
   pub spelled : bytes ++ missing ≡ encoding code
-
--- how many bytes a code has that begins with these two
-abbrev pub len_at : ℕ → ℕ → ℕ
-len_at first second =
-    if nat_lt first 0xC0 then 1
-    else (if nat_lt first 0xE0 then 2
-    else (if first == 0xE0 then 4
-    else (if first == 0xE2 then 2
-    else (if first == 0xE7 then (if nat_lt second 128 then 3 else 2)
-    else (if first == 0xF8 then 2
-    else (if first == 0xF9 then 3
-    else (if first == 0xFA then 4
-    else (if first == 0xFB then 5 else 1))))))))

@@ -3,7 +3,7 @@ use Rattle.std.specs.Prelude.{ℕ, ◌*◌, ◌+◌, ◌/◌, ◌==◌, Bool, no
 use Rattle.pe_core.specs.Bytes.{le}
 use Rattle.pe_core.specs.Refusals.{Refusal, FunctionIndex, outcome}
 use Rattle.pe_unwind.specs.Arm64Words.{bits}
-use Rattle.pe_unwind.specs.TableEntries.{whole_entries, entry_items}
+use Rattle.pe_core.specs.Rows.{whole_entries, entry_items}
 use Rattle.pe_unwind.specs.declared.arm64.function.Arm64RuntimeFunction.{Arm64RuntimeFunction}
 use Rattle.pe_unwind.specs.declared.arm64.function.Arm64RuntimeFunctionIterator.{Arm64RuntimeFunctionIterator}
 

@@ -4,7 +4,7 @@ use Rattle.pe_core.specs.Bytes.{le}
 use Rattle.pe_core.specs.Refusals.{Refusal}
 use Rattle.pe_unwind.specs.declared.arm64.words.Arm64EpilogScope.{Arm64EpilogScope}
 use Rattle.pe_unwind.specs.declared.arm64.words.Arm64EpilogScopeIterator.{Arm64EpilogScopeIterator}
-use Rattle.pe_unwind.specs.TableEntries.{entry_items}
+use Rattle.pe_core.specs.Rows.{entry_items}
 
 -- the number in so many bits of a word, from bit `first` on
 abbrev pub bits : ℕ → ℕ → ℕ → ℕ

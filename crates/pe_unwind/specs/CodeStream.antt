@@ -29,11 +29,11 @@ abbrev pub GivesCode : CodeStream → Option (Result UnwindCode Error) → CodeS
 GivesCode s None t = (s.content ≡ []) × (t ≡ s)
 GivesCode s (Some (Ok code)) t = (n : ℕ) × BeginsWithCode s.version s.frame s.content code n × (0 < n) × (t ≡ with_left s (drop n s.content))
 GivesCode s (Some (Err e)) t =
-    (0 < length s.content) × BeginsWithNoCode s.version s.frame s.content × IsFault s.version s.content (kind_of e) × (t ≡ with_left s [])
+    (0 < length s.content) × BeginsWithNoCode s.version s.frame s.content × IsFault s.version s.frame s.content (kind_of e) × (t ≡ with_left s [])
 
 -- the items of a stream: codes whose spellings follow one another, and one fault where no spelling begins what is left
 abbrev pub AreItems : CodeStream → List (Result UnwindCode Error) → Type 0
 AreItems s [] = s.content ≡ []
 AreItems s (Ok code ∷ items) = (n : ℕ) × BeginsWithCode s.version s.frame s.content code n × AreItems (with_left s (drop n s.content)) items
 AreItems s (Err e ∷ items) =
-    (0 < length s.content) × BeginsWithNoCode s.version s.frame s.content × IsFault s.version s.content (kind_of e) × (items ≡ [])
+    (0 < length s.content) × BeginsWithNoCode s.version s.frame s.content × IsFault s.version s.frame s.content (kind_of e) × (items ≡ [])

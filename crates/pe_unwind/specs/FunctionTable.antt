@@ -7,7 +7,7 @@ use Rattle.pe_core.specs.Refusals.{Refusal, kind_of}
 use Rattle.pe_core.specs.declared.error.Error.{Error}
 use Rattle.pe_unwind.specs.declared.function_table.RuntimeFunction.{RuntimeFunction}
 use Rattle.pe_unwind.specs.declared.function_table.RuntimeFunctionIterator.{RuntimeFunctionIterator}
-use Rattle.pe_unwind.specs.TableEntries.{whole_entries, entry_items}
+use Rattle.pe_core.specs.Rows.{whole_entries, entry_items}
 
 -- the entry of 12 bytes at p
 abbrev pub function_at : List ℕ → ℕ → RuntimeFunction

@@ -1,8 +1,8 @@
 pub mod Registers
-pub mod TableEntries
 pub mod FunctionTable
 pub mod ScopeTable
 pub mod UnwindCodes
+pub mod CodeSlots
 pub mod CodeStream
 pub mod UnwindRecord
 pub mod ExceptionTable
@@ -14,4 +14,5 @@ pub mod Arm64Words
 pub mod Arm64Record
 pub mod Arm64Unwinding
 pub mod Arm64Encoding
+pub mod Arm64CodeLengths
 pub mod Arm64Tiling

@@ -1,5 +1,5 @@
 -- One link of a chain. Contracts of private functions alone cite it.
-use Rattle.std.specs.Prelude.{◌≡◌, ℕ, ◌-◌, Option, Some, None, Result, Ok, Err}
+use Rattle.std.specs.Prelude.{◌≡◌, ℕ, ◌-◌, Some, None, Result, Ok, Err}
 use Rattle.pe_core.specs.Refusals.{Refusal, Unmapped, FunctionLink}
 use Rattle.pe_unwind.specs.Links.{Table, entry_at, next}
 

@@ -3,7 +3,7 @@ use Rattle.std.specs.Prelude.{ℕ, ◌+◌, List}
 use Rattle.pe_core.specs.Bytes.{le}
 use Rattle.pe_unwind.specs.declared.scope_table.ScopeTableEntry.{ScopeTableEntry}
 use Rattle.pe_unwind.specs.declared.scope_table.ScopeTableIterator.{ScopeTableIterator}
-use Rattle.pe_unwind.specs.TableEntries.{whole_entries}
+use Rattle.pe_core.specs.Rows.{whole_entries}
 
 -- the entry of 16 bytes at p
 abbrev pub scope_at : List ℕ → ℕ → ScopeTableEntry

@@ -1,5 +1,6 @@
 -- The spellings of unwind codes. (x64 exception handling: unwind codes; opcodes 6 and 7 by this project's choice.)
-use Rattle.std.specs.Prelude.{◌≡◌, ℕ, ◌+◌, ◌*◌, ◌/◌, ◌%◌, ◌<◌, ◌≤◌, ◌⊎◌, if◌then◌else◌, nat_lt, ◌==◌, ◌||◌, List, [], ◌∷◌, length, take, Option, Some, None}
+use Rattle.std.specs.Prelude.{◌≡◌, ℕ, ◌+◌, ◌*◌, ◌/◌, ◌%◌, ◌<◌, ◌≤◌, ◌⊎◌, if◌then◌else◌, ◌==◌, List, [], ◌∷◌, ◌++◌, length, take}
+use Rattle.pe_core.specs.Bytes.{AreBytes}
 use Rattle.pe_core.specs.Refusals.{Refusal, Short, UnwindCode as BadCode}
 use Rattle.pe_unwind.specs.declared.register.Register.{Register}
 use Rattle.pe_unwind.specs.declared.unwind_code.StackFrameOffset.{StackFrameOffset}
@@ -54,29 +55,16 @@ BeginsWithCode v f bytes code n = (n ≤ length bytes) × Spells v f (take n byt
 abbrev pub BeginsWithNoCode : ℕ → ℕ → List ℕ → Type 0
 BeginsWithNoCode v f bytes = (code : UnwindCode) (n : ℕ) → BeginsWithCode v f bytes code n → ⊥
 
--- the last column of the table: how many slots a line with this opcode and info has
-abbrev pub slots_at : ℕ → ℕ → ℕ → Option ℕ
-slots_at v op info =
-    if op == 0 then Some 1
-    else (if op == 1 then (if info == 0 then Some 2 else (if info == 1 then Some 3 else None))
-    else (if op == 2 then Some 1
-    else (if op == 3 then Some 1
-    else (if op == 4 then Some 2
-    else (if op == 5 then Some 3
-    else (if op == 6 then (if v == 1 then Some 2 else (if v == 2 then Some 1 else None))
-    else (if op == 7 then (if v == 1 || v == 2 then Some 3 else None)
-    else (if op == 8 then Some 2
-    else (if op == 9 then Some 3
-    else (if op == 10 then (if nat_lt info 2 then Some 1 else None) else None))))))))))
-
--- a line of the table begins like the bytes, and slots are missing
-abbrev pub IsCutCode : ℕ → List ℕ → Type 0
-IsCutCode v [] = ⊥
-IsCutCode v (place ∷ []) = Unit {0}
-IsCutCode v (place ∷ second ∷ more) = (k : ℕ) × (slots_at v (second % 16) (second / 16) ≡ Some k) × (2 + length more < 2 * k)
+-- the bytes are a proper beginning of a code's spelling: some missing bytes make them a code
+pub record IsCutCode (v f : ℕ) (bytes : List ℕ) : Type 0 where
+  pub code : UnwindCode
+  pub missing : List ℕ
+  pub are_bytes : AreBytes missing
+  pub some : 0 < length missing
+  pub spelled : Spells v f (bytes ++ missing) code
 
 -- what refuses bytes that begin with no spelling
-abbrev pub IsFault : ℕ → List ℕ → Refusal → Type 0
-IsFault v bytes Short = IsCutCode v bytes
-IsFault v bytes BadCode = IsCutCode v bytes → ⊥
-IsFault v bytes other = ⊥
+abbrev pub IsFault : ℕ → ℕ → List ℕ → Refusal → Type 0
+IsFault v f bytes Short = IsCutCode v f bytes
+IsFault v f bytes BadCode = IsCutCode v f bytes → ⊥
+IsFault v f bytes other = ⊥

@@ -6,7 +6,7 @@ ghost use Rattle.std.specs.Iterator.SizeHint.{IsWithinCount};
 ghost use Rattle.pe_core.specs.CountedTable.{after_read};
 ghost use Rattle.pe_unwind.specs.FunctionTable.{function_at, functions, function_items, items_of_functions, answer_of, Finds, digits};
 
-use pe_core::{CountedTable, Error, Result, number32};
+use pe_core::{CountedTable, Result, number32, split_entry};
 
 /// The bytes of one entry.
 pub(crate) const SIZE_OF_FUNCTION: usize = 12;
@@ -58,19 +58,10 @@ impl<'a> Iterator for RuntimeFunctionIterator<'a> {
 
     #[tactic(auto, using(crate::proofs::Entries::functions_more, crate::proofs::Entries::functions_cut, crate::proofs::Entries::functions_none))]
     fn next(&mut self) -> Option<Result<RuntimeFunction>> {
-        let bytes = self.bytes;
-        if bytes.is_empty() {
-            return None;
+        match split_entry(&mut self.bytes, SIZE_OF_FUNCTION)? {
+            Ok(bytes) => Some(Ok(read_function(bytes, 0))),
+            Err(error) => Some(Err(error)),
         }
-        if bytes.len() < SIZE_OF_FUNCTION {
-            self.bytes = bytes.split_at(bytes.len()).1;
-            return Some(Err(Error::Short {
-                at: 0,
-                needed: SIZE_OF_FUNCTION,
-            }));
-        }
-        self.bytes = bytes.split_at(SIZE_OF_FUNCTION).1;
-        Some(Ok(read_function(bytes, 0)))
     }
 
     #[tactic(auto, using(crate::proofs::Entries::functions_count))]
@@ -89,7 +80,7 @@ impl<'a> ExactSizeIterator for RuntimeFunctionIterator<'a> {
     fn len(&self) -> usize
         ensures { result ≡ length (items_of_functions self.now) }
     {
-        (self.bytes.len() + (SIZE_OF_FUNCTION - 1)) / SIZE_OF_FUNCTION
+        self.bytes.len().div_ceil(SIZE_OF_FUNCTION)
     }
 }
 

@@ -5,10 +5,10 @@ ghost use Rattle.std.specs.Iterator.{UpTo, YieldsFirst, item_count};
 ghost use Rattle.std.specs.Iterator.SizeHint.{IsWithinCount};
 ghost use Rattle.pe_unwind.specs.ScopeTable.{scope_at, scopes, scopes_left};
 
-use pe_core::number32;
+use pe_core::{number32, split_entry};
 
 /// The bytes of one entry.
-const SIZE_OF_SCOPE: usize = 16;
+pub(crate) const SIZE_OF_SCOPE: usize = 16;
 
 /// A guarded range of code.
 #[derive(Clone, Copy, Debug, Default, PartialEq, Eq, Hash)]
@@ -60,11 +60,7 @@ impl<'a> Iterator for ScopeTableIterator<'a> {
 
     #[tactic(auto, using(crate::proofs::Entries::scopes_more, crate::proofs::Entries::scopes_none))]
     fn next(&mut self) -> Option<ScopeTableEntry> {
-        let bytes = self.bytes;
-        if bytes.len() < SIZE_OF_SCOPE {
-            return None;
-        }
-        self.bytes = bytes.split_at(SIZE_OF_SCOPE).1;
+        let bytes = split_entry(&mut self.bytes, SIZE_OF_SCOPE)?.ok()?;
         Some(read_scope(bytes, 0))
     }
 

@@ -1,14 +1,41 @@
 //! Unwind codes: what a prolog did, and where in it.
 
-ghost use Rattle.std.specs.Prelude.{◌≡◌, ◌*◌, ◌/◌, ◌%◌, ◌<◌, ◌≤◌, ◌⊎◌, ℕ, [], ◌∷◌, length, IfOk, IfErr, IfSome, OnErr, Some, min, slice_index};
+ghost use Rattle.std.specs.Prelude.{◌≡◌, ◌+◌, ◌*◌, ◌/◌, ◌%◌, ◌<◌, ◌≤◌, ◌⊎◌, ℕ, [], ◌∷◌, length, IfOk, IfErr, IfSome, OnErr, Some, min, slice_index};
 ghost use Rattle.std.specs.Iterator.{at_most, UpTo};
 ghost use Rattle.std.specs.Iterator.SizeHint.{IsWithinCount};
 ghost use Rattle.pe_core.specs.Refusals.{kind_of};
-ghost use Rattle.pe_unwind.specs.UnwindCodes.{SpellsOperation, BeginsWithCode, BeginsWithNoCode, IsFault, slots_at, offset};
+ghost use Rattle.pe_unwind.specs.UnwindCodes.{SpellsOperation, BeginsWithCode, BeginsWithNoCode, IsFault, offset};
+ghost use Rattle.pe_unwind.specs.CodeSlots.{slots_at};
 ghost use Rattle.pe_unwind.specs.CodeStream.{stream_of, slots_left, GivesCode};
 
 use crate::register::Register;
-use pe_core::{Error, Reason, Result};
+use pe_core::{Error, Reason, Result, number16, number32};
+
+/// The bytes of one slot.
+const SIZE_OF_SLOT: usize = 2;
+
+// The opcodes, as the format names them. In records of version 1 the codes of 6 and 7 save an XMM register.
+const UWOP_PUSH_NONVOL: u8 = 0;
+
+const UWOP_ALLOC_LARGE: u8 = 1;
+
+const UWOP_ALLOC_SMALL: u8 = 2;
+
+const UWOP_SET_FPREG: u8 = 3;
+
+const UWOP_SAVE_NONVOL: u8 = 4;
+
+const UWOP_SAVE_NONVOL_FAR: u8 = 5;
+
+const UWOP_EPILOG: u8 = 6;
+
+const UWOP_SPARE_CODE: u8 = 7;
+
+const UWOP_SAVE_XMM128: u8 = 8;
+
+const UWOP_SAVE_XMM128_FAR: u8 = 9;
+
+const UWOP_PUSH_MACHFRAME: u8 = 10;
 
 /// Where a register is saved, in bytes.
 #[derive(Clone, Copy, Debug, PartialEq, Eq)]
@@ -65,104 +92,95 @@ fn frame_offset(frame_register: Register, value: u32) -> StackFrameOffset
     }
 }
 
-/// An operation of one slot.
-fn short_operation(version: u8, place: u8, opcode: u8, info: u8) -> UnwindOperation
-    requires { (opcode ≡ 0) ⊎ ((opcode ≡ 2) ⊎ ((opcode ≡ 3) ⊎ (((opcode ≡ 6) × (version ≡ 2)) ⊎ ((opcode ≡ 10) × (info < 2))))) }
-    ensures { (f : ℕ) → SpellsOperation version f place opcode info [] result }
-{
-    match opcode {
-        0 => UnwindOperation::PushNonVolatile(Register(info)),
-        2 => UnwindOperation::Alloc(u32::from(info) * 8 + 8),
-        3 => UnwindOperation::SetFPRegister,
-        6 => UnwindOperation::Epilog {
-            offset_low_or_size: place,
-            offset_high_or_flags: info,
-        },
-        _ => UnwindOperation::PushMachineFrame(info == 1),
-    }
-}
-
-/// An operation of two slots.
-fn middle_operation(
-    version: u8,
-    frame_register: Register,
-    opcode: u8,
-    info: u8,
-    low: u8,
-    high: u8,
-) -> UnwindOperation
-    requires line { ((opcode ≡ 1) × (info ≡ 0)) ⊎ ((opcode ≡ 4) ⊎ (((opcode ≡ 6) × (version ≡ 1)) ⊎ (opcode ≡ 8))) }
-    requires info { info < 16 }
-    ensures { (place : ℕ) → SpellsOperation version frame_register.0 place opcode info (low ∷ high ∷ []) result }
-{
-    let value = u32::from(low) + 256 * u32::from(high);
-    match opcode {
-        1 => UnwindOperation::Alloc(value * 8),
-        4 => UnwindOperation::SaveNonVolatile(
-            Register(info),
-            frame_offset(frame_register, value * 8),
-        ),
-        6 => UnwindOperation::SaveXMM(
-            Register(info + 17),
-            frame_offset(frame_register, value * 16),
-        ),
-        _ => UnwindOperation::SaveXMM128(
-            Register(info + 17),
-            frame_offset(frame_register, value * 16),
-        ),
-    }
-}
-
-/// An operation of three slots.
-fn long_operation(
-    version: u8,
-    frame_register: Register,
-    opcode: u8,
-    info: u8,
-    bytes: [u8; 4],
-) -> UnwindOperation
-    requires line { ((opcode ≡ 1) × (info ≡ 1)) ⊎ ((opcode ≡ 5) ⊎ (((opcode ≡ 7) × ((version ≡ 1) ⊎ (version ≡ 2))) ⊎ (opcode ≡ 9))) }
-    requires info { info < 16 }
-    ensures { (place : ℕ) → SpellsOperation version frame_register.0 place opcode info
-        (slice_index bytes 0 ∷ slice_index bytes 1 ∷ slice_index bytes 2 ∷ slice_index bytes 3 ∷ []) result }
-{
-    let value = u32::from(bytes[0])
-        + 256 * u32::from(bytes[1])
-        + 65536 * u32::from(bytes[2])
-        + 16777216 * u32::from(bytes[3]);
-    match opcode {
-        1 => UnwindOperation::Alloc(value),
-        5 => UnwindOperation::SaveNonVolatile(Register(info), frame_offset(frame_register, value)),
-        9 => UnwindOperation::SaveXMM128(Register(info + 17), frame_offset(frame_register, value)),
-        _ => {
-            if version == 1 {
-                UnwindOperation::SaveXMM128(
-                    Register(info + 17),
-                    frame_offset(frame_register, value),
-                )
-            } else {
-                UnwindOperation::Noop
-            }
-        }
-    }
-}
-
 /// How many slots a code with this opcode and info has, if one has them.
 fn slots(version: u8, opcode: u8, info: u8) -> Option<usize>
     ensures value { result ≡ slots_at version opcode info }
     ensures range { IfSome result (λ n. (1 ≤ n) × (n ≤ 3)) }
 {
     match opcode {
-        0 | 2 | 3 => Some(1),
-        1 if info == 0 => Some(2),
-        1 if info == 1 => Some(3),
-        4 | 8 => Some(2),
-        5 | 9 => Some(3),
-        6 if version == 1 => Some(2),
-        6 if version == 2 => Some(1),
-        7 if version == 1 || version == 2 => Some(3),
-        10 if info < 2 => Some(1),
+        UWOP_PUSH_NONVOL | UWOP_ALLOC_SMALL | UWOP_SET_FPREG => Some(1),
+        UWOP_ALLOC_LARGE if info == 0 => Some(2),
+        UWOP_ALLOC_LARGE if info == 1 => Some(3),
+        UWOP_SAVE_NONVOL | UWOP_SAVE_XMM128 => Some(2),
+        UWOP_SAVE_NONVOL_FAR | UWOP_SAVE_XMM128_FAR => Some(3),
+        UWOP_EPILOG if version == 1 => Some(2),
+        UWOP_EPILOG if version == 2 => Some(1),
+        UWOP_SPARE_CODE if version == 1 || version == 2 => Some(3),
+        UWOP_PUSH_MACHFRAME if info < 2 => Some(1),
         _ => None,
+    }
+}
+
+/// An operation of one slot.
+fn short_operation(version: u8, place: u8, opcode: u8, info: u8) -> UnwindOperation
+    requires { (opcode ≡ 0) ⊎ ((opcode ≡ 2) ⊎ ((opcode ≡ 3) ⊎ (((opcode ≡ 6) × (version ≡ 2)) ⊎ ((opcode ≡ 10) × (info < 2))))) }
+    ensures { (f : ℕ) → SpellsOperation version f place opcode info [] result }
+{
+    match opcode {
+        UWOP_PUSH_NONVOL => UnwindOperation::PushNonVolatile(Register(info)),
+        UWOP_ALLOC_SMALL => UnwindOperation::Alloc(u32::from(info) * 8 + 8),
+        UWOP_SET_FPREG => UnwindOperation::SetFPRegister,
+        UWOP_EPILOG => UnwindOperation::Epilog {
+            offset_low_or_size: place,
+            offset_high_or_flags: info,
+        },
+        UWOP_PUSH_MACHFRAME => UnwindOperation::PushMachineFrame(info == 1),
+        _ => unreachable!(),
+    }
+}
+
+/// An operation of two slots, of which the second is this number.
+fn middle_operation(
+    version: u8,
+    frame_register: Register,
+    opcode: u8,
+    info: u8,
+    operand: u16,
+) -> UnwindOperation
+    requires line { ((opcode ≡ 1) × (info ≡ 0)) ⊎ ((opcode ≡ 4) ⊎ (((opcode ≡ 6) × (version ≡ 1)) ⊎ (opcode ≡ 8))) }
+    requires info { info < 16 }
+    ensures { (place a b : ℕ) → operand ≡ a + 256 * b → SpellsOperation version frame_register.0 place opcode info (a ∷ b ∷ []) result }
+{
+    let value = u32::from(operand);
+    match opcode {
+        UWOP_ALLOC_LARGE => UnwindOperation::Alloc(value * 8),
+        UWOP_SAVE_NONVOL => UnwindOperation::SaveNonVolatile(
+            Register(info),
+            frame_offset(frame_register, value * 8),
+        ),
+        UWOP_EPILOG => UnwindOperation::SaveXMM(
+            Register(info + 17),
+            frame_offset(frame_register, value * 16),
+        ),
+        UWOP_SAVE_XMM128 => UnwindOperation::SaveXMM128(
+            Register(info + 17),
+            frame_offset(frame_register, value * 16),
+        ),
+        _ => unreachable!(),
+    }
+}
+
+/// An operation of three slots, of which the last two are this number.
+fn long_operation(
+    version: u8,
+    frame_register: Register,
+    opcode: u8,
+    info: u8,
+    operand: u32,
+) -> UnwindOperation
+    requires line { ((opcode ≡ 1) × (info ≡ 1)) ⊎ ((opcode ≡ 5) ⊎ (((opcode ≡ 7) × ((version ≡ 1) ⊎ (version ≡ 2))) ⊎ (opcode ≡ 9))) }
+    requires info { info < 16 }
+    ensures { (place a b c d : ℕ) → operand ≡ a + 256 * b + 65536 * c + 16777216 * d →
+        SpellsOperation version frame_register.0 place opcode info (a ∷ b ∷ c ∷ d ∷ []) result }
+{
+    let xmm = Register(info + 17);
+    let offset = frame_offset(frame_register, operand);
+    match opcode {
+        UWOP_ALLOC_LARGE => UnwindOperation::Alloc(operand),
+        UWOP_SAVE_NONVOL_FAR => UnwindOperation::SaveNonVolatile(Register(info), offset),
+        UWOP_SPARE_CODE if version == 2 => UnwindOperation::Noop,
+        UWOP_SPARE_CODE | UWOP_SAVE_XMM128_FAR => UnwindOperation::SaveXMM128(xmm, offset),
+        _ => unreachable!(),
     }
 }
 
@@ -173,18 +191,22 @@ fn slots_there(version: u8, bytes: &[u8]) -> Result<usize>
     ensures slots { IfOk result (λ n. slots_at version (slice_index bytes.now 1 % 16) (slice_index bytes.now 1 / 16) ≡ Some n) }
     ensures range { IfOk result (λ n. (1 ≤ n) × (n ≤ 3) × (2 * n ≤ length bytes.now)) }
     ensures none { OnErr result ((f : ℕ) → BeginsWithNoCode version f bytes.now) }
-    ensures fault { IfErr result (λ e. IsFault version bytes.now (kind_of e)) }
+    ensures fault { IfErr result (λ e. (f : ℕ) → IsFault version f bytes.now (kind_of e)) }
 {
-    if bytes.len() < 2 {
-        return Err(Error::Short { at: 0, needed: 2 });
-    }
-    let Some(count) = slots(version, bytes[1] % 16, bytes[1] / 16) else {
-        return Err(Error::Malformed(Reason::UnwindCode(bytes[1])));
-    };
-    if bytes.len() < 2 * count {
+    if bytes.len() < SIZE_OF_SLOT {
         return Err(Error::Short {
             at: 0,
-            needed: 2 * count,
+            needed: SIZE_OF_SLOT,
+        });
+    }
+    let second = bytes[1];
+    let Some(count) = slots(version, second % 16, second / 16) else {
+        return Err(Error::Malformed(Reason::UnwindCode(second)));
+    };
+    if bytes.len() < SIZE_OF_SLOT * count {
+        return Err(Error::Short {
+            at: 0,
+            needed: SIZE_OF_SLOT * count,
         });
     }
     Ok(count)
@@ -203,15 +225,25 @@ fn operation_at(
     requires fits { 2 * count ≤ length bytes.now }
     ensures { BeginsWithCode version frame_register.0 bytes.now (record { code_offset = slice_index bytes.now 0; operation = result }) (2 * count) }
 {
-    let opcode = bytes[1] % 16;
-    let info = bytes[1] / 16;
+    let second = bytes[1];
+    let opcode = second % 16;
+    let info = second / 16;
     match count {
         1 => short_operation(version, bytes[0], opcode, info),
-        2 => middle_operation(version, frame_register, opcode, info, bytes[2], bytes[3]),
-        _ => {
-            let more = [bytes[2], bytes[3], bytes[4], bytes[5]];
-            long_operation(version, frame_register, opcode, info, more)
-        }
+        2 => middle_operation(
+            version,
+            frame_register,
+            opcode,
+            info,
+            number16(bytes, SIZE_OF_SLOT),
+        ),
+        _ => long_operation(
+            version,
+            frame_register,
+            opcode,
+            info,
+            number32(bytes, SIZE_OF_SLOT),
+        ),
     }
 }
 
@@ -222,18 +254,14 @@ fn code_at(version: u8, frame_register: Register, bytes: &[u8]) -> Result<(Unwin
     ensures ok { IfOk result (λ x. BeginsWithCode version frame_register.0 bytes.now x.0 x.1) }
     ensures len { IfOk result (λ x. (2 ≤ x.1) × (x.1 ≤ length bytes.now)) }
     ensures none { OnErr result (BeginsWithNoCode version frame_register.0 bytes.now) }
-    ensures fault { IfErr result (λ e. IsFault version bytes.now (kind_of e)) }
+    ensures fault { IfErr result (λ e. IsFault version frame_register.0 bytes.now (kind_of e)) }
 {
-    match slots_there(version, bytes) {
-        Ok(count) => {
-            let code = UnwindCode {
-                code_offset: bytes[0],
-                operation: operation_at(version, frame_register, bytes, count),
-            };
-            Ok((code, 2 * count))
-        }
-        Err(error) => Err(error),
-    }
+    let count = slots_there(version, bytes)?;
+    let code = UnwindCode {
+        code_offset: bytes[0],
+        operation: operation_at(version, frame_register, bytes, count),
+    };
+    Ok((code, SIZE_OF_SLOT * count))
 }
 
 /// The codes that are left of an unwind record. Over after the first that is refused.
@@ -271,7 +299,7 @@ impl<'a> Iterator for UnwindCodeIterator<'a> {
         ensures least { result.0 ≡ min (slots_left (stream_of self.now)) 1 }
         ensures slots { result.1 ≡ Some (slots_left (stream_of self.now)) }
     {
-        let slots = (self.bytes.len() + 1) / 2;
+        let slots = self.bytes.len().div_ceil(SIZE_OF_SLOT);
         (slots.min(1), Some(slots))
     }
 

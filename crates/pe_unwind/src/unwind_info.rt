@@ -7,9 +7,9 @@ ghost use Rattle.pe_unwind.specs.CodeStream.{stream_of};
 ghost use Rattle.pe_unwind.specs.ScopeTable.{scopes_left};
 ghost use Rattle.pe_unwind.specs.UnwindRecord.{handler_view, ending_view, unwind_view, ending_holds, ending_at, unwind_tests, unwind_record, code_stream, scope_table_at, scope_table_of};
 
-use crate::function_table::{RuntimeFunction, read_function};
+use crate::function_table::{RuntimeFunction, SIZE_OF_FUNCTION, read_function};
 use crate::register::Register;
-use crate::scope_table::ScopeTableIterator;
+use crate::scope_table::{SIZE_OF_SCOPE, ScopeTableIterator};
 use crate::unwind_code::{UnwindCode, UnwindCodeIterator};
 use pe_core::{Error, Reason, Result, number8, number32, require_bytes, slice_at, u8_at, u32_at};
 
@@ -51,7 +51,7 @@ fn ending(
     ensures { Gives ending_view result (outcome ((ending_holds bytes.now place flags, Short) ∷ []) (ending_at bytes.now place flags)) }
 {
     if flags / 4 % 2 == 1 {
-        require_bytes(bytes, place, 12)?;
+        require_bytes(bytes, place, SIZE_OF_FUNCTION)?;
         return Ok((Some(read_function(bytes, place)), None));
     }
     if flags % 2 == 0 && flags / 2 % 2 == 0 {
@@ -73,13 +73,9 @@ fn ending(
 fn scope_table(handler_data: &[u8]) -> Option<ScopeTableIterator<'_>>
     ensures { option_map scopes_left result ≡ scope_table_at handler_data.now }
 {
-    let Ok(count) = u32_at(handler_data, 0) else {
-        return None;
-    };
-    match slice_at(handler_data, 4, 16 * count as usize) {
-        Ok(table) => Some(ScopeTableIterator::new(table)),
-        Err(_) => None,
-    }
+    let count = u32_at(handler_data, 0).ok()?;
+    let table = slice_at(handler_data, 4, SIZE_OF_SCOPE * count as usize).ok()?;
+    Some(ScopeTableIterator::new(table))
 }
 
 impl<'a> UnwindInfo<'a> {

@@ -3,7 +3,8 @@
 ghost use Rattle.std.specs.Prelude.{◌≡◌, ◌≢◌, ◌+◌, ◌-◌, ◌*◌, ◌/◌, ◌%◌, ◌^◌, ◌<◌, ◌≤◌, ◌⊎◌, ℕ, [], ◌∷◌, length, IfSome, IfNone, Some};
 ghost use Rattle.std.specs.Iterator.{at_most, UpTo};
 ghost use Rattle.std.specs.Iterator.SizeHint.{IsWithinCount};
-ghost use Rattle.pe_unwind.specs.Arm64Encoding.{encoding, Encodes, len_at, BeginsWithArm64Code, BeginsWithNoArm64Code};
+ghost use Rattle.pe_unwind.specs.Arm64Encoding.{encoding, BeginsWithArm64Code, BeginsWithNoArm64Code};
+ghost use Rattle.pe_unwind.specs.Arm64CodeLengths.{Encodes, len_at};
 
 use pe_core::{Error, Reason, Result};
 

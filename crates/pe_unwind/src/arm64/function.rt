@@ -8,7 +8,7 @@ ghost use Rattle.pe_unwind.specs.Arm64Words.{bits};
 ghost use Rattle.pe_unwind.specs.Arm64Functions.{is_packed, arm64_function_at, arm64_function_items, items_of_arm64_functions};
 
 use super::words::bits;
-use pe_core::{Error, Result, number32};
+use pe_core::{Result, number32, split_entry};
 
 /// The flag of an entry whose unwind data are the address of an unwind record.
 pub const ARM64_PDATA_REF_TO_FULL_XDATA: u32 = 0;
@@ -147,19 +147,10 @@ impl<'a> Iterator for Arm64RuntimeFunctionIterator<'a> {
 
     #[tactic(auto, using(crate::proofs::Arm64Entries::functions_more, crate::proofs::Arm64Entries::functions_cut, crate::proofs::Arm64Entries::functions_none))]
     fn next(&mut self) -> Option<Result<Arm64RuntimeFunction>> {
-        let bytes = self.bytes;
-        if bytes.is_empty() {
-            return None;
+        match split_entry(&mut self.bytes, SIZE_OF_ARM64_FUNCTION)? {
+            Ok(bytes) => Some(Ok(read_arm64_function(bytes, 0))),
+            Err(error) => Some(Err(error)),
         }
-        if bytes.len() < SIZE_OF_ARM64_FUNCTION {
-            self.bytes = bytes.split_at(bytes.len()).1;
-            return Some(Err(Error::Short {
-                at: 0,
-                needed: SIZE_OF_ARM64_FUNCTION,
-            }));
-        }
-        self.bytes = bytes.split_at(SIZE_OF_ARM64_FUNCTION).1;
-        Some(Ok(read_arm64_function(bytes, 0)))
     }
 
     #[tactic(auto, using(crate::proofs::Arm64Entries::functions_count))]
@@ -178,6 +169,6 @@ impl<'a> ExactSizeIterator for Arm64RuntimeFunctionIterator<'a> {
     fn len(&self) -> usize
         ensures { result ≡ length (items_of_arm64_functions self.now) }
     {
-        (self.bytes.len() + (SIZE_OF_ARM64_FUNCTION - 1)) / SIZE_OF_ARM64_FUNCTION
+        self.bytes.len().div_ceil(SIZE_OF_ARM64_FUNCTION)
     }
 }

@@ -6,7 +6,7 @@ ghost use Rattle.std.specs.Iterator.SizeHint.{IsWithinCount};
 ghost use Rattle.pe_unwind.specs.Arm64Words.{bits, has_handler, has_epilog, has_extension, epilog_scope_items, epilog_scopes_left};
 ghost use Rattle.pe_unwind.specs.FunctionTable.{answer_of};
 
-use pe_core::{Error, Result, number32};
+use pe_core::{Result, number32, split_entry};
 
 /// The bytes of one epilog scope.
 const SIZE_OF_EPILOG_SCOPE: usize = 4;
@@ -146,19 +146,10 @@ impl<'a> Iterator for Arm64EpilogScopeIterator<'a> {
 
     #[tactic(auto, using(crate::proofs::EpilogScopes::epilog_scopes_more, crate::proofs::EpilogScopes::epilog_scopes_cut, crate::proofs::EpilogScopes::epilog_scopes_none))]
     fn next(&mut self) -> Option<Result<Arm64EpilogScope>> {
-        let bytes = self.bytes;
-        if bytes.is_empty() {
-            return None;
+        match split_entry(&mut self.bytes, SIZE_OF_EPILOG_SCOPE)? {
+            Ok(bytes) => Some(Ok(Arm64EpilogScope(number32(bytes, 0)))),
+            Err(error) => Some(Err(error)),
         }
-        if bytes.len() < SIZE_OF_EPILOG_SCOPE {
-            self.bytes = bytes.split_at(bytes.len()).1;
-            return Some(Err(Error::Short {
-                at: 0,
-                needed: SIZE_OF_EPILOG_SCOPE,
-            }));
-        }
-        self.bytes = bytes.split_at(SIZE_OF_EPILOG_SCOPE).1;
-        Some(Ok(Arm64EpilogScope(number32(bytes, 0))))
     }
 
     #[tactic(auto, using(crate::proofs::EpilogScopes::epilog_scopes_count))]
@@ -177,6 +168,6 @@ impl<'a> ExactSizeIterator for Arm64EpilogScopeIterator<'a> {
     fn len(&self) -> usize
         ensures { result ≡ length (epilog_scopes_left self.now) }
     {
-        (self.bytes.len() + (SIZE_OF_EPILOG_SCOPE - 1)) / SIZE_OF_EPILOG_SCOPE
+        self.bytes.len().div_ceil(SIZE_OF_EPILOG_SCOPE)
     }
 }

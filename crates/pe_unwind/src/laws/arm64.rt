@@ -13,6 +13,11 @@ ghost use Rattle.pe_unwind.specs.Arm64Record.{Arm64InfoView, AreRecord, HasWords
 ghost use Rattle.pe_unwind.specs.FunctionTable.{answer_of};
 
 use crate::arm64::codes::Arm64UnwindCodeIterator;
+use crate::arm64::function::{
+    ARM64_PDATA_CR_CHAINED, ARM64_PDATA_CR_CHAINED_WITH_PAC, ARM64_PDATA_CR_UNCHAINED,
+    ARM64_PDATA_CR_UNCHAINED_SAVED_LR, ARM64_PDATA_PACKED_UNWIND_FRAGMENT,
+    ARM64_PDATA_PACKED_UNWIND_FUNCTION, ARM64_PDATA_REF_TO_FULL_XDATA,
+};
 
 /// Legal ARM64 codes are equal exactly if their bytes are. Each has 1 to 5 bytes. Bytes begin with one code at most, and
 /// where they are a proper beginning of a code's, with none; all others that are not empty begin with one.
@@ -53,4 +58,15 @@ pub fn arm64_records_have_their_size()
     ensures size { (b : List ℕ) (i : Arm64InfoView) → info_at b 0 ≡ Ok i → size_at b ≡ Ok (record_size i.header i.extension) }
     ensures inside { (b : List ℕ) (p : ℕ) (i : Arm64InfoView) → info_at b p ≡ Ok i → p + record_size i.header i.extension ≤ length b }
     ensures handler { (b : List ℕ) (p : ℕ) (i : Arm64InfoView) → info_at b p ≡ Ok i → IfSome i.handler (λ h. h.bytes ≡ drop (p + record_size i.header i.extension) b) }
+{}
+
+/// The numbers of the constants for packed unwind data.
+pub fn packed_data_constants()
+    ensures full { ARM64_PDATA_REF_TO_FULL_XDATA ≡ 0 }
+    ensures function { ARM64_PDATA_PACKED_UNWIND_FUNCTION ≡ 1 }
+    ensures fragment { ARM64_PDATA_PACKED_UNWIND_FRAGMENT ≡ 2 }
+    ensures unchained { ARM64_PDATA_CR_UNCHAINED ≡ 0 }
+    ensures saved { ARM64_PDATA_CR_UNCHAINED_SAVED_LR ≡ 1 }
+    ensures signed { ARM64_PDATA_CR_CHAINED_WITH_PAC ≡ 2 }
+    ensures chained { ARM64_PDATA_CR_CHAINED ≡ 3 }
 {}

@@ -1,5 +1,5 @@
-use Rattle.std.proofs.Common.{◌≡◌, ◌*◌, get_or, arith}
-use Rattle.pe_unwind.proofs.SpellingLengths.{begins_2, begins_4, begins_6}
+use Rattle.std.proofs.Common.{◌≡◌, ◌*◌, ◌∙◌, get_or, arith}
+use Rattle.pe_unwind.proofs.SpellingLengths.{begins_2, begins_4, begins_6, word_at_2, long_at_2}
 use Rattle.pe_unwind.proofs.unwind_code.operation_at.Goals as goal
 
 pub returns-in-1 : goal.returns-in-1
@@ -10,9 +10,9 @@ returns-in-1 c =
 pub returns-in-2 : goal.returns-in-2
 returns-in-2 c =
     let n : 2 * c.args.count ≡ 4 = omega arith in
-    rw n (begins_4 _ _ _ _ (omega arith) (c.middle_operation.ensures (get_or c.args.bytes.now 0 0)))
+    rw n (begins_4 _ _ _ _ (omega arith) (c.middle_operation.ensures (get_or c.args.bytes.now 0 0) _ _ (c.number16.ensures ∙ word_at_2 _)))
 
 pub returns-in_default : goal.returns-in_default
 returns-in_default c =
     let n : 2 * c.args.count ≡ 6 = omega arith in
-    rw n (begins_6 _ _ _ _ (omega arith) (c.long_operation.ensures (get_or c.args.bytes.now 0 0)))
+    rw n (begins_6 _ _ _ _ (omega arith) (c.long_operation.ensures (get_or c.args.bytes.now 0 0) _ _ _ _ (c.number32.ensures ∙ long_at_2 _)))

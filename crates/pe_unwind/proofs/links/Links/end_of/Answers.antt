@@ -1,4 +1,4 @@
-use Rattle.std.proofs.Common.{ℕ, List, length, ap, arith}
+use Rattle.std.proofs.Common.{arith}
 use Rattle.pe_unwind.proofs.LinkChains.{keeps_saved, moves_saved, comes_again, too_long}
 use Rattle.pe_unwind.proofs.links.Links.end_of.Goals.{then-links-power, else-links-power}
 use Rattle.pe_unwind.proofs.links.Links.end_of.Goals as goal
