@@ -1,10 +1,10 @@
 //! Callers of the libraries, as the README shows them.
 #![tactic(auto)]
 
-mod arm64_codes;
-mod frame;
-mod symbol_key;
+mod arm64;
+mod frames;
+mod symbols;
 
-pub use arm64_codes::arm64_codes;
-pub use frame::frame_operations;
-pub use symbol_key::symbol_key;
+pub use arm64::arm64_codes;
+pub use frames::frame_operations;
+pub use symbols::symbol_key;
