@@ -6,3 +6,4 @@ pub mod SpelledRecords
 pub mod SpelledOptional
 pub mod Modes
 pub mod PutNumbers
+pub mod TableEntries

@@ -1,6 +1,7 @@
 -- Bytes as numbers and numbers as bytes, the lowest byte first, and bytes put in place of others.
 use Rattle.std.specs.Prelude.{ℕ, zero, suc, ◌+◌, ◌*◌, ◌/◌, ◌%◌, ◌^◌, ◌<◌, List, [], ◌∷◌, ◌++◌, length, take, drop, Bool, nat_le, slice_index, slice_range, Result, if◌then◌else◌}
-use Rattle.pe_core.specs.Refusals.{Refusal, Short, WriteFit, outcome}
+use Rattle.pe_core.specs.Refusals.{Refusal, Short, WriteFit, kind_of_reason, outcome}
+use Rattle.pe_core.specs.declared.error.Reason.{Reason}
 
 -- the sum of the n bytes from place p on, byte i times 256 ^ i
 unfoldable pub le : List ℕ → ℕ → ℕ → ℕ
@@ -23,6 +24,10 @@ range b p n = slice_range b p (p + n)
 -- a record of n bytes at p: its value, or `Short` where the bytes are not there
 abbrev pub record_at : {Y : Type 0} → List ℕ → ℕ → ℕ → Y → Result Y Refusal
 record_at b p n value = outcome ((holds b p n, Short) ∷ []) value
+
+-- the n bytes from place p on, or this refusal where they are not there
+abbrev pub data_at : List ℕ → ℕ → ℕ → Reason → Result (List ℕ) Refusal
+data_at b p n reason = outcome ((holds b p n, kind_of_reason reason) ∷ []) (range b p n)
 
 -- every element is a byte
 abbrev pub AreBytes : List ℕ → Type 0

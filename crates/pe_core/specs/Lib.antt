@@ -3,6 +3,7 @@ pub mod Bytes
 pub mod CountedTable
 pub mod Text
 pub mod Options
+pub mod Modes
 pub mod Narrow
 pub mod Records
 pub mod Rows

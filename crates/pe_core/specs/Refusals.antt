@@ -1,5 +1,6 @@
 -- What a refusal is about: its kind, without the numbers in it and without its text.
 use Rattle.std.specs.Prelude.{◌≡◌, List, [], ◌∷◌, Bool, Result, Ok, Err, if◌then◌else◌}
+use Rattle.std.specs.Result.{IsOk}
 use Rattle.pe_core.specs.declared.error.Error.{Error}
 use Rattle.pe_core.specs.declared.error.Error.TheVariants as errors
 use Rattle.pe_core.specs.declared.error.Reason.{Reason}
@@ -102,6 +103,18 @@ Gives view (Err e) defined = defined ≡ Err (kind_of e)
 abbrev pub GivesUnlessMemory : {X Y : Type 0} → (X → Y) → Result X Error → Result Y Refusal → Type 0
 GivesUnlessMemory view (Ok x) defined = defined ≡ Ok (view x)
 GivesUnlessMemory view (Err e) defined = UnlessMemory e (defined ≡ Err (kind_of e))
+
+-- a fact that is owed if memory has run out
+abbrev pub IfMemory : Error → Type 0 → Type 0
+IfMemory (errors.Malformed reason) P = Unit {0}
+IfMemory (errors.BadMagic magic) P = Unit {0}
+IfMemory (errors.Short at needed) P = Unit {0}
+IfMemory (errors.Memory e) P = P
+
+-- the same, and memory is asked for only once these tests have passed: where it runs out none of them fails
+abbrev pub GivesUnlessMemoryAfter : {X Y Z : Type 0} → Result Z Refusal → (X → Y) → Result X Error → Result Y Refusal → Type 0
+GivesUnlessMemoryAfter tested view (Ok x) defined = defined ≡ Ok (view x)
+GivesUnlessMemoryAfter tested view (Err e) defined = UnlessMemory e (defined ≡ Err (kind_of e)) × IfMemory e (IsOk tested)
 
 -- the value, unless a test fails: then it is refused as the first test that fails
 abbrev pub outcome : {Y : Type 0} → List (Bool × Refusal) → Y → Result Y Refusal

@@ -1,5 +1,8 @@
 -- Records of one width that stand one after the other.
-use Rattle.std.specs.Prelude.{ℕ, zero, suc, ◌+◌, ◌*◌, List, [], ◌∷◌, ◌++◌}
+use Rattle.std.specs.Prelude.{◌≡◌, ℕ, zero, suc, ◌+◌, ◌*◌, ◌/◌, ◌%◌, ◌<◌, ◌==◌, ◌||◌, List, [], ◌∷◌, ◌++◌, length, map, drop, Option, Some, None, Result, Ok, Err, if◌then◌else◌}
+use Rattle.pe_core.specs.Bytes.{holds}
+use Rattle.pe_core.specs.Refusals.{Refusal, Short, kind_of, outcome}
+use Rattle.pe_core.specs.declared.error.Error.{Error}
 
 -- the list f 0, f 1, .., f (n - 1)
 unfoldable pub each : {X : Type 0} → (ℕ → X) → ℕ → List X
@@ -9,3 +12,22 @@ each f (suc n) = each f n ++ f n ∷ []
 -- n records of this width from place p on, read by `record_of`
 abbrev pub rows : {X : Type 0} → (ℕ → X) → ℕ → ℕ → ℕ → List X
 rows record_of width p n = each (λ i. record_of (p + width * i)) n
+
+-- n records of this width from place p on, or `Short` where they are not all there: no records are no read
+abbrev pub rows_at : {X : Type 0} → (List ℕ → ℕ → X) → ℕ → List ℕ → ℕ → ℕ → Result (List X) Refusal
+rows_at record_at width b p n = outcome ((n == 0 || holds b p (width * n), Short) ∷ []) (rows (record_at b) width p n)
+
+-- the whole entries of these bytes, each read by `entry_at`
+abbrev pub whole_entries : {X : Type 0} → (List ℕ → ℕ → X) → ℕ → List ℕ → List X
+whole_entries entry_at width b = each (λ i. entry_at b (width * i)) (length b / width)
+
+-- the whole entries, and one fault where a last one is cut
+abbrev pub entry_items : {X : Type 0} → (List ℕ → ℕ → X) → ℕ → List ℕ → List (Result X Refusal)
+entry_items entry_at width b = map (λ x. Ok x) (whole_entries entry_at width b) ++ (if length b % width == 0 then [] else Err Short ∷ [])
+
+-- what splitting an entry off the front of these bytes gives, seen by view, and what it leaves: the bytes that begin
+-- with the entry, or one fault where it is cut
+abbrev pub SplitsEntry : {X : Type 0} → (X → List ℕ) → ℕ → List ℕ → Option (Result X Error) → List ℕ → Type 0
+SplitsEntry view width b None left = (b ≡ []) × (left ≡ [])
+SplitsEntry view width b (Some (Ok entry)) left = (length b ≡ width + length left) × (view entry ≡ b) × (left ≡ drop width b)
+SplitsEntry view width b (Some (Err e)) left = (0 < length b) × (length b < width) × (kind_of e ≡ Short) × (left ≡ [])

@@ -1,16 +1,25 @@
 -- Section headers. (PE format: section table.)
-use Rattle.std.specs.Prelude.{ℕ, ◌+◌, ◌*◌, ◌<◌, ◌≤◌, ◌==◌, List, Option, Some, None, Result, if◌then◌else◌}
+use Rattle.std.specs.Prelude.{ℕ, ◌+◌, ◌<◌, ◌≤◌, ◌==◌, List, Option, Some, None, Result, if◌then◌else◌}
 use Rattle.std.specs.List.{before_first}
-use Rattle.pe_core.specs.Bytes.{holds, range, record_at}
+use Rattle.pe_core.specs.Bytes.{holds, range}
+use Rattle.pe_core.specs.Header.{HeaderView}
 use Rattle.pe_core.specs.Records.{section_table}
 use Rattle.pe_core.specs.Refusals.{Refusal}
-use Rattle.pe_core.specs.Rows.{rows}
+use Rattle.pe_core.specs.Rows.{rows_at}
 use Rattle.pe_core.specs.Text.{text_of}
 use Rattle.pe_core.specs.declared.section_table.SectionTable.{SectionTable}
 
--- n section headers, one after the other from p on
+-- n section headers, one after the other from p on, or `Short`; none of them are none at any place
 abbrev pub sections_at : List ℕ → ℕ → ℕ → Result (List SectionTable) Refusal
-sections_at b p n = record_at b p (40 * n) (rows (section_table b) 40 p n)
+sections_at b p n = rows_at section_table 40 b p n
+
+-- where the section headers of an image begin: behind the PE signature, the COFF header and so many bytes as that says
+abbrev pub sections_place : HeaderView → ℕ
+sections_place h = h.dos_header.pe_pointer + 24 + h.coff_header.size_of_optional_header
+
+-- the section headers of an image with these headers
+abbrev pub sections_of : List ℕ → HeaderView → Result (List SectionTable) Refusal
+sections_of b h = sections_at b (sections_place h) h.coff_header.number_of_sections
 
 -- where a section's bytes end in the file
 abbrev pub raw_end : SectionTable → ℕ

@@ -1,8 +1,9 @@
 //! Numbers and slices at a place of the bytes, read and written. All numbers are little-endian.
 
-ghost use Rattle.std.specs.Prelude.{◌≡◌, ◌+◌, ◌≤◌, length};
-ghost use Rattle.pe_core.specs.Bytes.{le, range, bytes_of, put, record_at, fit_at};
+ghost use Rattle.std.specs.Prelude.{◌≡◌, ◌+◌, ◌<◌, ◌≤◌, length};
+ghost use Rattle.pe_core.specs.Bytes.{le, range, bytes_of, put, record_at, data_at, fit_at};
 ghost use Rattle.pe_core.specs.Refusals.{Gives};
+ghost use Rattle.pe_core.specs.Rows.{SplitsEntry};
 
 use crate::error::{Error, Reason, Result};
 
@@ -26,6 +27,37 @@ pub fn slice_at(bytes: &[u8], place: usize, n: usize) -> Result<&[u8]>
 {
     require_bytes(bytes, place, n)?;
     Ok(&bytes[place..place + n])
+}
+
+/// The `n` bytes from the place on, or the refusal that is handed in where they are not all there.
+pub fn data_at<'a>(bytes: &'a [u8], place: usize, n: usize, refusal: Reason) -> Result<&'a [u8]>
+    ensures { Gives (λ s. s.now) result (data_at bytes.entry.now place n refusal) }
+{
+    match slice_at(bytes, place, n) {
+        Ok(data) => Ok(data),
+        Err(_) => Err(Error::Malformed(refusal)),
+    }
+}
+
+/// Takes an entry of this width off the front of the bytes that are left, and gives the bytes that begin with it.
+/// `None` where no bytes are left; `Short`, and then none are left, where the entry is cut.
+pub fn split_entry<'a>(left: &mut &'a [u8], width: usize) -> Option<Result<&'a [u8]>>
+    requires { 0 < width }
+    ensures { SplitsEntry (λ s. s.now) width left.old.now result left.new.now }
+{
+    let bytes = *left;
+    if bytes.is_empty() {
+        return None;
+    }
+    if bytes.len() < width {
+        *left = &[];
+        return Some(Err(Error::Short {
+            at: 0,
+            needed: width,
+        }));
+    }
+    *left = bytes.split_at(width).1;
+    Some(Ok(bytes))
 }
 
 /// The byte at a place that is known to be there.
@@ -110,15 +142,11 @@ pub fn u64_at(bytes: &[u8], place: usize) -> Result<u64>
     Ok(number64(bytes, place))
 }
 
-/// Puts the piece in place of the bytes from the place on, or refuses as `WriteFit` and changes nothing.
-#[tactic(auto, unfolding(crate::specs::Bytes::splice))]
-pub fn put_slice(buffer: &mut [u8], place: usize, piece: &[u8]) -> Result<()>
-    ensures fit { Gives (λ u. u) result (fit_at buffer.old place (length piece.now)) }
-    ensures after { buffer.new ≡ put buffer.old place piece.now }
+/// Refuses as `WriteFit` unless `n` bytes can be written from the place on.
+pub fn require_room(buffer: &[u8], place: usize, n: usize) -> Result<()>
+    ensures { Gives (λ u. u) result (fit_at buffer.now place n) }
 {
-    let n = piece.len();
     if n <= buffer.len() && place <= buffer.len() - n {
-        buffer[place..place + n].copy_from_slice(piece);
         Ok(())
     } else {
         Err(Error::Malformed(Reason::WriteFit {
@@ -126,6 +154,17 @@ pub fn put_slice(buffer: &mut [u8], place: usize, piece: &[u8]) -> Result<()>
             length: buffer.len(),
         }))
     }
+}
+
+/// Puts the piece in place of the bytes from the place on, or refuses as `WriteFit` and changes nothing.
+#[tactic(auto, unfolding(crate::specs::Bytes::splice))]
+pub fn put_slice(buffer: &mut [u8], place: usize, piece: &[u8]) -> Result<()>
+    ensures fit { Gives (λ u. u) result (fit_at buffer.old place (length piece.now)) }
+    ensures after { buffer.new ≡ put buffer.old place piece.now }
+{
+    require_room(buffer, place, piece.len())?;
+    buffer[place..place + piece.len()].copy_from_slice(piece);
+    Ok(())
 }
 
 /// Puts the byte at the place, or refuses as `WriteFit` and changes nothing.

@@ -81,9 +81,8 @@ pub enum Reason {
     WriteFit { end: u64, length: usize },
 }
 
-impl Reason {
-    /// The text of a reason about headers, sections, imports or certificates.
-    fn fmt_table<W: fmt::Write>(&self, f: &mut fmt::Formatter<W>) -> fmt::Result {
+impl fmt::Display for Reason {
+    fn fmt<W: fmt::Write>(&self, f: &mut fmt::Formatter<W>) -> fmt::Result {
         match self {
             Reason::HeaderPointer(pointer) => write!(
                 f,
@@ -111,13 +110,6 @@ impl Reason {
                 f,
                 "no section maps the address {address:#x} to the file"
             ),
-            other => other.fmt_debug(f),
-        }
-    }
-
-    /// The text of a reason about debug data.
-    fn fmt_debug<W: fmt::Write>(&self, f: &mut fmt::Formatter<W>) -> fmt::Result {
-        match self {
             Reason::DebugBounds(end) => write!(
                 f,
                 "the debug directory ends at {end:#x}, past the end of the file"
@@ -132,13 +124,6 @@ impl Reason {
                 f,
                 "the POGO entry at {place:#x} has no ended name in its {length} bytes"
             ),
-            other => other.fmt_function(f),
-        }
-    }
-
-    /// The text of a reason about functions and their unwind records.
-    fn fmt_function<W: fmt::Write>(&self, f: &mut fmt::Formatter<W>) -> fmt::Result {
-        match self {
             Reason::ExceptionSize(size) => write!(
                 f,
                 "the exception directory's {size} bytes are no whole number of entries"
@@ -174,13 +159,6 @@ impl Reason {
                 "{length} bytes are no stream of ARM64 unwind codes to be read from {start:#x}"
             ),
             Reason::Arm64Cut(place) => write!(f, "the ARM64 unwind code at {place:#x} is cut"),
-            other => other.fmt_write(f),
-        }
-    }
-
-    /// The text of a reason about resources, or about an image that is written.
-    fn fmt_write<W: fmt::Write>(&self, f: &mut fmt::Formatter<W>) -> fmt::Result {
-        match self {
             Reason::ResourceBounds(end) => write!(
                 f,
                 "the resource directory ends at {end:#x}, past the end of the file"
@@ -217,14 +195,8 @@ impl Reason {
                 f,
                 "what is written ends at {end:#x}, past a buffer of {length} bytes"
             ),
-            _ => write!(f, "the image has no optional header"),
+            Reason::NoOptionalHeader => write!(f, "the image has no optional header"),
         }
-    }
-}
-
-impl fmt::Display for Reason {
-    fn fmt<W: fmt::Write>(&self, f: &mut fmt::Formatter<W>) -> fmt::Result {
-        self.fmt_table(f)
     }
 }
 

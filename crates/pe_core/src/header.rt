@@ -19,6 +19,12 @@ pub const PE_MAGIC: u32 = 0x4550;
 /// The size of a DOS header in bytes.
 pub const SIZE_OF_DOS_HEADER: u32 = 64;
 
+/// The size of the PE signature in bytes.
+pub(crate) const SIZE_OF_PE_SIGNATURE: usize = 4;
+
+/// The size of a COFF header in bytes.
+pub(crate) const SIZE_OF_COFF_HEADER: usize = 20;
+
 /// The header that an image begins with, 64 bytes.
 #[derive(Clone, Copy, Debug, PartialEq)]
 pub struct DosHeader {

@@ -12,13 +12,13 @@ mod header;
 pub mod laws;
 mod optional_header;
 mod options;
+mod section_map;
 mod section_table;
 mod text;
-mod utils;
 
 pub use bytes::{
-    number8, number16, number32, number64, put_slice, put_u8, put_u16, put_u32, put_u64,
-    require_bytes, slice_at, u8_at, u16_at, u32_at, u64_at,
+    data_at, number8, number16, number32, number64, put_slice, put_u8, put_u16, put_u32, put_u64,
+    require_bytes, require_room, slice_at, split_entry, u8_at, u16_at, u32_at, u64_at,
 };
 pub use counted_table::CountedTable;
 pub use data_directories::{DataDirectories, DataDirectory, MOST_DIRECTORIES};
@@ -28,5 +28,5 @@ pub use header::{
 };
 pub use optional_header::{MAGIC_32, MAGIC_64, OptionalHeader, StandardFields, WindowsFields};
 pub use options::{ParseMode, ParseOptions};
+pub use section_map::{find_offset, rounded_up};
 pub use section_table::SectionTable;
-pub use utils::find_offset;

@@ -1,5 +1,7 @@
 //! How an image is read.
 
+use crate::error::{Error, Result};
+
 /// What becomes of a damaged directory.
 #[derive(Clone, Copy, Debug, PartialEq)]
 pub enum ParseMode {
@@ -7,6 +9,26 @@ pub enum ParseMode {
     Strict,
     /// It is left empty.
     Permissive,
+}
+
+impl ParseMode {
+    ghost use Rattle.std.specs.Prelude.{◌≡◌};
+    ghost use Rattle.pe_core.specs.Modes.{none_if_error};
+
+    /// What this mode makes of a directory that was parsed: where it is refused, strict mode refuses and permissive
+    /// mode gives `None`. Want of memory is no refusal of the directory, and both modes answer it.
+    pub fn none_if_refused<T>(self, parsed: Result<T>) -> Result<Option<T>>
+        ensures { result ≡ none_if_error self parsed }
+    {
+        match parsed {
+            Ok(value) => Ok(Some(value)),
+            Err(Error::Memory(error)) => Err(Error::Memory(error)),
+            Err(refusal) => match self {
+                ParseMode::Strict => Err(refusal),
+                ParseMode::Permissive => Ok(None),
+            },
+        }
+    }
 }
 
 /// What is read, and how.

@@ -6,9 +6,12 @@ ghost use Rattle.pe_core.specs.Refusals.{Gives};
 
 use crate::bytes::{number16, number32, require_bytes, slice_at};
 use crate::error::Result;
-use crate::header::CoffHeader;
+use crate::header::{CoffHeader, Header, SIZE_OF_COFF_HEADER, SIZE_OF_PE_SIGNATURE};
 use crate::text::{before_zero, text_of};
 use std::alloc::Allocator;
+
+/// The size of a section header in bytes.
+const SIZE_OF_SECTION_HEADER: usize = 40;
 
 /// The header of a section, 40 bytes.
 #[derive(Clone, Copy, Debug, PartialEq)]
@@ -85,11 +88,11 @@ impl SectionTable {
     }
 
     /// Where the section's bytes end in the file.
-    pub(crate) fn raw_end(&self) -> u64
+    pub(crate) fn raw_end(&self) -> usize
         ensures value { result ≡ raw_end self.now }
         ensures small { result < 2 ^ 33 }
     {
-        u64::from(self.pointer_to_raw_data) + u64::from(self.size_of_raw_data)
+        self.pointer_to_raw_data as usize + self.size_of_raw_data as usize
     }
 
     /// Whether the two sections have a byte of the file in common.
@@ -97,16 +100,17 @@ impl SectionTable {
         ensures { IsTrue result ↔ SharesRawByte self.now other.now }
     {
         let start = self.pointer_to_raw_data.max(other.pointer_to_raw_data);
-        u64::from(start) < self.raw_end().min(other.raw_end())
+        (start as usize) < self.raw_end().min(other.raw_end())
     }
 }
 
 impl CoffHeader {
-    ghost use Rattle.pe_core.specs.Refusals.{GivesUnlessMemory};
+    ghost use Rattle.pe_core.specs.Refusals.{GivesUnlessMemoryAfter};
     ghost use Rattle.pe_core.specs.Sections.{sections_at};
 
     /// The section headers, which stand from the place on: behind the optional header, or where its size says that
-    /// it ends. `Short` if they are not all there.
+    /// it ends. `Short` if they are not all there, before memory is asked for. Of a count of 0 nothing is read, so the
+    /// place may be any.
     #[tactic(auto, unfolding(crate::specs::Rows::each))]
     pub fn sections<A: Allocator>(
         &self,
@@ -114,15 +118,44 @@ impl CoffHeader {
         bytes: &[u8],
         place: usize,
     ) -> Result<Vec<SectionTable, A>>
-        ensures { GivesUnlessMemory (λ v. v.items) result
-            (sections_at bytes.now place self.now.number_of_sections) }
+        ensures { GivesUnlessMemoryAfter (sections_at bytes.now place self.now.number_of_sections) (λ v. v.items)
+            result (sections_at bytes.now place self.now.number_of_sections) }
     {
         let count = self.number_of_sections as usize;
-        require_bytes(bytes, place, 40 * count)?;
+        if count > 0 {
+            require_bytes(bytes, place, SIZE_OF_SECTION_HEADER * count)?;
+        }
         let mut sections = Vec::with_capacity(alloc, count)?;
         for i in 0..count {
-            sections.push(SectionTable::at(bytes, place + 40 * i))?;
+            sections.push(SectionTable::at(bytes, place + SIZE_OF_SECTION_HEADER * i))?;
         }
         Ok(sections)
+    }
+}
+
+impl<'a> Header<'a> {
+    ghost use Rattle.pe_core.specs.Header.{header_view};
+    ghost use Rattle.pe_core.specs.Refusals.{GivesUnlessMemoryAfter};
+    ghost use Rattle.pe_core.specs.Sections.{sections_place, sections_of};
+
+    /// Where the section headers begin in the file: behind the PE signature, the COFF header and as many bytes as that
+    /// says of the optional header.
+    pub fn sections_place(&self) -> usize
+        ensures { result ≡ sections_place (header_view self.now) }
+    {
+        self.dos_header.pe_pointer as usize
+            + SIZE_OF_PE_SIGNATURE
+            + SIZE_OF_COFF_HEADER
+            + self.coff_header.size_of_optional_header as usize
+    }
+
+    /// The section headers of the image, whose bytes are handed in. `Short` in both modes if they are not all there,
+    /// before memory is asked for.
+    pub fn sections<A: Allocator>(&self, alloc: A, bytes: &[u8]) -> Result<Vec<SectionTable, A>>
+        ensures { GivesUnlessMemoryAfter (sections_of bytes.now (header_view self.now)) (λ v. v.items)
+            result (sections_of bytes.now (header_view self.now)) }
+    {
+        self.coff_header
+            .sections(alloc, bytes, self.sections_place())
     }
 }

@@ -4,7 +4,7 @@ use Rattle.std.proofs.lemmas.List.{take_at, drop_all, append-nil, length-replica
 use Rattle.std.proofs.lemmas.List.Edits.{paste_all, paste-paste}
 use borrow.Rule.Slice.PartMut.{put_mid}
 use lib.Seq.{paste}
-use Rattle.pe_core.specs.Bytes.{bytes_of, holds, splice, put}
+use Rattle.pe_core.specs.Bytes.{bytes_of, holds, splice, put, fit_at}
 use Rattle.pe_core.specs.Refusals.{Refusal, WriteFit, outcome}
 use Rattle.pe_records.specs.Certificates.{CertificateView}
 use Rattle.pe_records.specs.CertificateWriting.{spell_certificate, written_certificate, written_certificates, written_length, padding}
@@ -39,14 +39,14 @@ end_length p h g b c x i j l room e =
     let s : length x ≡ length p = ap length e ∙ simp (length-append, length-take, length-drop) (omega arith) in
     simp (length-take, length-drop) (omega arith)
 
-kept_if : (t : Bool) (b s : List ℕ) (end : ℕ) (r : Refusal) → outcome ((t, WriteFit) ∷ []) end ≡ Err r → b ≡ cond t s b
-kept_if true b s end r e = absurd cc
-kept_if false b s end r e = refl
+kept_if : {Y : Type 0} (t : Bool) (b s : List ℕ) (value : Y) (r : Refusal) → outcome ((t, WriteFit) ∷ []) value ≡ Err r → b ≡ cond t s b
+kept_if true b s value r e = absurd cc
+kept_if false b s value r e = refl
 
 -- a certificate that does not fit is not put
-pub kept : (b : List ℕ) (p n : ℕ) (c : CertificateView) (r : Refusal) → n ≡ written_length c → outcome ((holds b p n, WriteFit) ∷ []) (p + n) ≡ Err r → b ≡ put b p (written_certificate c)
+pub kept : (b : List ℕ) (p n : ℕ) (c : CertificateView) (r : Refusal) → n ≡ written_length c → fit_at b p n ≡ Err r → b ≡ put b p (written_certificate c)
 kept b p n c r same e =
-    rw (length_written c) (kept_if (holds b p (written_length c)) b (splice b p (written_certificate c)) (p + written_length c) r (subst (λ (m : ℕ). outcome ((holds b p m, WriteFit) ∷ []) (p + m) ≡ Err r) same e))
+    rw (length_written c) (kept_if (holds b p (written_length c)) b (splice b p (written_certificate c)) tt r (subst (λ (m : ℕ). fit_at b p m ≡ Err r) same e))
 
 splice_is_paste : (b : List ℕ) (p : ℕ) (s : List ℕ) → splice b p s ≡ paste b p s (length s)
 unfolding splice

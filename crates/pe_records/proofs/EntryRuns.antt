@@ -5,7 +5,8 @@ use Rattle.pe_core.specs.Refusals.{Refusal, Short, kind_of}
 use Rattle.pe_core.specs.declared.error.Error.{Error}
 use Rattle.pe_records.specs.declared.debug.ImageDebugDirectory.{ImageDebugDirectory}
 use Rattle.pe_records.specs.declared.debug.ImageDebugDirectoryIterator.{ImageDebugDirectoryIterator}
-use Rattle.pe_records.specs.DebugDirectory.{entries, whole_entries, GivesEntry, rest_of, fixup_of, item_of}
+use Rattle.pe_core.specs.Rows.{whole_entries}
+use Rattle.pe_records.specs.DebugDirectory.{entry_at, entries, GivesEntry, rest_of, fixup_of, item_of}
 
 abbrev pub Next : ImageDebugDirectoryIterator → Option (Result ImageDebugDirectory Error) → ImageDebugDirectoryIterator → Type 0
 Next s r t = GivesEntry (fixup_of s) (rest_of s) r (rest_of t) × (fixup_of t ≡ fixup_of s)
@@ -24,7 +25,7 @@ behind_fault (x ∷ xs) whole r ys h = absurd cc
 
 left_of_fault : (f : ℕ) (b left : List ℕ) (r : Refusal) → entries f b ≡ Err r ∷ entries f left → entries f left ≡ []
 unfolding entries
-left_of_fault f b left r h = behind_fault (whole_entries f b) (length b % 28 == 0) r _ h
+left_of_fault f b left r h = behind_fault (whole_entries (entry_at f) 28 b) (length b % 28 == 0) r _ h
 
 nothing_more : (f g : ℕ) (b c left : List ℕ) (r : Option (Result ImageDebugDirectory Error)) → entries f b ≡ [] → c ≡ b → g ≡ f → GivesEntry g c r left → r ≡ None
 nothing_more f g b c left None h e k y = refl

@@ -2,10 +2,11 @@
 use Rattle.std.proofs.Common.{◌≡◌, ◌≢◌, ℕ, ◌+◌, ◌-◌, ◌<◌, ◌≤◌, List, length, take, drop, get_or, ap, sym, ◌∙◌, length-drop, length-take-le, arith}
 use Rattle.std.proofs.lemmas.List.{get_or-take}
 use Rattle.pe_core.specs.Bytes.{le}
-use Rattle.pe_records.specs.Pogo.{Entry, BeginsWith, BeginsWithNone, up_to_four}
+use Rattle.pe_core.specs.SectionMap.{rounded_up}
+use Rattle.pe_records.specs.Pogo.{Entry, BeginsWith, BeginsWithNone}
 
 -- the entry whose name ends at the first zero behind the numbers
-pub begins_from : (b rest name : List ℕ) (r s k n : ℕ) → rest ≡ drop 8 b → k < length rest → get_or rest k 0 ≡ 0 → ((j : ℕ) → j < k → get_or rest j 0 ≢ 0) → name ≡ take (k + 1) rest → r ≡ le b 0 4 → s ≡ le b 4 4 → n ≡ up_to_four (8 + k + 1) → n ≤ length b → BeginsWith b (record { rva = r; size = s; name = name }) n
+pub begins_from : (b rest name : List ℕ) (r s k n : ℕ) → rest ≡ drop 8 b → k < length rest → get_or rest k 0 ≡ 0 → ((j : ℕ) → j < k → get_or rest j 0 ≢ 0) → name ≡ take (k + 1) rest → r ≡ le b 0 4 → s ≡ le b 4 4 → n ≡ rounded_up (8 + k + 1) 4 → n ≤ length b → BeginsWith b (record { rva = r; size = s; name = name }) n
 begins_from b rest name r s k n d lt here before is er es en whole =
     let len : length name ≡ k + 1 = ap length is ∙ length-take-le (k + 1) rest (omega arith) in
     let at : (j : ℕ) → j < k + 1 → get_or name j 0 ≡ get_or rest j 0 = λ j h. ap (λ (x : List ℕ). get_or x j 0) is ∙ get_or-take (k + 1) rest j 0 h in
@@ -19,7 +20,7 @@ begins_from b rest name r s k n d lt here before is er es en whole =
         only = λ j h e. before j (omega arith) (sym (at j (omega arith)) ∙ e);
       };
       name = is ∙ ap (λ (i : ℕ). take i rest) (sym len) ∙ ap (take (length name)) d;
-      padded = en ∙ ap up_to_four (omega arith);
+      padded = en ∙ ap (λ (i : ℕ). rounded_up i 4) (omega arith);
       whole = whole;
     }
 
@@ -51,25 +52,25 @@ begins_once b e f n m h k =
     let down : length f.name ≤ length e.name = not_above (length e.name) (length f.name) (not_shorter b e f n m h k) in
     let same : length e.name ≡ length f.name = omega arith in (
       entry_from_fields e f (h.rva ∙ sym k.rva) (h.size ∙ sym k.size) (h.name ∙ ap (λ (i : ℕ). take i (drop 8 b)) same ∙ sym k.name),
-      h.padded ∙ ap (λ (i : ℕ). up_to_four (8 + i)) same ∙ sym k.padded,
+      h.padded ∙ ap (λ (i : ℕ). rounded_up (8 + i) 4) same ∙ sym k.padded,
     )
 
 -- a rest that is too short, or has no zero, or is cut, begins with no entry
 pub none_short : (b : List ℕ) → length b < 8 → BeginsWithNone b
-none_short b lt = λ e n h. let whole : n ≤ length b = h.whole in let padded : n ≡ up_to_four (8 + length e.name) = h.padded in omega arith
+none_short b lt = λ e n h. let whole : n ≤ length b = h.whole in let padded : n ≡ rounded_up (8 + length e.name) 4 = h.padded in omega arith
 
 pub none_unended : (b rest : List ℕ) → rest ≡ drop 8 b → ((j : ℕ) → j < length rest → get_or rest j 0 ≢ 0) → BeginsWithNone b
 none_unended b rest d all = λ e n h.
     let some : 0 < length e.name = h.named.some in
     let whole : n ≤ length b = h.whole in
-    let padded : n ≡ up_to_four (8 + length e.name) = h.padded in
+    let padded : n ≡ rounded_up (8 + length e.name) 4 = h.padded in
     let long : length rest ≡ length b - 8 = ap length d ∙ length-drop 8 b in
     all (length e.name - 1) (omega arith) (ap (λ (x : List ℕ). get_or x (length e.name - 1) 0) d ∙ sym (in_rest b e n (length e.name - 1) h (omega arith)) ∙ h.named.last)
 
-pub none_cut : (b rest : List ℕ) (k : ℕ) → rest ≡ drop 8 b → k < length rest → get_or rest k 0 ≡ 0 → ((j : ℕ) → j < k → get_or rest j 0 ≢ 0) → length b < up_to_four (8 + k + 1) → BeginsWithNone b
+pub none_cut : (b rest : List ℕ) (k : ℕ) → rest ≡ drop 8 b → k < length rest → get_or rest k 0 ≡ 0 → ((j : ℕ) → j < k → get_or rest j 0 ≢ 0) → length b < rounded_up (8 + k + 1) 4 → BeginsWithNone b
 none_cut b rest k d lt here before cut = λ e n h.
     let whole : n ≤ length b = h.whole in
-    let padded : n ≡ up_to_four (8 + length e.name) = h.padded in
+    let padded : n ≡ rounded_up (8 + length e.name) 4 = h.padded in
     let shorter : length e.name < k + 1 = omega arith in
     let some : 0 < length e.name = h.named.some in
     before (length e.name - 1) (omega arith) (ap (λ (x : List ℕ). get_or x (length e.name - 1) 0) d ∙ sym (in_rest b e n (length e.name - 1) h (omega arith)) ∙ h.named.last)

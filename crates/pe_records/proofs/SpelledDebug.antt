@@ -4,9 +4,10 @@ use Rattle.std.specs.Prelude.{nat_lt, slice_range, ◌==◌, ◌||◌, if◌then
 use Rattle.std.proofs.lemmas.Bool.Decides.{nat_tests}
 use Rattle.pe_core.proofs.NumberBytes.{bytes_of-le, range_join}
 use Rattle.pe_core.specs.Bytes.{AreBytes, le, bytes_of, range, holds}
-use Rattle.pe_core.specs.Options.{is_permissive}
+use Rattle.pe_core.specs.Modes.{none_if_refused}
 use Rattle.pe_core.specs.Refusals.{Refusal, Short, DebugSize, DebugData, PogoSize, outcome}
 use Rattle.pe_core.specs.declared.options.ParseMode.{ParseMode}
+use Rattle.pe_core.specs.declared.options.ParseMode.TheVariants.{Strict, Permissive}
 use Rattle.pe_records.specs.declared.debug.ImageDebugDirectory.{ImageDebugDirectory}
 use Rattle.pe_records.specs.DebugRecords.{Pdb70, Pdb20, Pogo, pdb70_at, pdb70_record, pdb20_at, pdb20_record, features_at, pogo_record, Repro, Stamp, Buffer, repro_record}
 use Rattle.pe_records.specs.DebugSpelling.{spell_pdb70, spell_pdb20, spell_features, spell_pogo, spell_repro, size_of_repro}
@@ -23,16 +24,16 @@ number b xs p q r w small e h end l =
     join b xs (bytes_of w (le b q w)) p q r e (bytes_of-le b q w small inside ∙ ap (slice_range b q) (sym end)) h up l
 
 -- what is given passed its tests
-passed : {X : Type 0} (short permissive there own whole inside : Bool) (i j : Refusal) (v x : X) →
-    (if short then (if permissive then Ok None else Err DebugSize) else (if there then (if own then outcome ((whole, i) ∷ (inside, j) ∷ []) (Some v) else Ok None) else Err Short)) ≡ Ok (Some x) →
+passed : {X : Type 0} (short : Bool) (mode : ParseMode) (there own whole inside : Bool) (i j : Refusal) (v x : X) →
+    (if short then none_if_refused mode (Err DebugSize) else (if there then (if own then outcome ((whole, i) ∷ (inside, j) ∷ []) (Some v) else Ok None) else Err Short)) ≡ Ok (Some x) →
     (short ≡ false) × (inside ≡ true) × (v ≡ x)
-passed true true there own whole inside i j v x e = absurd cc
-passed true false there own whole inside i j v x e = absurd cc
-passed false permissive true true true true i j v x e = (refl, refl, cc)
-passed false permissive true true true false i j v x e = absurd cc
-passed false permissive true true false inside i j v x e = absurd cc
-passed false permissive true false whole inside i j v x e = absurd cc
-passed false permissive false own whole inside i j v x e = absurd cc
+passed true Permissive there own whole inside i j v x e = absurd cc
+passed true Strict there own whole inside i j v x e = absurd cc
+passed false mode true true true true i j v x e = (refl, refl, cc)
+passed false mode true true true false i j v x e = absurd cc
+passed false mode true true false inside i j v x e = absurd cc
+passed false mode true false whole inside i j v x e = absurd cc
+passed false mode false own whole inside i j v x e = absurd cc
 
 spelled_pdb70_at : (b : List ℕ) (p size : ℕ) → AreBytes b → 24 ≤ size → p + size ≤ length b → spell_pdb70 (pdb70_at b p size) ≡ range b p size
 unfolding spell_pdb70 pdb70_at
@@ -72,7 +73,7 @@ are_there b p n e = grind (arith, nat_tests)
 pub spelled_pdb70 : (mode : ParseMode) (b : List ℕ) (p size : ℕ) (r : Pdb70) → AreBytes b → pdb70_record mode b p size ≡ Ok (Some r) → spell_pdb70 r ≡ range b p size
 unfolding pdb70_record
 spelled_pdb70 mode b p size r small e =
-    let tests = passed (nat_lt size 24) (is_permissive mode) (holds b p 4) (le b p 4 == 0x53445352) (holds b (p + 4) 20) (holds b (p + 24) (size - 24)) Short DebugData (pdb70_at b p size) r e in
+    let tests = passed (nat_lt size 24) mode (holds b p 4) (le b p 4 == 0x53445352) (holds b (p + 4) 20) (holds b (p + 24) (size - 24)) Short DebugData (pdb70_at b p size) r e in
     let least : 24 ≤ size = not_below size 24 tests.0 in
     let inside : p + 24 + (size - 24) ≤ length b = are_there b (p + 24) (size - 24) tests.1 in
     ap spell_pdb70 (sym tests.2) ∙ spelled_pdb70_at b p size small least (omega arith)
@@ -80,7 +81,7 @@ spelled_pdb70 mode b p size r small e =
 pub spelled_pdb20 : (mode : ParseMode) (b : List ℕ) (p size : ℕ) (r : Pdb20) → AreBytes b → pdb20_record mode b p size ≡ Ok (Some r) → spell_pdb20 r ≡ range b p size
 unfolding pdb20_record
 spelled_pdb20 mode b p size r small e =
-    let tests = passed (nat_lt size 16) (is_permissive mode) (holds b p 4) (le b p 4 == 0x3031424E) (holds b (p + 4) 12) (holds b (p + 16) (size - 16)) Short DebugData (pdb20_at b p size) r e in
+    let tests = passed (nat_lt size 16) mode (holds b p 4) (le b p 4 == 0x3031424E) (holds b (p + 4) 12) (holds b (p + 16) (size - 16)) Short DebugData (pdb20_at b p size) r e in
     let least : 16 ≤ size = not_below size 16 tests.0 in
     let inside : p + 16 + (size - 16) ≤ length b = are_there b (p + 16) (size - 16) tests.1 in
     ap spell_pdb20 (sym tests.2) ∙ spelled_pdb20_at b p size small least (omega arith)

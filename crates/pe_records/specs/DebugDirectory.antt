@@ -1,11 +1,11 @@
 -- The debug directory: the table that it points to, and the entries of the table.
 -- (PE format: debug directory; the bounds by mode and the fixup are this project's profile.)
-use Rattle.std.specs.Prelude.{◌≡◌, ℕ, ◌+◌, ◌-◌, ◌*◌, ◌/◌, ◌%◌, ◌^◌, ◌==◌, List, [], ◌∷◌, ◌++◌, length, map, drop, Option, Some, None, Result, Ok, Err, if◌then◌else◌}
+use Rattle.std.specs.Prelude.{◌≡◌, ℕ, ◌+◌, ◌-◌, ◌/◌, ◌%◌, ◌^◌, ◌==◌, List, [], ◌∷◌, length, drop, Option, Some, None, Result, Ok, Err, if◌then◌else◌}
 use Rattle.std.specs.List.{find}
 use Rattle.pe_core.specs.Bytes.{le, holds, range}
 use Rattle.pe_core.specs.Options.{is_permissive}
-use Rattle.pe_core.specs.Refusals.{Refusal, Short, Unmapped, DebugBounds, kind_of}
-use Rattle.pe_core.specs.Rows.{each}
+use Rattle.pe_core.specs.Refusals.{Refusal, Unmapped, DebugBounds, kind_of}
+use Rattle.pe_core.specs.Rows as Rows
 use Rattle.pe_core.specs.SectionMap.{place_of}
 use Rattle.pe_core.specs.declared.data_directories.DataDirectory.{DataDirectory}
 use Rattle.pe_core.specs.declared.error.Error.{Error}
@@ -49,11 +49,11 @@ entry_at fixup b p = record {
 
 -- the whole entries of a table, one every 28 bytes
 unfoldable pub whole_entries : ℕ → List ℕ → List ImageDebugDirectory
-whole_entries fixup b = each (λ i. entry_at fixup b (28 * i)) (length b / 28)
+whole_entries fixup b = Rows.whole_entries (entry_at fixup) 28 b
 
 -- the entries of a table, and one fault where a last one is cut
 unfoldable pub entries : ℕ → List ℕ → List (Result ImageDebugDirectory Refusal)
-entries fixup b = map (λ e. Ok e) (whole_entries fixup b) ++ (if length b % 28 == 0 then [] else Err Short ∷ [])
+entries fixup b = Rows.entry_items (entry_at fixup) 28 b
 
 -- how many entries that is, a cut one included
 abbrev pub count : List ℕ → ℕ

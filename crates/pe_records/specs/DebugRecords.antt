@@ -3,7 +3,7 @@
 use Rattle.std.specs.Prelude.{ℕ, ◌+◌, ◌-◌, ◌==◌, ◌||◌, List, [], ◌∷◌, Bool, Option, Some, None, Result, Ok, Err, nat_lt, if◌then◌else◌}
 use Rattle.std.specs.Option.{option_map}
 use Rattle.pe_core.specs.Bytes.{le, range, holds, record_at}
-use Rattle.pe_core.specs.Options.{is_permissive}
+use Rattle.pe_core.specs.Modes.{none_if_refused}
 use Rattle.pe_core.specs.Refusals.{Refusal, Short, DebugSize, DebugData, PogoSize, outcome, ◌>>=◌}
 use Rattle.pe_core.specs.declared.data_directories.DataDirectory.{DataDirectory}
 use Rattle.pe_core.specs.declared.options.ParseMode.{ParseMode}
@@ -27,7 +27,7 @@ record_place resolve e = if resolve then e.pointer_to_raw_data else e.address_of
 -- a record whose entry must give it at least so many bytes
 abbrev pub of_least_size : {X : Type 0} → ParseMode → ℕ → ℕ → Result (Option X) Refusal → Result (Option X) Refusal
 of_least_size mode least size record_there =
-    if nat_lt size least then (if is_permissive mode then Ok None else Err DebugSize) else record_there
+    if nat_lt size least then none_if_refused mode (Err DebugSize) else record_there
 
 -- a record that begins with a signature of its own: under any other there is none
 abbrev pub signed : {X : Type 0} → (ℕ → Bool) → List ℕ → ℕ → Result (Option X) Refusal → Result (Option X) Refusal

@@ -1,7 +1,8 @@
 -- Entries of a POGO record (layout: this project's profile).
-use Rattle.std.specs.Prelude.{◌≡◌, ℕ, ◌+◌, ◌-◌, ◌*◌, ◌/◌, ◌<◌, ◌≤◌, ◌≢◌, List, [], ◌∷◌, length, take, drop, slice_index, Option, Some, None, Result, Ok, Err, nat_lt, if◌then◌else◌}
+use Rattle.std.specs.Prelude.{◌≡◌, ℕ, ◌+◌, ◌-◌, ◌<◌, ◌≤◌, ◌≢◌, List, [], ◌∷◌, length, take, drop, slice_index, Option, Some, None, Result, Ok, Err, nat_lt, if◌then◌else◌}
 use Rattle.pe_core.specs.Bytes.{le}
 use Rattle.pe_core.specs.Refusals.{Refusal, Short, PogoName, kind_of}
+use Rattle.pe_core.specs.SectionMap.{rounded_up}
 use Rattle.pe_core.specs.declared.error.Error.{Error}
 use Rattle.pe_records.specs.declared.debug.pogo.POGOInfoEntry.{POGOInfoEntry}
 use Rattle.pe_records.specs.declared.debug.pogo.POGOEntryIterator.{POGOEntryIterator}
@@ -15,9 +16,6 @@ pub record Entry : Type 0 where
 abbrev pub entry_of : POGOInfoEntry → Entry
 entry_of e = record { rva = e.rva; size = e.size; name = e.name.now }
 
-abbrev pub up_to_four : ℕ → ℕ
-up_to_four n = (n + 3) / 4 * 4
-
 -- a name's last byte is its only zero
 pub record IsName (name : List ℕ) : Type 0 where
   pub some : 0 < length name
@@ -30,7 +28,7 @@ pub record BeginsWith (b : List ℕ) (e : Entry) (n : ℕ) : Type 0 where
   pub size : e.size ≡ le b 4 4
   pub named : IsName e.name
   pub name : e.name ≡ take (length e.name) (drop 8 b)
-  pub padded : n ≡ up_to_four (8 + length e.name)
+  pub padded : n ≡ rounded_up (8 + length e.name) 4
   pub whole : n ≤ length b
 
 abbrev pub BeginsWithNone : List ℕ → Type 0

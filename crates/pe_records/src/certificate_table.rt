@@ -6,8 +6,13 @@ ghost use Rattle.pe_core.specs.Refusals.{WriteFit, outcome, Gives, GivesUnlessMe
 ghost use Rattle.pe_core.specs.SectionMap.{rounded_up};
 ghost use Rattle.pe_records.specs.Certificates.{FindsRevision, FindsType, Lists, certificate_view, certificates_at};
 
-use pe_core::{Error, Reason, Result, number16, number32, require_bytes, slice_at};
+use pe_core::{
+    Error, Reason, Result, data_at, number16, number32, require_bytes, require_room, rounded_up,
+};
 use std::alloc::{Allocator, Global};
+
+/// The bytes that certificates are rounded up to a multiple of.
+const UNIT: usize = 8;
 
 /// The revision of a certificate. `as u16` gives its number.
 #[derive(Clone, Copy, Debug, PartialEq)]
@@ -75,14 +80,6 @@ pub struct AttributeCertificate<'a> {
 /// The certificates of a table, in their order.
 pub type CertificateDirectoryTable<'a, A = Global> = Vec<AttributeCertificate<'a>, A>;
 
-/// The least multiple of eight from `n` on.
-fn up_to_eight(n: usize) -> usize
-    requires { n + 7 < 2 ^ 64 }
-    ensures { result ≡ rounded_up n 8 }
-{
-    (n + 7) / 8 * 8
-}
-
 impl<'a> AttributeCertificate<'a> {
     ghost use Rattle.pe_records.specs.Certificates.{Parses};
 
@@ -99,12 +96,10 @@ impl<'a> AttributeCertificate<'a> {
         let certificate_type = number16(bytes, place + 6);
         *offset = place + 8;
         let body = length.saturating_sub(8) as usize;
-        let Ok(certificate) = slice_at(bytes, place + 8, body) else {
-            return Err(Error::Malformed(Reason::CertificateSize(length)));
-        };
+        let certificate = data_at(bytes, place + 8, body, Reason::CertificateSize(length))?;
         let revision = AttributeCertificateRevision::try_from(revision)?;
         let certificate_type = AttributeCertificateType::try_from(certificate_type)?;
-        *offset = up_to_eight(place + 8 + body);
+        *offset = rounded_up(place + 8 + body, UNIT);
         Ok(AttributeCertificate {
             length,
             revision,
@@ -125,20 +120,6 @@ fn fill_piece(piece: &mut [u8], header: [u8; 8], body: &[u8])
     piece[..8].copy_from_slice(&header);
     piece[8..end].copy_from_slice(body);
     piece[end..].fill(0);
-}
-
-/// The place behind `n` bytes that are written at the place, or `WriteFit` where they don't fit.
-fn require_room(buffer: &[u8], place: usize, n: usize) -> Result<usize>
-    ensures { Gives (λ end. end) result (outcome ((holds buffer.now place n, WriteFit) ∷ []) (place + n)) }
-{
-    if n <= buffer.len() && place <= buffer.len() - n {
-        Ok(place + n)
-    } else {
-        Err(Error::Malformed(Reason::WriteFit {
-            end: (place as u64).saturating_add(n as u64),
-            length: buffer.len(),
-        }))
-    }
 }
 
 impl<'a> AttributeCertificate<'a> {
@@ -168,7 +149,9 @@ impl<'a> AttributeCertificate<'a> {
         ensures fit { Gives (λ end. end) result (written_end out.old place (certificate_view self.now)) }
         ensures after { out.new ≡ put out.old place (written_certificate (certificate_view self.now)) }
     {
-        let end = require_room(out, place, up_to_eight(8 + self.certificate.len()))?;
+        let size = rounded_up(8 + self.certificate.len(), UNIT);
+        require_room(out, place, size)?;
+        let end = place + size;
         let header = self.header();
         fill_piece(&mut out[place..end], header, self.certificate);
         Ok(end)

@@ -36,7 +36,7 @@ pub use constants::{
 };
 use pe_core::{
     DataDirectory, Error, ParseMode, ParseOptions, Reason, Result, SectionTable, find_offset,
-    number16, number32, slice_at,
+    number16, number32, slice_at, split_entry,
 };
 pub use pogo::{POGOEntryIterator, POGOInfo, POGOInfoEntry};
 pub use records::{ExDllCharacteristicsInfo, ReproInfo, VCFeatureInfo};
@@ -136,19 +136,10 @@ impl<'a> Iterator for ImageDebugDirectoryIterator<'a> {
 
     #[tactic(auto, using(crate::proofs::EntriesInOrder::entries_more, crate::proofs::EntriesInOrder::entries_cut, crate::proofs::EntriesInOrder::entries_none))]
     fn next(&mut self) -> Option<Result<ImageDebugDirectory>> {
-        let bytes = self.bytes;
-        if bytes.is_empty() {
-            return None;
+        match split_entry(&mut self.bytes, IMAGE_DEBUG_DIRECTORY_SIZE)? {
+            Ok(bytes) => Some(Ok(ImageDebugDirectory::at(bytes, 0, self.rva_offset))),
+            Err(error) => Some(Err(error)),
         }
-        if bytes.len() < IMAGE_DEBUG_DIRECTORY_SIZE {
-            self.bytes = bytes.split_at(bytes.len()).1;
-            return Some(Err(Error::Short {
-                at: 0,
-                needed: IMAGE_DEBUG_DIRECTORY_SIZE,
-            }));
-        }
-        self.bytes = bytes.split_at(IMAGE_DEBUG_DIRECTORY_SIZE).1;
-        Some(Ok(ImageDebugDirectory::at(bytes, 0, self.rva_offset)))
     }
 
     fn size_hint(&self) -> (usize, Option<usize>)

@@ -173,7 +173,7 @@ fn reads_section_headers(rt: HostRuntime) -> Result<(), Fail> {
         .err()
         .ok_or("given")?;
     assert!(rt; matches!(short, Error::Short { at: 6, needed: 80 }));
-    assert!(rt; counting(0).sections(rt.alloc(), &bytes, 85)?.is_empty());
+    assert!(rt; counting(0).sections(rt.alloc(), &bytes, 86)?.is_empty());
     Ok(())
 }
 

@@ -9,7 +9,9 @@ ghost use Rattle.pe_records.specs.DebugRecords.{pdb70_view, pdb70_of, pdb70_reco
 use crate::debug::ImageDebugDirectory;
 use crate::debug::constants::{CODEVIEW_PDB20_MAGIC, CODEVIEW_PDB70_MAGIC};
 use crate::debug::records::record_place;
-use pe_core::{Error, ParseMode, ParseOptions, Reason, Result, number32, require_bytes, u32_at};
+use pe_core::{
+    Error, ParseMode, ParseOptions, Reason, Result, data_at, number32, require_bytes, u32_at,
+};
 
 /// A PDB 7.0 record.
 #[derive(Clone, Copy, Debug, Default, PartialEq)]
@@ -44,10 +46,7 @@ impl<'a> CodeviewPDB70DebugInfo<'a> {
         ensures { Gives (option_map pdb70_view) result (pdb70_record mode bytes.entry.now place size) }
     {
         if size < 24 {
-            return match mode {
-                ParseMode::Strict => Err(Error::Malformed(Reason::DebugSize(size))),
-                ParseMode::Permissive => Ok(None),
-            };
+            return mode.none_if_refused(Err(Error::Malformed(Reason::DebugSize(size))));
         }
         let codeview_signature = u32_at(bytes, place)?;
         if codeview_signature != CODEVIEW_PDB70_MAGIC {
@@ -55,16 +54,14 @@ impl<'a> CodeviewPDB70DebugInfo<'a> {
         }
         require_bytes(bytes, place + 4, 20)?;
         let length = size as usize - 24;
-        if bytes.len() - (place + 24) < length {
-            return Err(Error::Malformed(Reason::DebugData(size)));
-        }
+        let filename = data_at(bytes, place + 24, length, Reason::DebugData(size))?;
         let mut signature = [0; 16];
         signature.copy_from_slice(&bytes[place + 4..place + 20]);
         Ok(Some(CodeviewPDB70DebugInfo {
             codeview_signature,
             signature,
             age: number32(bytes, place + 20),
-            filename: &bytes[place + 24..place + 24 + length],
+            filename,
         }))
     }
 
@@ -95,10 +92,7 @@ impl<'a> CodeviewPDB20DebugInfo<'a> {
         ensures { Gives (option_map pdb20_view) result (pdb20_record mode bytes.entry.now place size) }
     {
         if size < 16 {
-            return match mode {
-                ParseMode::Strict => Err(Error::Malformed(Reason::DebugSize(size))),
-                ParseMode::Permissive => Ok(None),
-            };
+            return mode.none_if_refused(Err(Error::Malformed(Reason::DebugSize(size))));
         }
         let codeview_signature = u32_at(bytes, place)?;
         if codeview_signature != CODEVIEW_PDB20_MAGIC {
@@ -106,15 +100,13 @@ impl<'a> CodeviewPDB20DebugInfo<'a> {
         }
         require_bytes(bytes, place + 4, 12)?;
         let length = size as usize - 16;
-        if bytes.len() - (place + 16) < length {
-            return Err(Error::Malformed(Reason::DebugData(size)));
-        }
+        let filename = data_at(bytes, place + 16, length, Reason::DebugData(size))?;
         Ok(Some(CodeviewPDB20DebugInfo {
             codeview_signature,
             codeview_offset: number32(bytes, place + 4),
             signature: number32(bytes, place + 8),
             age: number32(bytes, place + 12),
-            filename: &bytes[place + 16..place + 16 + length],
+            filename,
         }))
     }
 

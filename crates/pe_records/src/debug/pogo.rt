@@ -6,12 +6,17 @@ ghost use Rattle.std.specs.Option.{option_map};
 ghost use Rattle.pe_core.specs.Options.{default_options};
 ghost use Rattle.pe_core.specs.Refusals.{Gives};
 ghost use Rattle.pe_records.specs.DebugRecords.{pogo_view, pogo_of, pogo_record};
-ghost use Rattle.pe_records.specs.Pogo.{Reads, GivesEntry, rest_of, up_to_four};
+ghost use Rattle.pe_records.specs.Pogo.{Reads, GivesEntry, rest_of};
 
 use crate::debug::ImageDebugDirectory;
 use crate::debug::constants::{IMAGE_DEBUG_POGO_SIGNATURE_LTCG, IMAGE_DEBUG_POGO_SIGNATURE_PGU};
 use crate::debug::records::record_place;
-use pe_core::{Error, ParseOptions, Reason, Result, number32, require_bytes, u32_at};
+use pe_core::{
+    Error, ParseOptions, Reason, Result, data_at, number32, require_bytes, rounded_up, u32_at,
+};
+
+/// The bytes that entries are rounded up to a multiple of.
+const UNIT: usize = 4;
 
 /// A record of profile-guided optimization.
 #[derive(Clone, Copy, Debug, Default, PartialEq)]
@@ -36,14 +41,8 @@ impl<'a> POGOInfo<'a> {
         if size <= 4 {
             return Err(Error::Malformed(Reason::PogoSize(size)));
         }
-        let length = size as usize - 4;
-        if bytes.len() - (place + 4) < length {
-            return Err(Error::Malformed(Reason::DebugData(size)));
-        }
-        Ok(Some(POGOInfo {
-            signature,
-            bytes: &bytes[place + 4..place + 4 + length],
-        }))
+        let bytes = data_at(bytes, place + 4, size as usize - 4, Reason::DebugData(size))?;
+        Ok(Some(POGOInfo { signature, bytes }))
     }
 
     /// The record of the entry, by the default options.
@@ -112,7 +111,7 @@ fn entry_at<'a>(bytes: &'a [u8]) -> Result<(POGOInfoEntry<'a>, usize)>
             length: bytes.len(),
         }));
     };
-    let end = (8 + zero + 1 + 3) / 4 * 4;
+    let end = rounded_up(8 + zero + 1, UNIT);
     if bytes.len() < end {
         return Err(Error::Malformed(Reason::PogoName {
             place: end,

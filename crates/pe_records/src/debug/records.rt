@@ -6,7 +6,7 @@ ghost use Rattle.pe_core.specs.Refusals.{Gives};
 ghost use Rattle.pe_records.specs.DebugRecords.{record_place, features_at, features_of, characteristics_of, repro_view, repro_of, repro_record};
 
 use crate::debug::ImageDebugDirectory;
-use pe_core::{Error, ParseOptions, Reason, Result, number32, require_bytes, u32_at};
+use pe_core::{ParseOptions, Reason, Result, data_at, number32, require_bytes, u32_at};
 
 /// Where the record of an entry stands: at its pointer if addresses are mapped to places, else at its address.
 pub(crate) fn record_place(idd: &ImageDebugDirectory, opts: &ParseOptions) -> u32
@@ -121,13 +121,9 @@ impl<'a> ReproInfo<'a> {
             return Ok(ReproInfo::TimeDateStamp(idd.time_date_stamp));
         }
         let length = u32_at(bytes, place)?;
-        if bytes.len() - (place + 4) < length as usize {
-            return Err(Error::Malformed(Reason::DebugData(length)));
-        }
-        Ok(ReproInfo::Buffer {
-            length,
-            buffer: &bytes[place + 4..place + 4 + length as usize],
-        })
+        let refusal = Reason::DebugData(length);
+        let buffer = data_at(bytes, place + 4, length as usize, refusal)?;
+        Ok(ReproInfo::Buffer { length, buffer })
     }
 
     /// What the entry's build is known by, by the default options.

@@ -9,42 +9,43 @@ use crate::options::ParseOptions;
 use crate::section_table::SectionTable;
 
 /// How the file's parts are rounded, whatever an image states: raw pointers down to sectors, sizes up to pages.
-const SECTOR: u64 = 512;
+const SECTOR: usize = 512;
 
-const PAGE: u32 = 4096;
+const PAGE: usize = 4096;
 
 /// The number rounded up to a multiple of the unit.
-fn rounded_up(n: u64, unit: u32) -> u64
+pub fn rounded_up(n: usize, unit: usize) -> usize
     requires unit { 0 < unit }
-    requires small { n < 2 ^ 33 }
+    requires room { n + unit ≤ 2 ^ 64 }
     ensures up { result ≡ rounded_up n unit }
     ensures least { n ≤ result }
     ensures most { result < n + unit }
 {
-    (n + (u64::from(unit) - 1)) / u64::from(unit) * u64::from(unit)
+    (n + (unit - 1)) / unit * unit
 }
 
 /// Where the section's bytes begin in the file when it is mapped.
-fn raw_start(section: &SectionTable) -> u64
+fn raw_start(section: &SectionTable) -> usize
     ensures place { result ≡ raw_start section.now }
     ensures small { result < 2 ^ 32 }
 {
-    u64::from(section.pointer_to_raw_data) / SECTOR * SECTOR
+    section.pointer_to_raw_data as usize / SECTOR * SECTOR
 }
 
 /// How many addresses the section covers.
 #[tactic(auto, unfolding(crate::specs::SectionMap::reach))]
-fn reach(section: &SectionTable, alignment: u32) -> u64
+fn reach(section: &SectionTable, alignment: u32) -> usize
     requires { 0 < alignment }
     ensures count { result ≡ reach alignment section.now }
     ensures small { result < 2 ^ 33 }
 {
-    let raw_size = rounded_up(u64::from(section.size_of_raw_data), PAGE);
-    let raw = (rounded_up(section.raw_end(), alignment) - raw_start(section)).min(raw_size);
+    let raw_size = rounded_up(section.size_of_raw_data as usize, PAGE);
+    let raw_end = rounded_up(section.raw_end(), alignment as usize);
+    let raw = (raw_end - raw_start(section)).min(raw_size);
     if section.virtual_size == 0 {
         raw
     } else {
-        raw.min(rounded_up(u64::from(section.virtual_size), PAGE))
+        raw.min(rounded_up(section.virtual_size as usize, PAGE))
     }
 }
 
@@ -53,8 +54,8 @@ fn covers(section: &SectionTable, alignment: u32, address: usize) -> bool
     ensures cover { result ≡ covers alignment address section.now }
     ensures small { IsTrue result → address < 2 ^ 34 }
 {
-    let start = u64::from(section.virtual_address);
-    start <= address as u64 && (address as u64) < start + reach(section, alignment)
+    let start = section.virtual_address as usize;
+    start <= address && address < start + reach(section, alignment)
 }
 
 /// The first section that covers the address.
@@ -86,5 +87,5 @@ pub fn find_offset(
         return None;
     }
     let section = section_of(sections, file_alignment, rva)?;
-    Some(rva - section.virtual_address as usize + raw_start(section) as usize)
+    Some(rva - section.virtual_address as usize + raw_start(section))
 }
