@@ -7,6 +7,6 @@ elif [ -n "${RATTLE_KIT:-}" ] && [ -x "$RATTLE_KIT/rt" ]; then
 elif command -v rt >/dev/null 2>&1; then
   RT=$(command -v rt)
 else
-  echo "the Rattle kit is missing: put its command rt on PATH, or set RATTLE_KIT to its folder" >&2
+  echo "the Rattle kit is missing: put its command rt on PATH, or set RATTLE_KIT to its folder" >&2 || :
   exit 127
 fi

@@ -1,6 +1,6 @@
 //! Debug data: entries, the six records and POGO entries.
 
-use crate::images::{image, with_byte};
+use crate::images::{image, with_byte, with_debug};
 use pe_core::{DataDirectory, Error, Header, ParseMode, ParseOptions, Reason, Result};
 use pe_records::{
     CodeviewPDB20DebugInfo, CodeviewPDB70DebugInfo, DebugData, ExDllCharacteristicsInfo,
@@ -18,27 +18,6 @@ fn flat(mode: ParseMode) -> ParseOptions {
         resolve_rva: false,
         ..ParseOptions::default().with_parse_mode(mode)
     }
-}
-
-/// An image with one section and one debug entry, of type 16 with no bytes of its own.
-fn one_entry(alloc: Global) -> std::result::Result<Vec<u8>, AllocError> {
-    image(
-        alloc,
-        0x410,
-        &[
-            (0, b"MZ"),
-            (0x3C, &[0x40]),
-            (0x40, &[0x50, 0x45, 0, 0, 0x64, 0x86, 1]),
-            (0x54, &[0xF0, 0, 0x22, 0, 0x0B, 2]),
-            (0x70, &[0, 0, 0, 0x40, 1]),
-            (0x7C, &[0, 2]),
-            (0xC4, &[0x10]),
-            (0xF8, &[0x40, 0x10, 0, 0, 0x1C]),
-            (0x148, b".rdata\0\0\0\x01\0\0\0\x10\0\0\0\x02\0\0\0\x02"),
-            (0x244, &[0x44, 0x33, 0x22, 0x11]),
-            (0x24C, &[0x10]),
-        ],
-    )
 }
 
 /// The debug data of an image.
@@ -65,7 +44,7 @@ fn debug_of<'a>(
 
 #[test]
 fn one_repro_entry(rt: HostRuntime) -> std::result::Result<(), Fail> {
-    let bytes = one_entry(rt.alloc())?;
+    let bytes = with_debug(rt.alloc())?;
     for mode in MODES {
         let opts = ParseOptions::default().with_parse_mode(mode);
         let debug = debug_of(rt.alloc(), &bytes, &opts, 0)?;
@@ -100,10 +79,10 @@ fn one_repro_entry(rt: HostRuntime) -> std::result::Result<(), Fail> {
 fn entries_of_other_types(rt: HostRuntime) -> std::result::Result<(), Fail> {
     for mode in MODES {
         let opts = ParseOptions::default().with_parse_mode(mode);
-        let bytes = with_byte(one_entry(rt.alloc())?, 0x24C, 13);
+        let bytes = with_byte(with_debug(rt.alloc())?, 0x24C, 13);
         let debug = debug_of(rt.alloc(), &bytes, &opts, 0)?;
         assert!(rt; debug.pogo_info.is_none() && debug.repro_info.is_none());
-        let bytes = with_byte(one_entry(rt.alloc())?, 0x24C, 12);
+        let bytes = with_byte(with_debug(rt.alloc())?, 0x24C, 12);
         let debug = debug_of(rt.alloc(), &bytes, &opts, 0)?;
         let counts = VCFeatureInfo {
             pre_vc_plusplus_count: 0x5A4D,

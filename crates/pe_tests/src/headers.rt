@@ -1,6 +1,6 @@
 //! Headers, in both widths and both modes.
 
-use crate::images::{headers_alone, image, pointer_below_64, with_byte};
+use crate::images::{headers_alone, image, pointer_below_64, put, with_byte};
 use pe_core::{
     CoffHeader, DataDirectory, DosHeader, Error, Header, OptionalHeader, ParseMode, ParseOptions,
     Reason, StandardFields, WindowsFields,
@@ -82,26 +82,30 @@ fn cut_to_every_length(rt: HostRuntime) -> Result<(), Fail> {
     Ok(())
 }
 
-/// A PE32 image in which every byte that no format fixes is told by its place: seven times it and three. It counts
-/// more directories than sixteen, and its optional header is longer than the COFF header says.
-fn every_field_different(alloc: Global) -> Result<Vec<u8>, AllocError> {
+/// An image in which every byte that no format fixes is told by its place: seven times it and three. It counts more
+/// directories than sixteen, and its optional header, of this magic, is longer than the COFF header says.
+fn told_by_place(alloc: Global, magic: &[u8], count_at: usize) -> Result<Vec<u8>, AllocError> {
     let mut bytes = image(alloc, 0x200, &[])?;
     for (place, byte) in bytes.iter_mut().enumerate() {
         *byte = ((place % 256 * 7 + 3) % 256) as u8;
     }
-    for (place, part) in [
-        (0, b"MZ".as_slice()),
-        (0x3C, &[0x60, 0, 0, 0]),
-        (0x60, &[0x50, 0x45, 0, 0]),
-        (0x74, &[0x60, 0]),
-        (0x78, &[0x0B, 1]),
-        (0xD4, &[0x11, 0, 1, 0]),
-    ] {
-        for (byte, slot) in part.iter().zip(bytes.iter_mut().skip(place)) {
-            *slot = *byte;
-        }
-    }
+    put(
+        &mut bytes,
+        &[
+            (0, b"MZ"),
+            (0x3C, &[0x60, 0, 0, 0]),
+            (0x60, &[0x50, 0x45, 0, 0]),
+            (0x74, &[0x60, 0]),
+            (0x78, magic),
+            (count_at, &[0x11, 0, 1, 0]),
+        ],
+    );
     Ok(bytes)
+}
+
+/// Such an image of PE32.
+fn every_field_different(alloc: Global) -> Result<Vec<u8>, AllocError> {
+    told_by_place(alloc, &[0x0B, 1], 0xD4)
 }
 
 const COFF: CoffHeader = CoffHeader {
@@ -187,6 +191,81 @@ fn reads_every_field_of_pe32(rt: HostRuntime) -> Result<(), Fail> {
     let rows = optional.data_directories.rows();
     assert_eq!(rt; rows.len(), 16);
     for (row, (virtual_address, size)) in rows.iter().zip(DIRECTORIES) {
+        let want = DataDirectory {
+            virtual_address,
+            size,
+        };
+        assert_eq!(rt; *row, want);
+    }
+    Ok(())
+}
+
+const WIDE_STANDARD: StandardFields = StandardFields {
+    magic: 0x20B,
+    major_linker_version: 0x59,
+    minor_linker_version: 0x60,
+    size_of_code: 0x7C756E67,
+    size_of_initialized_data: 0x98918A83,
+    size_of_uninitialized_data: 0xB4ADA69F,
+    address_of_entry_point: 0xD0C9C2BB,
+    base_of_code: 0xECE5DED7,
+    base_of_data: 0,
+};
+
+const WIDE_WINDOWS: WindowsFields = WindowsFields {
+    image_base: 0x241D160F0801FAF3,
+    section_alignment: 0x4039322B,
+    file_alignment: 0x5C554E47,
+    major_operating_system_version: 0x6A63,
+    minor_operating_system_version: 0x7871,
+    major_image_version: 0x867F,
+    minor_image_version: 0x948D,
+    major_subsystem_version: 0xA29B,
+    minor_subsystem_version: 0xB0A9,
+    win32_version_value: 0xCCC5BEB7,
+    size_of_image: 0xE8E1DAD3,
+    size_of_headers: 0x4FDF6EF,
+    check_sum: 0x2019120B,
+    subsystem: 0x2E27,
+    dll_characteristics: 0x3C35,
+    size_of_stack_reserve: 0x746D665F58514A43,
+    size_of_stack_commit: 0xACA59E979089827B,
+    size_of_heap_reserve: 0xE4DDD6CFC8C1BAB3,
+    size_of_heap_commit: 0x1C150E0700F9F2EB,
+    loader_flags: 0x38312A23,
+    number_of_rva_and_sizes: 0x10011,
+};
+
+const WIDE_DIRECTORIES: [(u32, u32); 16] = [
+    (0x7069625B, 0x8C857E77),
+    (0xA8A19A93, 0xC4BDB6AF),
+    (0xE0D9D2CB, 0xFCF5EEE7),
+    (0x18110A03, 0x342D261F),
+    (0x5049423B, 0x6C655E57),
+    (0x88817A73, 0xA49D968F),
+    (0xC0B9B2AB, 0xDCD5CEC7),
+    (0xF8F1EAE3, 0x140D06FF),
+    (0x3029221B, 0x4C453E37),
+    (0x68615A53, 0x847D766F),
+    (0xA099928B, 0xBCB5AEA7),
+    (0xD8D1CAC3, 0xF4EDE6DF),
+    (0x100902FB, 0x2C251E17),
+    (0x48413A33, 0x645D564F),
+    (0x8079726B, 0x9C958E87),
+    (0xB8B1AAA3, 0xD4CDC6BF),
+];
+
+#[test]
+fn reads_every_field_of_pe32_plus(rt: HostRuntime) -> Result<(), Fail> {
+    let bytes = told_by_place(rt.alloc(), &[0x0B, 2], 0xE4)?;
+    let header = Header::parse_with_opts(&bytes, &ParseOptions::default())?;
+    assert_eq!(rt; header.coff_header, COFF);
+    let optional = header.optional_header.ok_or("no optional header")?;
+    assert_eq!(rt; optional.standard_fields, WIDE_STANDARD);
+    assert_eq!(rt; optional.windows_fields, WIDE_WINDOWS);
+    let rows = optional.data_directories.rows();
+    assert_eq!(rt; rows.len(), 16);
+    for (row, (virtual_address, size)) in rows.iter().zip(WIDE_DIRECTORIES) {
         let want = DataDirectory {
             virtual_address,
             size,

@@ -14,13 +14,19 @@ mod certificates;
 #[cfg(test)]
 mod debug;
 #[cfg(test)]
+mod debug_texts;
+#[cfg(test)]
 mod headers;
 #[cfg(test)]
 mod images;
 #[cfg(test)]
+mod refusal_numbers;
+#[cfg(test)]
 mod refusals;
 #[cfg(test)]
 mod relocations;
+#[cfg(test)]
+mod samples;
 #[cfg(test)]
 mod sections;
 #[cfg(test)]

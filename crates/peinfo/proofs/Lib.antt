@@ -3,6 +3,7 @@ pub mod HexText
 pub mod Reading
 pub mod Words
 pub mod Writing
+pub mod Engines
 pub mod Lines
 pub mod FunctionItems
 pub mod FindTexts

@@ -1,6 +1,5 @@
 -- What `at` shows: the function that covers an address.
 use Rattle.std.specs.Prelude.{◌≡◌, ℕ, List, [], Option, Some, None, Result, Ok, Err, Vec, codes}
-use Rattle.std.specs.Io.KnownBytes.{Appends, Keeps}
 use Rattle.pe_core.specs.Refusals.{Refusal, UnlessMemory, kind_of}
 use Rattle.pe_core.specs.declared.error.Error.{Error}
 use Rattle.pe_unwind.specs.ExceptionTable.{table_of}
@@ -8,10 +7,7 @@ use Rattle.pe_unwind.specs.FunctionTable.{functions, Finds}
 use Rattle.pe_unwind.specs.declared.function_table.RuntimeFunction.{RuntimeFunction}
 use Rattle.peinfo.specs.Exceptions.{MachineExceptions, ForX64, ForArm64}
 use Rattle.peinfo.specs.FunctionLines.{function_line}
-use Rattle.peinfo.specs.Output.{AppendsBeginning, RoseOrFull}
 use Rattle.peinfo.specs.Parts.{PartsView}
-use Rattle.peinfo.specs.declared.report.ReportError.{ReportError}
-use Rattle.peinfo.specs.declared.report.ReportError.TheVariants.{Parse, Write}
 
 -- the x64 functions of exception data; without them, and of ARM64, there are none
 abbrev pub functions_of : Option MachineExceptions → List RuntimeFunction
@@ -31,16 +27,11 @@ pub record IsFindText (parts : Result PartsView Refusal) (address : ℕ) (text :
   pub finds : Finds (functions_of image.exceptions) address found
   pub shown : text ≡ found_line found
 
+-- the refusal in its place
+abbrev pub IsFindRefusal : Result PartsView Refusal → Error → Type 0
+IsFindRefusal parts e = UnlessMemory e (parts ≡ Err (kind_of e))
+
 -- what making that text answers
 abbrev pub GivesFindText : {Z : Type 0} → Result (Vec ℕ Z) Error → Result PartsView Refusal → ℕ → Type 0
 GivesFindText (Ok text) parts address = IsFindText parts address text.items
-GivesFindText (Err e) parts address = UnlessMemory e (parts ≡ Err (kind_of e))
-
--- what a call did to known bytes and to the count of failures
-abbrev pub FindReports : Result (Unit {0}) ReportError → Result PartsView Refusal → ℕ → Option (List ℕ) → Option (List ℕ) → ℕ → ℕ → Type 0
--- exactly the text was written, and no write failed
-FindReports (Ok u) parts address old new failed_old failed_new = (text : List ℕ) × IsFindText parts address text × Appends old new text × (failed_new ≡ failed_old)
--- nothing was written
-FindReports (Err (Parse e)) parts address old new failed_old failed_new = UnlessMemory e (parts ≡ Err (kind_of e)) × Keeps old new × (failed_new ≡ failed_old)
--- a beginning was written, and a write failed
-FindReports (Err Write) parts address old new failed_old failed_new = (text : List ℕ) × IsFindText parts address text × AppendsBeginning old new text × RoseOrFull failed_old failed_new
+GivesFindText (Err e) parts address = IsFindRefusal parts e

@@ -1,5 +1,7 @@
 pub mod Hex
 pub mod Output
+pub mod Engine
+pub mod Outcome
 pub mod Modes
 pub mod DebugEntries
 pub mod CertificateLines

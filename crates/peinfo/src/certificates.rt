@@ -95,7 +95,7 @@ fn push_line<A: Allocator>(
 
 /// Adds a line for each certificate.
 #[tactic(auto, using(std::proofs::lemmas::Grind::common_steps))]
-pub(crate) fn push_lines<A: Allocator>(
+pub fn push_lines<A: Allocator>(
     text: &mut Vec<u8, A>,
     certificates: &[AttributeCertificate<'_>],
 ) -> Result<(), AllocError>

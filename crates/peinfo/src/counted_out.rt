@@ -4,13 +4,15 @@ ghost use Rattle.std.specs.Prelude.{◌≡◌, ◌<◌, ◌≤◌, [], length, t
 ghost use Rattle.std.specs.Bool.{OnTrue, OnFalse};
 ghost use Rattle.std.specs.Io.KnownBytes.{Appends, Keeps};
 
+use std::io;
 use std::io::Write;
 
-/// A writer, and how many of its writes failed or took nothing.
+/// A writer, how many of its writes failed or took nothing, and why the last of them did.
 #[derive(Drop)]
 pub struct CountedOut<W> {
     writer: W,
     failures: u64,
+    cause: Option<io::Error>,
 }
 
 impl<W: Write> CountedOut<W> {
@@ -24,6 +26,7 @@ impl<W: Write> CountedOut<W> {
         CountedOut {
             writer,
             failures: 0,
+            cause: None,
         }
     }
 
@@ -34,6 +37,7 @@ impl<W: Write> CountedOut<W> {
         let CountedOut {
             writer,
             failures: _,
+            cause: _,
         } = self;
         writer
     }
@@ -43,6 +47,11 @@ impl<W: Write> CountedOut<W> {
         ensures { result ≡ failures_of self.now }
     {
         self.failures
+    }
+
+    /// Why the last failure failed. `None` where it took nothing, and without a failure.
+    pub fn cause(&self) -> Option<&io::Error> {
+        self.cause.as_ref()
     }
 
     /// One write: how much of the piece was taken. Nothing of a nonempty piece is a failure.
@@ -62,8 +71,9 @@ impl<W: Write> CountedOut<W> {
         }
         match self.writer.write(piece) {
             Ok(n) if n > 0 => Some(n),
-            _ => {
+            other => {
                 self.failures = self.failures.saturating_add(1);
+                self.cause = other.err();
                 None
             }
         }

@@ -16,7 +16,7 @@ use std::alloc::{AllocError, Allocator};
 
 /// The debug data that are shown: in permissive mode those that are refused are left out.
 #[tactic(auto, unfolding(crate::specs::DebugEntries::shown_debug))]
-pub fn shown_debug<'a>(
+pub fn shown<'a>(
     bytes: &'a [u8],
     opts: &ParseOptions,
     sections: &[SectionTable],
@@ -95,7 +95,7 @@ fn push_entries<A: Allocator>(
 }
 
 /// Adds the lines of debug data, if there are any.
-pub(crate) fn push_lines<A: Allocator>(
+pub fn push_lines<A: Allocator>(
     text: &mut Vec<u8, A>,
     debug: &Option<DebugData>,
 ) -> Result<(), AllocError>

@@ -32,7 +32,7 @@ pub fn hex_4(n: u16) -> [u8; 4]
 
 /// The eight hexadecimal digits, with zeros in front.
 #[tactic(auto, unfolding(crate::specs::Hex::hex))]
-pub(crate) fn hex_8(n: u32) -> [u8; 8]
+pub fn hex_8(n: u32) -> [u8; 8]
     ensures { result ≡ hex 8 n }
 {
     let n = u64::from(n);
@@ -50,7 +50,7 @@ pub(crate) fn hex_8(n: u32) -> [u8; 8]
 
 /// The sixteen hexadecimal digits, with zeros in front.
 #[tactic(auto, unfolding(crate::specs::Hex::hex))]
-pub(crate) fn hex_16(n: u64) -> [u8; 16]
+pub fn hex_16(n: u64) -> [u8; 16]
     ensures { result ≡ hex 16 n }
 {
     [
@@ -75,7 +75,7 @@ pub(crate) fn hex_16(n: u64) -> [u8; 16]
 
 /// Adds the decimal digits. Where memory is refused a beginning of them may stand there.
 #[tactic(auto, using(crate::proofs::DecimalText::steps))]
-pub(crate) fn push_decimal<A: Allocator>(text: &mut Vec<u8, A>, n: u32) -> Result<(), AllocError>
+pub fn push_decimal<A: Allocator>(text: &mut Vec<u8, A>, n: u32) -> Result<(), AllocError>
     ensures { OnOk result (text.new.items ≡ text.old.items ++ decimal n) }
 {
     let last = b'0' + (n % 10) as u8;

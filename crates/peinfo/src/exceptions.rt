@@ -89,7 +89,7 @@ pub fn line_count(exceptions: &Option<Exceptions>) -> usize
 
 /// Adds the lines of exception data, if there are any.
 #[tactic(auto, using(crate::proofs::FunctionItems::whole_items, crate::proofs::FunctionItems::whole_items_64))]
-pub(crate) fn push_lines<A: Allocator>(
+pub fn push_lines<A: Allocator>(
     text: &mut Vec<u8, A>,
     exceptions: &Option<Exceptions>,
 ) -> Result<(), AllocError>
@@ -97,11 +97,9 @@ pub(crate) fn push_lines<A: Allocator>(
 {
     match exceptions {
         None => Ok(()),
-        Some(Exceptions::X64(exceptions)) => {
-            functions::push_functions(text, exceptions.functions())
-        }
+        Some(Exceptions::X64(exceptions)) => { functions::push_lines(text, exceptions.functions()) }
         Some(Exceptions::Arm64(exceptions)) => {
-            functions::push_functions_64(text, exceptions.functions_arm64())
+            functions::push_lines_64(text, exceptions.functions_arm64())
         }
     }
 }

@@ -5,15 +5,16 @@ ghost use Rattle.std.specs.Option.{option_map};
 ghost use Rattle.pe_core.specs.Options.{default_options};
 ghost use Rattle.pe_unwind.specs.FunctionTable.{Finds};
 ghost use Rattle.peinfo.specs.Exceptions.{machine_view};
-ghost use Rattle.peinfo.specs.Find.{functions_of, found_line, GivesFindText, FindReports};
+ghost use Rattle.peinfo.specs.Engine.{Reports};
+ghost use Rattle.peinfo.specs.Find.{functions_of, found_line, IsFindText, IsFindRefusal, GivesFindText};
 ghost use Rattle.peinfo.specs.Output.{writer_of, failures_of};
 ghost use Rattle.peinfo.specs.Parts.{parts_of};
 
-use crate::counted_out::{CountedOut, put_all};
+use crate::counted_out::CountedOut;
+use crate::engine::{ReportError, write_text};
 use crate::exceptions::Exceptions;
 use crate::functions;
 use crate::parts::Parts;
-use crate::report::ReportError;
 use pe_core::ParseOptions;
 use pe_unwind::RuntimeFunction;
 use std::alloc::{AllocError, Allocator};
@@ -60,20 +61,18 @@ fn text_of<A: Allocator + Copy>(alloc: A, bytes: &[u8], rva: u32) -> pe_core::Re
 
 /// Shows the x64 function that covers an address of the image, or `none`. The image is read strictly, with the default
 /// options.
+#[tactic(auto, using(crate::proofs::Engines::reports))]
 pub fn find<A: Allocator, W: io::Write>(
     alloc: A,
     bytes: &[u8],
     rva: u32,
     out: &mut CountedOut<W>,
 ) -> Result<(), ReportError>
-    ensures { FindReports result (parts_of bytes.now default_options) rva
+    ensures { Reports result (IsFindText (parts_of bytes.now default_options) rva)
+        (IsFindRefusal (parts_of bytes.now default_options))
         (W.contents (writer_of out.old)) (W.contents (writer_of out.new))
         (failures_of out.old) (failures_of out.new) }
 {
     let text = text_of(&alloc, bytes, rva).map_err(ReportError::Parse)?;
-    if put_all(out, &text) {
-        Ok(())
-    } else {
-        Err(ReportError::Write)
-    }
+    write_text(out, &text)
 }

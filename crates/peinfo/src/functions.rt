@@ -26,7 +26,7 @@ fn line_end(begin: u32, end: u32, unwind: u32) -> [u8; 27]
 
 /// Adds the line of a function.
 #[tactic(auto, unfolding(crate::specs::FunctionLines::function_line))]
-pub(crate) fn push_line<A: Allocator>(
+pub fn push_line<A: Allocator>(
     text: &mut Vec<u8, A>,
     function: &RuntimeFunction,
 ) -> Result<(), AllocError>
@@ -43,7 +43,7 @@ pub(crate) fn push_line<A: Allocator>(
 
 /// Adds a line for each entry that is whole.
 #[tactic(auto, using(crate::proofs::FunctionItems::one_more, crate::proofs::FunctionItems::no_more))]
-pub(crate) fn push_functions<A: Allocator>(
+pub fn push_lines<A: Allocator>(
     text: &mut Vec<u8, A>,
     functions: RuntimeFunctionIterator,
 ) -> Result<(), AllocError>
@@ -82,7 +82,7 @@ fn push_line_64<A: Allocator>(
 
 /// Adds a line for each ARM64 entry that is whole.
 #[tactic(auto, using(crate::proofs::FunctionItems::one_more, crate::proofs::FunctionItems::no_more))]
-pub(crate) fn push_functions_64<A: Allocator>(
+pub fn push_lines_64<A: Allocator>(
     text: &mut Vec<u8, A>,
     functions: Arm64RuntimeFunctionIterator,
 ) -> Result<(), AllocError>

@@ -58,10 +58,7 @@ fn read_behind<R: Read>(reader: &mut R, bytes: &mut [u8], filled: usize) -> io::
 ghost use Rattle.peinfo.specs.Reading.{IfEndless};
 
 /// All bytes of the reader, read straight to where they stay. A read that fails is not tried again.
-pub(crate) fn read_all<A: Allocator, R: Read>(
-    alloc: A,
-    reader: &mut R,
-) -> Result<Vec<u8, A>, ReadError>
+pub fn read_all<A: Allocator, R: Read>(alloc: A, reader: &mut R) -> Result<Vec<u8, A>, ReadError>
     ensures bytes { IfOk result (λ bytes. IfSome (R.remaining reader.old) (λ known. bytes.items ≡ known)) }
     ensures endless { IfErr result (λ e. IfEndless e
         (IfSome (R.remaining reader.old) (λ known. 1048576 ≤ length known))) }

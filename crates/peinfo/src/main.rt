@@ -6,111 +6,157 @@ mod command;
 mod counted_out;
 mod debug;
 mod digits;
+mod engine;
 mod exceptions;
 mod find;
 mod functions;
 mod input;
+mod outcome;
 mod parts;
 mod report;
 
 ghost use Rattle.std.specs.Prelude.{◌≡◌, ◌↔◌, ◌≤◌, ◌≢◌, map, IsNone, IfErr};
 ghost use Rattle.std.specs.String.{string_bytes};
 ghost use Rattle.peinfo.specs.Command.{asked_of};
-ghost use Rattle.peinfo.specs.Report.{status_by};
+ghost use Rattle.peinfo.specs.Outcome.{outcome_of};
+ghost use Rattle.peinfo.specs.declared.outcome.Outcome.TheVariants.{Misused, Fault};
 
 use command::{Command, command_of};
 use counted_out::CountedOut;
+use engine::ReportError;
 use find::find;
 use input::read_all;
-use pe_core::{ParseMode, ParseOptions};
-use report::{ReportError, report};
+use outcome::Outcome;
+use parts::Parts;
+use pe_core::{Error, ParseMode, ParseOptions};
+use report::report;
+use std::alloc::Allocator;
 use std::process::ExitCode;
 use std::rt::Files;
 use std::{env, fs, io};
 
 const USAGE: &str = "usage: peinfo list FILE [--permissive] | at FILE HEXRVA | rewrite FILE OUT";
 
-const DONE: u8 = 0;
-
-const REFUSED: u8 = 1;
-
-const MISUSED: u8 = 2;
-
-const FAULT: u8 = 3;
-
-/// The bytes of a file, or the status of its fault.
-fn bytes_of<R: Files + Eprint + AllocGlobal>(rt: &R, path: &str) -> Result<Vec<u8>, u8>
-    ensures { IfErr result (λ status. status ≡ 3) }
+/// The bytes of a file, or what comes of its fault.
+fn bytes_of<R: Files + Eprint + AllocGlobal>(rt: &R, path: &str) -> Result<Vec<u8>, Outcome>
+    ensures { IfErr result (λ outcome. outcome ≡ Fault) }
 {
     let mut file = match fs::open(rt, path) {
         Ok(file) => file,
         Err(error) => {
             let _ = eprintln!(rt; "peinfo: {path:?} can't be opened: {error}");
-            return Err(FAULT);
+            return Err(Outcome::Fault);
         }
     };
     match read_all(rt.alloc(), &mut file) {
         Ok(bytes) => Ok(bytes),
         Err(error) => {
             let _ = eprintln!(rt; "peinfo: {path:?} can't be read: {error}");
-            Err(FAULT)
+            Err(Outcome::Fault)
         }
     }
 }
 
-/// The status of an answer. A failure is one line on standard error.
-fn status_of<R: Eprint>(rt: &R, path: &str, answer: Result<(), ReportError>) -> u8
-    ensures { result ≡ status_by answer }
+/// Says why an image is refused: the refusal, and what can be done about it.
+fn say_refused<R: Eprint>(rt: &R, path: &str, refusal: &Error, advice: &str) {
+    let _ = match refusal {
+        Error::BadMagic(magic) => eprintln!(rt;
+            "peinfo: {path:?} is refused: no PE image, its magic number is {magic:#x}{advice}"
+        ),
+        _ => eprintln!(rt; "peinfo: {path:?} is refused: {refusal}{advice}"),
+    };
+}
+
+/// Says why a text was not written whole.
+fn say_unwritten<R: Eprint>(rt: &R, path: &str, cause: Option<&io::Error>) {
+    let _ = match cause {
+        Some(error) => eprintln!(rt;
+            "peinfo: the report of {path:?} can't be written to standard output: {error}"
+        ),
+        None => eprintln!(rt;
+            "peinfo: the report of {path:?} can't be written to standard output: it takes nothing"
+        ),
+    };
+}
+
+/// What comes of an engine's answer. A failure is one line on standard error.
+fn outcome_of<R: Eprint, W: io::Write>(
+    rt: &R,
+    path: &str,
+    answer: Result<(), ReportError>,
+    out: &CountedOut<W>,
+    advice: &str,
+) -> Outcome
+    ensures { result ≡ outcome_of answer }
 {
     match answer {
-        Ok(()) => DONE,
+        Ok(()) => Outcome::Done,
         Err(ReportError::Parse(refusal)) => {
-            let _ = eprintln!(rt; "peinfo: {path:?} is refused: {refusal}");
-            REFUSED
+            say_refused(rt, path, &refusal, advice);
+            Outcome::Refused
         }
         Err(ReportError::Write) => {
-            let _ = eprintln!(rt;
-                "peinfo: the report of {path:?} can't be written to standard output"
-            );
-            FAULT
+            say_unwritten(rt, path, out.cause());
+            Outcome::Fault
         }
     }
 }
 
-/// Shows the image in a file, and answers the exit status.
-fn list<R: Files + Print + Eprint + AllocGlobal>(rt: &R, path: &str, mode: ParseMode) -> u8
-    ensures not_misused { result ≢ 2 }
-    ensures known { result ≤ 3 }
+/// What is said behind the refusal of an image in this mode: where strict mode alone refuses it, the word that helps.
+fn advice_on<A: Allocator + Copy>(alloc: A, bytes: &[u8], mode: ParseMode) -> &'static str {
+    match mode {
+        ParseMode::Permissive => "",
+        ParseMode::Strict => {
+            let opts = ParseOptions::default().with_parse_mode(ParseMode::Permissive);
+            match Parts::read(alloc, bytes, &opts) {
+                Ok(_) => "; --permissive lists the rest",
+                Err(_) => "",
+            }
+        }
+    }
+}
+
+/// Shows the image in a file.
+fn list<R: Files + Print + Eprint + AllocGlobal>(rt: &R, path: &str, mode: ParseMode) -> Outcome
+    ensures { result ≢ Misused }
 {
     let bytes = match bytes_of(rt, path) {
         Ok(bytes) => bytes,
-        Err(status) => return status,
+        Err(outcome) => return outcome,
     };
     let opts = ParseOptions::default().with_parse_mode(mode);
     let mut out = CountedOut::new(io::writer(rt));
     let answer = report(rt.alloc(), &bytes, &opts, &mut out);
-    status_of(rt, path, answer)
+    let advice = match answer {
+        Ok(()) | Err(ReportError::Write | ReportError::Parse(Error::Memory(_))) => "",
+        Err(ReportError::Parse(_)) => advice_on(rt.alloc(), &bytes, mode),
+    };
+    outcome_of(rt, path, answer, &out, advice)
 }
 
-/// Shows the function that covers an address of the image in a file, and answers the exit status.
-fn at<R: Files + Print + Eprint + AllocGlobal>(rt: &R, path: &str, rva: u32) -> u8
-    ensures not_misused { result ≢ 2 }
-    ensures known { result ≤ 3 }
+/// Shows the function that covers an address of the image in a file.
+fn at<R: Files + Print + Eprint + AllocGlobal>(rt: &R, path: &str, rva: u32) -> Outcome
+    ensures { result ≢ Misused }
 {
     let bytes = match bytes_of(rt, path) {
         Ok(bytes) => bytes,
-        Err(status) => return status,
+        Err(outcome) => return outcome,
     };
     let mut out = CountedOut::new(io::writer(rt));
     let answer = find(rt.alloc(), &bytes, rva, &mut out);
-    status_of(rt, path, answer)
+    outcome_of(rt, path, answer, &out, "")
 }
 
-/// Does what the words after the program's name ask for, and answers the exit status: 0 done,
-/// 1 refused, 2 misused words, 3 a fault of a file or of standard output.
-pub fn run<R: Files + Print + Eprint + AllocGlobal>(rt: &R, words: &[String]) -> u8
-    ensures misused { (result ≡ 2) ↔ IsNone (asked_of (map string_bytes words.now)) }
-    ensures known { result ≤ 3 }
+fn misused<R: Eprint>(rt: &R) -> Outcome
+    ensures { result ≡ Misused }
+{
+    let _ = eprintln!(rt; "{USAGE}");
+    Outcome::Misused
+}
+
+/// Does what the words ask for.
+fn outcome_of_words<R: Files + Print + Eprint + AllocGlobal>(rt: &R, words: &[String]) -> Outcome
+    ensures { (result ≡ Misused) ↔ IsNone (asked_of (map string_bytes words.now)) }
 {
     match command_of(words) {
         Some(Command::List { file, mode }) => list(rt, file, mode),
@@ -119,11 +165,13 @@ pub fn run<R: Files + Print + Eprint + AllocGlobal>(rt: &R, words: &[String]) ->
     }
 }
 
-fn misused<R: Eprint>(rt: &R) -> u8
-    ensures { result ≡ 2 }
+/// Does what the words after the program's name ask for, and answers the exit status: 0 done,
+/// 1 refused, 2 misused words, 3 a fault of a file or of standard output.
+pub fn run<R: Files + Print + Eprint + AllocGlobal>(rt: &R, words: &[String]) -> u8
+    ensures misused { (result ≡ 2) ↔ IsNone (asked_of (map string_bytes words.now)) }
+    ensures known { result ≤ 3 }
 {
-    let _ = eprintln!(rt; "{USAGE}");
-    MISUSED
+    outcome_of_words(rt, words).status()
 }
 
 fn words_of(rt: &HostRuntime) -> io::Result<Vec<String>> {
@@ -138,10 +186,10 @@ fn main(rt: HostRuntime) -> ExitCode {
     let status = match words_of(&rt) {
         Ok(words) => run(&rt, &words),
         // A word that is no text is as little known as any other.
-        Err(error) if error.kind() == io::ErrorKind::InvalidData => misused(&rt),
+        Err(error) if error.kind() == io::ErrorKind::InvalidData => misused(&rt).status(),
         Err(error) => {
             let _ = eprintln!(rt; "peinfo: the words of the command line can't be read: {error}");
-            FAULT
+            Outcome::Fault.status()
         }
     };
     ExitCode::from(status)

@@ -33,7 +33,7 @@ impl<'a, A: Allocator + Copy + Drop> Parts<'a, A> {
         let optional = &header.optional_header;
         let (debug, exceptions) = {
             let sections = coff.sections(alloc, bytes, place)?;
-            let debug = debug::shown_debug(bytes, opts, &sections, optional)?;
+            let debug = debug::shown(bytes, opts, &sections, optional)?;
             let machine = coff.machine;
             (
                 debug,

@@ -3,28 +3,18 @@
 ghost use Rattle.std.specs.Prelude.{◌≡◌, ◌++◌, OnOk};
 ghost use Rattle.pe_core.specs.Header.{optional_view};
 ghost use Rattle.pe_core.specs.Refusals.{GivesUnlessMemory};
+ghost use Rattle.peinfo.specs.Engine.{Reports};
+ghost use Rattle.peinfo.specs.Report.{image_line, image_text, report_text, IsReport, IsReportRefusal};
+ghost use Rattle.peinfo.specs.Output.{writer_of, failures_of};
 
-use crate::counted_out::{CountedOut, put_all};
+use crate::counted_out::CountedOut;
 use crate::digits::{hex_8, hex_16};
+use crate::engine::{ReportError, write_text};
 use crate::parts::Parts;
 use crate::{certificates, debug, exceptions};
-use pe_core::{Error, MAGIC_64, OptionalHeader, ParseOptions};
+use pe_core::{MAGIC_64, OptionalHeader, ParseOptions};
 use std::alloc::{AllocError, Allocator};
 use std::io;
-
-/// Why there is no whole report.
-#[derive(Debug, Drop, thiserror::Error)]
-pub enum ReportError {
-    /// The image is refused, or memory was refused. Nothing was written.
-    #[error("{0}")]
-    Parse(Error),
-    /// A write failed. A beginning of the text was written.
-    #[error("the text could not be written")]
-    Write,
-}
-
-ghost use Rattle.peinfo.specs.Report.{image_line, image_text, report_text, Reports};
-ghost use Rattle.peinfo.specs.Output.{writer_of, failures_of};
 
 /// No line is longer: `image`, and `debug` with two numbers of ten digits.
 const LONGEST_LINE: usize = 46;
@@ -89,20 +79,17 @@ fn text_of<A: Allocator + Copy>(
 
 /// Shows an image: its line, and a line for each debug entry, certificate and function. The whole text
 /// is made before any of it is written.
+#[tactic(auto, using(crate::proofs::Engines::reports))]
 pub fn report<A: Allocator, W: io::Write>(
     alloc: A,
     bytes: &[u8],
     opts: &ParseOptions,
     out: &mut CountedOut<W>,
 ) -> Result<(), ReportError>
-    ensures { Reports result (report_text bytes.now opts.now)
+    ensures { Reports result (IsReport bytes.now opts.now) (IsReportRefusal bytes.now opts.now)
         (W.contents (writer_of out.old)) (W.contents (writer_of out.new))
         (failures_of out.old) (failures_of out.new) }
 {
     let text = text_of(&alloc, bytes, opts).map_err(ReportError::Parse)?;
-    if put_all(out, &text) {
-        Ok(())
-    } else {
-        Err(ReportError::Write)
-    }
+    write_text(out, &text)
 }

@@ -1,16 +1,18 @@
 mod fake;
-mod images;
 mod readers;
 mod runs;
 mod writers;
 
 use crate::counted_out::CountedOut;
+use crate::engine::ReportError;
 use crate::find::find;
-use crate::report::{ReportError, report};
-use images::{headers_alone, low_pointer, put, with_certificate, with_debug, with_functions};
+use crate::report::report;
 use linked_list_allocator::LocalHeap;
 use pe_core::{Error, ParseMode, ParseOptions, Reason};
-use std::alloc::Global;
+use pe_images::{
+    headers_alone, pointer_below_64, put, with_certificate, with_debug, with_functions,
+};
+use std::alloc::{Allocator, Global};
 use std::test::*;
 
 const HEADERS_LINE: &[u8] = b"image 64 entry 00001020 base 0000000140000000\n";
@@ -96,7 +98,7 @@ fn texts_of_images(rt: HostRuntime) -> Result<(), Fail> {
         text(alloc, &record, ParseMode::Permissive)?.as_slice(),
         IMAGE_LINE
     );
-    let low = low_pointer(alloc)?;
+    let low = pointer_below_64(alloc)?;
     assert_eq!(rt;
         text(alloc, &low, ParseMode::Permissive)?.as_slice(),
         ZERO_LINE
@@ -117,7 +119,7 @@ fn refusals_of_images(rt: HostRuntime) -> Result<(), Fail> {
     assert!(rt; matches!(answer, Err(ReportError::Parse(Error::BadMagic(0x0550)))));
     let answer = text(alloc, &[], ParseMode::Strict);
     assert!(rt; matches!(answer, Err(ReportError::Parse(Error::Short { .. }))));
-    let low = low_pointer(alloc)?;
+    let low = pointer_below_64(alloc)?;
     let answer = text(alloc, &low, ParseMode::Strict);
     let pointer = Reason::HeaderPointer(0x30);
     assert!(rt;
@@ -242,36 +244,83 @@ fn arm64_functions_of_images(rt: HostRuntime) -> Result<(), Fail> {
     Ok(())
 }
 
-/// Whether each heap up to one that is large enough refuses memory and writes nothing, and the others give the text.
-fn refuses_memory_alone(alloc: Global, bytes: &[u8], want: &[u8]) -> Result<bool, Fail> {
-    let opts = ParseOptions::default();
-    let mut is_done = false;
-    for size in [0usize, 16, 32, 48, 64, 96, 128, 160, 192, 256, 320, 512] {
-        let heap = LocalHeap::new(alloc, size)?;
-        let mut out = CountedOut::new(Vec::new(alloc));
-        let is_right = match report(&heap, bytes, &opts, &mut out) {
-            Ok(()) => {
-                is_done = true;
-                out.into_inner().as_slice() == want
-            }
-            Err(ReportError::Parse(Error::Memory(_))) => {
-                !is_done && out.failures() == 0 && out.into_inner().is_empty()
-            }
-            Err(_) => false,
-        };
-        if !is_right {
-            return Ok(false);
-        }
-    }
-    Ok(is_done)
+/// What an engine is asked for.
+#[derive(Clone, Copy)]
+enum Asked {
+    Listing(ParseMode),
+    FunctionAt(u32),
 }
 
+fn answer<A: Allocator>(
+    alloc: A,
+    bytes: &[u8],
+    asked: Asked,
+    out: &mut CountedOut<Vec<u8>>,
+) -> Result<(), ReportError> {
+    match asked {
+        Asked::Listing(mode) => {
+            let opts = ParseOptions::default().with_parse_mode(mode);
+            report(alloc, bytes, &opts, out)
+        }
+        Asked::FunctionAt(rva) => find(alloc, bytes, rva, out),
+    }
+}
+
+/// How many heaps of growing size refuse memory, before one that is large enough and all behind it give the text. A
+/// heap that refuses it has nothing written, and a heap never gives another text or refusal.
+fn refusals_of_memory(alloc: Global, bytes: &[u8], asked: Asked, want: &[u8]) -> Result<u32, Fail> {
+    let mut refusals = 0u32;
+    let mut is_done = false;
+    for size in 0..64 {
+        let heap = LocalHeap::new(alloc, 8 * size)?;
+        let mut out = CountedOut::new(Vec::new(alloc));
+        let given = answer(&heap, bytes, asked, &mut out);
+        let failures = out.failures();
+        let written = out.into_inner();
+        match given {
+            Ok(()) if written.as_slice() == want => is_done = true,
+            Err(ReportError::Parse(Error::Memory(_)))
+                if !is_done && failures == 0 && written.is_empty() => {
+                refusals = refusals.wrapping_add(1);
+            }
+            _ => return Err(Fail::new("another answer")),
+        }
+    }
+    if is_done {
+        Ok(refusals)
+    } else {
+        Err(Fail::new("no heap was large enough"))
+    }
+}
+
+/// A listing asks for sections, certificates and its text, and a search for the same.
 #[test]
 fn each_request_for_memory_refused(rt: HostRuntime) -> Result<(), Fail> {
-    let mut bytes = with_functions(rt.alloc())?;
-    assert!(rt; refuses_memory_alone(rt.alloc(), &bytes, FUNCTION_LINES)?);
+    let alloc = rt.alloc();
+    let mut bytes = with_functions(alloc)?;
+    let second = b"function 00001020 00001040 00001001\n".as_slice();
+    for (asked, want) in [
+        (Asked::Listing(ParseMode::Strict), FUNCTION_LINES),
+        (Asked::Listing(ParseMode::Permissive), FUNCTION_LINES),
+        (Asked::FunctionAt(0x1025), second),
+        (Asked::FunctionAt(0x1010), b"none\n"),
+    ] {
+        let refusals = refusals_of_memory(alloc, &bytes, asked, want)?;
+        assert!(rt; refusals >= 3, "{refusals}");
+    }
     put(&mut bytes, &[(0x44, &[0x64, 0xAA])]);
-    assert!(rt; refuses_memory_alone(rt.alloc(), &bytes, ARM64_FUNCTION_LINES)?);
+    let listing = Asked::Listing(ParseMode::Strict);
+    let refusals = refusals_of_memory(alloc, &bytes, listing, ARM64_FUNCTION_LINES)?;
+    assert!(rt; refusals >= 3, "{refusals}");
+    // Permissive mode leaves out certificates that are refused, and none for want of memory.
+    put(&mut bytes, &[(0x44, &[0x64, 0x86]), (0x406, &[5])]);
+    let listing = Asked::Listing(ParseMode::Permissive);
+    let want = b"image 64 entry 00001000 base 0000000140000000\n\
+debug 16 0 00000000 00000000\n\
+function 00001000 00001010 00001020\n\
+function 00001020 00001040 00001001\n";
+    let refusals = refusals_of_memory(alloc, &bytes, listing, want)?;
+    assert!(rt; refusals >= 3, "{refusals}");
     Ok(())
 }
 

@@ -1,10 +1,10 @@
 //! Runs of the program on a system in memory.
 
 use super::fake::{ENDLESS, FOLDER, FakeSystem, IMAGE};
-use super::images::{headers_alone, low_pointer, put, with_debug, with_functions};
 use crate::input::{ReadError, read_all};
 use crate::run;
 use linked_list_allocator::LocalHeap;
+use pe_images::{headers_alone, pointer_below_64, put, with_debug, with_functions};
 use std::alloc::{AllocError, Global};
 use std::cell::RefCell;
 use std::test::*;
@@ -60,7 +60,7 @@ fn shows_images(rt: HostRuntime) -> Result<(), Fail> {
     assert!(rt; shows(alloc, &debug, strict, super::DEBUG_LINES)?);
     put(&mut debug, &[(0xFC, &[0, 0, 1, 0])]);
     assert!(rt; shows(alloc, &debug, permissive, super::CUT_LINES)?);
-    let low = low_pointer(alloc)?;
+    let low = pointer_below_64(alloc)?;
     assert!(rt; shows(alloc, &low, permissive, super::ZERO_LINE)?);
     Ok(())
 }
@@ -86,21 +86,72 @@ fn shows_functions(rt: HostRuntime) -> Result<(), Fail> {
     Ok(())
 }
 
+/// The line on standard error of a run that refuses the image and prints nothing.
+fn refused(alloc: Global, image: &[u8], texts: &[&str]) -> Result<String, Fail> {
+    let asked = words(alloc, texts)?;
+    let system = FakeSystem::new(alloc, image, false);
+    if run(&system, &asked) != 1 || !holds(&system.printed, b"") {
+        return Err(Fail::new("not refused"));
+    }
+    let complaints = system.complaints.into_inner();
+    Ok(String::from_utf8(complaints).map_err(|_| Fail::new("no text"))?)
+}
+
+/// What only strict mode refuses is told with the way to list the rest, but not where a function is looked for.
 #[test]
 fn refuses_images(rt: HostRuntime) -> Result<(), Fail> {
     let alloc = rt.alloc();
-    let asked = words(alloc, &["list", IMAGE])?;
-    let mut dos = headers_alone(alloc)?;
-    put(&mut dos, &[(0, &[0x3D])]);
-    let mut signature = headers_alone(alloc)?;
-    put(&mut signature, &[(0x79, &[5])]);
+    let strict = ["list", IMAGE].as_slice();
+    let permissive = ["list", IMAGE, "--permissive"].as_slice();
+    let at = ["at", IMAGE, "1025"].as_slice();
     let mut cut = with_debug(alloc)?;
     put(&mut cut, &[(0xFC, &[0, 0, 1, 0])]);
-    for image in [dos, signature, Vec::new(alloc), low_pointer(alloc)?, cut] {
-        let system = FakeSystem::new(alloc, &image, false);
-        assert_eq!(rt; run(&system, &asked), 1);
-        assert!(rt; holds(&system.printed, b""));
-        assert!(rt; is_line(&system.complaints, "peinfo: \"image\" is refused: "));
+    let mut odd = with_functions(alloc)?;
+    put(&mut odd, &[(0xE4, &[0x20])]);
+    for image in [cut, odd, pointer_below_64(alloc)?] {
+        let line = refused(alloc, &image, strict)?;
+        let begin = "peinfo: \"image\" is refused: ";
+        assert!(rt; line.as_str().starts_with(begin));
+        assert!(rt; line.as_str().ends_with("; --permissive lists the rest\n"));
+        let line = refused(alloc, &image, at)?;
+        assert!(rt; line.as_str().starts_with(begin));
+        assert!(rt; !line.as_str().contains("permissive"));
+    }
+    let short = Vec::new(alloc);
+    for texts in [strict, permissive, at] {
+        let line = refused(alloc, &short, texts)?;
+        assert!(rt;
+            line.as_str()
+                .starts_with("peinfo: \"image\" is refused: the bytes end too early")
+        );
+        assert!(rt; !line.as_str().contains("permissive"));
+    }
+    Ok(())
+}
+
+/// A file that is no PE image is told by its magic number, in both modes.
+#[test]
+fn refuses_other_files(rt: HostRuntime) -> Result<(), Fail> {
+    let alloc = rt.alloc();
+    let mut elf = Vec::new(alloc);
+    elf.resize(64, 0)?;
+    put(&mut elf, &[(0, b"\x7fELF")]);
+    let mut terse = Vec::new(alloc);
+    terse.resize(64, 0)?;
+    put(&mut terse, &[(0, b"VZ")]);
+    let mut signature = headers_alone(alloc)?;
+    put(&mut signature, &[(0x79, &[5])]);
+    for (image, magic) in [(elf, "0x457f"), (terse, "0x5a56"), (signature, "0x550")] {
+        let want = format!(in alloc;
+            "peinfo: \"image\" is refused: no PE image, its magic number is {magic}\n"
+        )?;
+        for texts in [
+            ["list", IMAGE].as_slice(),
+            &["list", IMAGE, "--permissive"],
+            &["at", IMAGE, "1025"],
+        ] {
+            assert_eq!(rt; refused(alloc, &image, texts)?.as_str(), want.as_str());
+        }
     }
     Ok(())
 }
@@ -143,14 +194,16 @@ fn names_faults(rt: HostRuntime) -> Result<(), Fail> {
         (
             IMAGE,
             true,
-            "peinfo: the report of \"image\" can't be written",
+            "peinfo: the report of \"image\" can't be written to standard output: ",
         ),
     ] {
-        let asked = words(alloc, &["list", path])?;
-        let system = FakeSystem::new(alloc, &image, is_full);
-        assert_eq!(rt; run(&system, &asked), 3, "{path}");
-        assert!(rt; holds(&system.printed, b""));
-        assert!(rt; is_line(&system.complaints, begin), "{path}");
+        for texts in [["list", path].as_slice(), &["at", path, "1025"]] {
+            let asked = words(alloc, texts)?;
+            let system = FakeSystem::new(alloc, &image, is_full);
+            assert_eq!(rt; run(&system, &asked), 3, "{path}");
+            assert!(rt; holds(&system.printed, b""));
+            assert!(rt; is_line(&system.complaints, begin), "{path}");
+        }
     }
     Ok(())
 }

@@ -1,9 +1,10 @@
 //! Writers that take little, or fail.
 
-use super::images::with_debug;
 use crate::counted_out::CountedOut;
-use crate::report::{ReportError, report};
+use crate::engine::ReportError;
+use crate::report::report;
 use pe_core::ParseOptions;
+use pe_images::with_debug;
 use std::io;
 use std::test::*;
 
@@ -67,6 +68,9 @@ fn reports_to_slow_writers(rt: HostRuntime) -> Result<(), Fail> {
             }
         }
         assert_eq!(rt; out.failures(), failures);
+        let kind = out.cause().map(|error| error.kind());
+        let wanted = (way == Way::Fails).then_some(io::ErrorKind::Interrupted);
+        assert_eq!(rt; kind, wanted);
         let slow = out.into_inner();
         assert_eq!(rt; slow.written.as_slice(), want);
         assert_eq!(rt; slow.writes, writes);

@@ -1,16 +1,13 @@
-//! Images made by hand.
+//! Images made by hand, for the tests of other crates.
+#![tactic(auto)]
 
 use std::alloc::{AllocError, Global};
 
-/// Puts the parts at their places.
+/// Puts each part at its place. What does not fit is left out.
 pub fn put(bytes: &mut [u8], parts: &[(usize, &[u8])]) {
     for (place, part) in parts {
-        for (i, byte) in part.iter().enumerate() {
-            if let Some(at) = place.checked_add(i) {
-                if let Some(old) = bytes.get_mut(at) {
-                    *old = *byte;
-                }
-            }
+        for (byte, slot) in part.iter().zip(bytes.iter_mut().skip(*place)) {
+            *slot = *byte;
         }
     }
 }
@@ -22,7 +19,7 @@ pub fn image(alloc: Global, len: usize, parts: &[(usize, &[u8])]) -> Result<Vec<
     Ok(bytes)
 }
 
-/// An image of headers alone.
+/// An image of PE32+ with headers alone.
 pub fn headers_alone(alloc: Global) -> Result<Vec<u8>, AllocError> {
     image(
         alloc,
@@ -41,7 +38,21 @@ pub fn headers_alone(alloc: Global) -> Result<Vec<u8>, AllocError> {
     )
 }
 
-/// An image with a section and a debug entry.
+/// An image of PE32 whose DOS header points into itself, without an optional header.
+pub fn pointer_below_64(alloc: Global) -> Result<Vec<u8>, AllocError> {
+    image(
+        alloc,
+        256,
+        &[
+            (0, b"MZ"),
+            (0x3C, &[0x30]),
+            (0x30, b"PE"),
+            (0x34, &[0x4C, 1]),
+        ],
+    )
+}
+
+/// An image with a section at 0x200, for the addresses from 0x1000 on, and in it a debug entry of Repro.
 pub fn with_debug(alloc: Global) -> Result<Vec<u8>, AllocError> {
     image(
         alloc,
@@ -77,7 +88,7 @@ pub fn with_certificate(alloc: Global) -> Result<Vec<u8>, AllocError> {
     Ok(bytes)
 }
 
-/// The same with a table of two functions.
+/// The same with a table of two functions. The second has a link to the first, whose record has two codes.
 pub fn with_functions(alloc: Global) -> Result<Vec<u8>, AllocError> {
     let mut bytes = with_certificate(alloc)?;
     let functions = [
@@ -93,18 +104,4 @@ pub fn with_functions(alloc: Global) -> Result<Vec<u8>, AllocError> {
         ],
     );
     Ok(bytes)
-}
-
-/// An image whose header's pointer is below 64, without an optional header.
-pub fn low_pointer(alloc: Global) -> Result<Vec<u8>, AllocError> {
-    image(
-        alloc,
-        256,
-        &[
-            (0, b"MZ"),
-            (0x3C, &[0x30]),
-            (0x30, b"PE"),
-            (0x34, &[0x4C, 1]),
-        ],
-    )
 }

@@ -1,0 +1,10 @@
+//! Callers of the libraries, as the README shows them.
+#![tactic(auto)]
+
+mod arm64;
+mod frames;
+mod symbols;
+
+pub use arm64::arm64_codes;
+pub use frames::frame_operations;
+pub use symbols::symbol_key;
