@@ -1,0 +1,142 @@
+-- A key's units are a plain name's exactly where its text is the name.
+use Rattle.std.proofs.Common.{◌≡◌, ◌≢◌, ℕ, suc, ◌+◌, ◌*◌, ◌%◌, ◌<◌, ◌≤◌, ◌==◌, ◌&&◌, ◌||◌, Bool, true, false, not, List, [], ◌∷◌, ◌++◌, map, length, take, drop, cond, Option, Some, None, is_some, unwrap_or, if◌then◌else◌, ◌↔◌, refl, ap, sym, ◌∙◌, subst, arith, IsTrue}
+use Rattle.std.proofs.lemmas.Bool.{false≢true}
+use Rattle.std.proofs.lemmas.Bool.Decides.{nat_tests}
+use Rattle.std.proofs.lemmas.Slice.Eq.{bytes_eq-Decides}
+use Rattle.std.proofs.lemmas.Str.{encode_ascii, encodes_same}
+use Rattle.std.specs.Char.Utf16.{utf16_chars, lone_unit_char, is_high_surrogate, is_low_surrogate, surrogate_pair_char, has_unpaired_surrogate, utf16_lossy_chars}
+use Rattle.std.specs.List.{list_all, list_any}
+use Rattle.std.specs.Prelude.{nat_lt, nat_le}
+use Rattle.std.specs.Str.{encode_utf8_all, bytes_eq}
+use Rattle.pe_resource.specs.VersionStrings.{units, before_zero, key_length, text, is_name, is_plain, IsPlain}
+
+-- ---- characters below 128
+
+abbrev is_small : ℕ → Bool
+is_small c = nat_lt c 128
+
+both : (s t : Bool) → (s && t) ≡ true → (s ≡ true) × (t ≡ true)
+both true true e = (refl, refl)
+both true false e = cc
+both false t e = cc
+
+small_from_plain : (name : List ℕ) → IsPlain name → list_all is_small name ≡ true
+small_from_plain [] h = refl
+small_from_plain (c ∷ cs) h =
+    let p = both (is_plain c) (list_all is_plain cs) h in
+    let head : is_small c ≡ true = (both (nat_lt 0 c) (nat_lt c 128) p.0).1 in
+    rw head (small_from_plain cs p.1)
+
+small_lone : (u : ℕ) → is_small u ≡ true → lone_unit_char u ≡ Some u
+small_lone u h =
+    let test : (nat_le 0xD800 u && nat_lt u 0xE000) ≡ false = grind (arith, nat_tests) in
+    rw test refl
+
+small_not_high : (u : ℕ) (b : Bool) → is_small u ≡ true → (is_high_surrogate u && b) ≡ false
+small_not_high u b h =
+    let test : (nat_le 0xD800 u && nat_lt u 0xDC00) ≡ false = grind (arith, nat_tests) in
+    rw test refl
+
+-- small units are their characters
+chars_small : (us : List ℕ) → list_all is_small us ≡ true → utf16_chars us ≡ map (λ c. Some c) us
+unfolding utf16_chars
+chars_small [] h = refl
+chars_small (u ∷ []) h =
+    let head : lone_unit_char u ≡ Some u = small_lone u (both (is_small u) true h).0 in
+    ap (λ (o : Option ℕ). o ∷ []) head
+chars_small (u ∷ v ∷ us) h =
+    let p = both (is_small u) (list_all is_small (v ∷ us)) h in
+    let test = small_not_high u (is_low_surrogate v) p.0 in
+    rw test (ap (λ (o : Option ℕ). o ∷ utf16_chars (v ∷ us)) (small_lone u p.0) ∙ ap (λ (os : List (Option ℕ)). Some u ∷ os) (chars_small (v ∷ us) p.1))
+
+no_gap : (us : List ℕ) → list_any (λ o. not (is_some o)) (map (λ c. Some c) us) ≡ false
+no_gap [] = refl
+no_gap (u ∷ us) = no_gap us
+
+whole : (us : List ℕ) → map (λ o. unwrap_or o 0xFFFD) (map (λ c. Some c) us) ≡ us
+whole [] = refl
+whole (u ∷ us) = ap (λ (l : List ℕ). u ∷ l) (whole us)
+
+encodes_small : (cs : List ℕ) → list_all is_small cs ≡ true → encode_utf8_all cs ≡ cs
+encodes_small [] h = refl
+encodes_small (c ∷ cs) h =
+    let p = both (is_small c) (list_all is_small cs) h in
+    ap (λ (l : List ℕ). l ++ encode_utf8_all cs) (encode_ascii c (grind (arith, nat_tests, p.0))) ∙ ap (λ (l : List ℕ). c ∷ l) (encodes_small cs p.1)
+
+-- small characters are those of small units
+lone_at : (t : Bool) (u : ℕ) → is_small (unwrap_or (if◌then◌else◌ {A = Option ℕ} t None (Some u)) 0xFFFD) ≡ true → unwrap_or (if◌then◌else◌ {A = Option ℕ} t None (Some u)) 0xFFFD ≡ u
+lone_at true u h = cc
+lone_at false u h = refl
+
+lone_small : (u : ℕ) → is_small (unwrap_or (lone_unit_char u) 0xFFFD) ≡ true → unwrap_or (lone_unit_char u) 0xFFFD ≡ u
+lone_small u h = lone_at (nat_le 0xD800 u && nat_lt u 0xE000) u h
+
+pair_at : (t : Bool) (u v : ℕ) (us : List ℕ) → (is_high_surrogate u && is_low_surrogate v) ≡ t → list_all is_small (utf16_lossy_chars (u ∷ v ∷ us)) ≡ true → (list_all is_small (utf16_lossy_chars (v ∷ us)) ≡ true → utf16_lossy_chars (v ∷ us) ≡ v ∷ us) → utf16_lossy_chars (u ∷ v ∷ us) ≡ u ∷ v ∷ us
+unfolding utf16_chars
+pair_at true u v us e h later =
+    let p = both (is_small (surrogate_pair_char u v)) (list_all is_small (utf16_lossy_chars us)) (rw e at h) in
+    absurd (grind (arith, nat_tests, p.0))
+pair_at false u v us e h later =
+    let p = both (is_small (unwrap_or (lone_unit_char u) 0xFFFD)) (list_all is_small (utf16_lossy_chars (v ∷ us))) (rw e at h) in
+    rw e (ap (λ (c : ℕ). c ∷ utf16_lossy_chars (v ∷ us)) (lone_small u p.0) ∙ ap (λ (l : List ℕ). u ∷ l) (later p.1))
+
+lossy_small : (us : List ℕ) → list_all is_small (utf16_lossy_chars us) ≡ true → utf16_lossy_chars us ≡ us
+unfolding utf16_chars
+lossy_small [] h = refl
+lossy_small (u ∷ []) h = ap (λ (c : ℕ). c ∷ []) (lone_small u (both (is_small (unwrap_or (lone_unit_char u) 0xFFFD)) true h).0)
+lossy_small (u ∷ v ∷ us) h = pair_at (is_high_surrogate u && is_low_surrogate v) u v us refl h (lossy_small (v ∷ us))
+
+-- ---- the text of units
+
+abbrev text_of_units : List ℕ → Option (List ℕ)
+text_of_units us = if has_unpaired_surrogate us then None else Some (encode_utf8_all (utf16_lossy_chars us))
+
+name_at_units : (name : List ℕ) → IsPlain name → is_name name (text_of_units name) ≡ true
+name_at_units name h =
+    let small = small_from_plain name h in
+    let chars = chars_small name small in
+    let paired : has_unpaired_surrogate name ≡ false = ap (λ (os : List (Option ℕ)). list_any (λ o. not (is_some o)) os) chars ∙ no_gap name in
+    let same : encode_utf8_all (utf16_lossy_chars name) ≡ name = ap (λ (os : List (Option ℕ)). encode_utf8_all (map (λ o. unwrap_or o 0xFFFD) os)) chars ∙ ap encode_utf8_all (whole name) ∙ encodes_small name small in
+    rw paired ((bytes_eq-Decides (encode_utf8_all (utf16_lossy_chars name)) name).1 same)
+
+units_at : (t : Bool) (us name : List ℕ) → IsPlain name → is_name name (if◌then◌else◌ {A = Option (List ℕ)} t None (Some (encode_utf8_all (utf16_lossy_chars us)))) ≡ true → us ≡ name
+units_at true us name plain h = absurd (false≢true h)
+units_at false us name plain h =
+    let small = small_from_plain name plain in
+    let same : encode_utf8_all (utf16_lossy_chars us) ≡ name = (bytes_eq-Decides (encode_utf8_all (utf16_lossy_chars us)) name).0 h in
+    let chars : utf16_lossy_chars us ≡ name = encodes_same (utf16_lossy_chars us) name (same ∙ sym (encodes_small name small)) in
+    sym (lossy_small us (ap (list_all is_small) chars ∙ small)) ∙ chars
+
+-- ---- the units of a key
+
+front_at : (t : Bool) (x y : ℕ) (b : List ℕ) → units (take (2 * length (before_zero (units b))) b) ≡ before_zero (units b) → units (take (2 * length (if t then [] else (x + 256 * y) ∷ before_zero (units b))) (x ∷ y ∷ b)) ≡ (if t then [] else (x + 256 * y) ∷ before_zero (units b))
+front_at true x y b later = refl
+front_at false x y b later =
+    let n : 2 * suc (length (before_zero (units b))) ≡ suc (suc (2 * length (before_zero (units b)))) = omega arith in
+    rw n (ap (λ (l : List ℕ). (x + 256 * y) ∷ l) later)
+
+units_front : (b : List ℕ) → units (take (2 * length (before_zero (units b))) b) ≡ before_zero (units b)
+units_front [] = refl
+units_front (x ∷ []) = refl
+units_front (x ∷ y ∷ b) = front_at (x + 256 * y == 0) x y b (units_front b)
+
+same_test : (r s : Bool) → (r ≡ true → s ≡ true) → (s ≡ true → r ≡ true) → r ≡ s
+same_test true true f g = refl
+same_test true false f g = absurd (false≢true (f refl))
+same_test false true f g = absurd (false≢true (g refl))
+same_test false false f g = refl
+
+pub name_odd : (b name : List ℕ) → length b % 2 ≡ 1 → false ≡ is_name name (text b)
+unfolding text
+name_odd b name odd =
+    let test : (length b % 2 == 1) ≡ true = grind (arith, nat_tests) in
+    rw test refl
+
+pub name_even : (b name bytes front : List ℕ) (r : Bool) → length b % 2 ≢ 1 → IsPlain name → bytes ≡ name → front ≡ take (key_length b 0) b → (IsTrue r ↔ (units front ≡ bytes)) → r ≡ is_name name (text b)
+unfolding text
+name_even b name bytes front r even plain named is told =
+    let test : (length b % 2 == 1) ≡ false = grind (arith, nat_tests) in
+    let same : units front ≡ before_zero (units b) = ap units is ∙ units_front b in
+    rw test (same_test r (is_name name (text_of_units (before_zero (units b))))
+    (λ h. subst (λ (us : List ℕ). is_name name (text_of_units us) ≡ true) (sym named ∙ sym (told.0 h) ∙ same) (name_at_units name plain))
+    (λ h. told.1 (same ∙ units_at (has_unpaired_surrogate (before_zero (units b))) (before_zero (units b)) name plain h ∙ sym named)))

@@ -1,0 +1,109 @@
+-- The strings of a byte string, one by one.
+use Rattle.std.proofs.Common.{◌≡◌, ◌≢◌, ℕ, zero, suc, ◌+◌, ◌*◌, ◌/◌, ◌<◌, ◌≤◌, ◌==◌, Bool, true, false, List, [], ◌∷◌, length, drop, length-drop, Option, Some, None, Result, Ok, Err, ◌⊎◌, inl, inr, ⊎_elim, ◌↔◌, if◌then◌else◌, refl, ap, sym, ◌∙◌, subst, arith}
+use Rattle.std.proofs.lemmas.Bool.Decides.{nat_tests}
+use Rattle.pe_core.specs.Bytes.{holds, le}
+use Rattle.pe_core.specs.Refusals.{Refusal, Short, outcome, kind_of}
+use Rattle.pe_core.specs.Refusals as refusals
+use Rattle.pe_core.specs.declared.error.Error.{Error}
+use Rattle.pe_resource.specs.declared.string.ResourceString.{ResourceString}
+use Rattle.pe_resource.specs.VersionStrings.{VersionString, string_view, string_at, whole_string_at, string_and_next, is_short_text, value_bytes, value_place, Strings, GivesString, then_more, strings_in, strings, read, all_read, value_of, is_name, text}
+
+abbrev Pair : Type 0
+Pair = Option VersionString × ℕ
+
+abbrev Items : Type 0
+Items = List (Result VersionString Refusal)
+
+-- a string ends behind where it begins
+ends_at : (t z a b c : Bool) (e f g : Refusal) (n : ℕ) (p : Pair) (s : VersionString) (q : ℕ) → (if t then (if z then Ok (None, n) else outcome ((a, e) ∷ (b, f) ∷ (c, g) ∷ []) p) else Err Short) ≡ Ok (Some s, q) → p.1 ≡ q
+ends_at false z a b c e f g n p s q h = cc
+ends_at true true a b c e f g n p s q h = let same : (None, n) ≡ (Some s, q) = cc in let none : None ≡ Some s = ap (λ (x : Pair). x.0) same in cc
+ends_at true false false b c e f g n p s q h = cc
+ends_at true false true false c e f g n p s q h = cc
+ends_at true false true true false e f g n p s q h = cc
+ends_at true false true true true e f g n p s q h = let same : p ≡ (Some s, q) = cc in ap (λ (x : Pair). x.1) same
+
+further : (b : List ℕ) (s : VersionString) (q : ℕ) → string_at b 0 ≡ Ok (Some s, q) → 0 < q
+unfolding whole_string_at string_and_next value_place
+further b s q h =
+    let end = ends_at (holds b 0 2) (le b 0 2 == 0) (holds b 2 4) (is_short_text b 0) (holds b (value_place b 0) (value_bytes b 0)) Short refusals.ResourceString refusals.ResourceString 2 (string_and_next b 0) s q h in
+    omega (arith, end)
+
+-- the bound on the bytes doesn't matter
+agree_at : (f g : List ℕ → Items) (b : List ℕ) (r : Result Pair Refusal) → string_at b 0 ≡ r → ((q : ℕ) → 0 < q → f (drop q b) ≡ g (drop q b)) → then_more f b r ≡ then_more g b r
+agree_at f g b (Err e) is h = refl
+agree_at f g b (Ok (None, q)) is h = refl
+agree_at f g b (Ok (Some s, q)) is h = ap (λ (xs : Items). Ok s ∷ xs) (h q (further b s q is))
+
+agree : (n m : ℕ) (b : List ℕ) → length b ≤ n → length b ≤ m → strings_in n b ≡ strings_in m b
+agree zero zero b h k = refl
+agree zero (suc m) b h k = let test : (length b == 0) ≡ true = grind (arith, nat_tests) in rw test refl
+agree (suc n) zero b h k = let test : (length b == 0) ≡ true = grind (arith, nat_tests) in rw test refl
+agree (suc n) (suc m) b h k =
+    ap (λ (xs : Items). if length b == 0 then [] else xs)
+    (agree_at (strings_in n) (strings_in m) b (string_at b 0) refl (λ q some. agree n m (drop q b) (grind (arith, length-drop {A = ℕ})) (grind (arith, length-drop {A = ℕ}))))
+
+-- the strings by the first one
+strings_begin : (b : List ℕ) → b ≢ [] → strings b ≡ then_more strings b (string_at b 0)
+unfolding strings
+strings_begin [] ne = absurd (ne refl)
+strings_begin (x ∷ xs) ne =
+    let test : (length (x ∷ xs) == 0) ≡ false = grind (arith, nat_tests) in
+    rw test (agree_at (strings_in (length xs)) strings (x ∷ xs) (string_at (x ∷ xs) 0) refl
+    (λ q some. agree (length xs) (length (drop q (x ∷ xs))) (drop q (x ∷ xs)) (grind (arith, length-drop {A = ℕ})) (omega arith)))
+
+pub strings_more : (b left : List ℕ) (s : ResourceString) → GivesString b (Some (Ok s)) left → strings b ≡ Ok (string_view s) ∷ strings left
+strings_more b left s h = strings_begin b h.0 ∙ ap (then_more strings b) h.2 ∙ ap (λ (r : List ℕ). Ok (string_view s) ∷ strings r) (sym h.3)
+
+pub strings_fault : (b left : List ℕ) (e : Error) → GivesString b (Some (Err e)) left → strings b ≡ Err (kind_of e) ∷ []
+strings_fault b left e h = strings_begin b h.0 ∙ ap (then_more strings b) h.1
+
+nothing : strings [] ≡ []
+unfolding strings
+nothing = refl
+
+ends : (b : List ℕ) (q : ℕ) → string_at b 0 ≡ Ok (None, q) → strings b ≡ []
+ends [] q h = nothing
+ends (x ∷ xs) q h = strings_begin (x ∷ xs) (λ e. cc) ∙ ap (then_more strings (x ∷ xs)) h
+
+pub strings_none : (b left : List ℕ) → GivesString b None left → strings b ≡ []
+strings_none b left h = ⊎_elim (λ (e : b ≡ []). ap strings e ∙ nothing) (λ (k : (q : ℕ) × (string_at b 0 ≡ Ok (None, q))). ends b k.0 k.1) h.0
+
+-- ---- passes over the strings
+
+abbrev Item : Type 0
+Item = Result ResourceString Error
+
+pub reads_on : (b left : List ℕ) (item : Item) (s : ResourceString) (all : Result (Unit {0}) Refusal) → GivesString b (Some item) left → item ≡ Ok s → all_read (strings b) ≡ all → all_read (strings left) ≡ all
+reads_on b left item s all h is e = sym (ap all_read (strings_more b left s (subst (λ (i : Item). GivesString b (Some i) left) is h))) ∙ e
+
+pub reads_fault : (b left : List ℕ) (item : Item) (r : Error) (all : Result (Unit {0}) Refusal) → GivesString b (Some item) left → item ≡ Err r → all_read (strings b) ≡ all → all ≡ Err (kind_of r)
+reads_fault b left item r all h is e = sym e ∙ ap all_read (strings_fault b left r (subst (λ (i : Item). GivesString b (Some i) left) is h))
+
+pub reads_all : (b left : List ℕ) (all : Result (Unit {0}) Refusal) → GivesString b None left → all_read (strings b) ≡ all → all ≡ Ok tt
+reads_all b left all h e = sym e ∙ ap all_read (strings_none b left h)
+
+abbrev value_in : List ℕ → Items → Option (List ℕ)
+value_in name xs = value_of name (read xs)
+
+found_at : (name : List ℕ) (s : VersionString) (ss : List VersionString) → is_name name (text s.key) ≡ true → value_of name (s ∷ ss) ≡ Some s.value
+found_at name s ss h = rw h refl
+
+passed_at : (name : List ℕ) (s : VersionString) (ss : List VersionString) → is_name name (text s.key) ≡ false → value_of name (s ∷ ss) ≡ value_of name ss
+passed_at name s ss h = rw h refl
+
+pub value_on : (name b left : List ℕ) (item : Item) (s : ResourceString) (v : Option (List ℕ)) → GivesString b (Some item) left → item ≡ Ok s → is_name name (text s.key.now) ≡ false → value_of name (read (strings b)) ≡ v → value_of name (read (strings left)) ≡ v
+value_on name b left item s v h is other e =
+    sym (ap (value_in name) (strings_more b left s (subst (λ (i : Item). GivesString b (Some i) left) is h)) ∙ passed_at name (string_view s) (read (strings left)) other) ∙ e
+
+pub value_here : (name b left : List ℕ) (item : Item) (s : ResourceString) (v : Option (List ℕ)) → GivesString b (Some item) left → item ≡ Ok s → is_name name (text s.key.now) ≡ true → value_of name (read (strings b)) ≡ v → Some s.value.now ≡ v
+value_here name b left item s v h is same e =
+    sym (ap (value_in name) (strings_more b left s (subst (λ (i : Item). GivesString b (Some i) left) is h)) ∙ found_at name (string_view s) (read (strings left)) same) ∙ e
+
+pub value_fault : (name b left : List ℕ) (item : Item) (r : Error) (v : Option (List ℕ)) → GivesString b (Some item) left → item ≡ Err r → value_of name (read (strings b)) ≡ v → value_of name (read (strings left)) ≡ v
+value_fault name b left item r v h is e =
+    let fault = subst (λ (i : Item). GivesString b (Some i) left) is h in
+    ap (λ (l : List ℕ). value_in name (strings l)) fault.2 ∙ ap (value_in name) nothing ∙ sym (ap (value_in name) (strings_fault b left r fault)) ∙ e
+
+pub value_none : (name b left : List ℕ) (v : Option (List ℕ)) → GivesString b None left → value_of name (read (strings b)) ≡ v → None ≡ v
+value_none name b left v h e = sym (ap (value_in name) (strings_none b left h)) ∙ e

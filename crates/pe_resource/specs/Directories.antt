@@ -1,0 +1,39 @@
+-- Resource directories. (PE format: resource directory table.)
+use Rattle.std.specs.Prelude.{ℕ, ◌+◌, ◌*◌, min, List, [], ◌∷◌, Option, Some, None, Result, Ok, Err}
+use Rattle.pe_core.specs.Bytes.{le, range, holds, record_at}
+use Rattle.pe_core.specs.Refusals.{Refusal, Unmapped, Short, outcome}
+use Rattle.pe_core.specs.SectionMap.{place_of}
+use Rattle.pe_core.specs.declared.data_directories.DataDirectory.{DataDirectory}
+use Rattle.pe_core.specs.declared.options.ParseOptions.{ParseOptions}
+use Rattle.pe_core.specs.declared.section_table.SectionTable.{SectionTable}
+use Rattle.pe_resource.specs.declared.directory.ImageResourceDirectory.{ImageResourceDirectory}
+use Rattle.pe_resource.specs.declared.entry.ResourceEntry.{ResourceEntry}
+use Rattle.pe_resource.specs.ResourceEntries.{entries}
+
+-- the directory of 16 bytes at p
+unfoldable pub directory_of : List ℕ → ℕ → ImageResourceDirectory
+directory_of b p = record {
+  characteristics = le b p 4;
+  time_date_stamp = le b (p + 4) 4;
+  major_version = le b (p + 8) 2;
+  minor_version = le b (p + 10) 2;
+  number_of_named_entries = le b (p + 12) 2;
+  number_of_id_entries = le b (p + 14) 2;
+}
+
+-- how many entries it has: the sum of both counts, or the greatest number of 16 bits
+abbrev pub count : ImageResourceDirectory → ℕ
+count d = min (d.number_of_named_entries + d.number_of_id_entries) 65535
+
+-- the directory at a place, if there is a place
+abbrev pub directory_at_place : List ℕ → Option ℕ → Result ImageResourceDirectory Refusal
+directory_at_place b None = Err Unmapped
+directory_at_place b (Some p) = record_at b p 16 (directory_of b p)
+
+-- the directory that a data directory leads to
+unfoldable pub directory_at : ParseOptions → List ℕ → DataDirectory → List SectionTable → ℕ → Result ImageResourceDirectory Refusal
+directory_at o b d sections alignment = directory_at_place b (place_of o.resolve_rva alignment sections d.virtual_address)
+
+-- the entries of a directory, which stand at p
+abbrev pub entries_at : List ℕ → ℕ → ImageResourceDirectory → Result (List ResourceEntry) Refusal
+entries_at b p d = record_at b p (8 * count d) (entries (range b p (8 * count d)))

@@ -1,0 +1,5 @@
+pub mod Answers
+pub mod ResourceEntries
+pub mod Directories
+pub mod ResourceWalk
+pub mod VersionStrings

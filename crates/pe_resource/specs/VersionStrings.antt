@@ -1,0 +1,169 @@
+-- Strings of version information. (This project's profile.)
+use Rattle.std.specs.Prelude.{◌≡◌, ℕ, zero, suc, ◌+◌, ◌*◌, ◌/◌, ◌%◌, ◌==◌, ◌≢◌, ◌⊎◌, Bool, true, false, List, [], ◌∷◌, length, drop, Option, Some, None, Result, Ok, Err, nat_le, nat_lt, ◌&&◌, if◌then◌else◌}
+use Rattle.std.specs.Char.Utf16.{has_unpaired_surrogate, utf16_lossy_chars}
+use Rattle.std.specs.List.{find, list_all}
+use Rattle.std.specs.Option.{option_map}
+use Rattle.std.specs.Str.{encode_utf8_all, bytes_eq}
+use Rattle.pe_core.specs.Bytes.{le, holds, range}
+use Rattle.pe_core.specs.Refusals.{Refusal, Short, outcome, kind_of}
+use Rattle.pe_core.specs.Refusals as refusals
+use Rattle.pe_core.specs.declared.error.Error.{Error}
+use Rattle.pe_resource.specs.declared.string.ResourceString.{ResourceString}
+use Rattle.pe_resource.specs.declared.string.ResourceStringIterator.{ResourceStringIterator}
+
+-- a string without where its parts lie in memory
+pub record VersionString : Type 0 where
+  pub len : ℕ
+  pub value_len : ℕ
+  pub text_type : ℕ
+  pub key : List ℕ
+  pub value : List ℕ
+
+abbrev pub string_view : ResourceString → VersionString
+string_view s = record { len = s.len; value_len = s.value_len; text_type = s.text_type; key = s.key.now; value = s.value.now }
+
+-- ---- units of two bytes, and texts
+
+-- the units of two bytes; a last odd byte is no unit
+abbrev pub units : List ℕ → List ℕ
+units [] = []
+units (low ∷ []) = []
+units (low ∷ high ∷ rest) = (low + 256 * high) ∷ units rest
+
+-- the list up to its first zero
+abbrev pub before_zero : List ℕ → List ℕ
+before_zero [] = []
+before_zero (u ∷ us) = if u == 0 then [] else u ∷ before_zero us
+
+-- the text of these bytes, in UTF-8: none for an odd length and where a surrogate has no partner; it stops at a zero unit
+unfoldable pub text : List ℕ → Option (List ℕ)
+text x =
+    if length x % 2 == 1 then None
+    else (if has_unpaired_surrogate (before_zero (units x)) then None
+    else Some (encode_utf8_all (utf16_lossy_chars (before_zero (units x)))))
+
+-- a text is there, and it is this name
+abbrev pub is_name : List ℕ → Option (List ℕ) → Bool
+is_name name None = false
+is_name name (Some t) = bytes_eq t name
+
+-- ---- one string
+
+-- the bytes of the key that stands at p: its units before the first zero unit, or before the end
+abbrev pub key_length : List ℕ → ℕ → ℕ
+key_length b p = 2 * length (before_zero (units (drop p b)))
+
+abbrev pub up_to_four : ℕ → ℕ
+up_to_four n = (n + 3) / 4 * 4
+
+-- where the value of the string at p begins: behind the key and its zero unit, at a multiple of four
+unfoldable pub value_place : List ℕ → ℕ → ℕ
+value_place b p = up_to_four (p + 6 + key_length b (p + 6) + 2)
+
+-- how many bytes the value has, by its length and its type
+abbrev pub value_bytes : List ℕ → ℕ → ℕ
+value_bytes b p = if le b (p + 4) 2 == 1 then 2 * le b (p + 2) 2 else le b (p + 2) 2
+
+-- the same up to a multiple of four, if these bytes are there
+unfoldable pub lengthened : List ℕ → ℕ → ℕ
+lengthened b p =
+    if holds b (value_place b p) (up_to_four (value_bytes b p)) then up_to_four (value_bytes b p) else value_bytes b p
+
+unfoldable pub string_and_next : List ℕ → ℕ → Option VersionString × ℕ
+string_and_next b p = (
+  Some (record {
+    len = le b p 2;
+    value_len = le b (p + 2) 2;
+    text_type = le b (p + 4) 2;
+    key = range b (p + 6) (key_length b (p + 6));
+    value = range b (value_place b p) (lengthened b p);
+  }),
+  value_place b p + lengthened b p,
+)
+
+-- the length of a text is at most 32,767 units
+abbrev pub is_short_text : List ℕ → ℕ → Bool
+is_short_text b p = if le b (p + 4) 2 == 1 then nat_le (le b (p + 2) 2) 32767 else true
+
+unfoldable pub whole_string_at : List ℕ → ℕ → Result (Option VersionString × ℕ) Refusal
+whole_string_at b p = outcome
+    ((holds b (p + 2) 4, Short)
+    ∷ (is_short_text b p, refusals.ResourceString)
+    ∷ (holds b (value_place b p) (value_bytes b p), refusals.ResourceString)
+    ∷ [])
+    (string_and_next b p)
+
+-- the string at p and where the next one begins; a length of 0 ends the strings
+abbrev pub string_at : List ℕ → ℕ → Result (Option VersionString × ℕ) Refusal
+string_at b p =
+    if holds b p 2 then (if le b p 2 == 0 then Ok (None, p + 2) else whole_string_at b p) else Err Short
+
+-- what a parse at p answers, and where the offset stands then
+abbrev pub Parses : List ℕ → ℕ → Result (Option ResourceString) Error → ℕ → Type 0
+Parses b p (Ok s) q = string_at b p ≡ Ok (option_map string_view s, q)
+Parses b p (Err e) q = (string_at b p ≡ Err (kind_of e)) × (q ≡ p)
+
+-- ---- the strings of a byte string
+
+-- each is read at the start of what the one before left: they end where nothing is left or at a length of 0
+abbrev pub Strings : List ℕ → List (Result VersionString Refusal) → Type 0
+Strings b [] = (b ≡ []) ⊎ ((q : ℕ) × (string_at b 0 ≡ Ok (None, q)))
+Strings b (Ok s ∷ more) = (b ≢ []) × (q : ℕ) × (string_at b 0 ≡ Ok (Some s, q)) × Strings (drop q b) more
+Strings b (Err e ∷ more) = (b ≢ []) × (string_at b 0 ≡ Err e) × (more ≡ [])
+
+-- what one call of next answers, and what it leaves
+abbrev pub GivesString : List ℕ → Option (Result ResourceString Error) → List ℕ → Type 0
+GivesString b None left = ((b ≡ []) ⊎ ((q : ℕ) × (string_at b 0 ≡ Ok (None, q)))) × (left ≡ [])
+GivesString b (Some (Ok s)) left = (b ≢ []) × (q : ℕ) × (string_at b 0 ≡ Ok (Some (string_view s), q)) × (left ≡ drop q b)
+GivesString b (Some (Err e)) left = (b ≢ []) × (string_at b 0 ≡ Err (kind_of e)) × (left ≡ [])
+
+-- what an iterator has left
+abbrev pub rest_of : ResourceStringIterator → List ℕ
+rest_of s = s.bytes.now
+
+-- an item as callers see it
+abbrev pub item_of : Result ResourceString Error → Result VersionString Refusal
+item_of (Ok s) = Ok (string_view s)
+item_of (Err e) = Err (kind_of e)
+
+-- the same list as a function of the bytes, of which there are at most n
+abbrev pub then_more : (List ℕ → List (Result VersionString Refusal)) → List ℕ → Result (Option VersionString × ℕ) Refusal → List (Result VersionString Refusal)
+then_more rest b (Err e) = Err e ∷ []
+then_more rest b (Ok (None, q)) = []
+then_more rest b (Ok (Some s, q)) = Ok s ∷ rest (drop q b)
+
+abbrev pub strings_in : ℕ → List ℕ → List (Result VersionString Refusal)
+strings_in zero b = []
+strings_in (suc n) b = if length b == 0 then [] else then_more (strings_in n) b (string_at b 0)
+
+unfoldable pub strings : List ℕ → List (Result VersionString Refusal)
+strings b = strings_in (length b) b
+
+-- ---- strings with a key
+
+-- those that were read, in order
+abbrev pub read : List (Result VersionString Refusal) → List VersionString
+read [] = []
+read (Ok s ∷ more) = s ∷ read more
+read (Err e ∷ more) = read more
+
+-- every string reads, or the first fault
+abbrev pub all_read : List (Result VersionString Refusal) → Result (Unit {0}) Refusal
+all_read [] = Ok tt
+all_read (Ok s ∷ more) = all_read more
+all_read (Err e ∷ more) = Err e
+
+-- the first string whose key's text is this name
+abbrev pub with_key : List ℕ → List VersionString → Option VersionString
+with_key name ss = find (λ s. is_name name (text s.key)) ss
+
+-- its value
+abbrev pub value_of : List ℕ → List VersionString → Option (List ℕ)
+value_of name ss = option_map (λ s. s.value) (with_key name ss)
+
+-- each character is ASCII and none is zero
+abbrev pub is_plain : ℕ → Bool
+is_plain c = nat_lt 0 c && nat_lt c 128
+
+abbrev pub IsPlain : List ℕ → Type 0
+IsPlain name = list_all is_plain name ≡ true

@@ -1,0 +1,181 @@
+//! Resource directories and their entries.
+
+ghost use Rattle.std.specs.Prelude.{◌≡◌, ◌+◌, ◌*◌, ◌≤◌, length, map, Ok, Some, IfSome};
+ghost use Rattle.std.specs.Iterator.{UpTo, YieldsFirstBy, item_count};
+ghost use Rattle.std.specs.Iterator.SizeHint.{IsWithinCount};
+ghost use Rattle.pe_core.specs.Options.{default_options};
+ghost use Rattle.pe_core.specs.Refusals.{Gives};
+ghost use Rattle.pe_resource.specs.Answers.{answer_by};
+ghost use Rattle.pe_resource.specs.Directories.{directory_of, directory_at, count, entries_at};
+ghost use Rattle.pe_resource.specs.ResourceEntries.{entries, entries_left, items_left, with_id};
+
+use crate::constants::RESOURCE_ENTRY_SIZE;
+use crate::entry::ResourceEntry;
+use pe_core::{
+    DataDirectory, Error, ParseOptions, Reason, Result, SectionTable, find_offset, number16,
+    number32, require_bytes, slice_at,
+};
+
+/// The bytes of a directory without its entries.
+pub(crate) const SIZE_OF_DIRECTORY: usize = 16;
+
+/// A resource directory, 16 bytes: how many entries stand behind it.
+#[derive(Clone, Copy, Debug, Default, PartialEq)]
+pub struct ImageResourceDirectory {
+    /// Reserved.
+    pub characteristics: u32,
+    /// In seconds since the beginning of 1970.
+    pub time_date_stamp: u32,
+    pub major_version: u16,
+    pub minor_version: u16,
+    /// How many entries have a name. They stand first.
+    pub number_of_named_entries: u16,
+    /// How many entries have an id.
+    pub number_of_id_entries: u16,
+}
+
+impl ImageResourceDirectory {
+    /// The directory at a place where its 16 bytes are known to be there.
+    #[tactic(auto, unfolding(crate::specs::Directories::directory_of))]
+    pub(crate) fn at(bytes: &[u8], place: usize) -> ImageResourceDirectory
+        requires { place + 16 ≤ length bytes.now }
+        ensures { result ≡ directory_of bytes.now place }
+    {
+        ImageResourceDirectory {
+            characteristics: number32(bytes, place),
+            time_date_stamp: number32(bytes, place + 4),
+            major_version: number16(bytes, place + 8),
+            minor_version: number16(bytes, place + 10),
+            number_of_named_entries: number16(bytes, place + 12),
+            number_of_id_entries: number16(bytes, place + 14),
+        }
+    }
+
+    /// The directory that a data directory leads to, with the default options.
+    pub fn parse(
+        bytes: &[u8],
+        dd: DataDirectory,
+        sections: &[SectionTable],
+        file_alignment: u32,
+    ) -> Result<ImageResourceDirectory>
+        ensures { Gives (λ d. d) result (directory_at default_options bytes.now dd sections.now file_alignment) }
+    {
+        let opts = ParseOptions::default();
+        ImageResourceDirectory::parse_with_opts(bytes, dd, sections, file_alignment, &opts)
+    }
+
+    /// The directory that a data directory leads to: `Unmapped`, `Short`.
+    #[tactic(auto, unfolding(crate::specs::Directories::directory_at))]
+    pub fn parse_with_opts(
+        bytes: &[u8],
+        dd: DataDirectory,
+        sections: &[SectionTable],
+        file_alignment: u32,
+        opts: &ParseOptions,
+    ) -> Result<ImageResourceDirectory>
+        ensures { Gives (λ d. d) result (directory_at opts.now bytes.now dd sections.now file_alignment) }
+    {
+        let address = dd.virtual_address;
+        let Some(place) = find_offset(address as usize, sections, file_alignment, opts) else {
+            return Err(Error::Malformed(Reason::Unmapped(u64::from(address))));
+        };
+        require_bytes(bytes, place, SIZE_OF_DIRECTORY)?;
+        Ok(ImageResourceDirectory::at(bytes, place))
+    }
+
+    /// How many entries the directory has: the sum of both counts, at most 65,535.
+    pub fn count(&self) -> u16
+        ensures { result ≡ count self.now }
+    {
+        self.number_of_named_entries
+            .saturating_add(self.number_of_id_entries)
+    }
+
+    /// How many bytes its entries have.
+    pub fn entries_size(&self) -> usize
+        ensures { result ≡ 8 * count self.now }
+    {
+        RESOURCE_ENTRY_SIZE * usize::from(self.count())
+    }
+
+    /// Its entries, which stand at the offset: `Short` unless all are there.
+    pub fn next_iter<'a>(&self, offset: usize, bytes: &'a [u8]) -> Result<ResourceEntryIterator<'a>>
+        ensures { Gives entries_left result (entries_at bytes.entry.now offset self.now) }
+    {
+        let table = slice_at(bytes, offset, self.entries_size())?;
+        Ok(ResourceEntryIterator::new(table))
+    }
+}
+
+/// The entries that are left of a resource directory. It gives no error.
+#[derive(Clone, Copy, Debug)]
+pub struct ResourceEntryIterator<'a> {
+    bytes: &'a [u8],
+}
+
+impl<'a> ResourceEntryIterator<'a> {
+    /// The whole entries of these bytes.
+    pub(crate) fn new(bytes: &'a [u8]) -> Self
+        ensures { entries_left result ≡ entries bytes.entry.now }
+    {
+        ResourceEntryIterator { bytes }
+    }
+
+    /// The first entry with this id among those that are left. Never refused.
+    pub fn find_by_id(&self, id: u16) -> Result<Option<ResourceEntry>>
+        ensures { answer_by (λ e. e) result ≡ Ok (with_id id (entries_left self.now)) }
+    {
+        Ok(first_with_id(self.bytes, id))
+    }
+}
+
+/// The first entry with this id, by the places of whole entries.
+#[tactic(auto, unfolding(crate::specs::ResourceEntries::entries))]
+fn first_with_id(bytes: &[u8], id: u16) -> Option<ResourceEntry>
+    ensures { result ≡ with_id id (entries bytes.now) }
+{
+    (0..bytes.len() / RESOURCE_ENTRY_SIZE)
+        .map(
+            |i|
+                requires { 8 * i + 8 ≤ length bytes.now }
+            { ResourceEntry::at(bytes, RESOURCE_ENTRY_SIZE * i) },
+        )
+        .find(|entry| entry.has_id(id))
+}
+
+impl<'a> Iterator for ResourceEntryIterator<'a> {
+    type Item = Result<ResourceEntry>;
+
+    ghost next_gives = { YieldsFirstBy (answer_by (λ e. e)) items_left };
+
+    ghost remaining = { item_count items_left };
+
+    #[tactic(auto, using(crate::proofs::Entries::items_more, crate::proofs::Entries::items_none))]
+    fn next(&mut self) -> Option<Result<ResourceEntry>> {
+        let bytes = self.bytes;
+        if bytes.len() < RESOURCE_ENTRY_SIZE {
+            return None;
+        }
+        self.bytes = bytes.split_at(RESOURCE_ENTRY_SIZE).1;
+        Some(Ok(ResourceEntry::at(bytes, 0)))
+    }
+
+    #[tactic(auto, using(crate::proofs::Entries::items_count))]
+    fn size_hint(&self) -> (usize, Option<usize>)
+        ensures lower { IsWithinCount result.0 (item_count items_left self.now) }
+        ensures upper { IfSome result.1 (UpTo (item_count items_left self.now)) }
+        ensures exact { result ≡ (length (items_left self.now), Some (length (items_left self.now))) }
+    {
+        let entries = self.len();
+        (entries, Some(entries))
+    }
+}
+
+impl<'a> ExactSizeIterator for ResourceEntryIterator<'a> {
+    #[tactic(auto, using(crate::proofs::Entries::items_count))]
+    fn len(&self) -> usize
+        ensures { result ≡ length (items_left self.now) }
+    {
+        self.bytes.len() / RESOURCE_ENTRY_SIZE
+    }
+}

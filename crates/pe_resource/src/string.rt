@@ -1,0 +1,305 @@
+//! Strings of version information: a key, and a value that is a text or bytes.
+
+ghost use Rattle.std.specs.Prelude.{◌≡◌, ◌+◌, ◌-◌, ◌*◌, ◌/◌, ◌==◌, ◌<◌, ◌≤◌, ◌^◌, ◌↔◌, length, OnOk, IfOk, IsTrue, Some, string_bytes, take};
+ghost use Rattle.std.specs.Iterator.{at_most};
+ghost use Rattle.std.specs.Option.{option_map};
+ghost use Rattle.pe_core.specs.Bytes.{le};
+ghost use Rattle.pe_core.specs.Refusals.{Gives};
+ghost use Rattle.pe_resource.specs.VersionStrings.{Parses, GivesString, VersionString, string_view, key_length, value_place, up_to_four, units, before_zero, text, is_name, IsPlain, rest_of, strings, read, all_read, value_of};
+
+use crate::constants::RESOURCE_STRING_FIELD_ALIGNMENT;
+use pe_core::{Error, Reason, Result, number16, require_bytes};
+use std::alloc::{AllocError, Allocator};
+
+/// The type of a string whose value is bytes.
+const BINARY: u16 = 0;
+
+/// The type of a string whose value is a text.
+const TEXT: u16 = 1;
+
+/// The most units of two bytes that a text may have.
+const MOST_UNITS: u16 = 32767;
+
+/// The bytes of a string's length, value length and type.
+const SIZE_OF_HEAD: usize = 6;
+
+/// The bytes of a unit of UTF-16.
+const SIZE_OF_UNIT: usize = 2;
+
+/// One string of version information. Strings that hold others are strings of their own, with an empty value or with
+/// fixed file information.
+#[derive(Clone, Copy, Debug, PartialEq)]
+pub struct ResourceString<'a> {
+    /// The bytes of the string and of all strings inside it, as it states them.
+    pub len: u16,
+    /// The units of the value if it is a text, else its bytes.
+    pub value_len: u16,
+    /// 1 for a text, 0 for bytes.
+    pub text_type: u16,
+    key: &'a [u8],
+    /// The value's bytes, with those up to a multiple of four if they are there.
+    pub value: &'a [u8],
+}
+
+/// How many bytes the units at the place have, up to the first zero unit or the end.
+#[tactic(auto, using(crate::proofs::Keys::key_more, crate::proofs::Keys::key_end, crate::proofs::Keys::key_none))]
+fn key_length(bytes: &[u8], place: usize) -> usize
+    requires { place ≤ length bytes.now }
+    ensures key { result ≡ key_length bytes.now place }
+    ensures within { place + result ≤ length bytes.now }
+{
+    let mut end = place;
+    while end + 1 < bytes.len() && number16(bytes, end) != 0 {
+        end += SIZE_OF_UNIT;
+    }
+    end - place
+}
+
+fn up_to_four(n: usize) -> usize
+    requires { n < 2 ^ 64 - 3 }
+    ensures up { result ≡ up_to_four n }
+    ensures least { n ≤ result }
+{
+    (n + (RESOURCE_STRING_FIELD_ALIGNMENT - 1)) / RESOURCE_STRING_FIELD_ALIGNMENT
+        * RESOURCE_STRING_FIELD_ALIGNMENT
+}
+
+impl<'a> ResourceString<'a> {
+    /// The string at the offset, which then moves to the next one; `None` where the length is 0, 2 bytes further. After a
+    /// refusal the offset is unchanged: `Short`; `ResourceString` where a text has more than 32,767 units, or where the
+    /// value isn't there.
+    #[tactic(auto, unfolding(crate::specs::VersionStrings::whole_string_at, crate::specs::VersionStrings::string_and_next, crate::specs::VersionStrings::lengthened, crate::specs::VersionStrings::value_place))]
+    pub fn parse(bytes: &'a [u8], offset: &mut usize) -> Result<Option<ResourceString<'a>>>
+        ensures string { Parses bytes.entry.now offset.old result offset.new }
+        ensures within { OnOk result (offset.new ≤ length bytes.entry.now) }
+        ensures further { OnOk result (offset.old < offset.new) }
+    {
+        let place = *offset;
+        require_bytes(bytes, place, 2)?;
+        let len = number16(bytes, place);
+        if len == 0 {
+            *offset = place + 2;
+            return Ok(None);
+        }
+        require_bytes(bytes, place + 2, 4)?;
+        let value_len = number16(bytes, place + 2);
+        let text_type = number16(bytes, place + 4);
+        let key = key_length(bytes, place + SIZE_OF_HEAD);
+        let value_place = up_to_four(place + SIZE_OF_HEAD + key + SIZE_OF_UNIT);
+        let size = if text_type == TEXT {
+            SIZE_OF_UNIT * usize::from(value_len)
+        } else {
+            usize::from(value_len)
+        };
+        let too_long = text_type == TEXT && MOST_UNITS < value_len;
+        if too_long || bytes.len() < size || bytes.len() - size < value_place {
+            return Err(Error::Malformed(Reason::ResourceString(place_in_refusal(place))));
+        }
+        let longer = up_to_four(size);
+        let size = if longer <= bytes.len() - value_place {
+            longer
+        } else {
+            size
+        };
+        *offset = value_place + size;
+        Ok(Some(ResourceString {
+            len,
+            value_len,
+            text_type,
+            key: &bytes[place + SIZE_OF_HEAD..place + SIZE_OF_HEAD + key],
+            value: &bytes[value_place..value_place + size],
+        }))
+    }
+
+    /// Whether the value is a text.
+    pub fn is_text_data(&self) -> bool
+        ensures { result ≡ (self.now.text_type == 1) }
+    {
+        self.text_type == TEXT
+    }
+
+    /// Whether the value is bytes.
+    pub fn is_binary_data(&self) -> bool
+        ensures { result ≡ (self.now.text_type == 0) }
+    {
+        self.text_type == BINARY
+    }
+
+    /// The text of the key. `None` where a surrogate has no partner.
+    pub fn key_string<A: Allocator + Copy + Drop>(
+        &self,
+        alloc: A,
+    ) -> std::result::Result<Option<String<A>>, AllocError>
+        ensures { IfOk result (λ s. option_map string_bytes s ≡ text (string_view self.now).key) }
+    {
+        text_of(alloc, self.key)
+    }
+
+    /// The text of the value, up to a zero unit. `None` for an odd number of bytes and where a surrogate has no partner.
+    pub fn value_string<A: Allocator + Copy + Drop>(
+        &self,
+        alloc: A,
+    ) -> std::result::Result<Option<String<A>>, AllocError>
+        ensures { IfOk result (λ s. option_map string_bytes s ≡ text self.now.value.now) }
+    {
+        text_of(alloc, self.value)
+    }
+
+    /// Whether the key is this name.
+    fn has_key(&self, name: &str) -> bool
+        requires { IsPlain name.now }
+        ensures { result ≡ is_name name.now (text (string_view self.now).key) }
+    {
+        is_text(self.key, name)
+    }
+}
+
+/// Whether the bytes, two for each unit, are these units.
+#[tactic(auto, using(crate::proofs::Units::unit_at, crate::proofs::Units::units_count, crate::proofs::Units::same_from_each))]
+fn same_units(bytes: &[u8], name: &[u8]) -> bool
+    ensures { IsTrue result ↔ (units bytes.now ≡ name.now) }
+{
+    if bytes.len() / SIZE_OF_UNIT != name.len() {
+        return false;
+    }
+    for i in 0..name.len() {
+        if number16(bytes, SIZE_OF_UNIT * i) != u16::from(name[i]) {
+            return false;
+        }
+    }
+    true
+}
+
+/// Whether the text of the bytes is this name, without making the text.
+fn is_text(bytes: &[u8], name: &str) -> bool
+    requires { IsPlain name.now }
+    ensures { result ≡ is_name name.now (text bytes.now) }
+{
+    if bytes.len() % 2 == 1 {
+        return false;
+    }
+    let units = bytes.split_at(key_length(bytes, 0)).0;
+    same_units(units, name.as_bytes())
+}
+
+/// The text of the bytes, if they are one.
+#[tactic(auto, unfolding(crate::specs::VersionStrings::text))]
+pub(crate) fn text_of<A: Allocator + Copy + Drop>(
+    alloc: A,
+    bytes: &[u8],
+) -> std::result::Result<Option<String<A>>, AllocError>
+    ensures { IfOk result (λ s. option_map string_bytes s ≡ text bytes.now) }
+{
+    if bytes.len() % 2 == 1 {
+        return Ok(None);
+    }
+    let units = units_before_zero(alloc, bytes)?;
+    match String::from_utf16(alloc, units.as_slice())? {
+        Ok(text) => Ok(Some(text)),
+        Err(_) => Ok(None),
+    }
+}
+
+/// The units before the first zero unit.
+#[tactic(auto, using(crate::proofs::Units::front_more, crate::proofs::Units::front_zero, crate::proofs::Units::front_short))]
+fn units_before_zero<A: Allocator + Drop>(
+    alloc: A,
+    bytes: &[u8],
+) -> std::result::Result<Vec<u16, A>, AllocError>
+    ensures { IfOk result (λ v. v.items ≡ before_zero (units bytes.now)) }
+{
+    let mut units = Vec::new(alloc);
+    let mut rest = bytes;
+    while SIZE_OF_UNIT <= rest.len() {
+        let unit = number16(rest, 0);
+        if unit == 0 {
+            return Ok(units);
+        }
+        units.push(unit)?;
+        rest = rest.split_at(SIZE_OF_UNIT).1;
+    }
+    Ok(units)
+}
+
+/// The strings that are left of version information. It is over behind a string with length 0, and after an error.
+#[derive(Clone, Copy, Debug)]
+pub struct ResourceStringIterator<'a> {
+    bytes: &'a [u8],
+}
+
+impl<'a> ResourceStringIterator<'a> {
+    /// The strings of these bytes, each read at the start of what the one before left.
+    pub fn new(data: &'a [u8]) -> Self
+        ensures { rest_of result ≡ data.entry.now }
+    {
+        ResourceStringIterator { bytes: data }
+    }
+}
+
+impl<'a> Iterator for ResourceStringIterator<'a> {
+    type Item = Result<ResourceString<'a>>;
+
+    ghost next_gives = { λ s r t. GivesString (rest_of s) r (rest_of t) };
+
+    ghost remaining = { λ s. at_most (length (rest_of s)) };
+
+    fn next(&mut self) -> Option<Result<ResourceString<'a>>> {
+        let bytes = self.bytes;
+        if bytes.is_empty() {
+            return None;
+        }
+        let mut offset = 0;
+        match ResourceString::parse(bytes, &mut offset) {
+            Ok(Some(string)) => {
+                self.bytes = bytes.split_at(offset).1;
+                Some(Ok(string))
+            }
+            Ok(None) => {
+                self.bytes = &[];
+                None
+            }
+            Err(error) => {
+                self.bytes = &[];
+                Some(Err(error))
+            }
+        }
+    }
+}
+
+/// The place of a version string, or the greatest u32 where it is greater.
+fn place_in_refusal(place: usize) -> u32 {
+    u32::try_from(place).unwrap_or(u32::MAX)
+}
+
+/// Refuses as the first string that doesn't read does.
+pub(crate) fn require_strings(data: &[u8]) -> Result<()>
+    ensures { Gives (λ u. u) result (all_read (strings data.now)) }
+{
+    let mut left = ResourceStringIterator::new(data);
+    while let Some(item) = left.next() {
+        match item {
+            Ok(_) => {}
+            Err(error) => return Err(error),
+        }
+    }
+    Ok(())
+}
+
+/// The value of the first string with this key.
+pub(crate) fn first_value<'a>(data: &'a [u8], name: &str) -> Option<&'a [u8]>
+    requires { IsPlain name.now }
+    ensures { option_map (λ s. s.now) result ≡ value_of name.now (read (strings data.entry.now)) }
+{
+    let mut left = ResourceStringIterator::new(data);
+    while let Some(item) = left.next() {
+        match item {
+            Ok(string) => {
+                if string.has_key(name) {
+                    return Some(string.value);
+                }
+            }
+            Err(_) => {}
+        }
+    }
+    None
+}
