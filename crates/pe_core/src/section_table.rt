@@ -165,16 +165,16 @@ impl TeHeader {
     {
         let offset = self.rva_offset()?;
         let place = SIZE_OF_TE_HEADER as usize;
-        let count = self.number_of_sections as usize;
-        if count > 0 {
-            require_bytes(bytes, place, SIZE_OF_SECTION_HEADER * count)?;
+        let rows = self.number_of_sections as usize;
+        if rows > 0 {
+            require_bytes(bytes, place, SIZE_OF_SECTION_HEADER * rows)?;
         }
-        let mut sections = Vec::with_capacity(alloc, count)?;
-        for row in 0..count {
+        let mut reduced = Vec::with_capacity(alloc, rows)?;
+        for row in 0..rows {
             let section = SectionTable::at(bytes, place + SIZE_OF_SECTION_HEADER * row);
-            sections.push(section.reduced(offset))?;
+            reduced.push(section.reduced(offset))?;
         }
-        Ok(sections)
+        Ok(reduced)
     }
 }
 

@@ -5,4 +5,4 @@ use Rattle.pe_core.specs.TerseHeader.{reduced_section}
 use Rattle.pe_core.proofs.header.TeHeader.sections.Given as goal
 
 abbrev pub invariant-loop-row : goal.invariant-loop-row
-invariant-loop-row g l = l.sections.items ≡ rows (λ p. reduced_section l.offset (section_table l.bytes p)) 40 40 l.row
+invariant-loop-row g l = l.reduced.items ≡ rows (λ p. reduced_section l.offset (section_table l.bytes p)) 40 40 l.row
