@@ -12,3 +12,5 @@ pub mod SpelledOptional
 pub mod Modes
 pub mod PutNumbers
 pub mod ExportLists
+pub mod Gathering
+pub mod ImportLists
