@@ -8,7 +8,7 @@ use Rattle.pe_core.specs.Refusals.{Refusal}
 use Rattle.pe_core.specs.Rows.{each}
 use Rattle.pe_core.proofs.ExportLists.{each-length}
 
-get_or-each : {X : Type 0} (f : ℕ → X) (n i : ℕ) (d : X) → i < n → get_or (each f n) i d ≡ f i
+pub get_or-each : {X : Type 0} (f : ℕ → X) (n i : ℕ) (d : X) → i < n → get_or (each f n) i d ≡ f i
 unfolding each
 get_or-each f zero i d lt = absurd (omega arith)
 get_or-each f (suc n) i d lt = ⊎_elim

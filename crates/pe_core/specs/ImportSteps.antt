@@ -1,11 +1,17 @@
 -- How the readers of imports go on: private contracts alone cite these.
-use Rattle.std.specs.Prelude.{◌≡◌, ℕ, ◌+◌, ◌*◌, ◌<◌, ◌≤◌, true, false, List, length}
-use Rattle.pe_core.specs.Bytes.{holds}
+use Rattle.std.specs.Prelude.{◌≡◌, ℕ, ◌+◌, ◌*◌, ◌<◌, ◌≤◌, true, false, List, length, Option, slice_index_or}
+use Rattle.std.specs.Borrow.{Bor}
+use Rattle.std.specs.Option.{option_and_then, option_map}
 use Rattle.pe_core.specs.Records.{import_entry}
 use Rattle.pe_core.specs.Imports.{is_last}
+use Rattle.pe_core.specs.Text.{text_at}
 
 -- so many records stand from p on in front of the one that ends the directory, or of the end of the bytes
 pub record StandInFront (b : List ℕ) (p count : ℕ) : Type 0 where
   pub there : (k : ℕ) → k < count → p + 20 * k + 20 ≤ length b
   pub go_on : (k : ℕ) → k < count → is_last (import_entry b (p + 20 * k)) ≡ false
   pub last : p + 20 * count + 20 ≤ length b → is_last (import_entry b (p + 20 * count)) ≡ true
+
+-- these are the names of the first records from p on
+pub record AreNames (place : ℕ → Option ℕ) (b : List ℕ) (p : ℕ) (names : List (Option (Bor (List ℕ)))) : Type 0 where
+  pub are : (i : ℕ) (d : Option (Bor (List ℕ))) → i < length names → option_map (λ s. s.now) (slice_index_or names i d) ≡ option_and_then (text_at b) (place (import_entry b (p + 20 * i)).name_rva)

@@ -1,16 +1,17 @@
 //! Imports: the import directory, and the list of what its records name.
 
-ghost use Rattle.std.specs.Prelude.{◌≡◌, ◌*◌, ◌+◌, ◌/◌, ◌≤◌, length, map, Ok, Some};
-ghost use Rattle.std.specs.Option.{option_map};
+ghost use Rattle.std.specs.Prelude.{◌≡◌, ◌*◌, ◌+◌, ◌/◌, ◌≤◌, length, map, IfOk, Some};
+ghost use Rattle.std.specs.Option.{option_and_then, option_map};
 ghost use Rattle.pe_core.specs.Bytes.{le, range, record_at};
-ghost use Rattle.pe_core.specs.Imports.{import_data_view, import_data_at, import_view, imports, entry_size, lookups_at};
-ghost use Rattle.pe_core.specs.ImportSteps.{StandInFront};
+ghost use Rattle.pe_core.specs.Imports.{import_data_view, import_data_at, import_view, imports, import_record, import_record_view, import_records, entry_size, lookups_at, lookups_rva};
+ghost use Rattle.pe_core.specs.ImportSteps.{AreNames, StandInFront};
 ghost use Rattle.pe_core.specs.Options.{default_options};
+ghost use Rattle.pe_core.specs.Records.{import_entry};
 ghost use Rattle.pe_core.specs.Refusals.{Gives, GivesUnlessMemory};
 ghost use Rattle.pe_core.specs.Rows.{each};
 ghost use Rattle.pe_core.specs.SectionIndex.{place_or_end};
 ghost use Rattle.pe_core.specs.SectionMap.{place_of};
-ghost use Rattle.pe_core.specs.Text.{texts_of};
+ghost use Rattle.pe_core.specs.Text.{text_at, texts_of};
 
 use crate::bytes::{number32, number64, require_bytes};
 use crate::data_directories::DataDirectory;
@@ -20,7 +21,7 @@ use crate::options::ParseOptions;
 use crate::section_index::SectionIndex;
 use crate::section_table::SectionTable;
 use crate::utils::mapped_place;
-use std::alloc::{Allocator, Global};
+use std::alloc::{AllocError, Allocator, Global};
 
 /// The size of a record of the import directory in bytes.
 const SIZE_OF_IMPORT_ENTRY: usize = 20;
@@ -143,6 +144,48 @@ fn lookup_entries(bytes: &[u8], place: usize, is_64: bool) -> Result<&[u8]>
     }
 }
 
+/// The list of a record: none where its address has no place.
+fn lookups_of<'a, A: Allocator>(
+    bytes: &'a [u8],
+    entry: &ImportDirectoryEntry,
+    index: &SectionIndex<'_, A>,
+    is_64: bool,
+) -> Result<&'a [u8]>
+    ensures { Gives (λ s. s.now) result (lookups_at (entry_size is_64) bytes.entry.now (place_of index.now.resolve index.now.alignment index.now.sections (lookups_rva entry.now))) }
+{
+    match index.find(entry.lookups_rva() as usize) {
+        Some(place) => lookup_entries(bytes, place, is_64),
+        None => Ok(&[]),
+    }
+}
+
+/// A record whose name was looked up: `Unmapped` or `ImportName` of its name, or `Short` of its list.
+#[tactic(auto, unfolding(crate::specs::Imports::import_record))]
+fn import_record<'a, A: Allocator>(
+    bytes: &'a [u8],
+    entry: ImportDirectoryEntry,
+    name: Option<&'a str>,
+    index: &SectionIndex<'_, A>,
+    is_64: bool,
+) -> Result<SyntheticImportDirectoryEntry<'a>>
+    requires { option_map (λ s. s.now) name ≡ option_and_then (text_at bytes.now) (place_of index.now.resolve index.now.alignment index.now.sections entry.name_rva) }
+    ensures { Gives (λ r. Some (import_record_view r)) result (import_record (place_of index.now.resolve index.now.alignment index.now.sections) (entry_size is_64) bytes.entry.now entry) }
+{
+    let rva = entry.name_rva;
+    if index.find(rva as usize).is_none() {
+        return Err(Error::Malformed(Reason::Unmapped(u64::from(rva))));
+    }
+    let Some(name) = name else {
+        return Err(Error::Malformed(Reason::ImportName(rva)));
+    };
+    let lookups = lookups_of(bytes, &entry, index, is_64)?;
+    Ok(SyntheticImportDirectoryEntry {
+        import_directory_entry: entry,
+        name,
+        lookups,
+    })
+}
+
 /// How many records stand in front of the one that ends the directory, or of the end of the bytes.
 fn count_records(bytes: &[u8], place: usize) -> usize
     ensures { StandInFront bytes.now place result }
@@ -156,4 +199,110 @@ fn count_records(bytes: &[u8], place: usize) -> usize
         count += 1;
     }
     count
+}
+
+/// The places of the names of so many records.
+#[tactic(auto, unfolding(crate::specs::Rows::each))]
+fn name_places<A: Allocator>(
+    alloc: A,
+    bytes: &[u8],
+    place: usize,
+    count: usize,
+    index: &SectionIndex<'_, A>,
+) -> std::result::Result<Vec<usize, A>, AllocError>
+    requires { StandInFront bytes.now place count }
+    ensures { IfOk result (λ v. v.items ≡ each (λ i. place_or_end (place_of index.now.resolve index.now.alignment index.now.sections (import_entry bytes.now (place + 20 * i)).name_rva)) count) }
+{
+    let mut places = Vec::with_capacity(alloc, count)?;
+    for i in 0..count {
+        let entry = ImportDirectoryEntry::at(bytes, place + SIZE_OF_IMPORT_ENTRY * i);
+        places.push(index.find_or_end(entry.name_rva))?;
+    }
+    Ok(places)
+}
+
+/// The records whose names these are, and what stands behind them: the one that ends the directory, or `Short`.
+#[tactic(auto, using(crate::proofs::ImportLists::records_read))]
+fn named_records<'a, A: Allocator>(
+    alloc: A,
+    bytes: &'a [u8],
+    place: usize,
+    names: &[Option<&'a str>],
+    index: &SectionIndex<'_, A>,
+    is_64: bool,
+) -> Result<Vec<SyntheticImportDirectoryEntry<'a>, A>>
+    requires stand { StandInFront bytes.now place (length names.now) }
+    requires names { AreNames (place_of index.now.resolve index.now.alignment index.now.sections) bytes.now place names.now }
+    ensures { GivesUnlessMemory (λ v. map import_record_view v.items) result (import_records (place_of index.now.resolve index.now.alignment index.now.sections) (entry_size is_64) bytes.entry.now place) }
+{
+    let mut records = Vec::with_capacity(alloc, names.len())?;
+    for (i, name) in names.iter().enumerate() {
+        let entry = ImportDirectoryEntry::at(bytes, place + SIZE_OF_IMPORT_ENTRY * i);
+        records.push(import_record(bytes, entry, *name, index, is_64)?)?;
+    }
+    let end = place + SIZE_OF_IMPORT_ENTRY * names.len();
+    require_bytes(bytes, end, SIZE_OF_IMPORT_ENTRY)?;
+    Ok(records)
+}
+
+/// The records of the directory at a place, their addresses mapped by the index.
+#[tactic(auto, using(crate::proofs::ImportLists::all_named))]
+fn records_by_index<'a, A: Allocator + Copy + Drop>(
+    alloc: A,
+    bytes: &'a [u8],
+    place: usize,
+    index: &SectionIndex<'_, A>,
+    is_64: bool,
+) -> Result<Vec<SyntheticImportDirectoryEntry<'a>, A>>
+    ensures { GivesUnlessMemory (λ v. map import_record_view v.items) result (import_records (place_of index.now.resolve index.now.alignment index.now.sections) (entry_size is_64) bytes.entry.now place) }
+{
+    let count = count_records(bytes, place);
+    let places = name_places(alloc, bytes, place, count, index)?;
+    let names = texts_at(alloc, bytes, &places)?;
+    named_records(alloc, bytes, place, &names, index, is_64)
+}
+
+impl<'a, A: Allocator + Copy + Drop> ImportData<'a, A> {
+    /// The import directory, with the default options. `is_64` says that entries have 8 bytes, as in PE32+, and not 4.
+    pub fn parse(
+        alloc: A,
+        bytes: &'a [u8],
+        directory: DataDirectory,
+        sections: &[SectionTable],
+        file_alignment: u32,
+        is_64: bool,
+    ) -> Result<ImportData<'a, A>>
+        ensures { GivesUnlessMemory import_data_view result (import_data_at (place_of default_options.resolve_rva file_alignment sections.now) (entry_size is_64) bytes.entry.now directory.virtual_address) }
+    {
+        ImportData::parse_with_opts(
+            alloc,
+            bytes,
+            directory,
+            sections,
+            file_alignment,
+            &ParseOptions::default(),
+            is_64,
+        )
+    }
+
+    /// The import directory: the records from its place (`Unmapped`) on, 20 bytes each (`Short`), up to the one whose
+    /// name or address table has the address 0. Of each in turn the name is read (`Unmapped`, `ImportName`), then the
+    /// entries of its lookup table, or where that has the address 0 of its address table, up to a zero one: none if the
+    /// table has no place, `Short` if no zero entry ends it. The directory's size isn't used.
+    pub fn parse_with_opts(
+        alloc: A,
+        bytes: &'a [u8],
+        directory: DataDirectory,
+        sections: &[SectionTable],
+        file_alignment: u32,
+        opts: &ParseOptions,
+        is_64: bool,
+    ) -> Result<ImportData<'a, A>>
+        ensures { GivesUnlessMemory import_data_view result (import_data_at (place_of opts.now.resolve_rva file_alignment sections.now) (entry_size is_64) bytes.entry.now directory.virtual_address) }
+    {
+        let place = mapped_place(directory.virtual_address, sections, file_alignment, opts)?;
+        let index = SectionIndex::new(alloc, sections, file_alignment, opts)?;
+        let import_data = records_by_index(alloc, bytes, place, &index, is_64)?;
+        Ok(ImportData { import_data })
+    }
 }
