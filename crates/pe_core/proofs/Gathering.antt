@@ -14,19 +14,19 @@ get_or-each f zero i d lt = absurd (omega arith)
 get_or-each f (suc n) i d lt = ⊎_elim
     (λ (h : i < n). get_or_append_left (each f n) (f n ∷ []) d i (omega (arith, h, each-length f n)) ∙ get_or-each f n i d h)
     (λ (h : n ≤ i).
-        let same : i ≡ length (each f n) = omega (arith, h, lt, each-length f n) in
-        let is : n ≡ i = omega (arith, h, lt) in
-        ap (λ k. get_or (each f n ++ f n ∷ []) k d) same ∙ get_or-append_seam (each f n) (f n) [] d ∙ ap f is)
+    let same : i ≡ length (each f n) = omega (arith, h, lt, each-length f n) in
+    let is : n ≡ i = omega (arith, h, lt) in
+    ap (λ k. get_or (each f n ++ f n ∷ []) k d) same ∙ get_or-append_seam (each f n) (f n) [] d ∙ ap f is)
     (cases_lt i n)
 
 pub drop-each : {X : Type 0} (f : ℕ → X) (n i : ℕ) → i < n → drop i (each f n) ≡ f i ∷ drop (suc i) (each f n)
 drop-each f n i lt = drop-cons (each f n) i (f i) (omega (arith, lt, each-length f n)) ∙ ap (λ x. x ∷ drop (suc i) (each f n)) (get_or-each f n i (f i) lt)
 
-with_none : {X : Type 0} (r : Result (List X) Refusal) → with_rest [] r ≡ r
+pub with_none : {X : Type 0} (r : Result (List X) Refusal) → with_rest [] r ≡ r
 with_none (Ok xs) = refl
 with_none (Err e) = refl
 
-with_one : {X : Type 0} (xs : List X) (x : X) (r : Result (List X) Refusal) → with_rest (xs ++ x ∷ []) r ≡ with_rest xs (with_rest (x ∷ []) r)
+pub with_one : {X : Type 0} (xs : List X) (x : X) (r : Result (List X) Refusal) → with_rest (xs ++ x ∷ []) r ≡ with_rest xs (with_rest (x ∷ []) r)
 with_one xs x (Ok ys) = ap (λ (l : List _). Ok l) (append_assoc xs (x ∷ []) ys)
 with_one xs x (Err e) = refl
 

@@ -1,25 +1,29 @@
 -- The entries of an import's list and the records of the directory, read from the front.
-use Rattle.std.proofs.Common.{◌≡◌, ℕ, zero, suc, ◌+◌, ◌*◌, ◌-◌, ◌^◌, ◌<◌, ◌≤◌, Bool, true, false, cond, List, [], ◌∷◌, ◌++◌, map, length, get_or, Option, Some, None, Ok, Err, refl, sym, ap, ◌∙◌, arith, inl, inr, eq-zero-or-pos, length-append}
+use Rattle.std.proofs.Common.{◌≡◌, ℕ, zero, suc, ◌+◌, ◌*◌, ◌-◌, ◌^◌, ◌<◌, ◌≤◌, Bool, true, false, cond, List, [], ◌∷◌, ◌++◌, map, length, get_or, drop, Option, Some, None, Ok, Err, refl, sym, ap, ◌∙◌, arith, inl, inr, eq-zero-or-pos, length-append}
 use Rattle.std.specs.Prelude.{◌==◌, nat_le}
 use Rattle.std.specs.Borrow.{Bor}
 use Rattle.std.specs.Option.{option_map}
 use Rattle.std.proofs.Math.Nat.{mul-suc, mul-le-mul_right}
 use Rattle.std.proofs.lemmas.Bool.Decides.{nat_tests}
-use Rattle.std.proofs.lemmas.List.{get_or-map, length-map, map-append}
+use Rattle.std.proofs.Math.Seq.{drop-cons}
+use Rattle.std.proofs.lemmas.List.{append-nil, drop_all, get_or-map, length-map, map-append}
 use Rattle.pe_core.specs.declared.error.Error.{Error}
 use Rattle.pe_core.specs.declared.error.Error.TheVariants as errors
+use Rattle.pe_core.specs.declared.import.Entry.{Entry}
+use Rattle.pe_core.specs.declared.import.Import.{Import}
 use Rattle.pe_core.specs.declared.import.ImportDirectoryEntry.{ImportDirectoryEntry}
 use Rattle.pe_core.specs.declared.import.SyntheticImportDirectoryEntry.{SyntheticImportDirectoryEntry}
 use Rattle.pe_core.specs.Bytes.{le, holds, range, record_at}
-use Rattle.pe_core.specs.ImportSteps.{AreNames, StandInFront}
-use Rattle.pe_core.specs.Imports.{ImportRecordView, lookup_at, lookup_entries, lookups_at, import_record, import_record_at, import_record_view, import_records, is_last}
+use Rattle.pe_core.specs.Gathered.{all_or_refusal, with_rest}
+use Rattle.pe_core.specs.ImportSteps.{AreEntryNames, AreNames, StandInFront, entry_view, name_place}
+use Rattle.pe_core.specs.Imports.{EntryView, ImportRecordView, ImportView, import_of, import_view, lookup_at, lookup_entries, lookups_at, import_record, import_record_at, import_record_view, import_records, is_last}
 use Rattle.pe_core.specs.Records.{import_entry}
 use Rattle.pe_core.specs.Refusals.{Refusal, Short, UnlessMemory, kind_of, ◌>>=◌}
 use Rattle.pe_core.specs.Rows.{each}
 use Rattle.pe_core.specs.SectionIndex.{place_or_end}
 use Rattle.pe_core.specs.Text.{text_at, texts_of}
 use Rattle.pe_core.proofs.ExportLists.{each-length, text_or_end}
-use Rattle.pe_core.proofs.Gathering.{Gathered, gathered-start, gathered-more, gathered-done, gathered-refused, get_or-each}
+use Rattle.pe_core.proofs.Gathering.{Gathered, gathered-start, gathered-more, gathered-done, gathered-refused, get_or-each, with_none, with_one}
 
 -- the first k entries are there and none is zero
 pub record EntriesRead (w : ℕ) (b : List ℕ) (p k : ℕ) : Type 0 where
@@ -169,17 +173,85 @@ pub ruleset records_read = (records-start, records-pushed, refused-in_record, re
 -- the texts at the places of the names are the names
 pub names_are : (place : ℕ → Option ℕ) (b : List ℕ) (p n : ℕ) (places : List ℕ) (names : List (Option (Bor (List ℕ)))) → length b < 2 ^ 64
     → places ≡ each (λ i. place_or_end (place (import_entry b (p + 20 * i)).name_rva)) n → texts_of names ≡ map (text_at b) places → AreNames place b p names
-names_are place b p n places names small are texts = record { are = λ i d lt.
-    let f : ℕ → ℕ = λ i. place_or_end (place (import_entry b (p + 20 * i)).name_rva) in
-    let many : length names ≡ n = sym (length-map names (option_map (λ (s : Bor (List ℕ)). s.now))) ∙ ap length texts ∙ length-map places (text_at b) ∙ ap length are ∙ each-length f n in
-    sym (get_or-map (option_map (λ (s : Bor (List ℕ)). s.now)) names i d None lt)
-    ∙ ap (λ (l : List (Option (List ℕ))). get_or l i None) (texts ∙ ap (map (text_at b)) are)
-    ∙ get_or-map (text_at b) (each f n) i 0 None (omega (arith, lt, many, each-length f n))
-    ∙ ap (text_at b) (get_or-each f n i 0 (omega (arith, lt, many)))
-    ∙ text_or_end b (place (import_entry b (p + 20 * i)).name_rva) small
-  }
+names_are place b p n places names small are texts = record {
+  are = λ i d lt.
+      let f : ℕ → ℕ = λ i. place_or_end (place (import_entry b (p + 20 * i)).name_rva) in
+      let many : length names ≡ n = sym (length-map names (option_map (λ (s : Bor (List ℕ)). s.now))) ∙ ap length texts ∙ length-map places (text_at b) ∙ ap length are ∙ each-length f n in
+      sym (get_or-map (option_map (λ (s : Bor (List ℕ)). s.now)) names i d None lt)
+      ∙ ap (λ (l : List (Option (List ℕ))). get_or l i None) (texts ∙ ap (map (text_at b)) are)
+      ∙ get_or-map (text_at b) (each f n) i 0 None (omega (arith, lt, many, each-length f n))
+      ∙ ap (text_at b) (get_or-each f n i 0 (omega (arith, lt, many)))
+      ∙ text_or_end b (place (import_entry b (p + 20 * i)).name_rva) small;
+}
 
 pub as_many : (b : List ℕ) (n : ℕ) (f : ℕ → ℕ) (places : List ℕ) (names : List (Option (Bor (List ℕ)))) → places ≡ each f n → texts_of names ≡ map (text_at b) places → n ≡ length names
 as_many b n f places names are texts = sym (ap length are ∙ each-length f n) ∙ sym (length-map places (text_at b)) ∙ sym (ap length texts) ∙ length-map names (option_map (λ (s : Bor (List ℕ)). s.now))
 
 pub ruleset all_named = (names_are, as_many)
+
+-- ---- the imports of all entries
+
+-- these are the imports of the first i entries
+pub record ImportsRead (place : ℕ → Option ℕ) (w : ℕ) (b : List ℕ) (entries : List EntryView) (i : ℕ) (xs : List ImportView) : Type 0 where
+  pub rest : with_rest xs (all_or_refusal (map (import_of place w b) (drop i entries))) ≡ all_or_refusal (map (import_of place w b) entries)
+
+pub imports-start : (place : ℕ → Option ℕ) (w : ℕ) (b : List ℕ) (entries : List EntryView) → ImportsRead place w b entries 0 []
+imports-start place w b entries = record { rest = with_none (all_or_refusal (map (import_of place w b) entries)) }
+
+rest_of-entry : (place : ℕ → Option ℕ) (w : ℕ) (b : List ℕ) (entries : List Entry) (i : ℕ) (entry : EntryView) (d : Entry) → i < length entries → entry ≡ entry_view (get_or entries i d)
+    → drop i (map entry_view entries) ≡ entry ∷ drop (i + 1) (map entry_view entries)
+rest_of-entry place w b entries i entry d lt at =
+    let after : suc i ≡ i + 1 = omega arith in
+    drop-cons (map entry_view entries) i entry (omega (arith, lt, length-map entries entry_view))
+    ∙ ap (λ x. x ∷ drop (suc i) (map entry_view entries)) (get_or-map entry_view entries i d entry lt ∙ sym at)
+    ∙ ap (λ k. entry ∷ drop k (map entry_view entries)) after
+
+pub imports-pushed : (place : ℕ → Option ℕ) (w : ℕ) (b : List ℕ) (entries : List Entry) (i : ℕ) (items pushed : List Import) (r : Import) (entry : EntryView) (d : Entry)
+    → i < length entries → ImportsRead place w b (map entry_view entries) i (map import_view items) → entry ≡ entry_view (get_or entries i d)
+    → import_of place w b entry ≡ Ok (import_view r) → pushed ≡ items ++ r ∷ []
+    → ImportsRead place w b (map entry_view entries) (i + 1) (map import_view pushed)
+imports-pushed place w b entries i items pushed r entry d lt g at is push =
+    let after : suc i ≡ i + 1 = omega arith in
+    let next = rest_of-entry place w b entries i entry d lt at in
+    record {
+      rest =
+          ap (λ l. with_rest (map import_view l) (all_or_refusal (map (import_of place w b) (drop (i + 1) (map entry_view entries))))) push
+          ∙ ap (λ l. with_rest l (all_or_refusal (map (import_of place w b) (drop (i + 1) (map entry_view entries))))) (map-append import_view items (r ∷ []))
+          ∙ with_one (map import_view items) (import_view r) (all_or_refusal (map (import_of place w b) (drop (i + 1) (map entry_view entries))))
+          ∙ ap (λ x. with_rest (map import_view items) (all_or_refusal (x ∷ map (import_of place w b) (drop (i + 1) (map entry_view entries))))) (sym is)
+          ∙ ap (λ l. with_rest (map import_view items) (all_or_refusal (map (import_of place w b) l))) (sym next)
+          ∙ g.rest;
+    }
+
+pub imports-refused : (place : ℕ → Option ℕ) (w : ℕ) (b : List ℕ) (entries : List Entry) (i : ℕ) (xs : List ImportView) (e : Error) (entry : EntryView) (d : Entry)
+    → i < length entries → ImportsRead place w b (map entry_view entries) i xs → entry ≡ entry_view (get_or entries i d)
+    → import_of place w b entry ≡ Err (kind_of e) → UnlessMemory e (all_or_refusal (map (import_of place w b) (map entry_view entries)) ≡ Err (kind_of e))
+imports-refused place w b entries i xs e entry d lt g at is =
+    let next = rest_of-entry place w b entries i entry d lt at in
+    unless_memory e _ (
+    sym g.rest
+    ∙ ap (λ l. with_rest xs (all_or_refusal (map (import_of place w b) l))) next
+    ∙ ap (λ x. with_rest xs (all_or_refusal (x ∷ map (import_of place w b) (drop (i + 1) (map entry_view entries))))) is)
+
+pub imports-done : (place : ℕ → Option ℕ) (w : ℕ) (b : List ℕ) (entries : List Entry) (i : ℕ) (xs : List ImportView)
+    → length entries ≤ i → ImportsRead place w b (map entry_view entries) i xs → all_or_refusal (map (import_of place w b) (map entry_view entries)) ≡ Ok xs
+imports-done place w b entries i xs end g =
+    let none : drop i (map entry_view entries) ≡ [] = drop_all i (map entry_view entries) (omega (arith, end, length-map entries entry_view)) in
+    sym g.rest ∙ ap (λ l. with_rest xs (all_or_refusal (map (import_of place w b) l))) none ∙ ap (λ (l : List ImportView). Ok l) (append-nil xs)
+
+pub ruleset imports_read = (imports-start, imports-pushed, imports-refused, imports-done)
+
+-- the texts at the places of the names are the names
+pub entry_names_are : (place : ℕ → Option ℕ) (w : ℕ) (b : List ℕ) (entries : List Entry) (places : List ℕ) (names : List (Option (Bor (List ℕ))))
+    → places ≡ map (name_place place w) (map entry_view entries) → texts_of names ≡ map (text_at b) places → AreEntryNames place w b entries names
+entry_names_are place w b entries places names are texts = record {
+  are = λ i d e lt.
+      let many : length names ≡ length entries = sym (length-map names (option_map (λ (s : Bor (List ℕ)). s.now))) ∙ ap length texts ∙ length-map places (text_at b) ∙ ap length are ∙ length-map (map entry_view entries) (name_place place w) ∙ length-map entries entry_view in
+      sym (get_or-map (option_map (λ (s : Bor (List ℕ)). s.now)) names i d None lt)
+      ∙ ap (λ (l : List (Option (List ℕ))). get_or l i None) (texts ∙ ap (map (text_at b)) are)
+      ∙ get_or-map (text_at b) (map (name_place place w) (map entry_view entries)) i 0 None (omega (arith, lt, many, length-map (map entry_view entries) (name_place place w), length-map entries entry_view))
+      ∙ ap (text_at b) (get_or-map (name_place place w) (map entry_view entries) i (entry_view e) 0 (omega (arith, lt, many, length-map entries entry_view)) ∙ ap (name_place place w) (get_or-map entry_view entries i e (entry_view e) (omega (arith, lt, many))));
+}
+
+pub as_many_entries : (f : EntryView → ℕ) (b : List ℕ) (entries : List Entry) (places : List ℕ) (names : List (Option (Bor (List ℕ)))) → places ≡ map f (map entry_view entries) → texts_of names ≡ map (text_at b) places → length names ≡ length entries
+as_many_entries f b entries places names are texts = sym (length-map names (option_map (λ (s : Bor (List ℕ)). s.now))) ∙ ap length texts ∙ length-map places (text_at b) ∙ ap length are ∙ length-map (map entry_view entries) f ∙ length-map entries entry_view

@@ -1,10 +1,11 @@
 //! Imports: the import directory, and the list of what its records name.
 
-ghost use Rattle.std.specs.Prelude.{◌≡◌, ◌*◌, ◌+◌, ◌/◌, ◌≤◌, length, map, IfOk, Some};
+ghost use Rattle.std.specs.Prelude.{◌≡◌, ◌*◌, ◌+◌, ◌/◌, ◌%◌, ◌^◌, ◌≤◌, ◌++◌, length, map, IfOk, OnOk, Some};
 ghost use Rattle.std.specs.Option.{option_and_then, option_map};
 ghost use Rattle.pe_core.specs.Bytes.{le, range, record_at};
-ghost use Rattle.pe_core.specs.Imports.{import_data_view, import_data_at, import_view, imports, import_record, import_record_view, import_records, entry_size, lookups_at, lookups_rva};
-ghost use Rattle.pe_core.specs.ImportSteps.{AreNames, StandInFront};
+ghost use Rattle.pe_core.specs.Gathered.{all_or_refusal};
+ghost use Rattle.pe_core.specs.Imports.{entries, entry_at, import_data_view, import_of, import_data_at, import_view, imports, import_record, import_record_view, import_records, entry_size, lookups_at, lookups_rva};
+ghost use Rattle.pe_core.specs.ImportSteps.{AreEntryNames, AreNames, StandInFront, entry_view, name_place};
 ghost use Rattle.pe_core.specs.Options.{default_options};
 ghost use Rattle.pe_core.specs.Records.{import_entry};
 ghost use Rattle.pe_core.specs.Refusals.{Gives, GivesUnlessMemory};
@@ -13,7 +14,7 @@ ghost use Rattle.pe_core.specs.SectionIndex.{place_or_end};
 ghost use Rattle.pe_core.specs.SectionMap.{place_of};
 ghost use Rattle.pe_core.specs.Text.{text_at, texts_of};
 
-use crate::bytes::{number32, number64, require_bytes};
+use crate::bytes::{number32, number64, require_bytes, u16_at};
 use crate::data_directories::DataDirectory;
 use crate::error::{Error, Reason, Result};
 use crate::many_texts::texts_at;
@@ -25,6 +26,9 @@ use std::alloc::{AllocError, Allocator, Global};
 
 /// The size of a record of the import directory in bytes.
 const SIZE_OF_IMPORT_ENTRY: usize = 20;
+
+/// The size of the hint in front of an import's name in bytes.
+const SIZE_OF_HINT: usize = 2;
 
 /// A record of the import directory, 20 bytes.
 #[derive(Clone, Copy, Debug, PartialEq)]
@@ -191,7 +195,12 @@ fn count_records(bytes: &[u8], place: usize) -> usize
     ensures { StandInFront bytes.now place result }
 {
     let mut count = 0;
-    while require_bytes(bytes, place + SIZE_OF_IMPORT_ENTRY * count, SIZE_OF_IMPORT_ENTRY).is_ok()
+    while require_bytes(
+        bytes,
+        place + SIZE_OF_IMPORT_ENTRY * count,
+        SIZE_OF_IMPORT_ENTRY,
+    )
+    .is_ok()
     {
         if ImportDirectoryEntry::at(bytes, place + SIZE_OF_IMPORT_ENTRY * count).is_last() {
             break;
@@ -304,5 +313,191 @@ impl<'a, A: Allocator + Copy + Drop> ImportData<'a, A> {
         let index = SectionIndex::new(alloc, sections, file_alignment, opts)?;
         let import_data = records_by_index(alloc, bytes, place, &index, is_64)?;
         Ok(ImportData { import_data })
+    }
+}
+
+/// An entry of a record's list, with what its import takes from the record.
+#[derive(Clone, Copy)]
+struct Entry<'a> {
+    dll: &'a str,
+    entry: u64,
+    rva: u64,
+}
+
+impl<'a> Entry<'a> {
+    ghost use Rattle.pe_core.specs.Imports.{is_ordinal};
+
+    /// Whether the highest bit is set.
+    fn is_ordinal(&self, is_64: bool) -> bool
+        ensures { result ≡ is_ordinal (entry_size is_64) (entry_view self.now) }
+    {
+        let highest = if is_64 {
+            0x8000_0000_0000_0000
+        } else {
+            0x8000_0000
+        };
+        self.entry >= highest
+    }
+
+    /// The address of the hint and the name, if it is no ordinal.
+    fn name_rva(&self) -> u32
+        ensures { result ≡ self.now.entry % 2 ^ 31 }
+    {
+        (self.entry % 0x8000_0000) as u32
+    }
+}
+
+/// Appends the entries of a record's list.
+#[tactic(auto, unfolding(crate::specs::Rows::each))]
+fn push_entries<'a, A: Allocator>(
+    imported: &SyntheticImportDirectoryEntry<'a>,
+    is_64: bool,
+    entries: &mut Vec<Entry<'a>, A>,
+) -> std::result::Result<(), AllocError>
+    ensures { OnOk result (map entry_view entries.new.items ≡ map entry_view entries.old.items ++ each (entry_at (entry_size is_64) (import_record_view imported.now)) (length imported.now.lookups.now / entry_size is_64)) }
+{
+    let size = entry_size(is_64);
+    let rva = u64::from(imported.import_directory_entry.address_table_rva);
+    for k in 0..imported.lookups.len() / size {
+        entries.push(Entry {
+            dll: imported.name,
+            entry: entry_at(imported.lookups, size * k, is_64),
+            rva: rva + (size * k) as u64,
+        })?;
+    }
+    Ok(())
+}
+
+/// The entries of all records, in their order.
+#[tactic(auto, unfolding(crate::specs::Imports::entries))]
+fn entries_of<'a, A: Allocator>(
+    alloc: A,
+    records: &[SyntheticImportDirectoryEntry<'a>],
+    is_64: bool,
+) -> std::result::Result<Vec<Entry<'a>, A>, AllocError>
+    ensures { IfOk result (λ v. map entry_view v.items ≡ entries (entry_size is_64) (map import_record_view records.now)) }
+{
+    let mut entries = Vec::new(alloc);
+    for record in records {
+        push_entries(record, is_64, &mut entries)?;
+    }
+    Ok(entries)
+}
+
+/// The places of the names that the entries lead to, each behind its hint.
+fn entry_places<A: Allocator>(
+    alloc: A,
+    entries: &[Entry<'_>],
+    index: &SectionIndex<'_, A>,
+    is_64: bool,
+) -> std::result::Result<Vec<usize, A>, AllocError>
+    ensures { IfOk result (λ v. v.items ≡ map (name_place (place_of index.now.resolve index.now.alignment index.now.sections) (entry_size is_64)) (map entry_view entries.now)) }
+{
+    let mut places = Vec::with_capacity(alloc, entries.len())?;
+    for entry in entries {
+        let place = if entry.is_ordinal(is_64) {
+            usize::MAX
+        } else {
+            index
+                .find_or_end(entry.name_rva())
+                .saturating_add(SIZE_OF_HINT)
+        };
+        places.push(place)?;
+    }
+    Ok(places)
+}
+
+/// What an entry imports whose name was looked up: `Unmapped`, `Short` of its hint, or `ImportName`.
+#[tactic(auto, unfolding(crate::specs::Imports::import_of))]
+fn import_of<'a, A: Allocator>(
+    bytes: &'a [u8],
+    entry: &Entry<'a>,
+    name: Option<&'a str>,
+    index: &SectionIndex<'_, A>,
+    is_64: bool,
+) -> Result<Import<'a>>
+    requires { option_map (λ s. s.now) name ≡ text_at bytes.now (name_place (place_of index.now.resolve index.now.alignment index.now.sections) (entry_size is_64) (entry_view entry.now)) }
+    ensures { Gives import_view result (import_of (place_of index.now.resolve index.now.alignment index.now.sections) (entry_size is_64) bytes.entry.now (entry_view entry.entry.now)) }
+{
+    let Entry { dll, rva, .. } = *entry;
+    if entry.is_ordinal(is_64) {
+        return Ok(Import {
+            name: None,
+            dll,
+            ordinal: (entry.entry % 0x1_0000) as u16,
+            rva,
+        });
+    }
+    let name_rva = entry.name_rva();
+    let Some(place) = index.find(name_rva as usize) else {
+        return Err(Error::Malformed(Reason::Unmapped(u64::from(name_rva))));
+    };
+    let ordinal = u16_at(bytes, place)?;
+    if name.is_none() {
+        return Err(Error::Malformed(Reason::ImportName(name_rva)));
+    }
+    Ok(Import {
+        name,
+        dll,
+        ordinal,
+        rva,
+    })
+}
+
+/// The imports of all these entries, whose names these are.
+#[tactic(auto, using(crate::proofs::ImportLists::imports_read))]
+fn named_imports<'a, A: Allocator>(
+    alloc: A,
+    bytes: &'a [u8],
+    entries: &[Entry<'a>],
+    names: &[Option<&'a str>],
+    index: &SectionIndex<'_, A>,
+    is_64: bool,
+) -> Result<Vec<Import<'a>, A>>
+    requires many { length names.now ≡ length entries.now }
+    requires names { AreEntryNames (place_of index.now.resolve index.now.alignment index.now.sections) (entry_size is_64) bytes.now entries.now names.now }
+    ensures { GivesUnlessMemory (λ v. map import_view v.items) result (all_or_refusal (map (import_of (place_of index.now.resolve index.now.alignment index.now.sections) (entry_size is_64) bytes.entry.now) (map entry_view entries.now))) }
+{
+    let mut imports = Vec::with_capacity(alloc, entries.len())?;
+    for (i, entry) in entries.iter().enumerate() {
+        imports.push(import_of(bytes, entry, names[i], index, is_64)?)?;
+    }
+    Ok(imports)
+}
+
+/// The imports of all records, their addresses mapped by the index.
+#[tactic(auto, unfolding(crate::specs::Imports::imports))]
+fn imports_by_index<'a, A: Allocator + Copy + Drop>(
+    alloc: A,
+    bytes: &'a [u8],
+    records: &[SyntheticImportDirectoryEntry<'a>],
+    index: &SectionIndex<'_, A>,
+    is_64: bool,
+) -> Result<Vec<Import<'a>, A>>
+    ensures { GivesUnlessMemory (λ v. map import_view v.items) result (imports (place_of index.now.resolve index.now.alignment index.now.sections) (entry_size is_64) bytes.entry.now (map import_record_view records.now)) }
+{
+    let entries = entries_of(alloc, records, is_64)?;
+    let places = entry_places(alloc, &entries, index, is_64)?;
+    let names = texts_at(alloc, bytes, &places)?;
+    named_imports(alloc, bytes, &entries, &names, index, is_64)
+}
+
+impl<'a> Import<'a> {
+    /// What the entries of all records import, in their order. The highest bit of an entry says that its low 16 bits
+    /// are an ordinal; else its low 31 bits are the address of a hint of two bytes and a name behind it: `Unmapped`,
+    /// `Short` of the hint, `ImportName` where no zero ends the name or it is not UTF-8.
+    pub fn parse_with_opts<A: Allocator + Copy + Drop>(
+        alloc: A,
+        bytes: &'a [u8],
+        import_data: &ImportData<'a, A>,
+        sections: &[SectionTable],
+        file_alignment: u32,
+        opts: &ParseOptions,
+        is_64: bool,
+    ) -> Result<Vec<Import<'a>, A>>
+        ensures { GivesUnlessMemory (λ v. map import_view v.items) result (imports (place_of opts.now.resolve_rva file_alignment sections.now) (entry_size is_64) bytes.entry.now (import_data_view import_data.now)) }
+    {
+        let index = SectionIndex::new(alloc, sections, file_alignment, opts)?;
+        imports_by_index(alloc, bytes, &import_data.import_data, &index, is_64)
     }
 }
