@@ -16,3 +16,5 @@ pub mod PutNumbers
 pub mod TableEntries
 pub mod ExportLists
 pub mod Pigeonhole
+pub mod Gathering
+pub mod ImportLists

@@ -15,8 +15,11 @@ pub mod HeaderSteps
 pub mod Spelling
 pub mod Sections
 pub mod SectionMap
+pub mod Gathered
 pub mod Exports
 pub mod ExportSteps
+pub mod Imports
+pub mod ImportSteps
 pub mod SectionPieces
 pub mod SectionIndex
 pub mod Relocations

@@ -6,6 +6,7 @@ use Rattle.pe_core.specs.declared.export.ExportDirectoryTable.{ExportDirectoryTa
 use Rattle.pe_core.specs.declared.header.DosHeader.{DosHeader}
 use Rattle.pe_core.specs.declared.header.CoffHeader.{CoffHeader}
 use Rattle.pe_core.specs.declared.header.TeHeader.{TeHeader}
+use Rattle.pe_core.specs.declared.import.ImportDirectoryEntry.{ImportDirectoryEntry}
 use Rattle.pe_core.specs.declared.optional_header.StandardFields.{StandardFields}
 use Rattle.pe_core.specs.declared.optional_header.WindowsFields.{WindowsFields}
 use Rattle.pe_core.specs.declared.section_table.SectionTable.{SectionTable}
@@ -157,4 +158,14 @@ export_directory b p = record {
   address_table_rva = le b (p + 28) 4;
   name_pointer_rva = le b (p + 32) 4;
   ordinal_table_rva = le b (p + 36) 4;
+}
+
+-- a record of the import directory, 20 bytes
+unfoldable pub import_entry : List ℕ → ℕ → ImportDirectoryEntry
+import_entry b p = record {
+  lookup_table_rva = le b p 4;
+  time_date_stamp = le b (p + 4) 4;
+  forwarder_chain = le b (p + 8) 4;
+  name_rva = le b (p + 12) 4;
+  address_table_rva = le b (p + 16) 4;
 }

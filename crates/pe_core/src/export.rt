@@ -1,6 +1,6 @@
 //! Exports: the export directory, and the list of what it names.
 
-ghost use Rattle.std.specs.Prelude.{◌≡◌, ◌*◌, ◌+◌, ◌/◌, ◌≤◌, length, map, Ok};
+ghost use Rattle.std.specs.Prelude.{◌≡◌, ◌*◌, ◌+◌, ◌/◌, ◌≤◌, length, map, IfOk, Ok};
 ghost use Rattle.std.specs.Option.{option_and_then, option_map};
 ghost use Rattle.pe_core.specs.Bytes.{le};
 ghost use Rattle.pe_core.specs.ExportSteps.{exports_from};
@@ -18,10 +18,10 @@ use crate::error::Result;
 use crate::many_texts::texts_at;
 use crate::options::ParseOptions;
 use crate::section_index::SectionIndex;
+use crate::section_map::{find_offset, mapped_place};
 use crate::section_table::SectionTable;
 use crate::text::text_at;
-use crate::section_map::{find_offset, mapped_place};
-use std::alloc::Allocator;
+use std::alloc::{AllocError, Allocator};
 
 /// The size of an export directory in bytes.
 const SIZE_OF_EXPORT_DIRECTORY: usize = 40;
@@ -248,8 +248,8 @@ fn name_places<A: Allocator>(
     alloc: A,
     names: &[u8],
     index: &SectionIndex<'_, A>,
-) -> Result<Vec<usize, A>>
-    ensures { GivesUnlessMemory (λ v. v.items) result (Ok (each (λ i. place_or_end (place_of index.now.resolve index.now.alignment index.now.sections (le names.now (4 * i) 4))) (length names.now / 4))) }
+) -> std::result::Result<Vec<usize, A>, AllocError>
+    ensures { IfOk result (λ v. v.items ≡ each (λ i. place_or_end (place_of index.now.resolve index.now.alignment index.now.sections (le names.now (4 * i) 4))) (length names.now / 4)) }
 {
     let count = names.len() / 4;
     let mut places = Vec::with_capacity(alloc, count)?;

@@ -10,6 +10,7 @@ mod data_directories;
 mod error;
 mod export;
 mod header;
+mod import;
 pub mod laws;
 mod many_texts;
 mod optional_header;
@@ -35,6 +36,7 @@ pub use header::{
     CoffHeader, DOS_MAGIC, DosHeader, Header, PE_MAGIC, SIZE_OF_DOS_HEADER, SIZE_OF_TE_HEADER,
     TE_MAGIC, TeHeader,
 };
+pub use import::{Import, ImportData, ImportDirectoryEntry, SyntheticImportDirectoryEntry};
 pub use optional_header::{MAGIC_32, MAGIC_64, OptionalHeader, StandardFields, WindowsFields};
 pub use options::{ParseMode, ParseOptions};
 pub use relocation::RelocationData;

@@ -1,0 +1,8 @@
+use Rattle.std.proofs.Common.{rules, arith, ◌≡◌, map, subst, sym, ap, ◌∙◌}
+use Rattle.pe_core.specs.Text.{text_at, texts_of}
+use Rattle.pe_core.proofs.ImportLists.{names_are}
+use Rattle.pe_core.proofs.import.records_by_index.Goals as goal
+
+pub named_records-requires-clause-names : goal.named_records-requires-clause-names
+named_records-requires-clause-names g c =
+    names_are _ c.args.bytes.now c.args.place c.count_records-count.result c.deref.result.now c.deref-2.result.now (omega arith) (rw c.deref.ensures.value c.in_ok-places.ensures) (rw c.deref-2.ensures.value c.in_ok-names.ensures)

@@ -1,0 +1,21 @@
+-- Lists of results as one result.
+use Rattle.std.specs.Prelude.{List, [], ◌∷◌, ◌++◌, Option, Some, None, Result, Ok, Err}
+use Rattle.pe_core.specs.Refusals.{Refusal}
+
+-- these values and those of the rest, unless the rest is refused
+abbrev pub with_rest : {X : Type 0} → List X → Result (List X) Refusal → Result (List X) Refusal
+with_rest xs (Ok ys) = Ok (xs ++ ys)
+with_rest xs (Err e) = Err e
+
+-- all the values, or the first refusal
+abbrev pub all_or_refusal : {X : Type 0} → List (Result X Refusal) → Result (List X) Refusal
+all_or_refusal [] = Ok []
+all_or_refusal (Ok x ∷ rest) = with_rest (x ∷ []) (all_or_refusal rest)
+all_or_refusal (Err e ∷ rest) = Err e
+
+-- the values in front of the first that is none, or the first refusal in front of it
+abbrev pub up_to_none : {X : Type 0} → List (Result (Option X) Refusal) → Result (List X) Refusal
+up_to_none [] = Ok []
+up_to_none (Ok None ∷ rest) = Ok []
+up_to_none (Ok (Some x) ∷ rest) = with_rest (x ∷ []) (up_to_none rest)
+up_to_none (Err e ∷ rest) = Err e
