@@ -1,4 +1,5 @@
 pub mod Refusals
+pub mod Names
 pub mod Bytes
 pub mod CountedTable
 pub mod Text

@@ -13,7 +13,7 @@ use std::fmt;
 pub enum Reason {
     /// The DOS header's pointer to the PE header, which is below 64.
     HeaderPointer(u32),
-    /// The relative virtual address of a library's name.
+    /// The relative virtual address of the name of a library or of an imported function.
     ImportName(u32),
     /// The place in the string table, counted from its size field.
     StringTable(u32),
@@ -25,7 +25,7 @@ pub enum Reason {
     CertificateSize(u32),
     /// The end of the certificate table.
     CertificateTable(u64),
-    /// A relative virtual address that no section maps to the file.
+    /// A relative virtual address that has no place in the file.
     Unmapped(u64),
     /// The end of the debug directory.
     DebugBounds(u64),
@@ -35,11 +35,11 @@ pub enum Reason {
     DebugData(u32),
     /// The size of a POGO record.
     PogoSize(u32),
-    /// The place of a POGO entry among its record's data, and the bytes that are left there.
+    /// How many bytes a POGO entry needs at least, padding included, and how many are left from its beginning on.
     PogoName { place: usize, length: usize },
     /// The size of the exception directory.
     ExceptionSize(u32),
-    /// The place of an exception directory or of one of its entries.
+    /// The place of the exception directory, which is no multiple of four.
     ExceptionOffset(u64),
     /// The end of the exception directory.
     ExceptionBounds(u64),
@@ -57,9 +57,9 @@ pub enum Reason {
     Arm64Version(u32),
     /// The bytes of an ARM64 code stream, and the place where reading was to start.
     Arm64Stream { length: usize, start: usize },
-    /// The place of an ARM64 code that is cut.
+    /// The place of an ARM64 code that is cut, counted from the beginning of its stream.
     Arm64Cut(usize),
-    /// The end of the resource directory.
+    /// The end of resource data, which is past the bytes that hold them.
     ResourceBounds(u64),
     /// The place of a resource directory that was reached again.
     ResourceCycle(u32),
@@ -81,6 +81,54 @@ pub enum Reason {
     WriteFit { end: u64, length: usize },
 }
 
+impl Reason {
+    ghost use Rattle.std.specs.Prelude.{◌≡◌};
+    ghost use Rattle.pe_core.specs.Names.{name_of};
+    ghost use Rattle.pe_core.specs.Refusals.{kind_of_reason};
+
+    /// The name of its kind, as `ExceptionSize`.
+    pub fn name(&self) -> &'static str
+        ensures { result.now ≡ name_of (kind_of_reason self.now) }
+    {
+        match self {
+            Reason::HeaderPointer(..) => "HeaderPointer",
+            Reason::ImportName(..) => "ImportName",
+            Reason::StringTable(..) => "StringTable",
+            Reason::CertificateRevision(..) => "CertificateRevision",
+            Reason::CertificateType(..) => "CertificateType",
+            Reason::CertificateSize(..) => "CertificateSize",
+            Reason::CertificateTable(..) => "CertificateTable",
+            Reason::Unmapped(..) => "Unmapped",
+            Reason::DebugBounds(..) => "DebugBounds",
+            Reason::DebugSize(..) => "DebugSize",
+            Reason::DebugData(..) => "DebugData",
+            Reason::PogoSize(..) => "PogoSize",
+            Reason::PogoName { .. } => "PogoName",
+            Reason::ExceptionSize(..) => "ExceptionSize",
+            Reason::ExceptionOffset(..) => "ExceptionOffset",
+            Reason::ExceptionBounds(..) => "ExceptionBounds",
+            Reason::FunctionIndex(..) => "FunctionIndex",
+            Reason::FunctionLink(..) => "FunctionLink",
+            Reason::FunctionCycle(..) => "FunctionCycle",
+            Reason::UnwindVersion(..) => "UnwindVersion",
+            Reason::UnwindCode(..) => "UnwindCode",
+            Reason::Arm64Version(..) => "Arm64Version",
+            Reason::Arm64Stream { .. } => "Arm64Stream",
+            Reason::Arm64Cut(..) => "Arm64Cut",
+            Reason::ResourceBounds(..) => "ResourceBounds",
+            Reason::ResourceCycle(..) => "ResourceCycle",
+            Reason::ResourceString(..) => "ResourceString",
+            Reason::TeSize(..) => "TeSize",
+            Reason::NoOptionalHeader => "NoOptionalHeader",
+            Reason::WriteAlignment(..) => "WriteAlignment",
+            Reason::WriteSymbols(..) => "WriteSymbols",
+            Reason::WriteOverlap(..) => "WriteOverlap",
+            Reason::WriteSection(..) => "WriteSection",
+            Reason::WriteFit { .. } => "WriteFit",
+        }
+    }
+}
+
 impl fmt::Display for Reason {
     fn fmt<W: fmt::Write>(&self, f: &mut fmt::Formatter<W>) -> fmt::Result {
         match self {
@@ -90,9 +138,12 @@ impl fmt::Display for Reason {
             ),
             Reason::ImportName(rva) => write!(
                 f,
-                "the library's name at address {rva:#x} has no end or is not UTF-8"
+                "the imported name at address {rva:#x} has no end or is not UTF-8"
             ),
-            Reason::StringTable(place) => write!(f, "the string table has no text at {place:#x}"),
+            Reason::StringTable(place) => write!(
+                f,
+                "the string table is cut or has no ended UTF-8 text at {place:#x}, counted from its size field"
+            ),
             Reason::CertificateRevision(revision) => write!(
                 f,
                 "{revision:#x} is no revision of a certificate"
@@ -108,7 +159,7 @@ impl fmt::Display for Reason {
             ),
             Reason::Unmapped(address) => write!(
                 f,
-                "no section maps the address {address:#x} to the file"
+                "the address {address:#x} has no place in the file: no section covers it, or the file alignment is no power of two"
             ),
             Reason::DebugBounds(end) => write!(
                 f,
@@ -122,7 +173,7 @@ impl fmt::Display for Reason {
             Reason::PogoSize(size) => write!(f, "a POGO record of {size} bytes holds no entries"),
             Reason::PogoName { place, length } => write!(
                 f,
-                "the POGO entry at {place:#x} has no ended name in its {length} bytes"
+                "a POGO entry needs {place} bytes up to the end of its name and padding, and {length} are left"
             ),
             Reason::ExceptionSize(size) => write!(
                 f,
@@ -130,7 +181,7 @@ impl fmt::Display for Reason {
             ),
             Reason::ExceptionOffset(place) => write!(
                 f,
-                "the exception directory's place {place:#x} is past the end of the file"
+                "the exception directory's place {place:#x} is no multiple of four"
             ),
             Reason::ExceptionBounds(end) => write!(
                 f,
@@ -158,10 +209,13 @@ impl fmt::Display for Reason {
                 f,
                 "{length} bytes are no stream of ARM64 unwind codes to be read from {start:#x}"
             ),
-            Reason::Arm64Cut(place) => write!(f, "the ARM64 unwind code at {place:#x} is cut"),
+            Reason::Arm64Cut(place) => write!(
+                f,
+                "the ARM64 unwind code {place:#x} behind the beginning of its stream is cut"
+            ),
             Reason::ResourceBounds(end) => write!(
                 f,
-                "the resource directory ends at {end:#x}, past the end of the file"
+                "resource data end at {end:#x}, past the bytes that are to hold them"
             ),
             Reason::ResourceCycle(place) => write!(
                 f,
@@ -169,7 +223,7 @@ impl fmt::Display for Reason {
             ),
             Reason::ResourceString(place) => write!(
                 f,
-                "the version string at {place:#x} is too long for its value"
+                "the value of the version string at {place:#x} is not there, or its length is above 32,767"
             ),
             Reason::TeSize(size) => write!(
                 f,
@@ -206,15 +260,34 @@ pub enum Error {
     /// The bytes are there, and say what they may not say.
     #[error("{0}")]
     Malformed(Reason),
-    /// Another magic number than the format's.
-    #[error("the magic number is {0:#x}, which begins no such record")]
+    /// The number where the magic number of a header is to stand.
+    #[error("the magic number {0:#x} is none that the header may have")]
     BadMagic(u64),
-    /// The place of a read, and the bytes that it needs.
-    #[error("the bytes end too early: {needed} bytes are needed at {at:#x}")]
+    /// The place of a read, counted from the beginning of the bytes that were handed in, and the bytes that it needs.
+    /// For an iterator's item these are the bytes that the iterator has left.
+    #[error("the bytes end too early: {needed} bytes are needed {at:#x} behind their beginning")]
     Short { at: usize, needed: usize },
     /// A request for memory was refused.
     #[error("memory has run out")]
     Memory(AllocError),
+}
+
+impl Error {
+    ghost use Rattle.std.specs.Prelude.{◌≡◌};
+    ghost use Rattle.pe_core.specs.Names.{name_of};
+    ghost use Rattle.pe_core.specs.Refusals.{kind_of};
+
+    /// The name of its kind, that of its reason if it has one: `Short`, `BadMagic`, `Memory`, or as `ExceptionSize`.
+    pub fn name(&self) -> &'static str
+        ensures { result.now ≡ name_of (kind_of self.now) }
+    {
+        match self {
+            Error::Malformed(reason) => reason.name(),
+            Error::BadMagic(_) => "BadMagic",
+            Error::Short { .. } => "Short",
+            Error::Memory(_) => "Memory",
+        }
+    }
 }
 
 impl From<AllocError> for Error {

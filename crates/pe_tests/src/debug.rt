@@ -360,7 +360,10 @@ fn entries_of_a_stream(rt: HostRuntime) {
     assert!(rt;
         matches!(
             unended.next(),
-            Some(Err(Error::Malformed(Reason::PogoName { .. })))
+            Some(Err(Error::Malformed(Reason::PogoName {
+                place: 12,
+                length: 10
+            })))
         )
     );
     assert!(rt; unended.next().is_none());

@@ -12,11 +12,11 @@ const READING: [(Reason, &str); 27] = [
     ),
     (
         Reason::ImportName(0x2010),
-        "the library's name at address 0x2010 has no end or is not UTF-8",
+        "the imported name at address 0x2010 has no end or is not UTF-8",
     ),
     (
         Reason::StringTable(4),
-        "the string table has no text at 0x4",
+        "the string table is cut or has no ended UTF-8 text at 0x4, counted from its size field",
     ),
     (
         Reason::CertificateRevision(0x300),
@@ -36,7 +36,7 @@ const READING: [(Reason, &str); 27] = [
     ),
     (
         Reason::Unmapped(0x3000),
-        "no section maps the address 0x3000 to the file",
+        "the address 0x3000 has no place in the file: no section covers it, or the file alignment is no power of two",
     ),
     (
         Reason::DebugBounds(0x500),
@@ -59,15 +59,15 @@ const READING: [(Reason, &str); 27] = [
             place: 0x18,
             length: 0x17,
         },
-        "the POGO entry at 0x18 has no ended name in its 23 bytes",
+        "a POGO entry needs 24 bytes up to the end of its name and padding, and 23 are left",
     ),
     (
         Reason::ExceptionSize(32),
         "the exception directory's 32 bytes are no whole number of entries",
     ),
     (
-        Reason::ExceptionOffset(0x600),
-        "the exception directory's place 0x600 is past the end of the file",
+        Reason::ExceptionOffset(0x602),
+        "the exception directory's place 0x602 is no multiple of four",
     ),
     (
         Reason::ExceptionBounds(0x618),
@@ -100,11 +100,11 @@ const READING: [(Reason, &str); 27] = [
     ),
     (
         Reason::Arm64Cut(0x20),
-        "the ARM64 unwind code at 0x20 is cut",
+        "the ARM64 unwind code 0x20 behind the beginning of its stream is cut",
     ),
     (
         Reason::ResourceBounds(0x700),
-        "the resource directory ends at 0x700, past the end of the file",
+        "resource data end at 0x700, past the bytes that are to hold them",
     ),
     (
         Reason::ResourceCycle(0x18),
@@ -112,7 +112,7 @@ const READING: [(Reason, &str); 27] = [
     ),
     (
         Reason::ResourceString(0x70),
-        "the version string at 0x70 is too long for its value",
+        "the value of the version string at 0x70 is not there, or its length is above 32,767",
     ),
 ];
 
@@ -148,6 +148,55 @@ const WRITING: [(Reason, &str); 7] = [
     ),
 ];
 
+/// The names of the kinds of `READING` and `WRITING`, in their order.
+const NAMES: [&str; 34] = [
+    "HeaderPointer",
+    "ImportName",
+    "StringTable",
+    "CertificateRevision",
+    "CertificateType",
+    "CertificateSize",
+    "CertificateTable",
+    "Unmapped",
+    "DebugBounds",
+    "DebugSize",
+    "DebugData",
+    "PogoSize",
+    "PogoName",
+    "ExceptionSize",
+    "ExceptionOffset",
+    "ExceptionBounds",
+    "FunctionIndex",
+    "FunctionLink",
+    "FunctionCycle",
+    "UnwindVersion",
+    "UnwindCode",
+    "Arm64Version",
+    "Arm64Stream",
+    "Arm64Cut",
+    "ResourceBounds",
+    "ResourceCycle",
+    "ResourceString",
+    "TeSize",
+    "NoOptionalHeader",
+    "WriteAlignment",
+    "WriteSymbols",
+    "WriteOverlap",
+    "WriteSection",
+    "WriteFit",
+];
+
+#[test]
+fn names_of_kinds(rt: HostRuntime) {
+    for ((reason, _), name) in READING.iter().chain(WRITING.iter()).zip(NAMES.iter()) {
+        assert_eq!(rt; reason.name(), *name);
+        assert_eq!(rt; Error::Malformed(*reason).name(), *name);
+    }
+    assert_eq!(rt; Error::BadMagic(1).name(), "BadMagic");
+    assert_eq!(rt; Error::Short { at: 0, needed: 1 }.name(), "Short");
+    assert_eq!(rt; Error::from(AllocError).name(), "Memory");
+}
+
 #[test]
 fn texts_of_reasons(rt: HostRuntime) -> Result<(), Fail> {
     for (reason, want) in READING.iter().chain(WRITING.iter()) {
@@ -163,7 +212,7 @@ fn texts_of_errors(rt: HostRuntime) -> Result<(), Fail> {
     let magic = Error::BadMagic(0x5A3D).to_string(rt.alloc())?;
     assert_eq!(rt;
         magic.as_str(),
-        "the magic number is 0x5a3d, which begins no such record"
+        "the magic number 0x5a3d is none that the header may have"
     );
     let short = Error::Short {
         at: 0x78,
@@ -172,7 +221,7 @@ fn texts_of_errors(rt: HostRuntime) -> Result<(), Fail> {
     .to_string(rt.alloc())?;
     assert_eq!(rt;
         short.as_str(),
-        "the bytes end too early: 4 bytes are needed at 0x78"
+        "the bytes end too early: 4 bytes are needed 0x78 behind their beginning"
     );
     let memory = Error::from(AllocError).to_string(rt.alloc())?;
     assert_eq!(rt; memory.as_str(), "memory has run out");

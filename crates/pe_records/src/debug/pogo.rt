@@ -107,7 +107,7 @@ fn entry_at<'a>(bytes: &'a [u8]) -> Result<(POGOInfoEntry<'a>, usize)>
     let rest = bytes.split_at(8).1;
     let Some(zero) = first_zero(rest) else {
         return Err(Error::Malformed(Reason::PogoName {
-            place: 8,
+            place: rounded_up(bytes.len() + 1, UNIT),
             length: bytes.len(),
         }));
     };
