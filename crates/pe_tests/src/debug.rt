@@ -28,10 +28,7 @@ fn debug_of<'a>(
     fixup: u32,
 ) -> Result<DebugData<'a>> {
     let header = Header::parse_with_opts(bytes, opts)?;
-    let place = header.dos_header.pe_pointer as usize
-        + 24
-        + header.coff_header.size_of_optional_header as usize;
-    let sections = header.coff_header.sections(alloc, bytes, place)?;
+    let sections = header.sections(alloc, bytes)?;
     let Some(optional) = header.optional_header else {
         return Err(Error::Malformed(Reason::NoOptionalHeader));
     };

@@ -6,9 +6,7 @@ use pe_unwind::{Arm64UnwindCode, Register, UnwindOperation};
 use pe_uses::{arm64_codes, frame_operations, symbol_key};
 use std::test::Fail;
 
-/// Where the sections of the image stand, and its file alignment.
-const SECTIONS: usize = 0x148;
-
+/// The file alignment of the image.
 const ALIGNMENT: u32 = 0x200;
 
 #[test]
@@ -36,7 +34,7 @@ fn lists_the_operations_of_a_frame(rt: HostRuntime) -> Result<(), Fail> {
     let alloc = rt.alloc();
     let bytes = with_functions(alloc)?;
     let header = Header::parse_with_opts(&bytes, &ParseOptions::default())?;
-    let sections = header.coff_header.sections(alloc, &bytes, SECTIONS)?;
+    let sections = header.sections(alloc, &bytes)?;
     let directory = DataDirectory {
         virtual_address: 0x1000,
         size: 0x18,
@@ -71,7 +69,7 @@ fn lists_the_codes_of_arm64(rt: HostRuntime) -> Result<(), Fail> {
         ],
     );
     let header = Header::parse_with_opts(&bytes, &ParseOptions::default())?;
-    let sections = header.coff_header.sections(alloc, &bytes, SECTIONS)?;
+    let sections = header.sections(alloc, &bytes)?;
     let directory = DataDirectory {
         virtual_address: 0x1000,
         size: 16,

@@ -13,10 +13,7 @@ pub fn symbol_key(alloc: Global, bytes: &[u8]) -> Result<Option<([u8; 16], u32)>
     let Some(directory) = optional.data_directories.get_debug_table() else {
         return Ok(None);
     };
-    let place = header.dos_header.pe_pointer as usize
-        + 24
-        + header.coff_header.size_of_optional_header as usize;
-    let sections = header.coff_header.sections(alloc, bytes, place)?;
+    let sections = header.sections(alloc, bytes)?;
     let alignment = optional.windows_fields.file_alignment;
     let debug = DebugData::parse(bytes, directory, &sections, alignment)?;
     Ok(

@@ -4,12 +4,12 @@ use Rattle.std.specs.List.{flat_map}
 use Rattle.std.specs.Fmt.{decimal}
 use Rattle.pe_core.specs.Directories.{present}
 use Rattle.pe_core.specs.Header.{OptionalHeaderView}
+use Rattle.pe_core.specs.Modes.{empty_if_refused}
 use Rattle.pe_core.specs.Refusals.{Refusal}
 use Rattle.pe_core.specs.declared.data_directories.DataDirectory.{DataDirectory}
 use Rattle.pe_core.specs.declared.options.ParseOptions.{ParseOptions}
 use Rattle.pe_records.specs.Certificates.{CertificateView, revision_number, type_number, certificates_at}
 use Rattle.peinfo.specs.Hex.{hex}
-use Rattle.peinfo.specs.Modes.{empty_if_refused}
 
 -- the certificates of a directory, whose address is a place in the file; without one there are none
 abbrev pub certificates_of : List ℕ → Option DataDirectory → Result (List CertificateView) Refusal

@@ -4,6 +4,7 @@ use Rattle.std.specs.List.{flat_map}
 use Rattle.std.specs.Fmt.{decimal}
 use Rattle.pe_core.specs.Directories.{present}
 use Rattle.pe_core.specs.Header.{OptionalHeaderView}
+use Rattle.pe_core.specs.Modes.{none_if_refused}
 use Rattle.pe_core.specs.Refusals.{Refusal}
 use Rattle.pe_core.specs.declared.data_directories.DataDirectory.{DataDirectory}
 use Rattle.pe_core.specs.declared.options.ParseOptions.{ParseOptions}
@@ -12,7 +13,6 @@ use Rattle.pe_records.specs.DebugDirectory.{entries, count}
 use Rattle.pe_records.specs.DebugRecords.{DebugFields, debug_data}
 use Rattle.pe_records.specs.declared.debug.ImageDebugDirectory.{ImageDebugDirectory}
 use Rattle.peinfo.specs.Hex.{hex}
-use Rattle.peinfo.specs.Modes.{none_if_refused}
 
 -- the debug data of a directory; in permissive mode those that are refused are left out
 abbrev pub of_directory : List ℕ → ParseOptions → List SectionTable → ℕ → Option DataDirectory → Result (Option DebugFields) Refusal

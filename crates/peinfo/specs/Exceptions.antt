@@ -2,12 +2,12 @@
 use Rattle.std.specs.Prelude.{ℕ, ◌==◌, List, Option, Some, None, Result, Ok, if◌then◌else◌}
 use Rattle.pe_core.specs.Directories.{present}
 use Rattle.pe_core.specs.Header.{OptionalHeaderView}
+use Rattle.pe_core.specs.Modes.{empty_if_refused}
 use Rattle.pe_core.specs.Refusals.{Refusal, ◌>>=◌}
 use Rattle.pe_core.specs.declared.data_directories.DataDirectory.{DataDirectory}
 use Rattle.pe_core.specs.declared.options.ParseOptions.{ParseOptions}
 use Rattle.pe_core.specs.declared.section_table.SectionTable.{SectionTable}
 use Rattle.pe_unwind.specs.ExceptionTable.{ExceptionView, exception_at}
-use Rattle.peinfo.specs.Modes.{empty_if_refused}
 use Rattle.peinfo.specs.declared.exceptions.Exceptions.{Exceptions}
 use Rattle.peinfo.specs.declared.exceptions.Exceptions.TheVariants as machines
 

@@ -1,13 +1,14 @@
 -- What `at` shows: the function that covers an address.
-use Rattle.std.specs.Prelude.{◌≡◌, ℕ, List, [], Option, Some, None, Result, Ok, Err, Vec, codes}
-use Rattle.pe_core.specs.Refusals.{Refusal, UnlessMemory, kind_of}
+use Rattle.std.specs.Prelude.{◌≡◌, ℕ, List, [], Option, Some, None, Result, Ok, Err, IsOk, Vec, codes}
+use Rattle.pe_core.specs.Options.{default_options}
+use Rattle.pe_core.specs.Refusals.{Refusal, UnlessMemory, IfMemory, kind_of}
 use Rattle.pe_core.specs.declared.error.Error.{Error}
 use Rattle.pe_unwind.specs.ExceptionTable.{table_of}
 use Rattle.pe_unwind.specs.FunctionTable.{functions, Finds}
 use Rattle.pe_unwind.specs.declared.function_table.RuntimeFunction.{RuntimeFunction}
 use Rattle.peinfo.specs.Exceptions.{MachineExceptions, ForX64, ForArm64}
 use Rattle.peinfo.specs.FunctionLines.{function_line}
-use Rattle.peinfo.specs.Parts.{PartsView}
+use Rattle.peinfo.specs.Parts.{PartsView, sections_read, parts_of}
 
 -- the x64 functions of exception data; without them, and of ARM64, there are none
 abbrev pub functions_of : Option MachineExceptions → List RuntimeFunction
@@ -27,11 +28,11 @@ pub record IsFindText (parts : Result PartsView Refusal) (address : ℕ) (text :
   pub finds : Finds (functions_of image.exceptions) address found
   pub shown : text ≡ found_line found
 
--- the refusal in its place
-abbrev pub IsFindRefusal : Result PartsView Refusal → Error → Type 0
-IsFindRefusal parts e = UnlessMemory e (parts ≡ Err (kind_of e))
+-- the refusal in its place, or want of memory, which is asked for once the headers and the section headers are there
+abbrev pub IsFindRefusal : List ℕ → Error → Type 0
+IsFindRefusal b e = UnlessMemory e (parts_of b default_options ≡ Err (kind_of e)) × IfMemory e (IsOk (sections_read b default_options))
 
--- what making that text answers
-abbrev pub GivesFindText : {Z : Type 0} → Result (Vec ℕ Z) Error → Result PartsView Refusal → ℕ → Type 0
-GivesFindText (Ok text) parts address = IsFindText parts address text.items
-GivesFindText (Err e) parts address = IsFindRefusal parts e
+-- what making that text of an image answers, which is read strictly
+abbrev pub GivesFindText : {Z : Type 0} → Result (Vec ℕ Z) Error → List ℕ → ℕ → Type 0
+GivesFindText (Ok text) b address = IsFindText (parts_of b default_options) address text.items
+GivesFindText (Err e) b address = IsFindRefusal b e

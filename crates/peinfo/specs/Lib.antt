@@ -2,7 +2,6 @@ pub mod Hex
 pub mod Output
 pub mod Engine
 pub mod Outcome
-pub mod Modes
 pub mod DebugEntries
 pub mod CertificateLines
 pub mod Exceptions

@@ -7,7 +7,7 @@ ghost use Rattle.pe_records.specs.Certificates.{certificate_view};
 ghost use Rattle.peinfo.specs.CertificateLines.{image_certificates, shown_certificates, line_end, certificate_text, certificate_line, certificate_lines};
 
 use crate::digits::{hex_4, push_decimal};
-use pe_core::{Error, OptionalHeader, ParseMode, ParseOptions};
+use pe_core::{OptionalHeader, ParseOptions};
 use pe_records::{AttributeCertificate, CertificateDirectoryTable, enumerate_certificates};
 use std::alloc::{AllocError, Allocator};
 
@@ -46,13 +46,10 @@ pub fn shown<'a, A: Allocator + Copy>(
     ensures { GivesUnlessMemory (λ found. map certificate_view found.items) result
         (shown_certificates bytes.entry.now opts.now (optional_view optional.now)) }
 {
-    match all(alloc, bytes, opts, optional) {
-        Ok(found) => Ok(found),
-        Err(Error::Memory(error)) => Err(Error::Memory(error)),
-        Err(refusal) => match opts.parse_mode {
-            ParseMode::Strict => Err(refusal),
-            ParseMode::Permissive => Ok(Vec::new(alloc)),
-        },
+    let parsed = all(alloc, bytes, opts, optional);
+    match opts.parse_mode.none_if_refused(parsed)? {
+        Some(found) => Ok(found),
+        None => Ok(Vec::new(alloc)),
     }
 }
 

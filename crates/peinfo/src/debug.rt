@@ -10,7 +10,7 @@ ghost use Rattle.peinfo.specs.Hex.{hex};
 ghost use Rattle.peinfo.specs.DebugEntries.{shown_debug, entry_line, entry_lines, debug_lines, line_count};
 
 use crate::digits::{hex_8, push_decimal};
-use pe_core::{OptionalHeader, ParseMode, ParseOptions, SectionTable};
+use pe_core::{OptionalHeader, ParseOptions, SectionTable};
 use pe_records::{DebugData, ImageDebugDirectory, ImageDebugDirectoryIterator};
 use std::alloc::{AllocError, Allocator};
 
@@ -32,13 +32,9 @@ pub fn shown<'a>(
         return Ok(None);
     };
     let alignment = optional.windows_fields.file_alignment;
-    match DebugData::parse_with_opts(bytes, directory, sections, alignment, opts) {
-        Ok(debug) => Ok(Some(debug)),
-        Err(refusal) => match opts.parse_mode {
-            ParseMode::Strict => Err(refusal),
-            ParseMode::Permissive => Ok(None),
-        },
-    }
+    opts.parse_mode.none_if_refused(DebugData::parse_with_opts(
+        bytes, directory, sections, alignment, opts,
+    ))
 }
 
 /// The end of a line, from behind the size on.

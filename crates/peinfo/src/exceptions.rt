@@ -8,7 +8,7 @@ ghost use Rattle.peinfo.specs.Exceptions.{machine_view, machine_exceptions, show
 ghost use Rattle.peinfo.specs.FunctionLines.{function_lines, function_count};
 
 use crate::functions;
-use pe_core::{DataDirectory, OptionalHeader, ParseMode, ParseOptions, SectionTable};
+use pe_core::{DataDirectory, OptionalHeader, ParseOptions, SectionTable};
 use pe_unwind::ExceptionData;
 use std::alloc::{AllocError, Allocator};
 
@@ -67,13 +67,9 @@ pub fn shown<'a>(
         return Ok(None);
     };
     let alignment = optional.windows_fields.file_alignment;
-    match machine_exceptions(bytes, opts, sections, machine, alignment, directory) {
-        Ok(exceptions) => Ok(exceptions),
-        Err(refusal) => match opts.parse_mode {
-            ParseMode::Strict => Err(refusal),
-            ParseMode::Permissive => Ok(None),
-        },
-    }
+    let parsed = machine_exceptions(bytes, opts, sections, machine, alignment, directory);
+    let shown = opts.parse_mode.none_if_refused(parsed)?;
+    Ok(shown.unwrap_or(None))
 }
 
 /// How many functions exception data have.

@@ -50,7 +50,7 @@ fn push_found<A: Allocator>(
 /// The line of the function that covers the address, or the refusal of the image.
 #[tactic(auto, using(crate::proofs::FindTexts::find_text))]
 fn text_of<A: Allocator + Copy>(alloc: A, bytes: &[u8], rva: u32) -> pe_core::Result<Vec<u8, A>>
-    ensures { GivesFindText result (parts_of bytes.now default_options) rva }
+    ensures { GivesFindText result bytes.now rva }
 {
     let parts = Parts::read(alloc, bytes, &ParseOptions::default())?;
     let found = found_in(&parts.exceptions, rva);
@@ -69,7 +69,7 @@ pub fn find<A: Allocator, W: io::Write>(
     out: &mut CountedOut<W>,
 ) -> Result<(), ReportError>
     ensures { Reports result (IsFindText (parts_of bytes.now default_options) rva)
-        (IsFindRefusal (parts_of bytes.now default_options))
+        (IsFindRefusal bytes.now)
         (W.contents (writer_of out.old)) (W.contents (writer_of out.new))
         (failures_of out.old) (failures_of out.new) }
 {

@@ -16,25 +16,23 @@ pub struct Parts<'a, A: Allocator + Copy + Drop> {
 }
 
 impl<'a, A: Allocator + Copy + Drop> Parts<'a, A> {
-    ghost use Rattle.pe_core.specs.Refusals.{GivesUnlessMemory};
-    ghost use Rattle.peinfo.specs.Parts.{parts_view, parts_of};
+    ghost use Rattle.pe_core.specs.Refusals.{GivesUnlessMemoryAfter};
+    ghost use Rattle.peinfo.specs.Parts.{parts_view, sections_read, parts_of};
 
     /// The parts of the image, or the first refusal: of its headers, its sections, its debug data, its exception data,
-    /// its certificates. In permissive mode the last three are left out where they are refused.
+    /// its certificates. In permissive mode the last three are left out where they are refused. Memory is asked for
+    /// once the headers and the section headers are there.
     #[tactic(auto, unfolding(crate::specs::Parts::parts_of))]
     pub fn read(alloc: A, bytes: &'a [u8], opts: &ParseOptions) -> pe_core::Result<Parts<'a, A>>
-        ensures { GivesUnlessMemory parts_view result (parts_of bytes.entry.now opts.now) }
+        ensures { GivesUnlessMemoryAfter (sections_read bytes.entry.now opts.now) parts_view result
+            (parts_of bytes.entry.now opts.now) }
     {
         let header = Header::parse_with_opts(bytes, opts)?;
-        let coff = &header.coff_header;
-        let place = header.dos_header.pe_pointer as usize
-            + 24
-            + coff.size_of_optional_header as usize;
         let optional = &header.optional_header;
         let (debug, exceptions) = {
-            let sections = coff.sections(alloc, bytes, place)?;
+            let sections = header.sections(alloc, bytes)?;
             let debug = debug::shown(bytes, opts, &sections, optional)?;
-            let machine = coff.machine;
+            let machine = header.coff_header.machine;
             (
                 debug,
                 exceptions::shown(bytes, opts, &sections, machine, optional)?,

@@ -2,10 +2,11 @@
 
 ghost use Rattle.std.specs.Prelude.{◌≡◌, ◌++◌, OnOk};
 ghost use Rattle.pe_core.specs.Header.{optional_view};
-ghost use Rattle.pe_core.specs.Refusals.{GivesUnlessMemory};
+ghost use Rattle.pe_core.specs.Refusals.{GivesUnlessMemoryAfter};
 ghost use Rattle.peinfo.specs.Engine.{Reports};
 ghost use Rattle.peinfo.specs.Report.{image_line, image_text, report_text, IsReport, IsReportRefusal};
 ghost use Rattle.peinfo.specs.Output.{writer_of, failures_of};
+ghost use Rattle.peinfo.specs.Parts.{sections_read};
 
 use crate::counted_out::CountedOut;
 use crate::digits::{hex_8, hex_16};
@@ -62,7 +63,8 @@ fn text_of<A: Allocator + Copy>(
     bytes: &[u8],
     opts: &ParseOptions,
 ) -> pe_core::Result<Vec<u8, A>>
-    ensures { GivesUnlessMemory (λ text. text.items) result (report_text bytes.now opts.now) }
+    ensures { GivesUnlessMemoryAfter (sections_read bytes.now opts.now) (λ text. text.items) result
+        (report_text bytes.now opts.now) }
 {
     let parts = Parts::read(alloc, bytes, opts)?;
     let lines = debug::line_count(&parts.debug)
