@@ -1,5 +1,7 @@
 //! Laws over the definitions. Each is the contract of a function that does nothing.
 
+pub mod derives;
+
 ghost use Rattle.std.specs.Prelude.{◌≡◌, ℕ, ◌+◌, ◌<◌, ◌≤◌, ◌^◌, List, Ok, length};
 ghost use Rattle.pe_core.specs.declared.options.ParseMode.{ParseMode};
 ghost use Rattle.pe_core.specs.Bytes.{AreBytes, range, le, bytes_of, put};
