@@ -1,5 +1,6 @@
 //! Laws over the definitions. Each is the contract of a function that does nothing.
 
+pub mod derives;
 pub mod symbols;
 
 ghost use Rattle.std.specs.Prelude.{◌≡◌, ℕ, ◌+◌, ◌<◌, ◌≤◌, ◌^◌, List, Ok, Option, Some, IsSome, length};

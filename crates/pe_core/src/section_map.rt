@@ -1,6 +1,6 @@
 //! The map from addresses to places in the file.
 
-ghost use Rattle.std.specs.Prelude.{◌≡◌, ◌+◌, ◌<◌, ◌≤◌, ◌^◌, IsTrue, OnSome};
+ghost use Rattle.std.specs.Prelude.{◌≡◌, ℕ, ◌+◌, ◌%◌, ◌<◌, ◌≤◌, ◌^◌, false, IsTrue, OnSome};
 ghost use Rattle.std.specs.Option.{option_copied};
 ghost use Rattle.std.specs.List.{find};
 ghost use Rattle.pe_core.specs.Refusals.{Gives};
@@ -13,7 +13,7 @@ use crate::section_table::SectionTable;
 /// How the file's parts are rounded, whatever an image states: raw pointers down to sectors, sizes up to pages.
 const SECTOR: usize = 512;
 
-const PAGE: usize = 4096;
+const PAGE: u32 = 4096;
 
 /// The number rounded up to a multiple of the unit.
 pub fn rounded_up(n: usize, unit: usize) -> usize
@@ -41,14 +41,25 @@ pub(crate) fn reach(section: &SectionTable, alignment: u32) -> usize
     ensures count { result ≡ reach alignment section.now }
     ensures small { result < 2 ^ 33 }
 {
-    let raw_size = rounded_up(section.size_of_raw_data as usize, PAGE);
+    let raw_size = rounded_up(section.size_of_raw_data as usize, PAGE as usize);
     let raw_end = rounded_up(section.raw_end(), alignment as usize);
     let raw = (raw_end - raw_start(section)).min(raw_size);
     if section.virtual_size == 0 {
         raw
     } else {
-        raw.min(rounded_up(section.virtual_size as usize, PAGE))
+        raw.min(rounded_up(section.virtual_size as usize, PAGE as usize))
     }
+}
+
+/// A cheap test that each section passes which covers an address with these low 32 bits: the page of the address, counted
+/// from the section's beginning, begins before its raw size ends.
+#[tactic(auto, using(crate::proofs::Map::passes))]
+fn may_cover(section: &SectionTable, low: u32) -> bool
+    ensures { (alignment address : ℕ) → low ≡ address % 2 ^ 32 → result ≡ false →
+        covers alignment address section.now ≡ false }
+{
+    let raw_size = section.size_of_raw_data;
+    low.wrapping_sub(section.virtual_address) / PAGE * PAGE < raw_size
 }
 
 fn covers(section: &SectionTable, alignment: u32, address: usize) -> bool
@@ -60,15 +71,26 @@ fn covers(section: &SectionTable, alignment: u32, address: usize) -> bool
     start <= address && address < start + reach(section, alignment)
 }
 
+/// Whether the section covers the address, whose low 32 bits are handed in. Most sections are told apart by the cheap test.
+fn covers_by_tests(section: &SectionTable, alignment: u32, address: usize, low: u32) -> bool
+    requires some { 0 < alignment }
+    requires bits { low ≡ address % 2 ^ 32 }
+    ensures cover { result ≡ covers alignment address section.now }
+    ensures small { IsTrue result → address < 2 ^ 34 }
+{
+    may_cover(section, low) && covers(section, alignment, address)
+}
+
 /// The first section that covers the address.
 fn section_of(sections: &[SectionTable], alignment: u32, address: usize) -> Option<&SectionTable>
     requires { 0 < alignment }
     ensures found { option_copied result ≡ find (covers alignment address) sections.now }
     ensures small { OnSome result (address < 2 ^ 34) }
 {
+    let low = (address % (1 << 32)) as u32;
     sections
         .iter()
-        .find(|section| covers(section, alignment, address))
+        .find(|section| covers_by_tests(section, alignment, address, low))
 }
 
 /// The place in the file of a relative virtual address, by the first section that covers it. `None` if none does or
