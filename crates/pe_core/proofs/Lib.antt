@@ -14,3 +14,4 @@ pub mod PutNumbers
 pub mod ExportLists
 pub mod Gathering
 pub mod ImportLists
+pub mod Libraries
