@@ -14,9 +14,13 @@ mod certificates;
 #[cfg(test)]
 mod debug;
 #[cfg(test)]
+mod exports;
+#[cfg(test)]
 mod headers;
 #[cfg(test)]
 mod images;
+#[cfg(test)]
+mod imports;
 #[cfg(test)]
 mod refusals;
 #[cfg(test)]
