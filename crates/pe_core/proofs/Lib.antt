@@ -18,3 +18,4 @@ pub mod ExportLists
 pub mod Pigeonhole
 pub mod Gathering
 pub mod ImportLists
+pub mod Libraries

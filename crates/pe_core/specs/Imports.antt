@@ -1,6 +1,10 @@
 -- Imports: the import directory, and the entries of the lists that its records lead to. (PE format: the .idata section.)
 use Rattle.std.specs.Prelude.{ℕ, suc, ◌+◌, ◌-◌, ◌*◌, ◌/◌, ◌%◌, ◌^◌, ◌==◌, ◌||◌, Bool, List, [], map, flat_map, length, nat_le, Option, Some, None, Result, Ok, Err, Vec, if◌then◌else◌}
+use Rattle.std.specs.Cmp.Lexicographic.{slice_cmp}
+use Rattle.std.specs.List.{All, Contains}
+use Rattle.std.specs.List.Sorted.{IsStrictlySortedBy}
 use Rattle.std.specs.Option.{option_map}
+use Rattle.std.specs.Ordering.{nat_cmp}
 use Rattle.pe_core.specs.Bytes.{le, holds, range, record_at}
 use Rattle.pe_core.specs.Gathered.{all_or_refusal, up_to_none}
 use Rattle.pe_core.specs.Records.{import_entry}
@@ -86,6 +90,12 @@ import_records place w b p = up_to_none (each (λ i. import_record_at place w b 
 -- those of the directory at an address
 abbrev pub import_data_at : (ℕ → Option ℕ) → ℕ → List ℕ → ℕ → Result (List ImportRecordView) Refusal
 import_data_at place w b rva = mapped (place rva) >>= import_records place w b
+
+-- these are the names of the libraries, each once, in the order of their bytes
+pub record AreLibraries (names libraries : List (List ℕ)) : Type 0 where
+  pub in_order : IsStrictlySortedBy (slice_cmp nat_cmp) libraries
+  pub named : All (Contains names) libraries
+  pub whole : All (Contains libraries) names
 
 -- ---- the list
 

@@ -1,10 +1,10 @@
 //! Imports: the import directory, and the list of what its records name.
 
-ghost use Rattle.std.specs.Prelude.{◌≡◌, ◌*◌, ◌+◌, ◌/◌, ◌%◌, ◌^◌, ◌≤◌, ◌++◌, length, map, IfOk, OnOk, Some};
+ghost use Rattle.std.specs.Prelude.{◌≡◌, ◌*◌, ◌+◌, ◌/◌, ◌%◌, ◌^◌, ◌≤◌, ◌++◌, length, map, IfErr, IfOk, OnOk, Some};
 ghost use Rattle.std.specs.Option.{option_and_then, option_map};
 ghost use Rattle.pe_core.specs.Bytes.{le, range, record_at};
 ghost use Rattle.pe_core.specs.Gathered.{all_or_refusal};
-ghost use Rattle.pe_core.specs.Imports.{entries, entry_at, import_data_view, import_of, import_data_at, import_view, imports, import_record, import_record_view, import_records, entry_size, lookups_at, lookups_rva};
+ghost use Rattle.pe_core.specs.Imports.{AreLibraries, entries, entry_at, import_data_view, import_of, import_data_at, import_view, imports, import_record, import_record_view, import_records, entry_size, lookups_at, lookups_rva};
 ghost use Rattle.pe_core.specs.ImportSteps.{AreEntryNames, AreNames, StandInFront, entry_view, name_place};
 ghost use Rattle.pe_core.specs.Options.{default_options};
 ghost use Rattle.pe_core.specs.Records.{import_entry};
@@ -13,6 +13,7 @@ ghost use Rattle.pe_core.specs.Rows.{each};
 ghost use Rattle.pe_core.specs.SectionIndex.{place_or_end};
 ghost use Rattle.pe_core.specs.SectionMap.{place_of};
 ghost use Rattle.pe_core.specs.Text.{text_at, texts_of};
+ghost use Rattle.pe_core.specs.declared.error.Error.TheVariants.{Memory};
 
 use crate::bytes::{number32, number64, require_bytes, u16_at};
 use crate::data_directories::DataDirectory;
@@ -271,6 +272,20 @@ fn records_by_index<'a, A: Allocator + Copy + Drop>(
     named_records(alloc, bytes, place, &names, index, is_64)
 }
 
+/// The libraries' names, in the order of the records.
+fn names_of<'a, A: Allocator>(
+    alloc: A,
+    records: &[SyntheticImportDirectoryEntry<'a>],
+) -> std::result::Result<Vec<&'a str, A>, AllocError>
+    ensures { IfOk result (λ v. map (λ s. s.now) v.items ≡ map (λ r. r.name) (map import_record_view records.now)) }
+{
+    let mut names = Vec::with_capacity(alloc, records.len())?;
+    for imported in records {
+        names.push(imported.name)?;
+    }
+    Ok(names)
+}
+
 impl<'a, A: Allocator + Copy + Drop> ImportData<'a, A> {
     /// The import directory, with the default options. `is_64` says that entries have 8 bytes, as in PE32+, and not 4.
     pub fn parse(
@@ -313,6 +328,17 @@ impl<'a, A: Allocator + Copy + Drop> ImportData<'a, A> {
         let index = SectionIndex::new(alloc, sections, file_alignment, opts)?;
         let import_data = records_by_index(alloc, bytes, place, &index, is_64)?;
         Ok(ImportData { import_data })
+    }
+
+    /// The names of the libraries in the order of their bytes, each once. Refused for want of memory alone.
+    pub fn libraries(&self, alloc: A) -> Result<Vec<&'a str, A>>
+        ensures listed { IfOk result (λ v. AreLibraries (map (λ r. r.name) (import_data_view self.now)) (map (λ s. s.now) v.items)) }
+        ensures refused { IfErr result (λ error. error ≡ Memory record {}) }
+    {
+        let mut names = names_of(alloc, &self.import_data)?;
+        names.sort_unstable();
+        names.dedup();
+        Ok(names)
     }
 }
 

@@ -16,9 +16,13 @@ mod debug;
 #[cfg(test)]
 mod debug_texts;
 #[cfg(test)]
+mod exports;
+#[cfg(test)]
 mod headers;
 #[cfg(test)]
 mod images;
+#[cfg(test)]
+mod imports;
 #[cfg(test)]
 mod refusal_numbers;
 #[cfg(test)]
