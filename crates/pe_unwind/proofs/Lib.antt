@@ -1,5 +1,5 @@
 pub mod Names
-pub mod Fields
+pub mod Arm64Equality
 pub mod Entries
 pub mod EpilogScopes
 pub mod Arm64Records

@@ -1,3 +1,4 @@
+pub mod Traits
 pub mod Registers
 pub mod FunctionTable
 pub mod ScopeTable
