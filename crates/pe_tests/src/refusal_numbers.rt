@@ -118,7 +118,7 @@ fn of_other_records(rt: HostRuntime) {
     assert!(rt; matches!(refusal, Some(Error::Malformed(Reason::DebugData(3)))));
 }
 
-/// A name without a zero ends nowhere: told is where the name begins, counted from its entry, and the bytes left.
+/// A name without a zero would need one byte more than are left, and what follows up to a multiple of four.
 #[test]
 fn of_parts(rt: HostRuntime) {
     let mut parts = POGOEntryIterator::new(b"\0\x10\0\0\x03\0\0\0ab");
@@ -126,7 +126,7 @@ fn of_parts(rt: HostRuntime) {
         matches!(
             parts.next(),
             Some(Err(Error::Malformed(Reason::PogoName {
-                place: 8,
+                place: 12,
                 length: 10
             })))
         )

@@ -4,6 +4,8 @@ pub mod Reading
 pub mod Words
 pub mod Writing
 pub mod Engines
+pub mod NoMemory
+pub mod ByMode
 pub mod Lines
 pub mod FunctionItems
 pub mod FindTexts

@@ -15,7 +15,7 @@ use pe_records::{DebugData, ImageDebugDirectory, ImageDebugDirectoryIterator};
 use std::alloc::{AllocError, Allocator};
 
 /// The debug data that are shown: in permissive mode those that are refused are left out.
-#[tactic(auto, unfolding(crate::specs::DebugEntries::shown_debug))]
+#[tactic(auto, using(crate::proofs::ByMode::debug_by_mode), unfolding(crate::specs::DebugEntries::shown_debug))]
 pub fn shown<'a>(
     bytes: &'a [u8],
     opts: &ParseOptions,

@@ -1,10 +1,10 @@
 //! The exception data of an image, by its machine.
 
-ghost use Rattle.std.specs.Prelude.{◌≡◌, ◌++◌, OnOk};
+ghost use Rattle.std.specs.Prelude.{◌≡◌, ◌++◌, OnOk, Some};
 ghost use Rattle.std.specs.Option.{option_map};
 ghost use Rattle.pe_core.specs.Header.{optional_view};
 ghost use Rattle.pe_core.specs.Refusals.{Gives};
-ghost use Rattle.peinfo.specs.Exceptions.{machine_view, machine_exceptions, shown_exceptions};
+ghost use Rattle.peinfo.specs.Exceptions.{machine_view, machine_exceptions, exceptions_of, shown_exceptions};
 ghost use Rattle.peinfo.specs.FunctionLines.{function_lines, function_count};
 
 use crate::functions;
@@ -48,7 +48,26 @@ fn machine_exceptions<'a>(
     })
 }
 
-/// The exception data that are shown: in permissive mode those that are refused are left out.
+/// The exception data of a directory that are shown: in permissive mode those that are refused are left out.
+fn shown_of_directory<'a>(
+    bytes: &'a [u8],
+    opts: &ParseOptions,
+    sections: &[SectionTable],
+    machine: u16,
+    alignment: u32,
+    directory: DataDirectory,
+) -> pe_core::Result<Option<Exceptions<'a>>>
+    ensures { Gives (option_map machine_view) result
+        (exceptions_of bytes.entry.now opts.now sections.now machine alignment (Some directory)) }
+{
+    let parsed = machine_exceptions(bytes, opts, sections, machine, alignment, directory);
+    match opts.parse_mode.none_if_refused(parsed) {
+        Ok(shown) => Ok(shown.unwrap_or(None)),
+        Err(refusal) => Err(refusal),
+    }
+}
+
+/// The exception data of the image that are shown.
 #[tactic(auto, unfolding(crate::specs::Exceptions::shown_exceptions))]
 pub fn shown<'a>(
     bytes: &'a [u8],
@@ -67,9 +86,7 @@ pub fn shown<'a>(
         return Ok(None);
     };
     let alignment = optional.windows_fields.file_alignment;
-    let parsed = machine_exceptions(bytes, opts, sections, machine, alignment, directory);
-    let shown = opts.parse_mode.none_if_refused(parsed)?;
-    Ok(shown.unwrap_or(None))
+    shown_of_directory(bytes, opts, sections, machine, alignment, directory)
 }
 
 /// How many functions exception data have.

@@ -22,7 +22,7 @@ impl<'a, A: Allocator + Copy + Drop> Parts<'a, A> {
     /// The parts of the image, or the first refusal: of its headers, its sections, its debug data, its exception data,
     /// its certificates. In permissive mode the last three are left out where they are refused. Memory is asked for
     /// once the headers and the section headers are there.
-    #[tactic(auto, unfolding(crate::specs::Parts::parts_of))]
+    #[tactic(auto, using(crate::proofs::NoMemory::header_owes_nothing), unfolding(crate::specs::Parts::parts_of))]
     pub fn read(alloc: A, bytes: &'a [u8], opts: &ParseOptions) -> pe_core::Result<Parts<'a, A>>
         ensures { GivesUnlessMemoryAfter (sections_read bytes.entry.now opts.now) parts_view result
             (parts_of bytes.entry.now opts.now) }
