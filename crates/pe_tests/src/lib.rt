@@ -20,6 +20,12 @@ mod images;
 #[cfg(test)]
 mod refusals;
 #[cfg(test)]
+mod resource_strings;
+#[cfg(test)]
+mod resource_walks;
+#[cfg(test)]
+mod resources;
+#[cfg(test)]
 mod sections;
 #[cfg(test)]
 mod unwind;

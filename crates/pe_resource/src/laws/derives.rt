@@ -46,3 +46,19 @@ pub fn defaults_are_empty()
     ensures manifest_data { (x : ManifestData) → ⟦<ManifestData<'static> as Default>⟧.is_default x → manifest_view x ≡ [] }
     ensures resource_data { (x : ResourceData) → ⟦<ResourceData<'static> as Default>⟧.is_default x → resource_view x ≡ no_resources }
 {}
+
+/// A clone is its original.
+pub fn clones_are_their_originals()
+    ensures image_resource_directory { (x y : ImageResourceDirectory) → ⟦<ImageResourceDirectory as Clone>⟧.is_clone x y → y ≡ x }
+    ensures resource_data_entry { (x y : ResourceDataEntry) → ⟦<ResourceDataEntry as Clone>⟧.is_clone x y → y ≡ x }
+    ensures resource_entry { (x y : ResourceEntry) → ⟦<ResourceEntry as Clone>⟧.is_clone x y → y ≡ x }
+    ensures vs_fixed_file_info { (x y : VsFixedFileInfo) → ⟦<VsFixedFileInfo as Clone>⟧.is_clone x y → y ≡ x }
+    ensures version_field { (x y : VersionField) → ⟦<VersionField as Clone>⟧.is_clone x y → y ≡ x }
+    ensures resource_entry_iterator { (x y : ResourceEntryIterator) → ⟦<ResourceEntryIterator<'static> as Clone>⟧.is_clone x y → y ≡ x }
+    ensures manifest_data { (x y : ManifestData) → ⟦<ManifestData<'static> as Clone>⟧.is_clone x y → y ≡ x }
+    ensures resource_data { (x y : ResourceData) → ⟦<ResourceData<'static> as Clone>⟧.is_clone x y → y ≡ x }
+    ensures resource_string { (x y : ResourceString) → ⟦<ResourceString<'static> as Clone>⟧.is_clone x y → y ≡ x }
+    ensures resource_string_iterator { (x y : ResourceStringIterator) → ⟦<ResourceStringIterator<'static> as Clone>⟧.is_clone x y → y ≡ x }
+    ensures string_file_info { (x y : StringFileInfo) → ⟦<StringFileInfo<'static> as Clone>⟧.is_clone x y → y ≡ x }
+    ensures version_info { (x y : VersionInfo) → ⟦<VersionInfo<'static> as Clone>⟧.is_clone x y → y ≡ x }
+{}
