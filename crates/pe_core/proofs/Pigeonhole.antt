@@ -153,3 +153,20 @@ more_steps_than_keys {X} step key n x follows below more =
 pub key_comes_again : {X : Type 0} (step : X → Option X) (key : X → ℕ) (x y z : X) (i d : ℕ) → KeyDecides step key → after step i x ≡ Some y → after step (d + 1) y ≡ Some z → key y ≡ key z → NeverStops step x
 key_comes_again {X} step key x y z i d decides to_y to_z same =
     repeats step key decides x y z i d to_y (subst (λ (m : ℕ). after step m y ≡ Some z) (add-one d) to_z) same
+
+-- steps come to one last state
+stop_once_at : {X : Type 0} (step : X → Option X) (j k : ℕ) (o : Option X) (y z : X) → ((w : X) → after step j w ≡ Some y → after step k w ≡ Some z → y ≡ z) → option_and_then (after step j) o ≡ Some y → option_and_then (after step k) o ≡ Some z → y ≡ z
+stop_once_at step j k None y z later h i = cc
+stop_once_at step j k (Some w) y z later h i = later w h i
+
+pub stop_once : {X : Type 0} (step : X → Option X) (j k : ℕ) (x y z : X) → step y ≡ None → step z ≡ None → after step j x ≡ Some y → after step k x ≡ Some z → y ≡ z
+stop_once step zero zero x y z a b h i = cc
+stop_once step zero (suc k) x y z a b h i =
+    let same : x ≡ y = cc in
+    let none : step x ≡ None = ap step same ∙ a in
+    absurd (let e = rw none at i in cc)
+stop_once step (suc j) zero x y z a b h i =
+    let same : x ≡ z = cc in
+    let none : step x ≡ None = ap step same ∙ b in
+    absurd (let e = rw none at h in cc)
+stop_once step (suc j) (suc k) x y z a b h i = stop_once_at step j k (step x) y z (λ w. stop_once step j k w y z a b) h i

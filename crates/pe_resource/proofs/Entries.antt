@@ -1,13 +1,17 @@
 -- Entries from the front.
-use Rattle.std.proofs.Common.{◌≡◌, ℕ, zero, suc, ◌+◌, ◌-◌, ◌*◌, ◌/◌, ◌^◌, ◌<◌, ◌≤◌, List, [], ◌∷◌, length, map, drop, get_or, Result, Ok, refl, ap, sym, ◌∙◌, length-drop, arith}
+use Rattle.std.proofs.Common.{◌≡◌, ℕ, zero, suc, ◌+◌, ◌-◌, ◌*◌, ◌/◌, ◌^◌, ◌<◌, ◌≤◌, List, [], ◌∷◌, length, map, drop, get_or, Option, None, Result, Ok, refl, ap, sym, ◌∙◌, subst, length-drop, arith}
+use Rattle.std.specs.Iterator.{Yields, YieldsFirstBy}
 use Rattle.std.specs.List.{range_with_len}
 use Rattle.std.proofs.lemmas.List.{get_or-drop, length-map}
 use Rattle.std.proofs.lemmas.List.FromFn.{length-range_with_len}
 use Rattle.std.proofs.Math.Nat.{div-eq-sub-div, div-eq_of_lt}
 use Rattle.pe_core.specs.Bytes.{le}
 use Rattle.pe_core.specs.Refusals.{Refusal}
+use Rattle.pe_core.specs.declared.error.Error.{Error}
+use Rattle.pe_resource.specs.Answers.{answer_by}
+use Rattle.pe_resource.specs.declared.directory.ResourceEntryIterator.{ResourceEntryIterator}
 use Rattle.pe_resource.specs.declared.entry.ResourceEntry.{ResourceEntry}
-use Rattle.pe_resource.specs.ResourceEntries.{entry_at, entries}
+use Rattle.pe_resource.specs.ResourceEntries.{entry_at, entries, items_left}
 
 -- a number behind the k bytes that are dropped
 le_behind : (b : List ℕ) (k p q n : ℕ) → q ≡ k + p → le (drop k b) p n ≡ le b q n
@@ -50,3 +54,15 @@ items_none b h = ap items (entries_none b h)
 pub items_count : (b : List ℕ) → length (map {B = Result ResourceEntry Refusal} (λ e. Ok e) (entries b)) ≡ length b / 8
 unfolding entries
 items_count b = simp (length-map, length-range_with_len) refl
+
+pub entries_empty : entries [] ≡ []
+entries_empty = entries_none [] (omega arith)
+
+-- ---- what an iterator gives
+
+abbrev view : Result ResourceEntry Error → Result ResourceEntry Refusal
+view r = answer_by (λ e. e) r
+
+pub items_from_yields : (s t u : ResourceEntryIterator) (xs : List (Result ResourceEntry Error)) → Yields (YieldsFirstBy view items_left) s xs t → YieldsFirstBy view items_left t None u → map view xs ≡ items_left s
+items_from_yields s t u [] y end = sym (subst (λ (r : ResourceEntryIterator). items_left r ≡ []) (sym y) end.0)
+items_from_yields s t u (x ∷ xs) y end = ap (λ (l : List (Result ResourceEntry Refusal)). view x ∷ l) (items_from_yields y.0 t u xs y.2 end) ∙ sym y.1

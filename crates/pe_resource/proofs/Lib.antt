@@ -2,6 +2,11 @@ pub mod Entries
 pub mod Walks
 pub mod Keys
 pub mod Units
-pub mod Readings
 pub mod Names
 pub mod StringLists
+pub mod Readings
+pub mod Contents
+pub mod NoMemory
+pub mod Halves
+pub mod OneAnswer
+pub mod ResourceModes

@@ -1,11 +1,12 @@
 -- The strings of a byte string.
-use Rattle.std.proofs.Common.{◌≡◌, ℕ, ◌⊎◌, inl, inr, List, [], ◌∷◌, map, drop, Option, Some, None, Result, Ok, Err, refl, ap, sym, ◌∙◌, subst}
+use Rattle.std.proofs.Common.{◌≡◌, ◌≢◌, ℕ, zero, suc, ◌<◌, ◌≤◌, ◌↔◌, length, length-drop, arith, ◌⊎◌, inl, inr, List, [], ◌∷◌, map, drop, Option, Some, None, Result, Ok, Err, refl, ap, sym, ◌∙◌, subst}
 use Rattle.std.specs.Iterator.{Yields}
 use Rattle.pe_core.specs.Refusals.{Refusal}
 use Rattle.pe_core.specs.declared.error.Error.{Error}
 use Rattle.pe_resource.specs.declared.string.ResourceString.{ResourceString}
 use Rattle.pe_resource.specs.declared.string.ResourceStringIterator.{ResourceStringIterator}
-use Rattle.pe_resource.specs.VersionStrings.{VersionString, string_at, Strings, GivesString, rest_of, item_of}
+use Rattle.pe_resource.specs.VersionStrings.{VersionString, string_at, Strings, GivesString, rest_of, item_of, then_more, strings}
+use Rattle.pe_resource.proofs.StringLists.{further, strings_begin, strings_empty}
 
 abbrev pub Next : ResourceStringIterator → Option (Result ResourceString Error) → ResourceStringIterator → Type 0
 Next s r t = GivesString (rest_of s) r (rest_of t)
@@ -65,3 +66,22 @@ strings_once b (Err e ∷ xs) [] h k = absurd (ends_not_refused b e k h.0 h.1)
 strings_once b (Err e ∷ xs) (Ok d ∷ ys) h k = absurd (not_both (string_at b 0) (Some d, k.1) e k.2 h.1)
 strings_once b (Err e ∷ xs) (Err f ∷ ys) h k =
     ap (λ (r : Refusal). Err r ∷ xs) (err_once (string_at b 0) e f h.1 k.1) ∙ ap (λ (zs : List (Result VersionString Refusal)). Err f ∷ zs) (h.2 ∙ sym k.2)
+
+-- the function of the bytes has the strings
+strings_at : (b : List ℕ) (r : Result (Option VersionString × ℕ) Refusal) → b ≢ [] → string_at b 0 ≡ r → ((q : ℕ) → 0 < q → Strings (drop q b) (strings (drop q b))) → Strings b (then_more strings b r)
+strings_at b (Err e) ne is later = (ne, is, refl)
+strings_at b (Ok (None, q)) ne is later = inr (q, is)
+strings_at b (Ok (Some s, q)) ne is later = (ne, q, is, later q (further b s q is))
+
+strings_within : (n : ℕ) (b : List ℕ) → length b ≤ n → Strings b (strings b)
+strings_within n [] h = subst (Strings []) (sym strings_empty) (inl refl)
+strings_within zero (x ∷ xs) h = absurd (omega arith)
+strings_within (suc n) (x ∷ xs) h =
+    subst (Strings (x ∷ xs)) (sym (strings_begin (x ∷ xs) (λ e. cc)))
+    (strings_at (x ∷ xs) (string_at (x ∷ xs) 0) (λ e. cc) refl (λ q some. strings_within n (drop q (x ∷ xs)) (grind (arith, length-drop {A = ℕ}))))
+
+pub one_reading : (b : List ℕ) (xs : List (Result VersionString Refusal)) → Strings b xs ↔ (xs ≡ strings b)
+one_reading b xs = (
+  λ h. strings_once b xs (strings b) h (strings_within (length b) b (omega arith)),
+  λ e. subst (Strings b) (sym e) (strings_within (length b) b (omega arith)),
+)

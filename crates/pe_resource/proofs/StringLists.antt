@@ -23,7 +23,7 @@ ends_at true false true false c e f g n p s q h = cc
 ends_at true false true true false e f g n p s q h = cc
 ends_at true false true true true e f g n p s q h = let same : p ≡ (Some s, q) = cc in ap (λ (x : Pair). x.1) same
 
-further : (b : List ℕ) (s : VersionString) (q : ℕ) → string_at b 0 ≡ Ok (Some s, q) → 0 < q
+pub further : (b : List ℕ) (s : VersionString) (q : ℕ) → string_at b 0 ≡ Ok (Some s, q) → 0 < q
 unfolding whole_string_at string_and_next value_place
 further b s q h =
     let end = ends_at (holds b 0 2) (le b 0 2 == 0) (holds b 2 4) (is_short_text b 0) (holds b (value_place b 0) (value_bytes b 0)) Short refusals.ResourceString refusals.ResourceString 2 (string_and_next b 0) s q h in
@@ -44,7 +44,7 @@ agree (suc n) (suc m) b h k =
     (agree_at (strings_in n) (strings_in m) b (string_at b 0) refl (λ q some. agree n m (drop q b) (grind (arith, length-drop {A = ℕ})) (grind (arith, length-drop {A = ℕ}))))
 
 -- the strings by the first one
-strings_begin : (b : List ℕ) → b ≢ [] → strings b ≡ then_more strings b (string_at b 0)
+pub strings_begin : (b : List ℕ) → b ≢ [] → strings b ≡ then_more strings b (string_at b 0)
 unfolding strings
 strings_begin [] ne = absurd (ne refl)
 strings_begin (x ∷ xs) ne =
@@ -58,16 +58,16 @@ strings_more b left s h = strings_begin b h.0 ∙ ap (then_more strings b) h.2 �
 pub strings_fault : (b left : List ℕ) (e : Error) → GivesString b (Some (Err e)) left → strings b ≡ Err (kind_of e) ∷ []
 strings_fault b left e h = strings_begin b h.0 ∙ ap (then_more strings b) h.1
 
-nothing : strings [] ≡ []
+pub strings_empty : strings [] ≡ []
 unfolding strings
-nothing = refl
+strings_empty = refl
 
 ends : (b : List ℕ) (q : ℕ) → string_at b 0 ≡ Ok (None, q) → strings b ≡ []
-ends [] q h = nothing
+ends [] q h = strings_empty
 ends (x ∷ xs) q h = strings_begin (x ∷ xs) (λ e. cc) ∙ ap (then_more strings (x ∷ xs)) h
 
 pub strings_none : (b left : List ℕ) → GivesString b None left → strings b ≡ []
-strings_none b left h = ⊎_elim (λ (e : b ≡ []). ap strings e ∙ nothing) (λ (k : (q : ℕ) × (string_at b 0 ≡ Ok (None, q))). ends b k.0 k.1) h.0
+strings_none b left h = ⊎_elim (λ (e : b ≡ []). ap strings e ∙ strings_empty) (λ (k : (q : ℕ) × (string_at b 0 ≡ Ok (None, q))). ends b k.0 k.1) h.0
 
 -- ---- passes over the strings
 
@@ -103,7 +103,7 @@ value_here name b left item s v h is same e =
 pub value_fault : (name b left : List ℕ) (item : Item) (r : Error) (v : Option (List ℕ)) → GivesString b (Some item) left → item ≡ Err r → value_of name (read (strings b)) ≡ v → value_of name (read (strings left)) ≡ v
 value_fault name b left item r v h is e =
     let fault = subst (λ (i : Item). GivesString b (Some i) left) is h in
-    ap (λ (l : List ℕ). value_in name (strings l)) fault.2 ∙ ap (value_in name) nothing ∙ sym (ap (value_in name) (strings_fault b left r fault)) ∙ e
+    ap (λ (l : List ℕ). value_in name (strings l)) fault.2 ∙ ap (value_in name) strings_empty ∙ sym (ap (value_in name) (strings_fault b left r fault)) ∙ e
 
 pub value_none : (name b left : List ℕ) (v : Option (List ℕ)) → GivesString b None left → value_of name (read (strings b)) ≡ v → None ≡ v
 value_none name b left v h e = sym (ap (value_in name) (strings_none b left h)) ∙ e

@@ -83,7 +83,7 @@ none_at : (b : Bool) (v : ResourceEntry) (r : Result ResourceEntry Refusal) → 
 none_at true v r h = cc
 none_at false v r h = refl
 
-none_from_decided : (p : ResourceEntry → Bool) (w : ResourceEntry) (s : Result (Option ResourceEntry) Refusal) (r : Result ResourceEntry Refusal) → decided p w s ≡ Some r → passed_on p s ≡ None
+pub none_from_decided : (p : ResourceEntry → Bool) (w : ResourceEntry) (s : Result (Option ResourceEntry) Refusal) (r : Result ResourceEntry Refusal) → decided p w s ≡ Some r → passed_on p s ≡ None
 none_from_decided p w (Err e) r h = refl
 none_from_decided p w (Ok None) r h = refl
 none_from_decided p w (Ok (Some v)) r h = none_at (p v) v r h

@@ -125,7 +125,14 @@ impl<'a> ResourceEntryIterator<'a> {
     pub fn find_by_id(&self, id: u16) -> Result<Option<ResourceEntry>>
         ensures { answer_by (λ e. e) result ≡ Ok (with_id id (entries_left self.now)) }
     {
-        Ok(first_with_id(self.bytes, id))
+        Ok(self.first_with_id(id))
+    }
+
+    /// The first entry with this id among those that are left.
+    pub(crate) fn first_with_id(&self, id: u16) -> Option<ResourceEntry>
+        ensures { result ≡ with_id id (entries_left self.now) }
+    {
+        first_with_id(self.bytes, id)
     }
 }
 

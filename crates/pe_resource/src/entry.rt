@@ -170,7 +170,7 @@ fn is_passed<P: Fn(&ResourceEntry) -> bool>(predicate: &P, entry: &ResourceEntry
 
 /// The walk from an entry. The saved place is that of the entry after 1, 2, 4, 8 .. steps: a walk that comes to it again
 /// never ends, nor does one of more steps than there are bytes, since two of its directories have one place.
-fn walk<P: Fn(&ResourceEntry) -> bool>(
+pub(crate) fn walk<P: Fn(&ResourceEntry) -> bool>(
     start: ResourceEntry,
     bytes: &[u8],
     predicate: P,

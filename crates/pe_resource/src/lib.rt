@@ -6,9 +6,14 @@
 #![tactic(auto)]
 
 mod constants;
+mod content;
 mod directory;
 mod entry;
+pub mod laws;
+mod manifest;
+mod resource;
 mod string;
+mod version;
 
 pub use constants::{
     IMAGE_RESOURCE_DATA_IS_DIRECTORY, IMAGE_RESOURCE_MASK, IMAGE_RESOURCE_NAME_IS_STRING,
@@ -26,6 +31,10 @@ pub use constants::{
     VS_FF_PATCHED, VS_FF_PRERELEASE, VS_FF_PRIVATEBUILD, VS_FF_SPECIALBUILD, VS_FFI_FILEFLAGSMASK,
     VS_FFI_SIGNATURE, VS_FFI_STRUCVERSION, VS_VERSION_INFO_KEY,
 };
+pub use content::ResourceDataEntry;
 pub use directory::{ImageResourceDirectory, ResourceEntryIterator};
 pub use entry::ResourceEntry;
+pub use manifest::ManifestData;
+pub use resource::ResourceData;
 pub use string::{ResourceString, ResourceStringIterator};
+pub use version::{StringFileInfo, VersionField, VersionInfo, VsFixedFileInfo};

@@ -30,6 +30,12 @@ mod refusals;
 #[cfg(test)]
 mod relocations;
 #[cfg(test)]
+mod resource_strings;
+#[cfg(test)]
+mod resource_walks;
+#[cfg(test)]
+mod resources;
+#[cfg(test)]
 mod samples;
 #[cfg(test)]
 mod sections;

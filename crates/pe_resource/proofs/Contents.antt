@@ -1,0 +1,64 @@
+-- What lies behind entries, put together.
+use Rattle.std.proofs.Common.{◌≡◌, ℕ, List, Option, Some, None, Result, Ok, Err, refl, ap, sym, ◌∙◌, subst}
+use Rattle.pe_core.specs.Refusals.{Refusal, Gives, kind_of, ◌>>=◌}
+use Rattle.pe_core.specs.declared.error.Error.{Error}
+use Rattle.pe_resource.specs.declared.directory.ImageResourceDirectory.{ImageResourceDirectory}
+use Rattle.pe_resource.specs.declared.entry.ResourceEntry.{ResourceEntry}
+use Rattle.pe_resource.specs.Answers.{answer_by}
+use Rattle.pe_resource.specs.Contents.{IsLeaf, named_bytes, content_in, IsContent, version_of_content, IsVersion}
+use Rattle.pe_resource.specs.ResourceEntries.{with_id, is_directory, data_place, entries}
+use Rattle.pe_resource.specs.ResourceWalk.{Walks}
+use Rattle.pe_resource.specs.Resources.{ResourceView, no_resources, IsBehindEntries}
+use Rattle.pe_resource.specs.VersionFields.{VersionView}
+
+pub given_answer : {X Y : Type 0} (view : X → Y) (r : Result X Error) (d : Result Y Refusal) → Gives view r d → answer_by view r ≡ d
+given_answer view (Ok x) d h = sym h
+given_answer view (Err e) d h = sym h
+
+pub leaf_none : (b : List ℕ) (o : Option ResourceEntry) → None ≡ o → IsLeaf b o (Ok None)
+leaf_none b o is = subst (λ (x : Option ResourceEntry). IsLeaf b x (Ok None)) is refl
+
+pub leaf_given : (b : List ℕ) (o : Option ResourceEntry) (e v : ResourceEntry) (p : Option ℕ) → Some e ≡ o → Walks b is_directory e (Ok v) → p ≡ data_place v → IsLeaf b o (Ok p)
+leaf_given b o e v p is walks place = subst (λ (x : Option ResourceEntry). IsLeaf b x (Ok p)) is (Ok v, walks, ap (λ (q : Option ℕ). Ok q) place)
+
+pub leaf_fault : (b : List ℕ) (o : Option ResourceEntry) (e : ResourceEntry) (f : Refusal) → Some e ≡ o → Walks b is_directory e (Err f) → IsLeaf b o (Err f)
+leaf_fault b o e f is walks = subst (λ (x : Option ResourceEntry). IsLeaf b x (Err f)) is (Err f, walks, refl)
+
+pub content_fault : (map : ℕ → Option ℕ) (f b : List ℕ) (es : List ResourceEntry) (id : ℕ) (e : Refusal) → IsLeaf b (with_id id es) (Err e) → IsContent map f b es id (Err e)
+content_fault map f b es id e h = (Err e, h, refl)
+
+pub content_given : (map : ℕ → Option ℕ) (f b : List ℕ) (es : List ResourceEntry) (id : ℕ) (p : Option ℕ) (r : Result (Option (List ℕ)) Refusal) → IsLeaf b (with_id id es) (Ok p) → r ≡ content_in map f b p → IsContent map f b es id r
+content_given map f b es id p r h is = (Ok p, h, is)
+
+pub version_fault : (map : ℕ → Option ℕ) (f b : List ℕ) (es : List ResourceEntry) (e : Refusal) → IsContent map f b es 16 (Err e) → IsVersion map f b es (Err e)
+version_fault map f b es e h = (Err e, h, refl)
+
+pub version_given : (map : ℕ → Option ℕ) (f b : List ℕ) (es : List ResourceEntry) (c : Option (List ℕ)) (r : Result (Option VersionView) Refusal) → IsContent map f b es 16 (Ok c) → r ≡ version_of_content c → IsVersion map f b es r
+version_given map f b es c r h is = (Ok c, h, is)
+
+pub content_in_fault : (map : ℕ → Option ℕ) (f b : List ℕ) (o : Option ℕ) (p : ℕ) (e : Refusal) → o ≡ Some p → named_bytes map f b p ≡ Err e → content_in map f b o ≡ Err e
+content_in_fault map f b o p e is fault = ap (content_in map f b) is ∙ ap (λ (r : Result (List ℕ) Refusal). r >>= λ c. Ok (Some c)) fault
+
+pub content_in_given : (map : ℕ → Option ℕ) (f b : List ℕ) (o : Option ℕ) (p : ℕ) (c : List ℕ) → o ≡ Some p → named_bytes map f b p ≡ Ok c → content_in map f b o ≡ Ok (Some c)
+content_in_given map f b o p c is there = ap (content_in map f b) is ∙ ap (λ (r : Result (List ℕ) Refusal). r >>= λ c. Ok (Some c)) there
+
+pub resources_without_version : (map : ℕ → Option ℕ) (f : List ℕ) (d : ImageResourceDirectory) (body table : List ℕ) (es : List ResourceEntry) (e : Refusal) → es ≡ entries table → IsVersion map f body es (Err e) → IsBehindEntries map f d body (Ok (Some table)) (Err e)
+resources_without_version map f d body table es e is h = (Err e, subst (λ (xs : List ResourceEntry). IsVersion map f body xs (Err e)) is h, refl)
+
+pub resources_without_manifest : (map : ℕ → Option ℕ) (f : List ℕ) (d : ImageResourceDirectory) (body table : List ℕ) (es : List ResourceEntry) (v : Option VersionView) (e : Refusal) → es ≡ entries table → IsVersion map f body es (Ok v) → IsContent map f body es 24 (Err e) → IsBehindEntries map f d body (Ok (Some table)) (Err e)
+resources_without_manifest map f d body table es v e is h k = (
+  Ok v,
+  subst (λ (xs : List ResourceEntry). IsVersion map f body xs (Ok v)) is h,
+  (Err e, subst (λ (xs : List ResourceEntry). IsContent map f body xs 24 (Err e)) is k, refl),
+)
+
+pub resources_given : (map : ℕ → Option ℕ) (f : List ℕ) (d : ImageResourceDirectory) (body table : List ℕ) (es : List ResourceEntry) (v : Option VersionView) (m : Option (List ℕ)) → es ≡ entries table → IsVersion map f body es (Ok v) → IsContent map f body es 24 (Ok m) → IsBehindEntries map f d body (Ok (Some table)) (Ok (record { directory = d; first_entries = entries table; version = v; manifest = m }))
+resources_given map f d body table es v m is h k = (
+  Ok v,
+  subst (λ (xs : List ResourceEntry). IsVersion map f body xs (Ok v)) is h,
+  (Ok m, subst (λ (xs : List ResourceEntry). IsContent map f body xs 24 (Ok m)) is k, refl),
+)
+
+pub resources_default : (map : ℕ → Option ℕ) (f : List ℕ) (d : ImageResourceDirectory) (body : List ℕ) (t : Result (Option (List ℕ)) Refusal) (r : ResourceView) → t ≡ Ok None → r ≡ no_resources → IsBehindEntries map f d body t (Ok r)
+resources_default map f d body t r is none =
+    subst (λ (s : Result (Option (List ℕ)) Refusal). IsBehindEntries map f d body s (Ok r)) (sym is) (ap (λ (x : ResourceView). Ok x) none)

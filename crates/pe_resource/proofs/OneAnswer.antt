@@ -1,0 +1,81 @@
+-- A walk has one answer, and so has what stands on it.
+use Rattle.std.proofs.Common.{◌≡◌, ℕ, Bool, true, false, cond, List, Option, Some, None, Result, Ok, Err, ◌⊎◌, inl, inr, ⊎_elim, ◌↔◌, refl, ap, sym, ◌∙◌, subst}
+use Rattle.pe_core.specs.Chains.{after}
+use Rattle.pe_core.specs.Refusals.{Refusal, Short, ResourceCycle, ◌>>=◌}
+use Rattle.pe_core.specs.declared.data_directories.DataDirectory.{DataDirectory}
+use Rattle.pe_core.specs.declared.options.ParseMode.{ParseMode}
+use Rattle.pe_core.specs.declared.options.ParseOptions.{ParseOptions}
+use Rattle.pe_core.specs.declared.section_table.SectionTable.{SectionTable}
+use Rattle.pe_core.proofs.Pigeonhole.{stop_once}
+use Rattle.pe_resource.specs.declared.directory.ImageResourceDirectory.{ImageResourceDirectory}
+use Rattle.pe_resource.specs.declared.entry.ResourceEntry.{ResourceEntry}
+use Rattle.pe_resource.specs.Contents.{map_of, IsLeaf, content_in, IsContent, version_of_content, IsVersion}
+use Rattle.pe_resource.specs.ResourceEntries.{with_id, is_directory, data_place, entries}
+use Rattle.pe_resource.specs.ResourceWalk.{step, decided, passes, Decides, IsEndless, Walks}
+use Rattle.pe_resource.specs.Resources.{ResourceView, first_entries_in, directory_and_data, IsWithManifest, IsBehindEntries, IsBehindDirectory, IsResource}
+use Rattle.pe_resource.specs.VersionFields.{VersionView}
+use Rattle.pe_resource.proofs.Walks.{none_from_decided, cycle_is_endless}
+
+some_once : (r s : Result ResourceEntry Refusal) → Some r ≡ Some s → r ≡ s
+some_once r s e = cc
+
+-- what decides once decides alike
+decides_once : (b : List ℕ) (p : ResourceEntry → Bool) (e : ResourceEntry) (r s : Result ResourceEntry Refusal) → Decides b p e r → Decides b p e s → r ≡ s
+decides_once b p e r s c d =
+    let same : c.1 ≡ d.1 = stop_once (passes b p) c.0 d.0 e c.1 d.1 (none_from_decided p c.1 (step b c.1) r c.3) (none_from_decided p d.1 (step b d.1) s d.3) c.2 d.2 in
+    let again : decided p d.1 (step b d.1) ≡ Some r = subst (λ (w : ResourceEntry). decided p w (step b w) ≡ Some r) same c.3 in
+    some_once r s (sym again ∙ d.3)
+
+-- an answer is a cycle or is decided
+cycles_or_decides : (b : List ℕ) (p : ResourceEntry → Bool) (e : ResourceEntry) (r : Result ResourceEntry Refusal) → Walks b p e r → (r ≡ Err ResourceCycle) ⊎ Decides b p e r
+cycles_or_decides b p e (Ok v) d = inr d
+cycles_or_decides b p e (Err Short) d = inr d
+cycles_or_decides b p e (Err ResourceCycle) d = inl refl
+cycles_or_decides b p e (Err other) d = absurd d
+
+pub one_walk : (b : List ℕ) (p : ResourceEntry → Bool) (e : ResourceEntry) (r s : Result ResourceEntry Refusal) → Walks b p e r → Walks b p e s → r ≡ s
+one_walk b p e r s h k =
+    ⊎_elim
+    (λ (c : r ≡ Err ResourceCycle). c ∙ sym ((cycle_is_endless b p e s k).1 ((cycle_is_endless b p e r h).0 c)))
+    (λ (c : Decides b p e r). ⊎_elim
+    (λ (d : s ≡ Err ResourceCycle). (cycle_is_endless b p e r h).1 ((cycle_is_endless b p e s k).0 d) ∙ sym d)
+    (λ (d : Decides b p e s). decides_once b p e r s c d)
+    (cycles_or_decides b p e s k))
+    (cycles_or_decides b p e r h)
+
+one_leaf : (b : List ℕ) (o : Option ResourceEntry) (r s : Result (Option ℕ) Refusal) → IsLeaf b o r → IsLeaf b o s → r ≡ s
+one_leaf b None r s h k = h ∙ sym k
+one_leaf b (Some e) r s h k =
+    let same : h.0 ≡ k.0 = one_walk b is_directory e h.0 k.0 h.1 k.1 in
+    h.2 ∙ ap (λ (w : Result ResourceEntry Refusal). w >>= λ v. Ok (data_place v)) same ∙ sym k.2
+
+one_content : (map : ℕ → Option ℕ) (f b : List ℕ) (es : List ResourceEntry) (id : ℕ) (r s : Result (Option (List ℕ)) Refusal) → IsContent map f b es id r → IsContent map f b es id s → r ≡ s
+one_content map f b es id r s h k =
+    let same : h.0 ≡ k.0 = one_leaf b (with_id id es) h.0 k.0 h.1 k.1 in
+    h.2 ∙ ap (λ (w : Result (Option ℕ) Refusal). w >>= content_in map f b) same ∙ sym k.2
+
+one_version : (map : ℕ → Option ℕ) (f b : List ℕ) (es : List ResourceEntry) (r s : Result (Option VersionView) Refusal) → IsVersion map f b es r → IsVersion map f b es s → r ≡ s
+one_version map f b es r s h k =
+    let same : h.0 ≡ k.0 = one_content map f b es 16 h.0 k.0 h.1 k.1 in
+    h.2 ∙ ap (λ (c : Result (Option (List ℕ)) Refusal). c >>= version_of_content) same ∙ sym k.2
+
+one_with_manifest : (map : ℕ → Option ℕ) (f : List ℕ) (d : ImageResourceDirectory) (body : List ℕ) (es : List ResourceEntry) (v : Result (Option VersionView) Refusal) (r s : Result ResourceView Refusal) → IsWithManifest map f d body es v r → IsWithManifest map f d body es v s → r ≡ s
+one_with_manifest map f d body es (Err e) r s h k = h ∙ sym k
+one_with_manifest map f d body es (Ok v) r s h k =
+    let same : h.0 ≡ k.0 = one_content map f body es 24 h.0 k.0 h.1 k.1 in
+    h.2 ∙ ap (λ (m : Result (Option (List ℕ)) Refusal). m >>= λ m. Ok (record { directory = d; first_entries = es; version = v; manifest = m })) same ∙ sym k.2
+
+one_behind_entries : (map : ℕ → Option ℕ) (f : List ℕ) (d : ImageResourceDirectory) (body : List ℕ) (t : Result (Option (List ℕ)) Refusal) (r s : Result ResourceView Refusal) → IsBehindEntries map f d body t r → IsBehindEntries map f d body t s → r ≡ s
+one_behind_entries map f d body (Err e) r s h k = h ∙ sym k
+one_behind_entries map f d body (Ok None) r s h k = h ∙ sym k
+one_behind_entries map f d body (Ok (Some table)) r s h k =
+    let same : h.0 ≡ k.0 = one_version map f body (entries table) h.0 k.0 h.1 k.1 in
+    one_with_manifest map f d body (entries table) k.0 r s
+    (subst (λ (v : Result (Option VersionView) Refusal). IsWithManifest map f d body (entries table) v r) same h.2) k.2
+
+one_behind_directory : (mode : ParseMode) (map : ℕ → Option ℕ) (f : List ℕ) (t : Result (ImageResourceDirectory × List ℕ) Refusal) (r s : Result ResourceView Refusal) → IsBehindDirectory mode map f t r → IsBehindDirectory mode map f t s → r ≡ s
+one_behind_directory mode map f (Err e) r s h k = h ∙ sym k
+one_behind_directory mode map f (Ok (d, body)) r s h k = one_behind_entries map f d body (first_entries_in mode body d) r s h k
+
+pub one_resource : (o : ParseOptions) (f : List ℕ) (d : DataDirectory) (sections : List SectionTable) (alignment : ℕ) (r s : Result ResourceView Refusal) → IsResource o f d sections alignment r → IsResource o f d sections alignment s → r ≡ s
+one_resource o f d sections alignment r s h k = one_behind_directory o.parse_mode (map_of o sections alignment) f (directory_and_data o f d sections alignment) r s h k

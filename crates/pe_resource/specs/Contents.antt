@@ -1,0 +1,58 @@
+-- What lies behind an entry of the first directory: a leaf, its data entry, and the bytes of the file that this names.
+-- (PE format: resource data entries; the rest by this project's profile.)
+use Rattle.std.specs.Prelude.{◌≡◌, ℕ, ◌+◌, List, [], ◌∷◌, Option, Some, None, Result, Ok, Err}
+use Rattle.pe_core.specs.Bytes.{le, range, holds, record_at}
+use Rattle.pe_core.specs.Refusals.{Refusal, Unmapped, ResourceBounds, outcome, ◌>>=◌}
+use Rattle.pe_core.specs.SectionMap.{place_of}
+use Rattle.pe_core.specs.declared.options.ParseOptions.{ParseOptions}
+use Rattle.pe_core.specs.declared.section_table.SectionTable.{SectionTable}
+use Rattle.pe_resource.specs.declared.content.ResourceDataEntry.{ResourceDataEntry}
+use Rattle.pe_resource.specs.declared.entry.ResourceEntry.{ResourceEntry}
+use Rattle.pe_resource.specs.ResourceEntries.{with_id, is_directory, data_place}
+use Rattle.pe_resource.specs.ResourceWalk.{Walks}
+use Rattle.pe_resource.specs.VersionFields.{VersionView, version_in}
+
+-- the places of addresses
+abbrev pub map_of : ParseOptions → List SectionTable → ℕ → ℕ → Option ℕ
+map_of o sections alignment address = place_of o.resolve_rva alignment sections address
+
+-- where the data entry lies behind an entry of the first directory: at the end of the walk over directories; none without
+-- an entry, or where the walk ends at a directory
+abbrev pub IsLeaf : List ℕ → Option ResourceEntry → Result (Option ℕ) Refusal → Type 0
+IsLeaf b None r = r ≡ Ok None
+IsLeaf b (Some e) r = (w : Result ResourceEntry Refusal) × Walks b is_directory e w × (r ≡ (w >>= λ v. Ok (data_place v)))
+
+-- the data entry of 16 bytes at p
+unfoldable pub data_entry_at : List ℕ → ℕ → ResourceDataEntry
+data_entry_at b p = record {
+  offset_to_data = le b p 4;
+  size = le b (p + 4) 4;
+  code_page = le b (p + 8) 4;
+  reserved = le b (p + 12) 4;
+}
+
+-- so many bytes of the file at a place, if there is a place
+abbrev pub file_bytes : List ℕ → ℕ → Option ℕ → Result (List ℕ) Refusal
+file_bytes f size None = Err Unmapped
+file_bytes f size (Some p) = outcome ((holds f p size, ResourceBounds) ∷ []) (range f p size)
+
+-- the bytes of the file that the data entry at a place names
+unfoldable pub named_bytes : (ℕ → Option ℕ) → List ℕ → List ℕ → ℕ → Result (List ℕ) Refusal
+named_bytes map f b p = record_at b p 16 (data_entry_at b p) >>= λ d. file_bytes f d.size (map d.offset_to_data)
+
+abbrev pub content_in : (ℕ → Option ℕ) → List ℕ → List ℕ → Option ℕ → Result (Option (List ℕ)) Refusal
+content_in map f b None = Ok None
+content_in map f b (Some p) = named_bytes map f b p >>= λ c. Ok (Some c)
+
+-- the content of the first entry with an id
+abbrev pub IsContent : (ℕ → Option ℕ) → List ℕ → List ℕ → List ResourceEntry → ℕ → Result (Option (List ℕ)) Refusal → Type 0
+IsContent map f b es id r = (leaf : Result (Option ℕ) Refusal) × IsLeaf b (with_id id es) leaf × (r ≡ (leaf >>= content_in map f b))
+
+-- the version information of a content
+abbrev pub version_of_content : Option (List ℕ) → Result (Option VersionView) Refusal
+version_of_content None = Ok None
+version_of_content (Some c) = version_in c >>= λ v. Ok (Some v)
+
+-- that of the first entry with the id 16
+abbrev pub IsVersion : (ℕ → Option ℕ) → List ℕ → List ℕ → List ResourceEntry → Result (Option VersionView) Refusal → Type 0
+IsVersion map f b es r = (c : Result (Option (List ℕ)) Refusal) × IsContent map f b es 16 c × (r ≡ (c >>= version_of_content))

@@ -1,0 +1,146 @@
+//! What lies behind an entry: a leaf, its data entry, and the bytes of the file that this names.
+
+ghost use Rattle.std.specs.Prelude.{◌≡◌, ◌+◌, ◌≤◌, length};
+ghost use Rattle.std.specs.Option.{option_map};
+ghost use Rattle.pe_core.specs.Refusals.{Gives};
+ghost use Rattle.pe_resource.specs.Answers.{answer_by};
+ghost use Rattle.pe_resource.specs.Contents.{map_of, IsLeaf, data_entry_at, file_bytes, named_bytes, content_in, IsContent};
+ghost use Rattle.pe_resource.specs.ResourceEntries.{entries_left, with_id};
+
+use crate::directory::ResourceEntryIterator;
+use crate::entry::walk;
+use pe_core::{
+    Error, ParseOptions, Reason, Result, SectionTable, find_offset, number32, require_bytes,
+};
+
+/// The bytes of a data entry.
+const SIZE_OF_DATA_ENTRY: usize = 16;
+
+/// A data entry, 16 bytes: which bytes of the file a resource has.
+#[derive(Clone, Copy, Debug, Default, PartialEq)]
+pub struct ResourceDataEntry {
+    /// The relative virtual address of the bytes.
+    pub offset_to_data: u32,
+    /// How many they are.
+    pub size: u32,
+    /// The code page of texts among them.
+    pub code_page: u32,
+    /// Reserved.
+    pub reserved: u32,
+}
+
+impl ResourceDataEntry {
+    /// The data entry at a place where its 16 bytes are known to be there.
+    #[tactic(auto, unfolding(crate::specs::Contents::data_entry_at))]
+    fn at(bytes: &[u8], place: usize) -> ResourceDataEntry
+        requires { place + 16 ≤ length bytes.now }
+        ensures { result ≡ data_entry_at bytes.now place }
+    {
+        ResourceDataEntry {
+            offset_to_data: number32(bytes, place),
+            size: number32(bytes, place + 4),
+            code_page: number32(bytes, place + 8),
+            reserved: number32(bytes, place + 12),
+        }
+    }
+}
+
+/// Where the data entry lies behind the first of the entries that has this id.
+fn leaf(bytes: &[u8], it: ResourceEntryIterator, id: u16) -> Result<Option<u32>>
+    ensures { IsLeaf bytes.now (with_id id (entries_left it.entry)) (answer_by (λ p. p) result) }
+{
+    match it.first_with_id(id) {
+        None => Ok(None),
+        Some(entry) => match walk(entry, bytes, |next| next.data_is_directory()) {
+            Ok(last) => Ok(last.offset_to_data()),
+            Err(error) => Err(error),
+        },
+    }
+}
+
+/// So many bytes of the file, at the place of an address.
+pub(crate) fn file_bytes<'a>(
+    pe: &'a [u8],
+    address: u32,
+    size: u32,
+    sections: &[SectionTable],
+    file_alignment: u32,
+    opts: &ParseOptions,
+) -> Result<&'a [u8]>
+    ensures { Gives (λ s. s.now) result (file_bytes pe.entry.now size (map_of opts.now sections.now file_alignment address)) }
+{
+    let Some(place) = find_offset(address as usize, sections, file_alignment, opts) else {
+        return Err(Error::Malformed(Reason::Unmapped(u64::from(address))));
+    };
+    let size = size as usize;
+    if pe.len() < size || pe.len() - size < place {
+        let end = (place as u64).saturating_add(size as u64);
+        return Err(Error::Malformed(Reason::ResourceBounds(end)));
+    }
+    Ok(&pe[place..place + size])
+}
+
+/// The bytes of the file that the data entry at a place names.
+#[tactic(auto, unfolding(crate::specs::Contents::named_bytes))]
+fn named_bytes<'a>(
+    pe: &'a [u8],
+    bytes: &[u8],
+    place: u32,
+    sections: &[SectionTable],
+    file_alignment: u32,
+    opts: &ParseOptions,
+) -> Result<&'a [u8]>
+    ensures { Gives (λ s. s.now) result (named_bytes (map_of opts.now sections.now file_alignment) pe.entry.now bytes.now place) }
+{
+    let place = place as usize;
+    require_bytes(bytes, place, SIZE_OF_DATA_ENTRY)?;
+    let entry = ResourceDataEntry::at(bytes, place);
+    file_bytes(
+        pe,
+        entry.offset_to_data,
+        entry.size,
+        sections,
+        file_alignment,
+        opts,
+    )
+}
+
+/// The bytes that the data entry at a leaf names, if there is a leaf.
+fn content_at<'a>(
+    pe: &'a [u8],
+    bytes: &[u8],
+    place: Option<u32>,
+    sections: &[SectionTable],
+    file_alignment: u32,
+    opts: &ParseOptions,
+) -> Result<Option<&'a [u8]>>
+    ensures { Gives (option_map (λ s. s.now)) result (content_in (map_of opts.now sections.now file_alignment) pe.entry.now bytes.now place) }
+{
+    match place {
+        None => Ok(None),
+        Some(place) => {
+            match named_bytes(pe, bytes, place, sections, file_alignment, opts) {
+                Ok(content) => Ok(Some(content)),
+                Err(error) => Err(error),
+            }
+        }
+    }
+}
+
+/// The content of the first of the entries that has this id.
+pub(crate) fn content<'a>(
+    pe: &'a [u8],
+    bytes: &[u8],
+    it: ResourceEntryIterator,
+    id: u16,
+    sections: &[SectionTable],
+    file_alignment: u32,
+    opts: &ParseOptions,
+) -> Result<Option<&'a [u8]>>
+    ensures { IsContent (map_of opts.now sections.now file_alignment) pe.entry.now bytes.now (entries_left it.entry) id (answer_by (option_map (λ s. s.now)) result) }
+{
+    match leaf(bytes, it, id) {
+        Ok(place) => content_at(pe, bytes, place, sections, file_alignment, opts),
+        Err(error) => Err(error),
+    }
+}

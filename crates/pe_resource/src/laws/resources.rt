@@ -1,0 +1,89 @@
+//! Laws of entries, versions, strings, walks and resources.
+
+ghost use Rattle.std.specs.Prelude.{◌≡◌, ◌↔◌, ◌<◌, ◌^◌, ℕ, Bool, List, Option, Some, None, Result, Ok, Err, map, IsTrue};
+ghost use Rattle.std.specs.Ordering.{nat_cmp};
+ghost use Rattle.std.specs.declared.cmp.Ordering.TheVariants.{Equal};
+ghost use Rattle.std.specs.Iterator.{Drains};
+ghost use Rattle.pe_core.specs.Refusals.{Refusal};
+ghost use Rattle.pe_core.specs.declared.data_directories.DataDirectory.{DataDirectory};
+ghost use Rattle.pe_core.specs.declared.error.Error.{Error};
+ghost use Rattle.pe_core.specs.declared.options.ParseMode.{ParseMode};
+ghost use Rattle.pe_core.specs.declared.options.ParseOptions.{ParseOptions};
+ghost use Rattle.pe_core.specs.declared.section_table.SectionTable.{SectionTable};
+ghost use Rattle.pe_resource.specs.declared.directory.ResourceEntryIterator.{ResourceEntryIterator};
+ghost use Rattle.pe_resource.specs.declared.entry.ResourceEntry.{ResourceEntry};
+ghost use Rattle.pe_resource.specs.declared.string.ResourceString.{ResourceString};
+ghost use Rattle.pe_resource.specs.declared.string.ResourceStringIterator.{ResourceStringIterator};
+ghost use Rattle.pe_resource.specs.declared.version.VersionField.{VersionField};
+ghost use Rattle.pe_resource.specs.Answers.{answer_by};
+ghost use Rattle.pe_resource.specs.ResourceEntries.{entry_of, number_of, items_left};
+ghost use Rattle.pe_resource.specs.ResourceWalk.{Walks};
+ghost use Rattle.pe_resource.specs.Resources.{ResourceView, IsResource};
+ghost use Rattle.pe_resource.specs.VersionFields.{version_of_halves, high_half, low_half, whole_number, HasParts};
+ghost use Rattle.pe_resource.specs.VersionStrings.{VersionString, Strings, strings, rest_of, item_of};
+
+use crate::directory::ResourceEntryIterator;
+use crate::string::ResourceStringIterator;
+use crate::version::VersionField;
+
+/// An entry's number and a number's entry undo each other.
+#[tactic(auto, using(crate::proofs::Halves::number_back, crate::proofs::Halves::entry_back))]
+pub fn entries_are_numbers()
+    ensures from { (n : ℕ) → n < 2 ^ 64 → number_of (entry_of n) ≡ n }
+    ensures value { (e : ResourceEntry) → e.offset_to_data_or_directory < 2 ^ 32 → entry_of (number_of e) ≡ e }
+{}
+
+/// A version and its two halves undo each other, both ways.
+#[tactic(auto, using(crate::proofs::Halves::version_back, crate::proofs::Halves::high_back, crate::proofs::Halves::low_back))]
+pub fn versions_are_halves()
+    ensures version { (v : VersionField) → v.minor < 2 ^ 16 → v.revision < 2 ^ 16 → version_of_halves (high_half v) (low_half v) ≡ v }
+    ensures high { (ms ls : ℕ) → high_half (version_of_halves ms ls) ≡ ms }
+    ensures low { (ms ls : ℕ) → low_half (version_of_halves ms ls) ≡ ls }
+{}
+
+/// The order of versions is that of their 64-bit numbers, and agrees with their equality.
+pub fn versions_in_order()
+    ensures order { (v w : VersionField) → HasParts v → HasParts w → ⟦<VersionField as Ord>⟧.cmp v w ≡ nat_cmp (whole_number v) (whole_number w) }
+    ensures partial { (v w : VersionField) → HasParts v → HasParts w → ⟦<VersionField as PartialOrd>⟧.partial_cmp v w ≡ Some (nat_cmp (whole_number v) (whole_number w)) }
+    ensures ties { (v w : VersionField) → (⟦<VersionField as Ord>⟧.cmp v w ≡ Equal) ↔ IsTrue (⟦<VersionField as PartialEq>⟧.eq v w) }
+    ensures equal { (v w : VersionField) → IsTrue (⟦<VersionField as PartialEq>⟧.eq v w) ↔ (v ≡ w) }
+{}
+
+/// The items that an iterator of entries gives are those of its bytes, and it is over after `None`.
+pub fn entry_iterators_give_the_entries()
+    ensures items { (s : ResourceEntryIterator) (xs : List (Result ResourceEntry Error)) →
+        Drains ⟦<ResourceEntryIterator<'static> as Iterator>⟧.next_gives s xs → map (answer_by (λ e. e)) xs ≡ items_left s }
+    ensures none { (s t u : ResourceEntryIterator) (r : Option (Result ResourceEntry Error)) →
+        ⟦<ResourceEntryIterator<'static> as Iterator>⟧.next_gives s None t →
+        ⟦<ResourceEntryIterator<'static> as Iterator>⟧.next_gives t r u → r ≡ None }
+{}
+
+/// The items that an iterator of strings gives are the strings of its bytes. Bytes have one list of strings, which is the
+/// function of them; and the iterator is over after a fault and after `None`.
+pub fn strings_have_one_reading()
+    ensures items { (s : ResourceStringIterator) (xs : List (Result ResourceString Error)) →
+        Drains ⟦<ResourceStringIterator<'static> as Iterator>⟧.next_gives s xs → Strings (rest_of s) (map item_of xs) }
+    ensures once { (b : List ℕ) (xs : List (Result VersionString Refusal)) → Strings b xs ↔ (xs ≡ strings b) }
+    ensures fault { (s t u : ResourceStringIterator) (e : Error) (r : Option (Result ResourceString Error)) →
+        ⟦<ResourceStringIterator<'static> as Iterator>⟧.next_gives s (Some (Err e)) t →
+        ⟦<ResourceStringIterator<'static> as Iterator>⟧.next_gives t r u → r ≡ None }
+    ensures none { (s t u : ResourceStringIterator) (r : Option (Result ResourceString Error)) →
+        ⟦<ResourceStringIterator<'static> as Iterator>⟧.next_gives s None t →
+        ⟦<ResourceStringIterator<'static> as Iterator>⟧.next_gives t r u → r ≡ None }
+{}
+
+/// A walk has one answer, and so have resources.
+#[tactic(auto, using(crate::proofs::OneAnswer::one_walk, crate::proofs::OneAnswer::one_resource))]
+pub fn resources_have_one_answer()
+    ensures walk { (b : List ℕ) (p : ResourceEntry → Bool) (e : ResourceEntry) (r s : Result ResourceEntry Refusal) → Walks b p e r → Walks b p e s → r ≡ s }
+    ensures resource { (o : ParseOptions) (f : List ℕ) (d : DataDirectory) (sections : List SectionTable) (alignment : ℕ) (r s : Result ResourceView Refusal) →
+        IsResource o f d sections alignment r → IsResource o f d sections alignment s → r ≡ s }
+{}
+
+/// Resources that strict mode gives are those that permissive mode gives.
+#[tactic(auto, using(crate::proofs::ResourceModes::strict_resource))]
+pub fn strict_resources_are_permissive()
+    ensures { (o : ParseOptions) (f : List ℕ) (d : DataDirectory) (sections : List SectionTable) (alignment : ℕ) (x : ResourceView) →
+        IsResource (record o { parse_mode = ParseMode.Strict }) f d sections alignment (Ok x) →
+        IsResource (record o { parse_mode = ParseMode.Permissive }) f d sections alignment (Ok x) }
+{}

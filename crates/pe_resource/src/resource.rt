@@ -1,0 +1,217 @@
+//! The resources of an image, as one value.
+
+ghost use Rattle.std.specs.Prelude.{◌≡◌, ◌≢◌, ◌+◌, ◌≤◌, length, Err, Ok};
+ghost use Rattle.std.specs.Option.{option_map};
+ghost use Rattle.pe_core.specs.Options.{default_options};
+ghost use Rattle.pe_core.specs.Refusals.{Gives, Memory};
+ghost use Rattle.pe_resource.specs.Answers.{answer_by};
+ghost use Rattle.pe_resource.specs.Contents.{map_of};
+ghost use Rattle.pe_resource.specs.Directories.{count};
+ghost use Rattle.pe_resource.specs.ResourceEntries.{entries, entries_left};
+ghost use Rattle.pe_resource.specs.Resources.{resource_view, first_entries_in, directory_and_data, IsBehindEntries, IsResource};
+
+use crate::content::file_bytes;
+use crate::directory::{ImageResourceDirectory, ResourceEntryIterator, SIZE_OF_DIRECTORY};
+use crate::manifest::ManifestData;
+use crate::version::VersionInfo;
+use pe_core::{
+    DataDirectory, Error, ParseMode, ParseOptions, Reason, Result, SectionTable, slice_at,
+};
+use std::alloc::Allocator;
+
+/// The resources of an image.
+#[derive(Clone, Copy, Debug)]
+pub struct ResourceData<'a> {
+    /// The first directory.
+    pub image_resource_directory: ImageResourceDirectory,
+    /// The version information, if there is one.
+    pub version_info: Option<VersionInfo<'a>>,
+    /// The manifest, if there is one.
+    pub manifest_data: Option<ManifestData<'a>>,
+    table: &'a [u8],
+}
+
+impl<'a> Default for ResourceData<'a> {
+    ghost use Rattle.pe_resource.specs.Resources.{no_resources};
+
+    ghost is_default = { λ d. resource_view d ≡ no_resources };
+
+    /// Resources without entries.
+    #[tactic(auto, using(crate::proofs::Entries::entries_empty))]
+    fn default() -> ResourceData<'a> {
+        ResourceData {
+            image_resource_directory: ImageResourceDirectory::default(),
+            version_info: None,
+            manifest_data: None,
+            table: &[],
+        }
+    }
+}
+
+/// The bytes of the first entries in the data of a directory. `None` where the data are shorter than a directory.
+#[tactic(auto, unfolding(crate::specs::Resources::first_entries_in))]
+fn first_entries<'a>(
+    data: &'a [u8],
+    directory: &ImageResourceDirectory,
+    mode: ParseMode,
+) -> Result<Option<&'a [u8]>>
+    ensures { Gives (option_map (λ s. s.now)) result (first_entries_in mode data.entry.now directory.now) }
+{
+    let fits = SIZE_OF_DIRECTORY <= data.len();
+    match (
+        slice_at(data, SIZE_OF_DIRECTORY, directory.entries_size()),
+        mode,
+    ) {
+        (Ok(table), _) => Ok(Some(table)),
+        (Err(_), ParseMode::Strict) => {
+            Err(Error::Malformed(Reason::ResourceBounds(SIZE_OF_DIRECTORY as u64)))
+        }
+        (Err(_), ParseMode::Permissive) if fits => Ok(Some(&[])),
+        (Err(_), ParseMode::Permissive) => Ok(None),
+    }
+}
+
+/// The directory that a data directory leads to, and its data.
+#[tactic(auto, unfolding(crate::specs::Resources::directory_and_data))]
+fn directory_and_data<'a>(
+    bytes: &'a [u8],
+    dd: DataDirectory,
+    sections: &[SectionTable],
+    file_alignment: u32,
+    opts: &ParseOptions,
+) -> Result<(ImageResourceDirectory, &'a [u8])>
+    ensures { Gives (λ d. (d.0, d.1.now)) result (directory_and_data opts.now bytes.entry.now dd sections.now file_alignment) }
+{
+    let directory = ImageResourceDirectory::parse_with_opts(
+        bytes,
+        dd,
+        sections,
+        file_alignment,
+        opts,
+    )?;
+    let DataDirectory {
+        virtual_address,
+        size,
+    } = dd;
+    let data = file_bytes(bytes, virtual_address, size, sections, file_alignment, opts)?;
+    Ok((directory, data))
+}
+
+impl<'a> ResourceData<'a> {
+    /// The resources that a data directory leads to, with the default options.
+    pub fn parse<A: Allocator + Copy + Drop>(
+        alloc: A,
+        bytes: &'a [u8],
+        dd: DataDirectory,
+        sections: &[SectionTable],
+        file_alignment: u32,
+    ) -> Result<ResourceData<'a>>
+        ensures resource { IsResource default_options bytes.entry.now dd sections.now file_alignment (answer_by resource_view result) }
+        ensures no_memory { answer_by resource_view result ≢ Err Memory }
+    {
+        let opts = ParseOptions::default();
+        ResourceData::parse_with_opts(alloc, bytes, dd, sections, file_alignment, &opts)
+    }
+
+    /// The resources that a data directory leads to. Refusals in this order: of the directory, `Unmapped` and `Short`;
+    /// `ResourceBounds` where its data are not in the file; in strict mode `ResourceBounds` where they are shorter than a
+    /// directory, which permissive mode reads as the default value, or don't hold its entries, where permissive mode takes
+    /// none; those of version information and of the manifest. It asks for no memory.
+    pub fn parse_with_opts<A: Allocator + Copy + Drop>(
+        _alloc: A,
+        bytes: &'a [u8],
+        dd: DataDirectory,
+        sections: &[SectionTable],
+        file_alignment: u32,
+        opts: &ParseOptions,
+    ) -> Result<ResourceData<'a>>
+        ensures resource { IsResource opts.now bytes.entry.now dd sections.now file_alignment (answer_by resource_view result) }
+        ensures no_memory { answer_by resource_view result ≢ Err Memory }
+    {
+        ResourceData::of_directory(bytes, dd, sections, file_alignment, opts)
+    }
+
+    /// The resources that a data directory leads to.
+    fn of_directory(
+        bytes: &'a [u8],
+        dd: DataDirectory,
+        sections: &[SectionTable],
+        file_alignment: u32,
+        opts: &ParseOptions,
+    ) -> Result<ResourceData<'a>>
+        ensures { IsResource opts.now bytes.entry.now dd sections.now file_alignment (answer_by resource_view result) }
+    {
+        match directory_and_data(bytes, dd, sections, file_alignment, opts) {
+            Err(error) => Err(error),
+            Ok((directory, data)) => {
+                ResourceData::of_data(bytes, directory, data, sections, file_alignment, opts)
+            }
+        }
+    }
+
+    /// The resources of a directory and its data.
+    fn of_data(
+        bytes: &'a [u8],
+        directory: ImageResourceDirectory,
+        data: &'a [u8],
+        sections: &[SectionTable],
+        file_alignment: u32,
+        opts: &ParseOptions,
+    ) -> Result<ResourceData<'a>>
+        ensures { IsBehindEntries (map_of opts.now sections.now file_alignment) bytes.entry.now directory data.entry.now
+            (first_entries_in opts.now.parse_mode data.entry.now directory) (answer_by resource_view result) }
+    {
+        match first_entries(data, &directory, opts.parse_mode) {
+            Err(error) => Err(error),
+            Ok(None) => Ok(ResourceData::default()),
+            Ok(Some(table)) => {
+                let parts = (directory, table);
+                ResourceData::of_entries(bytes, data, parts, sections, file_alignment, opts)
+            }
+        }
+    }
+
+    /// The resources of a directory with these bytes of first entries.
+    fn of_entries(
+        bytes: &'a [u8],
+        data: &'a [u8],
+        parts: (ImageResourceDirectory, &'a [u8]),
+        sections: &[SectionTable],
+        file_alignment: u32,
+        opts: &ParseOptions,
+    ) -> Result<ResourceData<'a>>
+        ensures { IsBehindEntries (map_of opts.now sections.now file_alignment) bytes.entry.now parts.entry.0 data.entry.now
+            (Ok (Some parts.entry.1.now)) (answer_by resource_view result) }
+    {
+        let (directory, table) = parts;
+        let it = ResourceEntryIterator::new(table);
+        match VersionInfo::of_entries(bytes, data, it, sections, file_alignment, opts) {
+            Err(error) => Err(error),
+            Ok(version_info) => {
+                match ManifestData::of_entries(bytes, data, it, sections, file_alignment, opts) {
+                    Err(error) => Err(error),
+                    Ok(manifest_data) => Ok(ResourceData {
+                        image_resource_directory: directory,
+                        version_info,
+                        manifest_data,
+                        table,
+                    }),
+                }
+            }
+        }
+    }
+
+    /// How many entries the first directory says that it has.
+    pub fn count(&self) -> u16
+        ensures { result ≡ count self.now.image_resource_directory }
+    {
+        self.image_resource_directory.count()
+    }
+
+    /// The first entries, as the parse took them.
+    pub fn entries(&self) -> ResourceEntryIterator<'a>
+        ensures { entries_left result ≡ (resource_view self.now).first_entries }
+    {
+        ResourceEntryIterator::new(self.table)
+    }
+}

@@ -1,0 +1,428 @@
+//! Version information: version numbers, fixed file information, and the strings that describe a file.
+
+ghost use Rattle.std.specs.Prelude.{◌≡◌, ◌≢◌, ◌+◌, ◌==◌, ◌≤◌, length, Err, IfOk, string_bytes};
+ghost use Rattle.std.specs.Option.{option_map};
+ghost use Rattle.pe_core.specs.Refusals.{Gives, Memory};
+ghost use Rattle.pe_resource.specs.Answers.{answer_by};
+ghost use Rattle.pe_resource.specs.Contents.{map_of, version_of_content, IsVersion};
+ghost use Rattle.pe_resource.specs.ResourceEntries.{entries_left};
+ghost use Rattle.pe_resource.specs.VersionFields.{version_of_halves, high_half, low_half, version_text, fixed_info_at, fixed_info_in, file_strings, file_strings_view, text_in, version_view, version_in};
+ghost use Rattle.pe_resource.specs.VersionStrings.{strings, read, value_of};
+
+use crate::constants::{RT_VERSION, VS_FFI_SIGNATURE, VS_VERSION_INFO_KEY};
+use crate::content::content;
+use crate::directory::ResourceEntryIterator;
+use crate::string::{first_value, require_strings, text_of};
+use pe_core::{ParseOptions, Result, SectionTable, number32, require_bytes};
+use std::alloc::{AllocError, Allocator};
+
+/// The bytes of fixed file information.
+const SIZE_OF_FIXED_INFO: usize = 52;
+
+const COMMENTS: &str = "Comments";
+
+const COMPANY_NAME: &str = "CompanyName";
+
+const FILE_DESCRIPTION: &str = "FileDescription";
+
+const FILE_VERSION: &str = "FileVersion";
+
+const INTERNAL_NAME: &str = "InternalName";
+
+const LEGAL_COPYRIGHT: &str = "LegalCopyright";
+
+const LEGAL_TRADEMARKS: &str = "LegalTrademarks";
+
+const ORIGINAL_FILENAME: &str = "OriginalFilename";
+
+const PRIVATE_BUILD: &str = "PrivateBuild";
+
+const PRODUCT_NAME: &str = "ProductName";
+
+const PRODUCT_VERSION: &str = "ProductVersion";
+
+const SPECIAL_BUILD: &str = "SpecialBuild";
+
+/// A version in four parts. Versions are ordered by the first part that differs.
+#[derive(Clone, Copy, Default, PartialEq, Eq, PartialOrd, Ord)]
+pub struct VersionField {
+    pub major: u16,
+    pub minor: u16,
+    pub build: u16,
+    pub revision: u16,
+}
+
+impl VersionField {
+    /// The version of two numbers: the high and the low half of each.
+    pub fn from_ms_ls(ms: u32, ls: u32) -> VersionField
+        ensures { result ≡ version_of_halves ms ls }
+    {
+        VersionField {
+            major: (ms >> 16) as u16,
+            minor: (ms & 0xFFFF) as u16,
+            build: (ls >> 16) as u16,
+            revision: (ls & 0xFFFF) as u16,
+        }
+    }
+
+    /// The number of the first two parts.
+    pub fn to_ms(&self) -> u32
+        ensures { result ≡ high_half self.now }
+    {
+        (u32::from(self.major) << 16) + u32::from(self.minor)
+    }
+
+    /// The number of the last two parts.
+    pub fn to_ls(&self) -> u32
+        ensures { result ≡ low_half self.now }
+    {
+        (u32::from(self.build) << 16) + u32::from(self.revision)
+    }
+
+    /// The four parts in decimal digits, joined by dots.
+    pub fn to_string<A: Allocator + Copy + Drop>(
+        &self,
+        alloc: A,
+    ) -> std::result::Result<String<A>, AllocError>
+        ensures { IfOk result (λ s. string_bytes s ≡ version_text self.now) }
+    {
+        let (major, minor, build, revision) = (self.major, self.minor, self.build, self.revision);
+        format!(in alloc; "{major}.{minor}.{build}.{revision}")
+    }
+}
+
+/// Fixed file information, 52 bytes.
+#[derive(Clone, Copy, Debug, Default, PartialEq)]
+pub struct VsFixedFileInfo {
+    /// `VS_FFI_SIGNATURE`.
+    pub signature: u32,
+    /// `VS_FFI_STRUCVERSION`.
+    pub struct_version: u32,
+    /// The first two parts of the file's version.
+    pub file_version_ms: u32,
+    /// Its last two parts.
+    pub file_version_ls: u32,
+    /// The first two parts of the product's version.
+    pub product_version_ms: u32,
+    /// Its last two parts.
+    pub product_version_ls: u32,
+    /// Which bits of `file_flags` count.
+    pub file_flags_mask: u32,
+    /// Of `VS_FF_..`.
+    pub file_flags: u32,
+    /// One of `VOS_..`.
+    pub file_os: u32,
+    /// One of `VFT_..`.
+    pub file_type: u32,
+    /// One of `VFT2_..`.
+    pub file_subtype: u32,
+    /// The high half of the file's date.
+    pub file_date_ms: u32,
+    /// Its low half.
+    pub file_date_ls: u32,
+}
+
+impl VsFixedFileInfo {
+    /// The information at a place where its 52 bytes are known to be there.
+    #[tactic(auto, unfolding(crate::specs::VersionFields::fixed_info_at))]
+    fn at(bytes: &[u8], place: usize) -> VsFixedFileInfo
+        requires { place + 52 ≤ length bytes.now }
+        ensures { result ≡ fixed_info_at bytes.now place }
+    {
+        VsFixedFileInfo {
+            signature: number32(bytes, place),
+            struct_version: number32(bytes, place + 4),
+            file_version_ms: number32(bytes, place + 8),
+            file_version_ls: number32(bytes, place + 12),
+            product_version_ms: number32(bytes, place + 16),
+            product_version_ls: number32(bytes, place + 20),
+            file_flags_mask: number32(bytes, place + 24),
+            file_flags: number32(bytes, place + 28),
+            file_os: number32(bytes, place + 32),
+            file_type: number32(bytes, place + 36),
+            file_subtype: number32(bytes, place + 40),
+            file_date_ms: number32(bytes, place + 44),
+            file_date_ls: number32(bytes, place + 48),
+        }
+    }
+
+    /// Whether the signature is the one of fixed file information.
+    pub fn is_valid(&self) -> bool
+        ensures { result ≡ (self.now.signature == 0xFEEF04BD) }
+    {
+        self.signature == VS_FFI_SIGNATURE
+    }
+
+    /// The file's version.
+    pub fn file_version(&self) -> VersionField
+        ensures { result ≡ version_of_halves self.now.file_version_ms self.now.file_version_ls }
+    {
+        VersionField::from_ms_ls(self.file_version_ms, self.file_version_ls)
+    }
+
+    /// The product's version.
+    pub fn product_version(&self) -> VersionField
+        ensures { result ≡ version_of_halves self.now.product_version_ms self.now.product_version_ls }
+    {
+        VersionField::from_ms_ls(self.product_version_ms, self.product_version_ls)
+    }
+}
+
+/// The strings that describe a file: for each of twelve names the value of the first string with it.
+#[derive(Clone, Copy, Debug)]
+pub struct StringFileInfo<'a> {
+    comments: Option<&'a [u8]>,
+    company_name: Option<&'a [u8]>,
+    file_description: Option<&'a [u8]>,
+    file_version: Option<&'a [u8]>,
+    internal_name: Option<&'a [u8]>,
+    legal_copyright: Option<&'a [u8]>,
+    legal_trademarks: Option<&'a [u8]>,
+    original_filename: Option<&'a [u8]>,
+    private_build: Option<&'a [u8]>,
+    product_name: Option<&'a [u8]>,
+    product_version: Option<&'a [u8]>,
+    special_build: Option<&'a [u8]>,
+}
+
+/// The text of a value, if there is one.
+fn text_in<A: Allocator + Copy + Drop>(
+    alloc: A,
+    value: Option<&[u8]>,
+) -> std::result::Result<Option<String<A>>, AllocError>
+    ensures { IfOk result (λ s. option_map string_bytes s ≡ text_in (option_map (λ v. v.now) value.entry)) }
+{
+    match value {
+        Some(bytes) => text_of(alloc, bytes),
+        None => Ok(None),
+    }
+}
+
+impl<'a> StringFileInfo<'a> {
+    /// The values among the strings of these bytes.
+    fn of_strings(data: &'a [u8]) -> StringFileInfo<'a>
+        ensures { file_strings_view result ≡ file_strings (read (strings data.entry.now)) }
+    {
+        StringFileInfo {
+            comments: first_value(data, COMMENTS),
+            company_name: first_value(data, COMPANY_NAME),
+            file_description: first_value(data, FILE_DESCRIPTION),
+            file_version: first_value(data, FILE_VERSION),
+            internal_name: first_value(data, INTERNAL_NAME),
+            legal_copyright: first_value(data, LEGAL_COPYRIGHT),
+            legal_trademarks: first_value(data, LEGAL_TRADEMARKS),
+            original_filename: first_value(data, ORIGINAL_FILENAME),
+            private_build: first_value(data, PRIVATE_BUILD),
+            product_name: first_value(data, PRODUCT_NAME),
+            product_version: first_value(data, PRODUCT_VERSION),
+            special_build: first_value(data, SPECIAL_BUILD),
+        }
+    }
+
+    /// What else there is to say about the file. `None` where no string has the key `Comments`, or where its value is no text.
+    pub fn comments<A: Allocator + Copy + Drop>(
+        &self,
+        alloc: A,
+    ) -> std::result::Result<Option<String<A>>, AllocError>
+        ensures { IfOk result (λ s. option_map string_bytes s ≡ text_in (file_strings_view self.now).comments) }
+    {
+        text_in(alloc, self.comments)
+    }
+
+    /// Who made the file. `None` where no string has the key `CompanyName`, or where its value is no text.
+    pub fn company_name<A: Allocator + Copy + Drop>(
+        &self,
+        alloc: A,
+    ) -> std::result::Result<Option<String<A>>, AllocError>
+        ensures { IfOk result (λ s. option_map string_bytes s ≡ text_in (file_strings_view self.now).company_name) }
+    {
+        text_in(alloc, self.company_name)
+    }
+
+    /// What the file is, for its users. `None` where no string has the key `FileDescription`, or where its value is no text.
+    pub fn file_description<A: Allocator + Copy + Drop>(
+        &self,
+        alloc: A,
+    ) -> std::result::Result<Option<String<A>>, AllocError>
+        ensures { IfOk result (λ s. option_map string_bytes s ≡ text_in (file_strings_view self.now).file_description) }
+    {
+        text_in(alloc, self.file_description)
+    }
+
+    /// The version of the file. `None` where no string has the key `FileVersion`, or where its value is no text.
+    pub fn file_version<A: Allocator + Copy + Drop>(
+        &self,
+        alloc: A,
+    ) -> std::result::Result<Option<String<A>>, AllocError>
+        ensures { IfOk result (λ s. option_map string_bytes s ≡ text_in (file_strings_view self.now).file_version) }
+    {
+        text_in(alloc, self.file_version)
+    }
+
+    /// The name of the file among its makers. `None` where no string has the key `InternalName`, or where its value is no text.
+    pub fn internal_name<A: Allocator + Copy + Drop>(
+        &self,
+        alloc: A,
+    ) -> std::result::Result<Option<String<A>>, AllocError>
+        ensures { IfOk result (λ s. option_map string_bytes s ≡ text_in (file_strings_view self.now).internal_name) }
+    {
+        text_in(alloc, self.internal_name)
+    }
+
+    /// Whose copyright the file is. `None` where no string has the key `LegalCopyright`, or where its value is no text.
+    pub fn legal_copyright<A: Allocator + Copy + Drop>(
+        &self,
+        alloc: A,
+    ) -> std::result::Result<Option<String<A>>, AllocError>
+        ensures { IfOk result (λ s. option_map string_bytes s ≡ text_in (file_strings_view self.now).legal_copyright) }
+    {
+        text_in(alloc, self.legal_copyright)
+    }
+
+    /// Which trademarks the file has to do with. `None` where no string has the key `LegalTrademarks`, or where its value is no text.
+    pub fn legal_trademarks<A: Allocator + Copy + Drop>(
+        &self,
+        alloc: A,
+    ) -> std::result::Result<Option<String<A>>, AllocError>
+        ensures { IfOk result (λ s. option_map string_bytes s ≡ text_in (file_strings_view self.now).legal_trademarks) }
+    {
+        text_in(alloc, self.legal_trademarks)
+    }
+
+    /// The name of the file before any other. `None` where no string has the key `OriginalFilename`, or where its value is no text.
+    pub fn original_filename<A: Allocator + Copy + Drop>(
+        &self,
+        alloc: A,
+    ) -> std::result::Result<Option<String<A>>, AllocError>
+        ensures { IfOk result (λ s. option_map string_bytes s ≡ text_in (file_strings_view self.now).original_filename) }
+    {
+        text_in(alloc, self.original_filename)
+    }
+
+    /// Why the file is a private build. `None` where no string has the key `PrivateBuild`, or where its value is no text.
+    pub fn private_build<A: Allocator + Copy + Drop>(
+        &self,
+        alloc: A,
+    ) -> std::result::Result<Option<String<A>>, AllocError>
+        ensures { IfOk result (λ s. option_map string_bytes s ≡ text_in (file_strings_view self.now).private_build) }
+    {
+        text_in(alloc, self.private_build)
+    }
+
+    /// The name of the product that the file belongs to. `None` where no string has the key `ProductName`, or where its value is no text.
+    pub fn product_name<A: Allocator + Copy + Drop>(
+        &self,
+        alloc: A,
+    ) -> std::result::Result<Option<String<A>>, AllocError>
+        ensures { IfOk result (λ s. option_map string_bytes s ≡ text_in (file_strings_view self.now).product_name) }
+    {
+        text_in(alloc, self.product_name)
+    }
+
+    /// The version of that product. `None` where no string has the key `ProductVersion`, or where its value is no text.
+    pub fn product_version<A: Allocator + Copy + Drop>(
+        &self,
+        alloc: A,
+    ) -> std::result::Result<Option<String<A>>, AllocError>
+        ensures { IfOk result (λ s. option_map string_bytes s ≡ text_in (file_strings_view self.now).product_version) }
+    {
+        text_in(alloc, self.product_version)
+    }
+
+    /// How this build differs from the usual one. `None` where no string has the key `SpecialBuild`, or where its value is no text.
+    pub fn special_build<A: Allocator + Copy + Drop>(
+        &self,
+        alloc: A,
+    ) -> std::result::Result<Option<String<A>>, AllocError>
+        ensures { IfOk result (λ s. option_map string_bytes s ≡ text_in (file_strings_view self.now).special_build) }
+    {
+        text_in(alloc, self.special_build)
+    }
+}
+
+/// The version information of a file.
+#[derive(Clone, Copy, Debug)]
+pub struct VersionInfo<'a> {
+    /// The value of the first string with the key `VS_VERSION_INFO`, if there is one.
+    pub fixed_info: Option<VsFixedFileInfo>,
+    /// What describes the file.
+    pub string_info: StringFileInfo<'a>,
+}
+
+/// The fixed file information of a value, if there is a value. `Short` below 52 bytes.
+fn fixed_info_in(value: Option<&[u8]>) -> Result<Option<VsFixedFileInfo>>
+    ensures { Gives (λ f. f) result (fixed_info_in (option_map (λ v. v.now) value.entry)) }
+{
+    match value {
+        None => Ok(None),
+        Some(bytes) => {
+            require_bytes(bytes, 0, SIZE_OF_FIXED_INFO)?;
+            Ok(Some(VsFixedFileInfo::at(bytes, 0)))
+        }
+    }
+}
+
+impl<'a> VersionInfo<'a> {
+    /// The version information of these bytes.
+    #[tactic(auto, unfolding(crate::specs::VersionFields::version_in))]
+    fn of_strings(data: &'a [u8]) -> Result<VersionInfo<'a>>
+        ensures { Gives version_view result (version_in data.entry.now) }
+    {
+        require_strings(data)?;
+        let fixed_info = fixed_info_in(first_value(data, VS_VERSION_INFO_KEY))?;
+        Ok(VersionInfo {
+            fixed_info,
+            string_info: StringFileInfo::of_strings(data),
+        })
+    }
+
+    /// The version information of a content, if there is one.
+    fn of_content(content: Option<&'a [u8]>) -> Result<Option<VersionInfo<'a>>>
+        ensures { Gives (option_map version_view) result (version_of_content (option_map (λ s. s.now) content.entry)) }
+    {
+        match content {
+            None => Ok(None),
+            Some(data) => {
+                let version = VersionInfo::of_strings(data)?;
+                Ok(Some(version))
+            }
+        }
+    }
+
+    /// The version information behind the first of the entries that has the id 16.
+    pub(crate) fn of_entries(
+        pe: &'a [u8],
+        bytes: &[u8],
+        it: ResourceEntryIterator,
+        sections: &[SectionTable],
+        file_alignment: u32,
+        opts: &ParseOptions,
+    ) -> Result<Option<VersionInfo<'a>>>
+        ensures { IsVersion (map_of opts.now sections.now file_alignment) pe.entry.now bytes.now (entries_left it.entry) (answer_by (option_map version_view) result) }
+    {
+        match content(pe, bytes, it, RT_VERSION, sections, file_alignment, opts) {
+            Ok(content) => VersionInfo::of_content(content),
+            Err(error) => Err(error),
+        }
+    }
+
+    /// The version information behind the first of the entries that has the id 16. `pe` is the file, `bytes` the resource
+    /// directory's data, `it` its first entries. `None` without such an entry, or where the walk over directories ends at a
+    /// directory. Refusals in this order: those of the walk; of the data entry, `Short`, `Unmapped`, and `ResourceBounds`
+    /// where its bytes are not in the file; of a string that doesn't read; `Short` where the value of `VS_VERSION_INFO` has
+    /// fewer than 52 bytes. It asks for no memory.
+    pub fn parse<A: Allocator + Drop>(
+        _alloc: A,
+        pe: &'a [u8],
+        bytes: &'a [u8],
+        it: ResourceEntryIterator<'a>,
+        sections: &[SectionTable],
+        file_alignment: u32,
+        opts: &ParseOptions,
+    ) -> Result<Option<VersionInfo<'a>>>
+        ensures version { IsVersion (map_of opts.now sections.now file_alignment) pe.entry.now bytes.entry.now (entries_left it.entry) (answer_by (option_map version_view) result) }
+        ensures no_memory { answer_by (option_map version_view) result ≢ Err Memory }
+    {
+        VersionInfo::of_entries(pe, bytes, it, sections, file_alignment, opts)
+    }
+}

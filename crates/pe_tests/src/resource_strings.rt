@@ -1,0 +1,291 @@
+//! Version strings: one alone, their texts, and the strings of a table against a plain program that collects them.
+
+use crate::resources::{flat, push_string, texts_of, version_alone};
+use linked_list_allocator::LocalHeap;
+use pe_core::{DataDirectory, Error, ParseMode, Reason, Result};
+use pe_resource::{ResourceData, ResourceString, ResourceStringIterator};
+use std::alloc::Global;
+use std::test::Fail;
+
+#[test]
+fn strings_alone(rt: HostRuntime) -> std::result::Result<(), Fail> {
+    let bytes = [0x10, 0, 2, 0, 1, 0, 0x41, 0, 0, 0, 0, 0, 0x42, 0, 0, 0];
+    let mut offset = 0;
+    let string = ResourceString::parse(&bytes, &mut offset)?.ok_or("no string")?;
+    assert_eq!(rt; offset, 16);
+    assert_eq!(rt;
+        (string.len, string.value_len, string.text_type),
+        (16, 2, 1)
+    );
+    assert!(rt; string.is_text_data() && !string.is_binary_data());
+    assert_eq!(rt; string.value, [0x42, 0, 0, 0].as_slice());
+    assert!(rt;
+        string
+            .key_string(rt.alloc())?
+            .is_some_and(|text| text.as_str() == "A")
+    );
+    assert!(rt;
+        string
+            .value_string(rt.alloc())?
+            .is_some_and(|text| text.as_str() == "B")
+    );
+    let mut long = bytes;
+    long[2] = 0;
+    long[3] = 0x80;
+    let mut offset = 0;
+    let refused = ResourceString::parse(&long, &mut offset);
+    assert!(rt; matches!(refused, Err(Error::Malformed(Reason::ResourceString(0)))));
+    assert_eq!(rt; offset, 0);
+    let odd = [0x0F, 0, 3, 0, 0, 0, 0x41, 0, 0, 0, 0, 0, 1, 2, 3];
+    let mut offset = 0;
+    let string = ResourceString::parse(&odd, &mut offset)?.ok_or("no string")?;
+    assert!(rt; string.is_binary_data() && !string.is_text_data());
+    assert_eq!(rt; string.value, [1, 2, 3].as_slice());
+    assert!(rt; string.value_string(rt.alloc())?.is_none());
+    let mut ended = bytes;
+    ended[0] = 0;
+    let mut left = ResourceStringIterator::new(&ended);
+    assert!(rt; left.next().is_none() && left.next().is_none());
+    let mut offset = 0;
+    assert!(rt; ResourceString::parse(&ended, &mut offset)?.is_none());
+    assert_eq!(rt; offset, 2);
+    let mut cut = ResourceStringIterator::new(&[5]);
+    assert!(rt; matches!(cut.next(), Some(Err(Error::Short { at: 0, needed: 2 }))));
+    assert!(rt; cut.next().is_none() && cut.next().is_none());
+    Ok(())
+}
+
+/// Bytes of a length that only a string which is no text may have.
+#[test]
+fn longest_value_of_bytes(rt: HostRuntime) -> std::result::Result<(), Fail> {
+    let mut bytes = Vec::new(rt.alloc());
+    bytes.extend_from_slice(&[1, 0, 0xFF, 0xFF, 0, 0, 0, 0])?;
+    for _ in 0..65535 {
+        bytes.push(7)?;
+    }
+    let mut offset = 0;
+    let string = ResourceString::parse(&bytes, &mut offset)?.ok_or("no string")?;
+    assert_eq!(rt; string.value.len(), 65535);
+    assert_eq!(rt; offset, 65543);
+    let mut offset = 0;
+    let mut as_text = bytes;
+    if let Some(slot) = as_text.get_mut(4) {
+        *slot = 1;
+    }
+    let refused = ResourceString::parse(&as_text, &mut offset);
+    assert!(rt; matches!(refused, Err(Error::Malformed(Reason::ResourceString(0)))));
+    Ok(())
+}
+
+/// A string with an empty key and an empty value.
+const EMPTY: [u8; 8] = [8, 0, 0, 0, 1, 0, 0, 0];
+
+/// The text of a value with these bytes, of a string that is read from others.
+fn text_of<'a>(
+    alloc: Global,
+    empty: &'a [u8],
+    value: &'a [u8],
+) -> std::result::Result<Option<String>, Fail> {
+    let mut offset = 0;
+    let mut string = ResourceString::parse(empty, &mut offset)?.ok_or("no string")?;
+    string.value = value;
+    Ok(string.value_string(alloc)?)
+}
+
+#[test]
+fn texts_of_values(rt: HostRuntime) -> std::result::Result<(), Fail> {
+    for (value, want) in [
+        ([].as_slice(), ""),
+        (&[0, 0], ""),
+        (b"H\0e\0l\0l\0o\0", "Hello"),
+        (b"H\0i\0", "Hi"),
+        (b"H\0i\0\0\0e\0x\0", "Hi"),
+        (
+            &[0x53, 0x30, 0x93, 0x30, 0x6B, 0x30, 0x61, 0x30, 0x6F, 0x30],
+            "こんにちは",
+        ),
+        (&[0x3E, 0xD8, 0x80, 0xDD], "🦀"),
+        (&[0x41, 0, 0xE5, 0x65, 0x2C, 0x67, 0x42, 0], "A日本B"),
+        (&[0x41, 0, 0, 0, 0, 0], "A"),
+    ] {
+        let text = text_of(rt.alloc(), &EMPTY, value)?;
+        assert!(rt; text.is_some_and(|found| found.as_str() == want), "{want}");
+    }
+    for value in [[0x48, 0, 0x65].as_slice(), &[0x3D, 0xD8, 0x41, 0]] {
+        assert!(rt; text_of(rt.alloc(), &EMPTY, value)?.is_none());
+    }
+    let mut value = Vec::new(rt.alloc());
+    let mut letters = String::new(rt.alloc());
+    for i in 0..1000u32 {
+        let letter = (0x41 + i % 26) as u8;
+        value.extend_from_slice(&[letter, 0])?;
+        letters.push(char::from(letter))?;
+    }
+    let text = text_of(rt.alloc(), &EMPTY, &value)?;
+    assert!(rt; text.is_some_and(|found| found.as_str() == letters.as_str()));
+    Ok(())
+}
+
+/// Each request for memory of a key's or a value's text is refused by some heap.
+#[test]
+fn each_request_refused(rt: HostRuntime) -> std::result::Result<(), Fail> {
+    let mut bytes = Vec::new(rt.alloc());
+    push_string(
+        &mut bytes,
+        "a key of some thirty letters..",
+        "a value of some thirty letters",
+    )?;
+    let mut offset = 0;
+    let string = ResourceString::parse(&bytes, &mut offset)?.ok_or("no string")?;
+    let mut done = [false, false];
+    let mut refused = [0u32, 0];
+    for size in [0usize, 16, 32, 48, 64, 96, 128, 192, 256, 512] {
+        let heap = LocalHeap::new(rt.alloc(), size)?;
+        let key = string.key_string(&heap).map(|text| text.is_some());
+        let heap = LocalHeap::new(rt.alloc(), size)?;
+        let value = string.value_string(&heap).map(|text| text.is_some());
+        for (answer, (done, refused)) in [key, value]
+            .into_iter()
+            .zip(done.iter_mut().zip(refused.iter_mut()))
+        {
+            match answer {
+                Ok(is_text) => {
+                    assert!(rt; is_text);
+                    *done = true;
+                }
+                Err(_) => {
+                    assert!(rt; !*done, "with {size} bytes");
+                    *refused = refused.wrapping_add(1);
+                }
+            }
+        }
+    }
+    assert!(rt; done == [true, true] && refused[0] >= 3 && refused[1] >= 3);
+    Ok(())
+}
+
+/// The plain program: the strings collected into a vector, and the first whose key's text is the name.
+fn collected_text(
+    alloc: Global,
+    data: &[u8],
+    name: &str,
+) -> std::result::Result<Option<String>, Fail> {
+    let mut strings = Vec::new(alloc);
+    for string in ResourceStringIterator::new(data) {
+        strings.push(string?)?;
+    }
+    for string in strings.iter() {
+        if let Some(key) = string.key_string(alloc)? {
+            if key.as_str() == name {
+                return Ok(string.value_string(alloc)?);
+            }
+        }
+    }
+    Ok(None)
+}
+
+/// The next number of a fixed sequence, and its high bits.
+fn next(seed: &mut u64) -> u64 {
+    *seed = seed
+        .wrapping_mul(6_364_136_223_846_793_005)
+        .wrapping_add(1_442_695_040_888_963_407);
+    *seed >> 33
+}
+
+const KEYS: [&str; 16] = [
+    "Comments",
+    "CompanyName",
+    "FileDescription",
+    "FileVersion",
+    "InternalName",
+    "LegalCopyright",
+    "LegalTrademarks",
+    "OriginalFilename",
+    "PrivateBuild",
+    "ProductName",
+    "ProductVersion",
+    "SpecialBuild",
+    "",
+    "Comment",
+    "CommentsX",
+    "comments",
+];
+
+/// Tables of generated strings, some with a value that is not there: every name has the same text by both programs.
+#[test]
+fn collected_strings(rt: HostRuntime) -> std::result::Result<(), Fail> {
+    let mut seed = 11;
+    let mut given = 0u32;
+    let mut refused = 0u32;
+    for _ in 0..300u32 {
+        let mut strings = Vec::new(rt.alloc());
+        let mut too_long = usize::MAX;
+        for _ in 0..next(&mut seed) % 24 {
+            if next(&mut seed) % 64 == 0 {
+                too_long = strings.len().saturating_add(3);
+            }
+            let key = KEYS
+                .get((next(&mut seed) % 16) as usize)
+                .copied()
+                .unwrap_or("");
+            let value = KEYS
+                .get((next(&mut seed) % 16) as usize)
+                .copied()
+                .unwrap_or("");
+            push_string(&mut strings, key, value)?;
+        }
+        if let Some(slot) = strings.get_mut(too_long) {
+            *slot = 255;
+        }
+        let bytes = version_alone(rt.alloc(), strings.as_slice())?;
+        let dd = DataDirectory {
+            virtual_address: 0,
+            size: u32::try_from(bytes.len())?,
+        };
+        let parsed: Result<ResourceData> = ResourceData::parse_with_opts(
+            rt.alloc(),
+            &bytes,
+            dd,
+            &[],
+            0,
+            &flat(ParseMode::Strict),
+        );
+        match parsed {
+            Ok(data) => {
+                given = given.wrapping_add(1);
+                let version = data.version_info.ok_or("no version information")?;
+                let texts = texts_of(rt.alloc(), &version.string_info)?;
+                for (text, name) in texts.iter().zip(KEYS) {
+                    let plain = collected_text(rt.alloc(), &strings, name)?;
+                    let same = match (text, &plain) {
+                        (Some(found), Some(wanted)) => found.as_str() == wanted.as_str(),
+                        (None, None) => true,
+                        _ => false,
+                    };
+                    assert!(rt; same, "{name}");
+                }
+            }
+            Err(error) => {
+                refused = refused.wrapping_add(1);
+                let mut last = None;
+                for string in ResourceStringIterator::new(&strings) {
+                    last = string.err();
+                }
+                assert!(rt;
+                    matches!(
+                        (error, last),
+                        (
+                            Error::Short { at: _, needed: _ },
+                            Some(Error::Short { at: _, needed: _ })
+                        ) | (
+                            Error::Malformed(Reason::ResourceString(_)),
+                            Some(Error::Malformed(Reason::ResourceString(_)))
+                        )
+                    )
+                );
+            }
+        }
+    }
+    assert!(rt; given >= 100 && refused >= 10);
+    Ok(())
+}

@@ -1,0 +1,224 @@
+//! The walk through a resource tree: rings and chains, and generated trees against a plain program with a set of keys.
+
+use crate::images::image;
+use linked_list_allocator::LocalHeap;
+use pe_core::{Error, Reason, Result};
+use pe_resource::ResourceEntry;
+use std::alloc::{AllocError, Global};
+use std::collections::BTreeSet;
+use std::test::Fail;
+
+/// The walk from an entry, from a heap that gives nothing; it has an entry as its answer, if it has one.
+fn walk<P: Fn(&ResourceEntry) -> bool>(
+    rt: HostRuntime,
+    start: ResourceEntry,
+    bytes: &[u8],
+    predicate: P,
+) -> Result<ResourceEntry>
+    requires { P.IsAlwaysCallable predicate }
+{
+    let heap = LocalHeap::new(rt.alloc(), 0)?;
+    match start.recursive_next_depth(&heap, bytes, predicate)? {
+        Some(entry) => Ok(entry),
+        None => Err(Error::BadMagic(0)),
+    }
+}
+
+fn is_cycle(answer: &Result<ResourceEntry>) -> bool {
+    matches!(answer, Err(Error::Malformed(Reason::ResourceCycle(_))))
+}
+
+#[test]
+fn two_keys_of_one_place(rt: HostRuntime) -> std::result::Result<(), Fail> {
+    let directory = [
+        0, 0, 0, 0, 0, 0, 0, 0, 0, 0, 0, 0, 0, 0, 1, 0, 0x10, 0, 0, 0, 0, 0, 0, 0x80,
+    ];
+    let start = ResourceEntry::from(0x10_8000_0000);
+    let endless = walk(rt, start, &directory, |entry| entry.data_is_directory());
+    assert!(rt; matches!(endless, Err(Error::Malformed(Reason::ResourceCycle(0)))));
+    let at_once = walk(rt, start, &directory, |_| false)?;
+    assert_eq!(rt; at_once, start);
+    let mut other = directory;
+    other[23] = 0;
+    let start = ResourceEntry::from(0x10_0000_0000);
+    assert!(rt; is_cycle(&walk(rt, start, &other, |_| true)));
+    let entry = walk(rt, start, &other, |entry| entry.data_is_directory())?;
+    assert_eq!(rt; entry, start);
+    Ok(())
+}
+
+/// Three directories, the last two of which lead to each other.
+fn ring_without_the_start(alloc: Global) -> std::result::Result<Vec<u8>, AllocError> {
+    image(
+        alloc,
+        0x48,
+        &[
+            (0x0E, &[1]),
+            (0x10, &[1, 0, 0, 0, 0x18, 0, 0, 0x80]),
+            (0x26, &[1]),
+            (0x28, &[2, 0, 0, 0, 0x30, 0, 0, 0x80]),
+            (0x3E, &[1]),
+            (0x40, &[3, 0, 0, 0, 0x18, 0, 0, 0x80]),
+        ],
+    )
+}
+
+#[test]
+fn rings(rt: HostRuntime) -> std::result::Result<(), Fail> {
+    let mut bytes = ring_without_the_start(rt.alloc())?;
+    let start = ResourceEntry::from(0x8000_0000);
+    assert!(rt; is_cycle(&walk(rt, start, &bytes, |entry| entry.data_is_directory())));
+    let failing = walk(rt, start, &bytes, |entry| entry.id() != Some(3))?;
+    assert_eq!(rt; failing, ResourceEntry::from(0x3_8000_0018));
+    if let Some(slot) = bytes.get_mut(0x3E) {
+        *slot = 0;
+    }
+    let last = walk(rt, start, &bytes, |entry| entry.data_is_directory())?;
+    assert_eq!(rt; last, ResourceEntry::from(0x2_8000_0030));
+    let cut = walk(
+        rt,
+        start,
+        bytes.split_at(0x30).0,
+        |entry| entry.data_is_directory(),
+    );
+    assert!(rt;
+        matches!(
+            cut,
+            Err(Error::Short {
+                at: 0x30,
+                needed: 16
+            })
+        )
+    );
+    Ok(())
+}
+
+/// Directories of one entry each, one behind the other; each leads to the directory with the index that is given for it,
+/// if there is one, and else it has no entries.
+fn tree(alloc: Global, next: &[Option<u32>]) -> std::result::Result<Vec<u8>, AllocError> {
+    let mut bytes = Vec::new(alloc);
+    for (i, target) in next.iter().enumerate() {
+        let count = if target.is_some() { 1 } else { 0 };
+        bytes.extend_from_slice(&[0, 0, 0, 0, 0, 0, 0, 0, 0, 0, 0, 0, 0, 0, count, 0])?;
+        let id = (i % 4) as u8;
+        bytes.extend_from_slice(&[id, 0, 0, 0])?;
+        let offset = target.unwrap_or(0);
+        bytes.extend_from_slice(&u32::to_le_bytes(offset))?;
+    }
+    Ok(bytes)
+}
+
+#[test]
+fn long_chains(rt: HostRuntime) -> std::result::Result<(), Fail> {
+    let mut next = Vec::new(rt.alloc());
+    for i in 1..1000u32 {
+        next.push(Some(0x8000_0000u32.wrapping_add(i.wrapping_mul(24))))?;
+    }
+    next.push(None)?;
+    let start = ResourceEntry::from(0x8000_0000);
+    let bytes = tree(rt.alloc(), &next)?;
+    let last = walk(rt, start, &bytes, |entry| entry.data_is_directory())?;
+    assert_eq!(rt; last.offset_to_directory(), 999 * 24);
+    for target in [0u32, 1, 500, 999] {
+        if let Some(slot) = next.last_mut() {
+            *slot = Some(0x8000_0000u32.wrapping_add(target.wrapping_mul(24)));
+        }
+        let bytes = tree(rt.alloc(), &next)?;
+        assert!(rt;
+            is_cycle(&walk(rt, start, &bytes, |entry| entry.data_is_directory())),
+            "to {target}"
+        );
+    }
+    Ok(())
+}
+
+/// The plain program: an ordered set of the keys that were seen.
+fn walk_with_set<P: Fn(&ResourceEntry) -> bool>(
+    alloc: Global,
+    start: ResourceEntry,
+    bytes: &[u8],
+    predicate: P,
+) -> Result<ResourceEntry>
+    requires { P.IsAlwaysCallable predicate }
+{
+    let mut seen = BTreeSet::new(alloc);
+    seen.insert(start.offset_to_data_or_directory)?;
+    let mut current = start;
+    for _ in 0..100_000u32 {
+        let Some(entry) = current.next_depth(bytes)? else {
+            return Ok(current);
+        };
+        if !predicate(&entry) {
+            return Ok(entry);
+        }
+        if !seen.insert(entry.offset_to_data_or_directory)? {
+            let place = entry.offset_to_directory();
+            return Err(Error::Malformed(Reason::ResourceCycle(place)));
+        }
+        current = entry;
+    }
+    Err(Error::BadMagic(0))
+}
+
+/// The next number of a fixed sequence, and its high bits.
+fn next(seed: &mut u64) -> u64 {
+    *seed = seed
+        .wrapping_mul(6_364_136_223_846_793_005)
+        .wrapping_add(1_442_695_040_888_963_407);
+    *seed >> 33
+}
+
+fn same(first: &Result<ResourceEntry>, second: &Result<ResourceEntry>) -> bool {
+    match (first, second) {
+        (Ok(entry), Ok(other)) => entry == other,
+        (Err(Error::Short { at: _, needed: _ }), Err(Error::Short { at: _, needed: _ })) => true,
+        _ => is_cycle(first) && is_cycle(second),
+    }
+}
+
+/// Trees whose directories lead anywhere: on, back, behind the end, with either bit 31, or nowhere. Both programs answer
+/// each walk alike.
+#[test]
+fn generated_trees(rt: HostRuntime) -> std::result::Result<(), Fail> {
+    let mut seed = 7;
+    let mut cycles = 0u32;
+    let mut entries = 0u32;
+    let mut cut = 0u32;
+    for _ in 0..400u32 {
+        let count = 1 + next(&mut seed) % 40;
+        let mut targets = Vec::new(rt.alloc());
+        for i in 0..count {
+            let target = match next(&mut seed) % 32 {
+                0 => None,
+                1 => Some(count),
+                2..=9 => Some(next(&mut seed) % count),
+                _ => Some((i + 1) % count),
+            };
+            let bit = if next(&mut seed) % 8 == 0 {
+                0u32
+            } else {
+                0x8000_0000
+            };
+            let place = |index: u64| bit.wrapping_add(((index % 65536) as u32).wrapping_mul(24));
+            targets.push(target.map(place))?;
+        }
+        let bytes = tree(rt.alloc(), &targets)?;
+        let start = ResourceEntry::from(0x8000_0000 + 24 * (next(&mut seed) % count));
+        for id in [None, Some(0u16), Some(3)] {
+            let passes = |entry: &ResourceEntry| id.is_none() || entry.id() != id;
+            let answer = walk(rt, start, &bytes, passes);
+            let plain = walk_with_set(rt.alloc(), start, &bytes, passes);
+            assert!(rt; same(&answer, &plain));
+            match answer {
+                Ok(_) => entries = entries.wrapping_add(1),
+                Err(Error::Malformed(_)) => cycles = cycles.wrapping_add(1),
+                Err(_) => cut = cut.wrapping_add(1),
+            }
+        }
+        let answer = walk(rt, start, &bytes, |entry| entry.data_is_directory());
+        let plain = walk_with_set(rt.alloc(), start, &bytes, |entry| entry.data_is_directory());
+        assert!(rt; same(&answer, &plain));
+    }
+    assert!(rt; cycles >= 50 && entries >= 50 && cut >= 10);
+    Ok(())
+}
