@@ -60,6 +60,10 @@ fn may_cover(section: &SectionTable, low: u32) -> bool
     low.wrapping_sub(section.virtual_address) / PAGE * PAGE < raw_size
 }
 
+/// Whether the section covers the address, by all tests. It stands apart so that the search passes a section that fails the
+/// cheap test in eight instructions.
+#[cold]
+#[inline(never)]
 fn covers(section: &SectionTable, alignment: u32, address: usize) -> bool
     requires { 0 < alignment }
     ensures cover { result ≡ covers alignment address section.now }
