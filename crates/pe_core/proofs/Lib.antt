@@ -7,3 +7,4 @@ pub mod SpelledOptional
 pub mod Modes
 pub mod PutNumbers
 pub mod TableEntries
+pub mod Equality

@@ -90,9 +90,7 @@ fn section_of(sections: &[SectionTable], alignment: u32, address: usize) -> Opti
     ensures small { OnSome result (address < 2 ^ 34) }
 {
     let low = (address % (1 << 32)) as u32;
-    sections
-        .iter()
-        .find(|section| covers_by_tests(section, alignment, address, low))
+    sections.iter().find(|section| covers_by_tests(section, alignment, address, low))
 }
 
 /// The place in the file of a relative virtual address, by the first section that covers it. `None` if none does or
