@@ -19,3 +19,4 @@ pub mod Pigeonhole
 pub mod Gathering
 pub mod ImportLists
 pub mod Libraries
+pub mod Equality

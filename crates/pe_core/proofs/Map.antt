@@ -1,6 +1,6 @@
 -- The first section that covers an address.
 use Rattle.std.proofs.Common.{◌≡◌, ℕ, ◌+◌, ◌-◌, ◌*◌, ◌/◌, ◌%◌, ◌^◌, ◌<◌, ◌≤◌, arith, Bool, true, false, cond, List, [], ◌∷◌, Option, Some, refl}
-use Rattle.std.specs.Prelude.{filter, nat_lt, nat_le, ◌&&◌, ◌==◌, min, if◌then◌else◌}
+use Rattle.std.specs.Prelude.{filter, nat_lt, nat_le, ◌&&◌, ◌==◌, min}
 use Rattle.std.proofs.lemmas.Bool.Decides.{nat_tests}
 use Rattle.std.specs.List.{find}
 use Rattle.std.specs.Int.{is_power_of_two}

@@ -6,6 +6,7 @@ ghost use Rattle.pe_core.specs.Bytes.{record_at};
 
 use crate::bytes::{number32, require_bytes};
 use crate::error::Result;
+use std::fmt;
 
 /// How many directories a PE image has at most.
 pub const MOST_DIRECTORIES: usize = 16;
@@ -78,12 +79,37 @@ impl DataDirectory {
     }
 }
 
-/// The directories that an optional header keeps: the least of its count and 16.
-#[derive(Clone, Copy, Debug, PartialEq)]
+/// The directories that an optional header keeps: the least of its count and 16. Rows that are not kept are seen by
+/// nothing, `==` and `Debug` included.
+#[derive(Clone, Copy)]
 pub struct DataDirectories {
     rows: [DataDirectory; MOST_DIRECTORIES],
     count: usize,
     ghost at_most: { count ≤ 16 },
+}
+
+impl PartialEq for DataDirectories {
+    ghost use Rattle.std.proofs.Common.{rules};
+    ghost use Rattle.std.specs.Ordering.{on};
+    ghost use Rattle.std.specs.Cmp.{on_per};
+    ghost use Rattle.std.specs.Cmp.Lexicographic.{lists_per};
+    ghost use Rattle.std.specs.Cmp.Rules.{comparing};
+    ghost use lib.Pointwise.{pointwise};
+    ghost use Rattle.pe_core.specs.Directories.{kept_rows};
+
+    ghost eq = { on kept_rows (pointwise ⟦<DataDirectory as PartialEq>⟧.eq) };
+
+    ghost laws = { on_per kept_rows (lists_per (Prim.search (comparing, rules))) };
+
+    fn eq(&self, other: &DataDirectories) -> bool {
+        self.rows() == other.rows()
+    }
+}
+
+impl fmt::Debug for DataDirectories {
+    fn fmt<W: fmt::Write>(&self, f: &mut fmt::Formatter<W>) -> fmt::Result {
+        f.debug_list().entries(self.rows()).finish()
+    }
 }
 
 impl DataDirectories {

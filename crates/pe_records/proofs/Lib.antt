@@ -7,3 +7,4 @@ pub mod PogoReadings
 pub mod CertificateListings
 pub mod CertificatePieces
 pub mod CertificatesReadAgain
+pub mod FirstEntries

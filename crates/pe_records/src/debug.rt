@@ -2,6 +2,7 @@
 
 mod codeview;
 mod constants;
+mod first_entries;
 mod pogo;
 mod records;
 
@@ -34,6 +35,7 @@ pub use constants::{
     IMAGE_DLLCHARACTERISTICS_EX_FORWARD_CFI_COMPAT,
     IMAGE_DLLCHARACTERISTICS_EX_HOTPATCH_COMPATIBLE, POGO_SIGNATURE_SIZE,
 };
+use first_entries::FirstEntries;
 use pe_core::{
     DataDirectory, Error, ParseMode, ParseOptions, Reason, Result, SectionTable, find_offset,
     number16, number32, slice_at, split_entry,
@@ -70,7 +72,7 @@ fn reduced(address: u32, fixup: u32) -> u32
 impl ImageDebugDirectory {
     /// The entry at a place where its 28 bytes are known to be there, its addresses reduced by the fixup.
     #[tactic(auto, unfolding(crate::specs::DebugDirectory::entry_at))]
-    fn at(bytes: &[u8], place: usize, fixup: u32) -> ImageDebugDirectory
+    pub(crate) fn at(bytes: &[u8], place: usize, fixup: u32) -> ImageDebugDirectory
         requires { place + 28 ≤ length bytes.now }
         ensures { result ≡ entry_at fixup bytes.now place }
     {
@@ -216,16 +218,16 @@ impl<'a> DebugData<'a> {
     ) -> Result<DebugData<'a>>
         ensures { Gives debug_view result (records opts.now bytes.entry.now rva_offset table.entry.now) }
     {
-        let entries = ImageDebugDirectoryIterator::new(table, rva_offset);
+        let first = FirstEntries::of_table(table, rva_offset);
         Ok(DebugData {
             table,
             rva_offset,
-            codeview_pdb70_debug_info: first_pdb70(bytes, &entries, opts)?,
-            codeview_pdb20_debug_info: first_pdb20(bytes, &entries, opts)?,
-            vcfeature_info: first_features(bytes, &entries, opts)?,
-            ex_dll_characteristics_info: first_characteristics(bytes, &entries, opts)?,
-            repro_info: first_repro(bytes, &entries, opts)?,
-            pogo_info: first_pogo(bytes, &entries, opts)?,
+            codeview_pdb70_debug_info: pdb70_of(bytes, first.codeview, opts)?,
+            codeview_pdb20_debug_info: pdb20_of(bytes, first.codeview, opts)?,
+            vcfeature_info: features_of(bytes, first.features, opts)?,
+            ex_dll_characteristics_info: characteristics_of(bytes, first.characteristics, opts)?,
+            repro_info: repro_of(bytes, first.repro, opts)?,
+            pogo_info: pogo_of(bytes, first.pogo, opts)?,
         })
     }
 
@@ -325,85 +327,79 @@ impl<'a> Default for DebugData<'a> {
     }
 }
 
-fn first_pdb70<'a>(
+fn pdb70_of<'a>(
     bytes: &'a [u8],
-    entries: &ImageDebugDirectoryIterator,
+    entry: Option<ImageDebugDirectory>,
     opts: &ParseOptions,
 ) -> Result<Option<CodeviewPDB70DebugInfo<'a>>>
-    ensures { Gives (option_map pdb70_view) result (of_entry (pdb70_of opts.now bytes.entry.now)
-        (first_of_type (fixup_of entries.now) 2 (rest_of entries.now))) }
+    ensures { Gives (option_map pdb70_view) result (of_entry (pdb70_of opts.now bytes.entry.now) entry) }
 {
-    match entries.find_type(IMAGE_DEBUG_TYPE_CODEVIEW) {
+    match entry {
         Some(entry) => CodeviewPDB70DebugInfo::parse_with_opts(bytes, &entry, opts),
         None => Ok(None),
     }
 }
 
-fn first_pdb20<'a>(
+fn pdb20_of<'a>(
     bytes: &'a [u8],
-    entries: &ImageDebugDirectoryIterator,
+    entry: Option<ImageDebugDirectory>,
     opts: &ParseOptions,
 ) -> Result<Option<CodeviewPDB20DebugInfo<'a>>>
-    ensures { Gives (option_map pdb20_view) result (of_entry (pdb20_of opts.now bytes.entry.now)
-        (first_of_type (fixup_of entries.now) 2 (rest_of entries.now))) }
+    ensures { Gives (option_map pdb20_view) result (of_entry (pdb20_of opts.now bytes.entry.now) entry) }
 {
-    match entries.find_type(IMAGE_DEBUG_TYPE_CODEVIEW) {
+    match entry {
         Some(entry) => CodeviewPDB20DebugInfo::parse_with_opts(bytes, &entry, opts),
         None => Ok(None),
     }
 }
 
-fn first_features(
+fn features_of(
     bytes: &[u8],
-    entries: &ImageDebugDirectoryIterator,
+    entry: Option<ImageDebugDirectory>,
     opts: &ParseOptions,
 ) -> Result<Option<VCFeatureInfo>>
-    ensures { Gives (λ r. r) result (some_of_entry (features_of opts.now bytes.now)
-        (first_of_type (fixup_of entries.now) 12 (rest_of entries.now))) }
+    ensures { Gives (λ r. r) result (some_of_entry (features_of opts.now bytes.now) entry) }
 {
-    match entries.find_type(IMAGE_DEBUG_TYPE_VC_FEATURE) {
+    match entry {
         Some(entry) => Ok(Some(VCFeatureInfo::parse_with_opts(bytes, &entry, opts)?)),
         None => Ok(None),
     }
 }
 
-fn first_characteristics(
+fn characteristics_of(
     bytes: &[u8],
-    entries: &ImageDebugDirectoryIterator,
+    entry: Option<ImageDebugDirectory>,
     opts: &ParseOptions,
 ) -> Result<Option<ExDllCharacteristicsInfo>>
-    ensures { Gives (λ r. r) result (some_of_entry (characteristics_of opts.now bytes.now)
-        (first_of_type (fixup_of entries.now) 20 (rest_of entries.now))) }
+    ensures { Gives (λ r. r) result (some_of_entry (characteristics_of opts.now bytes.now) entry) }
 {
-    match entries.find_type(IMAGE_DEBUG_TYPE_EX_DLLCHARACTERISTICS) {
+    match entry {
         Some(entry) => Ok(Some(ExDllCharacteristicsInfo::parse_with_opts(bytes, &entry, opts)?)),
         None => Ok(None),
     }
 }
 
-fn first_repro<'a>(
+fn repro_of<'a>(
     bytes: &'a [u8],
-    entries: &ImageDebugDirectoryIterator,
+    entry: Option<ImageDebugDirectory>,
     opts: &ParseOptions,
 ) -> Result<Option<ReproInfo<'a>>>
-    ensures { Gives (option_map repro_view) result (some_of_entry (repro_of opts.now bytes.entry.now)
-        (first_of_type (fixup_of entries.now) 16 (rest_of entries.now))) }
+    ensures { Gives (option_map repro_view) result (some_of_entry (repro_of opts.now bytes.entry.now) entry) }
 {
-    match entries.find_type(IMAGE_DEBUG_TYPE_REPRO) {
+    match entry {
         Some(entry) => Ok(Some(ReproInfo::parse_with_opts(bytes, &entry, opts)?)),
         None => Ok(None),
     }
 }
 
-fn first_pogo<'a>(
+fn pogo_of<'a>(
     bytes: &'a [u8],
-    entries: &ImageDebugDirectoryIterator,
+    entry: Option<ImageDebugDirectory>,
     opts: &ParseOptions,
 ) -> Result<Option<POGOInfo<'a>>>
-    ensures { Gives (option_map pogo_view) result (of_entry (pogo_of opts.now bytes.entry.now)
-        (first_of_type (fixup_of entries.now) 13 (rest_of entries.now))) }
+    ensures { Gives (option_map pogo_view) result (of_entry (pogo_of opts.now bytes.entry.now) entry) }
 {
-    match entries.find_type(IMAGE_DEBUG_TYPE_POGO) {
+    match entry {
         Some(entry) => POGOInfo::parse_with_opts(bytes, &entry, opts),
         None => Ok(None),
     }

@@ -4,6 +4,8 @@ ghost use Rattle.std.specs.Prelude.{◌≡◌, ◌↔◌, IsTrue};
 ghost use Rattle.pe_core.specs.declared.options.ParseMode.{ParseMode};
 ghost use Rattle.pe_core.specs.declared.options.ParseOptions.{ParseOptions};
 ghost use Rattle.pe_core.specs.declared.data_directories.DataDirectory.{DataDirectory};
+ghost use Rattle.pe_core.specs.declared.data_directories.DataDirectories.{DataDirectories};
+ghost use Rattle.pe_core.specs.Directories.{kept_rows};
 ghost use Rattle.pe_core.specs.declared.header.DosHeader.{DosHeader};
 ghost use Rattle.pe_core.specs.declared.header.CoffHeader.{CoffHeader};
 ghost use Rattle.pe_core.specs.declared.header.TeHeader.{TeHeader};
@@ -12,7 +14,7 @@ ghost use Rattle.pe_core.specs.declared.optional_header.WindowsFields.{WindowsFi
 ghost use Rattle.pe_core.specs.declared.section_table.SectionTable.{SectionTable};
 ghost use Rattle.pe_core.specs.declared.error.Reason.{Reason};
 
-use crate::data_directories::DataDirectory;
+use crate::data_directories::{DataDirectories, DataDirectory};
 use crate::error::Reason;
 use crate::header::{CoffHeader, DosHeader, TeHeader};
 use crate::optional_header::{StandardFields, WindowsFields};
@@ -28,6 +30,11 @@ pub fn equal_records_are_the_same()
     ensures te_header { (x y : TeHeader) → IsTrue (⟦<TeHeader as PartialEq>⟧.eq x y) ↔ (x ≡ y) }
     ensures standard_fields { (x y : StandardFields) → IsTrue (⟦<StandardFields as PartialEq>⟧.eq x y) ↔ (x ≡ y) }
     ensures windows_fields { (x y : WindowsFields) → IsTrue (⟦<WindowsFields as PartialEq>⟧.eq x y) ↔ (x ≡ y) }
+{}
+
+/// Directories are equal exactly if the rows that they keep are.
+pub fn equal_directories_keep_the_same_rows()
+    ensures { (x y : DataDirectories) → IsTrue (⟦<DataDirectories as PartialEq>⟧.eq x y) ↔ (kept_rows x ≡ kept_rows y) }
 {}
 
 /// A clone is its original.

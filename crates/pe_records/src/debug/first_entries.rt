@@ -1,0 +1,68 @@
+//! The entries that the records of debug data are read from: the first of each type.
+
+ghost use Rattle.std.specs.Prelude.{◌≡◌, ◌==◌, [], ◌∷◌};
+ghost use Rattle.std.specs.Option.{option_or};
+ghost use Rattle.std.specs.List.{find};
+ghost use Rattle.pe_records.specs.DebugDirectory.{first_of_type};
+
+use crate::debug::ImageDebugDirectory;
+use crate::debug::constants::{
+    IMAGE_DEBUG_DIRECTORY_SIZE, IMAGE_DEBUG_TYPE_CODEVIEW, IMAGE_DEBUG_TYPE_EX_DLLCHARACTERISTICS,
+    IMAGE_DEBUG_TYPE_POGO, IMAGE_DEBUG_TYPE_REPRO, IMAGE_DEBUG_TYPE_VC_FEATURE,
+};
+
+/// The first whole entry of each type that has a record.
+#[derive(Clone, Copy)]
+pub(crate) struct FirstEntries {
+    pub(crate) codeview: Option<ImageDebugDirectory>,
+    pub(crate) features: Option<ImageDebugDirectory>,
+    pub(crate) characteristics: Option<ImageDebugDirectory>,
+    pub(crate) repro: Option<ImageDebugDirectory>,
+    pub(crate) pogo: Option<ImageDebugDirectory>,
+}
+
+/// Keeps the entry if it is of the type and none is kept so far.
+fn keep_first(kept: &mut Option<ImageDebugDirectory>, entry: &ImageDebugDirectory, data_type: u32)
+    ensures { kept.new ≡ option_or kept.old (find (λ e. e.data_type == data_type) (entry.now ∷ [])) }
+{
+    if kept.is_none() && entry.data_type == data_type {
+        *kept = Some(*entry);
+    }
+}
+
+impl FirstEntries {
+    /// Those of a table, whose entries are read once, from the first to the last.
+    #[tactic(auto, unfolding(crate::specs::DebugDirectory::whole_entries, pe_core::specs::Rows::each))]
+    pub(crate) fn of_table(table: &[u8], fixup: u32) -> FirstEntries
+        ensures codeview { result.codeview ≡ first_of_type fixup 2 table.now }
+        ensures features { result.features ≡ first_of_type fixup 12 table.now }
+        ensures characteristics { result.characteristics ≡ first_of_type fixup 20 table.now }
+        ensures repro { result.repro ≡ first_of_type fixup 16 table.now }
+        ensures pogo { result.pogo ≡ first_of_type fixup 13 table.now }
+    {
+        let mut codeview = None;
+        let mut features = None;
+        let mut characteristics = None;
+        let mut repro = None;
+        let mut pogo = None;
+        for i in 0..table.len() / IMAGE_DEBUG_DIRECTORY_SIZE {
+            let entry = ImageDebugDirectory::at(table, IMAGE_DEBUG_DIRECTORY_SIZE * i, fixup);
+            keep_first(&mut codeview, &entry, IMAGE_DEBUG_TYPE_CODEVIEW);
+            keep_first(&mut features, &entry, IMAGE_DEBUG_TYPE_VC_FEATURE);
+            keep_first(
+                &mut characteristics,
+                &entry,
+                IMAGE_DEBUG_TYPE_EX_DLLCHARACTERISTICS,
+            );
+            keep_first(&mut repro, &entry, IMAGE_DEBUG_TYPE_REPRO);
+            keep_first(&mut pogo, &entry, IMAGE_DEBUG_TYPE_POGO);
+        }
+        FirstEntries {
+            codeview,
+            features,
+            characteristics,
+            repro,
+            pogo,
+        }
+    }
+}
