@@ -1,5 +1,5 @@
 //! Laws over the definitions. Each is the contract of a function that does nothing.
 
 pub mod arm64;
-pub mod traits;
+pub mod derives;
 pub mod x64;

@@ -1,5 +1,5 @@
-use Rattle.pe_unwind.proofs.Arm64Equality.{TellsCodes, codes_equal, data_equal}
-use Rattle.pe_unwind.proofs.laws.traits.equality_is_of_all_fields.Goals as goal
+use Rattle.pe_unwind.proofs.Arm64Equality.{codes_equal, data_equal}
+use Rattle.pe_unwind.proofs.laws.derives.equality_is_of_all_fields.Goals as goal
 
 pub returns-clause-arm64_unwind_code : goal.returns-clause-arm64_unwind_code
 returns-clause-arm64_unwind_code c =
