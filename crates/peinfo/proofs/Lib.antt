@@ -6,6 +6,7 @@ pub mod Writing
 pub mod Engines
 pub mod NoMemory
 pub mod ByMode
+pub mod SectionsFirst
 pub mod Lines
 pub mod FunctionItems
 pub mod FindTexts

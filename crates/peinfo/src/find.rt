@@ -48,7 +48,7 @@ fn push_found<A: Allocator>(
 }
 
 /// The line of the function that covers the address, or the refusal of the image.
-#[tactic(auto, using(crate::proofs::FindTexts::find_text))]
+#[tactic(auto, using(crate::proofs::FindTexts::find_text, crate::proofs::SectionsFirst::sections_first))]
 fn text_of<A: Allocator + Copy>(alloc: A, bytes: &[u8], rva: u32) -> pe_core::Result<Vec<u8, A>>
     ensures { GivesFindText result bytes.now rva }
 {

@@ -57,7 +57,7 @@ fn push_image_line<A: Allocator>(
 }
 
 /// The whole text, or the refusal of the image.
-#[tactic(auto, unfolding(crate::specs::Report::report_text))]
+#[tactic(auto, using(crate::proofs::SectionsFirst::sections_first), unfolding(crate::specs::Report::report_text))]
 fn text_of<A: Allocator + Copy>(
     alloc: A,
     bytes: &[u8],
