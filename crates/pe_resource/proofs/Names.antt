@@ -1,5 +1,5 @@
 -- A key's units are a plain name's exactly where its text is the name.
-use Rattle.std.proofs.Common.{◌≡◌, ◌≢◌, ℕ, suc, ◌+◌, ◌*◌, ◌%◌, ◌<◌, ◌≤◌, ◌==◌, ◌&&◌, ◌||◌, Bool, true, false, not, List, [], ◌∷◌, ◌++◌, map, length, take, drop, cond, Option, Some, None, is_some, unwrap_or, if◌then◌else◌, ◌↔◌, refl, ap, sym, ◌∙◌, subst, arith, IsTrue}
+use Rattle.std.proofs.Common.{◌≡◌, ◌≢◌, ℕ, suc, ◌+◌, ◌*◌, ◌%◌, ◌==◌, ◌&&◌, Bool, true, false, not, List, [], ◌∷◌, ◌++◌, map, length, take, Option, Some, None, is_some, unwrap_or, if◌then◌else◌, ◌↔◌, refl, ap, sym, ◌∙◌, subst, arith, IsTrue}
 use Rattle.std.proofs.lemmas.Bool.{false≢true}
 use Rattle.std.proofs.lemmas.Bool.Decides.{nat_tests}
 use Rattle.std.proofs.lemmas.Slice.Eq.{bytes_eq-Decides}
@@ -7,7 +7,7 @@ use Rattle.std.proofs.lemmas.Str.{encode_ascii, encodes_same}
 use Rattle.std.specs.Char.Utf16.{utf16_chars, lone_unit_char, is_high_surrogate, is_low_surrogate, surrogate_pair_char, has_unpaired_surrogate, utf16_lossy_chars}
 use Rattle.std.specs.List.{list_all, list_any}
 use Rattle.std.specs.Prelude.{nat_lt, nat_le}
-use Rattle.std.specs.Str.{encode_utf8_all, bytes_eq}
+use Rattle.std.specs.Str.{encode_utf8_all}
 use Rattle.pe_resource.specs.VersionStrings.{units, before_zero, key_length, text, is_name, is_plain, IsPlain}
 
 -- ---- characters below 128

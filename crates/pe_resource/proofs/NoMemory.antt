@@ -1,5 +1,5 @@
 -- No definition of resources is ever refused for want of memory.
-use Rattle.std.proofs.Common.{◌≡◌, ◌≢◌, ℕ, zero, suc, ◌==◌, ◌*◌, Bool, true, false, List, [], ◌∷◌, length, drop, Option, Some, None, Result, Ok, Err, if◌then◌else◌, refl, ap, sym, ◌∙◌, subst}
+use Rattle.std.proofs.Common.{◌≡◌, ◌≢◌, ℕ, zero, suc, ◌==◌, ◌*◌, Bool, true, false, List, [], ◌∷◌, length, drop, Option, Some, None, Result, Ok, Err, if◌then◌else◌, ap, sym, subst}
 use Rattle.std.specs.Prelude.{nat_le, codes}
 use Rattle.pe_core.specs.Bytes.{holds, le, range, record_at}
 use Rattle.pe_core.specs.Options.{is_permissive}
@@ -12,13 +12,12 @@ use Rattle.pe_core.specs.declared.options.ParseOptions.{ParseOptions}
 use Rattle.pe_core.specs.declared.section_table.SectionTable.{SectionTable}
 use Rattle.pe_resource.specs.declared.directory.ImageResourceDirectory.{ImageResourceDirectory}
 use Rattle.pe_resource.specs.declared.entry.ResourceEntry.{ResourceEntry}
-use Rattle.pe_resource.specs.declared.version.VsFixedFileInfo.{VsFixedFileInfo}
 use Rattle.pe_resource.specs.Contents.{map_of, IsLeaf, file_bytes, named_bytes, data_entry_at, content_in, IsContent, version_of_content, IsVersion}
 use Rattle.pe_resource.specs.Directories.{directory_at, directory_at_place, directory_of, count}
 use Rattle.pe_resource.specs.ResourceEntries.{with_id, is_directory, data_place, entries}
 use Rattle.pe_resource.specs.ResourceWalk.{Walks}
 use Rattle.pe_resource.specs.Resources.{ResourceView, first_entries_in, directory_and_data, IsWithManifest, IsBehindEntries, IsBehindDirectory, IsResource}
-use Rattle.pe_resource.specs.VersionFields.{VersionView, version_in, fixed_info_in, fixed_info_at, file_strings}
+use Rattle.pe_resource.specs.VersionFields.{VersionView, version_in, fixed_info_in, fixed_info_at}
 use Rattle.pe_resource.specs.VersionStrings.{VersionString, string_at, whole_string_at, string_and_next, is_short_text, value_bytes, value_place, then_more, strings_in, strings, read, all_read, value_of}
 
 abbrev NotMemory : {X : Type 0} → Result X Refusal → Type 0

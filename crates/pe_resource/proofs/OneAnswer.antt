@@ -1,6 +1,5 @@
 -- A walk has one answer, and so has what stands on it.
-use Rattle.std.proofs.Common.{◌≡◌, ℕ, Bool, true, false, cond, List, Option, Some, None, Result, Ok, Err, ◌⊎◌, inl, inr, ⊎_elim, ◌↔◌, refl, ap, sym, ◌∙◌, subst}
-use Rattle.pe_core.specs.Chains.{after}
+use Rattle.std.proofs.Common.{◌≡◌, ℕ, Bool, List, Option, Some, None, Result, Ok, Err, ◌⊎◌, inl, inr, ⊎_elim, refl, ap, sym, ◌∙◌, subst}
 use Rattle.pe_core.specs.Refusals.{Refusal, Short, ResourceCycle, ◌>>=◌}
 use Rattle.pe_core.specs.declared.data_directories.DataDirectory.{DataDirectory}
 use Rattle.pe_core.specs.declared.options.ParseMode.{ParseMode}
@@ -11,7 +10,7 @@ use Rattle.pe_resource.specs.declared.directory.ImageResourceDirectory.{ImageRes
 use Rattle.pe_resource.specs.declared.entry.ResourceEntry.{ResourceEntry}
 use Rattle.pe_resource.specs.Contents.{map_of, IsLeaf, content_in, IsContent, version_of_content, IsVersion}
 use Rattle.pe_resource.specs.ResourceEntries.{with_id, is_directory, data_place, entries}
-use Rattle.pe_resource.specs.ResourceWalk.{step, decided, passes, Decides, IsEndless, Walks}
+use Rattle.pe_resource.specs.ResourceWalk.{step, decided, passes, Decides, Walks}
 use Rattle.pe_resource.specs.Resources.{ResourceView, first_entries_in, directory_and_data, IsWithManifest, IsBehindEntries, IsBehindDirectory, IsResource}
 use Rattle.pe_resource.specs.VersionFields.{VersionView}
 use Rattle.pe_resource.proofs.Walks.{none_from_decided, cycle_is_endless}

@@ -1,12 +1,12 @@
 -- The strings of a byte string, one by one.
-use Rattle.std.proofs.Common.{◌≡◌, ◌≢◌, ℕ, zero, suc, ◌+◌, ◌*◌, ◌/◌, ◌<◌, ◌≤◌, ◌==◌, Bool, true, false, List, [], ◌∷◌, length, drop, length-drop, Option, Some, None, Result, Ok, Err, ◌⊎◌, inl, inr, ⊎_elim, ◌↔◌, if◌then◌else◌, refl, ap, sym, ◌∙◌, subst, arith}
+use Rattle.std.proofs.Common.{◌≡◌, ◌≢◌, ℕ, zero, suc, ◌<◌, ◌≤◌, ◌==◌, Bool, true, false, List, [], ◌∷◌, length, drop, length-drop, Option, Some, None, Result, Ok, Err, ⊎_elim, if◌then◌else◌, refl, ap, sym, ◌∙◌, subst, arith}
 use Rattle.std.proofs.lemmas.Bool.Decides.{nat_tests}
 use Rattle.pe_core.specs.Bytes.{holds, le}
 use Rattle.pe_core.specs.Refusals.{Refusal, Short, outcome, kind_of}
 use Rattle.pe_core.specs.Refusals as refusals
 use Rattle.pe_core.specs.declared.error.Error.{Error}
 use Rattle.pe_resource.specs.declared.string.ResourceString.{ResourceString}
-use Rattle.pe_resource.specs.VersionStrings.{VersionString, string_view, string_at, whole_string_at, string_and_next, is_short_text, value_bytes, value_place, Strings, GivesString, then_more, strings_in, strings, read, all_read, value_of, is_name, text}
+use Rattle.pe_resource.specs.VersionStrings.{VersionString, string_view, string_at, whole_string_at, string_and_next, is_short_text, value_bytes, value_place, GivesString, then_more, strings_in, strings, read, all_read, value_of, is_name, text}
 
 abbrev Pair : Type 0
 Pair = Option VersionString × ℕ

@@ -1,5 +1,5 @@
 -- Where a walk has come to, and why a place that comes again never ends.
-use Rattle.std.proofs.Common.{◌≡◌, ℕ, suc, ◌+◌, ◌<◌, ◌≤◌, Bool, true, false, cond, leb, List, length, Option, Some, None, Result, Ok, Err, ◌↔◌, refl, ap, sym, ◌∙◌, subst, [], ◌∷◌, arith, add-one, is_some, ⊎_elim}
+use Rattle.std.proofs.Common.{◌≡◌, ℕ, suc, ◌+◌, ◌<◌, ◌≤◌, Bool, true, false, cond, List, length, Option, Some, None, Result, Ok, Err, ◌↔◌, refl, ap, sym, ◌∙◌, subst, [], ◌∷◌, arith, add-one, is_some, ⊎_elim}
 use Rattle.std.proofs.lemmas.Bool.{cases_lt}
 use Rattle.std.proofs.lemmas.Bool.Decides.{nat_tests}
 use Rattle.pe_core.specs.Chains.{after, KeyDecides, HasKeysBelow}
@@ -7,8 +7,7 @@ use Rattle.pe_core.specs.Bytes.{holds}
 use Rattle.pe_core.specs.Refusals.{Refusal, Memory, Short, ResourceCycle, outcome}
 use Rattle.pe_core.proofs.Pigeonhole.{follows_from_decides, never_stops, repeats, stops_at, after_more}
 use Rattle.pe_resource.specs.declared.entry.ResourceEntry.{ResourceEntry}
-use Rattle.pe_resource.specs.Directories.{directory_of, count}
-use Rattle.pe_resource.specs.ResourceEntries.{entry_at, directory_place}
+use Rattle.pe_resource.specs.ResourceEntries.{directory_place}
 use Rattle.pe_resource.specs.ResourceWalk.{first_at, step, decided, passed_on, passes, IsEndless, Decides, Walks}
 
 place_decides : (b : List ℕ) (p : ResourceEntry → Bool) → KeyDecides (passes b p) directory_place

@@ -1,7 +1,7 @@
 -- Resource directories. (PE format: resource directory table.)
-use Rattle.std.specs.Prelude.{ℕ, ◌+◌, ◌*◌, min, List, [], ◌∷◌, Option, Some, None, Result, Ok, Err}
-use Rattle.pe_core.specs.Bytes.{le, range, holds, record_at}
-use Rattle.pe_core.specs.Refusals.{Refusal, Unmapped, Short, outcome}
+use Rattle.std.specs.Prelude.{ℕ, ◌+◌, ◌*◌, min, List, Option, Some, None, Result, Err}
+use Rattle.pe_core.specs.Bytes.{le, range, record_at}
+use Rattle.pe_core.specs.Refusals.{Refusal, Unmapped}
 use Rattle.pe_core.specs.SectionMap.{place_of}
 use Rattle.pe_core.specs.declared.data_directories.DataDirectory.{DataDirectory}
 use Rattle.pe_core.specs.declared.options.ParseOptions.{ParseOptions}

@@ -1,10 +1,10 @@
 -- Version numbers, fixed file information, and the strings of a file. (This project's profile.)
-use Rattle.std.specs.Prelude.{ℕ, ◌+◌, ◌*◌, ◌/◌, ◌%◌, ◌^◌, ◌<◌, ◌++◌, List, Option, Some, None, Result, Ok, Err, codes}
+use Rattle.std.specs.Prelude.{ℕ, ◌+◌, ◌*◌, ◌/◌, ◌%◌, ◌^◌, ◌<◌, ◌++◌, List, Option, Some, None, Result, Ok, codes}
 use Rattle.std.specs.Fmt.{decimal}
 use Rattle.std.specs.Option.{option_map}
 use Rattle.pe_core.specs.Bytes.{le, record_at}
 use Rattle.pe_core.specs.Refusals.{Refusal, ◌>>=◌}
-use Rattle.pe_resource.specs.VersionStrings.{VersionString, strings, read, all_read, with_key, value_of, text}
+use Rattle.pe_resource.specs.VersionStrings.{VersionString, strings, read, all_read, value_of, text}
 use Rattle.pe_resource.specs.declared.version.StringFileInfo.{StringFileInfo}
 use Rattle.pe_resource.specs.declared.version.VersionField.{VersionField}
 use Rattle.pe_resource.specs.declared.version.VersionInfo.{VersionInfo}

@@ -1,4 +1,3 @@
-use Rattle.std.proofs.Common.{sym}
 use Rattle.pe_resource.proofs.StringLists.{reads_on, reads_fault, reads_all}
 use Rattle.pe_resource.proofs.string.require_strings.Goals as goal
 
