@@ -3,7 +3,7 @@
 use crate::images::{put, with_debug, with_functions};
 use pe_core::{DataDirectory, Header, ParseOptions};
 use pe_unwind::{Arm64UnwindCode, Register, UnwindOperation};
-use pe_uses::{arm64_codes, frame_operations, symbol_key};
+use pe_uses::{arm64_codes, file_version, frame_operations, symbol_key};
 use std::test::Fail;
 
 /// The file alignment of the image.
@@ -86,5 +86,32 @@ fn lists_the_codes_of_arm64(rt: HostRuntime) -> Result<(), Fail> {
         assert_eq!(rt; code.offset as usize, i);
         assert!(rt; code.code == want);
     }
+    Ok(())
+}
+
+/// Version information whose fixed part stands behind one walk of two directories.
+#[test]
+fn tells_the_version_of_a_file(rt: HostRuntime) -> Result<(), Fail> {
+    let mut bytes = with_functions(rt.alloc())?;
+    assert!(rt; file_version(rt.alloc(), &bytes)?.is_none());
+    let key = b"\x5C\0\x34\0\0\0V\0S\0_\0V\0E\0R\0S\0I\0O\0N\0_\0I\0N\0F\0O\0";
+    put(
+        &mut bytes,
+        &[
+            (0xD8, &[0x60, 0x10, 0, 0, 0xEB, 0, 0, 0]),
+            (0x26E, &[2, 0]),
+            (0x270, b"\x10\0\0\0\x20\0\0\x80\x18\0\0\0\x38\0\0\x80"),
+            (0x28E, &[1, 0]),
+            (0x290, b"\x09\x04\0\0\x50\0\0\0"),
+            (0x2A6, &[1, 0]),
+            (0x2A8, b"\x09\x04\0\0\x60\0\0\0"),
+            (0x2B0, b"\xD0\x10\0\0\x78\0\0\0"),
+            (0x2C0, b"\x48\x11\0\0\x03\0\0\0"),
+            (0x2D0, key),
+            (0x2F8, b"\xBD\x04\xEF\xFE\0\0\x01\0\x0B\0\x03\0\0\0\x4E\x0C"),
+        ],
+    );
+    let text = file_version(rt.alloc(), &bytes)?.ok_or("no version")?;
+    assert_eq!(rt; text.as_str(), "3.11.3150.0");
     Ok(())
 }

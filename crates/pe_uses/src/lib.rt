@@ -4,7 +4,9 @@
 mod arm64;
 mod frames;
 mod symbols;
+mod versions;
 
 pub use arm64::arm64_codes;
 pub use frames::frame_operations;
 pub use symbols::symbol_key;
+pub use versions::file_version;
