@@ -94,6 +94,11 @@ UnlessMemory (errors.BadMagic magic) P = P
 UnlessMemory (errors.Short at needed) P = P
 UnlessMemory (errors.Memory e) P = Unit {0}
 
+-- an answer with its value seen by view, and the kind of its refusal
+abbrev pub answer_by : {X Y : Type 0} → (X → Y) → Result X Error → Result Y Refusal
+answer_by view (Ok x) = Ok (view x)
+answer_by view (Err e) = Err (kind_of e)
+
 -- a call that takes no memory gave this value, seen by view, or this kind of refusal
 abbrev pub Gives : {X Y : Type 0} → (X → Y) → Result X Error → Result Y Refusal → Type 0
 Gives view (Ok x) defined = defined ≡ Ok (view x)

@@ -1,10 +1,9 @@
 -- What lies behind entries, put together.
 use Rattle.std.proofs.Common.{◌≡◌, ℕ, List, Option, Some, None, Result, Ok, Err, refl, ap, sym, ◌∙◌, subst}
-use Rattle.pe_core.specs.Refusals.{Refusal, Gives, ◌>>=◌}
+use Rattle.pe_core.specs.Refusals.{Refusal, Gives, ◌>>=◌, answer_by}
 use Rattle.pe_core.specs.declared.error.Error.{Error}
 use Rattle.pe_resource.specs.declared.directory.ImageResourceDirectory.{ImageResourceDirectory}
 use Rattle.pe_resource.specs.declared.entry.ResourceEntry.{ResourceEntry}
-use Rattle.pe_resource.specs.Answers.{answer_by}
 use Rattle.pe_resource.specs.Contents.{IsLeaf, named_bytes, content_in, IsContent, version_of_content, IsVersion}
 use Rattle.pe_resource.specs.ResourceEntries.{with_id, is_directory, data_place, entries}
 use Rattle.pe_resource.specs.ResourceWalk.{Walks}

@@ -5,9 +5,8 @@ use Rattle.std.specs.List.{range_with_len}
 use Rattle.std.proofs.lemmas.List.{get_or-drop, length-map}
 use Rattle.std.proofs.lemmas.List.FromFn.{length-range_with_len}
 use Rattle.pe_core.specs.Bytes.{le}
-use Rattle.pe_core.specs.Refusals.{Refusal}
+use Rattle.pe_core.specs.Refusals.{Refusal, answer_by}
 use Rattle.pe_core.specs.declared.error.Error.{Error}
-use Rattle.pe_resource.specs.Answers.{answer_by}
 use Rattle.pe_resource.specs.declared.directory.ResourceEntryIterator.{ResourceEntryIterator}
 use Rattle.pe_resource.specs.declared.entry.ResourceEntry.{ResourceEntry}
 use Rattle.pe_resource.specs.ResourceEntries.{entry_at, entries, items_left}

@@ -1,4 +1,3 @@
-pub mod Answers
 pub mod ResourceEntries
 pub mod Directories
 pub mod ResourceWalk

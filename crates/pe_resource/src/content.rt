@@ -2,8 +2,7 @@
 
 ghost use Rattle.std.specs.Prelude.{◌≡◌, ◌+◌, ◌≤◌, length};
 ghost use Rattle.std.specs.Option.{option_map};
-ghost use Rattle.pe_core.specs.Refusals.{Gives};
-ghost use Rattle.pe_resource.specs.Answers.{answer_by};
+ghost use Rattle.pe_core.specs.Refusals.{Gives, answer_by};
 ghost use Rattle.pe_resource.specs.Contents.{map_of, IsLeaf, data_entry_at, file_bytes, named_bytes, content_in, IsContent};
 ghost use Rattle.pe_resource.specs.ResourceEntries.{entries_left, with_id};
 

@@ -4,8 +4,7 @@ ghost use Rattle.std.specs.Prelude.{◌≡◌, ◌+◌, ◌*◌, ◌≤◌, leng
 ghost use Rattle.std.specs.Iterator.{UpTo, YieldsFirstBy, item_count};
 ghost use Rattle.std.specs.Iterator.SizeHint.{IsWithinCount};
 ghost use Rattle.pe_core.specs.Options.{default_options};
-ghost use Rattle.pe_core.specs.Refusals.{Gives};
-ghost use Rattle.pe_resource.specs.Answers.{answer_by};
+ghost use Rattle.pe_core.specs.Refusals.{Gives, answer_by};
 ghost use Rattle.pe_resource.specs.Directories.{directory_of, directory_at, count, entries_at};
 ghost use Rattle.pe_resource.specs.ResourceEntries.{entries, entries_left, items_left, with_id};
 

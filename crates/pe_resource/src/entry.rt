@@ -2,9 +2,8 @@
 
 ghost use Rattle.std.specs.Prelude.{◌≡◌, ◌≢◌, ◌+◌, ◌*◌, ◌<◌, ◌≤◌, ◌↔◌, ℕ, Bool, length, Ok, Err, IfOk, IsSome};
 ghost use Rattle.std.specs.Fn.{FnReturnsAt};
-ghost use Rattle.pe_core.specs.Refusals.{Gives, Memory, ResourceCycle};
+ghost use Rattle.pe_core.specs.Refusals.{Gives, Memory, ResourceCycle, answer_by};
 ghost use Rattle.pe_resource.specs.declared.entry.ResourceEntry.{ResourceEntry};
-ghost use Rattle.pe_resource.specs.Answers.{answer_by};
 ghost use Rattle.pe_resource.specs.ResourceEntries.{entry_of, number_of, entry_at, has_name, name_place, id_of, is_directory, directory_place, data_place, has_id};
 ghost use Rattle.pe_resource.specs.ResourceWalk.{first_at, step, Walks, IsEndless, IsSteady, Found};
 

@@ -2,8 +2,7 @@
 
 ghost use Rattle.std.specs.Prelude.{◌≡◌, ◌≢◌, Err};
 ghost use Rattle.std.specs.Option.{option_map};
-ghost use Rattle.pe_core.specs.Refusals.{Memory};
-ghost use Rattle.pe_resource.specs.Answers.{answer_by};
+ghost use Rattle.pe_core.specs.Refusals.{Memory, answer_by};
 ghost use Rattle.pe_resource.specs.Contents.{map_of, IsContent};
 ghost use Rattle.pe_resource.specs.ResourceEntries.{entries_left};
 ghost use Rattle.pe_resource.specs.Resources.{manifest_view};

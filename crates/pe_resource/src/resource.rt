@@ -3,8 +3,7 @@
 ghost use Rattle.std.specs.Prelude.{◌≡◌, ◌≢◌, ◌+◌, ◌≤◌, length, Err, Ok};
 ghost use Rattle.std.specs.Option.{option_map};
 ghost use Rattle.pe_core.specs.Options.{default_options};
-ghost use Rattle.pe_core.specs.Refusals.{Gives, Memory};
-ghost use Rattle.pe_resource.specs.Answers.{answer_by};
+ghost use Rattle.pe_core.specs.Refusals.{Gives, Memory, answer_by};
 ghost use Rattle.pe_resource.specs.Contents.{map_of};
 ghost use Rattle.pe_resource.specs.Directories.{count};
 ghost use Rattle.pe_resource.specs.ResourceEntries.{entries, entries_left};

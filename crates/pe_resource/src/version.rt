@@ -2,8 +2,7 @@
 
 ghost use Rattle.std.specs.Prelude.{◌≡◌, ◌≢◌, ◌+◌, ◌==◌, ◌≤◌, length, Err, IfOk, string_bytes};
 ghost use Rattle.std.specs.Option.{option_map};
-ghost use Rattle.pe_core.specs.Refusals.{Gives, Memory};
-ghost use Rattle.pe_resource.specs.Answers.{answer_by};
+ghost use Rattle.pe_core.specs.Refusals.{Gives, Memory, answer_by};
 ghost use Rattle.pe_resource.specs.Contents.{map_of, version_of_content, IsVersion};
 ghost use Rattle.pe_resource.specs.ResourceEntries.{entries_left};
 ghost use Rattle.pe_resource.specs.VersionFields.{version_of_halves, high_half, low_half, version_text, fixed_info_at, fixed_info_in, file_strings, file_strings_view, text_in, version_view, version_in};

@@ -1,6 +1,6 @@
 -- From an address to the unwind record of the function that covers it.
 use Rattle.std.specs.Prelude.{◌≡◌, ◌↔◌, IsSomeAnd, ℕ, List, Option, Some, None, Result, Ok, Err}
-use Rattle.pe_core.specs.Refusals.{Refusal, Unmapped, FunctionCycle, kind_of, outcome, ◌>>=◌}
+use Rattle.pe_core.specs.Refusals.{Refusal, Unmapped, FunctionCycle, outcome, ◌>>=◌}
 use Rattle.pe_core.specs.declared.error.Error.{Error}
 use Rattle.pe_core.specs.declared.options.ParseOptions.{ParseOptions}
 use Rattle.pe_core.specs.declared.section_table.SectionTable.{SectionTable}
@@ -9,11 +9,6 @@ use Rattle.pe_unwind.specs.ExceptionTable.{ExceptionView, table_of}
 use Rattle.pe_unwind.specs.FunctionTable.{functions, Finds}
 use Rattle.pe_unwind.specs.Links.{Table, Follows, IsEndless, links_of}
 use Rattle.pe_unwind.specs.UnwindRecord.{UnwindInfoView, unwind_tests, unwind_record}
-
--- an answer with its value seen by view, and the kind of its refusal
-abbrev pub answer_by : {X Y : Type 0} → (X → Y) → Result X Error → Result Y Refusal
-answer_by view (Ok x) = Ok (view x)
-answer_by view (Err e) = Err (kind_of e)
 
 -- the unwind record at a place, if there is one
 abbrev pub record_at_place : List ℕ → Option ℕ → Result UnwindInfoView Refusal

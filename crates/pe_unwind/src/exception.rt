@@ -50,14 +50,14 @@ impl<'a> ExceptionData<'a> {
     ghost use Rattle.std.specs.Prelude.{◌≡◌, ◌<◌, ◌==◌, ◌↔◌, length, Err, IsOkAnd};
     ghost use Rattle.std.specs.Option.{option_map};
     ghost use Rattle.pe_core.specs.Options.{default_options};
-    ghost use Rattle.pe_core.specs.Refusals.{Gives, FunctionCycle};
+    ghost use Rattle.pe_core.specs.Refusals.{Gives, FunctionCycle, answer_by};
     ghost use Rattle.pe_unwind.specs.ExceptionTable.{exception_at, table_of, function_of};
     ghost use Rattle.pe_unwind.specs.Arm64Functions.{arm64_functions, arm64_function_items, items_of_arm64_functions, arm64_function_of};
     ghost use Rattle.pe_unwind.specs.Arm64Record.{info_view};
     ghost use Rattle.pe_unwind.specs.Arm64Unwinding.{info_of_function};
     ghost use Rattle.pe_unwind.specs.FunctionTable.{functions, function_items, items_of_functions, answer_of, Finds};
     ghost use Rattle.pe_unwind.specs.Links.{IsEndless, links_of, table_view};
-    ghost use Rattle.pe_unwind.specs.Unwinding.{Unwinds, UnwindsAt, CyclesAt, answer_by, record_at_address};
+    ghost use Rattle.pe_unwind.specs.Unwinding.{Unwinds, UnwindsAt, CyclesAt, record_at_address};
     ghost use Rattle.pe_unwind.specs.UnwindRecord.{unwind_view};
 
     /// The exception directory of an x64 image, with the default options.

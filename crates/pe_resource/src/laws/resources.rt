@@ -4,7 +4,7 @@ ghost use Rattle.std.specs.Prelude.{◌≡◌, ◌↔◌, ◌<◌, ◌^◌, ℕ,
 ghost use Rattle.std.specs.Ordering.{nat_cmp};
 ghost use Rattle.std.specs.declared.cmp.Ordering.TheVariants.{Equal};
 ghost use Rattle.std.specs.Iterator.{Drains};
-ghost use Rattle.pe_core.specs.Refusals.{Refusal};
+ghost use Rattle.pe_core.specs.Refusals.{Refusal, answer_by};
 ghost use Rattle.pe_core.specs.declared.data_directories.DataDirectory.{DataDirectory};
 ghost use Rattle.pe_core.specs.declared.error.Error.{Error};
 ghost use Rattle.pe_core.specs.declared.options.ParseMode.{ParseMode};
@@ -15,7 +15,6 @@ ghost use Rattle.pe_resource.specs.declared.entry.ResourceEntry.{ResourceEntry};
 ghost use Rattle.pe_resource.specs.declared.string.ResourceString.{ResourceString};
 ghost use Rattle.pe_resource.specs.declared.string.ResourceStringIterator.{ResourceStringIterator};
 ghost use Rattle.pe_resource.specs.declared.version.VersionField.{VersionField};
-ghost use Rattle.pe_resource.specs.Answers.{answer_by};
 ghost use Rattle.pe_resource.specs.ResourceEntries.{entry_of, number_of, items_left};
 ghost use Rattle.pe_resource.specs.ResourceWalk.{Walks};
 ghost use Rattle.pe_resource.specs.Resources.{ResourceView, IsResource};
