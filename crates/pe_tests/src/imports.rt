@@ -67,7 +67,7 @@ fn lists_imports(rt: HostRuntime) -> std::result::Result<(), Fail> {
     assert_eq!(rt; data.import_data.len(), 1);
     let libraries = data.libraries(rt.alloc())?;
     assert_eq!(rt; libraries.len(), 1);
-    assert_eq!(rt; libraries[0], "a.dll");
+    assert_eq!(rt; *libraries.first().ok_or("none")?, "a.dll");
     Ok(())
 }
 
@@ -90,7 +90,8 @@ fn lists_narrow_imports(rt: HostRuntime) -> std::result::Result<(), Fail> {
     let data = ImportData::parse_with_opts(
         alloc, &bytes, DIRECTORY, &sections, ALIGNMENT, &opts, false,
     )?;
-    assert_eq!(rt; data.import_data[0].lookups.len(), 8);
+    let record = data.import_data.first().ok_or("none")?;
+    assert_eq!(rt; record.lookups.len(), 8);
     let imports = Import::parse_with_opts(
         alloc, &bytes, &data, &sections, ALIGNMENT, &opts, false,
     )?;
@@ -113,22 +114,23 @@ fn flat() -> ParseOptions {
     }
 }
 
-/// A directory of libraries with these names, each with the address of its own zero entry as its list.
+/// A directory of libraries with these names, whose lists are all the zero entry behind the records.
 fn naming(alloc: Global, names: &[&str]) -> std::result::Result<Vec<u8>, AllocError> {
-    let mut bytes = vec![in alloc; 0; 20 * names.len() + 28]?;
-    for (i, name) in names.iter().enumerate() {
-        let place = bytes.len() as u32;
-        let end = (20 * names.len() + 20) as u32;
-        for (offset, number) in [(12, place), (16, end)] {
-            for (k, byte) in u32::to_le_bytes(number).iter().enumerate() {
-                if let Some(slot) = bytes.get_mut(20 * i + offset + k) {
-                    *slot = *byte;
-                }
-            }
+    let count = u32::try_from(names.len()).unwrap_or(0);
+    let end = count.wrapping_mul(20).wrapping_add(20);
+    let mut bytes = Vec::new(alloc);
+    let mut texts: Vec<u8> = Vec::new(alloc);
+    for name in names {
+        let before = u32::try_from(texts.len()).unwrap_or(0);
+        let place = end.wrapping_add(8).wrapping_add(before);
+        for number in [0, 0, 0, place, end] {
+            bytes.extend_from_slice(&u32::to_le_bytes(number))?;
         }
-        bytes.extend_from_slice(name.as_bytes())?;
-        bytes.push(0)?;
+        texts.extend_from_slice(name.as_bytes())?;
+        texts.push(0)?;
     }
+    bytes.extend_from_slice(&[0; 28])?;
+    bytes.extend_from_slice(&texts)?;
     Ok(bytes)
 }
 
@@ -275,7 +277,8 @@ fn lists_without_place(rt: HostRuntime) -> std::result::Result<(), Fail> {
     let bytes = with_byte(importing(rt.alloc(), 0x410)?, 0x261, 0x30);
     let data = directory_of(rt.alloc(), &bytes)?;
     assert_eq!(rt; data.import_data.len(), 1);
-    assert!(rt; data.import_data[0].lookups.is_empty());
+    let record = data.import_data.first().ok_or("none")?;
+    assert!(rt; record.lookups.is_empty());
     assert!(rt; imports_of(rt.alloc(), &bytes)?.is_empty());
     Ok(())
 }
