@@ -20,3 +20,5 @@ pub mod Gathering
 pub mod ImportLists
 pub mod Libraries
 pub mod Equality
+pub mod ReasonEquality
+pub mod FieldEquality

@@ -1,5 +1,6 @@
 pub mod Refusals
 pub mod Names
+pub mod Traits
 pub mod Bytes
 pub mod CountedTable
 pub mod Text

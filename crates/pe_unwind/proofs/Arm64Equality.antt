@@ -6,7 +6,7 @@ use Rattle.pe_unwind.specs.declared.arm64.codes.Arm64CustomStackCase.{Arm64Custo
 use Rattle.pe_unwind.specs.declared.arm64.codes.Arm64UnwindCode.{Arm64UnwindCode}
 use Rattle.pe_unwind.specs.declared.arm64.codes.Arm64UnwindCode.TheVariants.{AllocSmall, SaveR19R20Preindexed, SaveFpLr, SaveFpLrPreindexed, AllocMedium, SaveRegPair, SaveRegPairPreindexed, SaveReg, SaveRegPreindexed, SaveLrPair, SaveFRegPair, SaveFRegPairPreindexed, SaveFReg, SaveFRegPreindexed, AllocZ, AllocLarge, SetFp, AddFp, Nop, End, EndC, SaveNext, SaveAnyReg, SaveZReg, SavePReg, CustomStack, PacSignLr, Reserved}
 use Rattle.pe_unwind.specs.declared.arm64.codes.Arm64UnwindCodeData.{Arm64UnwindCodeData}
-use Rattle.pe_unwind.specs.Traits.{TellsApart, IsEquality}
+use Rattle.pe_core.specs.Traits.{TellsApart, IsEquality}
 
 -- the test tells each code apart
 pub record TellsCodes (eq : Arm64UnwindCode → Arm64UnwindCode → Bool) : Type 0 where

@@ -1,4 +1,3 @@
-pub mod Traits
 pub mod Registers
 pub mod FunctionTable
 pub mod ScopeTable

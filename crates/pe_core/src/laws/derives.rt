@@ -1,6 +1,6 @@
 //! What `==` and `clone` mean: two values are equal if all their fields are, and a clone is its original.
 
-ghost use Rattle.std.specs.Prelude.{◌≡◌, ◌↔◌, IsTrue};
+ghost use Rattle.std.specs.Prelude.{ℕ};
 ghost use Rattle.pe_core.specs.declared.options.ParseMode.{ParseMode};
 ghost use Rattle.pe_core.specs.declared.options.ParseOptions.{ParseOptions};
 ghost use Rattle.pe_core.specs.declared.data_directories.DataDirectory.{DataDirectory};
@@ -13,40 +13,136 @@ ghost use Rattle.pe_core.specs.declared.optional_header.StandardFields.{Standard
 ghost use Rattle.pe_core.specs.declared.optional_header.WindowsFields.{WindowsFields};
 ghost use Rattle.pe_core.specs.declared.section_table.SectionTable.{SectionTable};
 ghost use Rattle.pe_core.specs.declared.error.Reason.{Reason};
+ghost use Rattle.pe_core.specs.declared.error.Reason.TheVariants.{HeaderPointer, ImportName, StringTable, CertificateRevision, CertificateType, CertificateSize, CertificateTable, Unmapped, DebugBounds, DebugSize, DebugData, PogoSize, PogoName, ExceptionSize, ExceptionOffset, ExceptionBounds, FunctionIndex, FunctionLink, FunctionCycle, UnwindVersion, UnwindCode, Arm64Version, Arm64Stream, Arm64Cut, ResourceBounds, ResourceCycle, ResourceString, TeSize, NoOptionalHeader, WriteAlignment, WriteSymbols, WriteOverlap, WriteSection, WriteFit};
+ghost use Rattle.pe_core.specs.declared.symbol.Symbol.{Symbol};
+ghost use Rattle.pe_core.specs.declared.symbol.SymbolTable.{SymbolTable};
+ghost use Rattle.pe_core.specs.declared.strtab.Strtab.{Strtab};
+ghost use Rattle.pe_core.specs.declared.relocation.RelocationData.{RelocationData};
+ghost use Rattle.pe_core.specs.declared.import.ImportDirectoryEntry.{ImportDirectoryEntry};
+ghost use Rattle.pe_core.specs.declared.export.ExportDirectoryTable.{ExportDirectoryTable};
+ghost use Rattle.pe_core.specs.declared.optional_header.OptionalHeader.{OptionalHeader};
+ghost use Rattle.pe_core.specs.Header.{optional_header_view};
+ghost use Rattle.pe_core.specs.Traits.{TellsApart, IsEquality, ComparesBy, Copies};
 
 use crate::data_directories::{DataDirectories, DataDirectory};
 use crate::error::Reason;
+use crate::export::ExportDirectoryTable;
 use crate::header::{CoffHeader, DosHeader, TeHeader};
-use crate::optional_header::{StandardFields, WindowsFields};
+use crate::import::ImportDirectoryEntry;
+use crate::optional_header::{OptionalHeader, StandardFields, WindowsFields};
 use crate::options::{ParseMode, ParseOptions};
+use crate::relocation::RelocationData;
 use crate::section_table::SectionTable;
+use crate::strtab::Strtab;
+use crate::symbol::{Symbol, SymbolTable};
 
 /// Values of plain numbers are equal if they are the same.
 pub fn equal_records_are_the_same()
-    ensures parse_mode { (x y : ParseMode) → IsTrue (⟦<ParseMode as PartialEq>⟧.eq x y) ↔ (x ≡ y) }
-    ensures data_directory { (x y : DataDirectory) → IsTrue (⟦<DataDirectory as PartialEq>⟧.eq x y) ↔ (x ≡ y) }
-    ensures dos_header { (x y : DosHeader) → IsTrue (⟦<DosHeader as PartialEq>⟧.eq x y) ↔ (x ≡ y) }
-    ensures coff_header { (x y : CoffHeader) → IsTrue (⟦<CoffHeader as PartialEq>⟧.eq x y) ↔ (x ≡ y) }
-    ensures te_header { (x y : TeHeader) → IsTrue (⟦<TeHeader as PartialEq>⟧.eq x y) ↔ (x ≡ y) }
-    ensures standard_fields { (x y : StandardFields) → IsTrue (⟦<StandardFields as PartialEq>⟧.eq x y) ↔ (x ≡ y) }
-    ensures windows_fields { (x y : WindowsFields) → IsTrue (⟦<WindowsFields as PartialEq>⟧.eq x y) ↔ (x ≡ y) }
+    ensures parse_mode { IsEquality ⟦<ParseMode as PartialEq>⟧.eq }
+    ensures data_directory { IsEquality ⟦<DataDirectory as PartialEq>⟧.eq }
+    ensures dos_header { IsEquality ⟦<DosHeader as PartialEq>⟧.eq }
+    ensures coff_header { IsEquality ⟦<CoffHeader as PartialEq>⟧.eq }
+    ensures te_header { IsEquality ⟦<TeHeader as PartialEq>⟧.eq }
+    ensures standard_fields { IsEquality ⟦<StandardFields as PartialEq>⟧.eq }
+    ensures windows_fields { IsEquality ⟦<WindowsFields as PartialEq>⟧.eq }
+    ensures symbol { IsEquality ⟦<Symbol as PartialEq>⟧.eq }
+    ensures import_directory_entry { IsEquality ⟦<ImportDirectoryEntry as PartialEq>⟧.eq }
+    ensures export_directory_table { IsEquality ⟦<ExportDirectoryTable as PartialEq>⟧.eq }
 {}
 
 /// Directories are equal exactly if the rows that they keep are.
 pub fn equal_directories_keep_the_same_rows()
-    ensures { (x y : DataDirectories) → IsTrue (⟦<DataDirectories as PartialEq>⟧.eq x y) ↔ (kept_rows x ≡ kept_rows y) }
+    ensures { ComparesBy kept_rows ⟦<DataDirectories as PartialEq>⟧.eq }
+{}
+
+/// `==` tells each kind of reason from all others, a clause for each.
+fn equality_of_each_reason()
+    ensures header_pointer { (n : ℕ) → TellsApart ⟦<Reason as PartialEq>⟧.eq (HeaderPointer n) }
+    ensures import_name { (n : ℕ) → TellsApart ⟦<Reason as PartialEq>⟧.eq (ImportName n) }
+    ensures string_table { (n : ℕ) → TellsApart ⟦<Reason as PartialEq>⟧.eq (StringTable n) }
+    ensures certificate_revision { (n : ℕ) → TellsApart ⟦<Reason as PartialEq>⟧.eq (CertificateRevision n) }
+    ensures certificate_type { (n : ℕ) → TellsApart ⟦<Reason as PartialEq>⟧.eq (CertificateType n) }
+    ensures certificate_size { (n : ℕ) → TellsApart ⟦<Reason as PartialEq>⟧.eq (CertificateSize n) }
+    ensures certificate_table { (n : ℕ) → TellsApart ⟦<Reason as PartialEq>⟧.eq (CertificateTable n) }
+    ensures unmapped { (n : ℕ) → TellsApart ⟦<Reason as PartialEq>⟧.eq (Unmapped n) }
+    ensures debug_bounds { (n : ℕ) → TellsApart ⟦<Reason as PartialEq>⟧.eq (DebugBounds n) }
+    ensures debug_size { (n : ℕ) → TellsApart ⟦<Reason as PartialEq>⟧.eq (DebugSize n) }
+    ensures debug_data { (n : ℕ) → TellsApart ⟦<Reason as PartialEq>⟧.eq (DebugData n) }
+    ensures pogo_size { (n : ℕ) → TellsApart ⟦<Reason as PartialEq>⟧.eq (PogoSize n) }
+    ensures pogo_name { (m n : ℕ) → TellsApart ⟦<Reason as PartialEq>⟧.eq (PogoName m n) }
+    ensures exception_size { (n : ℕ) → TellsApart ⟦<Reason as PartialEq>⟧.eq (ExceptionSize n) }
+    ensures exception_offset { (n : ℕ) → TellsApart ⟦<Reason as PartialEq>⟧.eq (ExceptionOffset n) }
+    ensures exception_bounds { (n : ℕ) → TellsApart ⟦<Reason as PartialEq>⟧.eq (ExceptionBounds n) }
+    ensures function_index { (n : ℕ) → TellsApart ⟦<Reason as PartialEq>⟧.eq (FunctionIndex n) }
+    ensures function_link { (n : ℕ) → TellsApart ⟦<Reason as PartialEq>⟧.eq (FunctionLink n) }
+    ensures function_cycle { (n : ℕ) → TellsApart ⟦<Reason as PartialEq>⟧.eq (FunctionCycle n) }
+    ensures unwind_version { (n : ℕ) → TellsApart ⟦<Reason as PartialEq>⟧.eq (UnwindVersion n) }
+    ensures unwind_code { (n : ℕ) → TellsApart ⟦<Reason as PartialEq>⟧.eq (UnwindCode n) }
+    ensures arm64_version { (n : ℕ) → TellsApart ⟦<Reason as PartialEq>⟧.eq (Arm64Version n) }
+    ensures arm64_stream { (m n : ℕ) → TellsApart ⟦<Reason as PartialEq>⟧.eq (Arm64Stream m n) }
+    ensures arm64_cut { (n : ℕ) → TellsApart ⟦<Reason as PartialEq>⟧.eq (Arm64Cut n) }
+    ensures resource_bounds { (n : ℕ) → TellsApart ⟦<Reason as PartialEq>⟧.eq (ResourceBounds n) }
+    ensures resource_cycle { (n : ℕ) → TellsApart ⟦<Reason as PartialEq>⟧.eq (ResourceCycle n) }
+    ensures resource_string { (n : ℕ) → TellsApart ⟦<Reason as PartialEq>⟧.eq (ResourceString n) }
+    ensures te_size { (n : ℕ) → TellsApart ⟦<Reason as PartialEq>⟧.eq (TeSize n) }
+    ensures no_optional_header { TellsApart ⟦<Reason as PartialEq>⟧.eq NoOptionalHeader }
+    ensures write_alignment { (n : ℕ) → TellsApart ⟦<Reason as PartialEq>⟧.eq (WriteAlignment n) }
+    ensures write_symbols { (n : ℕ) → TellsApart ⟦<Reason as PartialEq>⟧.eq (WriteSymbols n) }
+    ensures write_overlap { (m n : ℕ) → TellsApart ⟦<Reason as PartialEq>⟧.eq (WriteOverlap m n) }
+    ensures write_section { (n : ℕ) → TellsApart ⟦<Reason as PartialEq>⟧.eq (WriteSection n) }
+    ensures write_fit { (m n : ℕ) → TellsApart ⟦<Reason as PartialEq>⟧.eq (WriteFit m n) }
+{}
+
+/// Reasons are equal exactly if they are of one kind and tell the same.
+pub fn reasons_are_equal_if_they_are_the_same()
+    ensures { IsEquality ⟦<Reason as PartialEq>⟧.eq }
+{
+    equality_of_each_reason()
+}
+
+/// Options are equal exactly if all their fields are.
+pub fn equal_options_are_the_same()
+    ensures { IsEquality ⟦<ParseOptions as PartialEq>⟧.eq }
+{
+    equal_records_are_the_same()
+}
+
+/// Section headers are equal exactly if all their fields are.
+pub fn equal_sections_are_the_same()
+    ensures { IsEquality ⟦<SectionTable as PartialEq>⟧.eq }
+{}
+
+/// Optional headers are equal exactly if their fields and the directories that they keep are.
+pub fn equal_optional_headers_look_the_same()
+    ensures { ComparesBy optional_header_view ⟦<OptionalHeader as PartialEq>⟧.eq }
+{
+    equal_records_are_the_same();
+    equal_directories_keep_the_same_rows()
+}
+
+/// Ranges of the input are equal exactly if their bytes are.
+pub fn equal_ranges_have_equal_bytes()
+    ensures symbol_table { ComparesBy (λ t. t.bytes.now) ⟦<SymbolTable<'static> as PartialEq>⟧.eq }
+    ensures strtab { ComparesBy (λ t. t.bytes.now) ⟦<Strtab<'static> as PartialEq>⟧.eq }
+    ensures relocation_data { ComparesBy (λ d. d.bytes.now) ⟦<RelocationData<'static> as PartialEq>⟧.eq }
 {}
 
 /// A clone is its original.
 pub fn clones_of_records_are_the_same()
-    ensures parse_mode { (x y : ParseMode) → ⟦<ParseMode as Clone>⟧.is_clone x y → y ≡ x }
-    ensures parse_options { (x y : ParseOptions) → ⟦<ParseOptions as Clone>⟧.is_clone x y → y ≡ x }
-    ensures data_directory { (x y : DataDirectory) → ⟦<DataDirectory as Clone>⟧.is_clone x y → y ≡ x }
-    ensures dos_header { (x y : DosHeader) → ⟦<DosHeader as Clone>⟧.is_clone x y → y ≡ x }
-    ensures coff_header { (x y : CoffHeader) → ⟦<CoffHeader as Clone>⟧.is_clone x y → y ≡ x }
-    ensures te_header { (x y : TeHeader) → ⟦<TeHeader as Clone>⟧.is_clone x y → y ≡ x }
-    ensures standard_fields { (x y : StandardFields) → ⟦<StandardFields as Clone>⟧.is_clone x y → y ≡ x }
-    ensures windows_fields { (x y : WindowsFields) → ⟦<WindowsFields as Clone>⟧.is_clone x y → y ≡ x }
-    ensures section_table { (x y : SectionTable) → ⟦<SectionTable as Clone>⟧.is_clone x y → y ≡ x }
-    ensures reason { (x y : Reason) → ⟦<Reason as Clone>⟧.is_clone x y → y ≡ x }
+    ensures parse_mode { Copies ⟦<ParseMode as Clone>⟧.is_clone }
+    ensures parse_options { Copies ⟦<ParseOptions as Clone>⟧.is_clone }
+    ensures data_directory { Copies ⟦<DataDirectory as Clone>⟧.is_clone }
+    ensures dos_header { Copies ⟦<DosHeader as Clone>⟧.is_clone }
+    ensures coff_header { Copies ⟦<CoffHeader as Clone>⟧.is_clone }
+    ensures te_header { Copies ⟦<TeHeader as Clone>⟧.is_clone }
+    ensures standard_fields { Copies ⟦<StandardFields as Clone>⟧.is_clone }
+    ensures windows_fields { Copies ⟦<WindowsFields as Clone>⟧.is_clone }
+    ensures section_table { Copies ⟦<SectionTable as Clone>⟧.is_clone }
+    ensures symbol { Copies ⟦<Symbol as Clone>⟧.is_clone }
+    ensures symbol_table { Copies ⟦<SymbolTable<'static> as Clone>⟧.is_clone }
+    ensures strtab { Copies ⟦<Strtab<'static> as Clone>⟧.is_clone }
+    ensures relocation_data { Copies ⟦<RelocationData<'static> as Clone>⟧.is_clone }
+    ensures import_directory_entry { Copies ⟦<ImportDirectoryEntry as Clone>⟧.is_clone }
+    ensures export_directory_table { Copies ⟦<ExportDirectoryTable as Clone>⟧.is_clone }
+    ensures reason { Copies ⟦<Reason as Clone>⟧.is_clone }
 {}

@@ -20,7 +20,7 @@ ghost use Rattle.pe_unwind.specs.declared.unwind_info.UnwindInfo.{UnwindInfo};
 ghost use Rattle.pe_unwind.specs.declared.arm64.info.Arm64ExceptionHandler.{Arm64ExceptionHandler};
 ghost use Rattle.pe_unwind.specs.declared.arm64.info.Arm64UnwindInfo.{Arm64UnwindInfo};
 ghost use Rattle.pe_unwind.specs.declared.arm64.codes.Arm64UnwindCode.TheVariants.{AllocSmall, SaveR19R20Preindexed, SaveFpLr, SaveFpLrPreindexed, AllocMedium, SaveRegPair, SaveRegPairPreindexed, SaveReg, SaveRegPreindexed, SaveLrPair, SaveFRegPair, SaveFRegPairPreindexed, SaveFReg, SaveFRegPreindexed, AllocZ, AllocLarge, SetFp, AddFp, Nop, End, EndC, SaveNext, SaveAnyReg, SaveZReg, SavePReg, CustomStack, PacSignLr, Reserved};
-ghost use Rattle.pe_unwind.specs.Traits.{TellsApart, IsEquality, ComparesBy, Copies};
+ghost use Rattle.pe_core.specs.Traits.{TellsApart, IsEquality, ComparesBy, Copies};
 ghost use Rattle.pe_unwind.specs.Arm64Record.{arm64_handler_view};
 ghost use Rattle.pe_unwind.specs.UnwindRecord.{handler_view};
 
