@@ -1,12 +1,12 @@
 -- Certificates one behind the other.
 use Rattle.std.proofs.Common.{Bool, cond, ◌≡◌, ℕ, zero, suc, ◌+◌, ◌<◌, ◌≤◌, true, false, nat_lt, nat_le, inl, inr, length, map, slice_get, Some, List, [], ◌∷◌, ◌++◌, Result, Ok, Err, Vec, refl, ap, sym, ◌∙◌, subst, arith}
 use Rattle.std.proofs.lemmas.Bool.Decides.{nat_tests}
-use Rattle.std.proofs.lemmas.List.{map_push}
-use Rattle.pe_core.specs.Refusals.{Refusal, CertificateTable, kind_of, GivesUnlessMemory, ◌>>=◌}
+use Rattle.std.proofs.lemmas.List.{length-append, map_push}
+use Rattle.pe_core.specs.Refusals.{Refusal, Memory, CertificateTable, kind_of, IfMemory, GivesUnlessMemory, ◌>>=◌}
 use Rattle.pe_core.specs.declared.error.Error.{Error}
 use Rattle.pe_core.specs.declared.error.Error.TheVariants as errors
 use Rattle.pe_records.specs.declared.certificate_table.AttributeCertificate.{AttributeCertificate}
-use Rattle.pe_records.specs.Certificates.{CertificateView, certificate_at, certificate, certificate_tests, Stand, IsListing, CannotGoOn, IsRefused, certificates_from, certificates_at, certificate_view, Lists}
+use Rattle.pe_records.specs.Certificates.{CertificateView, certificate_at, certificate, certificate_tests, Stand, IsListing, CannotGoOn, IsRefused, ListingBegins, certificates_from, certificates_at, certificate_view, Lists}
 
 -- the certificates stand one behind the other from p on, each begins before the end, and the last ends at q
 abbrev pub StandFrom : List ℕ → ℕ → ℕ → List CertificateView → ℕ → Type 0
@@ -86,6 +86,24 @@ refused b address size end cs q r h same s k e =
     let is : Placed b (address + size) address cs q = placed b (address + size) address cs q (rw same at s) in
     record { within = h; certificates = cs; place = is.place; first = is.first; stand = is.stand; last = omega (arith, is.last); refused = rw is.last e }
 
+-- where there is room for one more and it is read, a beginning stands
+pub begun : (b : List ℕ) (address size end : ℕ) (cs : List CertificateView) (c : CertificateView) (q r : ℕ) → address + size ≤ length b → end ≡ address + size → StandFrom b end address cs q → q < end → certificate_at b q ≡ Ok (c, r) → ListingBegins b address size
+begun b address size end cs c q r h same s k e =
+    let more : StandFrom b end address (cs ++ c ∷ []) r = stand_push b end address cs c q r s k e in
+    let is : Placed b (address + size) address (cs ++ c ∷ []) r = placed b (address + size) address (cs ++ c ∷ []) r (rw same at more) in
+    record { within = h; certificates = cs ++ c ∷ []; some = omega (arith, length-append cs (c ∷ [])); place = is.place; first = is.first; stand = is.stand }
+
+-- a certificate is not refused for memory
+not_for_memory : (b : List ℕ) (p : ℕ) → certificate_at b p ≡ Err Memory → ⊥
+unfolding certificate_at certificate certificate_tests
+not_for_memory b p e = grind (arith, nat_tests)
+
+pub never_memory : (b : List ℕ) (p : ℕ) (e : Error) (P : Type 0) → certificate_at b p ≡ Err (kind_of e) → IfMemory e P
+never_memory b p (errors.Malformed x) P h = tt
+never_memory b p (errors.BadMagic x) P h = tt
+never_memory b p (errors.Short x y) P h = tt
+never_memory b p (errors.Memory x) P h = absurd (not_for_memory b p h)
+
 -- ---- the listing as a function
 
 yes : (m n : ℕ) → m < n → nat_lt m n ≡ true
@@ -142,9 +160,9 @@ refusal_is b address size r (inr h) = cannot_go_on b address size r h
 -- what lists a table gives its listing
 pub listed_is : {Z : Type 0} (b : List ℕ) (address size : ℕ) (r : Result (Vec AttributeCertificate Z) Error) → Lists b address size r → GivesUnlessMemory (λ (v : Vec AttributeCertificate Z). map certificate_view v.items) r (certificates_at b address size)
 listed_is b address size (Ok v) l = listing_is b address size (map certificate_view v.items) l
-listed_is b address size (Err (errors.Malformed x)) l = refusal_is b address size (kind_of (errors.Malformed x)) l
-listed_is b address size (Err (errors.BadMagic x)) l = refusal_is b address size (kind_of (errors.BadMagic x)) l
-listed_is b address size (Err (errors.Short x y)) l = refusal_is b address size (kind_of (errors.Short x y)) l
+listed_is b address size (Err (errors.Malformed x)) l = refusal_is b address size (kind_of (errors.Malformed x)) l.0
+listed_is b address size (Err (errors.BadMagic x)) l = refusal_is b address size (kind_of (errors.BadMagic x)) l.0
+listed_is b address size (Err (errors.Short x y)) l = refusal_is b address size (kind_of (errors.Short x y)) l.0
 listed_is b address size (Err (errors.Memory x)) l = tt
 
 -- what the function gives is a listing or a refusal

@@ -4,6 +4,7 @@ pub mod DebugModes
 pub mod SpelledDebug
 pub mod PogoNames
 pub mod PogoReadings
+pub mod PogoWhole
 pub mod CertificateListings
 pub mod CertificatePieces
 pub mod CertificatesReadAgain

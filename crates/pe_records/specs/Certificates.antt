@@ -1,7 +1,7 @@
 -- Attribute certificates and the table that lists them. (PE format: attribute certificate table.)
 use Rattle.std.specs.Prelude.{◌≡◌, ℕ, zero, suc, ◌+◌, ◌-◌, ◌<◌, ◌≤◌, ◌==◌, ◌||◌, ◌⊎◌, Bool, true, false, List, [], ◌∷◌, map, length, slice_get, nat_lt, Some, Result, Ok, Err, Vec, if◌then◌else◌}
 use Rattle.pe_core.specs.Bytes.{le, holds, range}
-use Rattle.pe_core.specs.Refusals.{Refusal, Short, CertificateSize, CertificateRevision, CertificateType, CertificateTable, outcome, kind_of, UnlessMemory, ◌>>=◌}
+use Rattle.pe_core.specs.Refusals.{Refusal, Short, CertificateSize, CertificateRevision, CertificateType, CertificateTable, outcome, kind_of, UnlessMemory, IfMemory, ◌>>=◌}
 use Rattle.pe_core.specs.SectionMap.{rounded_up}
 use Rattle.pe_core.specs.declared.error.Error.{Error}
 use Rattle.pe_records.specs.declared.certificate_table.AttributeCertificateRevision.{AttributeCertificateRevision}
@@ -126,10 +126,19 @@ pub record CannotGoOn (b : List ℕ) (address size : ℕ) (refusal : Refusal) : 
 abbrev pub IsRefused : List ℕ → ℕ → ℕ → Refusal → Type 0
 IsRefused b address size refusal = ((length b < address + size) × (refusal ≡ CertificateTable)) ⊎ CannotGoOn b address size refusal
 
--- what listing a table answers, unless memory runs out
+-- the table has the beginning of a listing, with one certificate or more
+pub record ListingBegins (b : List ℕ) (address size : ℕ) : Type 0 where
+  pub within : address + size ≤ length b
+  pub certificates : List CertificateView
+  pub some : 0 < length certificates
+  pub place : ℕ → ℕ
+  pub first : place 0 ≡ address
+  pub stand : Stand b (address + size) place certificates
+
+-- what listing a table answers. Memory may run out, but is asked for only once a certificate of the table is read
 abbrev pub Lists : {Z : Type 0} → List ℕ → ℕ → ℕ → Result (Vec AttributeCertificate Z) Error → Type 0
 Lists b address size (Ok v) = IsListing b address size (map certificate_view v.items)
-Lists b address size (Err e) = UnlessMemory e (IsRefused b address size (kind_of e))
+Lists b address size (Err e) = UnlessMemory e (IsRefused b address size (kind_of e)) × IfMemory e (ListingBegins b address size)
 
 -- ---- the same as a function, for definitions that go on from the list; it is proved to be the listing
 

@@ -159,7 +159,7 @@ impl<'a> AttributeCertificate<'a> {
 }
 
 /// The certificates of the table, one behind the other.
-#[tactic(auto, using(crate::proofs::CertificateListings::next_above, crate::proofs::CertificateListings::listing, crate::proofs::CertificateListings::refused))]
+#[tactic(auto, using(crate::proofs::CertificateListings::next_above, crate::proofs::CertificateListings::listing, crate::proofs::CertificateListings::refused, crate::proofs::CertificateListings::begun, crate::proofs::CertificateListings::never_memory))]
 fn certificates_of_table<'a, A: Allocator>(
     alloc: A,
     bytes: &'a [u8],
@@ -183,7 +183,7 @@ fn certificates_of_table<'a, A: Allocator>(
 }
 
 /// The certificates of the table of this size at this place of the file, in their order. The last body may run past the
-/// table's end.
+/// table's end. Memory is asked for only once the table is known to be in the file and its first certificate is read.
 pub fn enumerate_certificates<'a, A: Allocator>(
     alloc: A,
     bytes: &'a [u8],

@@ -35,11 +35,12 @@ pub fn debug_iterators_give_the_entries()
         ⟦<ImageDebugDirectoryIterator<'static> as Iterator>⟧.next_gives t r u → r ≡ None }
 {}
 
-/// The items that an iterator of POGO entries gives are the entries of its bytes, a stream has one reading, and the
-/// iterator is over after a fault and after `None`.
+/// The items that an iterator of POGO entries gives are the entries of its bytes. Every byte string has a reading as a
+/// stream of entries, and one alone. The iterator is over after a fault and after `None`.
 pub fn pogo_streams_have_one_reading()
     ensures items { (s : POGOEntryIterator) (xs : List (Result POGOInfoEntry Error)) →
         Drains ⟦<POGOEntryIterator<'static> as Iterator>⟧.next_gives s xs → Entries (Stream.rest_of s) (map Stream.item_of xs) }
+    ensures exists { (b : List ℕ) → (xs : List (Result Entry Refusal)) × Entries b xs }
     ensures once { (b : List ℕ) (xs ys : List (Result Entry Refusal)) →
         Entries b xs → Entries b ys → xs ≡ ys }
     ensures fault { (s t u : POGOEntryIterator) (e : Error) (r : Option (Result POGOInfoEntry Error)) →
