@@ -20,14 +20,15 @@ ghost use Rattle.pe_core.specs.declared.strtab.Strtab.{Strtab};
 ghost use Rattle.pe_core.specs.declared.relocation.RelocationData.{RelocationData};
 ghost use Rattle.pe_core.specs.declared.import.ImportDirectoryEntry.{ImportDirectoryEntry};
 ghost use Rattle.pe_core.specs.declared.export.ExportDirectoryTable.{ExportDirectoryTable};
+ghost use Rattle.pe_core.specs.declared.header.Header.{Header};
 ghost use Rattle.pe_core.specs.declared.optional_header.OptionalHeader.{OptionalHeader};
-ghost use Rattle.pe_core.specs.Header.{optional_header_view};
+ghost use Rattle.pe_core.specs.Header.{optional_header_view, header_view};
 ghost use Rattle.pe_core.specs.Traits.{TellsApart, IsEquality, ComparesBy, Copies};
 
 use crate::data_directories::{DataDirectories, DataDirectory};
 use crate::error::Reason;
 use crate::export::ExportDirectoryTable;
-use crate::header::{CoffHeader, DosHeader, TeHeader};
+use crate::header::{CoffHeader, DosHeader, Header, TeHeader};
 use crate::import::ImportDirectoryEntry;
 use crate::optional_header::{OptionalHeader, StandardFields, WindowsFields};
 use crate::options::{ParseMode, ParseOptions};
@@ -118,6 +119,14 @@ pub fn equal_optional_headers_look_the_same()
 {
     equal_records_are_the_same();
     equal_directories_keep_the_same_rows()
+}
+
+/// Headers are equal exactly if their fields are, the stub by its bytes.
+pub fn equal_headers_look_the_same()
+    ensures { ComparesBy header_view ⟦<Header<'static> as PartialEq>⟧.eq }
+{
+    equal_records_are_the_same();
+    equal_optional_headers_look_the_same()
 }
 
 /// Ranges of the input are equal exactly if their bytes are.
