@@ -1,12 +1,13 @@
 -- The debug directory: the table that it points to, and the entries of the table.
 -- (PE format: debug directory; the bounds by mode and the fixup are this project's profile.)
-use Rattle.std.specs.Prelude.{◌≡◌, ℕ, ◌+◌, ◌-◌, ◌/◌, ◌%◌, ◌^◌, ◌==◌, List, [], ◌∷◌, length, drop, Option, Some, None, Result, Ok, Err, if◌then◌else◌}
+use Rattle.std.specs.Prelude.{◌≡◌, ℕ, ◌+◌, ◌/◌, ◌==◌, List, [], ◌∷◌, length, drop, Option, Some, None, Result, Ok, Err, if◌then◌else◌}
 use Rattle.std.specs.List.{find}
 use Rattle.pe_core.specs.Bytes.{le, holds, range}
 use Rattle.pe_core.specs.Options.{is_permissive}
 use Rattle.pe_core.specs.Refusals.{Refusal, Unmapped, DebugBounds, kind_of}
 use Rattle.pe_core.specs.Rows as Rows
 use Rattle.pe_core.specs.SectionMap.{place_of}
+use Rattle.pe_core.specs.TerseHeader.{reduced}
 use Rattle.pe_core.specs.declared.data_directories.DataDirectory.{DataDirectory}
 use Rattle.pe_core.specs.declared.error.Error.{Error}
 use Rattle.pe_core.specs.declared.options.ParseMode.{ParseMode}
@@ -29,10 +30,6 @@ unfoldable pub directory_table : ParseOptions → List ℕ → DataDirectory →
 directory_table o b d sections alignment = table_at b o.parse_mode d.size (place_of o.resolve_rva alignment sections d.virtual_address)
 
 -- ---- its entries
-
--- the address less the fixup, modulo 2 ^ 32
-abbrev pub reduced : ℕ → ℕ → ℕ
-reduced fixup address = (address + (2 ^ 32 - fixup)) % 2 ^ 32
 
 -- the entry of 28 bytes at p
 unfoldable pub entry_at : ℕ → List ℕ → ℕ → ImageDebugDirectory

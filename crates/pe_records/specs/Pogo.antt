@@ -45,10 +45,10 @@ Entries b (Ok e ∷ more) = (b ≢ []) × (n : ℕ) × BeginsWith b e n × Entri
 Entries b (Err r ∷ more) = (b ≢ []) × BeginsWithNone b × (r ≡ fault b) × (more ≡ [])
 
 -- what one call of next answers, and what it leaves
-abbrev pub GivesEntry : List ℕ → Option (Result POGOInfoEntry Error) → List ℕ → Type 0
-GivesEntry b None left = (b ≡ []) × (left ≡ [])
-GivesEntry b (Some (Ok e)) left = (b ≢ []) × (n : ℕ) × BeginsWith b (entry_of e) n × (left ≡ drop n b)
-GivesEntry b (Some (Err e)) left = (b ≢ []) × BeginsWithNone b × (kind_of e ≡ fault b) × (left ≡ [])
+abbrev pub GivesPogoEntry : List ℕ → Option (Result POGOInfoEntry Error) → List ℕ → Type 0
+GivesPogoEntry b None left = (b ≡ []) × (left ≡ [])
+GivesPogoEntry b (Some (Ok e)) left = (b ≢ []) × (n : ℕ) × BeginsWith b (entry_of e) n × (left ≡ drop n b)
+GivesPogoEntry b (Some (Err e)) left = (b ≢ []) × BeginsWithNone b × (kind_of e ≡ fault b) × (left ≡ [])
 
 -- what reading the entry at the front answers
 abbrev pub Reads : List ℕ → Result (POGOInfoEntry × ℕ) Error → Type 0
@@ -56,9 +56,9 @@ Reads b (Ok x) = BeginsWith b (entry_of x.0) x.1
 Reads b (Err e) = BeginsWithNone b × (kind_of e ≡ fault b)
 
 -- what an iterator has left
-abbrev pub rest_of : POGOEntryIterator → List ℕ
-rest_of s = s.bytes.now
+abbrev pub stream_of : POGOEntryIterator → List ℕ
+stream_of s = s.bytes.now
 
-abbrev pub item_of : Result POGOInfoEntry Error → Result Entry Refusal
-item_of (Ok e) = Ok (entry_of e)
-item_of (Err e) = Err (kind_of e)
+abbrev pub stream_item_of : Result POGOInfoEntry Error → Result Entry Refusal
+stream_item_of (Ok e) = Ok (entry_of e)
+stream_item_of (Err e) = Err (kind_of e)

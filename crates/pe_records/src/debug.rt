@@ -13,7 +13,8 @@ ghost use Rattle.std.specs.Iterator.SizeHint.{IsWithinCount};
 ghost use Rattle.std.specs.Option.{option_map};
 ghost use Rattle.pe_core.specs.Refusals.{Gives};
 ghost use Rattle.pe_core.specs.Options.{default_options};
-ghost use Rattle.pe_records.specs.DebugDirectory.{reduced, entry_at, directory_table, GivesEntry, rest_of, fixup_of, count, first_of_type};
+ghost use Rattle.pe_core.specs.TerseHeader.{reduced};
+ghost use Rattle.pe_records.specs.DebugDirectory.{entry_at, directory_table, GivesEntry, rest_of, fixup_of, count, first_of_type};
 ghost use Rattle.pe_records.specs.DebugRecords.{debug_data, debug_view, records, table_of, fixup_of_data, of_entry, some_of_entry, pdb70_view, pdb70_of, pdb20_view, pdb20_of, features_of, characteristics_of, repro_view, repro_of, pogo_view, pogo_of};
 
 pub use codeview::{CodeviewPDB20DebugInfo, CodeviewPDB70DebugInfo};

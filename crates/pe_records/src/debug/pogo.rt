@@ -6,7 +6,7 @@ ghost use Rattle.std.specs.Option.{option_map};
 ghost use Rattle.pe_core.specs.Options.{default_options};
 ghost use Rattle.pe_core.specs.Refusals.{Gives};
 ghost use Rattle.pe_records.specs.DebugRecords.{pogo_view, pogo_of, pogo_record};
-ghost use Rattle.pe_records.specs.Pogo.{Reads, GivesEntry, rest_of};
+ghost use Rattle.pe_records.specs.Pogo.{Reads, GivesPogoEntry, stream_of};
 
 use crate::debug::ImageDebugDirectory;
 use crate::debug::constants::{IMAGE_DEBUG_POGO_SIGNATURE_LTCG, IMAGE_DEBUG_POGO_SIGNATURE_PGU};
@@ -66,7 +66,7 @@ impl<'a> POGOInfo<'a> {
 
     /// The entries of the record.
     pub fn entries(&self) -> POGOEntryIterator<'a>
-        ensures { rest_of result ≡ self.now.bytes.now }
+        ensures { stream_of result ≡ self.now.bytes.now }
     {
         POGOEntryIterator::new(self.bytes)
     }
@@ -135,7 +135,7 @@ pub struct POGOEntryIterator<'a> {
 impl<'a> POGOEntryIterator<'a> {
     /// The entries of these bytes, which stand behind a record's signature.
     pub fn new(bytes: &'a [u8]) -> Self
-        ensures { rest_of result ≡ bytes.entry.now }
+        ensures { stream_of result ≡ bytes.entry.now }
     {
         POGOEntryIterator { bytes }
     }
@@ -144,9 +144,9 @@ impl<'a> POGOEntryIterator<'a> {
 impl<'a> Iterator for POGOEntryIterator<'a> {
     type Item = Result<POGOInfoEntry<'a>>;
 
-    ghost next_gives = { λ s r t. GivesEntry (rest_of s) r (rest_of t) };
+    ghost next_gives = { λ s r t. GivesPogoEntry (stream_of s) r (stream_of t) };
 
-    ghost remaining = { λ s. at_most (length (rest_of s)) };
+    ghost remaining = { λ s. at_most (length (stream_of s)) };
 
     fn next(&mut self) -> Option<Result<POGOInfoEntry<'a>>> {
         let bytes = self.bytes;

@@ -16,8 +16,7 @@ ghost use Rattle.pe_records.specs.declared.debug.pogo.POGOEntryIterator.{POGOEnt
 ghost use Rattle.pe_records.specs.DebugDirectory.{entries, count, rest_of, fixup_of, item_of};
 ghost use Rattle.pe_records.specs.DebugRecords.{DebugFields, Pdb70, Pdb20, Pogo, pdb70_of, pdb20_of, debug_data, features_at, pdb70_record, pdb20_record, pogo_record, Repro, repro_record};
 ghost use Rattle.pe_records.specs.DebugSpelling.{spell_pdb70, spell_pdb20, spell_features, spell_pogo, spell_repro, size_of_repro};
-ghost use Rattle.pe_records.specs.Pogo.{Entry, Entries};
-ghost use Rattle.pe_records.specs.Pogo as Stream;
+ghost use Rattle.pe_records.specs.Pogo.{Entry, Entries, stream_of, stream_item_of};
 
 use crate::debug::{ImageDebugDirectoryIterator, POGOEntryIterator};
 
@@ -39,7 +38,7 @@ pub fn debug_iterators_give_the_entries()
 /// stream of entries, and one alone. The iterator is over after a fault and after `None`.
 pub fn pogo_streams_have_one_reading()
     ensures items { (s : POGOEntryIterator) (xs : List (Result POGOInfoEntry Error)) →
-        Drains ⟦<POGOEntryIterator<'static> as Iterator>⟧.next_gives s xs → Entries (Stream.rest_of s) (map Stream.item_of xs) }
+        Drains ⟦<POGOEntryIterator<'static> as Iterator>⟧.next_gives s xs → Entries (stream_of s) (map stream_item_of xs) }
     ensures exists { (b : List ℕ) → (xs : List (Result Entry Refusal)) × Entries b xs }
     ensures once { (b : List ℕ) (xs ys : List (Result Entry Refusal)) →
         Entries b xs → Entries b ys → xs ≡ ys }
