@@ -7,9 +7,9 @@ ghost use Rattle.pe_core.specs.declared.error.Error.TheVariants.{Memory};
 
 use crate::error::Result;
 use crate::options::ParseOptions;
+use crate::section_map::find_offset;
 use crate::section_pieces::{Piece, owner_of, pieces_of};
 use crate::section_table::SectionTable;
-use crate::section_map::find_offset;
 use std::alloc::Allocator;
 use std::marker::Model;
 

@@ -7,7 +7,8 @@ ghost use Rattle.pe_core.specs.Refusals.{Gives};
 use crate::bytes::{number16, number32, require_bytes, slice_at};
 use crate::error::Result;
 use crate::header::{
-    CoffHeader, Header, SIZE_OF_COFF_HEADER, SIZE_OF_PE_SIGNATURE, SIZE_OF_TE_HEADER, TeHeader, reduced,
+    CoffHeader, Header, SIZE_OF_COFF_HEADER, SIZE_OF_PE_SIGNATURE, SIZE_OF_TE_HEADER, TeHeader,
+    reduced,
 };
 use crate::text::{before_zero, text_of};
 use std::alloc::Allocator;

@@ -320,7 +320,11 @@ fn names_a_cut_entry_once(rt: HostRuntime) -> Result<(), Fail> {
 /// A code whose second byte is missing, and one whose operand is.
 #[test]
 fn tells_the_bytes_that_a_cut_code_needs(rt: HostRuntime) -> Result<(), Fail> {
-    for (bytes, count) in [(&[4u8][..], 2), (&[4, 0x01, 1][..], 4), (&[4, 0x11, 1, 2][..], 6)] {
+    for (bytes, count) in [
+        (&[4u8][..], 2),
+        (&[4, 0x01, 1][..], 4),
+        (&[4, 0x11, 1, 2][..], 6),
+    ] {
         let mut codes = UnwindCodeIterator::new(bytes, 1, Register(0));
         assert!(rt;
             matches!(codes.next(), Some(Err(Error::Short { at: 0, needed })) if needed == count)
