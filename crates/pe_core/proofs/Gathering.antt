@@ -1,9 +1,9 @@
 -- Lists of results, read from the front.
-use Rattle.std.proofs.Common.{◌≡◌, ℕ, zero, suc, ◌+◌, ◌<◌, ◌≤◌, List, [], ◌∷◌, ◌++◌, length, get_or, drop, map, take, Option, Some, None, Result, Ok, Err, refl, sym, ap, ◌∙◌, arith, ⊎_elim, append_assoc, length-append}
-use Rattle.std.proofs.Math.Seq.{drop-cons, get_or-append_right, get_or-append_seam}
+use Rattle.std.proofs.Common.{◌≡◌, ℕ, zero, suc, ◌+◌, ◌<◌, ◌≤◌, List, [], ◌∷◌, ◌++◌, length, get_or, drop, Option, Some, None, Result, Ok, Err, refl, sym, ap, ◌∙◌, arith, ⊎_elim, append_assoc}
+use Rattle.std.proofs.Math.Seq.{drop-cons, get_or-append_seam}
 use Rattle.std.proofs.lemmas.Bool.{cases_lt}
 use Rattle.std.proofs.lemmas.List.{append-nil, get_or_append_left}
-use Rattle.pe_core.specs.Gathered.{with_rest, all_or_refusal, up_to_none}
+use Rattle.pe_core.specs.Gathered.{with_rest, up_to_none}
 use Rattle.pe_core.specs.Refusals.{Refusal}
 use Rattle.pe_core.specs.Rows.{each}
 use Rattle.pe_core.proofs.ExportLists.{each-length}

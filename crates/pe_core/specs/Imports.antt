@@ -1,11 +1,11 @@
 -- Imports: the import directory, and the entries of the lists that its records lead to. (PE format: the .idata section.)
-use Rattle.std.specs.Prelude.{ℕ, suc, ◌+◌, ◌-◌, ◌*◌, ◌/◌, ◌%◌, ◌^◌, ◌==◌, ◌||◌, Bool, List, [], map, flat_map, length, nat_le, Option, Some, None, Result, Ok, Err, Vec, if◌then◌else◌}
+use Rattle.std.specs.Prelude.{ℕ, suc, ◌+◌, ◌-◌, ◌*◌, ◌/◌, ◌%◌, ◌^◌, ◌==◌, ◌||◌, Bool, List, [], map, flat_map, length, nat_le, Option, Some, None, Result, Ok, Err, if◌then◌else◌}
 use Rattle.std.specs.Cmp.Lexicographic.{slice_cmp}
 use Rattle.std.specs.List.{All, Contains}
 use Rattle.std.specs.List.Sorted.{IsStrictlySortedBy}
 use Rattle.std.specs.Option.{option_map}
 use Rattle.std.specs.Ordering.{nat_cmp}
-use Rattle.pe_core.specs.Bytes.{le, holds, range, record_at}
+use Rattle.pe_core.specs.Bytes.{le, range, record_at}
 use Rattle.pe_core.specs.Gathered.{all_or_refusal, up_to_none}
 use Rattle.pe_core.specs.Records.{import_entry}
 use Rattle.pe_core.specs.Refusals.{Refusal, ImportName, ◌>>=◌}

@@ -1,6 +1,6 @@
 -- The header of a terse image and its sections: what places counted before the image was stripped is reduced by the bytes that
 -- were dropped. (This project's profile.)
-use Rattle.std.specs.Prelude.{ℕ, ◌+◌, ◌-◌, ◌*◌, ◌%◌, ◌^◌, ◌==◌, ◌&&◌, List, [], ◌∷◌, Bool, Result, nat_le, if◌then◌else◌}
+use Rattle.std.specs.Prelude.{ℕ, ◌+◌, ◌-◌, ◌%◌, ◌^◌, ◌==◌, ◌&&◌, List, [], ◌∷◌, Bool, Result, nat_le, if◌then◌else◌}
 use Rattle.pe_core.specs.Bytes.{le, holds}
 use Rattle.pe_core.specs.Records.{section_table, te_header}
 use Rattle.pe_core.specs.Refusals.{Refusal, Short, BadMagic, TeSize, outcome, ◌>>=◌}

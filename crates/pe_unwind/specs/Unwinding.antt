@@ -1,7 +1,6 @@
 -- From an address to the unwind record of the function that covers it.
 use Rattle.std.specs.Prelude.{◌≡◌, ◌↔◌, IsSomeAnd, ℕ, List, Option, Some, None, Result, Ok, Err}
 use Rattle.pe_core.specs.Refusals.{Refusal, Unmapped, FunctionCycle, outcome, ◌>>=◌}
-use Rattle.pe_core.specs.declared.error.Error.{Error}
 use Rattle.pe_core.specs.declared.options.ParseOptions.{ParseOptions}
 use Rattle.pe_core.specs.declared.section_table.SectionTable.{SectionTable}
 use Rattle.pe_unwind.specs.declared.function_table.RuntimeFunction.{RuntimeFunction}

@@ -1,6 +1,6 @@
-use Rattle.std.proofs.Common.{rules, arith, refl, ◌∷◌, []}
+use Rattle.std.proofs.Common.{rules, refl, ◌∷◌, []}
 use Rattle.std.proofs.lemmas.Slice.{pushed}
-use Rattle.pe_core.proofs.ImportLists.{records-pushed, refused-in_record, refused-at_end}
+use Rattle.pe_core.proofs.ImportLists.{records-pushed, refused-in_record}
 use Rattle.pe_core.proofs.import.named_records.Goals as goal
 
 pub loop-i-preserved : goal.loop-i-preserved

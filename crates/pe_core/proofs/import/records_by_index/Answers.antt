@@ -1,5 +1,4 @@
-use Rattle.std.proofs.Common.{rules, arith, ◌≡◌, map, subst, sym, ap, ◌∙◌}
-use Rattle.pe_core.specs.Text.{text_at, texts_of}
+use Rattle.std.proofs.Common.{arith}
 use Rattle.pe_core.proofs.ImportLists.{names_are}
 use Rattle.pe_core.proofs.import.records_by_index.Goals as goal
 
