@@ -9,3 +9,4 @@ pub mod CertificateListings
 pub mod CertificatePieces
 pub mod CertificatesReadAgain
 pub mod FirstEntries
+pub mod DebugEquality

@@ -1,7 +1,8 @@
 //! What `==`, `default` and `clone` mean: values are equal if all their fields are, slices by their bytes; a default has
 //! zeros and empty slices; a clone is its original.
 
-ghost use Rattle.std.specs.Prelude.{◌≡◌, ◌↔◌, [], IsTrue, replicate};
+ghost use Rattle.std.specs.Prelude.{◌≡◌, [], replicate};
+ghost use Rattle.pe_core.specs.Traits.{IsEquality, ComparesBy, Copies};
 ghost use Rattle.pe_records.specs.declared.certificate_table.AttributeCertificateRevision.{AttributeCertificateRevision};
 ghost use Rattle.pe_records.specs.declared.certificate_table.AttributeCertificateType.{AttributeCertificateType};
 ghost use Rattle.pe_records.specs.declared.debug.DebugData.{DebugData};
@@ -24,17 +25,24 @@ use crate::debug::{
 
 /// Values are equal exactly if all their fields are.
 pub fn equal_records_are_the_same()
-    ensures revision { (x y : AttributeCertificateRevision) → IsTrue (⟦<AttributeCertificateRevision as PartialEq>⟧.eq x y) ↔ (x ≡ y) }
-    ensures certificate_type { (x y : AttributeCertificateType) → IsTrue (⟦<AttributeCertificateType as PartialEq>⟧.eq x y) ↔ (x ≡ y) }
-    ensures entry { (x y : ImageDebugDirectory) → IsTrue (⟦<ImageDebugDirectory as PartialEq>⟧.eq x y) ↔ (x ≡ y) }
-    ensures features { (x y : VCFeatureInfo) → IsTrue (⟦<VCFeatureInfo as PartialEq>⟧.eq x y) ↔ (x ≡ y) }
-    ensures characteristics { (x y : ExDllCharacteristicsInfo) → IsTrue (⟦<ExDllCharacteristicsInfo as PartialEq>⟧.eq x y) ↔ (x ≡ y) }
-    ensures pdb70 { (x y : CodeviewPDB70DebugInfo) → IsTrue (⟦<CodeviewPDB70DebugInfo<'static> as PartialEq>⟧.eq x y) ↔ (pdb70_view x ≡ pdb70_view y) }
-    ensures pdb20 { (x y : CodeviewPDB20DebugInfo) → IsTrue (⟦<CodeviewPDB20DebugInfo<'static> as PartialEq>⟧.eq x y) ↔ (pdb20_view x ≡ pdb20_view y) }
-    ensures repro { (x y : ReproInfo) → IsTrue (⟦<ReproInfo<'static> as PartialEq>⟧.eq x y) ↔ (repro_view x ≡ repro_view y) }
-    ensures pogo { (x y : POGOInfo) → IsTrue (⟦<POGOInfo<'static> as PartialEq>⟧.eq x y) ↔ (pogo_view x ≡ pogo_view y) }
-    ensures pogo_entry { (x y : POGOInfoEntry) → IsTrue (⟦<POGOInfoEntry<'static> as PartialEq>⟧.eq x y) ↔ (entry_of x ≡ entry_of y) }
+    ensures revision { IsEquality ⟦<AttributeCertificateRevision as PartialEq>⟧.eq }
+    ensures certificate_type { IsEquality ⟦<AttributeCertificateType as PartialEq>⟧.eq }
+    ensures entry { IsEquality ⟦<ImageDebugDirectory as PartialEq>⟧.eq }
+    ensures features { IsEquality ⟦<VCFeatureInfo as PartialEq>⟧.eq }
+    ensures characteristics { IsEquality ⟦<ExDllCharacteristicsInfo as PartialEq>⟧.eq }
+    ensures pdb70 { ComparesBy pdb70_view ⟦<CodeviewPDB70DebugInfo<'static> as PartialEq>⟧.eq }
+    ensures pdb20 { ComparesBy pdb20_view ⟦<CodeviewPDB20DebugInfo<'static> as PartialEq>⟧.eq }
+    ensures repro { ComparesBy repro_view ⟦<ReproInfo<'static> as PartialEq>⟧.eq }
+    ensures pogo { ComparesBy pogo_view ⟦<POGOInfo<'static> as PartialEq>⟧.eq }
+    ensures pogo_entry { ComparesBy entry_of ⟦<POGOInfoEntry<'static> as PartialEq>⟧.eq }
 {}
+
+/// Debug data are equal exactly if their tables and their records are.
+pub fn equal_debug_data_look_the_same()
+    ensures { ComparesBy debug_view ⟦<DebugData<'static> as PartialEq>⟧.eq }
+{
+    equal_records_are_the_same()
+}
 
 /// A default has zeros and empty slices.
 pub fn defaults_are_zeros()
@@ -56,15 +64,15 @@ pub fn defaults_are_zeros()
 
 /// A clone is its original.
 pub fn clones_of_records_are_the_same()
-    ensures revision { (x y : AttributeCertificateRevision) → ⟦<AttributeCertificateRevision as Clone>⟧.is_clone x y → y ≡ x }
-    ensures certificate_type { (x y : AttributeCertificateType) → ⟦<AttributeCertificateType as Clone>⟧.is_clone x y → y ≡ x }
-    ensures entry { (x y : ImageDebugDirectory) → ⟦<ImageDebugDirectory as Clone>⟧.is_clone x y → y ≡ x }
-    ensures features { (x y : VCFeatureInfo) → ⟦<VCFeatureInfo as Clone>⟧.is_clone x y → y ≡ x }
-    ensures characteristics { (x y : ExDllCharacteristicsInfo) → ⟦<ExDllCharacteristicsInfo as Clone>⟧.is_clone x y → y ≡ x }
-    ensures pdb70 { (x y : CodeviewPDB70DebugInfo) → ⟦<CodeviewPDB70DebugInfo<'static> as Clone>⟧.is_clone x y → y ≡ x }
-    ensures pdb20 { (x y : CodeviewPDB20DebugInfo) → ⟦<CodeviewPDB20DebugInfo<'static> as Clone>⟧.is_clone x y → y ≡ x }
-    ensures repro { (x y : ReproInfo) → ⟦<ReproInfo<'static> as Clone>⟧.is_clone x y → y ≡ x }
-    ensures pogo { (x y : POGOInfo) → ⟦<POGOInfo<'static> as Clone>⟧.is_clone x y → y ≡ x }
-    ensures pogo_entry { (x y : POGOInfoEntry) → ⟦<POGOInfoEntry<'static> as Clone>⟧.is_clone x y → y ≡ x }
+    ensures revision { Copies ⟦<AttributeCertificateRevision as Clone>⟧.is_clone }
+    ensures certificate_type { Copies ⟦<AttributeCertificateType as Clone>⟧.is_clone }
+    ensures entry { Copies ⟦<ImageDebugDirectory as Clone>⟧.is_clone }
+    ensures features { Copies ⟦<VCFeatureInfo as Clone>⟧.is_clone }
+    ensures characteristics { Copies ⟦<ExDllCharacteristicsInfo as Clone>⟧.is_clone }
+    ensures pdb70 { Copies ⟦<CodeviewPDB70DebugInfo<'static> as Clone>⟧.is_clone }
+    ensures pdb20 { Copies ⟦<CodeviewPDB20DebugInfo<'static> as Clone>⟧.is_clone }
+    ensures repro { Copies ⟦<ReproInfo<'static> as Clone>⟧.is_clone }
+    ensures pogo { Copies ⟦<POGOInfo<'static> as Clone>⟧.is_clone }
+    ensures pogo_entry { Copies ⟦<POGOInfoEntry<'static> as Clone>⟧.is_clone }
     ensures debug_data { (x y : DebugData) → ⟦<DebugData<'static> as Clone>⟧.is_clone x y → debug_view y ≡ debug_view x }
 {}
