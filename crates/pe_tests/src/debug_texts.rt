@@ -1,8 +1,10 @@
 //! What `{:?}` shows of each public type of pe_core and pe_records.
 
+use crate::images::{headers_alone, put};
 use pe_core::{
-    CoffHeader, DataDirectory, DosHeader, Error, ParseMode, ParseOptions, Reason, SectionTable,
-    StandardFields, TeHeader, WindowsFields,
+    CoffHeader, DataDirectory, DosHeader, Error, Header, ParseMode, ParseOptions, Reason,
+    RelocationData, SectionTable, StandardFields, Strtab, Symbol, SymbolTable, TeHeader,
+    WindowsFields,
 };
 use pe_records::{
     AttributeCertificate, AttributeCertificateRevision, AttributeCertificateType,
@@ -325,5 +327,72 @@ data_type: 5, size_of_data: 6, address_of_raw_data: 7, pointer_to_raw_data: 8 }"
     let data = shown(alloc, &DebugData::default())?;
     assert!(rt; data.as_str().starts_with("DebugData { "));
     assert!(rt; data.as_str().contains("repro_info: None"));
+    Ok(())
+}
+
+/// Of headers as they are read, with one directory that is kept.
+#[test]
+fn whole_headers(rt: HostRuntime) -> Result<(), Fail> {
+    let alloc = rt.alloc();
+    let mut bytes = headers_alone(alloc)?;
+    put(
+        &mut bytes,
+        &[(0xFC, &[1]), (0x100, &[8, 0, 0, 0, 9, 0, 0, 0])],
+    );
+    let header = Header::parse_with_opts(&bytes, &ParseOptions::default())?;
+    let optional = header.optional_header.ok_or("no optional header")?;
+    let directories = shown(alloc, &optional.data_directories)?;
+    assert_eq!(rt;
+        directories.as_str(),
+        "[DataDirectory { virtual_address: 8, size: 9 }]"
+    );
+    let standard = shown(alloc, &optional.standard_fields)?;
+    let windows = shown(alloc, &optional.windows_fields)?;
+    let text = format!(in alloc;
+        "OptionalHeader {{ standard_fields: {standard}, windows_fields: {windows}, data_directories: {directories} }}"
+    )?;
+    assert_eq!(rt; shown(alloc, &optional)?.as_str(), text.as_str());
+    let dos = shown(alloc, &header.dos_header)?;
+    let stub = shown(alloc, &header.dos_stub)?;
+    let coff = shown(alloc, &header.coff_header)?;
+    let whole = format!(in alloc;
+        "Header {{ dos_header: {dos}, dos_stub: {stub}, signature: 17744, coff_header: {coff}, optional_header: Some({text}) }}"
+    )?;
+    assert_eq!(rt; shown(alloc, &header)?.as_str(), whole.as_str());
+    Ok(())
+}
+
+#[test]
+fn symbols_and_ranges(rt: HostRuntime) -> Result<(), Fail> {
+    let alloc = rt.alloc();
+    let symbol = Symbol {
+        name: *b"main\0\0\0\0",
+        value: 1,
+        section_number: -2,
+        typ: 3,
+        storage_class: 4,
+        number_of_aux_symbols: 5,
+    };
+    assert_eq!(rt;
+        shown(alloc, &symbol)?.as_str(),
+        "Symbol { name: [109, 97, 105, 110, 0, 0, 0, 0], value: 1, section_number: -2, typ: 3, storage_class: 4, \
+number_of_aux_symbols: 5 }"
+    );
+    let table = SymbolTable { bytes: b"\x01" };
+    assert_eq!(rt;
+        shown(alloc, &table)?.as_str(),
+        "SymbolTable { bytes: [1] }"
+    );
+    assert_eq!(rt;
+        shown(alloc, &table.iter())?.as_str(),
+        "SymbolIterator { bytes: [1], row: 0 }"
+    );
+    let strings = Strtab { bytes: b"\x02" };
+    assert_eq!(rt; shown(alloc, &strings)?.as_str(), "Strtab { bytes: [2] }");
+    let relocations = RelocationData { bytes: b"\x03" };
+    assert_eq!(rt;
+        shown(alloc, &relocations)?.as_str(),
+        "RelocationData { bytes: [3] }"
+    );
     Ok(())
 }
