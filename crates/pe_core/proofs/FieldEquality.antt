@@ -83,4 +83,4 @@ same_headers x y h = next (next (next (next (next (refl {a = header_of}) h.0) h.
 pub headers_equal : (dos : DosHeader → DosHeader → Bool) (coff : CoffHeader → CoffHeader → Bool) (optional : OptionalHeader → OptionalHeader → Bool) → IsEquality dos → IsEquality coff → ComparesBy optional_header_view optional → (x y : Header) → Decides (dos x.dos_header y.dos_header && (pointwise nat_eq x.dos_stub.now y.dos_stub.now && (nat_eq x.signature y.signature && (coff x.coff_header y.coff_header && option_eq optional x.optional_header y.optional_header)))) (header_view x ≡ header_view y)
 headers_equal dos coff optional d c o x y =
     Decides-like _ (same_headers (header_view x) (header_view y)) (λ e. (ap (λ (h : HeaderView). h.dos_header) e, (ap (λ (h : HeaderView). h.dos_stub) e, (ap (λ (h : HeaderView). h.signature) e, (ap (λ (h : HeaderView). h.coff_header) e, ap (λ (h : HeaderView). h.optional_header) e)))))
-      (Decides-and _ _ (d x.dos_header y.dos_header) (Decides-and _ _ (slice_eq-Decides Decides-eqb x.dos_stub.now y.dos_stub.now _ refl) (Decides-and _ _ (Decides-eqb x.signature y.signature) (Decides-and _ _ (c x.coff_header y.coff_header) (optionals_compare optional o x.optional_header y.optional_header)))))
+    (Decides-and _ _ (d x.dos_header y.dos_header) (Decides-and _ _ (slice_eq-Decides Decides-eqb x.dos_stub.now y.dos_stub.now _ refl) (Decides-and _ _ (Decides-eqb x.signature y.signature) (Decides-and _ _ (c x.coff_header y.coff_header) (optionals_compare optional o x.optional_header y.optional_header)))))
