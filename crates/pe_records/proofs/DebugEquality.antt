@@ -35,4 +35,4 @@ same_data x y h = next (next (next (next (next (next (next (next (refl {a = data
 pub data_equal : (pdb70 : CodeviewPDB70DebugInfo → CodeviewPDB70DebugInfo → Bool) (pdb20 : CodeviewPDB20DebugInfo → CodeviewPDB20DebugInfo → Bool) (features : VCFeatureInfo → VCFeatureInfo → Bool) (characteristics : ExDllCharacteristicsInfo → ExDllCharacteristicsInfo → Bool) (repro : ReproInfo → ReproInfo → Bool) (pogo : POGOInfo → POGOInfo → Bool) → ComparesBy pdb70_view pdb70 → ComparesBy pdb20_view pdb20 → IsEquality features → IsEquality characteristics → ComparesBy repro_view repro → ComparesBy pogo_view pogo → (x y : DebugData) → Decides (pointwise nat_eq x.table.now y.table.now && (nat_eq x.rva_offset y.rva_offset && (option_eq pdb70 x.codeview_pdb70_debug_info y.codeview_pdb70_debug_info && (option_eq pdb20 x.codeview_pdb20_debug_info y.codeview_pdb20_debug_info && (option_eq features x.vcfeature_info y.vcfeature_info && (option_eq characteristics x.ex_dll_characteristics_info y.ex_dll_characteristics_info && (option_eq repro x.repro_info y.repro_info && option_eq pogo x.pogo_info y.pogo_info))))))) (debug_view x ≡ debug_view y)
 data_equal pdb70 pdb20 features characteristics repro pogo is_pdb70 is_pdb20 is_features is_characteristics is_repro is_pogo x y =
     Decides-like _ (same_data (debug_view x) (debug_view y)) (λ e. (ap (λ (d : DebugFields). d.table) e, (ap (λ (d : DebugFields). d.fixup) e, (ap (λ (d : DebugFields). d.pdb70) e, (ap (λ (d : DebugFields). d.pdb20) e, (ap (λ (d : DebugFields). d.features) e, (ap (λ (d : DebugFields). d.characteristics) e, (ap (λ (d : DebugFields). d.repro) e, ap (λ (d : DebugFields). d.pogo) e))))))))
-      (Decides-and _ _ (slice_eq-Decides Decides-eqb x.table.now y.table.now _ refl) (Decides-and _ _ (Decides-eqb x.rva_offset y.rva_offset) (Decides-and _ _ (options_compare pdb70_view pdb70 is_pdb70 x.codeview_pdb70_debug_info y.codeview_pdb70_debug_info) (Decides-and _ _ (options_compare pdb20_view pdb20 is_pdb20 x.codeview_pdb20_debug_info y.codeview_pdb20_debug_info) (Decides-and _ _ (options_equal features is_features x.vcfeature_info y.vcfeature_info) (Decides-and _ _ (options_equal characteristics is_characteristics x.ex_dll_characteristics_info y.ex_dll_characteristics_info) (Decides-and _ _ (options_compare repro_view repro is_repro x.repro_info y.repro_info) (options_compare pogo_view pogo is_pogo x.pogo_info y.pogo_info))))))))
+    (Decides-and _ _ (slice_eq-Decides Decides-eqb x.table.now y.table.now _ refl) (Decides-and _ _ (Decides-eqb x.rva_offset y.rva_offset) (Decides-and _ _ (options_compare pdb70_view pdb70 is_pdb70 x.codeview_pdb70_debug_info y.codeview_pdb70_debug_info) (Decides-and _ _ (options_compare pdb20_view pdb20 is_pdb20 x.codeview_pdb20_debug_info y.codeview_pdb20_debug_info) (Decides-and _ _ (options_equal features is_features x.vcfeature_info y.vcfeature_info) (Decides-and _ _ (options_equal characteristics is_characteristics x.ex_dll_characteristics_info y.ex_dll_characteristics_info) (Decides-and _ _ (options_compare repro_view repro is_repro x.repro_info y.repro_info) (options_compare pogo_view pogo is_pogo x.pogo_info y.pogo_info))))))))

@@ -1,6 +1,6 @@
 //! What `==` and `clone` mean: two values are equal if all their fields are, and a clone is its original.
 
-ghost use Rattle.std.specs.Prelude.{ℕ};
+ghost use Rattle.std.specs.Prelude.{ℕ, ◌≡◌};
 ghost use Rattle.pe_core.specs.declared.options.ParseMode.{ParseMode};
 ghost use Rattle.pe_core.specs.declared.options.ParseOptions.{ParseOptions};
 ghost use Rattle.pe_core.specs.declared.data_directories.DataDirectory.{DataDirectory};
@@ -35,7 +35,7 @@ use crate::options::{ParseMode, ParseOptions};
 use crate::relocation::RelocationData;
 use crate::section_table::SectionTable;
 use crate::strtab::Strtab;
-use crate::symbol::{Symbol, SymbolTable};
+use crate::symbol::{Symbol, SymbolIterator, SymbolTable};
 
 /// Values of plain numbers are equal if they are the same.
 pub fn equal_records_are_the_same()
@@ -146,6 +146,10 @@ pub fn clones_of_records_are_the_same()
     ensures te_header { Copies ⟦<TeHeader as Clone>⟧.is_clone }
     ensures standard_fields { Copies ⟦<StandardFields as Clone>⟧.is_clone }
     ensures windows_fields { Copies ⟦<WindowsFields as Clone>⟧.is_clone }
+    ensures data_directories { (x y : DataDirectories) → ⟦<DataDirectories as Clone>⟧.is_clone x y → kept_rows y ≡ kept_rows x }
+    ensures optional_header { (x y : OptionalHeader) → ⟦<OptionalHeader as Clone>⟧.is_clone x y → optional_header_view y ≡ optional_header_view x }
+    ensures header { (x y : Header) → ⟦<Header<'static> as Clone>⟧.is_clone x y → header_view y ≡ header_view x }
+    ensures symbol_iterator { Copies ⟦<SymbolIterator<'static> as Clone>⟧.is_clone }
     ensures section_table { Copies ⟦<SectionTable as Clone>⟧.is_clone }
     ensures symbol { Copies ⟦<Symbol as Clone>⟧.is_clone }
     ensures symbol_table { Copies ⟦<SymbolTable<'static> as Clone>⟧.is_clone }
