@@ -75,12 +75,8 @@ fn rings(rt: HostRuntime) -> std::result::Result<(), Fail> {
     }
     let last = walk(rt, start, &bytes, |entry| entry.data_is_directory())?;
     assert_eq!(rt; last, ResourceEntry::from(0x2_8000_0030));
-    let cut = walk(
-        rt,
-        start,
-        bytes.split_at(0x30).0,
-        |entry| entry.data_is_directory(),
-    );
+    let front = bytes.get(..0x30).ok_or("fewer bytes")?;
+    let cut = walk(rt, start, front, |entry| entry.data_is_directory());
     assert!(rt;
         matches!(
             cut,

@@ -400,7 +400,8 @@ fn each_request_refused(rt: HostRuntime) -> std::result::Result<(), Fail> {
         match info.comments(&heap) {
             Ok(text) => {
                 done = true;
-                assert!(rt; text.is_some_and(|found| found.len() == 45));
+                let found = text.ok_or("no text")?;
+                assert_eq!(rt; found.len(), 45);
             }
             Err(_) => {
                 assert!(rt; !done, "with {size} bytes");

@@ -64,7 +64,7 @@ fn reads_the_symbols_of_an_object(rt: HostRuntime) -> Result<(), Fail> {
     assert!(rt; items.next().is_none());
     let all = strings.to_vec(rt.alloc())?;
     assert_eq!(rt; all.len(), 1);
-    assert_eq!(rt; all[0], "ExitProcess");
+    assert_eq!(rt; *all.first().ok_or("no string")?, "ExitProcess");
     Ok(())
 }
 
@@ -153,6 +153,11 @@ fn cuts_the_string_table_at_zeros(rt: HostRuntime) -> Result<(), Fail> {
     Ok(())
 }
 
+/// The first bytes, so many.
+fn front(bytes: &[u8], len: usize) -> Result<&[u8], Fail> {
+    Ok(bytes.get(..len).ok_or("fewer bytes")?)
+}
+
 #[test]
 fn finds_the_tables_of_a_header(rt: HostRuntime) -> Result<(), Fail> {
     let bytes = object(rt.alloc())?;
@@ -165,18 +170,23 @@ fn finds_the_tables_of_a_header(rt: HostRuntime) -> Result<(), Fail> {
     assert!(rt; none.strings(&bytes)?.is_none());
     assert!(rt;
         matches!(
-            header.symbols(&bytes[..203]),
+            header.symbols(front(&bytes, 203)?),
             Err(Error::Short {
                 at: 78,
                 needed: 126
             })
         )
     );
-    assert!(rt; matches!(header.strings(&bytes[..203]), Err(Error::Short { .. })));
-    assert!(rt; header.symbols(&bytes[..204])?.is_some());
-    assert!(rt; header.strings(&bytes[..204])?.is_none());
+    assert!(rt;
+        matches!(
+            header.strings(front(&bytes, 203)?),
+            Err(Error::Short { .. })
+        )
+    );
+    assert!(rt; header.symbols(front(&bytes, 204)?)?.is_some());
+    assert!(rt; header.strings(front(&bytes, 204)?)?.is_none());
     for (len, place) in [(205, 1), (207, 3), (208, 4), (219, 15)] {
-        match header.strings(&bytes[..len]) {
+        match header.strings(front(&bytes, len)?) {
             Err(Error::Malformed(reason)) => {
                 assert_eq!(rt; reason, Reason::StringTable(place), "of {len} bytes");
             }
@@ -185,7 +195,8 @@ fn finds_the_tables_of_a_header(rt: HostRuntime) -> Result<(), Fail> {
     }
     let small = image(rt.alloc(), 208, &[(8, &[78]), (12, &[7]), (204, &[3])])?;
     let strings = CoffHeader::parse(&small, 0)?.strings(&small)?;
-    assert_eq!(rt; strings.map(|strings| strings.bytes.len()), Some(4));
+    let table = strings.ok_or("no string table")?;
+    assert_eq!(rt; table.bytes.len(), 4);
     Ok(())
 }
 

@@ -1,6 +1,6 @@
 //! The headers of terse images.
 
-use crate::images::image;
+use crate::images::{image, with_byte};
 use linked_list_allocator::LocalHeap;
 use pe_core::{DataDirectory, Error, Reason, TeHeader};
 use std::test::Fail;
@@ -36,16 +36,17 @@ fn reduces_a_header_and_its_sections(rt: HostRuntime) -> Result<(), Fail> {
     );
     let sections = header.sections(rt.alloc(), &bytes)?;
     assert_eq!(rt; sections.len(), 1);
-    assert_eq!(rt; sections[0].virtual_address, 0x1000);
-    assert_eq!(rt; sections[0].pointer_to_raw_data, 0x50);
-    assert_eq!(rt; sections[0].pointer_to_relocations, 0);
-    assert_eq!(rt; sections[0].virtual_size, 0);
+    let section = sections.first().ok_or("no section")?;
+    assert_eq!(rt; section.virtual_address, 0x1000);
+    assert_eq!(rt; section.pointer_to_raw_data, 0x50);
+    assert_eq!(rt; section.pointer_to_relocations, 0);
+    assert_eq!(rt; section.virtual_size, 0);
     Ok(())
 }
 
 #[test]
 fn reads_a_header_without_a_stub(rt: HostRuntime) -> Result<(), Fail> {
-    let mut bytes = image(
+    let bytes = image(
         rt.alloc(),
         40,
         &[(0, &[0x56, 0x5A, 0x64, 0x86, 0, 0x0A, 0x28, 0])],
@@ -54,18 +55,19 @@ fn reads_a_header_without_a_stub(rt: HostRuntime) -> Result<(), Fail> {
     assert_eq!(rt; header.rva_offset()?, 0);
     assert_eq!(rt; header.debug_dir.size, 0);
     assert!(rt; header.sections(rt.alloc(), &bytes)?.is_empty());
+    let front = bytes.get(..39).ok_or("fewer bytes")?;
     assert!(rt;
         matches!(
-            TeHeader::parse(&bytes[..39]),
+            TeHeader::parse(front),
             Err(Error::Short { at: 0, needed: 40 })
         )
     );
-    bytes[6] = 0x27;
+    let bytes = with_byte(bytes, 6, 0x27);
     match TeHeader::parse(&bytes) {
         Err(Error::Malformed(reason)) => assert_eq!(rt; reason, Reason::TeSize(39)),
         _ => return Err(Fail::new("a small stripped size is read")),
     }
-    bytes[1] = 0x5B;
+    let bytes = with_byte(bytes, 1, 0x5B);
     assert!(rt; matches!(TeHeader::parse(&bytes), Err(Error::BadMagic(0x5B56))));
     Ok(())
 }
