@@ -14,8 +14,6 @@ mod certificates;
 #[cfg(test)]
 mod debug;
 #[cfg(test)]
-mod debug_texts;
-#[cfg(test)]
 mod exports;
 #[cfg(test)]
 mod headers;
@@ -24,25 +22,9 @@ mod images;
 #[cfg(test)]
 mod imports;
 #[cfg(test)]
-mod refusal_numbers;
-#[cfg(test)]
 mod refusals;
 #[cfg(test)]
-mod relocations;
-#[cfg(test)]
-mod resource_strings;
-#[cfg(test)]
-mod resource_walks;
-#[cfg(test)]
-mod resources;
-#[cfg(test)]
-mod samples;
-#[cfg(test)]
 mod sections;
-#[cfg(test)]
-mod symbols;
-#[cfg(test)]
-mod terse_images;
 #[cfg(test)]
 mod unwind;
 #[cfg(test)]
