@@ -1,0 +1,39 @@
+-- What a mode makes of resources that are read.
+use Rattle.std.proofs.Common.{◌≡◌, ◌≢◌, ℕ, List, Some, Result, Ok, Err, refl}
+use Rattle.std.specs.Option.{option_map}
+use Rattle.pe_core.specs.Modes.{none_if_refused, none_if_error}
+use Rattle.pe_core.specs.Refusals.{Refusal, Memory, Gives, GivesUnlessMemory, answer_by}
+use Rattle.pe_core.specs.declared.data_directories.DataDirectory.{DataDirectory}
+use Rattle.pe_core.specs.declared.error.Error.{Error}
+use Rattle.pe_core.specs.declared.error.Error.TheVariants as errors
+use Rattle.pe_core.specs.declared.options.ParseMode.{ParseMode}
+use Rattle.pe_core.specs.declared.options.ParseMode.TheVariants.{Strict, Permissive}
+use Rattle.pe_core.specs.declared.options.ParseOptions.{ParseOptions}
+use Rattle.pe_core.specs.declared.section_table.SectionTable.{SectionTable}
+use Rattle.pe_resource.specs.Resources.{IsResource, resource_view}
+use Rattle.pe_resource.specs.declared.resource.ResourceData.{ResourceData}
+use Rattle.pe_image.specs.FieldSteps.{GivesResources}
+
+by_mode : {X Y : Type 0} (view : X → Y) (mode : ParseMode) (parsed : Result X Error) → answer_by view parsed ≢ Err Memory → answer_by (option_map view) (none_if_error mode parsed) ≡ none_if_refused mode (answer_by view parsed)
+by_mode view mode (Ok x) never = refl
+by_mode view Strict (Err (errors.Malformed reason)) never = refl
+by_mode view Strict (Err (errors.BadMagic magic)) never = refl
+by_mode view Strict (Err (errors.Short at needed)) never = refl
+by_mode view Permissive (Err (errors.Malformed reason)) never = refl
+by_mode view Permissive (Err (errors.BadMagic magic)) never = refl
+by_mode view Permissive (Err (errors.Short at needed)) never = refl
+by_mode view mode (Err (errors.Memory e)) never = absurd (never refl)
+
+-- where the definition's answer is known, want of memory apart
+pub gives_by_mode : {X Y : Type 0} (view : X → Y) (mode : ParseMode) (parsed : Result X Error) (defined : Result Y Refusal) → Gives view parsed defined → GivesUnlessMemory (option_map view) (none_if_error mode parsed) (none_if_refused mode defined)
+gives_by_mode view mode (Ok x) defined g = rw g refl
+gives_by_mode view Strict (Err (errors.Malformed reason)) defined g = rw g refl
+gives_by_mode view Strict (Err (errors.BadMagic magic)) defined g = rw g refl
+gives_by_mode view Strict (Err (errors.Short at needed)) defined g = rw g refl
+gives_by_mode view Permissive (Err (errors.Malformed reason)) defined g = rw g refl
+gives_by_mode view Permissive (Err (errors.BadMagic magic)) defined g = rw g refl
+gives_by_mode view Permissive (Err (errors.Short at needed)) defined g = rw g refl
+gives_by_mode view mode (Err (errors.Memory e)) defined g = tt
+
+pub resources_by_mode : (opts : ParseOptions) (b : List ℕ) (sections : List SectionTable) (unit : ℕ) (d : DataDirectory) (parsed : Result ResourceData Error) → IsResource opts b d sections unit (answer_by resource_view parsed) → answer_by resource_view parsed ≢ Err Memory → GivesResources opts b sections unit (Some d) (none_if_error opts.parse_mode parsed)
+resources_by_mode opts b sections unit d parsed is never = (Some (answer_by resource_view parsed), is, by_mode resource_view opts.parse_mode parsed never)

@@ -1,0 +1,5 @@
+pub mod NoMemory
+pub mod ByMode
+pub mod Images
+pub mod Modes
+pub mod Permissive

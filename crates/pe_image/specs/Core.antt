@@ -1,0 +1,76 @@
+-- The core of an image: headers, sections, exports and imports. Where one of them is refused, the image is refused in both
+-- modes, but for an export directory, which then counts as absent.
+-- (PE format: the .edata and .idata sections; the order of refusals is this project's profile.)
+use Rattle.std.specs.Prelude.{◌≡◌, ℕ, List, [], map, Option, Some, None, Result, Ok, Err, if◌then◌else◌}
+use Rattle.pe_core.specs.Exports.{ExportDataView, ExportView, export_data_at, exports}
+use Rattle.pe_core.specs.Header.{HeaderView, OptionalHeaderView, header_at}
+use Rattle.pe_core.specs.Imports.{AreLibraries, ImportRecordView, ImportView, entry_size, import_data_at, imports}
+use Rattle.pe_core.specs.Refusals.{Refusal, ◌>>=◌}
+use Rattle.pe_core.specs.SectionMap.{place_of}
+use Rattle.pe_core.specs.Sections.{sections_of}
+use Rattle.pe_core.specs.declared.data_directories.DataDirectory.{DataDirectory}
+use Rattle.pe_core.specs.declared.options.ParseOptions.{ParseOptions}
+use Rattle.pe_core.specs.declared.section_table.SectionTable.{SectionTable}
+use Rattle.pe_image.specs.Layout.{directory, alignment, is_64}
+
+-- what maps the addresses of an image to places in the file
+abbrev pub map_of : ParseOptions → List SectionTable → Option OptionalHeaderView → ℕ → Option ℕ
+map_of opts sections o = place_of opts.resolve_rva (alignment o) sections
+
+-- the value of what is read, if it is not refused
+abbrev pub value_or_none : {X : Type 0} → Result X Refusal → Option X
+value_or_none (Ok x) = Some x
+value_or_none (Err refusal) = None
+
+-- the export directory, if there is one and it is not refused; `place` maps an address to its place in the file
+abbrev pub export_data_of : (ℕ → Option ℕ) → List ℕ → Option DataDirectory → Option ExportDataView
+export_data_of place b None = None
+export_data_of place b (Some d) = value_or_none (export_data_at place b d.virtual_address)
+
+abbrev pub exports_of : (ℕ → Option ℕ) → List ℕ → Option ExportDataView → List ExportView
+exports_of place b None = []
+exports_of place b (Some d) = exports place b d
+
+-- the import directory, which is directory 1, unless the options pass it over
+abbrev pub import_directory : ParseOptions → Option OptionalHeaderView → Option DataDirectory
+import_directory opts o = if opts.parse_imports then directory 1 o else None
+
+abbrev pub import_data_of : (ℕ → Option ℕ) → ℕ → List ℕ → Option DataDirectory → Result (Option (List ImportRecordView)) Refusal
+import_data_of place width b None = Ok None
+import_data_of place width b (Some d) = import_data_at place width b d.virtual_address >>= λ records. Ok (Some records)
+
+abbrev pub imports_of : (ℕ → Option ℕ) → ℕ → List ℕ → Option (List ImportRecordView) → Result (List ImportView) Refusal
+imports_of place width b None = Ok []
+imports_of place width b (Some records) = imports place width b records
+
+-- these are the libraries of an import directory: the names that it gives, in the order of their bytes, each once
+abbrev pub AreLibrariesOf : Option (List ImportRecordView) → List (List ℕ) → Type 0
+AreLibrariesOf None libraries = libraries ≡ []
+AreLibrariesOf (Some records) libraries = AreLibraries (map (λ r. r.name) records) libraries
+
+pub record CoreView : Type 0 where
+  pub header : HeaderView
+  pub sections : List SectionTable
+  pub export_data : Option ExportDataView
+  pub exports : List ExportView
+  pub import_data : Option (List ImportRecordView)
+  pub imports : List ImportView
+
+-- the core of an image with these headers and sections, or the first refusal
+unfoldable pub core_with : List ℕ → ParseOptions → HeaderView → List SectionTable → Result CoreView Refusal
+core_with b opts header sections =
+    let o = header.optional_header in
+    let place = map_of opts sections o in
+    let width = entry_size (is_64 o) in
+    let export_data = export_data_of place b (directory 0 o) in
+    import_data_of place width b (import_directory opts o) >>= λ import_data.
+    imports_of place width b import_data >>= λ imports.
+    Ok (record { header = header; sections = sections; export_data = export_data; exports = exports_of place b export_data; import_data = import_data; imports = imports })
+
+-- the section headers, or the refusal of the headers or of these: what is tested before memory is asked for
+abbrev pub sections_read : List ℕ → ParseOptions → Result (List SectionTable) Refusal
+sections_read b opts = header_at b opts.parse_mode >>= λ header. sections_of b header
+
+-- the core of an image, or the first refusal
+unfoldable pub core_of : List ℕ → ParseOptions → Result CoreView Refusal
+core_of b opts = header_at b opts.parse_mode >>= λ header. sections_of b header >>= λ sections. core_with b opts header sections

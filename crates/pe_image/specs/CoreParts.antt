@@ -1,0 +1,22 @@
+-- The core of an image as the code keeps it: for proofs alone.
+use Rattle.std.specs.Prelude.{map}
+use Rattle.std.specs.Option.{option_map}
+use Rattle.pe_core.specs.Exports.{export_data_view, export_view}
+use Rattle.pe_core.specs.Header.{header_view}
+use Rattle.pe_core.specs.Imports.{import_data_view, import_view}
+use Rattle.pe_image.specs.Core.{CoreView, AreLibrariesOf}
+use Rattle.pe_image.specs.declared.core_image.Core.{Core}
+
+abbrev pub core_view : {Z : Type 0} → Core Z → CoreView
+core_view c = record {
+  header = header_view c.header;
+  sections = c.sections.items;
+  export_data = option_map export_data_view c.export_data;
+  exports = map export_view c.exports.items;
+  import_data = option_map import_data_view c.import_data;
+  imports = map import_view c.imports.items;
+}
+
+-- its libraries are those of its import directory
+abbrev pub CoreHasLibraries : {Z : Type 0} → Core Z → Type 0
+CoreHasLibraries c = AreLibrariesOf (option_map import_data_view c.import_data) (map (λ s. s.now) c.libraries.items)

@@ -1,0 +1,10 @@
+pub mod Layout
+pub mod Core
+pub mod Fields
+pub mod Image
+pub mod LayoutParts
+pub mod CoreParts
+pub mod FieldSteps
+pub mod ImageSteps
+pub mod Terse
+pub mod Objects

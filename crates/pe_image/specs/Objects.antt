@@ -1,0 +1,38 @@
+-- A COFF object: its header, its sections, its symbols and its strings. (PE format: COFF object files.)
+use Rattle.std.specs.Prelude.{ℕ, ◌+◌, List, Option, Result, Ok}
+use Rattle.pe_core.specs.Bytes.{record_at}
+use Rattle.pe_core.specs.Records.{coff_header}
+use Rattle.pe_core.specs.Refusals.{Refusal, ◌>>=◌}
+use Rattle.pe_core.specs.Sections.{sections_at}
+use Rattle.pe_core.specs.Strings.{strings_of, strings_view}
+use Rattle.pe_core.specs.Symbols.{symbols_of, table_view}
+use Rattle.pe_core.specs.declared.header.CoffHeader.{CoffHeader}
+use Rattle.pe_core.specs.declared.section_table.SectionTable.{SectionTable}
+use Rattle.pe_image.specs.declared.coff.Coff.{Coff}
+
+-- an object, its symbols and its strings as the bytes of their tables
+pub record ObjectView : Type 0 where
+  pub header : CoffHeader
+  pub sections : List SectionTable
+  pub symbols : Option (List ℕ)
+  pub strings : Option (List ℕ)
+
+abbrev pub object_view : {Z : Type 0} → Coff Z → ObjectView
+object_view c = record { header = c.header; sections = c.sections.items; symbols = table_view c.symbols; strings = strings_view c.strings }
+
+-- the section headers of an object, behind its header and so many bytes as that says
+abbrev pub object_sections : List ℕ → CoffHeader → Result (List SectionTable) Refusal
+object_sections b header = sections_at b (20 + header.size_of_optional_header) header.number_of_sections
+
+-- the section headers, or the refusal of the header or of these
+abbrev pub sections_of_object : List ℕ → Result (List SectionTable) Refusal
+sections_of_object b = record_at b 0 20 (coff_header b 0) >>= λ header. object_sections b header
+
+-- an object, or the first refusal: of its header, its sections, its symbols, its strings
+unfoldable pub object_of : List ℕ → Result ObjectView Refusal
+object_of b =
+    record_at b 0 20 (coff_header b 0) >>= λ header.
+    object_sections b header >>= λ sections.
+    symbols_of b header >>= λ symbols.
+    strings_of b header >>= λ strings.
+    Ok (record { header = header; sections = sections; symbols = symbols; strings = strings })

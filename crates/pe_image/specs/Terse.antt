@@ -1,0 +1,31 @@
+-- A terse image: its header, its sections and its debug data, each reduced by the bytes of headers that were dropped.
+-- (This project's profile.)
+use Rattle.std.specs.Prelude.{ℕ, List, Result, Ok}
+use Rattle.pe_core.specs.Options.{te_options}
+use Rattle.pe_core.specs.Refusals.{Refusal, ◌>>=◌}
+use Rattle.pe_core.specs.TerseHeader.{rva_offset, te_header_of, te_sections_of}
+use Rattle.pe_core.specs.declared.header.TeHeader.{TeHeader}
+use Rattle.pe_core.specs.declared.section_table.SectionTable.{SectionTable}
+use Rattle.pe_records.specs.DebugRecords.{DebugFields, debug_data, debug_view}
+use Rattle.pe_image.specs.declared.te.TE.{TE}
+
+pub record TerseView : Type 0 where
+  pub header : TeHeader
+  pub sections : List SectionTable
+  pub debug_data : DebugFields
+  pub rva_offset : ℕ
+
+abbrev pub terse_view : {Z : Type 0} → TE Z → TerseView
+terse_view t = record { header = t.header; sections = t.sections.items; debug_data = debug_view t.debug_data; rva_offset = t.rva_offset }
+
+-- the section headers of a terse image, or the refusal of its header or of these
+abbrev pub terse_sections : List ℕ → Result (List SectionTable) Refusal
+terse_sections b = te_header_of b >>= λ header. te_sections_of b header
+
+-- a terse image, or the first refusal: of its header, its sections, its debug data
+unfoldable pub terse_of : List ℕ → Result TerseView Refusal
+terse_of b =
+    te_header_of b >>= λ header.
+    te_sections_of b header >>= λ sections.
+    debug_data te_options b header.debug_dir sections 0 (rva_offset header) >>= λ debug.
+    Ok (record { header = header; sections = sections; debug_data = debug; rva_offset = rva_offset header })

@@ -1,0 +1,172 @@
+//! The core of an image: headers, sections, exports and imports.
+
+ghost use Rattle.std.specs.Prelude.{◌≡◌, map, IfErr, IfOk, None, Ok, if◌then◌else◌};
+ghost use Rattle.pe_core.specs.declared.error.Error.TheVariants.{Memory};
+ghost use Rattle.std.specs.Option.{option_map};
+ghost use Rattle.pe_core.specs.Exports.{export_data_view, export_view};
+ghost use Rattle.pe_core.specs.Header.{header_view};
+ghost use Rattle.pe_core.specs.Imports.{entry_size, import_data_view, import_view};
+ghost use Rattle.pe_core.specs.Refusals.{GivesUnlessMemory, GivesUnlessMemoryAfter};
+ghost use Rattle.pe_core.specs.SectionMap.{place_of};
+ghost use Rattle.pe_image.specs.Core.{export_data_of, exports_of, import_data_of, imports_of, core_with, sections_read, core_of, AreLibrariesOf};
+ghost use Rattle.pe_image.specs.CoreParts.{core_view, CoreHasLibraries};
+ghost use Rattle.pe_image.specs.LayoutParts.{layout_of};
+
+use crate::layout::Layout;
+use pe_core::{Export, ExportData, Header, Import, ImportData, ParseOptions, Result, SectionTable};
+use std::alloc::Allocator;
+
+/// The core of an image.
+#[derive(Drop)]
+pub struct Core<'a, A: Allocator + Copy + Drop> {
+    pub header: Header<'a>,
+    pub sections: Vec<SectionTable, A>,
+    pub export_data: Option<ExportData<'a>>,
+    pub exports: Vec<Export<'a>, A>,
+    pub import_data: Option<ImportData<'a, A>>,
+    pub imports: Vec<Import<'a>, A>,
+    pub libraries: Vec<&'a str, A>,
+}
+
+/// The export directory, if there is one and it is not refused.
+fn export_data<'a>(
+    bytes: &'a [u8],
+    opts: &ParseOptions,
+    sections: &[SectionTable],
+    layout: &Layout,
+) -> Option<ExportData<'a>>
+    ensures { option_map export_data_view result ≡ export_data_of (place_of opts.now.resolve_rva layout.now.file_alignment sections.now) bytes.entry.now layout.now.exports }
+{
+    let alignment = layout.file_alignment;
+    ExportData::parse_with_opts(bytes, layout.exports?, sections, alignment, opts).ok()
+}
+
+/// The exports of an export directory, if there is one.
+fn exports<'a, A: Allocator + Copy + Drop>(
+    alloc: A,
+    bytes: &'a [u8],
+    opts: &ParseOptions,
+    sections: &[SectionTable],
+    file_alignment: u32,
+    export_data: &Option<ExportData<'a>>,
+) -> Result<Vec<Export<'a>, A>>
+    ensures { GivesUnlessMemory (λ v. map export_view v.items) result
+        (Ok (exports_of (place_of opts.now.resolve_rva file_alignment sections.now) bytes.entry.now (option_map export_data_view export_data.now))) }
+{
+    match export_data {
+        None => Ok(Vec::new(alloc)),
+        Some(data) => Export::parse_with_opts(alloc, bytes, data, sections, file_alignment, opts),
+    }
+}
+
+/// The import directory, if there is one and the options do not pass it over.
+fn import_data<'a, A: Allocator + Copy + Drop>(
+    alloc: A,
+    bytes: &'a [u8],
+    opts: &ParseOptions,
+    sections: &[SectionTable],
+    layout: &Layout,
+) -> Result<Option<ImportData<'a, A>>>
+    ensures { GivesUnlessMemory (option_map import_data_view) result
+        (import_data_of (place_of opts.now.resolve_rva layout.now.file_alignment sections.now) (entry_size layout.now.is_64) bytes.entry.now
+        (if opts.now.parse_imports then layout.now.imports else None)) }
+{
+    if !opts.parse_imports {
+        return Ok(None);
+    }
+    let Some(directory) = layout.imports else {
+        return Ok(None);
+    };
+    let Layout {
+        file_alignment,
+        is_64,
+        ..
+    } = *layout;
+    Ok(Some(ImportData::parse_with_opts(
+        alloc,
+        bytes,
+        directory,
+        sections,
+        file_alignment,
+        opts,
+        is_64,
+    )?))
+}
+
+/// The imports of an import directory, if there is one.
+fn imports<'a, A: Allocator + Copy + Drop>(
+    alloc: A,
+    bytes: &'a [u8],
+    opts: &ParseOptions,
+    sections: &[SectionTable],
+    layout: &Layout,
+    import_data: &Option<ImportData<'a, A>>,
+) -> Result<Vec<Import<'a>, A>>
+    ensures { GivesUnlessMemory (λ v. map import_view v.items) result
+        (imports_of (place_of opts.now.resolve_rva layout.now.file_alignment sections.now) (entry_size layout.now.is_64) bytes.entry.now (option_map import_data_view import_data.now)) }
+{
+    let Some(data) = import_data else {
+        return Ok(Vec::new(alloc));
+    };
+    let alignment = layout.file_alignment;
+    Import::parse_with_opts(alloc, bytes, data, sections, alignment, opts, layout.is_64)
+}
+
+/// The libraries of an import directory, if there is one.
+fn libraries<'a, A: Allocator + Copy + Drop>(
+    alloc: A,
+    import_data: &Option<ImportData<'a, A>>,
+) -> Result<Vec<&'a str, A>>
+    ensures listed { IfOk result (λ v. AreLibrariesOf (option_map import_data_view import_data.now) (map (λ s. s.now) v.items)) }
+    ensures refused { IfErr result (λ error. error ≡ Memory record {}) }
+{
+    match import_data {
+        None => Ok(Vec::new(alloc)),
+        Some(data) => data.libraries(alloc),
+    }
+}
+
+impl<'a, A: Allocator + Copy + Drop> Core<'a, A> {
+    /// The core of an image with these headers and sections. Refusals: those of the import directory, then those of its
+    /// imports; `Memory`.
+    #[tactic(auto, unfolding(crate::specs::Core::core_with, crate::specs::LayoutParts::layout_of))]
+    fn with(
+        alloc: A,
+        bytes: &'a [u8],
+        opts: &ParseOptions,
+        header: Header<'a>,
+        sections: Vec<SectionTable, A>,
+    ) -> Result<Core<'a, A>>
+        ensures core { GivesUnlessMemory core_view result (core_with bytes.entry.now opts.now (header_view header.entry) sections.items) }
+        ensures libraries { IfOk result CoreHasLibraries }
+    {
+        let layout = Layout::of(&header.optional_header);
+        let alignment = layout.file_alignment;
+        let export_data = export_data(bytes, opts, &sections, &layout);
+        let exports = exports(alloc, bytes, opts, &sections, alignment, &export_data)?;
+        let import_data = import_data(alloc, bytes, opts, &sections, &layout)?;
+        let imports = imports(alloc, bytes, opts, &sections, &layout, &import_data)?;
+        let libraries = libraries(alloc, &import_data)?;
+        Ok(Core {
+            header,
+            sections,
+            export_data,
+            exports,
+            import_data,
+            imports,
+            libraries,
+        })
+    }
+
+    /// The core of an image, or the first refusal: of its headers, its sections, its import directory, its imports. Memory
+    /// is asked for once the headers and the section headers are there.
+    #[tactic(auto, using(crate::proofs::NoMemory::header_owes_nothing), unfolding(crate::specs::Core::core_of))]
+    pub fn read(alloc: A, bytes: &'a [u8], opts: &ParseOptions) -> Result<Core<'a, A>>
+        ensures core { GivesUnlessMemoryAfter (sections_read bytes.entry.now opts.now) core_view result (core_of bytes.entry.now opts.now) }
+        ensures libraries { IfOk result CoreHasLibraries }
+    {
+        let header = Header::parse_with_opts(bytes, opts)?;
+        let sections = header.sections(alloc, bytes)?;
+        Core::with(alloc, bytes, opts, header, sections)
+    }
+}

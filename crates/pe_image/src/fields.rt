@@ -1,0 +1,172 @@
+//! The directories of an image behind its core: what each mode makes of them.
+
+ghost use Rattle.std.specs.Prelude.{map, None, if◌then◌else◌};
+ghost use Rattle.std.specs.Option.{option_map};
+ghost use Rattle.pe_core.specs.Refusals.{GivesUnlessMemory, answer_by};
+ghost use Rattle.pe_core.specs.Relocations.{directory_bytes};
+ghost use Rattle.pe_records.specs.Certificates.{certificate_view, certificates_at};
+ghost use Rattle.pe_records.specs.DebugRecords.{debug_view, debug_data};
+ghost use Rattle.pe_resource.specs.Resources.{resource_view};
+ghost use Rattle.pe_unwind.specs.ExceptionTable.{exception_at};
+ghost use Rattle.pe_image.specs.CoreParts.{core_view};
+ghost use Rattle.pe_image.specs.Fields.{field, exceptions_for, IsResourceField};
+ghost use Rattle.pe_image.specs.FieldSteps.{by_mode, list_by_mode, first_fields_view, first_fields_in_turn, GivesResources};
+
+use crate::core_image::Core;
+use crate::layout::Layout;
+use pe_core::{DataDirectory, ParseOptions, RelocationData, Result, SectionTable};
+use pe_records::{CertificateDirectoryTable, DebugData, enumerate_certificates};
+use pe_resource::ResourceData;
+use pe_unwind::ExceptionData;
+use std::alloc::Allocator;
+
+/// The machine x64.
+const MACHINE_X64: u16 = 0x8664;
+
+/// The machine ARM64.
+const MACHINE_ARM64: u16 = 0xAA64;
+
+/// The debug data by mode.
+#[tactic(auto, using(crate::proofs::ByMode::gives_by_mode))]
+fn debug_data<'a>(
+    bytes: &'a [u8],
+    opts: &ParseOptions,
+    sections: &[SectionTable],
+    layout: &Layout,
+) -> Result<Option<DebugData<'a>>>
+    ensures { GivesUnlessMemory (option_map debug_view) result (by_mode opts.now.parse_mode
+        (field (λ d. debug_data opts.now bytes.entry.now d sections.now layout.now.file_alignment 0) layout.now.debug)) }
+{
+    let Some(directory) = layout.debug else {
+        return Ok(None);
+    };
+    let alignment = layout.file_alignment;
+    let parsed = DebugData::parse_with_opts(bytes, directory, sections, alignment, opts);
+    opts.parse_mode.none_if_refused(parsed)
+}
+
+/// The exception data by mode. `None` for another machine than x64 and ARM64.
+#[tactic(auto, using(crate::proofs::ByMode::gives_by_mode))]
+fn exception_data<'a>(
+    bytes: &'a [u8],
+    opts: &ParseOptions,
+    sections: &[SectionTable],
+    machine: u16,
+    layout: &Layout,
+) -> Result<Option<ExceptionData<'a>>>
+    ensures { GivesUnlessMemory (λ d. d) result (by_mode opts.now.parse_mode (exceptions_for machine
+        (λ width d. exception_at width bytes.entry.now d sections.now layout.now.file_alignment opts.now) layout.now.exceptions)) }
+{
+    let Some(directory) = layout.exceptions else {
+        return Ok(None);
+    };
+    let alignment = layout.file_alignment;
+    let parsed = match machine {
+        MACHINE_X64 => {
+            ExceptionData::parse_with_opts(bytes, directory, sections, alignment, opts)
+        }
+        MACHINE_ARM64 => {
+            ExceptionData::parse_arm64_with_opts(bytes, directory, sections, alignment, opts)
+        }
+        _ => return Ok(None),
+    };
+    opts.parse_mode.none_if_refused(parsed)
+}
+
+/// The base relocations by mode.
+#[tactic(auto, using(crate::proofs::ByMode::gives_by_mode))]
+fn relocation_data<'a>(
+    bytes: &'a [u8],
+    opts: &ParseOptions,
+    sections: &[SectionTable],
+    layout: &Layout,
+) -> Result<Option<RelocationData<'a>>>
+    ensures { GivesUnlessMemory (option_map (λ r. r.bytes.now)) result (by_mode opts.now.parse_mode
+        (field (λ d. directory_bytes opts.now bytes.entry.now d sections.now layout.now.file_alignment) layout.now.relocations)) }
+{
+    let Some(directory) = layout.relocations else {
+        return Ok(None);
+    };
+    let alignment = layout.file_alignment;
+    let parsed = RelocationData::parse_with_opts(bytes, directory, sections, alignment, opts);
+    opts.parse_mode.none_if_refused(parsed)
+}
+
+/// The certificates by mode, unless the options pass them over.
+fn certificates<'a, A: Allocator + Copy>(
+    alloc: A,
+    bytes: &'a [u8],
+    opts: &ParseOptions,
+    layout: &Layout,
+) -> Result<CertificateDirectoryTable<'a, A>>
+    ensures { GivesUnlessMemory (λ found. map certificate_view found.items) result (list_by_mode opts.now.parse_mode
+        (if opts.now.parse_attribute_certificates then field (λ d. certificates_at bytes.entry.now d.virtual_address d.size) layout.now.certificates else None)) }
+{
+    if !opts.parse_attribute_certificates {
+        return Ok(Vec::new(alloc));
+    }
+    let Some(directory) = layout.certificates else {
+        return Ok(Vec::new(alloc));
+    };
+    let place = directory.virtual_address as usize;
+    let parsed = enumerate_certificates(alloc, bytes, place, directory.size as usize);
+    match opts.parse_mode.none_if_refused(parsed)? {
+        Some(found) => Ok(found),
+        None => Ok(Vec::new(alloc)),
+    }
+}
+
+/// The resources by mode, unless the options pass them over. No memory is asked for.
+#[tactic(auto, using(crate::proofs::ByMode::resources_by_mode))]
+pub fn resource_data<'a, A: Allocator + Copy + Drop>(
+    alloc: A,
+    bytes: &'a [u8],
+    opts: &ParseOptions,
+    sections: &[SectionTable],
+    layout: &Layout,
+) -> Result<Option<ResourceData<'a>>>
+    ensures { GivesResources opts.now bytes.entry.now sections.now layout.now.file_alignment
+        (if opts.now.parse_resources then layout.now.resources else None) result }
+{
+    if !opts.parse_resources {
+        return Ok(None);
+    }
+    let Some(directory) = layout.resources else {
+        return Ok(None);
+    };
+    let alignment = layout.file_alignment;
+    let parsed = ResourceData::parse_with_opts(alloc, bytes, directory, sections, alignment, opts);
+    opts.parse_mode.none_if_refused(parsed)
+}
+
+/// The fields in front of the resources.
+#[derive(Drop)]
+pub struct FirstFields<'a, A: Allocator + Copy + Drop> {
+    pub debug_data: Option<DebugData<'a>>,
+    pub exception_data: Option<ExceptionData<'a>>,
+    pub relocation_data: Option<RelocationData<'a>>,
+    pub certificates: CertificateDirectoryTable<'a, A>,
+}
+
+impl<'a, A: Allocator + Copy + Drop> FirstFields<'a, A> {
+    /// The fields of an image with this core, or the first refusal in strict mode: of the debug data, the exception data, the
+    /// base relocations, the certificates.
+    #[tactic(auto, unfolding(crate::specs::FieldSteps::first_fields_in_turn, crate::specs::LayoutParts::layout_of))]
+    pub fn read(
+        alloc: A,
+        bytes: &'a [u8],
+        opts: &ParseOptions,
+        core: &Core<'a, A>,
+    ) -> Result<FirstFields<'a, A>>
+        ensures { GivesUnlessMemory first_fields_view result (first_fields_in_turn bytes.entry.now opts.now (core_view core.now)) }
+    {
+        let layout = Layout::of(&core.header.optional_header);
+        let machine = core.header.coff_header.machine;
+        Ok(FirstFields {
+            debug_data: debug_data(bytes, opts, &core.sections, &layout)?,
+            exception_data: exception_data(bytes, opts, &core.sections, machine, &layout)?,
+            relocation_data: relocation_data(bytes, opts, &core.sections, &layout)?,
+            certificates: certificates(alloc, bytes, opts, &layout)?,
+        })
+    }
+}

@@ -1,0 +1,53 @@
+//! Laws over the definitions. Each is the contract of a function that does nothing.
+
+ghost use Rattle.std.specs.Prelude.{◌≡◌, ◌↔◌, ℕ, List, [], Ok, Err, Option, Result, unwrap_or};
+ghost use Rattle.pe_core.specs.Refusals.{Refusal};
+ghost use Rattle.pe_core.specs.declared.options.ParseMode.{ParseMode};
+ghost use Rattle.pe_core.specs.declared.options.ParseOptions.{ParseOptions};
+ghost use Rattle.pe_resource.specs.Resources.{ResourceView};
+ghost use Rattle.pe_image.specs.Core.{CoreView, core_of};
+ghost use Rattle.pe_image.specs.Fields.{Field, value_of};
+ghost use Rattle.pe_image.specs.Image.{ImageView, core_part, AreResourcesOf, IsImage, certificates_of, debug_of, exceptions_of, relocations_of};
+
+/// Permissive parsing refuses an image exactly where its core is refused, and as that.
+#[tactic(auto, using(crate::proofs::Permissive::refused_as_the_core))]
+pub fn permissive_images_are_refused_as_their_core()
+    ensures { (b : List ℕ) (o : ParseOptions) (r : Result ImageView Refusal) (e : Refusal) → o.parse_mode ≡ ParseMode.Permissive →
+        IsImage b o r → (r ≡ Err e) ↔ (core_of b o ≡ Err e) }
+{}
+
+/// Where an image is given, each field of it is what its own definition gives, and empty where that is absent or refused, whatever the other
+/// fields are.
+#[tactic(auto, using(crate::proofs::Permissive::core_of_image, crate::proofs::Permissive::debug_alone, crate::proofs::Permissive::exceptions_alone, crate::proofs::Permissive::relocations_alone, crate::proofs::Permissive::certificates_alone, crate::proofs::Permissive::resources_alone))]
+pub fn permissive_fields_are_their_own()
+    ensures core { (b : List ℕ) (o : ParseOptions) (c : CoreView) (x : ImageView) → core_of b o ≡ Ok c → IsImage b o (Ok x) →
+        core_part x ≡ c }
+    ensures debug { (b : List ℕ) (o : ParseOptions) (c : CoreView) (x : ImageView) → core_of b o ≡ Ok c → IsImage b o (Ok x) →
+        x.debug_data ≡ value_of (debug_of b o c) }
+    ensures exceptions { (b : List ℕ) (o : ParseOptions) (c : CoreView) (x : ImageView) → core_of b o ≡ Ok c → IsImage b o (Ok x) →
+        x.exception_data ≡ value_of (exceptions_of b o c) }
+    ensures relocations { (b : List ℕ) (o : ParseOptions) (c : CoreView) (x : ImageView) → core_of b o ≡ Ok c → IsImage b o (Ok x) →
+        x.relocation_data ≡ value_of (relocations_of b o c) }
+    ensures certificates { (b : List ℕ) (o : ParseOptions) (c : CoreView) (x : ImageView) → core_of b o ≡ Ok c → IsImage b o (Ok x) →
+        x.certificates ≡ unwrap_or (value_of (certificates_of b o c)) [] }
+    ensures resources { (b : List ℕ) (o : ParseOptions) (c : CoreView) (x : ImageView) → core_of b o ≡ Ok c → IsImage b o (Ok x) →
+        (f : Field ResourceView) × AreResourcesOf b o c f × (x.resource_data ≡ value_of f) }
+{}
+
+/// Where strict parsing succeeds, permissive parsing with otherwise the same options gives the same image.
+pub fn strict_images_are_permissive()
+    ensures { (b : List ℕ) (o : ParseOptions) (x : ImageView) →
+        IsImage b (record o { parse_mode = ParseMode.Strict }) (Ok x) →
+        IsImage b (record o { parse_mode = ParseMode.Permissive }) (Ok x) }
+{
+    pe_core::laws::strict_headers_are_permissive();
+    pe_records::laws::debug::strict_debug_data_is_permissive();
+    pe_resource::laws::resources::strict_resources_are_permissive();
+}
+
+/// Bytes have one image by their options, or one refusal.
+pub fn images_are_one()
+    ensures { (b : List ℕ) (o : ParseOptions) (r s : Result ImageView Refusal) → IsImage b o r → IsImage b o s → r ≡ s }
+{
+    pe_resource::laws::resources::resources_have_one_answer();
+}

@@ -1,0 +1,168 @@
+//! Images.
+
+ghost use Rattle.std.specs.Prelude.{◌≡◌, IfOk};
+ghost use Rattle.std.specs.Option.{option_and_then, option_map};
+ghost use Rattle.pe_core.specs.Exports.{export_data_view};
+ghost use Rattle.pe_core.specs.Options.{default_options};
+ghost use Rattle.pe_resource.specs.Resources.{resource_view};
+ghost use Rattle.pe_image.specs.FieldSteps.{first_fields_view};
+ghost use Rattle.pe_image.specs.CoreParts.{core_view, CoreHasLibraries};
+ghost use Rattle.pe_image.specs.Image.{image_view, source_of, HasLibraries, GivesImage};
+ghost use Rattle.pe_image.specs.ImageSteps.{image_of, GivesBehindCore};
+
+use crate::core_image::Core;
+use crate::fields::{FirstFields, resource_data};
+use crate::layout::{Layout, is_library};
+use pe_core::{
+    Export, ExportData, Header, Import, ImportData, ParseOptions, RelocationData, Result,
+    SectionTable,
+};
+use pe_records::{CertificateDirectoryTable, DebugData};
+use pe_resource::ResourceData;
+use pe_unwind::ExceptionData;
+use std::alloc::{Allocator, Global};
+
+/// A Windows executable: a program, a library or a driver.
+#[derive(Debug, Drop)]
+pub struct PE<'a, A: Allocator + Copy + Drop = Global> {
+    bytes: &'a [u8],
+    pub header: Header<'a>,
+    pub sections: Vec<SectionTable, A>,
+    /// Always 0.
+    pub size: usize,
+    /// The name of the library, as its export directory gives it.
+    pub name: Option<&'a str>,
+    /// Whether it is a library.
+    pub is_lib: bool,
+    /// Whether it is PE32+.
+    pub is_64: bool,
+    /// The relative virtual address of the entry point. 0 without an optional header.
+    pub entry: u32,
+    /// The preferred address of the first byte in memory. 0 without an optional header.
+    pub image_base: u64,
+    /// The export directory. `None` without one, or where it is refused.
+    pub export_data: Option<ExportData<'a>>,
+    /// The import directory. `None` without one, or where the options pass it over.
+    pub import_data: Option<ImportData<'a, A>>,
+    /// What the export directory names.
+    pub exports: Vec<Export<'a>, A>,
+    /// What the import directory names.
+    pub imports: Vec<Import<'a>, A>,
+    /// The names of the libraries that the import directory names, in the order of their bytes, each once.
+    pub libraries: Vec<&'a str, A>,
+    /// The debug data. This field and those behind it are `None` or empty without a directory; in permissive mode also where
+    /// it is refused.
+    pub debug_data: Option<DebugData<'a>>,
+    /// The exception data of x64 (`parse_with_opts` of `ExceptionData`) or ARM64 (`parse_arm64_with_opts`), by the machine of
+    /// the header. `None` for another machine.
+    pub exception_data: Option<ExceptionData<'a>>,
+    pub relocation_data: Option<RelocationData<'a>>,
+    /// The attribute certificates, unless the options pass them over.
+    pub certificates: CertificateDirectoryTable<'a, A>,
+    /// The resources, unless the options pass them over.
+    pub resource_data: Option<ResourceData<'a>>,
+}
+
+/// The name that an export directory gives, if there is one.
+fn name_of<'a>(export_data: &Option<ExportData<'a>>) -> Option<&'a str>
+    ensures { option_map (λ s. s.now) result ≡ option_and_then (λ d. d.name) (option_map export_data_view export_data.now) }
+{
+    match export_data {
+        None => None,
+        Some(data) => data.name,
+    }
+}
+
+impl<'a, A: Allocator + Copy + Drop> PE<'a, A> {
+    /// The image with this core and these fields.
+    #[tactic(auto, unfolding(crate::specs::LayoutParts::layout_of))]
+    fn of_parts(
+        bytes: &'a [u8],
+        core: Core<'a, A>,
+        first: FirstFields<'a, A>,
+        resource_data: Option<ResourceData<'a>>,
+    ) -> PE<'a, A>
+        ensures view { image_view result ≡ image_of (core_view core.entry) (first_fields_view first.entry) (option_map resource_view resource_data.entry) }
+        ensures libraries { CoreHasLibraries core.entry → HasLibraries result }
+        ensures source { source_of result ≡ bytes.entry.now }
+    {
+        let Core {
+            header,
+            sections,
+            export_data,
+            exports,
+            import_data,
+            imports,
+            libraries,
+        } = core;
+        let FirstFields {
+            debug_data,
+            exception_data,
+            relocation_data,
+            certificates,
+        } = first;
+        let layout = Layout::of(&header.optional_header);
+        PE {
+            bytes,
+            size: 0,
+            name: name_of(&export_data),
+            is_lib: is_library(&header),
+            is_64: layout.is_64,
+            entry: layout.entry,
+            image_base: layout.image_base,
+            header,
+            sections,
+            export_data,
+            import_data,
+            exports,
+            imports,
+            libraries,
+            debug_data,
+            exception_data,
+            relocation_data,
+            certificates,
+            resource_data,
+        }
+    }
+
+    /// The image with this core, or the first refusal in strict mode.
+    fn with_core(
+        alloc: A,
+        bytes: &'a [u8],
+        opts: &ParseOptions,
+        core: Core<'a, A>,
+    ) -> Result<PE<'a, A>>
+        requires { CoreHasLibraries core }
+        ensures image { GivesBehindCore bytes.entry.now opts.now (core_view core.entry) result }
+        ensures libraries { IfOk result HasLibraries }
+        ensures source { IfOk result (λ p. source_of p ≡ bytes.entry.now) }
+    {
+        let first = FirstFields::read(alloc, bytes, opts, &core)?;
+        let layout = Layout::of(&core.header.optional_header);
+        let resource_data = resource_data(alloc, bytes, opts, &core.sections, &layout)?;
+        Ok(PE::of_parts(bytes, core, first, resource_data))
+    }
+
+    /// The image of these bytes, strictly and with all directories.
+    pub fn parse(alloc: A, bytes: &'a [u8]) -> Result<PE<'a, A>>
+        ensures image { GivesImage bytes.entry.now default_options result }
+        ensures libraries { IfOk result HasLibraries }
+        ensures source { IfOk result (λ p. source_of p ≡ bytes.entry.now) }
+    {
+        PE::parse_with_opts(alloc, bytes, &ParseOptions::default())
+    }
+
+    /// The image of these bytes. Refusals in this order: in both modes those of the headers, `Short` where the section
+    /// headers are not all there, those of the import directory and of its imports; in strict mode those of the debug data,
+    /// the exception data, the base relocations, the certificates and the resources, each of which permissive mode leaves
+    /// empty. A refused export directory counts as absent. `Memory` comes only once the headers and the section headers are
+    /// there, and is never left out.
+    pub fn parse_with_opts(alloc: A, bytes: &'a [u8], opts: &ParseOptions) -> Result<PE<'a, A>>
+        ensures image { GivesImage bytes.entry.now opts.now result }
+        ensures libraries { IfOk result HasLibraries }
+        ensures source { IfOk result (λ p. source_of p ≡ bytes.entry.now) }
+    {
+        let core = Core::read(alloc, bytes, opts)?;
+        PE::with_core(alloc, bytes, opts, core)
+    }
+}
