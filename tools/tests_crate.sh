@@ -1,0 +1,23 @@
+# Sourced by the tools that run the tests, or that try sources beside them, at the top of the repository.
+# The tests are no crate of the repository, and no .rt files, since the toolchain's gate proves each crate and stops at
+# a .rt file that no check reads.
+
+# Puts the crates' sources into a new folder, without what was proved of them, and the tests as one more crate, pe_tests.
+copy_with_tests() {
+  local folder=$1 part test
+  for part in crates/*/{src,specs,proofs}; do
+    if [ -d "$part" ]; then
+      mkdir -p "$folder/$part"
+      cp -R "$part/." "$folder/$part"
+    fi
+  done
+  mkdir -p "$folder/crates/pe_tests/src"
+  for test in tests/*.test; do
+    cp "$test" "$folder/crates/pe_tests/src/$(basename "$test" .test).rt"
+  done
+  {
+    cat crates.txt
+    echo
+    echo "pe_tests: pe_core pe_records pe_unwind pe_resource pe_images pe_uses linked_list_allocator"
+  } >"$folder/crates.txt"
+}
