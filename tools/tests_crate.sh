@@ -2,9 +2,10 @@
 # The tests are no crate of the repository, and no .rt files, since the toolchain's gate proves each crate and stops at
 # a .rt file that no check reads.
 
-# Puts the crates' sources into a new folder, without what was proved of them, and the tests as one more crate, pe_tests.
-copy_with_tests() {
-  local folder=$1 part test
+# Puts the crates' sources into a folder, without what was proved of them, and one more crate, pe_tests, that has no
+# source yet.
+copy_with_tests_crate() {
+  local folder=$1 part
   for part in crates/*/{src,specs,proofs}; do
     if [ -d "$part" ]; then
       mkdir -p "$folder/$part"
@@ -12,9 +13,6 @@ copy_with_tests() {
     fi
   done
   mkdir -p "$folder/crates/pe_tests/src"
-  for test in tests/*.test; do
-    cp "$test" "$folder/crates/pe_tests/src/$(basename "$test" .test).rt"
-  done
   {
     cat crates.txt
     echo
