@@ -1,0 +1,21 @@
+# Sourced by the tools that run the tests, or that try sources beside them, at the top of the repository.
+# The tests are no crate of the repository, and no .rt files, since the toolchain's gate proves each crate and stops at
+# a .rt file that no check reads.
+
+# Puts the crates' sources into a folder, without what was proved of them, and one more crate, pe_tests, that has no
+# source yet.
+copy_with_tests_crate() {
+  local folder=$1 part
+  for part in crates/*/{src,specs,proofs}; do
+    if [ -d "$part" ]; then
+      mkdir -p "$folder/$part"
+      cp -R "$part/." "$folder/$part"
+    fi
+  done
+  mkdir -p "$folder/crates/pe_tests/src"
+  {
+    cat crates.txt
+    echo
+    echo "pe_tests: pe_core pe_records pe_unwind pe_resource pe_images pe_uses linked_list_allocator"
+  } >"$folder/crates.txt"
+}
