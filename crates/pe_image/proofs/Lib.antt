@@ -3,3 +3,4 @@ pub mod ByMode
 pub mod Images
 pub mod Modes
 pub mod Permissive
+pub mod SectionsFirst

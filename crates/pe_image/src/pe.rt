@@ -1,11 +1,12 @@
 //! Images.
 
-ghost use Rattle.std.specs.Prelude.{◌≡◌, IfOk};
+ghost use Rattle.std.specs.Prelude.{◌≡◌, IfOk, Ok};
 ghost use Rattle.std.specs.Option.{option_and_then, option_map};
 ghost use Rattle.pe_core.specs.Exports.{export_data_view};
 ghost use Rattle.pe_core.specs.Options.{default_options};
 ghost use Rattle.pe_resource.specs.Resources.{resource_view};
 ghost use Rattle.pe_image.specs.FieldSteps.{first_fields_view};
+ghost use Rattle.pe_image.specs.Core.{sections_read};
 ghost use Rattle.pe_image.specs.CoreParts.{core_view, CoreHasLibraries};
 ghost use Rattle.pe_image.specs.Image.{image_view, source_of, HasLibraries, GivesImage};
 ghost use Rattle.pe_image.specs.ImageSteps.{image_of, GivesBehindCore};
@@ -146,6 +147,7 @@ impl<'a, A: Allocator + Copy + Drop> PE<'a, A> {
     /// The image of these bytes, strictly and with all directories.
     pub fn parse(alloc: A, bytes: &'a [u8]) -> Result<PE<'a, A>>
         ensures image { GivesImage bytes.entry.now default_options result }
+        ensures sections { IfOk result (λ p. sections_read bytes.entry.now default_options ≡ Ok (image_view p).sections) }
         ensures libraries { IfOk result HasLibraries }
         ensures source { IfOk result (λ p. source_of p ≡ bytes.entry.now) }
     {
@@ -159,6 +161,7 @@ impl<'a, A: Allocator + Copy + Drop> PE<'a, A> {
     /// there, and is never left out.
     pub fn parse_with_opts(alloc: A, bytes: &'a [u8], opts: &ParseOptions) -> Result<PE<'a, A>>
         ensures image { GivesImage bytes.entry.now opts.now result }
+        ensures sections { IfOk result (λ p. sections_read bytes.entry.now opts.now ≡ Ok (image_view p).sections) }
         ensures libraries { IfOk result HasLibraries }
         ensures source { IfOk result (λ p. source_of p ≡ bytes.entry.now) }
     {
