@@ -20,11 +20,11 @@ use pe_resource::ResourceData;
 use pe_unwind::ExceptionData;
 use std::alloc::Allocator;
 
-/// The machine x64.
-const MACHINE_X64: u16 = 0x8664;
+/// The machine x64, as the COFF header gives it.
+pub const COFF_MACHINE_X86_64: u16 = 0x8664;
 
-/// The machine ARM64.
-const MACHINE_ARM64: u16 = 0xAA64;
+/// The machine ARM64, as the COFF header gives it.
+pub const COFF_MACHINE_ARM64: u16 = 0xAA64;
 
 /// The debug data by mode.
 #[tactic(auto, using(crate::proofs::ByMode::gives_by_mode))]
@@ -62,10 +62,10 @@ fn exception_data<'a>(
     };
     let alignment = layout.file_alignment;
     let parsed = match machine {
-        MACHINE_X64 => {
+        COFF_MACHINE_X86_64 => {
             ExceptionData::parse_with_opts(bytes, directory, sections, alignment, opts)
         }
-        MACHINE_ARM64 => {
+        COFF_MACHINE_ARM64 => {
             ExceptionData::parse_arm64_with_opts(bytes, directory, sections, alignment, opts)
         }
         _ => return Ok(None),

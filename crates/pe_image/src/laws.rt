@@ -9,6 +9,8 @@ ghost use Rattle.pe_image.specs.Core.{CoreView, core_of};
 ghost use Rattle.pe_image.specs.Fields.{Field, value_of};
 ghost use Rattle.pe_image.specs.Image.{ImageView, core_part, AreResourcesOf, IsImage, certificates_of, debug_of, exceptions_of, relocations_of};
 
+use crate::fields::{COFF_MACHINE_ARM64, COFF_MACHINE_X86_64};
+
 /// Permissive parsing refuses an image exactly where its core is refused, and as that.
 #[tactic(auto, using(crate::proofs::Permissive::refused_as_the_core))]
 pub fn permissive_images_are_refused_as_their_core()
@@ -51,3 +53,9 @@ pub fn images_are_one()
 {
     pe_resource::laws::resources::resources_have_one_answer();
 }
+
+/// The numbers of the machines that have exception data.
+pub fn constants()
+    ensures x64 { COFF_MACHINE_X86_64 ≡ 0x8664 }
+    ensures arm64 { COFF_MACHINE_ARM64 ≡ 0xAA64 }
+{}

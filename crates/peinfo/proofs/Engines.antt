@@ -1,5 +1,5 @@
 -- From the text that was written to what an engine did.
-use Rattle.std.proofs.Common.{◌≡◌, ℕ, List, Option, Result, Ok, Err, sym}
+use Rattle.std.proofs.Common.{ℕ, List, Option, Result, Ok, Err, sym}
 use Rattle.pe_core.specs.declared.error.Error.{Error}
 use Rattle.peinfo.specs.Engine.{Reports, Writes}
 use Rattle.peinfo.specs.declared.engine.ReportError.{ReportError}

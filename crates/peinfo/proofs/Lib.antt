@@ -4,9 +4,6 @@ pub mod Reading
 pub mod Words
 pub mod Writing
 pub mod Engines
-pub mod NoMemory
-pub mod ByMode
-pub mod SectionsFirst
 pub mod Lines
 pub mod FunctionItems
 pub mod FindTexts

@@ -1,13 +1,12 @@
 -- The lines that are shown of a function table.
-use Rattle.std.specs.Prelude.{ℕ, ◌++◌, List, [], length, Option, Some, None, Result, Ok, Err, codes}
+use Rattle.std.specs.Prelude.{ℕ, ◌++◌, List, [], length, Option, Some, None, Result, Ok, Err, codes, ◌==◌, if◌then◌else◌}
 use Rattle.std.specs.List.{flat_map}
 use Rattle.pe_core.specs.Refusals.{Refusal}
 use Rattle.pe_unwind.specs.Arm64Functions.{arm64_functions}
-use Rattle.pe_unwind.specs.ExceptionTable.{table_of}
+use Rattle.pe_unwind.specs.ExceptionTable.{ExceptionView, table_of}
 use Rattle.pe_unwind.specs.FunctionTable.{functions}
 use Rattle.pe_unwind.specs.declared.arm64.function.Arm64RuntimeFunction.{Arm64RuntimeFunction}
 use Rattle.pe_unwind.specs.declared.function_table.RuntimeFunction.{RuntimeFunction}
-use Rattle.peinfo.specs.Exceptions.{MachineExceptions, ForX64, ForArm64}
 use Rattle.peinfo.specs.Hex.{hex}
 
 unfoldable pub function_line : RuntimeFunction → List ℕ
@@ -19,16 +18,17 @@ unfoldable pub function64_line : Arm64RuntimeFunction → List ℕ
 function64_line f =
     codes "function64 " ++ hex 8 f.begin_address ++ codes " " ++ hex 8 f.unwind_data ++ codes "\n"
 
--- a line for each whole entry of the table
-abbrev pub function_lines : Option MachineExceptions → List ℕ
-function_lines None = []
-function_lines (Some (ForX64 exceptions)) = flat_map function_line (functions (table_of exceptions))
-function_lines (Some (ForArm64 exceptions)) = flat_map function64_line (arm64_functions (table_of exceptions))
+-- a line for each whole entry of the table, by the machine of the image
+abbrev pub function_lines : ℕ → Option ExceptionView → List ℕ
+function_lines machine None = []
+function_lines machine (Some exceptions) =
+    if machine == 0xAA64 then flat_map function64_line (arm64_functions (table_of exceptions))
+    else flat_map function_line (functions (table_of exceptions))
 
-abbrev pub function_count : Option MachineExceptions → ℕ
-function_count None = 0
-function_count (Some (ForX64 exceptions)) = length (functions (table_of exceptions))
-function_count (Some (ForArm64 exceptions)) = length (arm64_functions (table_of exceptions))
+abbrev pub function_count : ℕ → Option ExceptionView → ℕ
+function_count machine None = 0
+function_count machine (Some exceptions) =
+    if machine == 0xAA64 then length (arm64_functions (table_of exceptions)) else length (functions (table_of exceptions))
 
 -- the lines of an iterator's items; a cut entry has none
 abbrev pub item_line : {X : Type 0} → (X → List ℕ) → Result X Refusal → List ℕ

@@ -4,9 +4,7 @@ pub mod Engine
 pub mod Outcome
 pub mod DebugEntries
 pub mod CertificateLines
-pub mod Exceptions
 pub mod FunctionLines
-pub mod Parts
 pub mod Report
 pub mod Command
 pub mod Reading

@@ -1,37 +1,41 @@
 -- The text that is shown of an image.
-use Rattle.std.specs.Prelude.{◌≡◌, ℕ, ◌++◌, ◌==◌, List, Option, Some, None, Result, Ok, Err, IsOk, codes, if◌then◌else◌}
-use Rattle.pe_core.specs.Header.{OptionalHeaderView}
-use Rattle.pe_core.specs.Refusals.{Refusal, ◌>>=◌, UnlessMemory, IfMemory, kind_of}
+use Rattle.std.specs.Prelude.{◌≡◌, ℕ, ◌++◌, Bool, List, Result, Ok, Err, IsOk, Vec, codes, if◌then◌else◌}
+use Rattle.pe_core.specs.Refusals.{UnlessMemory, IfMemory, kind_of}
 use Rattle.pe_core.specs.declared.error.Error.{Error}
 use Rattle.pe_core.specs.declared.options.ParseOptions.{ParseOptions}
+use Rattle.pe_image.specs.Core.{sections_read}
+use Rattle.pe_image.specs.Image.{ImageView, IsImage}
 use Rattle.peinfo.specs.CertificateLines.{certificate_lines}
 use Rattle.peinfo.specs.DebugEntries.{debug_lines}
 use Rattle.peinfo.specs.FunctionLines.{function_lines}
 use Rattle.peinfo.specs.Hex.{hex}
-use Rattle.peinfo.specs.Parts.{sections_read, parts_of}
 
--- by the optional header's magic number
-abbrev pub width_text : ℕ → List ℕ
-width_text magic = if magic == 0x20B then codes "64" else codes "32"
+abbrev pub width_text : Bool → List ℕ
+width_text is_64 = if is_64 then codes "64" else codes "32"
 
-abbrev pub image_text : List ℕ → ℕ → ℕ → List ℕ
-image_text width entry base = codes "image " ++ width ++ codes " entry " ++ hex 8 entry ++ codes " base " ++ hex 16 base ++ codes "\n"
+-- the first line: the width, the entry point, the preferred address
+unfoldable pub image_line : Bool → ℕ → ℕ → List ℕ
+image_line is_64 entry base = codes "image " ++ width_text is_64 ++ codes " entry " ++ hex 8 entry ++ codes " base " ++ hex 16 base ++ codes "\n"
 
--- the first line; without an optional header its numbers are 0
-unfoldable pub image_line : Option OptionalHeaderView → List ℕ
-image_line None = image_text (codes "32") 0 0
-image_line (Some o) = image_text (width_text o.standard_fields.magic) o.standard_fields.address_of_entry_point o.windows_fields.image_base
-
--- the whole text, or the refusal of the image
-unfoldable pub report_text : List ℕ → ParseOptions → Result (List ℕ) Refusal
-report_text b opts = do
-  parts ← parts_of b opts
-  Ok (image_line parts.optional_header ++ debug_lines parts.debug ++ certificate_lines parts.certificates ++ function_lines parts.exceptions)
+-- the whole text
+unfoldable pub report_text : ImageView → List ℕ
+report_text image =
+    image_line image.is_64 image.entry image.image_base
+    ++ debug_lines image.debug_data
+    ++ certificate_lines image.certificates
+    ++ function_lines image.header.coff_header.machine image.exception_data
 
 -- what the text of a report has to be
-abbrev pub IsReport : List ℕ → ParseOptions → List ℕ → Type 0
-IsReport b opts text = report_text b opts ≡ Ok text
+pub record IsReport (b : List ℕ) (opts : ParseOptions) (text : List ℕ) : Type 0 where
+  pub image : ImageView
+  pub given : IsImage b opts (Ok image)
+  pub shown : text ≡ report_text image
 
 -- the refusal, or want of memory, which is asked for once the headers and the section headers are there
 abbrev pub IsReportRefusal : List ℕ → ParseOptions → Error → Type 0
-IsReportRefusal b opts e = UnlessMemory e (report_text b opts ≡ Err (kind_of e)) × IfMemory e (IsOk (sections_read b opts))
+IsReportRefusal b opts e = UnlessMemory e (IsImage b opts (Err (kind_of e))) × IfMemory e (IsOk (sections_read b opts))
+
+-- what making that text of an image answers
+abbrev pub GivesReport : {Z : Type 0} → List ℕ → ParseOptions → Result (Vec ℕ Z) Error → Type 0
+GivesReport b opts (Ok text) = IsReport b opts text.items
+GivesReport b opts (Err e) = IsReportRefusal b opts e

@@ -4,7 +4,7 @@ ghost use Rattle.std.specs.Prelude.{◌≡◌, ◌*◌, ◌<◌, ◌≤◌, ◌^
 ghost use Rattle.std.specs.Option.{option_map};
 ghost use Rattle.std.specs.String.{string_bytes};
 
-use pe_core::ParseMode;
+use pe_image::ParseMode;
 
 /// What `peinfo` is asked to do.
 #[derive(Debug, Drop)]

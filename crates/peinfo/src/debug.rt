@@ -1,41 +1,15 @@
-//! The debug data, and the lines of their entries.
+//! The lines of debug entries.
 
 ghost use Rattle.std.specs.Prelude.{◌≡◌, ◌++◌, codes, OnOk};
 ghost use Rattle.std.specs.Option.{option_map};
-ghost use Rattle.pe_core.specs.Header.{optional_view};
-ghost use Rattle.pe_core.specs.Refusals.{Gives};
 ghost use Rattle.pe_records.specs.DebugDirectory.{rest_of, fixup_of};
 ghost use Rattle.pe_records.specs.DebugRecords.{debug_view};
 ghost use Rattle.peinfo.specs.Hex.{hex};
-ghost use Rattle.peinfo.specs.DebugEntries.{shown_debug, entry_line, entry_lines, debug_lines, line_count};
+ghost use Rattle.peinfo.specs.DebugEntries.{entry_line, entry_lines, debug_lines, line_count};
 
 use crate::digits::{hex_8, push_decimal};
-use pe_core::{OptionalHeader, ParseOptions, SectionTable};
-use pe_records::{DebugData, ImageDebugDirectory, ImageDebugDirectoryIterator};
+use pe_image::{DebugData, ImageDebugDirectory, ImageDebugDirectoryIterator};
 use std::alloc::{AllocError, Allocator};
-
-/// The debug data that are shown: in permissive mode those that are refused are left out.
-#[tactic(auto, using(crate::proofs::ByMode::debug_by_mode), unfolding(crate::specs::DebugEntries::shown_debug))]
-pub fn shown<'a>(
-    bytes: &'a [u8],
-    opts: &ParseOptions,
-    sections: &[SectionTable],
-    optional: &Option<OptionalHeader>,
-) -> pe_core::Result<Option<DebugData<'a>>>
-    ensures { Gives (option_map debug_view) result
-        (shown_debug bytes.entry.now opts.now sections.now (optional_view optional.now)) }
-{
-    let Some(optional) = optional else {
-        return Ok(None);
-    };
-    let Some(directory) = optional.data_directories.get_debug_table() else {
-        return Ok(None);
-    };
-    let alignment = optional.windows_fields.file_alignment;
-    opts.parse_mode.none_if_refused(DebugData::parse_with_opts(
-        bytes, directory, sections, alignment, opts,
-    ))
-}
 
 /// The end of a line, from behind the size on.
 #[tactic(auto, unfolding(crate::specs::Hex::hex))]

@@ -4,7 +4,7 @@ ghost use Rattle.peinfo.specs.Engine.{Writes};
 ghost use Rattle.peinfo.specs.Output.{writer_of, failures_of};
 
 use crate::counted_out::{CountedOut, put_all};
-use pe_core::Error;
+use pe_image::Error;
 use std::io;
 
 /// Why there is no whole text.

@@ -1,36 +1,29 @@
 //! The function that covers an address.
 
 ghost use Rattle.std.specs.Prelude.{◌≡◌, ◌++◌, OnOk};
-ghost use Rattle.std.specs.Option.{option_map};
-ghost use Rattle.pe_core.specs.Options.{default_options};
 ghost use Rattle.pe_unwind.specs.FunctionTable.{Finds};
-ghost use Rattle.peinfo.specs.Exceptions.{machine_view};
 ghost use Rattle.peinfo.specs.Engine.{Reports};
 ghost use Rattle.peinfo.specs.Find.{functions_of, found_line, IsFindText, IsFindRefusal, GivesFindText};
 ghost use Rattle.peinfo.specs.Output.{writer_of, failures_of};
-ghost use Rattle.peinfo.specs.Parts.{parts_of};
 
 use crate::counted_out::CountedOut;
 use crate::engine::{ReportError, write_text};
-use crate::exceptions::Exceptions;
 use crate::functions;
-use crate::parts::Parts;
-use pe_core::ParseOptions;
-use pe_unwind::RuntimeFunction;
+use pe_image::{COFF_MACHINE_X86_64, ExceptionData, PE, RuntimeFunction};
 use std::alloc::{AllocError, Allocator};
 use std::io;
 
-/// The function that covers the address, if exception data have one.
+/// The function that covers the address, if x64 exception data have one.
 #[tactic(auto, using(crate::proofs::FindTexts::nothing_found))]
-fn found_in(exceptions: &Option<Exceptions>, rva: u32) -> Option<RuntimeFunction>
-    ensures { Finds (functions_of (option_map machine_view exceptions.now)) rva result }
+fn found_in(machine: u16, exceptions: &Option<ExceptionData>, rva: u32) -> Option<RuntimeFunction>
+    ensures { Finds (functions_of machine exceptions.now) rva result }
 {
     match exceptions {
-        None | Some(Exceptions::Arm64(_)) => None,
-        Some(Exceptions::X64(exceptions)) => match exceptions.find_function(rva) {
+        Some(exceptions) if machine == COFF_MACHINE_X86_64 => match exceptions.find_function(rva) {
             Ok(found) => found,
             Err(_) => None,
         },
+        _ => None,
     }
 }
 
@@ -48,12 +41,17 @@ fn push_found<A: Allocator>(
 }
 
 /// The line of the function that covers the address, or the refusal of the image.
-#[tactic(auto, using(crate::proofs::FindTexts::find_text, crate::proofs::SectionsFirst::sections_first))]
-fn text_of<A: Allocator + Copy>(alloc: A, bytes: &[u8], rva: u32) -> pe_core::Result<Vec<u8, A>>
-    ensures { GivesFindText result bytes.now rva }
+#[tactic(auto, using(crate::proofs::FindTexts::find_text))]
+fn text_of<A: Allocator + Copy + Drop>(
+    alloc: A,
+    bytes: &[u8],
+    rva: u32,
+) -> pe_image::Result<Vec<u8, A>>
+    ensures { GivesFindText bytes.now rva result }
 {
-    let parts = Parts::read(alloc, bytes, &ParseOptions::default())?;
-    let found = found_in(&parts.exceptions, rva);
+    let image = PE::parse(alloc, bytes)?;
+    let machine = image.header.coff_header.machine;
+    let found = found_in(machine, &image.exception_data, rva);
     let mut text = Vec::new(alloc);
     push_found(&mut text, found)?;
     Ok(text)
@@ -68,7 +66,7 @@ pub fn find<A: Allocator, W: io::Write>(
     rva: u32,
     out: &mut CountedOut<W>,
 ) -> Result<(), ReportError>
-    ensures { Reports result (IsFindText (parts_of bytes.now default_options) rva)
+    ensures { Reports result (IsFindText bytes.now rva)
         (IsFindRefusal bytes.now)
         (W.contents (writer_of out.old)) (W.contents (writer_of out.new))
         (failures_of out.old) (failures_of out.new) }

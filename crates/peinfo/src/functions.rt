@@ -7,7 +7,7 @@ ghost use Rattle.peinfo.specs.Hex.{hex};
 ghost use Rattle.peinfo.specs.FunctionLines.{function_line, function64_line, item_lines};
 
 use crate::digits::hex_8;
-use pe_unwind::{
+use pe_image::{
     Arm64RuntimeFunction, Arm64RuntimeFunctionIterator, RuntimeFunction, RuntimeFunctionIterator,
 };
 use std::alloc::{AllocError, Allocator};

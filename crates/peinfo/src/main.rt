@@ -12,7 +12,6 @@ mod find;
 mod functions;
 mod input;
 mod outcome;
-mod parts;
 mod report;
 
 ghost use Rattle.std.specs.Prelude.{◌≡◌, ◌↔◌, ◌≤◌, ◌≢◌, map, IsNone, IfErr};
@@ -27,8 +26,7 @@ use engine::ReportError;
 use find::find;
 use input::read_all;
 use outcome::Outcome;
-use parts::Parts;
-use pe_core::{Error, ParseMode, ParseOptions};
+use pe_image::{Error, PE, ParseMode, ParseOptions};
 use report::report;
 use std::alloc::Allocator;
 use std::process::ExitCode;
@@ -103,12 +101,12 @@ fn outcome_of<R: Eprint, W: io::Write>(
 }
 
 /// What is said behind the refusal of an image in this mode: where strict mode alone refuses it, the word that helps.
-fn advice_on<A: Allocator + Copy>(alloc: A, bytes: &[u8], mode: ParseMode) -> &'static str {
+fn advice_on<A: Allocator + Copy + Drop>(alloc: A, bytes: &[u8], mode: ParseMode) -> &'static str {
     match mode {
         ParseMode::Permissive => "",
         ParseMode::Strict => {
             let opts = ParseOptions::default().with_parse_mode(ParseMode::Permissive);
-            match Parts::read(alloc, bytes, &opts) {
+            match PE::parse_with_opts(alloc, bytes, &opts) {
                 Ok(_) => "; --permissive lists the rest",
                 Err(_) => "",
             }

@@ -1,33 +1,32 @@
 //! The text that is shown of an image.
 
-ghost use Rattle.std.specs.Prelude.{◌≡◌, ◌++◌, OnOk};
-ghost use Rattle.pe_core.specs.Header.{optional_view};
-ghost use Rattle.pe_core.specs.Refusals.{GivesUnlessMemoryAfter};
+ghost use Rattle.std.specs.Prelude.{◌≡◌, ◌++◌, IfOk, OnOk};
+ghost use Rattle.pe_image.specs.Image.{image_view};
 ghost use Rattle.peinfo.specs.Engine.{Reports};
-ghost use Rattle.peinfo.specs.Report.{image_line, image_text, report_text, IsReport, IsReportRefusal};
+ghost use Rattle.peinfo.specs.Report.{image_line, report_text, IsReport, IsReportRefusal, GivesReport};
 ghost use Rattle.peinfo.specs.Output.{writer_of, failures_of};
-ghost use Rattle.peinfo.specs.Parts.{sections_read};
 
 use crate::counted_out::CountedOut;
 use crate::digits::{hex_8, hex_16};
 use crate::engine::{ReportError, write_text};
-use crate::parts::Parts;
 use crate::{certificates, debug, exceptions};
-use pe_core::{MAGIC_64, OptionalHeader, ParseOptions};
+use pe_image::{PE, ParseOptions};
 use std::alloc::{AllocError, Allocator};
 use std::io;
 
 /// No line is longer: `image`, and `debug` with two numbers of ten digits.
 const LONGEST_LINE: usize = 46;
 
-fn push_image<A: Allocator>(
+#[tactic(auto, unfolding(crate::specs::Report::image_line))]
+fn push_image_line<A: Allocator>(
     text: &mut Vec<u8, A>,
-    width: &[u8],
+    is_64: bool,
     entry: u32,
     base: u64,
 ) -> Result<(), AllocError>
-    ensures { OnOk result (text.new.items ≡ text.old.items ++ image_text width.now entry base) }
+    ensures { OnOk result (text.new.items ≡ text.old.items ++ image_line is_64 entry base) }
 {
+    let width: &[u8] = if is_64 { b"64" } else { b"32" };
     text.extend_from_slice(b"image ")?;
     text.extend_from_slice(width)?;
     text.extend_from_slice(b" entry ")?;
@@ -38,44 +37,37 @@ fn push_image<A: Allocator>(
     Ok(())
 }
 
-#[tactic(auto, unfolding(crate::specs::Report::image_line))]
-fn push_image_line<A: Allocator>(
-    text: &mut Vec<u8, A>,
-    optional: &Option<OptionalHeader>,
-) -> Result<(), AllocError>
-    ensures { OnOk result (text.new.items ≡ text.old.items ++ image_line (optional_view optional.now)) }
+/// The whole text of an image.
+#[tactic(auto, unfolding(crate::specs::Report::report_text))]
+fn text_of_image<A: Allocator + Copy + Drop>(
+    alloc: A,
+    image: &PE<'_, A>,
+) -> Result<Vec<u8, A>, AllocError>
+    ensures { IfOk result (λ text. text.items ≡ report_text (image_view image.now)) }
 {
-    match optional {
-        None => push_image(text, b"32", 0, 0),
-        Some(optional) => {
-            let is_wide = optional.standard_fields.magic == MAGIC_64;
-            let entry = optional.standard_fields.address_of_entry_point;
-            let base = optional.windows_fields.image_base;
-            push_image(text, if is_wide { b"64" } else { b"32" }, entry, base)
-        }
-    }
+    let machine = image.header.coff_header.machine;
+    let lines = debug::line_count(&image.debug_data)
+        .saturating_add(image.certificates.len())
+        .saturating_add(exceptions::line_count(machine, &image.exception_data))
+        .saturating_add(1);
+    let mut text = Vec::with_capacity(alloc, lines.saturating_mul(LONGEST_LINE))?;
+    push_image_line(&mut text, image.is_64, image.entry, image.image_base)?;
+    debug::push_lines(&mut text, &image.debug_data)?;
+    certificates::push_lines(&mut text, &image.certificates)?;
+    exceptions::push_lines(&mut text, machine, &image.exception_data)?;
+    Ok(text)
 }
 
 /// The whole text, or the refusal of the image.
-#[tactic(auto, using(crate::proofs::SectionsFirst::sections_first), unfolding(crate::specs::Report::report_text))]
-fn text_of<A: Allocator + Copy>(
+fn text_of<A: Allocator + Copy + Drop>(
     alloc: A,
     bytes: &[u8],
     opts: &ParseOptions,
-) -> pe_core::Result<Vec<u8, A>>
-    ensures { GivesUnlessMemoryAfter (sections_read bytes.now opts.now) (λ text. text.items) result
-        (report_text bytes.now opts.now) }
+) -> pe_image::Result<Vec<u8, A>>
+    ensures { GivesReport bytes.now opts.now result }
 {
-    let parts = Parts::read(alloc, bytes, opts)?;
-    let lines = debug::line_count(&parts.debug)
-        .saturating_add(parts.certificates.len())
-        .saturating_add(exceptions::line_count(&parts.exceptions))
-        .saturating_add(1);
-    let mut text = Vec::with_capacity(alloc, lines.saturating_mul(LONGEST_LINE))?;
-    push_image_line(&mut text, &parts.optional_header)?;
-    debug::push_lines(&mut text, &parts.debug)?;
-    certificates::push_lines(&mut text, &parts.certificates)?;
-    exceptions::push_lines(&mut text, &parts.exceptions)?;
+    let image = PE::parse_with_opts(alloc, bytes, opts)?;
+    let text = text_of_image(alloc, &image)?;
     Ok(text)
 }
 

@@ -8,7 +8,7 @@ use crate::engine::ReportError;
 use crate::find::find;
 use crate::report::report;
 use linked_list_allocator::LocalHeap;
-use pe_core::{Error, ParseMode, ParseOptions, Reason};
+use pe_image::{Error, ParseMode, ParseOptions, Reason};
 use pe_images::{
     headers_alone, pointer_below_64, put, with_certificate, with_debug, with_functions,
 };

@@ -3,7 +3,7 @@
 use crate::counted_out::CountedOut;
 use crate::engine::ReportError;
 use crate::report::report;
-use pe_core::ParseOptions;
+use pe_image::ParseOptions;
 use pe_images::with_debug;
 use std::io;
 use std::test::*;
