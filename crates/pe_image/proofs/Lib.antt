@@ -4,3 +4,4 @@ pub mod Images
 pub mod Modes
 pub mod Permissive
 pub mod SectionsFirst
+pub mod ExceptionFields

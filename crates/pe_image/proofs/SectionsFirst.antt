@@ -20,9 +20,9 @@ of_two : {X Y Z W : Type 0} (a : Result X Refusal) (f : X → Result Y Refusal) 
 of_two (Err e) f make part w z same h = absurd cc
 of_two (Ok x) f make part w z same h = of_one (f x) (make x) part w z (same x) h
   where
-  of_one : {Y Z W : Type 0} (a : Result Y Refusal) (make : Y → Z) (part : Z → W) (w : W) (z : Z) → ((y : Y) → part (make y) ≡ w) → (a >>= λ y. Ok (make y)) ≡ Ok z → part z ≡ w
-  of_one (Err e) make part w z same h = absurd cc
-  of_one (Ok y) make part w z same h = let is : make y ≡ z = cc in ap part (sym is) ∙ same y
+    of_one : {Y Z W : Type 0} (a : Result Y Refusal) (make : Y → Z) (part : Z → W) (w : W) (z : Z) → ((y : Y) → part (make y) ≡ w) → (a >>= λ y. Ok (make y)) ≡ Ok z → part z ≡ w
+    of_one (Err e) make part w z same h = absurd cc
+    of_one (Ok y) make part w z same h = let is : make y ≡ z = cc in ap part (sym is) ∙ same y
 
 core_sections : (b : List ℕ) (o : ParseOptions) (header : HeaderView) (sections : List SectionTable) (c : CoreView) → core_with b o header sections ≡ Ok c → c.sections ≡ sections
 unfolding core_with

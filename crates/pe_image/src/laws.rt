@@ -1,11 +1,13 @@
 //! Laws over the definitions. Each is the contract of a function that does nothing.
 
-ghost use Rattle.std.specs.Prelude.{◌≡◌, ◌↔◌, ℕ, List, [], Ok, Err, Option, Result, unwrap_or};
+ghost use Rattle.std.specs.Prelude.{◌≡◌, ◌↔◌, ℕ, List, [], Ok, Err, Option, Some, Result, unwrap_or};
 ghost use Rattle.pe_core.specs.Refusals.{Refusal};
 ghost use Rattle.pe_core.specs.declared.options.ParseMode.{ParseMode};
 ghost use Rattle.pe_core.specs.declared.options.ParseOptions.{ParseOptions};
 ghost use Rattle.pe_resource.specs.Resources.{ResourceView};
+ghost use Rattle.pe_unwind.specs.ExceptionTable.{ExceptionView};
 ghost use Rattle.pe_image.specs.Core.{CoreView, core_of};
+ghost use Rattle.pe_image.specs.Layout.{alignment};
 ghost use Rattle.pe_image.specs.Fields.{Field, value_of};
 ghost use Rattle.pe_image.specs.Image.{ImageView, core_part, AreResourcesOf, IsImage, certificates_of, debug_of, exceptions_of, relocations_of};
 
@@ -58,4 +60,14 @@ pub fn images_are_one()
 pub fn constants()
     ensures x64 { COFF_MACHINE_X86_64 ≡ 0x8664 }
     ensures arm64 { COFF_MACHINE_ARM64 ≡ 0xAA64 }
+{}
+
+/// Exception data of an image are of its bytes, and map addresses by its file alignment: so lookup, links and records over
+/// them are those of the bytes.
+#[tactic(auto, using(crate::proofs::ExceptionFields::content_of_bytes, crate::proofs::ExceptionFields::alignment_of_image))]
+pub fn exception_data_are_of_the_bytes()
+    ensures content { (b : List ℕ) (o : ParseOptions) (c : CoreView) (x : ImageView) (v : ExceptionView) → core_of b o ≡ Ok c → IsImage b o (Ok x) →
+        x.exception_data ≡ Some v → v.content ≡ b }
+    ensures alignment { (b : List ℕ) (o : ParseOptions) (c : CoreView) (x : ImageView) (v : ExceptionView) → core_of b o ≡ Ok c → IsImage b o (Ok x) →
+        x.exception_data ≡ Some v → v.alignment ≡ alignment c.header.optional_header }
 {}

@@ -13,7 +13,8 @@ mod pe;
 mod te;
 
 pub use coff::Coff;
-pub use fields::{COFF_MACHINE_ARM64, COFF_MACHINE_X86_64};
+pub use fields::COFF_MACHINE_ARM64;
+pub use fields::COFF_MACHINE_X86_64;
 pub use pe::PE;
 pub use pe_core::CoffHeader;
 pub use pe_core::CountedTable;
