@@ -3,10 +3,12 @@
 
 mod arm64;
 mod frames;
+mod imports;
 mod symbols;
 mod versions;
 
 pub use arm64::arm64_codes;
 pub use frames::frame_operations;
+pub use imports::import_names;
 pub use symbols::symbol_key;
 pub use versions::file_version;
