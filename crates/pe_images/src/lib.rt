@@ -105,3 +105,89 @@ pub fn with_functions(alloc: Global) -> Result<Vec<u8>, AllocError> {
     );
     Ok(bytes)
 }
+
+/// The same with two exported names, `f` of the first address and one of a sixth address, which there is not.
+pub fn with_exports(alloc: Global) -> Result<Vec<u8>, AllocError> {
+    let mut bytes = with_functions(alloc)?;
+    let directory = [
+        0x90, 0x10, 0, 0, 1, 0, 0, 0, 1, 0, 0, 0, 2, 0, 0, 0, 0xA0, 0x10, 0, 0, 0xB0, 0x10, 0, 0,
+        0xC0, 0x10, 0, 0,
+    ];
+    put(
+        &mut bytes,
+        &[
+            (0xC8, &[0x60, 0x10, 0, 0, 0x28, 0, 0, 0]),
+            (0x26C, &directory),
+            (0x290, b"a.dll\0"),
+            (0x2A0, &[0x20, 0x10]),
+            (0x2B0, &[0xD0, 0x10, 0, 0, 0xD0, 0x10]),
+            (0x2C0, &[0, 0, 5, 0]),
+            (0x2D0, b"f\0"),
+        ],
+    );
+    Ok(bytes)
+}
+
+/// The image with functions and with two imports from one library, one by the ordinal 5 and one by the name `f` with the
+/// hint 7.
+pub fn with_imports(alloc: Global) -> Result<Vec<u8>, AllocError> {
+    let mut bytes = with_functions(alloc)?;
+    put(
+        &mut bytes,
+        &[
+            (0xD0, &[0x60, 0x10, 0, 0, 0x28, 0, 0, 0]),
+            (0x260, &[0xA0, 0x10]),
+            (0x26C, &[0x90, 0x10, 0, 0, 0xC0, 0x10]),
+            (0x290, b"a.dll\0"),
+            (0x2A0, &[5, 0, 0, 0, 0, 0, 0, 0x80, 0xD0, 0x10]),
+            (0x2D0, b"\x07\0f\0"),
+        ],
+    );
+    Ok(bytes)
+}
+
+/// The data of a resource directory, for an image whose addresses are places: version information of the version
+/// 3.11.3150.0, whose comments are `B`, and the manifest `<a>`.
+pub fn resources(alloc: Global) -> Result<Vec<u8>, AllocError> {
+    let entries = [
+        0x10, 0, 0, 0, 0x20, 0, 0, 0x80, 0x18, 0, 0, 0, 0x38, 0, 0, 0x80,
+    ];
+    let key = b"\x5C\0\x34\0\0\0V\0S\0_\0V\0E\0R\0S\0I\0O\0N\0_\0I\0N\0F\0O\0";
+    let fixed = [
+        0xBD, 4, 0xEF, 0xFE, 0, 0, 1, 0, 0x0B, 0, 3, 0, 0, 0, 0x4E, 0x0C,
+    ];
+    image(
+        alloc,
+        0xEB,
+        &[
+            (0x0E, &[2, 0]),
+            (0x10, &entries),
+            (0x2E, &[1, 0]),
+            (0x30, &[9, 4, 0, 0, 0x50, 0, 0, 0]),
+            (0x46, &[1, 0]),
+            (0x48, &[9, 4, 0, 0, 0x60, 0, 0, 0]),
+            (0x50, &[0x70, 0, 0, 0, 0x78, 0, 0, 0]),
+            (0x60, &[0xE8, 0, 0, 0, 3, 0, 0, 0]),
+            (0x70, key),
+            (0x98, &fixed),
+            (0xCC, b"\x1C\0\x02\0\x01\0C\0o\0m\0m\0e\0n\0t\0s\0\0\0B\0"),
+            (0xE8, b"<a>"),
+        ],
+    )
+}
+
+/// The image with functions and with these resources.
+pub fn with_resources(alloc: Global) -> Result<Vec<u8>, AllocError> {
+    let mut bytes = with_functions(alloc)?;
+    let data = resources(alloc)?;
+    put(
+        &mut bytes,
+        &[
+            (0xD8, &[0x60, 0x10, 0, 0, 0xEB, 0, 0, 0]),
+            (0x260, &data),
+            (0x2B0, &[0xD0, 0x10]),
+            (0x2C0, &[0x48, 0x11]),
+        ],
+    );
+    Ok(bytes)
+}
