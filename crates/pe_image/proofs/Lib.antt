@@ -3,3 +3,11 @@ pub mod ByMode
 pub mod Images
 pub mod Modes
 pub mod Permissive
+pub mod Overlays
+pub mod Rows
+pub mod WrittenCertificates
+pub mod Laid
+pub mod Clashes
+pub mod WrittenSections
+pub mod WrittenHeaders
+pub mod WrittenImages
