@@ -1,5 +1,6 @@
 -- Sections that rise in the file don't clash.
-use Rattle.std.proofs.Common.{◌≡◌, ◌&&◌, Bool, true, false, List, [], ◌∷◌, refl, ap, sym, ◌∙◌, arith}
+use Rattle.std.proofs.Common.{◌≡◌, ◌&&◌, Bool, true, false, List, [], ◌∷◌, refl, ap, sym, ◌∙◌, arith, ◌+◌, ◌<◌, length, get_or, drop, ℕ, ◌-◌, take, subst, length-drop}
+use Rattle.std.proofs.lemmas.List.{take_all}
 use Rattle.std.specs.Prelude.{◌||◌, ◌==◌, not, min, max, nat_le, nat_lt}
 use Rattle.std.specs.List.{list_all}
 use Rattle.std.specs.Str.{bytes_eq}
@@ -8,8 +9,8 @@ use Rattle.pe_core.proofs.FieldEquality.{sections_equal}
 use Rattle.pe_core.specs.Sections.{raw_end}
 use Rattle.pe_core.specs.declared.section_table.SectionTable.{SectionTable}
 use Rattle.pe_image.specs.Writing.{clash, clash_free, same_section}
-use Rattle.pe_image.specs.WritingSteps.{rises}
-use Rattle.pe_image.proofs.Rows.{and_assoc, and_left, and_right}
+use Rattle.pe_image.specs.WritingSteps.{is_next, rises}
+use Rattle.pe_image.proofs.Rows.{and_assoc, and_left, and_right, rest_at}
 
 -- a section is equal to another, or ends in front of it
 abbrev in_front : SectionTable → SectionTable → Bool
@@ -51,6 +52,9 @@ regroup a b c d e f g h i j = simp and_assoc refl
 same : (s t : SectionTable) → same_section s t ≡ true → s ≡ t
 same s t e = (sections_equal s t).0 (regroup (bytes_eq s.name t.name) (s.virtual_size == t.virtual_size) (s.virtual_address == t.virtual_address) (s.size_of_raw_data == t.size_of_raw_data) (s.pointer_to_raw_data == t.pointer_to_raw_data) (s.pointer_to_relocations == t.pointer_to_relocations) (s.pointer_to_linenumbers == t.pointer_to_linenumbers) (s.number_of_relocations == t.number_of_relocations) (s.number_of_linenumbers == t.number_of_linenumbers) (s.characteristics == t.characteristics) ∙ e)
 
+same_itself : (s : SectionTable) → same_section s s ≡ true
+same_itself s = sym (regroup (bytes_eq s.name s.name) (s.virtual_size == s.virtual_size) (s.virtual_address == s.virtual_address) (s.size_of_raw_data == s.size_of_raw_data) (s.pointer_to_raw_data == s.pointer_to_raw_data) (s.pointer_to_relocations == s.pointer_to_relocations) (s.pointer_to_linenumbers == s.pointer_to_linenumbers) (s.number_of_relocations == s.number_of_relocations) (s.number_of_linenumbers == s.number_of_linenumbers) (s.characteristics == s.characteristics)) ∙ (sections_equal s s).1 refl
+
 by_cases : {P : Type 0} (b : Bool) → (b ≡ true → P) → (b ≡ false → P) → P
 by_cases true f g = f refl
 by_cases false f g = g refl
@@ -88,3 +92,25 @@ rising_is_free (s ∷ behind) h =
     both (list_all (λ t. not (clash s t)) behind) (clash_free behind)
     (all_so (in_front s) (λ t. not (clash s t)) (λ t e. free s t e) behind (in_front_of_all s behind h))
     (rising_is_free behind (and_right _ _ h))
+
+-- a section that is equal to the next one changes nothing
+twice : (a c : Bool) → (a && (a && c)) ≡ (a && c)
+twice true c = refl
+twice false c = refl
+
+once_more : (s : SectionTable) (behind : List SectionTable) → clash_free (s ∷ s ∷ behind) ≡ clash_free (s ∷ behind)
+once_more s behind =
+    let a : Bool = list_all (λ t. not (clash s t)) behind in
+    let itself : not (clash s s) ≡ true = free s s (or_left (same_section s s) _ (same_itself s)) in
+    ap (λ b. (b && a) && (a && clash_free behind)) itself ∙ twice a (clash_free behind)
+
+pub passed_over : (s : SectionTable) (behind : List SectionTable) → is_next s behind ≡ true → clash_free behind ≡ clash_free (s ∷ behind)
+passed_over s [] h = absurd cc
+passed_over s (t ∷ behind) h =
+    subst (λ (u : SectionTable). clash_free (t ∷ behind) ≡ clash_free (u ∷ t ∷ behind)) (sym (same s t h)) (sym (once_more t behind))
+
+pub next_passed_over : (sections : List SectionTable) (i : ℕ) (d : SectionTable) → i < length sections → clash_free (drop i sections) ≡ clash_free sections → is_next (get_or sections i d) (take (length sections - (i + 1)) (drop (i + 1) sections)) ≡ true → clash_free (drop (i + 1) sections) ≡ clash_free sections
+next_passed_over sections i d h e n =
+    let l : length (drop (i + 1) sections) ≡ length sections - (i + 1) = length-drop (i + 1) sections in
+    let all : take (length sections - (i + 1)) (drop (i + 1) sections) ≡ drop (i + 1) sections = take_all (length sections - (i + 1)) (drop (i + 1) sections) (omega arith) in
+    passed_over (get_or sections i d) (drop (i + 1) sections) (ap (is_next (get_or sections i d)) (sym all) ∙ n) ∙ (ap clash_free (sym (rest_at sections i d h)) ∙ e)

@@ -13,3 +13,4 @@ pub mod Clashes
 pub mod WrittenSections
 pub mod WrittenHeaders
 pub mod WrittenImages
+pub mod ListedAgain

@@ -1,5 +1,5 @@
--- How the writers go on: private contracts alone cite these.
-use Rattle.std.specs.Prelude.{ℕ, ◌||◌, ◌&&◌, Bool, true, List, [], ◌∷◌, nat_le}
+-- How the writers go on: private contracts alone cite these, and the law that pieces put in turn are their overlay.
+use Rattle.std.specs.Prelude.{ℕ, ◌||◌, ◌&&◌, Bool, true, false, List, [], ◌∷◌, nat_le}
 use Rattle.pe_core.specs.Bytes.{splice}
 use Rattle.pe_core.specs.Sections.{raw_end}
 use Rattle.pe_core.specs.declared.section_table.SectionTable.{SectionTable}
@@ -19,3 +19,8 @@ rises_to s (t ∷ behind) = same_section s t || nat_le (raw_end s) t.pointer_to_
 abbrev pub rises : List SectionTable → Bool
 rises [] = true
 rises (s ∷ behind) = rises_to s behind && rises behind
+
+-- the section is equal to the next one
+abbrev pub is_next : SectionTable → List SectionTable → Bool
+is_next s [] = false
+is_next s (t ∷ behind) = same_section s t

@@ -1,15 +1,23 @@
 //! Laws over the definitions. Each is the contract of a function that does nothing.
 
-ghost use Rattle.std.specs.Prelude.{◌≡◌, ◌↔◌, ℕ, List, [], Ok, Err, Option, Some, Result, unwrap_or};
+ghost use Rattle.std.specs.Prelude.{◌≡◌, ◌↔◌, ◌+◌, ◌%◌, ◌≤◌, ℕ, List, [], Ok, Err, Option, Result, Some, length, true, unwrap_or};
+ghost use Rattle.pe_core.specs.Bytes.{AreBytes};
+ghost use Rattle.pe_core.specs.Header.{OptionalHeaderView};
 ghost use Rattle.pe_core.specs.Refusals.{Refusal};
+ghost use Rattle.pe_core.specs.declared.data_directories.DataDirectory.{DataDirectory};
 ghost use Rattle.pe_core.specs.declared.options.ParseMode.{ParseMode};
 ghost use Rattle.pe_core.specs.declared.options.ParseOptions.{ParseOptions};
+ghost use Rattle.pe_records.specs.Certificates.{IsListing};
 ghost use Rattle.pe_resource.specs.Resources.{ResourceView};
 ghost use Rattle.pe_unwind.specs.ExceptionTable.{ExceptionView};
 ghost use Rattle.pe_image.specs.Core.{CoreView, core_of};
 ghost use Rattle.pe_image.specs.Layout.{alignment};
 ghost use Rattle.pe_image.specs.Fields.{Field, value_of};
 ghost use Rattle.pe_image.specs.Image.{ImageView, core_part, AreResourcesOf, IsImage, certificates_of, debug_of, exceptions_of, relocations_of};
+
+ghost use Rattle.pe_image.specs.Overlay.{Piece, all_fit, overlay};
+ghost use Rattle.pe_image.specs.Writing.{certificate_directory, certificates_written};
+ghost use Rattle.pe_image.specs.WritingSteps.{put_in_turn};
 
 use crate::fields::{COFF_MACHINE_ARM64, COFF_MACHINE_X86_64};
 
@@ -71,3 +79,21 @@ pub fn exception_data_are_of_the_bytes()
     ensures alignment { (b : List ℕ) (o : ParseOptions) (c : CoreView) (x : ImageView) (v : ExceptionView) → core_of b o ≡ Ok c → IsImage b o (Ok x) →
         x.exception_data ≡ Some v → v.alignment ≡ alignment c.header.optional_header }
 {}
+
+/// Pieces that all fit and are put one after the other are their overlay: each byte is that of the last piece that covers
+/// its place.
+#[tactic(auto, using(crate::proofs::Overlays::overlay_in_turn))]
+pub fn pieces_in_turn_are_their_overlay()
+    ensures { (b : List ℕ) (pieces : List Piece) → all_fit (length b) pieces ≡ true → put_in_turn b pieces ≡ overlay b pieces }
+{}
+
+/// Certificates that are the listing of their table, unchanged, and whose directory's address is a multiple of eight, are
+/// listed again after a successful `write_certificates` into a buffer that holds the table's range.
+pub fn written_certificates_are_listed_again()
+    ensures { (b old new : List ℕ) (x : ImageView) (o : OptionalHeaderView) (d : DataDirectory) (n : ℕ) →
+        x.header.optional_header ≡ Some o → certificate_directory o ≡ Some d → d.virtual_address % 8 ≡ 0 →
+        AreBytes b → IsListing b d.virtual_address d.size x.certificates → d.virtual_address + d.size ≤ length old →
+        certificates_written x old ≡ Ok (n, new) → IsListing new d.virtual_address d.size x.certificates }
+{
+    pe_records::laws::certificates::written_listings_are_listed_again();
+}

@@ -5,7 +5,7 @@ ghost use Rattle.std.specs.Prelude.{◌≡◌, ◌<◌, ◌^◌, length, IfSome,
 ghost use Rattle.std.specs.List.{list_all};
 ghost use Rattle.pe_core.specs.Sections.{raw_end};
 ghost use Rattle.pe_image.specs.Writing.{all_in_source, clash, clash_free, last_in_file, last_raw_end, later, same_section};
-ghost use Rattle.pe_image.specs.WritingSteps.{rises, rises_to};
+ghost use Rattle.pe_image.specs.WritingSteps.{is_next, rises, rises_to};
 
 use pe_core::SectionTable;
 
@@ -60,12 +60,27 @@ fn first_clash_with(section: &SectionTable, behind: &[SectionTable]) -> Option<u
     None
 }
 
-/// The first two sections that clash, found by comparing pairs.
+/// Whether the section is equal to the next one.
+fn is_next(section: &SectionTable, behind: &[SectionTable]) -> bool
+    ensures { result ≡ is_next section.now behind.now }
+{
+    match behind {
+        [] => false,
+        [next, ..] => *section == *next,
+    }
+}
+
+/// The first two sections that clash, found by comparing pairs. A section that is equal to the next one clashes with no
+/// other than that does, so it is passed over.
 fn first_clashing_pair(sections: &[SectionTable]) -> Option<(usize, usize)>
     ensures { is_none result ≡ clash_free sections.now }
 {
     for i in 0..sections.len() {
-        if let Some(distance) = first_clash_with(&sections[i], &sections[i + 1..]) {
+        let behind = &sections[i + 1..];
+        if is_next(&sections[i], behind) {
+            continue;
+        }
+        if let Some(distance) = first_clash_with(&sections[i], behind) {
             return Some((i, i + 1 + distance));
         }
     }
