@@ -5,3 +5,11 @@ pub mod Modes
 pub mod Permissive
 pub mod SectionsFirst
 pub mod ExceptionFields
+pub mod Overlays
+pub mod Rows
+pub mod WrittenCertificates
+pub mod Laid
+pub mod Clashes
+pub mod WrittenSections
+pub mod WrittenHeaders
+pub mod WrittenImages

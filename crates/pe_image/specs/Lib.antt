@@ -8,3 +8,7 @@ pub mod FieldSteps
 pub mod ImageSteps
 pub mod Terse
 pub mod Objects
+pub mod Overlay
+pub mod Pieces
+pub mod Writing
+pub mod WritingSteps

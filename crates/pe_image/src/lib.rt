@@ -11,6 +11,7 @@ pub mod laws;
 mod layout;
 mod pe;
 mod te;
+mod write;
 
 pub use coff::Coff;
 pub use fields::COFF_MACHINE_ARM64;

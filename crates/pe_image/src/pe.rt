@@ -26,7 +26,8 @@ use std::alloc::{Allocator, Global};
 /// A Windows executable: a program, a library or a driver.
 #[derive(Debug, Drop)]
 pub struct PE<'a, A: Allocator + Copy + Drop = Global> {
-    bytes: &'a [u8],
+    /// What it was read from.
+    pub(crate) bytes: &'a [u8],
     pub header: Header<'a>,
     pub sections: Vec<SectionTable, A>,
     /// Always 0.

@@ -1,0 +1,90 @@
+-- Sections that rise in the file don't clash.
+use Rattle.std.proofs.Common.{◌≡◌, ◌&&◌, Bool, true, false, List, [], ◌∷◌, refl, ap, sym, ◌∙◌, arith}
+use Rattle.std.specs.Prelude.{◌||◌, ◌==◌, not, min, max, nat_le, nat_lt}
+use Rattle.std.specs.List.{list_all}
+use Rattle.std.specs.Str.{bytes_eq}
+use Rattle.std.proofs.lemmas.Bool.Decides.{nat_tests}
+use Rattle.pe_core.proofs.FieldEquality.{sections_equal}
+use Rattle.pe_core.specs.Sections.{raw_end}
+use Rattle.pe_core.specs.declared.section_table.SectionTable.{SectionTable}
+use Rattle.pe_image.specs.Writing.{clash, clash_free, same_section}
+use Rattle.pe_image.specs.WritingSteps.{rises}
+use Rattle.pe_image.proofs.Rows.{and_assoc, and_left, and_right}
+
+-- a section is equal to another, or ends in front of it
+abbrev in_front : SectionTable → SectionTable → Bool
+in_front s t = same_section s t || nat_le (raw_end s) t.pointer_to_raw_data
+
+or_left : (a b : Bool) → a ≡ true → (a || b) ≡ true
+or_left true b h = refl
+or_left false b h = absurd cc
+
+or_false : (a b : Bool) → a ≡ false → (a || b) ≡ b
+or_false true b h = absurd cc
+or_false false b h = refl
+
+or_right : (a b : Bool) → b ≡ true → (a || b) ≡ true
+or_right true b h = refl
+or_right false b h = h
+
+both : (a b : Bool) → a ≡ true → b ≡ true → (a && b) ≡ true
+both true b h k = k
+both false b h k = absurd cc
+
+not_both : (shared same : Bool) → same ≡ true → (shared && not same) ≡ false
+not_both true same h = ap not h
+not_both false same h = refl
+
+not_shared : (shared same : Bool) → shared ≡ false → (shared && not same) ≡ false
+not_shared shared same h = ap (λ b. b && not same) h
+
+-- sections that end where others begin share no byte with them
+ends_before : (s t : SectionTable) → nat_le (raw_end s) t.pointer_to_raw_data ≡ true → nat_lt (max s.pointer_to_raw_data t.pointer_to_raw_data) (min (raw_end s) (raw_end t)) ≡ false
+ends_before s t h = grind (arith, nat_tests)
+
+goes_up : (s t u : SectionTable) → nat_le (raw_end s) t.pointer_to_raw_data ≡ true → nat_le (raw_end t) u.pointer_to_raw_data ≡ true → nat_le (raw_end s) u.pointer_to_raw_data ≡ true
+goes_up s t u h k = grind (arith, nat_tests)
+
+regroup : (a b c d e f g h i j : Bool) → (a && (b && (c && (d && (e && (f && (g && (h && (i && j))))))))) ≡ (a && b && c && d && e && f && g && h && i && j)
+regroup a b c d e f g h i j = simp and_assoc refl
+
+same : (s t : SectionTable) → same_section s t ≡ true → s ≡ t
+same s t e = (sections_equal s t).0 (regroup (bytes_eq s.name t.name) (s.virtual_size == t.virtual_size) (s.virtual_address == t.virtual_address) (s.size_of_raw_data == t.size_of_raw_data) (s.pointer_to_raw_data == t.pointer_to_raw_data) (s.pointer_to_relocations == t.pointer_to_relocations) (s.pointer_to_linenumbers == t.pointer_to_linenumbers) (s.number_of_relocations == t.number_of_relocations) (s.number_of_linenumbers == t.number_of_linenumbers) (s.characteristics == t.characteristics) ∙ e)
+
+by_cases : {P : Type 0} (b : Bool) → (b ≡ true → P) → (b ≡ false → P) → P
+by_cases true f g = f refl
+by_cases false f g = g refl
+
+free : (s t : SectionTable) → in_front s t ≡ true → not (clash s t) ≡ true
+free s t h =
+    let shared : Bool = nat_lt (max s.pointer_to_raw_data t.pointer_to_raw_data) (min (raw_end s) (raw_end t)) in
+    by_cases (same_section s t)
+    (λ e. ap not (not_both shared (same_section s t) e))
+    (λ e. ap not (not_shared shared (same_section s t) (ends_before s t (sym (or_false _ (nat_le (raw_end s) t.pointer_to_raw_data) e) ∙ h))))
+
+further : (s t u : SectionTable) → in_front s t ≡ true → in_front t u ≡ true → in_front s u ≡ true
+further s t u h k =
+    by_cases (same_section s t)
+    (λ e. let one : s ≡ t = same s t e in rw one k)
+    (λ e. let before : nat_le (raw_end s) t.pointer_to_raw_data ≡ true = sym (or_false _ (nat_le (raw_end s) t.pointer_to_raw_data) e) ∙ h in
+    by_cases (same_section t u)
+    (λ f. let one : t ≡ u = same t u f in rw (← one) h)
+    (λ f. or_right (same_section s u) _ (goes_up s t u before (sym (or_false _ (nat_le (raw_end t) u.pointer_to_raw_data) f) ∙ k))))
+
+all_so : {X : Type 0} (p q : X → Bool) → ((x : X) → p x ≡ true → q x ≡ true) → (xs : List X) → list_all p xs ≡ true → list_all q xs ≡ true
+all_so p q f [] h = refl
+all_so p q f (x ∷ xs) h = both (q x) (list_all q xs) (f x (and_left _ _ h)) (all_so p q f xs (and_right _ _ h))
+
+in_front_of_all : (s : SectionTable) (behind : List SectionTable) → rises (s ∷ behind) ≡ true → list_all (in_front s) behind ≡ true
+in_front_of_all s [] h = refl
+in_front_of_all s (t ∷ behind) h =
+    let here : in_front s t ≡ true = and_left _ _ h in
+    both (in_front s t) (list_all (in_front s) behind) here
+    (all_so (in_front t) (in_front s) (λ u e. further s t u here e) behind (in_front_of_all t behind (and_right _ _ h)))
+
+pub rising_is_free : (sections : List SectionTable) → rises sections ≡ true → clash_free sections ≡ true
+rising_is_free [] h = refl
+rising_is_free (s ∷ behind) h =
+    both (list_all (λ t. not (clash s t)) behind) (clash_free behind)
+    (all_so (in_front s) (λ t. not (clash s t)) (λ t e. free s t e) behind (in_front_of_all s behind h))
+    (rising_is_free behind (and_right _ _ h))

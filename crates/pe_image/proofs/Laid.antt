@@ -1,0 +1,124 @@
+-- Records that are written field by field.
+use Rattle.std.proofs.Common.{◌≡◌, ℕ, zero, suc, ◌+◌, ◌*◌, ◌/◌, ◌≤◌, ◌<◌, Bool, true, false, cond, List, [], ◌∷◌, ◌++◌, length, get_or, take, ne_eqb, refl, ap, sym, ◌∙◌, arith}
+use Rattle.std.specs.Prelude.{◌==◌}
+use Rattle.std.specs.List.{flat_map}
+use Rattle.std.proofs.lemmas.Grind.{flat_map-append}
+use Rattle.std.proofs.lemmas.List.{append-nil, length-append, take-append-drop, take_more}
+use Rattle.std.proofs.lemmas.List.Edits.{paste_all, paste-paste}
+use lib.Seq.{paste}
+use Rattle.pe_core.specs.Bytes.{bytes_of, splice}
+use Rattle.pe_core.specs.Header.{OptionalHeaderView}
+use Rattle.pe_core.specs.Spelling.{spell_coff, spell_directory, spell_dos, spell_optional, spell_section, spell_standard32, spell_standard64, spell_windows32, spell_windows64}
+use Rattle.pe_core.specs.declared.data_directories.DataDirectory.{DataDirectory}
+use Rattle.pe_core.specs.declared.header.CoffHeader.{CoffHeader}
+use Rattle.pe_core.specs.declared.header.DosHeader.{DosHeader}
+use Rattle.pe_core.specs.declared.optional_header.StandardFields.{StandardFields}
+use Rattle.pe_core.specs.declared.optional_header.WindowsFields.{WindowsFields}
+use Rattle.pe_core.specs.declared.section_table.SectionTable.{SectionTable}
+
+splice_is_paste : (b : List ℕ) (p : ℕ) (s : List ℕ) → splice b p s ≡ paste b p s (length s)
+unfolding splice
+splice_is_paste b p s = sym (paste_all b p s (length s) refl)
+
+-- what stands before the second piece is all that has to be there
+pub joined_inside : (b : List ℕ) (p : ℕ) (x y : List ℕ) → p ≤ length b → splice (splice b p x) (p + length x) y ≡ splice b p (x ++ y)
+joined_inside b p x y h =
+    rw (splice_is_paste b p x, splice_is_paste (paste b p x (length x)) (p + length x) y, paste-paste b p x y (length x) (length y) refl refl h, splice_is_paste b p (x ++ y), length-append x y) refl
+
+-- the bytes x, n of them, are put at p: the bytes b have become now
+pub record Laid (b : List ℕ) (p n : ℕ) (now x : List ℕ) : Type 0 where
+  pub inside : p ≤ length b
+  pub count : length x ≡ n
+  pub same : now ≡ splice b p x
+
+pub laid_first : {b now : List ℕ} {p : ℕ} (x : List ℕ) (n : ℕ) → p ≤ length b → length x ≡ n → now ≡ splice b p x → Laid b p n now x
+laid_first x n h l e = record { inside = h; count = l; same = e }
+
+pub laid_next : {b old now x : List ℕ} {p n : ℕ} (y : List ℕ) (m : ℕ) → Laid b p n old x → length y ≡ m → now ≡ splice old (p + n) y → Laid b p (n + m) now (x ++ y)
+laid_next {b} {old} {now} {x} {p} {n} y m l k e =
+    let j : splice (splice b p x) (p + length x) y ≡ splice b p (x ++ y) = joined_inside b p x y l.inside in
+    let c : length x ≡ n = l.count in
+    let f : now ≡ splice (splice b p x) (p + n) y = rw (← l.same) e in
+    record { inside = l.inside; count = omega (arith, length-append x y, l.count, k); same = f ∙ (rw c at j) }
+
+pub length-bytes_of : (w n : ℕ) → length (bytes_of w n) ≡ w
+unfolding bytes_of
+length-bytes_of zero n = refl
+length-bytes_of (suc w) n = ap suc (length-bytes_of w (n / 256))
+
+-- a number of w bytes is written at the place, or behind what is written there
+pub number_first : {b now : List ℕ} {p : ℕ} (w v : ℕ) → p ≤ length b → now ≡ splice b p (bytes_of w v) → Laid b p w now (bytes_of w v)
+number_first w v h e = laid_first (bytes_of w v) w h (length-bytes_of w v) e
+
+pub then_number : {b old now x : List ℕ} {p n : ℕ} (w v : ℕ) → Laid b p n old x → now ≡ splice old (p + n) (bytes_of w v) → Laid b p (n + w) now (x ++ bytes_of w v)
+then_number w v l e = laid_next (bytes_of w v) w l (length-bytes_of w v) e
+
+-- ---- how long the records are
+
+pub length_dos : (d : DosHeader) → length d.rest ≡ 58 → length (spell_dos d) ≡ 64
+unfolding spell_dos
+length_dos d h = simp (length-append, length-bytes_of) (omega (arith, h))
+
+pub length_coff : (c : CoffHeader) → length (spell_coff c) ≡ 20
+unfolding spell_coff
+length_coff c = simp (length-append, length-bytes_of) refl
+
+pub length_standard32 : (s : StandardFields) → length (spell_standard32 s) ≡ 28
+unfolding spell_standard32
+length_standard32 s = simp (length-append, length-bytes_of) refl
+
+pub length_standard64 : (s : StandardFields) → length (spell_standard64 s) ≡ 24
+unfolding spell_standard64
+length_standard64 s = simp (length-append, length-bytes_of) refl
+
+pub length_windows32 : (w : WindowsFields) → length (spell_windows32 w) ≡ 68
+unfolding spell_windows32
+length_windows32 w = simp (length-append, length-bytes_of) refl
+
+pub length_windows64 : (w : WindowsFields) → length (spell_windows64 w) ≡ 88
+unfolding spell_windows64
+length_windows64 w = simp (length-append, length-bytes_of) refl
+
+pub length_directory : (d : DataDirectory) → length (spell_directory d) ≡ 8
+unfolding spell_directory
+length_directory d = simp (length-append, length-bytes_of) refl
+
+pub length_section : (s : SectionTable) → length s.name ≡ 8 → length (spell_section s) ≡ 40
+unfolding spell_section
+length_section s h = simp (length-append, length-bytes_of) (omega (arith, h))
+
+pub length_directories : (rows : List DataDirectory) → length (flat_map spell_directory rows) ≡ 8 * length rows
+length_directories [] = refl
+length_directories (d ∷ rows) = simp length-append (omega (arith, length_directory d, length_directories rows))
+
+fields_length : (t : Bool) (s : StandardFields) (w : WindowsFields) → length (cond t (spell_standard64 s ++ spell_windows64 w) (spell_standard32 s ++ spell_windows32 w)) ≡ cond t 112 96
+fields_length true s w = simp (length-append, length_standard64, length_windows64) refl
+fields_length false s w = simp (length-append, length_standard32, length_windows32) refl
+
+pub length_optional : (o : OptionalHeaderView) → length (spell_optional o) ≡ cond (o.standard_fields.magic == 0x20B) 112 96 + 8 * length o.data_directories
+unfolding spell_optional
+length_optional o = simp length-append (omega (arith, fields_length (o.standard_fields.magic == 0x20B) o.standard_fields o.windows_fields, length_directories o.data_directories))
+
+-- ---- directories, and the optional header
+
+pub rows_first : (b : List ℕ) (p : ℕ) (rows : List DataDirectory) → p ≤ length b → Laid b p (8 * 0) b (flat_map spell_directory (take 0 rows))
+unfolding splice
+rows_first b p rows h = let z : p + 0 ≡ p = omega arith in record { inside = h; count = refl; same = rw z (sym (take-append-drop p b)) }
+
+pub rows_next : {b old now : List ℕ} {p : ℕ} (rows : List DataDirectory) (i : ℕ) (d : DataDirectory) → i < length rows → Laid b p (8 * i) old (flat_map spell_directory (take i rows)) → now ≡ splice old (p + 8 * i) (spell_directory (get_or rows i d)) → Laid b p (8 * (i + 1)) now (flat_map spell_directory (take (i + 1) rows))
+rows_next {b} {old} {now} {p} rows i d h l e =
+    let more : take (i + 1) rows ≡ take i rows ++ get_or rows i d ∷ [] = take_more rows i d h in
+    let n : 8 * (i + 1) ≡ 8 * i + 8 = omega arith in
+    rw (more, n, flat_map-append spell_directory (take i rows) (get_or rows i d ∷ []), append-nil (spell_directory (get_or rows i d)))
+    (laid_next (spell_directory (get_or rows i d)) 8 l (length_directory (get_or rows i d)) e)
+
+-- the room that the parts of an optional header have, by its magic
+pub wide_room : (o : OptionalHeaderView) (rows : List DataDirectory) (p n : ℕ) → rows ≡ o.data_directories → o.standard_fields.magic ≡ 0x20B → p + length (spell_optional o) ≤ n → p + 112 + 8 * length rows ≤ n
+wide_room o rows p n e t h =
+    let l : length (spell_optional o) ≡ 112 + 8 * length rows = length_optional o ∙ rw (t, e) refl in
+    omega arith
+
+pub narrow_room : (o : OptionalHeaderView) (rows : List DataDirectory) (p n : ℕ) → rows ≡ o.data_directories → (o.standard_fields.magic ≡ 0x20B → ⊥) → p + length (spell_optional o) ≤ n → p + 96 + 8 * length rows ≤ n
+narrow_room o rows p n e t h =
+    let l : length (spell_optional o) ≡ 96 + 8 * length rows = length_optional o ∙ rw (ne_eqb _ _ t, e) refl in
+    omega arith

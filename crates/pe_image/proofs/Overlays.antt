@@ -1,0 +1,84 @@
+-- Pieces that are put one after the other are their overlay.
+use Rattle.std.proofs.Common.{◌≡◌, ℕ, zero, suc, ◌+◌, ◌-◌, ◌<◌, ◌≤◌, ◌&&◌, Bool, true, false, cond, List, [], ◌∷◌, ◌++◌, length, get_or, Option, Some, None, filter, refl, ap, sym, ◌∙◌, arith, ⊎_elim}
+use Rattle.std.specs.Prelude.{slice_index, nat_le, nat_lt}
+use Rattle.std.specs.List.{last_or}
+use Rattle.std.proofs.lemmas.List.{places, length-append, length-take, length-drop, ext_get_or, get_or_push, get_or_append_left}
+use Rattle.std.proofs.lemmas.Bool.Decides.{nat_tests}
+use Rattle.std.proofs.lemmas.Bool.{cases_lt}
+use Rattle.pe_core.specs.Rows.{each}
+use Rattle.pe_image.specs.Overlay.{Piece, covers, byte_of, byte_after, overlay, all_fit}
+use Rattle.pe_core.specs.Bytes.{splice}
+use Rattle.pe_image.specs.WritingSteps.{put_in_turn}
+
+pub length-splice : (b : List ℕ) (p : ℕ) (s : List ℕ) → p + length s ≤ length b → length (splice b p s) ≡ length b
+unfolding splice
+length-splice b p s h = simp (length-append, length-take, length-drop) (omega arith)
+
+pub get_or-splice : (b : List ℕ) (p : ℕ) (s : List ℕ) (q : ℕ) → p + length s ≤ length b → get_or (splice b p s) q 0 ≡ cond (nat_le p q && nat_lt q (p + length s)) (get_or s (q - p) 0) (get_or b q 0)
+unfolding splice
+get_or-splice b p s q h = grind (arith, nat_tests, places)
+
+pub length-each : {X : Type 0} (f : ℕ → X) (n : ℕ) → length (each f n) ≡ n
+unfolding each
+length-each f zero = refl
+length-each f (suc n) = simp length-append (omega (arith, length-each f n))
+
+pub get_or-each : {X : Type 0} (f : ℕ → X) (n k : ℕ) (d : X) → k < n → get_or (each f n) k d ≡ f k
+unfolding each
+get_or-each f zero k d h = absurd (omega arith)
+get_or-each f (suc n) k d h =
+    let l = length-each f n in
+    ⊎_elim
+    (λ (lt : k < n). get_or_append_left (each f n) (f n ∷ []) d k (omega (arith, l)) ∙ get_or-each f n k d lt)
+    (λ (ge : n ≤ k). let e : k ≡ n = omega arith in rw e (get_or_push (each f n) (f n) d n l))
+    (cases_lt k n)
+
+-- the last of a list is the same whatever stood before its first element
+last_some : {X : Type 0} (xs : List X) (x : X) (q a b : ℕ) (r : ℕ → Option X → ℕ) → ((c d : ℕ) (y : X) → r c (Some y) ≡ r d (Some y)) → r a (last_or (Some x) xs) ≡ r b (last_or (Some x) xs)
+last_some [] x q a b r h = h a b x
+last_some (y ∷ xs) x q a b r h = last_some xs y q a b r h
+
+-- a piece that is put_in_turn first is the old byte of the others
+one_more : (xs : List Piece) (q old : ℕ) (acc : Option Piece) → byte_of q (byte_of q old acc) (last_or None xs) ≡ byte_of q old (last_or acc xs)
+one_more [] q old acc = refl
+one_more (x ∷ xs) q old acc = last_some xs x q (byte_of q old acc) old (λ c o. byte_of q c o) (λ c d y. refl)
+
+covered_first : (t : Bool) (x : Piece) (xs : List Piece) (q old : ℕ) → byte_of q (cond t (slice_index x.content (q - x.place)) old) (last_or None xs) ≡ byte_of q old (last_or None (cond t (x ∷ xs) xs))
+covered_first true x xs q old = one_more xs q old (Some x)
+covered_first false x xs q old = refl
+
+pub byte_after_cons : (x : Piece) (xs : List Piece) (q old : ℕ) → byte_after xs q (cond (covers q x) (slice_index x.content (q - x.place)) old) ≡ byte_after (x ∷ xs) q old
+unfolding byte_after
+byte_after_cons x xs q old = covered_first (covers q x) x (filter (covers q) xs) q old
+
+length-put : (xs : List Piece) (b : List ℕ) → all_fit (length b) xs ≡ true → length (put_in_turn b xs) ≡ length b
+unfolding put_in_turn
+length-put [] b h = refl
+length-put (x ∷ xs) b h =
+    let l : length (splice b x.place x.content) ≡ length b = length-splice b x.place x.content (grind (arith, nat_tests)) in
+    let rest : all_fit (length (splice b x.place x.content)) xs ≡ true = rw l (grind (arith, nat_tests)) in
+    length-put xs (splice b x.place x.content) rest ∙ l
+
+get_or-put : (xs : List Piece) (b : List ℕ) (q : ℕ) → all_fit (length b) xs ≡ true → get_or (put_in_turn b xs) q 0 ≡ byte_after xs q (get_or b q 0)
+unfolding put_in_turn
+get_or-put [] b q h = unfold byte_after in refl
+get_or-put (x ∷ xs) b q h =
+    let inside : x.place + length x.content ≤ length b = grind (arith, nat_tests) in
+    let l : length (splice b x.place x.content) ≡ length b = length-splice b x.place x.content inside in
+    let rest : all_fit (length (splice b x.place x.content)) xs ≡ true = rw l (grind (arith, nat_tests)) in
+    get_or-put xs (splice b x.place x.content) q rest
+    ∙ (ap (byte_after xs q) (get_or-splice b x.place x.content q inside) ∙ byte_after_cons x xs q (get_or b q 0))
+
+-- pieces that are put one after the other are their overlay
+pub overlay_in_turn : (xs : List Piece) (b : List ℕ) → all_fit (length b) xs ≡ true → put_in_turn b xs ≡ overlay b xs
+unfolding overlay
+overlay_in_turn xs b h =
+    let f : ℕ → ℕ = λ q. byte_after xs q (slice_index b q) in
+    let l : length (put_in_turn b xs) ≡ length b = length-put xs b h in
+    ext_get_or 0 (put_in_turn b xs) (each f (length b)) (l ∙ sym (length-each f (length b)))
+    (λ k lt. get_or-put xs b k h ∙ sym (get_or-each f (length b) k 0 (omega arith)))
+
+pub put_append : (xs ys : List Piece) (b : List ℕ) → put_in_turn b (xs ++ ys) ≡ put_in_turn (put_in_turn b xs) ys
+unfolding put_in_turn
+put_append [] ys b = refl
+put_append (x ∷ xs) ys b = put_append xs ys (splice b x.place x.content)

@@ -1,0 +1,132 @@
+-- Pieces of records that stand one behind the other: what is left of them while they are gone over.
+use Rattle.std.proofs.Common.{◌≡◌, ℕ, ◌+◌, ◌<◌, ◌≤◌, ◌&&◌, Bool, true, false, Ok, Err, List, [], ◌∷◌, ◌++◌, length, get_or, drop, map, refl, ap, sym, ◌∙◌, arith}
+use Rattle.std.specs.List.{list_all}
+use Rattle.std.proofs.lemmas.List.{drop_more, drop_all, get_or-map, length-map}
+use Rattle.pe_core.specs.Refusals.{Refusal, WriteFit, outcome}
+use Rattle.pe_image.specs.Overlay.{Piece, fits, all_fit, overlay}
+use Rattle.pe_image.specs.Pieces.{in_a_row, row_end}
+use Rattle.pe_image.specs.WritingSteps.{put_in_turn}
+use Rattle.pe_image.proofs.Overlays.{put_append, overlay_in_turn}
+
+pub and_assoc : (a b c : Bool) → (a && (b && c)) ≡ ((a && b) && c)
+and_assoc true b c = refl
+and_assoc false b c = refl
+
+pub and_left : (a b : Bool) → (a && b) ≡ true → a ≡ true
+and_left true b h = refl
+and_left false b h = h
+
+pub and_right : (a b : Bool) → (a && b) ≡ true → b ≡ true
+and_right true b h = h
+and_right false b h = absurd cc
+
+list_all-append : {X : Type 0} (p : X → Bool) (xs ys : List X) → list_all p (xs ++ ys) ≡ (list_all p xs && list_all p ys)
+list_all-append p [] ys = refl
+list_all-append p (x ∷ xs) ys = rw (list_all-append p xs ys) (and_assoc (p x) (list_all p xs) (list_all p ys))
+
+pub all_fit_append : (n : ℕ) (xs ys : List Piece) → all_fit n (xs ++ ys) ≡ (all_fit n xs && all_fit n ys)
+all_fit_append n xs ys = list_all-append (fits n) xs ys
+
+-- what is left to be tested decides, and the row ends where the rest of it does
+pub record Left {X : Type 0} (f : ℕ → X → List Piece) (w : X → ℕ) (n start : ℕ) (xs : List X) (place : ℕ) (rest : List X) : Type 0 where
+  pub fit : all_fit n (in_a_row f w place rest) ≡ all_fit n (in_a_row f w start xs)
+  pub ends : row_end w place rest ≡ row_end w start xs
+
+pub left_first : {X : Type 0} (f : ℕ → X → List Piece) (w : X → ℕ) (n start : ℕ) (xs : List X) → Left f w n start xs start xs
+left_first f w n start xs = record { fit = refl; ends = refl }
+
+pub left_next : {X : Type 0} (f : ℕ → X → List Piece) (w : X → ℕ) (n start : ℕ) (xs : List X) (place : ℕ) (x : X) (rest : List X) → Left f w n start xs place (x ∷ rest) → all_fit n (f place x) ≡ true → Left f w n start xs (place + w x) rest
+left_next f w n start xs place x rest l h = record {
+  fit = ap (λ t. t && all_fit n (in_a_row f w (place + w x) rest)) (sym h) ∙ (sym (all_fit_append n (f place x) (in_a_row f w (place + w x) rest)) ∙ l.fit);
+  ends = l.ends;
+}
+
+pub left_refused : {X : Type 0} (f : ℕ → X → List Piece) (w : X → ℕ) (n start : ℕ) (xs : List X) (place : ℕ) (x : X) (rest : List X) → Left f w n start xs place (x ∷ rest) → all_fit n (f place x) ≡ false → all_fit n (in_a_row f w start xs) ≡ false
+left_refused f w n start xs place x rest l h =
+    sym l.fit ∙ (all_fit_append n (f place x) (in_a_row f w (place + w x) rest) ∙ ap (λ t. t && all_fit n (in_a_row f w (place + w x) rest)) h)
+
+-- what is still to be put leaves the same bytes, and all of it fits
+pub record Goes {X : Type 0} (f : ℕ → X → List Piece) (w : X → ℕ) (b : List ℕ) (start : ℕ) (xs : List X) (now : List ℕ) (place : ℕ) (rest : List X) : Type 0 where
+  pub same : put_in_turn now (in_a_row f w place rest) ≡ put_in_turn b (in_a_row f w start xs)
+  pub fit : all_fit (length b) (in_a_row f w place rest) ≡ true
+  pub ends : row_end w place rest ≡ row_end w start xs
+
+pub goes_first : {X : Type 0} (f : ℕ → X → List Piece) (w : X → ℕ) (b : List ℕ) (start : ℕ) (xs : List X) → all_fit (length b) (in_a_row f w start xs) ≡ true → Goes f w b start xs b start xs
+goes_first f w b start xs h = record { same = refl; fit = h; ends = refl }
+
+pub goes_fits : {X : Type 0} (f : ℕ → X → List Piece) (w : X → ℕ) (b : List ℕ) (start : ℕ) (xs : List X) (now : List ℕ) (place : ℕ) (x : X) (rest : List X) → Goes f w b start xs now place (x ∷ rest) → all_fit (length b) (f place x) ≡ true
+goes_fits f w b start xs now place x rest g = and_left _ _ (sym (all_fit_append (length b) (f place x) (in_a_row f w (place + w x) rest)) ∙ g.fit)
+
+pub goes_next : {X : Type 0} (f : ℕ → X → List Piece) (w : X → ℕ) (b : List ℕ) (start : ℕ) (xs : List X) (now next : List ℕ) (place : ℕ) (x : X) (rest : List X) → Goes f w b start xs now place (x ∷ rest) → next ≡ put_in_turn now (f place x) → Goes f w b start xs next (place + w x) rest
+goes_next f w b start xs now next place x rest g e = record {
+  same = rw e (sym (put_append (f place x) (in_a_row f w (place + w x) rest) now) ∙ g.same);
+  fit = and_right _ _ (sym (all_fit_append (length b) (f place x) (in_a_row f w (place + w x) rest)) ∙ g.fit);
+  ends = g.ends;
+}
+
+pub goes_last : {X : Type 0} (f : ℕ → X → List Piece) (w : X → ℕ) (b : List ℕ) (start : ℕ) (xs : List X) (now : List ℕ) (place : ℕ) → Goes f w b start xs now place [] → now ≡ put_in_turn b (in_a_row f w start xs)
+unfolding put_in_turn
+goes_last f w b start xs now place g = g.same
+
+-- the rest of a list from element i on
+pub rest_at : {X : Type 0} (xs : List X) (i : ℕ) (d : X) → i < length xs → drop i xs ≡ get_or xs i d ∷ drop (i + 1) xs
+rest_at xs i d h = drop_more xs i d h
+
+pub rest_of_seen : {X Y : Type 0} (view : X → Y) (xs : List X) (i : ℕ) (d : X) → i < length xs → drop i (map view xs) ≡ view (get_or xs i d) ∷ drop (i + 1) (map view xs)
+rest_of_seen view xs i d h =
+    drop_more (map view xs) i (view d) (omega (arith, length-map xs view))
+    ∙ ap (λ x. x ∷ drop (i + 1) (map view xs)) (get_or-map view xs i d (view d) h)
+
+pub no_rest_of_seen : {X Y : Type 0} (view : X → Y) (xs : List X) (i : ℕ) → length xs ≤ i → drop i (map view xs) ≡ []
+no_rest_of_seen view xs i h = drop_all i (map view xs) (omega (arith, length-map xs view))
+
+-- ---- a test of all elements, from the first on, which may look at those behind each
+
+pub test_goes_on : {X : Type 0} (F : List X → Bool) (g : X → List X → Bool) → ((x : X) (ys : List X) → F (x ∷ ys) ≡ (g x ys && F ys)) → (xs : List X) (i : ℕ) (d : X) → i < length xs → F (drop i xs) ≡ F xs → g (get_or xs i d) (drop (i + 1) xs) ≡ true → F (drop (i + 1) xs) ≡ F xs
+test_goes_on F g step xs i d h e t =
+    let k : F (get_or xs i d ∷ drop (i + 1) xs) ≡ F xs = rw (rest_at xs i d h) at e in
+    sym (step (get_or xs i d) (drop (i + 1) xs) ∙ ap (λ b. b && F (drop (i + 1) xs)) t) ∙ k
+
+pub test_fails : {X : Type 0} (F : List X → Bool) (g : X → List X → Bool) → ((x : X) (ys : List X) → F (x ∷ ys) ≡ (g x ys && F ys)) → (xs : List X) (i : ℕ) (d : X) → i < length xs → F (drop i xs) ≡ F xs → g (get_or xs i d) (drop (i + 1) xs) ≡ false → false ≡ F xs
+test_fails F g step xs i d h e t =
+    let k : F (get_or xs i d ∷ drop (i + 1) xs) ≡ F xs = rw (rest_at xs i d h) at e in
+    sym (step (get_or xs i d) (drop (i + 1) xs) ∙ ap (λ b. b && F (drop (i + 1) xs)) t) ∙ k
+
+pub test_ends : {X : Type 0} (F : List X → Bool) (xs : List X) (i : ℕ) → F [] ≡ true → length xs ≤ i → F (drop i xs) ≡ F xs → true ≡ F xs
+test_ends F xs i z h e = sym z ∙ (ap F (sym (drop_all i xs h)) ∙ e)
+
+-- ---- answers and refusals
+
+pub fits_if : {Y : Type 0} (t : Bool) (x y : Y) → outcome ((t, WriteFit) ∷ []) x ≡ Ok y → t ≡ true
+fits_if true x y h = refl
+fits_if false x y h = absurd cc
+
+pub unfit_if : {Y : Type 0} (t : Bool) (x : Y) (r : Refusal) → outcome ((t, WriteFit) ∷ []) x ≡ Err r → t ≡ false
+unfit_if true x r h = absurd cc
+unfit_if false x r h = refl
+
+pub refused_if : {Y Z : Type 0} (t u : Bool) (x : Y) (z : Z) (r : Refusal) → outcome ((t, WriteFit) ∷ []) x ≡ Err r → u ≡ false → outcome ((u, WriteFit) ∷ []) z ≡ Err r
+refused_if true u x z r h e = absurd cc
+refused_if false true x z r h e = absurd cc
+refused_if false false x z r h e = let same : WriteFit ≡ r = cc in ap (λ k. Err k) same
+
+-- the same tests give another value where they give one, and refuse it where they refuse
+pub accepted_too : {X Y : Type 0} (tests : List (Bool × Refusal)) (x z : X) (y : Y) → outcome tests x ≡ Ok z → outcome tests y ≡ Ok y
+accepted_too [] x z y h = refl
+accepted_too ((true, k) ∷ tests) x z y h = accepted_too tests x z y h
+accepted_too ((false, k) ∷ tests) x z y h = absurd cc
+
+pub refused_too : {X Y : Type 0} (tests : List (Bool × Refusal)) (x : X) (y : Y) (k : Refusal) → outcome tests x ≡ Err k → outcome tests y ≡ Err k
+refused_too [] x y k h = absurd cc
+refused_too ((true, j) ∷ tests) x y k h = refused_too tests x y k h
+refused_too ((false, j) ∷ tests) x y k h = let e : j ≡ k = cc in ap (λ r. Err r) e
+
+-- the answer with the bytes that are left
+pub written_too : (tests : List (Bool × Refusal)) (x z : ℕ) (s t : List ℕ) → outcome tests x ≡ Ok z → t ≡ s → outcome {Y = ℕ × List ℕ} tests (x, s) ≡ Ok (z, t)
+written_too [] x z s t h e = let same : x ≡ z = cc in rw (same, e) refl
+written_too ((true, k) ∷ tests) x z s t h e = written_too tests x z s t h e
+written_too ((false, k) ∷ tests) x z s t h e = absurd cc
+
+pub wrote : (b now : List ℕ) (pieces : List Piece) (x z : ℕ) → outcome ((all_fit (length b) pieces, WriteFit) ∷ []) x ≡ Ok z → now ≡ put_in_turn b pieces → outcome {Y = ℕ × List ℕ} ((all_fit (length b) pieces, WriteFit) ∷ []) (x, overlay b pieces) ≡ Ok (z, now)
+wrote b now pieces x z h e =
+    written_too ((all_fit (length b) pieces, WriteFit) ∷ []) x z (overlay b pieces) now h (e ∙ overlay_in_turn pieces b (fits_if _ x z h))

@@ -1,0 +1,79 @@
+-- Certificates as pieces.
+use Rattle.std.proofs.Common.{◌≡◌, ℕ, ◌+◌, ◌≤◌, ◌<◌, ◌&&◌, Bool, true, false, Ok, Err, List, [], ◌∷◌, length, get_or, drop, map, refl, ap, sym, ◌∙◌}
+use Rattle.std.specs.Prelude.{nat_le}
+use Rattle.pe_core.specs.Bytes.{holds}
+use Rattle.pe_core.specs.Refusals.{Refusal, WriteFit, outcome}
+use Rattle.pe_records.specs.Certificates.{CertificateView, certificate_view}
+use Rattle.pe_records.specs.declared.certificate_table.AttributeCertificate.{AttributeCertificate}
+use Rattle.pe_records.specs.CertificateWriting.{written_certificate, written_end, written_length}
+use Rattle.pe_records.proofs.CertificatePieces.{length_written}
+use Rattle.pe_image.specs.Overlay.{all_fit}
+use Rattle.pe_image.specs.Pieces.{certificate_pieces, in_a_row, row_end}
+use Rattle.pe_image.specs.WritingSteps.{put_in_turn}
+use Rattle.pe_image.proofs.Rows.{Left, left_next, left_refused, Goes, goes_fits, goes_next, goes_last, rest_of_seen, no_rest_of_seen, fits_if, unfit_if, refused_if}
+
+and_true : (t : Bool) → (t && true) ≡ t
+and_true true = refl
+and_true false = refl
+
+-- a certificate fits exactly if its bytes are there
+pub fit_is : (b : List ℕ) (p : ℕ) (c : CertificateView) → all_fit (length b) (certificate_pieces p c) ≡ holds b p (written_length c)
+fit_is b p c = and_true (nat_le (p + length (written_certificate c)) (length b)) ∙ ap (λ k. nat_le (p + k) (length b)) (length_written c)
+
+value_if : {Y : Type 0} (t : Bool) (x y : Y) → outcome ((t, WriteFit) ∷ []) x ≡ Ok y → y ≡ x
+value_if true x y h = cc
+value_if false x y h = absurd cc
+
+pub end_is : (b : List ℕ) (p end : ℕ) (c : CertificateView) → written_end b p c ≡ Ok end → end ≡ p + written_length c
+end_is b p end c h = value_if (holds b p (written_length c)) (p + written_length c) end h
+
+pub never_refused : (b : List ℕ) (p : ℕ) (c : CertificateView) (r : Refusal) → all_fit (length b) (certificate_pieces p c) ≡ true → written_end b p c ≡ Err r → p ≡ p + written_length c
+never_refused b p c r h e =
+    let no : holds b p (written_length c) ≡ false = unfit_if (holds b p (written_length c)) (p + written_length c) r e in
+    let yes : holds b p (written_length c) ≡ true = sym (fit_is b p c) ∙ h in
+    absurd cc
+
+-- ---- the test, certificate by certificate
+
+abbrev pub LeftCertificates : List ℕ → ℕ → List AttributeCertificate → ℕ → ℕ → Type 0
+LeftCertificates b start cs place i = Left certificate_pieces written_length (length b) start (map certificate_view cs) place (drop i (map certificate_view cs))
+
+pub certificate_left : (b : List ℕ) (start : ℕ) (cs : List AttributeCertificate) (place end i : ℕ) (d : AttributeCertificate) → i < length cs → LeftCertificates b start cs place i → written_end b place (certificate_view (get_or cs i d)) ≡ Ok end → LeftCertificates b start cs end (i + 1)
+certificate_left b start cs place end i d h l e =
+    let c : CertificateView = certificate_view (get_or cs i d) in
+    let fit : all_fit (length b) (certificate_pieces place c) ≡ true = fit_is b place c ∙ fits_if (holds b place (written_length c)) (place + written_length c) end e in
+    let same : end ≡ place + written_length c = end_is b place end c e in
+    rw same (left_next certificate_pieces written_length (length b) start (map certificate_view cs) place c (drop (i + 1) (map certificate_view cs)) (rw (rest_of_seen certificate_view cs i d h) at l) fit)
+
+pub certificate_refused : (b : List ℕ) (start : ℕ) (cs : List AttributeCertificate) (place i end : ℕ) (d : AttributeCertificate) (r : Refusal) → i < length cs → LeftCertificates b start cs place i → written_end b place (certificate_view (get_or cs i d)) ≡ Err r → outcome ((all_fit (length b) (in_a_row certificate_pieces written_length start (map certificate_view cs)), WriteFit) ∷ []) end ≡ Err r
+certificate_refused b start cs place i end d r h l e =
+    let c : CertificateView = certificate_view (get_or cs i d) in
+    let t : Bool = holds b place (written_length c) in
+    let unfit : all_fit (length b) (certificate_pieces place c) ≡ false = fit_is b place c ∙ unfit_if t (place + written_length c) r e in
+    refused_if t _ (place + written_length c) end r e (left_refused certificate_pieces written_length (length b) start (map certificate_view cs) place c (drop (i + 1) (map certificate_view cs)) (rw (rest_of_seen certificate_view cs i d h) at l) unfit)
+
+accepted_if : {Y : Type 0} (t : Bool) (x y : Y) → true ≡ t → y ≡ x → outcome ((t, WriteFit) ∷ []) x ≡ Ok y
+accepted_if true x y h e = ap (λ z. Ok z) (sym e)
+accepted_if false x y h e = absurd cc
+
+pub certificates_accepted : (b : List ℕ) (start : ℕ) (cs : List AttributeCertificate) (place i : ℕ) → length cs ≤ i → LeftCertificates b start cs place i → outcome ((all_fit (length b) (in_a_row certificate_pieces written_length start (map certificate_view cs)), WriteFit) ∷ []) (row_end written_length start (map certificate_view cs)) ≡ Ok place
+certificates_accepted b start cs place i h l =
+    let last : Left certificate_pieces written_length (length b) start (map certificate_view cs) place [] = rw (no_rest_of_seen certificate_view cs i h) at l in
+    accepted_if _ _ place last.fit last.ends
+
+-- ---- the writing, certificate by certificate
+
+abbrev pub GoesCertificates : List ℕ → ℕ → List AttributeCertificate → List ℕ → ℕ → ℕ → Type 0
+GoesCertificates b start cs now place i = Goes certificate_pieces written_length b start (map certificate_view cs) now place (drop i (map certificate_view cs))
+
+pub next_fits : (b : List ℕ) (start : ℕ) (cs : List AttributeCertificate) (now : List ℕ) (place i : ℕ) (d : AttributeCertificate) → i < length cs → length now ≡ length b → GoesCertificates b start cs now place i → all_fit (length now) (certificate_pieces place (certificate_view (get_or cs i d))) ≡ true
+next_fits b start cs now place i d h l g =
+    rw l (goes_fits certificate_pieces written_length b start (map certificate_view cs) now place (certificate_view (get_or cs i d)) (drop (i + 1) (map certificate_view cs)) (rw (rest_of_seen certificate_view cs i d h) at g))
+
+pub next_goes : (b : List ℕ) (start : ℕ) (cs : List AttributeCertificate) (now next : List ℕ) (place end i : ℕ) (d : AttributeCertificate) → i < length cs → GoesCertificates b start cs now place i → next ≡ put_in_turn now (certificate_pieces place (certificate_view (get_or cs i d))) → end ≡ place + written_length (certificate_view (get_or cs i d)) → GoesCertificates b start cs next end (i + 1)
+next_goes b start cs now next place end i d h g e f =
+    rw f (goes_next certificate_pieces written_length b start (map certificate_view cs) now next place (certificate_view (get_or cs i d)) (drop (i + 1) (map certificate_view cs)) (rw (rest_of_seen certificate_view cs i d h) at g) e)
+
+pub all_gone : (b : List ℕ) (start : ℕ) (cs : List AttributeCertificate) (now : List ℕ) (place i : ℕ) → length cs ≤ i → GoesCertificates b start cs now place i → now ≡ put_in_turn b (in_a_row certificate_pieces written_length start (map certificate_view cs))
+all_gone b start cs now place i h g =
+    goes_last certificate_pieces written_length b start (map certificate_view cs) now place (rw (no_rest_of_seen certificate_view cs i h) at g)

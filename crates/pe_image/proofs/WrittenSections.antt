@@ -1,0 +1,95 @@
+-- Sections as pieces.
+use Rattle.std.proofs.Common.{◌≡◌, ℕ, zero, suc, ◌+◌, ◌*◌, ◌≤◌, ◌<◌, ◌&&◌, Bool, true, false, Ok, Err, List, [], ◌∷◌, length, get_or, drop, replicate, ap, sym, ◌∙◌, arith}
+use Rattle.std.specs.Prelude.{Option, nat_le}
+use Rattle.std.proofs.lemmas.List.{drop_all, length-replicate}
+use Rattle.std.proofs.lemmas.List.Edits.{length-between}
+use Rattle.std.proofs.lemmas.Bool.Decides.{nat_tests}
+use Rattle.pe_core.specs.Bytes.{holds, range}
+use Rattle.pe_core.specs.Refusals.{Refusal, WriteFit, outcome}
+use Rattle.pe_core.specs.Sections.{raw_end}
+use Rattle.pe_core.specs.declared.section_table.SectionTable.{SectionTable}
+use Rattle.pe_image.specs.Overlay.{all_fit}
+use Rattle.pe_image.specs.Pieces.{all_section_pieces, header_width, lacking, row_end, section_pieces}
+use Rattle.pe_image.specs.Writing.{all_in_source}
+use Rattle.pe_image.specs.WritingSteps.{put_in_turn}
+use Rattle.pe_image.proofs.Laid.{length_section}
+use Rattle.pe_image.proofs.Rows.{Left, left_next, left_refused, Goes, goes_fits, goes_next, goes_last, and_left, and_right, fits_if, unfit_if, refused_if, rest_at}
+
+-- the pieces of a section fit exactly if its data, its header and its zeros do
+pub section_fit : (n : ℕ) (b : List ℕ) (unit : Option ℕ) (place : ℕ) (s : SectionTable) → length s.name ≡ 8 → holds b s.pointer_to_raw_data s.size_of_raw_data ≡ true → all_fit n (section_pieces b unit place s) ≡ (nat_le (raw_end s) n && (nat_le (place + 40) n && nat_le (raw_end s + lacking s.size_of_raw_data unit) n))
+unfolding section_pieces
+section_fit n b unit place s h i =
+    let inside : raw_end s ≤ length b = grind (arith, nat_tests) in
+    let d : length (range b s.pointer_to_raw_data s.size_of_raw_data) ≡ s.size_of_raw_data = length-between b s.pointer_to_raw_data (raw_end s) inside ∙ (omega arith) in
+    let z : length {A = ℕ} (replicate (lacking s.size_of_raw_data unit) 0) ≡ lacking s.size_of_raw_data unit = length-replicate _ 0 in
+    rw (d, length_section s h, z) (grind (arith, nat_tests))
+
+abbrev pub no_section : SectionTable
+no_section = record { name = []; virtual_size = 0; virtual_address = 0; size_of_raw_data = 0; pointer_to_raw_data = 0; pointer_to_relocations = 0; pointer_to_linenumbers = 0; number_of_relocations = 0; number_of_linenumbers = 0; characteristics = 0 }
+
+-- each section's data are in the source, where all are
+pub inside_at : (b : List ℕ) (sections : List SectionTable) (i : ℕ) (d : SectionTable) → all_in_source b sections ≡ true → i < length sections → holds b (get_or sections i d).pointer_to_raw_data (get_or sections i d).size_of_raw_data ≡ true
+inside_at b [] i d h l = absurd (omega arith)
+inside_at b (s ∷ sections) zero d h l = and_left _ _ h
+inside_at b (s ∷ sections) (suc i) d h l = inside_at b sections i d (and_right _ _ h) (omega arith)
+
+-- the headers end 40 bytes behind each other
+pub headers_end : (p : ℕ) (sections : List SectionTable) → row_end header_width p sections ≡ p + 40 * length sections
+headers_end p [] = omega arith
+headers_end p (s ∷ sections) = headers_end (p + 40) sections ∙ omega arith
+
+value_if : {Y : Type 0} (t : Bool) (x y : Y) → outcome ((t, WriteFit) ∷ []) x ≡ Ok y → y ≡ x
+value_if true x y h = cc
+value_if false x y h = absurd cc
+
+accepted_if : {Y : Type 0} (t : Bool) (x y : Y) → true ≡ t → y ≡ x → outcome ((t, WriteFit) ∷ []) x ≡ Ok y
+accepted_if true x y h e = ap (λ z. Ok z) (sym e)
+accepted_if false x y h e = absurd cc
+
+-- ---- the test, section by section
+
+abbrev pub LeftSections : ℕ → List ℕ → Option ℕ → ℕ → List SectionTable → ℕ → ℕ → Type 0
+LeftSections n b unit start sections place i = Left (section_pieces b unit) header_width n start sections place (drop i sections)
+
+pub section_left : (n : ℕ) (b : List ℕ) (unit : Option ℕ) (start : ℕ) (sections : List SectionTable) (place end i : ℕ) (d : SectionTable) → i < length sections → LeftSections n b unit start sections place i → outcome ((all_fit n (section_pieces b unit place (get_or sections i d)), WriteFit) ∷ []) (place + 40) ≡ Ok end → LeftSections n b unit start sections end (i + 1)
+section_left n b unit start sections place end i d h l e =
+    let s : SectionTable = get_or sections i d in
+    let t : Bool = all_fit n (section_pieces b unit place s) in
+    let same : end ≡ place + 40 = value_if t (place + 40) end e in
+    rw same (left_next (section_pieces b unit) header_width n start sections place s (drop (i + 1) sections) (rw (rest_at sections i d h) at l) (fits_if t (place + 40) end e))
+
+pub section_refused : (n : ℕ) (b : List ℕ) (unit : Option ℕ) (start : ℕ) (sections : List SectionTable) (place i end : ℕ) (d : SectionTable) (r : Refusal) → i < length sections → LeftSections n b unit start sections place i → outcome ((all_fit n (section_pieces b unit place (get_or sections i d)), WriteFit) ∷ []) (place + 40) ≡ Err r → outcome ((all_fit n (all_section_pieces b unit start sections), WriteFit) ∷ []) end ≡ Err r
+section_refused n b unit start sections place i end d r h l e =
+    let s : SectionTable = get_or sections i d in
+    let t : Bool = all_fit n (section_pieces b unit place s) in
+    refused_if t _ (place + 40) end r e (left_refused (section_pieces b unit) header_width n start sections place s (drop (i + 1) sections) (rw (rest_at sections i d h) at l) (unfit_if t (place + 40) r e))
+
+pub sections_accepted : (n : ℕ) (b : List ℕ) (unit : Option ℕ) (start : ℕ) (sections : List SectionTable) (place i : ℕ) → length sections ≤ i → LeftSections n b unit start sections place i → outcome ((all_fit n (all_section_pieces b unit start sections), WriteFit) ∷ []) (start + 40 * length sections) ≡ Ok place
+sections_accepted n b unit start sections place i h l =
+    let last : Left (section_pieces b unit) header_width n start sections place [] = rw (drop_all i sections h) at l in
+    accepted_if _ _ place last.fit (last.ends ∙ headers_end start sections)
+
+-- ---- the writing, section by section
+
+abbrev pub GoesSections : List ℕ → List ℕ → Option ℕ → ℕ → List SectionTable → List ℕ → ℕ → ℕ → Type 0
+GoesSections old b unit start sections now place i = Goes (section_pieces b unit) header_width old start sections now place (drop i sections)
+
+pub next_fits : (old b : List ℕ) (unit : Option ℕ) (start : ℕ) (sections : List SectionTable) (now : List ℕ) (place i : ℕ) (d : SectionTable) → i < length sections → length now ≡ length old → GoesSections old b unit start sections now place i → all_fit (length now) (section_pieces b unit place (get_or sections i d)) ≡ true
+next_fits old b unit start sections now place i d h l g =
+    rw l (goes_fits (section_pieces b unit) header_width old start sections now place (get_or sections i d) (drop (i + 1) sections) (rw (rest_at sections i d h) at g))
+
+pub next_goes : (old b : List ℕ) (unit : Option ℕ) (start : ℕ) (sections : List SectionTable) (now next : List ℕ) (place i : ℕ) (d : SectionTable) → i < length sections → GoesSections old b unit start sections now place i → next ≡ put_in_turn now (section_pieces b unit place (get_or sections i d)) → GoesSections old b unit start sections next (place + 40) (i + 1)
+next_goes old b unit start sections now next place i d h g e =
+    goes_next (section_pieces b unit) header_width old start sections now next place (get_or sections i d) (drop (i + 1) sections) (rw (rest_at sections i d h) at g) e
+
+pub all_gone : (old b : List ℕ) (unit : Option ℕ) (start : ℕ) (sections : List SectionTable) (now : List ℕ) (place i : ℕ) → length sections ≤ i → GoesSections old b unit start sections now place i → now ≡ put_in_turn old (all_section_pieces b unit start sections)
+all_gone old b unit start sections now place i h g =
+    goes_last (section_pieces b unit) header_width old start sections now place (rw (drop_all i sections h) at g)
+
+place_fits : (n : ℕ) (b : List ℕ) (unit : Option ℕ) (place : ℕ) (s : SectionTable) → all_fit n (section_pieces b unit place s) ≡ true → place ≤ n
+unfolding section_pieces
+place_fits n b unit place s h = grind (arith, nat_tests)
+
+pub place_inside : (old b : List ℕ) (unit : Option ℕ) (start : ℕ) (sections : List SectionTable) (now : List ℕ) (place i : ℕ) (d : SectionTable) → i < length sections → length now ≡ length old → GoesSections old b unit start sections now place i → place ≤ length now
+place_inside old b unit start sections now place i d h l g =
+    place_fits (length now) b unit place (get_or sections i d) (next_fits old b unit start sections now place i d h l g)

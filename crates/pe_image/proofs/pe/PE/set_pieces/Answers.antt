@@ -1,0 +1,35 @@
+use Rattle.std.proofs.Common.{length, map, arith, ap}
+use Rattle.pe_core.specs.Header.{header_view, optional_header_view}
+use Rattle.pe_records.specs.Certificates.{certificate_view}
+use Rattle.pe_image.specs.Image.{source_of}
+use Rattle.pe_image.proofs.WrittenImages.{headers_fit_too, sections_fit_too, certificates_fit_too, put_image}
+use Rattle.pe_image.proofs.pe.PE.set_pieces.Goals as goal
+
+pub set_headers-requires : goal.set_headers-requires
+set_headers-requires g c =
+    headers_fit_too (length c.args.buffer.now) (source_of c.args.self.now) (header_view c.args.self.now.header) (optional_header_view c.args.optional.now) c.args.self.now.sections.items (map certificate_view c.args.self.now.certificates.items) c.requires.fit
+
+pub set-requires-clause-fit : goal.set-requires-clause-fit
+set-requires-clause-fit g c =
+    sections_fit_too (length c.args.buffer.now) (length c.set_headers.new.buffer) (source_of c.args.self.now) (header_view c.args.self.now.header) (optional_header_view c.args.optional.now) c.args.self.now.sections.items (map certificate_view c.args.self.now.certificates.items) _ _ _ _
+    (omega (arith, c.set_headers.auto.buffer))
+    (record { source_is = c.section_writer.ensures.source; unit_is = c.section_writer.ensures.unit; place_is = c.sections_place.ensures; sections_are = c.section_writer.ensures.sections })
+    c.requires.fit
+
+pub set_table-requires : goal.set_table-requires
+set_table-requires g c =
+    certificates_fit_too (length c.args.buffer.now) (length c.set.new.buffer) (source_of c.args.self.now) (header_view c.args.self.now.header) (optional_header_view c.args.optional.now) c.args.self.now.sections.items (map certificate_view c.args.self.now.certificates.items) _ _
+    (omega (arith, c.set_headers.auto.buffer, c.set.auto.buffer))
+    c.get_certificate_table-directory.ensures
+    (ap (map certificate_view) c.deref.ensures.value)
+    c.requires.fit
+
+pub returns : goal.returns
+returns g c =
+    put_image c.args.buffer.now _ _ _ (source_of c.args.self.now) (header_view c.args.self.now.header) (optional_header_view c.args.optional.now) c.args.self.now.sections.items (map certificate_view c.args.self.now.certificates.items) _ _ _ _ _ _
+    (record { source_is = c.section_writer.ensures.source; unit_is = c.section_writer.ensures.unit; place_is = c.sections_place.ensures; sections_are = c.section_writer.ensures.sections })
+    c.get_certificate_table-directory.ensures
+    (ap (map certificate_view) c.deref.ensures.value)
+    c.set_headers.ensures
+    c.set.ensures
+    c.set_table.ensures

@@ -1,0 +1,7 @@
+use Rattle.pe_records.specs.Certificates.{certificate_view}
+use Rattle.pe_image.proofs.WrittenCertificates.{never_refused}
+use Rattle.pe_image.proofs.write.certificates.set_certificate.Goals as goal
+
+pub returns-in-Err-clause-end : goal.returns-in-Err-clause-end
+returns-in-Err-clause-end c =
+    never_refused c.args.buffer.now c.args.place (certificate_view c.args.certificate.now) _ c.requires c.in-Err.ensures.fit

@@ -1,0 +1,8 @@
+use Rattle.std.proofs.Common.{◌≡◌, drop}
+use Rattle.std.specs.Prelude.{not}
+use Rattle.std.specs.List.{list_all}
+use Rattle.pe_image.specs.Writing.{clash}
+use Rattle.pe_image.proofs.write.overlaps.first_clash_with.Given as goal
+
+abbrev pub invariant-loop-i : goal.invariant-loop-i
+invariant-loop-i l = list_all (λ t. not (clash l.section t)) (drop l.i l.behind) ≡ list_all (λ t. not (clash l.section t)) l.behind

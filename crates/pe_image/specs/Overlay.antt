@@ -1,0 +1,36 @@
+-- Bytes that are written over others, piece by piece. A byte is that of the last piece that covers its place.
+use Rattle.std.specs.Prelude.{ℕ, ◌+◌, ◌-◌, ◌&&◌, Bool, List, length, filter, Option, Some, None, nat_le, nat_lt, slice_index}
+use Rattle.std.specs.List.{last_or, list_all}
+use Rattle.pe_core.specs.Rows.{each}
+
+-- some bytes, and the place where they go
+pub record Piece : Type 0 where
+  pub place : ℕ
+  pub content : List ℕ
+
+abbrev pub piece : ℕ → List ℕ → Piece
+piece p s = record { place = p; content = s }
+
+-- the piece has a byte for place q
+abbrev pub covers : ℕ → Piece → Bool
+covers q x = nat_le x.place q && nat_lt q (x.place + length x.content)
+
+-- the piece's byte for place q, or else the old one
+abbrev pub byte_of : ℕ → ℕ → Option Piece → ℕ
+byte_of q old None = old
+byte_of q old (Some x) = slice_index x.content (q - x.place)
+
+-- byte q once the pieces are written: that of the last piece that covers q, or else the old one
+unfoldable pub byte_after : List Piece → ℕ → ℕ → ℕ
+byte_after pieces q old = byte_of q old (last_or None (filter (covers q) pieces))
+
+-- the bytes once the pieces are written over them
+unfoldable pub overlay : List ℕ → List Piece → List ℕ
+overlay b pieces = each (λ q. byte_after pieces q (slice_index b q)) (length b)
+
+-- every piece is inside n bytes
+abbrev pub fits : ℕ → Piece → Bool
+fits n x = nat_le (x.place + length x.content) n
+
+abbrev pub all_fit : ℕ → List Piece → Bool
+all_fit n pieces = list_all (fits n) pieces

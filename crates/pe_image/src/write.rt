@@ -1,0 +1,169 @@
+//! Images as bytes.
+//!
+//! Each writer tests every fault in its order first, and then writes without a further test, so that a refused write has
+//! changed nothing.
+
+mod certificates;
+mod headers;
+mod overlaps;
+mod records;
+mod sections;
+
+ghost use Rattle.std.specs.Prelude.{◌≡◌, ◌<◌, [], ◌∷◌, IsTrue, OnOk, Some, length, map};
+ghost use Rattle.pe_core.specs.Header.{header_view, optional_header_view};
+ghost use Rattle.pe_core.specs.Refusals.{Gives, WriteFit, outcome};
+ghost use Rattle.pe_records.specs.Certificates.{certificate_view};
+ghost use Rattle.pe_image.specs.Overlay.{all_fit};
+ghost use Rattle.pe_image.specs.WritingSteps.{put_in_turn};
+ghost use Rattle.pe_image.specs.Image.{image_view, source_of};
+ghost use Rattle.pe_image.specs.Writing.{Moves, Writes, all_in_source, certificates_written, image_by, image_end, image_pieces, image_tests, image_written, sections_written};
+
+use crate::pe::PE;
+use crate::write::certificates::{require_table, set_table, write_table};
+use crate::write::headers::{require_headers, set_headers};
+use crate::write::overlaps::last_raw_end;
+use crate::write::sections::SectionWriter;
+use pe_core::{Error, OptionalHeader, Reason, Result};
+use std::alloc::Allocator;
+
+impl<'a, A: Allocator + Copy + Drop> PE<'a, A> {
+    /// Writes the certificates one behind the other from the address of the certificate directory on, each as
+    /// `AttributeCertificate::write_into` does; none without that directory. Answers the place behind the last, 0 if none
+    /// is written. Places are bytes from the beginning of the buffer. Refusals in this order, each of which leaves the
+    /// buffer as it was: `NoOptionalHeader`; `WriteFit` where the certificates are not all inside the buffer.
+    pub fn write_certificates(&self, buffer: &mut [u8]) -> Result<usize>
+        ensures { Writes result (certificates_written (image_view self.now) buffer.old) buffer.old buffer.new }
+    {
+        match &self.header.optional_header {
+            None => Err(Error::Malformed(Reason::NoOptionalHeader)),
+            Some(optional) => {
+                let directory = optional.data_directories.get_certificate_table();
+                write_table(buffer, directory, &self.certificates)
+            }
+        }
+    }
+
+    /// Writes the sections: the data of each at its raw pointer, its header, and zeros behind the data up to a multiple of
+    /// the alignment, in bytes and counted from the raw pointer, none for `None`. The headers stand one behind the other
+    /// from the offset on. The data are taken from the bytes that the image was read from. A later piece stands over an
+    /// earlier one. The offset moves behind the headers, and is the answer. Places are bytes from the beginning of the
+    /// buffer. Refusals in this order, each of which leaves the buffer and the offset as they were: `WriteAlignment` for an
+    /// alignment of 0; `WriteOverlap` where two unequal sections share a byte of the file; `WriteSection` where the data of
+    /// one are not in the source; `WriteFit` where the pieces are not all inside the buffer.
+    pub fn write_sections(
+        &self,
+        buffer: &mut [u8],
+        offset: &mut usize,
+        file_alignment: Option<usize>,
+    ) -> Result<usize>
+        ensures written { Writes result (sections_written (source_of self.now) (image_view self.now).sections file_alignment offset.old buffer.old) buffer.old buffer.new }
+        ensures offset { Moves result offset.old offset.new }
+    {
+        let writer = SectionWriter {
+            source: self.bytes,
+            sections: &self.sections,
+            unit: file_alignment,
+        };
+        let end = writer.write(buffer, *offset)?;
+        *offset = end;
+        Ok(end)
+    }
+
+    /// The sections, with zeros up to a multiple of the file alignment.
+    fn section_writer(&self, optional: &OptionalHeader) -> SectionWriter<'_>
+        ensures source { result.source.now ≡ source_of self.now }
+        ensures sections { result.sections.now ≡ self.now.sections.items }
+        ensures unit { result.unit ≡ Some optional.now.windows_fields.file_alignment }
+    {
+        SectionWriter {
+            source: self.bytes,
+            sections: &self.sections,
+            unit: Some(optional.windows_fields.file_alignment as usize),
+        }
+    }
+
+    /// The greatest end of what is written. Refuses as `WriteFit` where the pieces don't all fit.
+    #[tactic(auto, using(crate::proofs::Rows::all_fit_append), unfolding(crate::specs::Writing::image_pieces))]
+    fn require_pieces(&self, buffer: &[u8], optional: &OptionalHeader) -> Result<usize>
+        requires unit { 0 < optional.now.windows_fields.file_alignment }
+        requires inside { IsTrue (all_in_source (source_of self.now) self.now.sections.items) }
+        ensures { Gives (λ end. end) result
+            (outcome ((all_fit (length buffer.now) (image_pieces (source_of self.now) (header_view self.now.header) (optional_header_view optional.now) self.now.sections.items (map certificate_view self.now.certificates.items)), WriteFit) ∷ []) (image_end (header_view self.now.header) (optional_header_view optional.now) self.now.sections.items (map certificate_view self.now.certificates.items))) }
+    {
+        require_headers(buffer, &self.header, optional)?;
+        let table = self.header.sections_place();
+        self.section_writer(optional).require(buffer, table)?;
+        let directory = optional.data_directories.get_certificate_table();
+        let end = require_table(buffer, directory, &self.certificates)?;
+        Ok(table.max(last_raw_end(&self.sections)).max(end))
+    }
+
+    /// Tests every fault in its order; the greatest end of what is written.
+    #[tactic(auto, using(crate::proofs::WrittenImages::positive), unfolding(crate::specs::Writing::image_tests))]
+    fn require_image(&self, buffer: &[u8], optional: &OptionalHeader) -> Result<usize>
+        ensures answer { Gives (λ end. end) result
+            (outcome (image_tests (source_of self.now) (header_view self.now.header) (optional_header_view optional.now) self.now.sections.items (length buffer.now) (image_pieces (source_of self.now) (header_view self.now.header) (optional_header_view optional.now) self.now.sections.items (map certificate_view self.now.certificates.items))) (image_end (header_view self.now.header) (optional_header_view optional.now) self.now.sections.items (map certificate_view self.now.certificates.items))) }
+        ensures unit { OnOk result (0 < optional.now.windows_fields.file_alignment) }
+        ensures inside { OnOk result (IsTrue (all_in_source (source_of self.now) self.now.sections.items)) }
+        ensures fit { OnOk result (IsTrue (all_fit (length buffer.now) (image_pieces (source_of self.now) (header_view self.now.header) (optional_header_view optional.now) self.now.sections.items (map certificate_view self.now.certificates.items)))) }
+    {
+        let alignment = optional.windows_fields.file_alignment;
+        if !alignment.is_power_of_two() {
+            return Err(Error::Malformed(Reason::WriteAlignment(alignment as usize)));
+        }
+        let symbols = self.header.coff_header.pointer_to_symbol_table;
+        if symbols != 0 {
+            return Err(Error::Malformed(Reason::WriteSymbols(symbols)));
+        }
+        self.section_writer(optional).require_data()?;
+        self.require_pieces(buffer, optional)
+    }
+
+    /// Writes all pieces, which are known to fit.
+    fn set_pieces(&self, buffer: &mut [u8], optional: &OptionalHeader)
+        requires unit { 0 < optional.now.windows_fields.file_alignment }
+        requires inside { IsTrue (all_in_source (source_of self.now) self.now.sections.items) }
+        requires fit { IsTrue (all_fit (length buffer.old) (image_pieces (source_of self.now) (header_view self.now.header) (optional_header_view optional.now) self.now.sections.items (map certificate_view self.now.certificates.items))) }
+        ensures { buffer.new ≡ put_in_turn buffer.old (image_pieces (source_of self.now) (header_view self.now.header) (optional_header_view optional.now) self.now.sections.items (map certificate_view self.now.certificates.items)) }
+    {
+        set_headers(buffer, &self.header, optional);
+        self.section_writer(optional)
+            .set(buffer, self.header.sections_place());
+        let directory = optional.data_directories.get_certificate_table();
+        set_table(buffer, directory, &self.certificates);
+    }
+
+    /// Writes the image with this optional header.
+    #[tactic(auto, using(crate::proofs::Rows::refused_too))]
+    fn write_with(&self, buffer: &mut [u8], optional: &OptionalHeader) -> Result<usize>
+        ensures { Writes result (image_by (Some (optional_header_view optional.now)) (source_of self.now) (header_view self.now.header) self.now.sections.items (map certificate_view self.now.certificates.items) buffer.old) buffer.old buffer.new }
+    {
+        match self.require_image(buffer, optional) {
+            Err(error) => Err(error),
+            Ok(end) => {
+                self.set_pieces(buffer, optional);
+                Ok(end)
+            }
+        }
+    }
+
+    /// Writes the image by its fields as they are now: the DOS header at 0, the stub at 64, the PE signature at the place
+    /// that the DOS header names, the COFF header 4 and the optional header 24 bytes behind that; for each section its
+    /// data at the raw pointer, its header in the section table, and zeros behind its data up to a multiple of the file
+    /// alignment counted from the raw pointer; then the certificates, as `write_certificates` does. Sections' data are
+    /// taken from the bytes that the image was read from. A later piece stands over an earlier one, and bytes that no
+    /// piece covers stay as they were. Places are bytes from the beginning of the buffer. Answers the greatest of where
+    /// the section table begins, where the data of the last section with the greatest raw pointer end, and where the
+    /// certificates end, if one is written. Refusals in this order, each of which leaves the buffer as it was:
+    /// `NoOptionalHeader`; `WriteAlignment` unless the file alignment is a power of two; `WriteSymbols` unless the pointer
+    /// to COFF symbols is 0; `WriteOverlap` where two unequal sections share a byte of the file; `WriteSection` where the
+    /// data of one are not in the source; `WriteFit` where the pieces are not all inside the buffer.
+    pub fn write_into(&self, buffer: &mut [u8]) -> Result<usize>
+        ensures { Writes result (image_written (source_of self.now) (image_view self.now) buffer.old) buffer.old buffer.new }
+    {
+        match &self.header.optional_header {
+            None => Err(Error::Malformed(Reason::NoOptionalHeader)),
+            Some(optional) => self.write_with(buffer, optional),
+        }
+    }
+}

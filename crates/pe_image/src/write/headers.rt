@@ -1,0 +1,39 @@
+//! The headers in front of the section table, written.
+
+ghost use Rattle.std.specs.Prelude.{◌≡◌, [], ◌∷◌, IsTrue, length};
+ghost use Rattle.pe_core.specs.Header.{header_view, optional_header_view};
+ghost use Rattle.pe_core.specs.Refusals.{Gives, WriteFit, outcome};
+ghost use Rattle.pe_image.specs.Overlay.{all_fit};
+ghost use Rattle.pe_image.specs.Pieces.{header_pieces};
+ghost use Rattle.pe_image.specs.WritingSteps.{put_in_turn};
+
+use crate::write::records::{optional_size, set_coff, set_dos, set_optional, set_slice, set_u32};
+use pe_core::{Header, OptionalHeader, Result, require_room};
+
+/// Refuses as `WriteFit` where the headers don't all fit.
+#[tactic(auto, using(crate::proofs::WrittenHeaders::headers_fit))]
+pub fn require_headers(buffer: &[u8], header: &Header<'_>, optional: &OptionalHeader) -> Result<()>
+    ensures { Gives (λ u. u) result
+        (outcome ((all_fit (length buffer.now) (header_pieces (header_view header.now) (optional_header_view optional.now)), WriteFit) ∷ []) tt) }
+{
+    let place = header.dos_header.pe_pointer as usize;
+    require_room(buffer, 0, 64)?;
+    require_room(buffer, 64, header.dos_stub.len())?;
+    require_room(buffer, place, 4)?;
+    require_room(buffer, place + 4, 20)?;
+    require_room(buffer, place + 24, optional_size(optional))
+}
+
+/// Writes the headers, which are known to fit.
+#[tactic(auto, using(crate::proofs::WrittenHeaders::headers_fit), unfolding(crate::specs::Pieces::header_pieces, crate::specs::WritingSteps::put_in_turn))]
+pub fn set_headers(buffer: &mut [u8], header: &Header<'_>, optional: &OptionalHeader)
+    requires { IsTrue (all_fit (length buffer.old) (header_pieces (header_view header.now) (optional_header_view optional.now))) }
+    ensures { buffer.new ≡ put_in_turn buffer.old (header_pieces (header_view header.now) (optional_header_view optional.now)) }
+{
+    let place = header.dos_header.pe_pointer as usize;
+    set_dos(buffer, 0, &header.dos_header);
+    set_slice(buffer, 64, header.dos_stub);
+    set_u32(buffer, place, header.signature);
+    set_coff(buffer, place + 4, &header.coff_header);
+    set_optional(buffer, place + 24, optional);
+}

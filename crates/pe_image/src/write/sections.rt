@@ -1,0 +1,151 @@
+//! Sections written: the data, the header and the zeros of each.
+
+ghost use Rattle.std.specs.Prelude.{◌≡◌, ◌+◌, ◌*◌, [], ◌∷◌, IsTrue, OnOk, length};
+ghost use Rattle.pe_core.specs.Bytes.{holds};
+ghost use Rattle.pe_core.specs.Refusals.{Gives, WriteAlignment, WriteFit, WriteOverlap, WriteSection, outcome};
+ghost use Rattle.pe_image.specs.Overlay.{all_fit};
+ghost use Rattle.pe_image.specs.Pieces.{all_section_pieces, header_width, in_a_row, lacking, section_pieces};
+ghost use Rattle.pe_image.specs.Writing.{Writes, all_in_source, clash_free, is_unit, section_tests, sections_written};
+ghost use Rattle.pe_image.specs.WritingSteps.{put_in_turn};
+
+use crate::write::overlaps::{first_clash, first_outside, raw_end};
+use crate::write::records::{set_section, set_slice, set_zeros};
+use pe_core::{Error, Reason, Result, SectionTable, require_room};
+
+/// The size of a section header in bytes.
+const SIZE_OF_SECTION_HEADER: usize = 40;
+
+/// How many bytes `n` lacks to a multiple of the unit; none without a unit.
+fn lacking(n: u32, unit: Option<usize>) -> usize
+    requires { IsTrue (is_unit unit) }
+    ensures { result ≡ lacking n unit }
+{
+    let Some(unit) = unit else {
+        return 0;
+    };
+    let over = n as usize % unit;
+    if over == 0 { 0 } else { unit - over }
+}
+
+/// Sections that are to be written.
+#[derive(Clone, Copy)]
+pub struct SectionWriter<'a> {
+    /// What their data are taken from.
+    pub source: &'a [u8],
+    pub sections: &'a [SectionTable],
+    /// What data and zeros are a multiple of. No zeros are written without one.
+    pub unit: Option<usize>,
+}
+
+impl<'a> SectionWriter<'a> {
+    /// Refuses as `WriteOverlap` where two unequal sections share a byte of the file, then as `WriteSection` where the data
+    /// of one are not in the source.
+    pub fn require_data(&self) -> Result<()>
+        ensures { Gives (λ u. u) result
+            (outcome ((clash_free self.now.sections.now, WriteOverlap) ∷ (all_in_source self.now.source.now self.now.sections.now, WriteSection) ∷ []) tt) }
+    {
+        if let Some((first, second)) = first_clash(self.sections) {
+            return Err(Error::Malformed(Reason::WriteOverlap(first, second)));
+        }
+        match first_outside(self.sections, self.source) {
+            None => Ok(()),
+            Some(index) => Err(Error::Malformed(Reason::WriteSection(index))),
+        }
+    }
+
+    /// The place behind the header of the section, which is written at the place. Refuses as `WriteFit` where the section's
+    /// pieces don't all fit.
+    #[tactic(auto, using(crate::proofs::WrittenSections::section_fit))]
+    fn require_section(&self, buffer: &[u8], place: usize, section: &SectionTable) -> Result<usize>
+        requires unit { IsTrue (is_unit self.now.unit) }
+        requires inside { IsTrue (holds self.now.source.now section.now.pointer_to_raw_data section.now.size_of_raw_data) }
+        ensures { Gives (λ end. end) result
+            (outcome ((all_fit (length buffer.now) (section_pieces self.now.source.now self.now.unit place section.now), WriteFit) ∷ []) (place + 40)) }
+    {
+        let start = section.pointer_to_raw_data as usize;
+        require_room(buffer, start, section.size_of_raw_data as usize)?;
+        require_room(buffer, place, SIZE_OF_SECTION_HEADER)?;
+        let zeros = lacking(section.size_of_raw_data, self.unit);
+        require_room(buffer, raw_end(section), zeros)?;
+        Ok(place + SIZE_OF_SECTION_HEADER)
+    }
+
+    /// The place behind the headers of the sections, which are written from the start on. Refuses as `WriteFit` where the
+    /// sections' pieces don't all fit.
+    pub fn require(&self, buffer: &[u8], start: usize) -> Result<usize>
+        requires unit { IsTrue (is_unit self.now.unit) }
+        requires inside { IsTrue (all_in_source self.now.source.now self.now.sections.now) }
+        ensures { Gives (λ end. end) result
+            (outcome ((all_fit (length buffer.now) (all_section_pieces self.now.source.now self.now.unit start self.now.sections.now), WriteFit) ∷ [])
+            (start + 40 * length self.now.sections.now)) }
+    {
+        let mut place = start;
+        for i in 0..self.sections.len() {
+            place = self.require_section(buffer, place, &self.sections[i])?;
+        }
+        Ok(place)
+    }
+
+    /// Writes a section that is known to fit, its header at the place.
+    #[tactic(auto, using(crate::proofs::WrittenSections::section_fit), unfolding(crate::specs::Pieces::section_pieces, crate::specs::WritingSteps::put_in_turn))]
+    fn set_section(&self, buffer: &mut [u8], place: usize, section: &SectionTable)
+        requires unit { IsTrue (is_unit self.now.unit) }
+        requires inside { IsTrue (holds self.now.source.now section.now.pointer_to_raw_data section.now.size_of_raw_data) }
+        requires fit { IsTrue (all_fit (length buffer.old) (section_pieces self.now.source.now self.now.unit place section.now)) }
+        ensures { buffer.new ≡ put_in_turn buffer.old (section_pieces self.now.source.now self.now.unit place section.now) }
+    {
+        let start = section.pointer_to_raw_data as usize;
+        let end = raw_end(section);
+        set_slice(buffer, start, &self.source[start..end]);
+        set_section(buffer, place, section);
+        set_zeros(buffer, end, lacking(section.size_of_raw_data, self.unit));
+    }
+
+    /// Writes the sections, which are known to fit, their headers from the start on.
+    pub fn set(&self, buffer: &mut [u8], start: usize)
+        requires unit { IsTrue (is_unit self.now.unit) }
+        requires inside { IsTrue (all_in_source self.now.source.now self.now.sections.now) }
+        requires fit { IsTrue (all_fit (length buffer.old) (all_section_pieces self.now.source.now self.now.unit start self.now.sections.now)) }
+        ensures { buffer.new ≡ put_in_turn buffer.old (all_section_pieces self.now.source.now self.now.unit start self.now.sections.now) }
+    {
+        let mut place = start;
+        for i in 0..self.sections.len() {
+            self.set_section(buffer, place, &self.sections[i]);
+            place += SIZE_OF_SECTION_HEADER;
+        }
+    }
+
+    /// The place behind the headers of the sections, which are written from the start on. Refusals in this order:
+    /// `WriteAlignment` for a unit of 0; `WriteOverlap` where two unequal sections share a byte of the file; `WriteSection`
+    /// where the data of one are not in the source; `WriteFit` where the pieces don't all fit.
+    pub fn require_all(&self, buffer: &[u8], start: usize) -> Result<usize>
+        ensures answer { Gives (λ end. end) result
+            (outcome ((is_unit self.now.unit, WriteAlignment)
+            ∷ section_tests self.now.source.now self.now.sections.now (length buffer.now) (all_section_pieces self.now.source.now self.now.unit start self.now.sections.now))
+            (start + 40 * length self.now.sections.now)) }
+        ensures unit { OnOk result (IsTrue (is_unit self.now.unit)) }
+        ensures inside { OnOk result (IsTrue (all_in_source self.now.source.now self.now.sections.now)) }
+        ensures fit { OnOk result (IsTrue (all_fit (length buffer.now) (all_section_pieces self.now.source.now self.now.unit start self.now.sections.now))) }
+    {
+        if let Some(0) = self.unit {
+            return Err(Error::Malformed(Reason::WriteAlignment(0)));
+        }
+        self.require_data()?;
+        self.require(buffer, start)
+    }
+
+    /// Writes the sections, their headers from the start on; answers the place behind the headers. Refuses as `require_all`
+    /// does, and then changes nothing.
+    #[tactic(auto, using(crate::proofs::Rows::refused_too))]
+    pub fn write(&self, buffer: &mut [u8], start: usize) -> Result<usize>
+        ensures { Writes result (sections_written self.now.source.now self.now.sections.now self.now.unit start buffer.old) buffer.old buffer.new }
+    {
+        match self.require_all(buffer, start) {
+            Err(error) => Err(error),
+            Ok(end) => {
+                self.set(buffer, start);
+                Ok(end)
+            }
+        }
+    }
+}
