@@ -83,8 +83,12 @@ fn say_unwritten<R: Eprint>(rt: &R, path: &str, target: Target, cause: Option<&i
         (Target::Output, None) => eprintln!(rt;
             "peinfo: the report of {path:?} can't be written to standard output: it takes nothing"
         ),
-        (Target::File(out), Some(error)) => eprintln!(rt; "peinfo: {out:?} can't be written: {error}"),
-        (Target::File(out), None) => eprintln!(rt; "peinfo: {out:?} can't be written: it takes nothing"),
+        (Target::File(out), Some(error)) => eprintln!(rt;
+            "peinfo: {out:?} can't be written: {error}"
+        ),
+        (Target::File(out), None) => eprintln!(rt;
+            "peinfo: {out:?} can't be written: it takes nothing"
+        ),
     };
 }
 
