@@ -6,9 +6,11 @@ mod frames;
 mod imports;
 mod symbols;
 mod versions;
+mod writing;
 
 pub use arm64::arm64_codes;
 pub use frames::frame_operations;
 pub use imports::import_names;
 pub use symbols::symbol_key;
 pub use versions::file_version;
+pub use writing::without_time_stamp;

@@ -7,14 +7,17 @@ use Rattle.pe_core.specs.declared.options.ParseMode.TheVariants.{Strict, Permiss
 use Rattle.peinfo.specs.declared.command.Command.{Command}
 use Rattle.peinfo.specs.declared.command.Command.TheVariants as commands
 
--- the image of a file is to be shown in a mode, or the function that covers an address of it
+-- the image of a file is to be shown in a mode, or the function that covers an address of it, or it is to be written anew
+-- to another file
 pub data Asked : Type 0 where
   ListOf : List ℕ → ParseMode → Asked
   FunctionAt : List ℕ → ℕ → Asked
+  RewriteTo : List ℕ → List ℕ → Asked
 
 abbrev pub asked_by : Command → Asked
 asked_by (commands.List file mode) = ListOf file.now mode
 asked_by (commands.At file rva) = FunctionAt file.now rva
+asked_by (commands.Rewrite file out) = RewriteTo file.now out.now
 
 -- nothing after the file, or `--permissive`
 abbrev pub mode_of : List (List ℕ) → Option ParseMode
@@ -48,10 +51,17 @@ rva_word [] = None
 rva_word (word ∷ []) = rva_of word
 rva_word (word ∷ more ∷ rest) = None
 
--- `list FILE`, `list FILE --permissive` or `at FILE HEXRVA`, and nothing else
+-- the word after the file, if it is the only one
+abbrev pub one_word : List (List ℕ) → Option (List ℕ)
+one_word [] = None
+one_word (word ∷ []) = Some word
+one_word (word ∷ more ∷ rest) = None
+
+-- `list FILE`, `list FILE --permissive`, `at FILE HEXRVA` or `rewrite FILE OUT`, and nothing else
 abbrev pub asked_of : List (List ℕ) → Option Asked
 asked_of [] = None
 asked_of (name ∷ []) = None
 asked_of (name ∷ file ∷ rest) =
     if bytes_eq name (codes "list") then option_map (λ mode. ListOf file mode) (mode_of rest)
-    else (if bytes_eq name (codes "at") then option_map (λ rva. FunctionAt file rva) (rva_word rest) else None)
+    else (if bytes_eq name (codes "at") then option_map (λ rva. FunctionAt file rva) (rva_word rest)
+    else (if bytes_eq name (codes "rewrite") then option_map (λ out. RewriteTo file out) (one_word rest) else None))

@@ -9,3 +9,4 @@ pub mod Report
 pub mod Command
 pub mod Reading
 pub mod Find
+pub mod Rewrite

@@ -13,9 +13,11 @@ pub enum Command<'a> {
     List { file: &'a str, mode: ParseMode },
     /// Shows the function that covers an address of the image in a file.
     At { file: &'a str, rva: u32 },
+    /// Writes the image in a file anew, to another file.
+    Rewrite { file: &'a str, out: &'a str },
 }
 
-ghost use Rattle.peinfo.specs.Command.{mode_of, asked_of, asked_by, digit_of, number_behind, rva_of, rva_word};
+ghost use Rattle.peinfo.specs.Command.{mode_of, asked_of, asked_by, digit_of, number_behind, rva_of, rva_word, one_word};
 
 /// The mode that the words after the file ask for.
 #[tactic(auto, using(crate::proofs::Words::shapes))]
@@ -78,6 +80,17 @@ fn rva_of_words(words: &[String]) -> Option<u32>
     }
 }
 
+/// The word after the file, if it is the only one.
+#[tactic(auto, using(crate::proofs::Words::shapes))]
+fn one_word<'a>(words: &'a [String]) -> Option<&'a str>
+    ensures { option_map (λ word. word.now) result ≡ one_word (map string_bytes words.now) }
+{
+    match words {
+        [word] => Some(word.as_str()),
+        _ => None,
+    }
+}
+
 /// The command of the words after the program's name. None where they are misused.
 #[tactic(auto, using(crate::proofs::Words::shapes))]
 pub fn command_of<'a>(words: &'a [String]) -> Option<Command<'a>>
@@ -91,6 +104,10 @@ pub fn command_of<'a>(words: &'a [String]) -> Option<Command<'a>>
         [name, file, rest @ ..] if name.as_str() == "at" => {
             let rva = rva_of_words(rest)?;
             Some(Command::At { file, rva })
+        }
+        [name, file, rest @ ..] if name.as_str() == "rewrite" => {
+            let out = one_word(rest)?;
+            Some(Command::Rewrite { file, out })
         }
         _ => None,
     }

@@ -13,6 +13,7 @@ mod functions;
 mod input;
 mod outcome;
 mod report;
+mod rewrite;
 
 ghost use Rattle.std.specs.Prelude.{◌≡◌, ◌↔◌, ◌≤◌, ◌≢◌, map, IsNone, IfErr};
 ghost use Rattle.std.specs.String.{string_bytes};
@@ -28,6 +29,7 @@ use input::read_all;
 use outcome::Outcome;
 use pe_image::{Error, PE, ParseMode, ParseOptions};
 use report::report;
+use rewrite::rewrite;
 use std::alloc::Allocator;
 use std::process::ExitCode;
 use std::rt::Files;
@@ -65,14 +67,27 @@ fn say_refused<R: Eprint>(rt: &R, path: &str, refusal: &Error, advice: &str) {
     };
 }
 
+/// Where the text of an engine goes.
+#[derive(Clone, Copy)]
+enum Target<'a> {
+    Output,
+    File(&'a str),
+}
+
 /// Says why a text was not written whole.
-fn say_unwritten<R: Eprint>(rt: &R, path: &str, cause: Option<&io::Error>) {
-    let _ = match cause {
-        Some(error) => eprintln!(rt;
+fn say_unwritten<R: Eprint>(rt: &R, path: &str, target: Target, cause: Option<&io::Error>) {
+    let _ = match (target, cause) {
+        (Target::Output, Some(error)) => eprintln!(rt;
             "peinfo: the report of {path:?} can't be written to standard output: {error}"
         ),
-        None => eprintln!(rt;
+        (Target::Output, None) => eprintln!(rt;
             "peinfo: the report of {path:?} can't be written to standard output: it takes nothing"
+        ),
+        (Target::File(out), Some(error)) => eprintln!(rt;
+            "peinfo: {out:?} can't be written: {error}"
+        ),
+        (Target::File(out), None) => eprintln!(rt;
+            "peinfo: {out:?} can't be written: it takes nothing"
         ),
     };
 }
@@ -81,6 +96,7 @@ fn say_unwritten<R: Eprint>(rt: &R, path: &str, cause: Option<&io::Error>) {
 fn outcome_of<R: Eprint, W: io::Write>(
     rt: &R,
     path: &str,
+    target: Target,
     answer: Result<(), ReportError>,
     out: &CountedOut<W>,
     advice: &str,
@@ -94,7 +110,7 @@ fn outcome_of<R: Eprint, W: io::Write>(
             Outcome::Refused
         }
         Err(ReportError::Write) => {
-            say_unwritten(rt, path, out.cause());
+            say_unwritten(rt, path, target, out.cause());
             Outcome::Fault
         }
     }
@@ -129,7 +145,7 @@ fn list<R: Files + Print + Eprint + AllocGlobal>(rt: &R, path: &str, mode: Parse
         Ok(()) | Err(ReportError::Write | ReportError::Parse(Error::Memory(_))) => "",
         Err(ReportError::Parse(_)) => advice_on(rt.alloc(), &bytes, mode),
     };
-    outcome_of(rt, path, answer, &out, advice)
+    outcome_of(rt, path, Target::Output, answer, &out, advice)
 }
 
 /// Shows the function that covers an address of the image in a file.
@@ -142,7 +158,28 @@ fn at<R: Files + Print + Eprint + AllocGlobal>(rt: &R, path: &str, rva: u32) -> 
     };
     let mut out = CountedOut::new(io::writer(rt));
     let answer = find(rt.alloc(), &bytes, rva, &mut out);
-    outcome_of(rt, path, answer, &out, "")
+    outcome_of(rt, path, Target::Output, answer, &out, "")
+}
+
+/// Writes the image in a file anew, to a file that must not exist. It is made once the image's file is read, and stays
+/// empty where the image is refused.
+fn rewrite_to<R: Files + Eprint + AllocGlobal>(rt: &R, path: &str, target: &str) -> Outcome
+    ensures { result ≢ Misused }
+{
+    let bytes = match bytes_of(rt, path) {
+        Ok(bytes) => bytes,
+        Err(outcome) => return outcome,
+    };
+    let file = match fs::File::create_new(rt, target) {
+        Ok(file) => file,
+        Err(error) => {
+            let _ = eprintln!(rt; "peinfo: {target:?} can't be made: {error}");
+            return Outcome::Fault;
+        }
+    };
+    let mut out = CountedOut::new(file);
+    let answer = rewrite(rt.alloc(), &bytes, &mut out);
+    outcome_of(rt, path, Target::File(target), answer, &out, "")
 }
 
 fn misused<R: Eprint>(rt: &R) -> Outcome
@@ -159,6 +196,7 @@ fn outcome_of_words<R: Files + Print + Eprint + AllocGlobal>(rt: &R, words: &[St
     match command_of(words) {
         Some(Command::List { file, mode }) => list(rt, file, mode),
         Some(Command::At { file, rva }) => at(rt, file, rva),
+        Some(Command::Rewrite { file, out }) => rewrite_to(rt, file, out),
         None => misused(rt),
     }
 }

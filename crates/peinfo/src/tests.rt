@@ -1,5 +1,6 @@
 mod fake;
 mod readers;
+mod rewrites;
 mod runs;
 mod writers;
 

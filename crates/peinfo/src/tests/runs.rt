@@ -172,7 +172,8 @@ fn judges_words_first(rt: HostRuntime) -> Result<(), Fail> {
         &["at", IMAGE, "102g"],
         &["at", IMAGE, "000001025"],
         &["at", IMAGE, "1025", "--chain"],
-        &["rewrite", IMAGE, "copy"],
+        &["rewrite", IMAGE],
+        &["rewrite", IMAGE, "copy", "--permissive"],
     ] {
         let asked = words(alloc, texts)?;
         let system = FakeSystem::new(alloc, &[], false);
@@ -204,6 +205,24 @@ fn names_faults(rt: HostRuntime) -> Result<(), Fail> {
             assert!(rt; holds(&system.printed, b""));
             assert!(rt; is_line(&system.complaints, begin), "{path}");
         }
+    }
+    Ok(())
+}
+
+/// The image is read before its copy is made, which this system does not do.
+#[test]
+fn names_faults_of_rewriting(rt: HostRuntime) -> Result<(), Fail> {
+    let alloc = rt.alloc();
+    let image = with_debug(alloc)?;
+    for (path, begin) in [
+        ("missing", "peinfo: \"missing\" can't be opened: "),
+        (IMAGE, "peinfo: \"copy\" can't be made: "),
+    ] {
+        let asked = words(alloc, &["rewrite", path, "copy"])?;
+        let system = FakeSystem::new(alloc, &image, false);
+        assert_eq!(rt; run(&system, &asked), 3, "{path}");
+        assert!(rt; holds(&system.printed, b""));
+        assert!(rt; is_line(&system.complaints, begin), "{path}");
     }
     Ok(())
 }
