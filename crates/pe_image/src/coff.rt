@@ -11,7 +11,9 @@ const SIZE_OF_COFF_HEADER: usize = 20;
 /// A COFF object, as a compiler makes it.
 #[derive(Debug, Drop)]
 pub struct Coff<'a, A: Allocator + Copy + Drop = Global> {
+    /// The header that the object begins with.
     pub header: CoffHeader,
+    /// The section headers.
     pub sections: Vec<SectionTable, A>,
     /// The symbols. `None` where the header gives them no place.
     pub symbols: Option<SymbolTable<'a>>,

@@ -14,7 +14,6 @@ ghost use Rattle.pe_image.specs.Core.{CoreView, core_of};
 ghost use Rattle.pe_image.specs.Layout.{alignment};
 ghost use Rattle.pe_image.specs.Fields.{Field, value_of};
 ghost use Rattle.pe_image.specs.Image.{ImageView, core_part, AreResourcesOf, IsImage, certificates_of, debug_of, exceptions_of, relocations_of};
-
 ghost use Rattle.pe_image.specs.Overlay.{Piece, all_fit, overlay};
 ghost use Rattle.pe_image.specs.Writing.{certificate_directory, certificates_written};
 ghost use Rattle.pe_image.specs.WritingSteps.{put_in_turn};
@@ -28,8 +27,8 @@ pub fn permissive_images_are_refused_as_their_core()
         IsImage b o r → (r ≡ Err e) ↔ (core_of b o ≡ Err e) }
 {}
 
-/// Where an image is given, each field of it is what its own definition gives, and empty where that is absent or refused, whatever the other
-/// fields are.
+/// Where an image is given, each field of it is what its own definition gives, and empty where that is absent or refused,
+/// whatever the other fields are.
 #[tactic(auto, using(crate::proofs::Permissive::core_of_image, crate::proofs::Permissive::debug_alone, crate::proofs::Permissive::exceptions_alone, crate::proofs::Permissive::relocations_alone, crate::proofs::Permissive::certificates_alone, crate::proofs::Permissive::resources_alone))]
 pub fn permissive_fields_are_their_own()
     ensures core { (b : List ℕ) (o : ParseOptions) (c : CoreView) (x : ImageView) → core_of b o ≡ Ok c → IsImage b o (Ok x) →

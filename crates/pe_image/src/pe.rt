@@ -28,7 +28,9 @@ use std::alloc::{Allocator, Global};
 pub struct PE<'a, A: Allocator + Copy + Drop = Global> {
     /// What it was read from.
     pub(crate) bytes: &'a [u8],
+    /// All headers in front of the sections.
     pub header: Header<'a>,
+    /// The section headers, in the order of the section table.
     pub sections: Vec<SectionTable, A>,
     /// Always 0.
     pub size: usize,
@@ -58,6 +60,7 @@ pub struct PE<'a, A: Allocator + Copy + Drop = Global> {
     /// The exception data of x64 (`parse_with_opts` of `ExceptionData`) or ARM64 (`parse_arm64_with_opts`), by the machine of
     /// the header. `None` for another machine.
     pub exception_data: Option<ExceptionData<'a>>,
+    /// The base relocations.
     pub relocation_data: Option<RelocationData<'a>>,
     /// The attribute certificates, unless the options pass them over.
     pub certificates: CertificateDirectoryTable<'a, A>,
