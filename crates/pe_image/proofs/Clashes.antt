@@ -1,4 +1,4 @@
--- Sections that rise in the file don't clash.
+-- Sections that rise or fall in the file don't clash.
 use Rattle.std.proofs.Common.{◌≡◌, ◌&&◌, Bool, true, false, List, [], ◌∷◌, refl, ap, sym, ◌∙◌, arith, ◌+◌, ◌<◌, length, get_or, drop, ℕ, ◌-◌, take, subst, length-drop}
 use Rattle.std.proofs.lemmas.List.{take_all}
 use Rattle.std.specs.Prelude.{◌||◌, ◌==◌, not, min, max, nat_le, nat_lt}
@@ -9,7 +9,7 @@ use Rattle.pe_core.proofs.FieldEquality.{sections_equal}
 use Rattle.pe_core.specs.Sections.{raw_end}
 use Rattle.pe_core.specs.declared.section_table.SectionTable.{SectionTable}
 use Rattle.pe_image.specs.Writing.{clash, clash_free, same_section}
-use Rattle.pe_image.specs.WritingSteps.{is_next, rises}
+use Rattle.pe_image.specs.WritingSteps.{falls, is_next, rises}
 use Rattle.pe_image.proofs.Rows.{and_assoc, and_left, and_right, rest_at}
 
 -- a section is equal to another, or ends in front of it
@@ -92,6 +92,50 @@ rising_is_free (s ∷ behind) h =
     both (list_all (λ t. not (clash s t)) behind) (clash_free behind)
     (all_so (in_front s) (λ t. not (clash s t)) (λ t e. free s t e) behind (in_front_of_all s behind h))
     (rising_is_free behind (and_right _ _ h))
+
+-- ---- the same of sections that fall
+
+-- a section is equal to another, or begins behind it
+abbrev in_back : SectionTable → SectionTable → Bool
+in_back s t = same_section s t || nat_le (raw_end t) s.pointer_to_raw_data
+
+begins_behind : (s t : SectionTable) → nat_le (raw_end t) s.pointer_to_raw_data ≡ true → nat_lt (max s.pointer_to_raw_data t.pointer_to_raw_data) (min (raw_end s) (raw_end t)) ≡ false
+begins_behind s t h = grind (arith, nat_tests)
+
+goes_down : (s t u : SectionTable) → nat_le (raw_end t) s.pointer_to_raw_data ≡ true → nat_le (raw_end u) t.pointer_to_raw_data ≡ true → nat_le (raw_end u) s.pointer_to_raw_data ≡ true
+goes_down s t u h k = grind (arith, nat_tests)
+
+free_behind : (s t : SectionTable) → in_back s t ≡ true → not (clash s t) ≡ true
+free_behind s t h =
+    let shared : Bool = nat_lt (max s.pointer_to_raw_data t.pointer_to_raw_data) (min (raw_end s) (raw_end t)) in
+    by_cases (same_section s t)
+    (λ e. ap not (not_both shared (same_section s t) e))
+    (λ e. ap not (not_shared shared (same_section s t) (begins_behind s t (sym (or_false _ (nat_le (raw_end t) s.pointer_to_raw_data) e) ∙ h))))
+
+further_behind : (s t u : SectionTable) → in_back s t ≡ true → in_back t u ≡ true → in_back s u ≡ true
+further_behind s t u h k =
+    by_cases (same_section s t)
+    (λ e. let one : s ≡ t = same s t e in rw one k)
+    (λ e. let before : nat_le (raw_end t) s.pointer_to_raw_data ≡ true = sym (or_false _ (nat_le (raw_end t) s.pointer_to_raw_data) e) ∙ h in
+    by_cases (same_section t u)
+    (λ f. let one : t ≡ u = same t u f in rw (← one) h)
+    (λ f. or_right (same_section s u) _ (goes_down s t u before (sym (or_false _ (nat_le (raw_end u) t.pointer_to_raw_data) f) ∙ k))))
+
+in_back_of_all : (s : SectionTable) (behind : List SectionTable) → falls (s ∷ behind) ≡ true → list_all (in_back s) behind ≡ true
+in_back_of_all s [] h = refl
+in_back_of_all s (t ∷ behind) h =
+    let here : in_back s t ≡ true = and_left _ _ h in
+    both (in_back s t) (list_all (in_back s) behind) here
+    (all_so (in_back t) (in_back s) (λ u e. further_behind s t u here e) behind (in_back_of_all t behind (and_right _ _ h)))
+
+pub falling_is_free : (sections : List SectionTable) → falls sections ≡ true → clash_free sections ≡ true
+falling_is_free [] h = refl
+falling_is_free (s ∷ behind) h =
+    both (list_all (λ t. not (clash s t)) behind) (clash_free behind)
+    (all_so (in_back s) (λ t. not (clash s t)) (λ t e. free_behind s t e) behind (in_back_of_all s behind h))
+    (falling_is_free behind (and_right _ _ h))
+
+-- ---- sections that are equal to the next one
 
 -- a section that is equal to the next one changes nothing
 twice : (a c : Bool) → (a && (a && c)) ≡ (a && c)

@@ -20,6 +20,15 @@ abbrev pub rises : List SectionTable → Bool
 rises [] = true
 rises (s ∷ behind) = rises_to s behind && rises behind
 
+-- each section is equal to the one behind it, or begins where that ends, or behind it
+abbrev pub falls_to : SectionTable → List SectionTable → Bool
+falls_to s [] = true
+falls_to s (t ∷ behind) = same_section s t || nat_le (raw_end t) s.pointer_to_raw_data
+
+abbrev pub falls : List SectionTable → Bool
+falls [] = true
+falls (s ∷ behind) = falls_to s behind && falls behind
+
 -- the section is equal to the next one
 abbrev pub is_next : SectionTable → List SectionTable → Bool
 is_next s [] = false

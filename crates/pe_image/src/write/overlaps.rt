@@ -5,7 +5,7 @@ ghost use Rattle.std.specs.Prelude.{◌≡◌, ◌<◌, ◌^◌, length, IfSome,
 ghost use Rattle.std.specs.List.{list_all};
 ghost use Rattle.pe_core.specs.Sections.{raw_end};
 ghost use Rattle.pe_image.specs.Writing.{all_in_source, clash, clash_free, last_in_file, last_raw_end, later, same_section};
-ghost use Rattle.pe_image.specs.WritingSteps.{is_next, rises, rises_to};
+ghost use Rattle.pe_image.specs.WritingSteps.{falls, falls_to, is_next, rises, rises_to};
 
 use pe_core::SectionTable;
 
@@ -41,6 +41,28 @@ fn rises(sections: &[SectionTable]) -> bool
 {
     for i in 0..sections.len() {
         if !rises_to(&sections[i], &sections[i + 1..]) {
+            return false;
+        }
+    }
+    true
+}
+
+/// Whether the section is equal to the one behind it, or begins where that ends, or behind it.
+fn falls_to(section: &SectionTable, behind: &[SectionTable]) -> bool
+    ensures { result ≡ falls_to section.now behind.now }
+{
+    match behind {
+        [] => true,
+        [next, ..] => *section == *next || raw_end(next) <= section.pointer_to_raw_data as usize,
+    }
+}
+
+/// Whether each section is equal to the one behind it, or begins where that ends, or behind it.
+fn falls(sections: &[SectionTable]) -> bool
+    ensures { result ≡ falls sections.now }
+{
+    for i in 0..sections.len() {
+        if !falls_to(&sections[i], &sections[i + 1..]) {
             return false;
         }
     }
@@ -87,13 +109,13 @@ fn first_clashing_pair(sections: &[SectionTable]) -> Option<(usize, usize)>
     None
 }
 
-/// The first two sections that share a byte of the file and are unequal. One pass tells that there are none where sections
-/// rise in the file; pairs are compared only where they do not.
-#[tactic(auto, using(crate::proofs::Clashes::rising_is_free))]
+/// The first two sections that share a byte of the file and are unequal. A pass tells that there are none where sections
+/// rise in the file, and another where they fall; pairs are compared only where they do neither.
+#[tactic(auto, using(crate::proofs::Clashes::rising_is_free, crate::proofs::Clashes::falling_is_free))]
 pub fn first_clash(sections: &[SectionTable]) -> Option<(usize, usize)>
     ensures { is_none result ≡ clash_free sections.now }
 {
-    if rises(sections) {
+    if rises(sections) || falls(sections) {
         None
     } else {
         first_clashing_pair(sections)
