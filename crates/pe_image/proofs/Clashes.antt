@@ -1,12 +1,12 @@
 -- Sections that rise or fall in the file don't clash.
-use Rattle.std.proofs.Common.{◌≡◌, ◌&&◌, Bool, true, false, List, [], ◌∷◌, refl, ap, sym, ◌∙◌, arith, ◌+◌, ◌<◌, length, get_or, drop, ℕ, ◌-◌, take, subst, length-drop}
+use Rattle.std.proofs.Common.{◌≡◌, ◌≢◌, ◌&&◌, Bool, true, false, List, [], ◌∷◌, refl, ap, sym, ◌∙◌, arith, ◌+◌, ◌<◌, length, get_or, drop, ℕ, ◌-◌, take, subst, length-drop}
 use Rattle.std.proofs.lemmas.List.{take_all}
 use Rattle.std.specs.Prelude.{◌||◌, ◌==◌, not, min, max, nat_le, nat_lt}
 use Rattle.std.specs.List.{list_all}
 use Rattle.std.specs.Str.{bytes_eq}
 use Rattle.std.proofs.lemmas.Bool.Decides.{nat_tests}
 use Rattle.pe_core.proofs.FieldEquality.{sections_equal}
-use Rattle.pe_core.specs.Sections.{raw_end}
+use Rattle.pe_core.specs.Sections.{raw_end, SharesRawByte}
 use Rattle.pe_core.specs.declared.section_table.SectionTable.{SectionTable}
 use Rattle.pe_image.specs.Writing.{clash, clash_free, same_section}
 use Rattle.pe_image.specs.WritingSteps.{falls, is_next, rises}
@@ -158,3 +158,29 @@ next_passed_over sections i d h e n =
     let l : length (drop (i + 1) sections) ≡ length sections - (i + 1) = length-drop (i + 1) sections in
     let all : take (length sections - (i + 1)) (drop (i + 1) sections) ≡ drop (i + 1) sections = take_all (length sections - (i + 1)) (drop (i + 1) sections) (omega arith) in
     passed_over (get_or sections i d) (drop (i + 1) sections) (ap (is_next (get_or sections i d)) (sym all) ∙ n) ∙ (ap clash_free (sym (rest_at sections i d h)) ∙ e)
+
+-- ---- what a clash is
+
+-- unequal sections clash exactly where some byte of the file belongs to both
+pub clash_shares : (s t : SectionTable) → clash s t ≡ true → SharesRawByte s t
+clash_shares s t h =
+    let shared : nat_lt (max s.pointer_to_raw_data t.pointer_to_raw_data) (min (raw_end s) (raw_end t)) ≡ true = and_left _ _ h in
+    (max s.pointer_to_raw_data t.pointer_to_raw_data, ((grind (arith, nat_tests), grind (arith, nat_tests)), (grind (arith, nat_tests), grind (arith, nat_tests))))
+
+not_true : (b : Bool) → not b ≡ true → b ≡ false
+not_true true h = absurd cc
+not_true false h = refl
+
+never_both : (b : Bool) → b ≡ true → b ≡ false → ⊥
+never_both true h k = absurd cc
+never_both false h k = absurd cc
+
+pub clash_unequal : (s t : SectionTable) → clash s t ≡ true → s ≢ t
+clash_unequal s t h e =
+    let unequal : same_section s t ≡ false = not_true (same_section s t) (and_right _ _ h) in
+    never_both (same_section s t) (rw e (same_itself t)) unequal
+
+pub shares_clash : (s t : SectionTable) → SharesRawByte s t → s ≢ t → clash s t ≡ true
+shares_clash s t (q, ((a, b), (c, d))) unequal =
+    let shared : nat_lt (max s.pointer_to_raw_data t.pointer_to_raw_data) (min (raw_end s) (raw_end t)) ≡ true = grind (arith, nat_tests) in
+    both _ _ shared (by_cases (same_section s t) (λ e. absurd (unequal (same s t e))) (λ e. ap not e))

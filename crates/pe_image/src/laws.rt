@@ -1,9 +1,11 @@
 //! Laws over the definitions. Each is the contract of a function that does nothing.
 
-ghost use Rattle.std.specs.Prelude.{◌≡◌, ◌↔◌, ◌+◌, ◌%◌, ◌≤◌, ℕ, List, [], Ok, Err, Option, Result, Some, length, true, unwrap_or};
+ghost use Rattle.std.specs.Prelude.{◌≡◌, ◌≢◌, ◌↔◌, ◌+◌, ◌%◌, ◌≤◌, ℕ, List, [], Ok, Err, Option, Result, Some, length, true, unwrap_or};
 ghost use Rattle.pe_core.specs.Bytes.{AreBytes};
 ghost use Rattle.pe_core.specs.Header.{OptionalHeaderView};
 ghost use Rattle.pe_core.specs.Refusals.{Refusal};
+ghost use Rattle.pe_core.specs.Sections.{SharesRawByte};
+ghost use Rattle.pe_core.specs.declared.section_table.SectionTable.{SectionTable};
 ghost use Rattle.pe_core.specs.declared.data_directories.DataDirectory.{DataDirectory};
 ghost use Rattle.pe_core.specs.declared.options.ParseMode.{ParseMode};
 ghost use Rattle.pe_core.specs.declared.options.ParseOptions.{ParseOptions};
@@ -15,7 +17,7 @@ ghost use Rattle.pe_image.specs.Layout.{alignment};
 ghost use Rattle.pe_image.specs.Fields.{Field, value_of};
 ghost use Rattle.pe_image.specs.Image.{ImageView, core_part, AreResourcesOf, IsImage, certificates_of, debug_of, exceptions_of, relocations_of};
 ghost use Rattle.pe_image.specs.Overlay.{Piece, all_fit, overlay};
-ghost use Rattle.pe_image.specs.Writing.{certificate_directory, certificates_written};
+ghost use Rattle.pe_image.specs.Writing.{certificate_directory, certificates_written, clash};
 ghost use Rattle.pe_image.specs.WritingSteps.{put_in_turn};
 
 use crate::fields::{COFF_MACHINE_ARM64, COFF_MACHINE_X86_64};
@@ -84,6 +86,14 @@ pub fn exception_data_are_of_the_bytes()
 #[tactic(auto, using(crate::proofs::Overlays::overlay_in_turn))]
 pub fn pieces_in_turn_are_their_overlay()
     ensures { (b : List ℕ) (pieces : List Piece) → all_fit (length b) pieces ≡ true → put_in_turn b pieces ≡ overlay b pieces }
+{}
+
+/// Two sections clash exactly where they are unequal and some byte of the file belongs to both.
+#[tactic(auto, using(crate::proofs::Clashes::clash_shares, crate::proofs::Clashes::clash_unequal, crate::proofs::Clashes::shares_clash))]
+pub fn clashing_sections_share_a_byte()
+    ensures shared { (s t : SectionTable) → clash s t ≡ true → SharesRawByte s t }
+    ensures unequal { (s t : SectionTable) → clash s t ≡ true → s ≢ t }
+    ensures clash { (s t : SectionTable) → SharesRawByte s t → s ≢ t → clash s t ≡ true }
 {}
 
 /// Certificates that are the listing of their table, unchanged, and whose directory's address is a multiple of eight, are
