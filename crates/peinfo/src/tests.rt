@@ -8,6 +8,7 @@ use crate::counted_out::CountedOut;
 use crate::engine::ReportError;
 use crate::find::find;
 use crate::report::report;
+use crate::rewrite::rewrite;
 use linked_list_allocator::LocalHeap;
 use pe_image::{Error, ParseMode, ParseOptions, Reason};
 use pe_images::{
@@ -250,6 +251,7 @@ fn arm64_functions_of_images(rt: HostRuntime) -> Result<(), Fail> {
 enum Asked {
     Listing(ParseMode),
     FunctionAt(u32),
+    Rewriting,
 }
 
 fn answer<A: Allocator>(
@@ -264,6 +266,7 @@ fn answer<A: Allocator>(
             report(alloc, bytes, &opts, out)
         }
         Asked::FunctionAt(rva) => find(alloc, bytes, rva, out),
+        Asked::Rewriting => rewrite(alloc, bytes, out),
     }
 }
 
@@ -272,7 +275,7 @@ fn answer<A: Allocator>(
 fn refusals_of_memory(alloc: Global, bytes: &[u8], asked: Asked, want: &[u8]) -> Result<u32, Fail> {
     let mut refusals = 0u32;
     let mut is_done = false;
-    for size in 0..64 {
+    for size in 0..256 {
         let heap = LocalHeap::new(alloc, 8 * size)?;
         let mut out = CountedOut::new(Vec::new(alloc));
         let given = answer(&heap, bytes, asked, &mut out);
@@ -292,6 +295,15 @@ fn refusals_of_memory(alloc: Global, bytes: &[u8], asked: Asked, want: &[u8]) ->
     } else {
         Err(Fail::new("no heap was large enough"))
     }
+}
+
+/// It asks for sections, certificates and the copy.
+#[test]
+fn each_request_of_rewriting_refused(rt: HostRuntime) -> Result<(), Fail> {
+    let bytes = with_functions(rt.alloc())?;
+    let refusals = refusals_of_memory(rt.alloc(), &bytes, Asked::Rewriting, &bytes)?;
+    assert!(rt; refusals >= 3, "{refusals}");
+    Ok(())
 }
 
 /// A listing asks for sections, certificates and its text, and a search for the same.

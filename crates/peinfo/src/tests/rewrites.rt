@@ -3,7 +3,6 @@
 use crate::counted_out::CountedOut;
 use crate::engine::ReportError;
 use crate::rewrite::rewrite;
-use linked_list_allocator::LocalHeap;
 use pe_image::{Error, Reason};
 use pe_images::{put, with_functions};
 use std::alloc::Global;
@@ -45,17 +44,5 @@ fn refuses_symbols(rt: HostRuntime) -> Result<(), Fail> {
     assert!(rt;
         matches!(answer, Err(ReportError::Parse(Error::Malformed(reason))) if reason == symbols)
     );
-    Ok(())
-}
-
-/// Memory for the sections alone.
-#[test]
-fn tells_want_of_memory(rt: HostRuntime) -> Result<(), Fail> {
-    let image = with_functions(rt.alloc())?;
-    let heap = LocalHeap::new(rt.alloc(), 600)?;
-    let mut out = CountedOut::new(Vec::new(rt.alloc()));
-    let answer = rewrite(&heap, &image, &mut out);
-    assert!(rt; matches!(answer, Err(ReportError::Parse(Error::Memory(_)))));
-    assert_eq!(rt; out.into_inner().len(), 0);
     Ok(())
 }

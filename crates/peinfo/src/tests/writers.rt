@@ -3,6 +3,7 @@
 use crate::counted_out::CountedOut;
 use crate::engine::ReportError;
 use crate::report::report;
+use crate::rewrite::rewrite;
 use pe_image::ParseOptions;
 use pe_images::with_debug;
 use std::io;
@@ -73,6 +74,35 @@ fn reports_to_slow_writers(rt: HostRuntime) -> Result<(), Fail> {
         assert_eq!(rt; kind, wanted);
         let slow = out.into_inner();
         assert_eq!(rt; slow.written.as_slice(), want);
+        assert_eq!(rt; slow.writes, writes);
+    }
+    Ok(())
+}
+
+/// A beginning of the image, or all of it, and no write is tried again.
+#[test]
+fn rewrites_to_slow_writers(rt: HostRuntime) -> Result<(), Fail> {
+    let bytes = with_debug(rt.alloc())?;
+    for (way, count, writes, failures) in [
+        (Way::Fails, 20, 3, 1),
+        (Way::TakesNothing, 20, 3, 1),
+        (Way::TakesOne, 0x410, 0x3FE, 0),
+    ] {
+        let written = Vec::new(rt.alloc());
+        let mut out = CountedOut::new(Slow {
+            written,
+            writes: 0,
+            way,
+        });
+        match rewrite(rt.alloc(), &bytes, &mut out) {
+            Ok(()) => assert!(rt; way == Way::TakesOne),
+            Err(refusal) => {
+                assert!(rt; way != Way::TakesOne && matches!(refusal, ReportError::Write));
+            }
+        }
+        assert_eq!(rt; out.failures(), failures);
+        let slow = out.into_inner();
+        assert!(rt; bytes.get(..count) == Some(slow.written.as_slice()));
         assert_eq!(rt; slow.writes, writes);
     }
     Ok(())
