@@ -14,3 +14,4 @@ pub mod WrittenSections
 pub mod WrittenHeaders
 pub mod WrittenImages
 pub mod ListedAgain
+pub mod RewrittenBytes

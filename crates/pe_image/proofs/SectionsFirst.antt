@@ -16,7 +16,7 @@ use Rattle.pe_image.specs.Layout.{directory, is_64}
 use Rattle.pe_image.specs.declared.pe.PE.{PE}
 
 -- what all values of two steps have in common
-of_two : {X Y Z W : Type 0} (a : Result X Refusal) (f : X → Result Y Refusal) (make : X → Y → Z) (part : Z → W) (w : W) (z : Z) → ((x : X) (y : Y) → part (make x y) ≡ w) → (a >>= λ x. f x >>= λ y. Ok (make x y)) ≡ Ok z → part z ≡ w
+pub of_two : {X Y Z W : Type 0} (a : Result X Refusal) (f : X → Result Y Refusal) (make : X → Y → Z) (part : Z → W) (w : W) (z : Z) → ((x : X) (y : Y) → part (make x y) ≡ w) → (a >>= λ x. f x >>= λ y. Ok (make x y)) ≡ Ok z → part z ≡ w
 of_two (Err e) f make part w z same h = absurd cc
 of_two (Ok x) f make part w z same h = of_one (f x) (make x) part w z (same x) h
   where
@@ -42,7 +42,7 @@ then_header : (b : List ℕ) (o : ParseOptions) (r : Result HeaderView Refusal) 
 then_header b o (Ok header) c h = then_sections b o header (sections_of b header) c h
 then_header b o (Err e) c h = absurd cc
 
-sections_of_core : (b : List ℕ) (o : ParseOptions) (c : CoreView) → core_of b o ≡ Ok c → sections_read b o ≡ Ok c.sections
+pub sections_of_core : (b : List ℕ) (o : ParseOptions) (c : CoreView) → core_of b o ≡ Ok c → sections_read b o ≡ Ok c.sections
 unfolding core_of
 sections_of_core b o c h = then_header b o (header_at b o.parse_mode) c h
 
@@ -58,7 +58,7 @@ kept_core : (t : Result (Unit {0}) Refusal) (c d : CoreView) → (t >>= λ u. Ok
 kept_core (Ok u) c d h = cc
 kept_core (Err e) c d h = absurd cc
 
-core_before : (b : List ℕ) (o : ParseOptions) (r : Result CoreView Refusal) (d : CoreView) → (r >>= λ c. first_four_demanded b o c >>= λ u. Ok c) ≡ Ok d → r ≡ Ok d
+pub core_before : (b : List ℕ) (o : ParseOptions) (r : Result CoreView Refusal) (d : CoreView) → (r >>= λ c. first_four_demanded b o c >>= λ u. Ok c) ≡ Ok d → r ≡ Ok d
 core_before b o (Ok c) d h = ap (λ c. Ok c) (kept_core (first_four_demanded b o c) c d h)
 core_before b o (Err e) d h = absurd cc
 

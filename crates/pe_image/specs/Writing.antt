@@ -1,6 +1,6 @@
 -- What the three writers of an image give: the tests in their order, the answer, and the bytes that are left.
 -- (This project's profile.)
-use Rattle.std.specs.Prelude.{◌≡◌, ℕ, ◌+◌, ◌*◌, ◌==◌, ◌&&◌, not, min, max, Bool, true, List, [], ◌∷◌, ◌++◌, length, nat_lt, Option, Some, None, Result, Ok, Err, if◌then◌else◌}
+use Rattle.std.specs.Prelude.{◌≡◌, ℕ, ◌+◌, ◌*◌, ◌%◌, ◌<◌, ◌==◌, ◌&&◌, not, min, max, Bool, true, List, [], ◌∷◌, ◌++◌, length, nat_lt, Option, Some, None, Result, Ok, Err, if◌then◌else◌}
 use Rattle.std.specs.Int.{is_power_of_two}
 use Rattle.std.specs.List.{list_all}
 use Rattle.std.specs.Str.{bytes_eq}
@@ -14,6 +14,7 @@ use Rattle.pe_core.specs.declared.error.Error.{Error}
 use Rattle.pe_core.specs.declared.section_table.SectionTable.{SectionTable}
 use Rattle.pe_records.specs.Certificates.{CertificateView}
 use Rattle.pe_image.specs.Image.{ImageView}
+use Rattle.pe_image.specs.Layout.{directory}
 use Rattle.pe_image.specs.Overlay.{Piece, all_fit, overlay}
 use Rattle.pe_image.specs.Pieces.{all_certificate_pieces, all_section_pieces, certificates_end, header_pieces}
 
@@ -86,6 +87,10 @@ certificates_by (Some o) cs old = certificates_over (certificate_directory o) cs
 -- the certificates of an image over the old bytes
 abbrev pub certificates_written : ImageView → List ℕ → Result (ℕ × List ℕ) Refusal
 certificates_written x old = certificates_by x.header.optional_header x.certificates old
+
+-- the address of the certificate directory is a multiple of eight, where there are certificates
+abbrev pub AreAligned : ImageView → Type 0
+AreAligned x = (d : DataDirectory) → directory 4 x.header.optional_header ≡ Some d → 0 < length x.certificates → d.virtual_address % 8 ≡ 0
 
 -- ---- the whole image
 

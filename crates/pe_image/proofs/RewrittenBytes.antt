@@ -1,0 +1,335 @@
+-- What writing an image over a copy of its bytes changes is zero.
+use Rattle.std.proofs.Common.{◌≡◌, ℕ, zero, suc, ◌+◌, ◌-◌, ◌*◌, ◌%◌, ◌<◌, ◌≤◌, ◌||◌, ◌⊎◌, inl, inr, ⊎_elim, Bool, true, false, cond, nat_le, Result, Ok, Err, List, [], ◌∷◌, ◌++◌, length, get_or, replicate, Option, Some, None, refl, ap, sym, ◌∙◌, subst, arith}
+use Rattle.std.specs.Prelude.{slice_index, slice_range, unwrap_or, ◌==◌}
+use Rattle.std.proofs.lemmas.Bool.{cases_lt}
+use Rattle.std.proofs.lemmas.Bool.Decides.{nat_tests}
+use Rattle.std.proofs.lemmas.List.{places, get_or_append_left, get_or-append_right, length-append}
+use Rattle.pe_core.specs.Bytes.{AreBytes, le, bytes_of, holds, range}
+use Rattle.pe_core.specs.Header.{HeaderView, OptionalHeaderView, header, header_at, header_tests, optional_header, optional_header_tests, optional_header_at}
+use Rattle.pe_core.specs.Imports.{ImportRecordView, ImportView, entry_size}
+use Rattle.pe_core.specs.Options.{is_permissive}
+use Rattle.pe_core.specs.Records.{dos_header, coff_header, section_table}
+use Rattle.pe_core.specs.Refusals.{Refusal, Short, BadMagic, HeaderPointer, outcome, ◌>>=◌}
+use Rattle.pe_core.specs.Rows.{each}
+use Rattle.pe_core.specs.Sections.{raw_end, sections_of, sections_place}
+use Rattle.pe_core.specs.Spelling.{spell_dos, spell_coff, spell_optional, spell_section}
+use Rattle.pe_core.specs.declared.data_directories.DataDirectory.{DataDirectory}
+use Rattle.pe_core.specs.declared.options.ParseMode.{ParseMode}
+use Rattle.pe_core.specs.declared.options.ParseOptions.{ParseOptions}
+use Rattle.pe_core.specs.declared.section_table.SectionTable.{SectionTable}
+use Rattle.pe_core.proofs.NumberBytes.{bytes_of-le, range_join}
+use Rattle.pe_core.proofs.SpelledOptional.{spelled_optional}
+use Rattle.pe_core.proofs.SpelledRecords.{spelled_dos, spelled_coff, spelled_section}
+use Rattle.pe_records.specs.Certificates.{CertificateView, certificate_at, certificate, certificate_tests, certificates_at, IsListing, is_revision, is_type, revision_number, revision_of, type_number, type_of}
+use Rattle.pe_records.specs.CertificateWriting.{padding, spell_certificate, written_certificate, written_length}
+use Rattle.pe_records.specs.declared.certificate_table.AttributeCertificateRevision.TheVariants.{Revision1_0, Revision2_0}
+use Rattle.pe_records.specs.declared.certificate_table.AttributeCertificateType.TheVariants.{X509, PkcsSignedData, Reserved1, TsStackSigned}
+use Rattle.pe_records.proofs.CertificateListings.{StandFrom, is_listing, unplaced}
+use Rattle.pe_records.proofs.CertificatePieces.{length-spell}
+use Rattle.pe_records.proofs.CertificatesReadAgain.{next_place}
+use Rattle.pe_image.specs.Core.{CoreView, core_of, core_with, map_of, export_data_of, exports_of, import_directory, import_data_of, imports_of}
+use Rattle.pe_image.specs.Fields.{field, value_of}
+use Rattle.pe_image.specs.Image.{ImageView, before_resources, IsBehindCore, IsImage}
+use Rattle.pe_image.specs.Layout.{directory, is_64}
+use Rattle.pe_image.specs.Overlay.{Piece, covers, byte_after, overlay}
+use Rattle.pe_image.specs.Pieces.{all_certificate_pieces, all_section_pieces, certificate_pieces, header_pieces, in_a_row, lacking, section_pieces}
+use Rattle.pe_image.specs.Writing.{AreAligned, certificate_directory, image_by, image_end, image_pieces, image_tests, image_written}
+use Rattle.pe_image.proofs.Overlays.{byte_after_cons, get_or-each, length-each}
+use Rattle.pe_image.proofs.Permissive.{certificates_alone, core_of_image}
+use Rattle.pe_image.proofs.Rows.{accepted_too}
+use Rattle.pe_image.proofs.SectionsFirst.{core_before, of_two, sections_of_core}
+
+-- a byte is the one at place q of b, or zero
+abbrev KeptByte : List ℕ → ℕ → ℕ → Type 0
+KeptByte b q x = (x ≡ get_or b q 0) ⊎ (x ≡ 0)
+
+-- bytes that are to stand from place p on are those of b there, or zero
+abbrev Kept : List ℕ → ℕ → List ℕ → Type 0
+Kept b p s = (i : ℕ) → i < length s → KeptByte b (p + i) (get_or s i 0)
+
+range_byte : (b : List ℕ) (p q i : ℕ) → i < length (slice_range b p q) → get_or (slice_range b p q) i 0 ≡ get_or b (p + i) 0
+range_byte b p q i h = grind (arith, places)
+
+kept_range : (b s : List ℕ) (p q : ℕ) → s ≡ slice_range b p q → Kept b p s
+kept_range b s p q e = subst (λ (t : List ℕ). Kept b p t) (sym e) (λ i h. inl (range_byte b p q i h))
+
+kept_zeros : (b : List ℕ) (p n : ℕ) → Kept b p (replicate n 0)
+kept_zeros b p zero i h = absurd (omega arith)
+kept_zeros b p (suc n) i h = inr (grind (arith, places))
+
+kept_append : (b s t : List ℕ) (p : ℕ) → Kept b p s → Kept b (p + length s) t → Kept b p (s ++ t)
+kept_append b s t p h k i lt =
+    ⊎_elim
+    (λ (here : i < length s). subst (KeptByte b (p + i)) (sym (get_or_append_left s t 0 i here)) (h i here))
+    (λ (there : length s ≤ i).
+    let place : p + length s + (i - length s) ≡ p + i = omega arith in
+    let inside : i - length s < length t = omega (arith, length-append s t) in
+    let is : get_or (s ++ t) i 0 ≡ get_or t (i - length s) 0 = get_or-append_right s t (length s) i 0 refl there in
+    subst (KeptByte b (p + i)) (sym is) (subst (λ (n : ℕ). KeptByte b n (get_or t (i - length s) 0)) place (k (i - length s) inside)))
+    (cases_lt i (length s))
+
+-- all pieces are such
+abbrev AllKept : List ℕ → List Piece → Type 0
+AllKept b [] = Unit {0}
+AllKept b (x ∷ xs) = Kept b x.place x.content × AllKept b xs
+
+all_append : (b : List ℕ) (xs ys : List Piece) → AllKept b xs → AllKept b ys → AllKept b (xs ++ ys)
+all_append b [] ys h k = k
+all_append b (x ∷ xs) ys h k = (h.0, all_append b xs ys h.1 k)
+
+covered_kept : (b : List ℕ) (x : Piece) (q old : ℕ) (t : Bool) → covers q x ≡ t → Kept b x.place x.content → KeptByte b q old → KeptByte b q (cond t (get_or x.content (q - x.place) 0) old)
+covered_kept b x q old false e h k = k
+covered_kept b x q old true e h k =
+    let above : x.place ≤ q = grind (arith, nat_tests) in
+    let below : q < x.place + length x.content = grind (arith, nat_tests) in
+    let place : x.place + (q - x.place) ≡ q = omega arith in
+    subst (λ (n : ℕ). KeptByte b n (get_or x.content (q - x.place) 0)) place (h (q - x.place) (omega arith))
+
+after_kept : (b : List ℕ) (xs : List Piece) (q old : ℕ) → AllKept b xs → KeptByte b q old → KeptByte b q (byte_after xs q old)
+after_kept b [] q old h k = unfold byte_after in k
+after_kept b (x ∷ xs) q old h k =
+    subst (KeptByte b q) (byte_after_cons x xs q old)
+    (after_kept b xs q (cond (covers q x) (get_or x.content (q - x.place) 0) old) h.1 (covered_kept b x q old (covers q x) refl h.0 k))
+
+overlay_kept : (b : List ℕ) (xs : List Piece) (q : ℕ) → AllKept b xs → q < length b → KeptByte b q (get_or (overlay b xs) q 0)
+unfolding overlay
+overlay_kept b xs q h lt =
+    subst (KeptByte b q) (sym (get_or-each (λ k. byte_after xs k (slice_index b k)) (length b) q 0 lt)) (after_kept b xs q (get_or b q 0) h (inl refl))
+
+-- ---- the headers
+
+passed_first : {Y : Type 0} (t : Bool) (k : Refusal) (tests : List (Bool × Refusal)) (v y : Y) → outcome ((t, k) ∷ tests) v ≡ Ok y → (t ≡ true) × (outcome tests v ≡ Ok y)
+passed_first true k tests v y h = (refl, h)
+passed_first false k tests v y h = absurd cc
+
+value_is : {Y : Type 0} (tests : List (Bool × Refusal)) (v y : Y) → outcome tests v ≡ Ok y → v ≡ y
+value_is [] v y h = cc
+value_is ((true, k) ∷ tests) v y h = value_is tests v y h
+value_is ((false, k) ∷ tests) v y h = absurd cc
+
+held : (b : List ℕ) (p n : ℕ) → holds b p n ≡ true → p + n ≤ length b
+held b p n e = grind (arith, nat_tests)
+
+-- an optional header that is there is accepted
+optional_given : (t : Bool) (tests : List (Bool × Refusal)) (v o : OptionalHeaderView) (w h : HeaderView) → cond t None (Some v) ≡ Some o → outcome (cond t [] tests) w ≡ Ok h → outcome tests v ≡ Ok o
+optional_given true tests v o w h e f = absurd cc
+optional_given false tests v o w h e f = let same : v ≡ o = cc in accepted_too tests w h v f ∙ ap (λ z. Ok z) same
+
+parts_kept : (b : List ℕ) (o : OptionalHeaderView) → AreBytes b → 64 ≤ length b → (dos_header b 0).pe_pointer + 24 ≤ length b → optional_header_at b ((dos_header b 0).pe_pointer + 24) ≡ Ok o → AllKept b (header_pieces (header b) o)
+unfolding header_pieces header
+parts_kept b o small d c e =
+    let p : ℕ = (dos_header b 0).pe_pointer in
+    let dos = kept_range b (spell_dos (dos_header b 0)) 0 64 (spelled_dos b 0 small d) in
+    let stub = kept_range b (slice_range b 64 p) 64 p refl in
+    let sign = kept_range b (bytes_of 4 (le b p 4)) p (p + 4) (bytes_of-le b p 4 small (omega arith)) in
+    let coff = kept_range b (spell_coff (coff_header b (p + 4))) (p + 4) (p + 4 + 20) (spelled_coff b (p + 4) small (omega arith)) in
+    let last = kept_range b (spell_optional o) (p + 24) (p + 24 + length (spell_optional o)) (sym (spelled_optional b (p + 24) o small e)) in
+    (dos, (stub, (sign, (coff, (last, tt)))))
+
+optional_of : (b : List ℕ) (o : OptionalHeaderView) → (header b).optional_header ≡ Some o → cond ((coff_header b ((dos_header b 0).pe_pointer + 4)).size_of_optional_header == 0) None (Some (optional_header b ((dos_header b 0).pe_pointer + 24))) ≡ Some o
+unfolding header
+optional_of b o h = h
+
+headers_kept : (b : List ℕ) (mode : ParseMode) (h : HeaderView) (o : OptionalHeaderView) → AreBytes b → header_at b mode ≡ Ok h → h.optional_header ≡ Some o → AllKept b (header_pieces h o)
+unfolding header_at header_tests
+headers_kept b mode h o small e f =
+    let p : ℕ = (dos_header b 0).pe_pointer in
+    let rest : List (Bool × Refusal) = cond ((coff_header b (p + 4)).size_of_optional_header == 0) [] (optional_header_tests b (p + 24)) in
+    let from_coff : List (Bool × Refusal) = (holds b (p + 4) 20, Short) ∷ rest in
+    let from_signed : List (Bool × Refusal) = (le b p 4 == 0x4550, BadMagic) ∷ from_coff in
+    let from_sign : List (Bool × Refusal) = (holds b p 4, Short) ∷ from_signed in
+    let from_above : List (Bool × Refusal) = (nat_le 64 p || is_permissive mode, HeaderPointer) ∷ from_sign in
+    let from_magic : List (Bool × Refusal) = ((dos_header b 0).signature == 0x5A4D, BadMagic) ∷ from_above in
+    let dos = passed_first (holds b 0 64) Short from_magic (header b) h e in
+    let magic = passed_first ((dos_header b 0).signature == 0x5A4D) BadMagic from_above (header b) h dos.1 in
+    let above = passed_first (nat_le 64 p || is_permissive mode) HeaderPointer from_sign (header b) h magic.1 in
+    let sign = passed_first (holds b p 4) Short from_signed (header b) h above.1 in
+    let signed = passed_first (le b p 4 == 0x4550) BadMagic from_coff (header b) h sign.1 in
+    let coff = passed_first (holds b (p + 4) 20) Short rest (header b) h signed.1 in
+    let same : header b ≡ h = value_is rest (header b) h coff.1 in
+    let there : (header b).optional_header ≡ Some o = ap (λ (x : HeaderView). x.optional_header) same ∙ f in
+    let given : optional_header_at b (p + 24) ≡ Ok o =
+    optional_given ((coff_header b (p + 4)).size_of_optional_header == 0) (optional_header_tests b (p + 24)) (optional_header b (p + 24)) o (header b) h (optional_of b o there) coff.1 in
+    let long : p + 4 + 20 ≤ length b = held b (p + 4) 20 coff.0 in
+    subst (λ (x : HeaderView). AllKept b (header_pieces x o)) same (parts_kept b o small (held b 0 64 dos.0) (omega arith) given)
+
+-- ---- sections
+
+section_kept : (b : List ℕ) (unit : Option ℕ) (place : ℕ) (s : SectionTable) → AreBytes b → s ≡ section_table b place → place + 40 ≤ length b → AllKept b (section_pieces b unit place s)
+unfolding section_pieces
+section_kept b unit place s small e h =
+    let data_kept = kept_range b (range b s.pointer_to_raw_data s.size_of_raw_data) s.pointer_to_raw_data (s.pointer_to_raw_data + s.size_of_raw_data) refl in
+    let head = kept_range b (spell_section s) place (place + 40) (ap spell_section e ∙ spelled_section b place small h) in
+    (data_kept, (head, (kept_zeros b (raw_end s) (lacking s.size_of_raw_data unit), tt)))
+
+row_kept : (b : List ℕ) (unit : Option ℕ) (p : ℕ) (ss : List SectionTable) → AreBytes b → ((i : ℕ) → i < length ss → get_or ss i (section_table b 0) ≡ section_table b (p + 40 * i)) → (0 < length ss → p + 40 * length ss ≤ length b) → AllKept b (all_section_pieces b unit p ss)
+row_kept b unit p [] small is room = tt
+row_kept b unit p (s ∷ ss) small is room =
+    let inside : p + 40 * suc (length ss) ≤ length b = room (omega arith) in
+    let first : p + 40 * 0 ≡ p = omega arith in
+    let here : s ≡ section_table b p = is 0 (omega arith) ∙ ap (section_table b) first in
+    all_append b (section_pieces b unit p s) (all_section_pieces b unit (p + 40) ss)
+    (section_kept b unit p s small here (omega arith))
+    (row_kept b unit (p + 40) ss small
+    (λ i lt. let place : p + 40 * suc i ≡ p + 40 + 40 * i = omega arith in is (suc i) (omega arith) ∙ ap (section_table b) place)
+    (λ some. omega arith))
+
+room_for : (n p l : ℕ) → (n == 0 || nat_le (p + 40 * n) l) ≡ true → 0 < n → p + 40 * n ≤ l
+room_for n p l h some = grind (arith, nat_tests)
+
+sections_kept : (b : List ℕ) (unit : Option ℕ) (h : HeaderView) (ss : List SectionTable) → AreBytes b → sections_of b h ≡ Ok ss → AllKept b (all_section_pieces b unit (sections_place h) ss)
+sections_kept b unit h ss small e =
+    let p : ℕ = sections_place h in
+    let n : ℕ = h.coff_header.number_of_sections in
+    let f : ℕ → SectionTable = λ i. section_table b (p + 40 * i) in
+    let all = passed_first (n == 0 || holds b p (40 * n)) Short [] (each f n) ss e in
+    let same : each f n ≡ ss = value_is [] (each f n) ss all.1 in
+    let count : length (each f n) ≡ n = length-each f n in
+    subst (λ (ss : List SectionTable). AllKept b (all_section_pieces b unit p ss)) same
+    (row_kept b unit p (each f n) small
+    (λ i lt. get_or-each f n i (section_table b 0) (omega (arith, count)))
+    (λ some. rw count (room_for n p (length b) all.0 (omega (arith, count)))))
+
+-- ---- certificates
+
+-- a certificate that is read: its fields, and its tests
+record ReadAt (b : List ℕ) (p : ℕ) (c : CertificateView) : Type 0 where
+  size : c.length ≡ le b p 4
+  revision : c.revision ≡ revision_of (le b (p + 4) 2)
+  has_revision : is_revision (le b (p + 4) 2) ≡ true
+  kind : c.certificate_type ≡ type_of (le b (p + 6) 2)
+  has_kind : is_type (le b (p + 6) 2) ≡ true
+  head : p + 8 ≤ length b
+  body : c.body ≡ range b (p + 8) (c.length - 8)
+
+read_at : (b : List ℕ) (p : ℕ) (c : CertificateView) (q : ℕ) → certificate_at b p ≡ Ok (c, q) → ReadAt b p c
+unfolding certificate_at certificate certificate_tests
+read_at b p c q e = record { size = grind (arith, nat_tests); revision = grind (arith, nat_tests); has_revision = grind (arith, nat_tests); kind = grind (arith, nat_tests); has_kind = grind (arith, nat_tests); head = grind (arith, nat_tests); body = grind (arith, nat_tests) }
+
+revision_by : (n : ℕ) (t u : Bool) → (n == 0x0100) ≡ t → (n == 0x0200) ≡ u → (t || u) ≡ true → revision_number (cond t Revision1_0 Revision2_0) ≡ n
+revision_by n true u e f h = sym (grind (arith, nat_tests))
+revision_by n false true e f h = sym (grind (arith, nat_tests))
+revision_by n false false e f h = absurd cc
+
+same_revision : (n : ℕ) → is_revision n ≡ true → revision_number (revision_of n) ≡ n
+same_revision n h = revision_by n (n == 0x0100) (n == 0x0200) refl refl h
+
+type_by : (n : ℕ) (t u v w : Bool) → (n == 1) ≡ t → (n == 2) ≡ u → (n == 3) ≡ v → (n == 4) ≡ w → (((t || u) || v) || w) ≡ true → type_number (cond t X509 (cond u PkcsSignedData (cond v Reserved1 TsStackSigned))) ≡ n
+type_by n true u v w e f g k h = sym (grind (arith, nat_tests))
+type_by n false true v w e f g k h = sym (grind (arith, nat_tests))
+type_by n false false true w e f g k h = sym (grind (arith, nat_tests))
+type_by n false false false true e f g k h = sym (grind (arith, nat_tests))
+type_by n false false false false e f g k h = absurd cc
+
+same_type : (n : ℕ) → is_type n ≡ true → type_number (type_of n) ≡ n
+same_type n h = type_by n (n == 1) (n == 2) (n == 3) (n == 4) refl refl refl refl h
+
+spelled_certificate : (b : List ℕ) (p : ℕ) (c : CertificateView) → AreBytes b → ReadAt b p c → spell_certificate c ≡ slice_range b p (p + 8)
+unfolding spell_certificate
+spelled_certificate b p c small r =
+    let inside : p + 8 ≤ length b = r.head in
+    let revision : revision_number c.revision ≡ le b (p + 4) 2 = ap revision_number r.revision ∙ same_revision (le b (p + 4) 2) r.has_revision in
+    let kind : type_number c.certificate_type ≡ le b (p + 6) 2 = ap type_number r.kind ∙ same_type (le b (p + 6) 2) r.has_kind in
+    let six : p + 4 + 2 ≡ p + 6 = omega arith in
+    let eight : p + 6 + 2 ≡ p + 8 = omega arith in
+    let first : bytes_of 4 (le b p 4) ≡ slice_range b p (p + 4) = bytes_of-le b p 4 small (omega arith) in
+    let second : bytes_of 2 (le b (p + 4) 2) ≡ slice_range b (p + 4) (p + 6) = bytes_of-le b (p + 4) 2 small (omega arith) ∙ ap (slice_range b (p + 4)) six in
+    let third : bytes_of 2 (le b (p + 6) 2) ≡ slice_range b (p + 6) (p + 8) = bytes_of-le b (p + 6) 2 small (omega arith) ∙ ap (slice_range b (p + 6)) eight in
+    rw (r.size, revision, kind, first, second, third, range_join b p (p + 4) (p + 6) (omega arith) (omega arith) (omega arith)) (range_join b p (p + 6) (p + 8) (omega arith) (omega arith) inside)
+
+certificate_kept : (b : List ℕ) (p : ℕ) (c : CertificateView) (q : ℕ) → AreBytes b → certificate_at b p ≡ Ok (c, q) → Kept b p (written_certificate c)
+certificate_kept b p c q small e =
+    let r : ReadAt b p c = read_at b p c q e in
+    let head : Kept b p (spell_certificate c) = kept_range b (spell_certificate c) p (p + 8) (spelled_certificate b p c small r) in
+    let body : Kept b (p + 8) c.body = kept_range b c.body (p + 8) (p + 8 + (c.length - 8)) r.body in
+    let place : p + 8 ≡ p + length (spell_certificate c) = ap (λ (n : ℕ). p + n) (sym (length-spell c)) in
+    let front : Kept b p (spell_certificate c ++ c.body) = kept_append b (spell_certificate c) c.body p head (subst (λ (n : ℕ). Kept b n c.body) place body) in
+    kept_append b (spell_certificate c ++ c.body) (padding c) p front (kept_zeros b (p + length (spell_certificate c ++ c.body)) (written_length c - (8 + length c.body)))
+
+stand_kept : (b : List ℕ) (end p : ℕ) (cs : List CertificateView) (q : ℕ) → AreBytes b → (0 < length cs → p % 8 ≡ 0) → StandFrom b end p cs q → AllKept b (in_a_row certificate_pieces written_length p cs)
+stand_kept b end p [] q small m s = tt
+stand_kept b end p (c ∷ cs) q small m s =
+    let here : p % 8 ≡ 0 = m (omega arith) in
+    let next : s.1 ≡ p + written_length c = next_place b p c s.1 small here s.2 in
+    all_append b (certificate_pieces p c) (in_a_row certificate_pieces written_length (p + written_length c) cs)
+    (certificate_kept b p c s.1 small s.2, tt)
+    (stand_kept b end (p + written_length c) cs q small (λ some. omega arith) (subst (λ (n : ℕ). StandFrom b end n cs q) next s.3))
+
+table_kept : (b : List ℕ) (address size : ℕ) (cs : List CertificateView) → AreBytes b → (0 < length cs → address % 8 ≡ 0) → certificates_at b address size ≡ Ok cs → AllKept b (in_a_row certificate_pieces written_length address cs)
+table_kept b address size cs small m e =
+    let l : IsListing b address size cs = is_listing b address size cs e in
+    let s : StandFrom b (address + size) address cs (l.place (length cs)) = rw l.first at (unplaced b (address + size) l.place cs l.stand) in
+    stand_kept b (address + size) address cs (l.place (length cs)) small m s
+
+none_kept : (b : List ℕ) (p : ℕ) (cs : List CertificateView) → cs ≡ [] → AllKept b (in_a_row certificate_pieces written_length p cs)
+none_kept b p cs e = subst (λ (cs : List CertificateView). AllKept b (in_a_row certificate_pieces written_length p cs)) (sym e) tt
+
+read_kept : (b : List ℕ) (address size : ℕ) (cs : List CertificateView) (r : Result (List CertificateView) Refusal) → AreBytes b → (0 < length cs → address % 8 ≡ 0) → certificates_at b address size ≡ r → cs ≡ unwrap_or (value_of (Some r)) [] → AllKept b (in_a_row certificate_pieces written_length address cs)
+read_kept b address size cs (Ok ds) small m e same = table_kept b address size cs small m (e ∙ ap (λ ds. Ok ds) (sym same))
+read_kept b address size cs (Err k) small m e same = none_kept b address cs same
+
+field_kept : (b : List ℕ) (listed : Bool) (d : Option DataDirectory) (cs : List CertificateView) → AreBytes b → ((e : DataDirectory) → d ≡ Some e → 0 < length cs → e.virtual_address % 8 ≡ 0) → cs ≡ unwrap_or (value_of (cond listed (field (λ e. certificates_at b e.virtual_address e.size) d) None)) [] → AllKept b (all_certificate_pieces d cs)
+field_kept b listed None cs small m same = tt
+field_kept b false (Some d) cs small m same = none_kept b d.virtual_address cs same
+field_kept b true (Some d) cs small m same = read_kept b d.virtual_address d.size cs (certificates_at b d.virtual_address d.size) small (m d refl) refl same
+
+-- ---- the image
+
+core_header : (b : List ℕ) (o : ParseOptions) (header : HeaderView) (sections : List SectionTable) (c : CoreView) → core_with b o header sections ≡ Ok c → c.header ≡ header
+unfolding core_with
+core_header b o header sections c h =
+    let place = map_of o sections header.optional_header in
+    let width = entry_size (is_64 header.optional_header) in
+    let data_found = export_data_of place b (directory 0 header.optional_header) in
+    of_two {X = Option (List ImportRecordView)} {Y = List ImportView} (import_data_of place width b (import_directory o header.optional_header)) (λ found. imports_of place width b found)
+    (λ found list. record { header = header; sections = sections; export_data = data_found; exports = exports_of place b data_found; import_data = found; imports = list })
+    (λ (c : CoreView). c.header) header c (λ x y. refl) h
+
+header_then : (b : List ℕ) (o : ParseOptions) (header : HeaderView) (r : Result (List SectionTable) Refusal) (c : CoreView) → (r >>= λ sections. core_with b o header sections) ≡ Ok c → c.header ≡ header
+header_then b o header (Ok sections) c h = core_header b o header sections c h
+header_then b o header (Err e) c h = absurd cc
+
+header_first : (b : List ℕ) (o : ParseOptions) (r : Result HeaderView Refusal) (c : CoreView) → (r >>= λ header. sections_of b header >>= λ sections. core_with b o header sections) ≡ Ok c → r ≡ Ok c.header
+header_first b o (Ok header) c h = ap (λ header. Ok header) (sym (header_then b o header (sections_of b header) c h))
+header_first b o (Err e) c h = absurd cc
+
+header_of_core : (b : List ℕ) (o : ParseOptions) (c : CoreView) → core_of b o ≡ Ok c → header_at b o.parse_mode ≡ Ok c.header
+unfolding core_of
+header_of_core b o c h = header_first b o (header_at b o.parse_mode) c h
+
+then_those : (b : List ℕ) (r : Result HeaderView Refusal) (h : HeaderView) (ss : List SectionTable) → r ≡ Ok h → (r >>= λ header. sections_of b header) ≡ Ok ss → sections_of b h ≡ Ok ss
+then_those b r h ss e f = rw e at f
+
+core_behind : (b : List ℕ) (o : ParseOptions) (r : Result CoreView Refusal) (x : ImageView) → before_resources b o ≡ r → IsBehindCore b o r (Ok x) → (c : CoreView) × (core_of b o ≡ Ok c)
+unfolding before_resources
+core_behind b o (Ok c) x h is = (c, core_before b o (core_of b o) c h)
+core_behind b o (Err e) x h is = absurd cc
+
+pieces_kept : (b : List ℕ) (o : ParseOptions) (x : ImageView) (h : OptionalHeaderView) → AreBytes b → IsImage b o (Ok x) → AreAligned x → x.header.optional_header ≡ Some h → AllKept b (image_pieces b x.header h x.sections x.certificates)
+unfolding image_pieces
+pieces_kept b o x h small is m e =
+    let (c, core) = core_behind b o (before_resources b o) x refl is in
+    let same = core_of_image b o c x core is in
+    let head : x.header ≡ c.header = ap (λ (c : CoreView). c.header) same in
+    let rows : x.sections ≡ c.sections = ap (λ (c : CoreView). c.sections) same in
+    let at_core : header_at b o.parse_mode ≡ Ok c.header = header_of_core b o c core in
+    let at_image : header_at b o.parse_mode ≡ Ok x.header = at_core ∙ ap (λ (h : HeaderView). Ok h) (sym head) in
+    let read : sections_of b x.header ≡ Ok x.sections =
+    then_those b (header_at b o.parse_mode) x.header x.sections at_image (sections_of_core b o c core ∙ ap (λ (ss : List SectionTable). Ok ss) (sym rows)) in
+    let there : c.header.optional_header ≡ Some h = sym (ap (λ (h : HeaderView). h.optional_header) head) ∙ e in
+    let listed : x.certificates ≡ unwrap_or (value_of (cond o.parse_attribute_certificates (field (λ d. certificates_at b d.virtual_address d.size) (certificate_directory h)) None)) [] =
+    certificates_alone b o c x core is ∙ ap (λ (k : Option OptionalHeaderView). unwrap_or (value_of (cond o.parse_attribute_certificates (field (λ d. certificates_at b d.virtual_address d.size) (directory 4 k)) None)) []) there in
+    let sections : List Piece = all_section_pieces b (Some h.windows_fields.file_alignment) (sections_place x.header) x.sections in
+    all_append b (header_pieces x.header h ++ sections) (all_certificate_pieces (certificate_directory h) x.certificates)
+    (all_append b (header_pieces x.header h) sections (headers_kept b o.parse_mode x.header h small at_image e) (sections_kept b (Some h.windows_fields.file_alignment) x.header x.sections small read))
+    (field_kept b o.parse_attribute_certificates (certificate_directory h) x.certificates small (λ d found some. m d (ap (directory 4) e ∙ found) some) listed)
+
+written_by : (k : Option OptionalHeaderView) (b : List ℕ) (x : ImageView) (n q : ℕ) (new : List ℕ) → image_by k b x.header x.sections x.certificates b ≡ Ok (n, new) → ((h : OptionalHeaderView) → k ≡ Some h → AllKept b (image_pieces b x.header h x.sections x.certificates)) → q < length b → KeptByte b q (get_or new q 0)
+written_by None b x n q new e kept lt = absurd cc
+written_by (Some h) b x n q new e kept lt =
+    let pieces : List Piece = image_pieces b x.header h x.sections x.certificates in
+    let same = value_is {Y = ℕ × List ℕ} (image_tests b x.header h x.sections (length b) pieces) (image_end x.header h x.sections x.certificates, overlay b pieces) (n, new) e in
+    subst (λ (s : List ℕ). KeptByte b q (get_or s q 0)) (ap (λ (r : ℕ × List ℕ). r.1) same) (overlay_kept b pieces q (kept h refl) lt)
+
+pub rewritten : (b new : List ℕ) (o : ParseOptions) (x : ImageView) (n q : ℕ) → AreBytes b → IsImage b o (Ok x) → AreAligned x → image_written b x b ≡ Ok (n, new) → q < length b → (slice_index new q ≡ slice_index b q) ⊎ (slice_index new q ≡ 0)
+rewritten b new o x n q small is m e lt = written_by x.header.optional_header b x n q new e (λ h there. pieces_kept b o x h small is m there) lt
