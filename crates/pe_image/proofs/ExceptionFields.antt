@@ -9,7 +9,7 @@ use Rattle.pe_core.specs.declared.options.ParseOptions.{ParseOptions}
 use Rattle.pe_core.specs.declared.section_table.SectionTable.{SectionTable}
 use Rattle.pe_unwind.specs.ExceptionTable.{ExceptionView, exception_at, exception_at_place}
 use Rattle.pe_image.specs.Core.{CoreView, core_of}
-use Rattle.pe_image.specs.Fields.{field, value_of}
+use Rattle.pe_image.specs.Fields.{field, given_value}
 use Rattle.pe_image.specs.Image.{ImageView, IsImage}
 use Rattle.pe_image.specs.Layout.{directory, alignment}
 use Rattle.pe_image.proofs.Permissive.{exceptions_alone}
@@ -37,15 +37,15 @@ in_directory : (width : ℕ) (b : List ℕ) (d : DataDirectory) (sections : List
 unfolding exception_at
 in_directory width b d sections unit o v h = if_whole (d.size % width == 0) b d.size unit (place_of o.resolve_rva unit sections d.virtual_address) v h
 
-of_result : (r : Result ExceptionView Refusal) (v : ExceptionView) → value_of (Some r) ≡ Some v → r ≡ Ok v
+of_result : (r : Result ExceptionView Refusal) (v : ExceptionView) → given_value (Some r) ≡ Some v → r ≡ Ok v
 of_result (Ok x) v h = let same : x ≡ v = cc in ap (λ x. Ok x) same
 of_result (Err e) v h = absurd cc
 
-in_field : (width : ℕ) (b : List ℕ) (d : Option DataDirectory) (sections : List SectionTable) (unit : ℕ) (o : ParseOptions) (v : ExceptionView) → value_of (field (λ d. exception_at width b d sections unit o) d) ≡ Some v → IsOf b unit v
+in_field : (width : ℕ) (b : List ℕ) (d : Option DataDirectory) (sections : List SectionTable) (unit : ℕ) (o : ParseOptions) (v : ExceptionView) → given_value (field (λ d. exception_at width b d sections unit o) d) ≡ Some v → IsOf b unit v
 in_field width b None sections unit o v h = absurd cc
 in_field width b (Some d) sections unit o v h = in_directory width b d sections unit o v (of_result (exception_at width b d sections unit o) v h)
 
-by_machine : (x64 arm64 : Bool) (b : List ℕ) (d : Option DataDirectory) (sections : List SectionTable) (unit : ℕ) (o : ParseOptions) (v : ExceptionView) → value_of (if x64 then field (λ d. exception_at 12 b d sections unit o) d else (if arm64 then field (λ d. exception_at 8 b d sections unit o) d else None)) ≡ Some v → IsOf b unit v
+by_machine : (x64 arm64 : Bool) (b : List ℕ) (d : Option DataDirectory) (sections : List SectionTable) (unit : ℕ) (o : ParseOptions) (v : ExceptionView) → given_value (if x64 then field (λ d. exception_at 12 b d sections unit o) d else (if arm64 then field (λ d. exception_at 8 b d sections unit o) d else None)) ≡ Some v → IsOf b unit v
 by_machine true arm64 b d sections unit o v h = in_field 12 b d sections unit o v h
 by_machine false true b d sections unit o v h = in_field 8 b d sections unit o v h
 by_machine false false b d sections unit o v h = absurd cc

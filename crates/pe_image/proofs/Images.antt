@@ -1,11 +1,8 @@
 -- From the parts of an image, read one after the other, to the image.
 use Rattle.std.proofs.Common.{◌≡◌, ℕ, List, [], Option, None, Some, Result, Ok, Err, refl, sym, ap, ◌∙◌}
 use Rattle.std.specs.Prelude.{IsOk, unwrap_or, if◌then◌else◌}
-use Rattle.pe_core.specs.Header.{header_at}
 use Rattle.pe_core.specs.Refusals.{Refusal, UnlessMemory, IfMemory, answer_by, kind_of, ◌>>=◌}
-use Rattle.pe_core.specs.Sections.{sections_of}
 use Rattle.pe_core.specs.declared.error.Error.{Error}
-use Rattle.pe_core.specs.declared.error.Error.TheVariants as errors
 use Rattle.pe_core.specs.declared.options.ParseMode.{ParseMode}
 use Rattle.pe_core.specs.declared.options.ParseMode.TheVariants.{Strict, Permissive}
 use Rattle.pe_core.specs.declared.options.ParseOptions.{ParseOptions}
@@ -16,17 +13,19 @@ use Rattle.pe_core.specs.declared.section_table.SectionTable.{SectionTable}
 use Rattle.std.specs.Option.{option_map}
 use Rattle.pe_image.specs.LayoutParts.{layout_of}
 use Rattle.pe_image.specs.declared.layout.Layout.{Layout}
-use Rattle.pe_image.specs.Core.{CoreView, core_of, core_with, sections_read}
-use Rattle.pe_image.specs.Fields.{Field, value_of}
+use Rattle.pe_image.specs.Core.{CoreView, core_of, sections_read}
+use Rattle.pe_image.specs.Fields.{Field, given_value}
 use Rattle.pe_image.specs.FieldSteps.{FirstFieldsView, by_mode, list_by_mode, first_fields, first_fields_in_turn, GivesResources}
 use Rattle.pe_image.specs.Image.{ImageView, with_fields, demanded, first_four_demanded, before_resources, AreResourcesOf, IsBehindCore, IsImage, GivesImage}
 use Rattle.pe_image.specs.ImageSteps.{image_of, unless_refused, GivesBehindCore}
 use Rattle.pe_image.specs.declared.pe.PE.{PE}
+use Rattle.pe_image.proofs.SectionsFirst.{sections_of_core}
+use Rattle.pe_image.proofs.Steps.{refused_test, passed_test, still_passes, unless, unless_memory, if_memory}
 
 -- ---- fields in turn
 
 -- to read a field by mode is to demand it and to take its value or nothing
-kept : {X Y : Type 0} (mode : ParseMode) (f : Field X) (k : Option X → Result Y Refusal) → (by_mode mode f >>= k) ≡ (demanded mode f >>= λ u. k (value_of f))
+kept : {X Y : Type 0} (mode : ParseMode) (f : Field X) (k : Option X → Result Y Refusal) → (by_mode mode f >>= k) ≡ (demanded mode f >>= λ u. k (given_value f))
 kept Strict None k = refl
 kept Strict (Some (Ok x)) k = refl
 kept Strict (Some (Err e)) k = refl
@@ -34,7 +33,7 @@ kept Permissive None k = refl
 kept Permissive (Some (Ok x)) k = refl
 kept Permissive (Some (Err e)) k = refl
 
-kept_list : {X Y : Type 0} (mode : ParseMode) (f : Field (List X)) (k : List X → Result Y Refusal) → (list_by_mode mode f >>= k) ≡ (demanded mode f >>= λ u. k (unwrap_or (value_of f) []))
+kept_list : {X Y : Type 0} (mode : ParseMode) (f : Field (List X)) (k : List X → Result Y Refusal) → (list_by_mode mode f >>= k) ≡ (demanded mode f >>= λ u. k (unwrap_or (given_value f) []))
 kept_list Strict None k = refl
 kept_list Strict (Some (Ok x)) k = refl
 kept_list Strict (Some (Err e)) k = refl
@@ -53,18 +52,6 @@ in_turn b opts c = simp (kept, kept_list, joined)
 
 -- ---- what is refused, and what is not
 
-refused_test : {X : Type 0} (t : Result (Unit {0}) Refusal) (x : X) (e : Refusal) → (t >>= λ u. Ok x) ≡ Err e → t ≡ Err e
-refused_test (Ok u) x e h = absurd cc
-refused_test (Err r) x e h = let same : r ≡ e = cc in ap (λ e. Err e) same
-
-passed_test : {X : Type 0} (t : Result (Unit {0}) Refusal) (x y : X) → (t >>= λ u. Ok x) ≡ Ok y → x ≡ y
-passed_test (Ok u) x y h = cc
-passed_test (Err r) x y h = absurd cc
-
-still_passes : {X Y : Type 0} (t : Result (Unit {0}) Refusal) (x y : X) (z : Y) → (t >>= λ u. Ok x) ≡ Ok y → (t >>= λ u. Ok z) ≡ Ok z
-still_passes (Ok u) x y z h = refl
-still_passes (Err r) x y z h = absurd cc
-
 behind_refusal : (b : List ℕ) (opts : ParseOptions) (r : Result CoreView Refusal) (e : Refusal) → r ≡ Err e → IsBehindCore b opts r (Err e)
 behind_refusal b opts (Ok c) e h = absurd cc
 behind_refusal b opts (Err refusal) e h = let same : e ≡ refusal = cc in ap (λ e. Err e) same
@@ -78,10 +65,8 @@ first_refused b opts c e h =
     behind_refusal b opts (unless_refused b opts c) e (rw t refl)
 
 pub first_refused_unless : (b : List ℕ) (opts : ParseOptions) (c : CoreView) (e : Error) → UnlessMemory e (first_fields_in_turn b opts c ≡ Err (kind_of e)) → UnlessMemory e (IsBehindCore b opts (unless_refused b opts c) (Err (kind_of e)))
-first_refused_unless b opts c (errors.Malformed reason) h = first_refused b opts c (kind_of (errors.Malformed reason)) h
-first_refused_unless b opts c (errors.BadMagic magic) h = first_refused b opts c (kind_of (errors.BadMagic magic)) h
-first_refused_unless b opts c (errors.Short at needed) h = first_refused b opts c (kind_of (errors.Short at needed)) h
-first_refused_unless b opts c (errors.Memory e) h = tt
+first_refused_unless b opts c e h =
+    unless_memory e (first_fields_in_turn b opts c ≡ Err (kind_of e)) (IsBehindCore b opts (unless_refused b opts c) (Err (kind_of e))) (first_refused b opts c (kind_of e)) h
 
 demanded_refused : {X : Type 0} (mode : ParseMode) (f : Field X) (e : Refusal) → Err e ≡ by_mode mode f → demanded mode f ≡ Err e
 demanded_refused Strict None e h = absurd cc
@@ -97,7 +82,7 @@ demanded_passed Strict (Some (Ok y)) x h = refl
 demanded_passed Strict (Some (Err r)) x h = absurd cc
 demanded_passed Permissive f x h = refl
 
-value_passed : {X : Type 0} (mode : ParseMode) (f : Field X) (x : Option X) → Ok x ≡ by_mode mode f → value_of f ≡ x
+value_passed : {X : Type 0} (mode : ParseMode) (f : Field X) (x : Option X) → Ok x ≡ by_mode mode f → given_value f ≡ x
 value_passed mode None x h = cc
 value_passed mode (Some (Ok y)) x h = cc
 value_passed Strict (Some (Err r)) x h = absurd cc
@@ -109,14 +94,14 @@ last_refused b opts c first f e h are refused =
     (still_passes (first_four_demanded b opts c) (first_fields b opts c) first c (sym (in_turn b opts c) ∙ h))
     are (rw (demanded_refused opts.parse_mode f e refused) refl)
 
-same_image : (b : List ℕ) (opts : ParseOptions) (c : CoreView) (f : Field ResourceView) → with_fields b opts c f ≡ image_of c (first_fields b opts c) (value_of f)
+same_image : (b : List ℕ) (opts : ParseOptions) (c : CoreView) (f : Field ResourceView) → with_fields b opts c f ≡ image_of c (first_fields b opts c) (given_value f)
 unfolding with_fields
 same_image b opts c f = refl
 
 pub accepted : (b : List ℕ) (opts : ParseOptions) (c : CoreView) (first : FirstFieldsView) (f : Field ResourceView) (resources : Option ResourceView) → first_fields_in_turn b opts c ≡ Ok first → AreResourcesOf b opts c f → Ok resources ≡ by_mode opts.parse_mode f → IsBehindCore b opts (unless_refused b opts c) (Ok (image_of c first resources))
 accepted b opts c first f resources h are given =
     let fields : first_fields b opts c ≡ first = passed_test (first_four_demanded b opts c) (first_fields b opts c) first (sym (in_turn b opts c) ∙ h) in
-    let same : with_fields b opts c f ≡ image_of c first resources = same_image b opts c f ∙ (ap (λ first. image_of c first (value_of f)) fields ∙ ap (λ resources. image_of c first resources) (value_passed opts.parse_mode f resources given)) in
+    let same : with_fields b opts c f ≡ image_of c first resources = same_image b opts c f ∙ (ap (λ first. image_of c first (given_value f)) fields ∙ ap (λ resources. image_of c first resources) (value_passed opts.parse_mode f resources given)) in
     behind_core b opts (unless_refused b opts c) c f (Ok (image_of c first resources))
     (still_passes (first_four_demanded b opts c) (first_fields b opts c) first c (sym (in_turn b opts c) ∙ h))
     are (rw (demanded_passed opts.parse_mode f resources given) (ap (λ x. Ok x) (sym same)))
@@ -127,40 +112,17 @@ core_refused : (b : List ℕ) (opts : ParseOptions) (e : Refusal) → core_of b 
 unfolding before_resources
 core_refused b opts e h = behind_refusal b opts (core_of b opts >>= λ c. unless_refused b opts c) e (rw h refl)
 
+-- where an image has a core, its section headers were there before
 pub core_refused_unless : (b : List ℕ) (opts : ParseOptions) (e : Error) → UnlessMemory e (core_of b opts ≡ Err (kind_of e)) → UnlessMemory e (IsImage b opts (Err (kind_of e)))
-core_refused_unless b opts (errors.Malformed reason) h = core_refused b opts (kind_of (errors.Malformed reason)) h
-core_refused_unless b opts (errors.BadMagic magic) h = core_refused b opts (kind_of (errors.BadMagic magic)) h
-core_refused_unless b opts (errors.Short at needed) h = core_refused b opts (kind_of (errors.Short at needed)) h
-core_refused_unless b opts (errors.Memory e) h = tt
-
-second : {Y Z : Type 0} (r : Result Y Refusal) (t : Y → Result Z Refusal) (z : Z) → (r >>= t) ≡ Ok z → IsOk r
-second (Ok y) t z given = refl
-second (Err refusal) t z given = absurd cc
-
-both : {X Y Z : Type 0} (r : Result X Refusal) (s : X → Result Y Refusal) (t : X → Y → Result Z Refusal) (z : Z) → (r >>= λ x. s x >>= λ y. t x y) ≡ Ok z → IsOk (r >>= s)
-both (Ok x) s t z given = second (s x) (t x) z given
-both (Err refusal) s t z given = absurd cc
+core_refused_unless b opts e h = unless_memory e (core_of b opts ≡ Err (kind_of e)) (IsImage b opts (Err (kind_of e))) (core_refused b opts (kind_of e)) h
 
 -- where an image has a core, its section headers were there before
 sections_first : (b : List ℕ) (opts : ParseOptions) (c : CoreView) → core_of b opts ≡ Ok c → IsOk (sections_read b opts)
-unfolding core_of
-sections_first b opts c given = both (header_at b opts.parse_mode) (λ header. sections_of b header) (core_with b opts) c given
+sections_first b opts c given = rw (sections_of_core b opts c given) refl
 
 with_core : (b : List ℕ) (opts : ParseOptions) (c : CoreView) (r : Result ImageView Refusal) → core_of b opts ≡ Ok c → IsBehindCore b opts (unless_refused b opts c) r → IsImage b opts r
 unfolding before_resources
 with_core b opts c r given is = rw given is
-
-if_memory : (e : Error) (P : Type 0) → P → IfMemory e P
-if_memory (errors.Malformed reason) P p = tt
-if_memory (errors.BadMagic magic) P p = tt
-if_memory (errors.Short at needed) P p = tt
-if_memory (errors.Memory e) P p = p
-
-unless_memory : (e : Error) (P Q : Type 0) → (P → Q) → UnlessMemory e P → UnlessMemory e Q
-unless_memory (errors.Malformed reason) P Q f p = f p
-unless_memory (errors.BadMagic magic) P Q f p = f p
-unless_memory (errors.Short at needed) P Q f p = f p
-unless_memory (errors.Memory e) P Q f p = tt
 
 pub from_core : {Z : Type 0} (b : List ℕ) (opts : ParseOptions) (c : CoreView) (r : Result (PE Z) Error) → core_of b opts ≡ Ok c → GivesBehindCore b opts c r → GivesImage b opts r
 from_core b opts c (Ok p) given is = with_core b opts c (Ok _) given is
@@ -170,12 +132,6 @@ from_core b opts c (Err e) given is = (
 )
 
 -- ---- the resources, as they are read
-
-unless : (e : Error) (P : Type 0) → P → UnlessMemory e P
-unless (errors.Malformed reason) P p = p
-unless (errors.BadMagic magic) P p = p
-unless (errors.Short at needed) P p = p
-unless (errors.Memory e) P p = tt
 
 -- the directory of the resources in the layout of an image
 abbrev directory_in : ParseOptions → Layout → Option DataDirectory

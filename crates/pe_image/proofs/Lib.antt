@@ -1,4 +1,5 @@
 pub mod NoMemory
+pub mod Steps
 pub mod ByMode
 pub mod Images
 pub mod Modes

@@ -12,9 +12,11 @@ use Rattle.pe_records.specs.DebugRecords.{DebugFields, debug_data}
 use Rattle.pe_resource.specs.Resources.{ResourceView, IsResource}
 use Rattle.pe_unwind.specs.ExceptionTable.{exception_at}
 use Rattle.pe_image.specs.Core.{CoreView, core_of, core_with}
-use Rattle.pe_image.specs.Fields.{Field, IsField, field, value_of, resource_directory}
+use Rattle.pe_image.specs.Fields.{Field, IsField, field, given_value, resource_directory}
 use Rattle.pe_image.specs.Image.{ImageView, with_fields, demanded, first_four_demanded, before_resources, debug_of, exceptions_of, relocations_of, AreResourcesOf, IsBehindCore, IsImage}
 use Rattle.pe_image.specs.Layout.{directory, alignment}
+use Rattle.pe_image.proofs.SectionsFirst.{core_before}
+use Rattle.pe_image.proofs.Steps.{first_passed}
 
 -- ---- options of both modes
 
@@ -52,15 +54,15 @@ permissive_core law b o c h = after_header b o (header_at b Strict) (header_at b
 abbrev DebugLaw : Type 0
 DebugLaw = (o : ParseOptions) (b : List ℕ) (d : DataDirectory) (sections : List SectionTable) (unit fixup : ℕ) (x : DebugFields) → debug_data (record o { parse_mode = Strict }) b d sections unit fixup ≡ Ok x → debug_data (record o { parse_mode = Permissive }) b d sections unit fixup ≡ Ok x
 
-same_value : {X : Type 0} (r s : Result X Refusal) → ((x : X) → r ≡ Ok x → s ≡ Ok x) → demanded Strict (Some r) ≡ Ok tt → value_of (Some r) ≡ value_of (Some s)
+same_value : {X : Type 0} (r s : Result X Refusal) → ((x : X) → r ≡ Ok x → s ≡ Ok x) → demanded Strict (Some r) ≡ Ok tt → given_value (Some r) ≡ given_value (Some s)
 same_value (Ok x) s same h = rw (same x refl) refl
 same_value (Err e) s same h = absurd cc
 
-same_debug_in : DebugLaw → (b : List ℕ) (o : ParseOptions) (sections : List SectionTable) (unit : ℕ) (d : Option DataDirectory) → demanded Strict (field (λ d. debug_data (strict o) b d sections unit 0) d) ≡ Ok tt → value_of (field (λ d. debug_data (strict o) b d sections unit 0) d) ≡ value_of (field (λ d. debug_data (permissive o) b d sections unit 0) d)
+same_debug_in : DebugLaw → (b : List ℕ) (o : ParseOptions) (sections : List SectionTable) (unit : ℕ) (d : Option DataDirectory) → demanded Strict (field (λ d. debug_data (strict o) b d sections unit 0) d) ≡ Ok tt → given_value (field (λ d. debug_data (strict o) b d sections unit 0) d) ≡ given_value (field (λ d. debug_data (permissive o) b d sections unit 0) d)
 same_debug_in law b o sections unit None h = refl
 same_debug_in law b o sections unit (Some d) h = same_value (debug_data (strict o) b d sections unit 0) (debug_data (permissive o) b d sections unit 0) (law o b d sections unit 0) h
 
-same_debug : DebugLaw → (b : List ℕ) (o : ParseOptions) (c : CoreView) → demanded Strict (debug_of b (strict o) c) ≡ Ok tt → value_of (debug_of b (strict o) c) ≡ value_of (debug_of b (permissive o) c)
+same_debug : DebugLaw → (b : List ℕ) (o : ParseOptions) (c : CoreView) → demanded Strict (debug_of b (strict o) c) ≡ Ok tt → given_value (debug_of b (strict o) c) ≡ given_value (debug_of b (permissive o) c)
 same_debug law b o c h = same_debug_in law b o c.sections (alignment c.header.optional_header) (directory 6 c.header.optional_header) h
 
 same_exceptions : (b : List ℕ) (o : ParseOptions) (c : CoreView) → exceptions_of b (strict o) c ≡ exceptions_of b (permissive o) c
@@ -90,20 +92,8 @@ same_fields law b o c f h = rw (same_debug law b o c h, same_exceptions b o c, s
 
 -- ---- the image
 
-first_demanded : {X : Type 0} (a : Result (Unit {0}) Refusal) (g : Unit {0} → Result X Refusal) (x : X) → (a >>= g) ≡ Ok x → a ≡ Ok tt
-first_demanded (Ok u) g x h = refl
-first_demanded (Err e) g x h = absurd cc
-
-core_kept : (b : List ℕ) (o : ParseOptions) (r : Result CoreView Refusal) (c : CoreView) → (r >>= λ c. first_four_demanded b o c >>= λ u. Ok c) ≡ Ok c → r ≡ Ok c
-core_kept b o (Ok d) c h = ap (λ d. Ok d) (only_test (first_four_demanded b o d) d c h)
-  where
-    only_test : (t : Result (Unit {0}) Refusal) (x y : CoreView) → (t >>= λ u. Ok x) ≡ Ok y → x ≡ y
-    only_test (Ok u) x y h = cc
-    only_test (Err e) x y h = absurd cc
-core_kept b o (Err e) c h = absurd cc
-
 four_kept : (b : List ℕ) (o : ParseOptions) (r : Result CoreView Refusal) (c : CoreView) → r ≡ Ok c → (r >>= λ c. first_four_demanded b o c >>= λ u. Ok c) ≡ Ok c → first_four_demanded b o c ≡ Ok tt
-four_kept b o r c is h = first_demanded (first_four_demanded b o c) (λ u. Ok c) c (rw is at h)
+four_kept b o r c is h = first_passed (first_four_demanded b o c) (λ u. Ok c) c (rw is at h)
 
 permissive_before : HeaderLaw → (b : List ℕ) (o : ParseOptions) (c : CoreView) → core_of b (strict o) ≡ Ok c → before_resources b (permissive o) ≡ Ok c
 unfolding before_resources
@@ -111,15 +101,15 @@ permissive_before law b o c h = rw (permissive_core law b o c h) refl
 
 behind : HeaderLaw → DebugLaw → ResourceLaw → (b : List ℕ) (o : ParseOptions) (c : CoreView) (image : ImageView) (f : Field ResourceView) → core_of b (strict o) ≡ Ok c → first_four_demanded b (strict o) c ≡ Ok tt → AreResourcesOf b (strict o) c f → Ok image ≡ (demanded Strict f >>= λ u. Ok (with_fields b (strict o) c f)) → IsImage b (permissive o) (Ok image)
 behind header debug resource b o c image f is four are given =
-    let passed : demanded Strict f ≡ Ok tt = first_demanded (demanded Strict f) (λ u. Ok (with_fields b (strict o) c f)) image (sym given) in
-    let same : with_fields b (strict o) c f ≡ with_fields b (permissive o) c f = same_fields debug b o c f (first_demanded (demanded Strict (debug_of b (strict o) c)) _ tt four) in
+    let passed : demanded Strict f ≡ Ok tt = first_passed (demanded Strict f) (λ u. Ok (with_fields b (strict o) c f)) image (sym given) in
+    let same : with_fields b (strict o) c f ≡ with_fields b (permissive o) c f = same_fields debug b o c f (first_passed (demanded Strict (debug_of b (strict o) c)) _ tt four) in
     let shown : Ok image ≡ Ok (with_fields b (permissive o) c f) = rw (passed, same) at given in
     rw (permissive_before header b o c is) (f, same_resources resource b o c f passed are, shown)
 
 behind_core : HeaderLaw → DebugLaw → ResourceLaw → (b : List ℕ) (o : ParseOptions) (r : Result CoreView Refusal) (image : ImageView) → before_resources b (strict o) ≡ r → IsBehindCore b (strict o) r (Ok image) → IsImage b (permissive o) (Ok image)
 unfolding before_resources
 behind_core header debug resource b o (Ok c) image h (f, are, given) =
-    let core : core_of b (strict o) ≡ Ok c = core_kept b (strict o) (core_of b (strict o)) c h in
+    let core : core_of b (strict o) ≡ Ok c = core_before b (strict o) (core_of b (strict o)) c h in
     behind header debug resource b o c image f core (four_kept b (strict o) (core_of b (strict o)) c core h) are given
 behind_core header debug resource b o (Err e) image h is = absurd cc
 

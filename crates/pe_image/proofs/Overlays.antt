@@ -6,7 +6,7 @@ use Rattle.std.proofs.lemmas.List.{places, length-append, length-take, length-dr
 use Rattle.std.proofs.lemmas.Bool.Decides.{nat_tests}
 use Rattle.std.proofs.lemmas.Bool.{cases_lt}
 use Rattle.pe_core.specs.Rows.{each}
-use Rattle.pe_image.specs.Overlay.{Piece, covers, byte_of, byte_after, overlay, all_fit}
+use Rattle.pe_image.specs.Overlay.{Piece, has_byte, byte_of, byte_after, overlay, all_fit}
 use Rattle.pe_core.specs.Bytes.{splice}
 use Rattle.pe_image.specs.WritingSteps.{put_in_turn}
 
@@ -47,9 +47,9 @@ covered_first : (t : Bool) (x : Piece) (xs : List Piece) (q old : ℕ) → byte_
 covered_first true x xs q old = one_more xs q old (Some x)
 covered_first false x xs q old = refl
 
-pub byte_after_cons : (x : Piece) (xs : List Piece) (q old : ℕ) → byte_after xs q (cond (covers q x) (slice_index x.content (q - x.place)) old) ≡ byte_after (x ∷ xs) q old
+pub byte_after_cons : (x : Piece) (xs : List Piece) (q old : ℕ) → byte_after xs q (cond (has_byte q x) (slice_index x.content (q - x.place)) old) ≡ byte_after (x ∷ xs) q old
 unfolding byte_after
-byte_after_cons x xs q old = covered_first (covers q x) x (filter (covers q) xs) q old
+byte_after_cons x xs q old = covered_first (has_byte q x) x (filter (has_byte q) xs) q old
 
 length-put : (xs : List Piece) (b : List ℕ) → all_fit (length b) xs ≡ true → length (put_in_turn b xs) ≡ length b
 unfolding put_in_turn

@@ -9,19 +9,12 @@ use Rattle.pe_core.specs.declared.options.ParseOptions.{ParseOptions}
 use Rattle.pe_core.specs.declared.section_table.SectionTable.{SectionTable}
 use Rattle.pe_resource.specs.Resources.{ResourceView, IsResource}
 use Rattle.pe_image.specs.Core.{CoreView, core_of}
-use Rattle.pe_image.specs.Fields.{Field, IsField, value_of, resource_directory}
+use Rattle.pe_image.specs.Fields.{Field, IsField, given_value, resource_directory}
 use Rattle.pe_image.specs.Image.{ImageView, core_part, with_fields, demanded, first_four_demanded, before_resources, debug_of, exceptions_of, relocations_of, certificates_of, AreResourcesOf, IsBehindCore, IsImage}
 use Rattle.pe_image.specs.Layout.{alignment}
+use Rattle.pe_image.proofs.Steps.{passed_test}
 
 -- ---- an image whose core is known
-
-same_core : (t : Result (Unit {0}) Refusal) (c d : CoreView) → (t >>= λ u. Ok c) ≡ Ok d → d ≡ c
-same_core (Ok u) c d h = cc
-same_core (Err e) c d h = absurd cc
-
-same_value : {X : Type 0} (t : Result (Unit {0}) Refusal) (x y : X) → Ok x ≡ (t >>= λ u. Ok y) → x ≡ y
-same_value (Ok u) x y h = cc
-same_value (Err e) x y h = absurd cc
 
 -- the core with its fields, for some reading of its resources
 abbrev IsWhole : List ℕ → ParseOptions → CoreView → ImageView → Type 0
@@ -30,8 +23,8 @@ IsWhole b o c x = (f : Field ResourceView) × AreResourcesOf b o c f × (x ≡ w
 whole_behind : (b : List ℕ) (o : ParseOptions) (c : CoreView) (x : ImageView) (r : Result CoreView Refusal) → (first_four_demanded b o c >>= λ u. Ok c) ≡ r → IsBehindCore b o r (Ok x) → IsWhole b o c x
 whole_behind b o c x (Err e) h is = absurd cc
 whole_behind b o c x (Ok d) h (f, are, given) =
-    let same : d ≡ c = same_core (first_four_demanded b o c) c d h in
-    (f, rw same at are, same_value (demanded o.parse_mode f) x (with_fields b o c f) (rw same at given))
+    let same : d ≡ c = sym (passed_test (first_four_demanded b o c) c d h) in
+    (f, rw same at are, sym (passed_test (demanded o.parse_mode f) (with_fields b o c f) x (sym (rw same at given))))
 
 whole : (b : List ℕ) (o : ParseOptions) (c : CoreView) (x : ImageView) → core_of b o ≡ Ok c → IsImage b o (Ok x) → IsWhole b o c x
 unfolding before_resources
@@ -44,39 +37,39 @@ core_alone b o c f = refl
 pub core_of_image : (b : List ℕ) (o : ParseOptions) (c : CoreView) (x : ImageView) → core_of b o ≡ Ok c → IsImage b o (Ok x) → core_part x ≡ c
 core_of_image b o c x h is = let (f, are, same) = whole b o c x h is in ap (λ x. core_part x) same ∙ core_alone b o c f
 
-debug_in : (b : List ℕ) (o : ParseOptions) (c : CoreView) (f : Field ResourceView) → (with_fields b o c f).debug_data ≡ value_of (debug_of b o c)
+debug_in : (b : List ℕ) (o : ParseOptions) (c : CoreView) (f : Field ResourceView) → (with_fields b o c f).debug_data ≡ given_value (debug_of b o c)
 unfolding with_fields
 debug_in b o c f = refl
 
-pub debug_alone : (b : List ℕ) (o : ParseOptions) (c : CoreView) (x : ImageView) → core_of b o ≡ Ok c → IsImage b o (Ok x) → x.debug_data ≡ value_of (debug_of b o c)
+pub debug_alone : (b : List ℕ) (o : ParseOptions) (c : CoreView) (x : ImageView) → core_of b o ≡ Ok c → IsImage b o (Ok x) → x.debug_data ≡ given_value (debug_of b o c)
 debug_alone b o c x h is = let (f, are, same) = whole b o c x h is in ap (λ x. x.debug_data) same ∙ debug_in b o c f
 
-exceptions_in : (b : List ℕ) (o : ParseOptions) (c : CoreView) (f : Field ResourceView) → (with_fields b o c f).exception_data ≡ value_of (exceptions_of b o c)
+exceptions_in : (b : List ℕ) (o : ParseOptions) (c : CoreView) (f : Field ResourceView) → (with_fields b o c f).exception_data ≡ given_value (exceptions_of b o c)
 unfolding with_fields
 exceptions_in b o c f = refl
 
-pub exceptions_alone : (b : List ℕ) (o : ParseOptions) (c : CoreView) (x : ImageView) → core_of b o ≡ Ok c → IsImage b o (Ok x) → x.exception_data ≡ value_of (exceptions_of b o c)
+pub exceptions_alone : (b : List ℕ) (o : ParseOptions) (c : CoreView) (x : ImageView) → core_of b o ≡ Ok c → IsImage b o (Ok x) → x.exception_data ≡ given_value (exceptions_of b o c)
 exceptions_alone b o c x h is = let (f, are, same) = whole b o c x h is in ap (λ x. x.exception_data) same ∙ exceptions_in b o c f
 
-relocations_in : (b : List ℕ) (o : ParseOptions) (c : CoreView) (f : Field ResourceView) → (with_fields b o c f).relocation_data ≡ value_of (relocations_of b o c)
+relocations_in : (b : List ℕ) (o : ParseOptions) (c : CoreView) (f : Field ResourceView) → (with_fields b o c f).relocation_data ≡ given_value (relocations_of b o c)
 unfolding with_fields
 relocations_in b o c f = refl
 
-pub relocations_alone : (b : List ℕ) (o : ParseOptions) (c : CoreView) (x : ImageView) → core_of b o ≡ Ok c → IsImage b o (Ok x) → x.relocation_data ≡ value_of (relocations_of b o c)
+pub relocations_alone : (b : List ℕ) (o : ParseOptions) (c : CoreView) (x : ImageView) → core_of b o ≡ Ok c → IsImage b o (Ok x) → x.relocation_data ≡ given_value (relocations_of b o c)
 relocations_alone b o c x h is = let (f, are, same) = whole b o c x h is in ap (λ x. x.relocation_data) same ∙ relocations_in b o c f
 
-certificates_in : (b : List ℕ) (o : ParseOptions) (c : CoreView) (f : Field ResourceView) → (with_fields b o c f).certificates ≡ unwrap_or (value_of (certificates_of b o c)) []
+certificates_in : (b : List ℕ) (o : ParseOptions) (c : CoreView) (f : Field ResourceView) → (with_fields b o c f).certificates ≡ unwrap_or (given_value (certificates_of b o c)) []
 unfolding with_fields
 certificates_in b o c f = refl
 
-pub certificates_alone : (b : List ℕ) (o : ParseOptions) (c : CoreView) (x : ImageView) → core_of b o ≡ Ok c → IsImage b o (Ok x) → x.certificates ≡ unwrap_or (value_of (certificates_of b o c)) []
+pub certificates_alone : (b : List ℕ) (o : ParseOptions) (c : CoreView) (x : ImageView) → core_of b o ≡ Ok c → IsImage b o (Ok x) → x.certificates ≡ unwrap_or (given_value (certificates_of b o c)) []
 certificates_alone b o c x h is = let (f, are, same) = whole b o c x h is in ap (λ x. x.certificates) same ∙ certificates_in b o c f
 
-resources_in : (b : List ℕ) (o : ParseOptions) (c : CoreView) (f : Field ResourceView) → (with_fields b o c f).resource_data ≡ value_of f
+resources_in : (b : List ℕ) (o : ParseOptions) (c : CoreView) (f : Field ResourceView) → (with_fields b o c f).resource_data ≡ given_value f
 unfolding with_fields
 resources_in b o c f = refl
 
-pub resources_alone : (b : List ℕ) (o : ParseOptions) (c : CoreView) (x : ImageView) → core_of b o ≡ Ok c → IsImage b o (Ok x) → (f : Field ResourceView) × AreResourcesOf b o c f × (x.resource_data ≡ value_of f)
+pub resources_alone : (b : List ℕ) (o : ParseOptions) (c : CoreView) (x : ImageView) → core_of b o ≡ Ok c → IsImage b o (Ok x) → (f : Field ResourceView) × AreResourcesOf b o c f × (x.resource_data ≡ given_value f)
 resources_alone b o c x h is =
     let (f, are, same) = whole b o c x h is in
     (f, are, ap (λ x. x.resource_data) same ∙ resources_in b o c f)

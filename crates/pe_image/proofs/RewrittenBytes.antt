@@ -27,11 +27,11 @@ use Rattle.pe_records.specs.declared.certificate_table.AttributeCertificateType.
 use Rattle.pe_records.proofs.CertificateListings.{StandFrom, is_listing, unplaced}
 use Rattle.pe_records.proofs.CertificatePieces.{length-spell}
 use Rattle.pe_records.proofs.CertificatesReadAgain.{next_place}
-use Rattle.pe_image.specs.Core.{CoreView, core_of, core_with, map_of, export_data_of, exports_of, import_directory, import_data_of, imports_of}
-use Rattle.pe_image.specs.Fields.{field, value_of}
+use Rattle.pe_image.specs.Core.{CoreView, core_of, core_with, place_in_image, export_data_of, exports_of, import_directory, import_data_of, imports_of}
+use Rattle.pe_image.specs.Fields.{field, given_value}
 use Rattle.pe_image.specs.Image.{ImageView, before_resources, IsBehindCore, IsImage}
 use Rattle.pe_image.specs.Layout.{directory, is_64}
-use Rattle.pe_image.specs.Overlay.{Piece, covers, byte_after, overlay}
+use Rattle.pe_image.specs.Overlay.{Piece, has_byte, byte_after, overlay}
 use Rattle.pe_image.specs.Pieces.{all_certificate_pieces, all_section_pieces, certificate_pieces, header_pieces, in_a_row, lacking, section_pieces}
 use Rattle.pe_image.specs.Writing.{AreAligned, certificate_directory, image_by, image_end, image_pieces, image_tests, image_written}
 use Rattle.pe_image.proofs.Overlays.{byte_after_cons, get_or-each, length-each}
@@ -77,7 +77,7 @@ all_append : (b : List ℕ) (xs ys : List Piece) → AllKept b xs → AllKept b 
 all_append b [] ys h k = k
 all_append b (x ∷ xs) ys h k = (h.0, all_append b xs ys h.1 k)
 
-covered_kept : (b : List ℕ) (x : Piece) (q old : ℕ) (t : Bool) → covers q x ≡ t → Kept b x.place x.content → KeptByte b q old → KeptByte b q (cond t (get_or x.content (q - x.place) 0) old)
+covered_kept : (b : List ℕ) (x : Piece) (q old : ℕ) (t : Bool) → has_byte q x ≡ t → Kept b x.place x.content → KeptByte b q old → KeptByte b q (cond t (get_or x.content (q - x.place) 0) old)
 covered_kept b x q old false e h k = k
 covered_kept b x q old true e h k =
     let above : x.place ≤ q = grind (arith, nat_tests) in
@@ -89,7 +89,7 @@ after_kept : (b : List ℕ) (xs : List Piece) (q old : ℕ) → AllKept b xs →
 after_kept b [] q old h k = unfold byte_after in k
 after_kept b (x ∷ xs) q old h k =
     subst (KeptByte b q) (byte_after_cons x xs q old)
-    (after_kept b xs q (cond (covers q x) (get_or x.content (q - x.place) 0) old) h.1 (covered_kept b x q old (covers q x) refl h.0 k))
+    (after_kept b xs q (cond (has_byte q x) (get_or x.content (q - x.place) 0) old) h.1 (covered_kept b x q old (has_byte q x) refl h.0 k))
 
 overlay_kept : (b : List ℕ) (xs : List Piece) (q : ℕ) → AllKept b xs → q < length b → KeptByte b q (get_or (overlay b xs) q 0)
 unfolding overlay
@@ -264,11 +264,11 @@ table_kept b address size cs small m e =
 none_kept : (b : List ℕ) (p : ℕ) (cs : List CertificateView) → cs ≡ [] → AllKept b (in_a_row certificate_pieces written_length p cs)
 none_kept b p cs e = subst (λ (cs : List CertificateView). AllKept b (in_a_row certificate_pieces written_length p cs)) (sym e) tt
 
-read_kept : (b : List ℕ) (address size : ℕ) (cs : List CertificateView) (r : Result (List CertificateView) Refusal) → AreBytes b → (0 < length cs → address % 8 ≡ 0) → certificates_at b address size ≡ r → cs ≡ unwrap_or (value_of (Some r)) [] → AllKept b (in_a_row certificate_pieces written_length address cs)
+read_kept : (b : List ℕ) (address size : ℕ) (cs : List CertificateView) (r : Result (List CertificateView) Refusal) → AreBytes b → (0 < length cs → address % 8 ≡ 0) → certificates_at b address size ≡ r → cs ≡ unwrap_or (given_value (Some r)) [] → AllKept b (in_a_row certificate_pieces written_length address cs)
 read_kept b address size cs (Ok ds) small m e same = table_kept b address size cs small m (e ∙ ap (λ ds. Ok ds) (sym same))
 read_kept b address size cs (Err k) small m e same = none_kept b address cs same
 
-field_kept : (b : List ℕ) (listed : Bool) (d : Option DataDirectory) (cs : List CertificateView) → AreBytes b → ((e : DataDirectory) → d ≡ Some e → 0 < length cs → e.virtual_address % 8 ≡ 0) → cs ≡ unwrap_or (value_of (cond listed (field (λ e. certificates_at b e.virtual_address e.size) d) None)) [] → AllKept b (all_certificate_pieces d cs)
+field_kept : (b : List ℕ) (listed : Bool) (d : Option DataDirectory) (cs : List CertificateView) → AreBytes b → ((e : DataDirectory) → d ≡ Some e → 0 < length cs → e.virtual_address % 8 ≡ 0) → cs ≡ unwrap_or (given_value (cond listed (field (λ e. certificates_at b e.virtual_address e.size) d) None)) [] → AllKept b (all_certificate_pieces d cs)
 field_kept b listed None cs small m same = tt
 field_kept b false (Some d) cs small m same = none_kept b d.virtual_address cs same
 field_kept b true (Some d) cs small m same = read_kept b d.virtual_address d.size cs (certificates_at b d.virtual_address d.size) small (m d refl) refl same
@@ -278,7 +278,7 @@ field_kept b true (Some d) cs small m same = read_kept b d.virtual_address d.siz
 core_header : (b : List ℕ) (o : ParseOptions) (header : HeaderView) (sections : List SectionTable) (c : CoreView) → core_with b o header sections ≡ Ok c → c.header ≡ header
 unfolding core_with
 core_header b o header sections c h =
-    let place = map_of o sections header.optional_header in
+    let place = place_in_image o sections header.optional_header in
     let width = entry_size (is_64 header.optional_header) in
     let data_found = export_data_of place b (directory 0 header.optional_header) in
     of_two {X = Option (List ImportRecordView)} {Y = List ImportView} (import_data_of place width b (import_directory o header.optional_header)) (λ found. imports_of place width b found)
@@ -317,8 +317,8 @@ pieces_kept b o x h small is m e =
     let read : sections_of b x.header ≡ Ok x.sections =
     then_those b (header_at b o.parse_mode) x.header x.sections at_image (sections_of_core b o c core ∙ ap (λ (ss : List SectionTable). Ok ss) (sym rows)) in
     let there : c.header.optional_header ≡ Some h = sym (ap (λ (h : HeaderView). h.optional_header) head) ∙ e in
-    let listed : x.certificates ≡ unwrap_or (value_of (cond o.parse_attribute_certificates (field (λ d. certificates_at b d.virtual_address d.size) (certificate_directory h)) None)) [] =
-    certificates_alone b o c x core is ∙ ap (λ (k : Option OptionalHeaderView). unwrap_or (value_of (cond o.parse_attribute_certificates (field (λ d. certificates_at b d.virtual_address d.size) (directory 4 k)) None)) []) there in
+    let listed : x.certificates ≡ unwrap_or (given_value (cond o.parse_attribute_certificates (field (λ d. certificates_at b d.virtual_address d.size) (certificate_directory h)) None)) [] =
+    certificates_alone b o c x core is ∙ ap (λ (k : Option OptionalHeaderView). unwrap_or (given_value (cond o.parse_attribute_certificates (field (λ d. certificates_at b d.virtual_address d.size) (directory 4 k)) None)) []) there in
     let sections : List Piece = all_section_pieces b (Some h.windows_fields.file_alignment) (sections_place x.header) x.sections in
     all_append b (header_pieces x.header h ++ sections) (all_certificate_pieces (certificate_directory h) x.certificates)
     (all_append b (header_pieces x.header h) sections (headers_kept b o.parse_mode x.header h small at_image e) (sections_kept b (Some h.windows_fields.file_alignment) x.header x.sections small read))

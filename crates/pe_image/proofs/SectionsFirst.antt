@@ -9,11 +9,12 @@ use Rattle.pe_core.specs.Sections.{sections_of}
 use Rattle.pe_core.specs.declared.options.ParseOptions.{ParseOptions}
 use Rattle.pe_core.specs.declared.section_table.SectionTable.{SectionTable}
 use Rattle.pe_resource.specs.Resources.{ResourceView}
-use Rattle.pe_image.specs.Core.{CoreView, core_of, core_with, sections_read, map_of, export_data_of, exports_of, import_directory, import_data_of, imports_of}
+use Rattle.pe_image.specs.Core.{CoreView, core_of, core_with, sections_read, place_in_image, export_data_of, exports_of, import_directory, import_data_of, imports_of}
 use Rattle.pe_image.specs.Fields.{Field}
 use Rattle.pe_image.specs.Image.{ImageView, with_fields, demanded, first_four_demanded, before_resources, IsBehindCore, IsImage, image_view, GivesImage}
 use Rattle.pe_image.specs.Layout.{directory, is_64}
 use Rattle.pe_image.specs.declared.pe.PE.{PE}
+use Rattle.pe_image.proofs.Steps.{passed_test}
 
 -- what all values of two steps have in common
 pub of_two : {X Y Z W : Type 0} (a : Result X Refusal) (f : X → Result Y Refusal) (make : X → Y → Z) (part : Z → W) (w : W) (z : Z) → ((x : X) (y : Y) → part (make x y) ≡ w) → (a >>= λ x. f x >>= λ y. Ok (make x y)) ≡ Ok z → part z ≡ w
@@ -27,7 +28,7 @@ of_two (Ok x) f make part w z same h = of_one (f x) (make x) part w z (same x) h
 core_sections : (b : List ℕ) (o : ParseOptions) (header : HeaderView) (sections : List SectionTable) (c : CoreView) → core_with b o header sections ≡ Ok c → c.sections ≡ sections
 unfolding core_with
 core_sections b o header sections c h =
-    let place = map_of o sections header.optional_header in
+    let place = place_in_image o sections header.optional_header in
     let width = entry_size (is_64 header.optional_header) in
     let data_found = export_data_of place b (directory 0 header.optional_header) in
     of_two {X = Option (List ImportRecordView)} {Y = List ImportView} (import_data_of place width b (import_directory o header.optional_header)) (λ found. imports_of place width b found)
@@ -50,22 +51,14 @@ same_sections : (b : List ℕ) (o : ParseOptions) (c : CoreView) (f : Field Reso
 unfolding with_fields
 same_sections b o c f = refl
 
-same_value : {X : Type 0} (t : Result (Unit {0}) Refusal) (x y : X) → Ok x ≡ (t >>= λ u. Ok y) → x ≡ y
-same_value (Ok u) x y h = cc
-same_value (Err e) x y h = absurd cc
-
-kept_core : (t : Result (Unit {0}) Refusal) (c d : CoreView) → (t >>= λ u. Ok c) ≡ Ok d → c ≡ d
-kept_core (Ok u) c d h = cc
-kept_core (Err e) c d h = absurd cc
-
 pub core_before : (b : List ℕ) (o : ParseOptions) (r : Result CoreView Refusal) (d : CoreView) → (r >>= λ c. first_four_demanded b o c >>= λ u. Ok c) ≡ Ok d → r ≡ Ok d
-core_before b o (Ok c) d h = ap (λ c. Ok c) (kept_core (first_four_demanded b o c) c d h)
+core_before b o (Ok c) d h = ap (λ c. Ok c) (passed_test (first_four_demanded b o c) c d h)
 core_before b o (Err e) d h = absurd cc
 
 behind : (b : List ℕ) (o : ParseOptions) (r : Result CoreView Refusal) (x : ImageView) → before_resources b o ≡ r → IsBehindCore b o r (Ok x) → sections_read b o ≡ Ok x.sections
 unfolding before_resources
 behind b o (Ok c) x h (f, are, given) =
-    let same : x ≡ with_fields b o c f = same_value (demanded o.parse_mode f) x (with_fields b o c f) given in
+    let same : x ≡ with_fields b o c f = sym (passed_test (demanded o.parse_mode f) (with_fields b o c f) x (sym given)) in
     sections_of_core b o c (core_before b o (core_of b o) c h) ∙ ap (λ sections. Ok sections) (sym (ap (λ (x : ImageView). x.sections) same ∙ same_sections b o c f))
 behind b o (Err e) x h is = absurd cc
 

@@ -11,6 +11,7 @@ use Rattle.pe_image.specs.Overlay.{all_fit}
 use Rattle.pe_image.specs.Pieces.{certificate_pieces, in_a_row, row_end}
 use Rattle.pe_image.specs.WritingSteps.{put_in_turn}
 use Rattle.pe_image.proofs.Rows.{Left, left_next, left_refused, Goes, goes_fits, goes_next, goes_last, rest_of_seen, no_rest_of_seen, fits_if, unfit_if, refused_if}
+use Rattle.pe_image.proofs.Steps.{accepted_if, value_if}
 
 and_true : (t : Bool) → (t && true) ≡ t
 and_true true = refl
@@ -19,10 +20,6 @@ and_true false = refl
 -- a certificate fits exactly if its bytes are there
 pub fit_is : (b : List ℕ) (p : ℕ) (c : CertificateView) → all_fit (length b) (certificate_pieces p c) ≡ holds b p (written_length c)
 fit_is b p c = and_true (nat_le (p + length (written_certificate c)) (length b)) ∙ ap (λ k. nat_le (p + k) (length b)) (length_written c)
-
-value_if : {Y : Type 0} (t : Bool) (x y : Y) → outcome ((t, WriteFit) ∷ []) x ≡ Ok y → y ≡ x
-value_if true x y h = cc
-value_if false x y h = absurd cc
 
 pub end_is : (b : List ℕ) (p end : ℕ) (c : CertificateView) → written_end b p c ≡ Ok end → end ≡ p + written_length c
 end_is b p end c h = value_if (holds b p (written_length c)) (p + written_length c) end h
@@ -51,10 +48,6 @@ certificate_refused b start cs place i end d r h l e =
     let t : Bool = holds b place (written_length c) in
     let unfit : all_fit (length b) (certificate_pieces place c) ≡ false = fit_is b place c ∙ unfit_if t (place + written_length c) r e in
     refused_if t _ (place + written_length c) end r e (left_refused certificate_pieces written_length (length b) start (map certificate_view cs) place c (drop (i + 1) (map certificate_view cs)) (rw (rest_of_seen certificate_view cs i d h) at l) unfit)
-
-accepted_if : {Y : Type 0} (t : Bool) (x y : Y) → true ≡ t → y ≡ x → outcome ((t, WriteFit) ∷ []) x ≡ Ok y
-accepted_if true x y h e = ap (λ z. Ok z) (sym e)
-accepted_if false x y h e = absurd cc
 
 pub certificates_accepted : (b : List ℕ) (start : ℕ) (cs : List AttributeCertificate) (place i : ℕ) → length cs ≤ i → LeftCertificates b start cs place i → outcome ((all_fit (length b) (in_a_row certificate_pieces written_length start (map certificate_view cs)), WriteFit) ∷ []) (row_end written_length start (map certificate_view cs)) ≡ Ok place
 certificates_accepted b start cs place i h l =

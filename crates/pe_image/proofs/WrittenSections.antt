@@ -14,6 +14,7 @@ use Rattle.pe_image.specs.Writing.{all_in_source}
 use Rattle.pe_image.specs.WritingSteps.{put_in_turn}
 use Rattle.pe_image.proofs.Laid.{length_section}
 use Rattle.pe_image.proofs.Rows.{Left, left_next, left_refused, Goes, goes_fits, goes_next, goes_last, and_left, and_right, fits_if, unfit_if, refused_if, rest_at}
+use Rattle.pe_image.proofs.Steps.{accepted_if, value_if}
 
 -- the pieces of a section fit exactly if its data, its header and its zeros do
 pub section_fit : (n : ℕ) (b : List ℕ) (unit : Option ℕ) (place : ℕ) (s : SectionTable) → length s.name ≡ 8 → holds b s.pointer_to_raw_data s.size_of_raw_data ≡ true → all_fit n (section_pieces b unit place s) ≡ (nat_le (raw_end s) n && (nat_le (place + 40) n && nat_le (raw_end s + lacking s.size_of_raw_data unit) n))
@@ -37,14 +38,6 @@ inside_at b (s ∷ sections) (suc i) d h l = inside_at b sections i d (and_right
 pub headers_end : (p : ℕ) (sections : List SectionTable) → row_end header_width p sections ≡ p + 40 * length sections
 headers_end p [] = omega arith
 headers_end p (s ∷ sections) = headers_end (p + 40) sections ∙ omega arith
-
-value_if : {Y : Type 0} (t : Bool) (x y : Y) → outcome ((t, WriteFit) ∷ []) x ≡ Ok y → y ≡ x
-value_if true x y h = cc
-value_if false x y h = absurd cc
-
-accepted_if : {Y : Type 0} (t : Bool) (x y : Y) → true ≡ t → y ≡ x → outcome ((t, WriteFit) ∷ []) x ≡ Ok y
-accepted_if true x y h e = ap (λ z. Ok z) (sym e)
-accepted_if false x y h e = absurd cc
 
 -- ---- the test, section by section
 

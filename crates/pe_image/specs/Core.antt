@@ -14,8 +14,8 @@ use Rattle.pe_core.specs.declared.section_table.SectionTable.{SectionTable}
 use Rattle.pe_image.specs.Layout.{directory, alignment, is_64}
 
 -- what maps the addresses of an image to places in the file
-abbrev pub map_of : ParseOptions → List SectionTable → Option OptionalHeaderView → ℕ → Option ℕ
-map_of opts sections o = place_of opts.resolve_rva (alignment o) sections
+abbrev pub place_in_image : ParseOptions → List SectionTable → Option OptionalHeaderView → ℕ → Option ℕ
+place_in_image opts sections o = place_of opts.resolve_rva (alignment o) sections
 
 -- the value of what is read, if it is not refused
 abbrev pub value_or_none : {X : Type 0} → Result X Refusal → Option X
@@ -60,7 +60,7 @@ pub record CoreView : Type 0 where
 unfoldable pub core_with : List ℕ → ParseOptions → HeaderView → List SectionTable → Result CoreView Refusal
 core_with b opts header sections =
     let o = header.optional_header in
-    let place = map_of opts sections o in
+    let place = place_in_image opts sections o in
     let width = entry_size (is_64 o) in
     let export_data = export_data_of place b (directory 0 o) in
     import_data_of place width b (import_directory opts o) >>= λ import_data.

@@ -14,7 +14,7 @@ use Rattle.pe_resource.specs.Resources.{ResourceView, resource_view, IsResource}
 use Rattle.pe_resource.specs.declared.resource.ResourceData.{ResourceData}
 use Rattle.pe_unwind.specs.ExceptionTable.{ExceptionView}
 use Rattle.pe_image.specs.Core.{CoreView}
-use Rattle.pe_image.specs.Fields.{Field, IsField, value_of}
+use Rattle.pe_image.specs.Fields.{Field, IsField, given_value}
 use Rattle.pe_image.specs.Image.{debug_of, exceptions_of, relocations_of, certificates_of}
 use Rattle.pe_image.specs.declared.fields.FirstFields.{FirstFields}
 
@@ -58,8 +58,8 @@ first_fields_in_turn b opts c = do
 -- the same fields, each by itself
 abbrev pub first_fields : List ℕ → ParseOptions → CoreView → FirstFieldsView
 first_fields b opts c = record {
-  debug_data = value_of (debug_of b opts c);
-  exception_data = value_of (exceptions_of b opts c);
-  relocation_data = value_of (relocations_of b opts c);
-  certificates = unwrap_or (value_of (certificates_of b opts c)) [];
+  debug_data = given_value (debug_of b opts c);
+  exception_data = given_value (exceptions_of b opts c);
+  relocation_data = given_value (relocations_of b opts c);
+  certificates = unwrap_or (given_value (certificates_of b opts c)) [];
 }

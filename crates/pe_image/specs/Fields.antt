@@ -59,7 +59,7 @@ abbrev pub IsResourceField : List ℕ → ParseOptions → List SectionTable →
 IsResourceField b opts sections o f = IsField (λ d r. IsResource opts b d sections (alignment o) r) (resource_directory opts o) f
 
 -- a field's value: nothing where it is absent or refused
-abbrev pub value_of : {X : Type 0} → Field X → Option X
-value_of None = None
-value_of (Some (Ok x)) = Some x
-value_of (Some (Err refusal)) = None
+abbrev pub given_value : {X : Type 0} → Field X → Option X
+given_value None = None
+given_value (Some (Ok x)) = Some x
+given_value (Some (Err refusal)) = None

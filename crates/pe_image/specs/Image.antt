@@ -16,7 +16,7 @@ use Rattle.pe_records.specs.DebugRecords.{DebugFields, debug_view}
 use Rattle.pe_resource.specs.Resources.{ResourceView, resource_view}
 use Rattle.pe_unwind.specs.ExceptionTable.{ExceptionView}
 use Rattle.pe_image.specs.Core.{CoreView, core_of, sections_read, AreLibrariesOf}
-use Rattle.pe_image.specs.Fields.{Field, value_of, debug_field, exception_field, relocation_field, certificate_field, IsResourceField}
+use Rattle.pe_image.specs.Fields.{Field, given_value, debug_field, exception_field, relocation_field, certificate_field, IsResourceField}
 use Rattle.pe_image.specs.Layout.{is_64, entry_point, image_base, is_library}
 use Rattle.pe_image.specs.declared.pe.PE.{PE}
 
@@ -107,11 +107,11 @@ with_fields b opts c resources = record {
   import_data = c.import_data;
   exports = c.exports;
   imports = c.imports;
-  debug_data = value_of (debug_of b opts c);
-  exception_data = value_of (exceptions_of b opts c);
-  relocation_data = value_of (relocations_of b opts c);
-  certificates = unwrap_or (value_of (certificates_of b opts c)) [];
-  resource_data = value_of resources;
+  debug_data = given_value (debug_of b opts c);
+  exception_data = given_value (exceptions_of b opts c);
+  relocation_data = given_value (relocations_of b opts c);
+  certificates = unwrap_or (given_value (certificates_of b opts c)) [];
+  resource_data = given_value resources;
 }
 
 -- a refused field refuses the image in strict mode

@@ -12,8 +12,8 @@ abbrev pub piece : ℕ → List ℕ → Piece
 piece p s = record { place = p; content = s }
 
 -- the piece has a byte for place q
-abbrev pub covers : ℕ → Piece → Bool
-covers q x = nat_le x.place q && nat_lt q (x.place + length x.content)
+abbrev pub has_byte : ℕ → Piece → Bool
+has_byte q x = nat_le x.place q && nat_lt q (x.place + length x.content)
 
 -- the piece's byte for place q, or else the old one
 abbrev pub byte_of : ℕ → ℕ → Option Piece → ℕ
@@ -22,7 +22,7 @@ byte_of q old (Some x) = slice_index x.content (q - x.place)
 
 -- byte q once the pieces are written: that of the last piece that covers q, or else the old one
 unfoldable pub byte_after : List Piece → ℕ → ℕ → ℕ
-byte_after pieces q old = byte_of q old (last_or None (filter (covers q) pieces))
+byte_after pieces q old = byte_of q old (last_or None (filter (has_byte q) pieces))
 
 -- the bytes once the pieces are written over them
 unfoldable pub overlay : List ℕ → List Piece → List ℕ

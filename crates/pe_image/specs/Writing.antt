@@ -19,9 +19,9 @@ use Rattle.pe_image.specs.Overlay.{Piece, all_fit, overlay}
 use Rattle.pe_image.specs.Pieces.{all_certificate_pieces, all_section_pieces, certificates_end, header_pieces}
 
 -- the answer and the bytes that are left are the defined ones; a refusal is the defined one, and nothing is changed
-abbrev pub Writes : Result ℕ Error → Result (ℕ × List ℕ) Refusal → List ℕ → List ℕ → Type 0
-Writes (Ok n) defined old new = defined ≡ Ok (n, new)
-Writes (Err e) defined old new = (defined ≡ Err (kind_of e)) × (new ≡ old)
+abbrev pub GivesWritten : Result ℕ Error → Result (ℕ × List ℕ) Refusal → List ℕ → List ℕ → Type 0
+GivesWritten (Ok n) defined old new = defined ≡ Ok (n, new)
+GivesWritten (Err e) defined old new = (defined ≡ Err (kind_of e)) × (new ≡ old)
 
 -- an offset moves to the answer; a refusal leaves it where it was
 abbrev pub Moves : Result ℕ Error → ℕ → ℕ → Type 0

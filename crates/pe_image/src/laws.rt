@@ -14,7 +14,7 @@ ghost use Rattle.pe_resource.specs.Resources.{ResourceView};
 ghost use Rattle.pe_unwind.specs.ExceptionTable.{ExceptionView};
 ghost use Rattle.pe_image.specs.Core.{CoreView, core_of};
 ghost use Rattle.pe_image.specs.Layout.{alignment};
-ghost use Rattle.pe_image.specs.Fields.{Field, value_of};
+ghost use Rattle.pe_image.specs.Fields.{Field, given_value};
 ghost use Rattle.pe_image.specs.Image.{ImageView, core_part, AreResourcesOf, IsImage, certificates_of, debug_of, exceptions_of, relocations_of};
 ghost use Rattle.pe_image.specs.Overlay.{Piece, all_fit, overlay};
 ghost use Rattle.pe_image.specs.Writing.{AreAligned, certificate_directory, certificates_written, clash, image_written};
@@ -36,15 +36,15 @@ pub fn permissive_fields_are_their_own()
     ensures core { (b : List ℕ) (o : ParseOptions) (c : CoreView) (x : ImageView) → core_of b o ≡ Ok c → IsImage b o (Ok x) →
         core_part x ≡ c }
     ensures debug { (b : List ℕ) (o : ParseOptions) (c : CoreView) (x : ImageView) → core_of b o ≡ Ok c → IsImage b o (Ok x) →
-        x.debug_data ≡ value_of (debug_of b o c) }
+        x.debug_data ≡ given_value (debug_of b o c) }
     ensures exceptions { (b : List ℕ) (o : ParseOptions) (c : CoreView) (x : ImageView) → core_of b o ≡ Ok c → IsImage b o (Ok x) →
-        x.exception_data ≡ value_of (exceptions_of b o c) }
+        x.exception_data ≡ given_value (exceptions_of b o c) }
     ensures relocations { (b : List ℕ) (o : ParseOptions) (c : CoreView) (x : ImageView) → core_of b o ≡ Ok c → IsImage b o (Ok x) →
-        x.relocation_data ≡ value_of (relocations_of b o c) }
+        x.relocation_data ≡ given_value (relocations_of b o c) }
     ensures certificates { (b : List ℕ) (o : ParseOptions) (c : CoreView) (x : ImageView) → core_of b o ≡ Ok c → IsImage b o (Ok x) →
-        x.certificates ≡ unwrap_or (value_of (certificates_of b o c)) [] }
+        x.certificates ≡ unwrap_or (given_value (certificates_of b o c)) [] }
     ensures resources { (b : List ℕ) (o : ParseOptions) (c : CoreView) (x : ImageView) → core_of b o ≡ Ok c → IsImage b o (Ok x) →
-        (f : Field ResourceView) × AreResourcesOf b o c f × (x.resource_data ≡ value_of f) }
+        (f : Field ResourceView) × AreResourcesOf b o c f × (x.resource_data ≡ given_value f) }
 {}
 
 /// Where strict parsing succeeds, permissive parsing with otherwise the same options gives the same image.

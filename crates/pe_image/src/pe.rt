@@ -22,9 +22,10 @@ use pe_records::{CertificateDirectoryTable, DebugData};
 use pe_resource::ResourceData;
 use pe_unwind::ExceptionData;
 use std::alloc::{Allocator, Global};
+use std::fmt;
 
 /// A Windows executable: a program, a library or a driver.
-#[derive(Debug, Drop)]
+#[derive(Drop)]
 pub struct PE<'a, A: Allocator + Copy + Drop = Global> {
     /// What it was read from.
     pub(crate) bytes: &'a [u8],
@@ -66,6 +67,32 @@ pub struct PE<'a, A: Allocator + Copy + Drop = Global> {
     pub certificates: CertificateDirectoryTable<'a, A>,
     /// The resources, unless the options pass them over.
     pub resource_data: Option<ResourceData<'a>>,
+}
+
+/// Tells all fields, without the bytes of the file.
+impl<'a, A: Allocator + Copy + Drop + fmt::Debug> fmt::Debug for PE<'a, A> {
+    fn fmt<W: fmt::Write>(&self, f: &mut fmt::Formatter<W>) -> fmt::Result {
+        f.debug_struct("PE")
+            .field("header", &self.header)
+            .field("sections", &self.sections)
+            .field("size", &self.size)
+            .field("name", &self.name)
+            .field("is_lib", &self.is_lib)
+            .field("is_64", &self.is_64)
+            .field("entry", &self.entry)
+            .field("image_base", &self.image_base)
+            .field("export_data", &self.export_data)
+            .field("import_data", &self.import_data)
+            .field("exports", &self.exports)
+            .field("imports", &self.imports)
+            .field("libraries", &self.libraries)
+            .field("debug_data", &self.debug_data)
+            .field("exception_data", &self.exception_data)
+            .field("relocation_data", &self.relocation_data)
+            .field("certificates", &self.certificates)
+            .field("resource_data", &self.resource_data)
+            .finish()
+    }
 }
 
 /// The name that an export directory gives, if there is one.

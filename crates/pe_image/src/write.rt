@@ -16,7 +16,7 @@ ghost use Rattle.pe_records.specs.Certificates.{certificate_view};
 ghost use Rattle.pe_image.specs.Overlay.{all_fit};
 ghost use Rattle.pe_image.specs.WritingSteps.{put_in_turn};
 ghost use Rattle.pe_image.specs.Image.{image_view, source_of};
-ghost use Rattle.pe_image.specs.Writing.{Moves, Writes, all_in_source, certificates_written, image_by, image_end, image_pieces, image_tests, image_written, sections_written};
+ghost use Rattle.pe_image.specs.Writing.{Moves, GivesWritten, all_in_source, certificates_written, image_by, image_end, image_pieces, image_tests, image_written, sections_written};
 
 use crate::pe::PE;
 use crate::write::certificates::{require_table, set_table, write_table};
@@ -32,7 +32,7 @@ impl<'a, A: Allocator + Copy + Drop> PE<'a, A> {
     /// is written. Places are bytes from the beginning of the buffer. Refusals in this order, each of which leaves the
     /// buffer as it was: `NoOptionalHeader`; `WriteFit` where the certificates are not all inside the buffer.
     pub fn write_certificates(&self, buffer: &mut [u8]) -> Result<usize>
-        ensures { Writes result (certificates_written (image_view self.now) buffer.old) buffer.old buffer.new }
+        ensures { GivesWritten result (certificates_written (image_view self.now) buffer.old) buffer.old buffer.new }
     {
         match &self.header.optional_header {
             None => Err(Error::Malformed(Reason::NoOptionalHeader)),
@@ -56,7 +56,7 @@ impl<'a, A: Allocator + Copy + Drop> PE<'a, A> {
         offset: &mut usize,
         file_alignment: Option<usize>,
     ) -> Result<usize>
-        ensures written { Writes result (sections_written (source_of self.now) (image_view self.now).sections file_alignment offset.old buffer.old) buffer.old buffer.new }
+        ensures written { GivesWritten result (sections_written (source_of self.now) (image_view self.now).sections file_alignment offset.old buffer.old) buffer.old buffer.new }
         ensures offset { Moves result offset.old offset.new }
     {
         let writer = SectionWriter {
@@ -136,7 +136,7 @@ impl<'a, A: Allocator + Copy + Drop> PE<'a, A> {
     /// Writes the image with this optional header.
     #[tactic(auto, using(crate::proofs::Rows::refused_too))]
     fn write_with(&self, buffer: &mut [u8], optional: &OptionalHeader) -> Result<usize>
-        ensures { Writes result (image_by (Some (optional_header_view optional.now)) (source_of self.now) (header_view self.now.header) self.now.sections.items (map certificate_view self.now.certificates.items) buffer.old) buffer.old buffer.new }
+        ensures { GivesWritten result (image_by (Some (optional_header_view optional.now)) (source_of self.now) (header_view self.now.header) self.now.sections.items (map certificate_view self.now.certificates.items) buffer.old) buffer.old buffer.new }
     {
         match self.require_image(buffer, optional) {
             Err(error) => Err(error),
@@ -159,7 +159,7 @@ impl<'a, A: Allocator + Copy + Drop> PE<'a, A> {
     /// to COFF symbols is 0; `WriteOverlap` where two unequal sections share a byte of the file; `WriteSection` where the
     /// data of one are not in the source; `WriteFit` where the pieces are not all inside the buffer.
     pub fn write_into(&self, buffer: &mut [u8]) -> Result<usize>
-        ensures { Writes result (image_written (source_of self.now) (image_view self.now) buffer.old) buffer.old buffer.new }
+        ensures { GivesWritten result (image_written (source_of self.now) (image_view self.now) buffer.old) buffer.old buffer.new }
     {
         match &self.header.optional_header {
             None => Err(Error::Malformed(Reason::NoOptionalHeader)),

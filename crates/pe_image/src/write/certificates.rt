@@ -6,7 +6,7 @@ ghost use Rattle.pe_records.specs.Certificates.{certificate_view};
 ghost use Rattle.pe_records.specs.CertificateWriting.{written_end, written_length};
 ghost use Rattle.pe_image.specs.Overlay.{all_fit};
 ghost use Rattle.pe_image.specs.Pieces.{all_certificate_pieces, certificate_pieces, certificates_end, in_a_row, row_end};
-ghost use Rattle.pe_image.specs.Writing.{Writes, certificates_over};
+ghost use Rattle.pe_image.specs.Writing.{GivesWritten, certificates_over};
 ghost use Rattle.pe_image.specs.WritingSteps.{put_in_turn};
 
 use pe_core::{DataDirectory, Result, require_room, rounded_up};
@@ -113,7 +113,7 @@ pub fn write_table(
     directory: Option<DataDirectory>,
     certificates: &[AttributeCertificate<'_>],
 ) -> Result<usize>
-    ensures { Writes result (certificates_over directory (map certificate_view certificates.now) buffer.old) buffer.old buffer.new }
+    ensures { GivesWritten result (certificates_over directory (map certificate_view certificates.now) buffer.old) buffer.old buffer.new }
 {
     match require_table(buffer, directory, certificates) {
         Err(error) => Err(error),

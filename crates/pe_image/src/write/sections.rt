@@ -5,7 +5,7 @@ ghost use Rattle.pe_core.specs.Bytes.{holds};
 ghost use Rattle.pe_core.specs.Refusals.{Gives, WriteAlignment, WriteFit, WriteOverlap, WriteSection, outcome};
 ghost use Rattle.pe_image.specs.Overlay.{all_fit};
 ghost use Rattle.pe_image.specs.Pieces.{all_section_pieces, header_width, in_a_row, lacking, section_pieces};
-ghost use Rattle.pe_image.specs.Writing.{Writes, all_in_source, clash_free, is_unit, section_tests, sections_written};
+ghost use Rattle.pe_image.specs.Writing.{GivesWritten, all_in_source, clash_free, is_unit, section_tests, sections_written};
 ghost use Rattle.pe_image.specs.WritingSteps.{put_in_turn};
 
 use crate::write::overlaps::{first_clash, first_outside, raw_end};
@@ -138,7 +138,7 @@ impl<'a> SectionWriter<'a> {
     /// does, and then changes nothing.
     #[tactic(auto, using(crate::proofs::Rows::refused_too))]
     pub fn write(&self, buffer: &mut [u8], start: usize) -> Result<usize>
-        ensures { Writes result (sections_written self.now.source.now self.now.sections.now self.now.unit start buffer.old) buffer.old buffer.new }
+        ensures { GivesWritten result (sections_written self.now.source.now self.now.sections.now self.now.unit start buffer.old) buffer.old buffer.new }
     {
         match self.require_all(buffer, start) {
             Err(error) => Err(error),

@@ -1,0 +1,51 @@
+-- Tests in front of a value, and facts that are owed by the kind of a refusal.
+use Rattle.std.proofs.Common.{◌≡◌, Bool, true, false, List, [], ◌∷◌, Result, Ok, Err, refl, sym, ap, ◌∙◌}
+use Rattle.pe_core.specs.Refusals.{Refusal, WriteFit, UnlessMemory, IfMemory, outcome, ◌>>=◌}
+use Rattle.pe_core.specs.declared.error.Error.{Error}
+use Rattle.pe_core.specs.declared.error.Error.TheVariants as errors
+
+pub refused_test : {X : Type 0} (t : Result (Unit {0}) Refusal) (x : X) (e : Refusal) → (t >>= λ u. Ok x) ≡ Err e → t ≡ Err e
+refused_test (Ok u) x e h = absurd cc
+refused_test (Err r) x e h = let same : r ≡ e = cc in ap (λ e. Err e) same
+
+pub passed_test : {X : Type 0} (t : Result (Unit {0}) Refusal) (x y : X) → (t >>= λ u. Ok x) ≡ Ok y → x ≡ y
+passed_test (Ok u) x y h = cc
+passed_test (Err r) x y h = absurd cc
+
+pub still_passes : {X Y : Type 0} (t : Result (Unit {0}) Refusal) (x y : X) (z : Y) → (t >>= λ u. Ok x) ≡ Ok y → (t >>= λ u. Ok z) ≡ Ok z
+still_passes (Ok u) x y z h = refl
+still_passes (Err r) x y z h = absurd cc
+
+pub first_passed : {X : Type 0} (t : Result (Unit {0}) Refusal) (f : Unit {0} → Result X Refusal) (x : X) → (t >>= f) ≡ Ok x → t ≡ Ok tt
+first_passed (Ok u) f x h = refl
+first_passed (Err e) f x h = absurd cc
+
+-- ---- one test of a write
+
+pub value_if : {Y : Type 0} (t : Bool) (x y : Y) → outcome ((t, WriteFit) ∷ []) x ≡ Ok y → y ≡ x
+value_if true x y h = cc
+value_if false x y h = absurd cc
+
+pub accepted_if : {Y : Type 0} (t : Bool) (x y : Y) → true ≡ t → y ≡ x → outcome ((t, WriteFit) ∷ []) x ≡ Ok y
+accepted_if true x y h e = ap (λ z. Ok z) (sym e)
+accepted_if false x y h e = absurd cc
+
+-- ---- want of memory
+
+pub if_memory : (e : Error) (P : Type 0) → P → IfMemory e P
+if_memory (errors.Malformed reason) P p = tt
+if_memory (errors.BadMagic magic) P p = tt
+if_memory (errors.Short at needed) P p = tt
+if_memory (errors.Memory e) P p = p
+
+pub unless_memory : (e : Error) (P Q : Type 0) → (P → Q) → UnlessMemory e P → UnlessMemory e Q
+unless_memory (errors.Malformed reason) P Q f p = f p
+unless_memory (errors.BadMagic magic) P Q f p = f p
+unless_memory (errors.Short at needed) P Q f p = f p
+unless_memory (errors.Memory e) P Q f p = tt
+
+pub unless : (e : Error) (P : Type 0) → P → UnlessMemory e P
+unless (errors.Malformed reason) P p = p
+unless (errors.BadMagic magic) P p = p
+unless (errors.Short at needed) P p = p
+unless (errors.Memory e) P p = tt
