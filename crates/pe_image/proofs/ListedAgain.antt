@@ -1,5 +1,5 @@
 -- Certificates that are written are listed again.
-use Rattle.std.proofs.Common.{◌≡◌, ℕ, ◌+◌, ◌%◌, ◌≤◌, Bool, true, false, Result, Ok, Err, List, [], ◌∷◌, length, Option, Some, ap, sym, subst, ◌∙◌, arith}
+use Rattle.std.proofs.Common.{◌≡◌, ℕ, ◌+◌, ◌%◌, ◌≤◌, Bool, true, false, Result, Ok, Err, ◌&&◌, List, [], ◌∷◌, ◌++◌, length, Option, Some, ap, sym, subst, ◌∙◌, arith}
 use Rattle.std.proofs.lemmas.Bool.Decides.{nat_tests}
 use Rattle.std.proofs.lemmas.List.{length-append, take-append-drop}
 use Rattle.pe_core.specs.Bytes.{AreBytes, splice}
@@ -7,21 +7,34 @@ use Rattle.pe_core.specs.Header.{OptionalHeaderView}
 use Rattle.pe_core.specs.Refusals.{Refusal, WriteFit, outcome}
 use Rattle.pe_core.specs.declared.data_directories.DataDirectory.{DataDirectory}
 use Rattle.pe_records.specs.Certificates.{CertificateView, IsListing}
-use Rattle.pe_records.specs.CertificateWriting.{written_certificate, written_certificates, written_length}
-use Rattle.pe_records.proofs.CertificatePieces.{in_turn, length_written}
+use Rattle.pe_records.specs.CertificateWriting.{padding, spell_certificate, written_certificate, written_certificates, written_length}
+use Rattle.pe_records.proofs.CertificatePieces.{in_turn, length-spell, length_written}
 use Rattle.pe_image.specs.Image.{ImageView}
 use Rattle.pe_image.specs.Overlay.{Piece, all_fit, overlay}
 use Rattle.pe_image.specs.Pieces.{certificate_pieces, certificates_end, in_a_row}
 use Rattle.pe_image.specs.Writing.{certificate_directory, certificates_by, certificates_over, certificates_written}
 use Rattle.pe_image.specs.WritingSteps.{put_in_turn}
-use Rattle.pe_image.proofs.Overlays.{length-splice, overlay_in_turn}
-use Rattle.pe_image.proofs.Rows.{and_right, fits_if}
+use Rattle.pe_image.proofs.Overlays.{length-splice, overlay_in_turn, put_append}
+use Rattle.pe_image.proofs.Rows.{all_fit_append, and_left, and_right, fits_if}
+use Rattle.pe_image.proofs.WrittenCertificates.{put_at_once}
 
 abbrev row : ℕ → List CertificateView → List Piece
 row p cs = in_a_row certificate_pieces written_length p cs
 
+-- a certificate and those behind it
+both_fit : (n p : ℕ) (c : CertificateView) (cs : List CertificateView) → all_fit n (row p (c ∷ cs)) ≡ true → (all_fit n (certificate_pieces p c) && all_fit n (row (p + written_length c) cs)) ≡ true
+both_fit n p c cs h = sym (all_fit_append n (certificate_pieces p c) (row (p + written_length c) cs)) ∙ h
+
+last_fits : (n p : ℕ) (c : CertificateView) → all_fit n (certificate_pieces p c) ≡ true → p + 8 + length c.body + length (padding c) ≤ n
+last_fits n p c h = grind (arith, nat_tests)
+
 first_fits : (n p : ℕ) (c : CertificateView) (cs : List CertificateView) → all_fit n (row p (c ∷ cs)) ≡ true → p + length (written_certificate c) ≤ n
-first_fits n p c cs h = grind (arith, nat_tests)
+first_fits n p c cs h =
+    let end : p + 8 + length c.body + length (padding c) ≤ n = last_fits n p c (and_left _ _ (both_fit n p c cs h)) in
+    omega (arith, end, length-spell c, length-append (spell_certificate c) (c.body ++ padding c), length-append c.body (padding c))
+
+others_fit : (n p : ℕ) (c : CertificateView) (cs : List CertificateView) → all_fit n (row p (c ∷ cs)) ≡ true → all_fit n (row (p + written_length c) cs) ≡ true
+others_fit n p c cs h = and_right _ _ (both_fit n p c cs h)
 
 -- certificates that all fit end inside the buffer
 pub row_inside : (n p : ℕ) (cs : List CertificateView) → p ≤ n → all_fit n (row p cs) ≡ true → p + length (written_certificates cs) ≤ n
@@ -29,7 +42,7 @@ row_inside n p [] h f = omega arith
 row_inside n p (c ∷ cs) h f =
     let here : p + length (written_certificate c) ≤ n = first_fits n p c cs f in
     let l : length (written_certificate c) ≡ written_length c = length_written c in
-    let rest : p + written_length c + length (written_certificates cs) ≤ n = row_inside n (p + written_length c) cs (omega arith) (and_right _ _ f) in
+    let rest : p + written_length c + length (written_certificates cs) ≤ n = row_inside n (p + written_length c) cs (omega arith) (others_fit n p c cs f) in
     omega (arith, length-append (written_certificate c) (written_certificates cs))
 
 -- certificates that are put one after the other are all of them put at once
@@ -40,8 +53,10 @@ row_at_once b p (c ∷ cs) h f =
     let here : p + length (written_certificate c) ≤ length b = first_fits (length b) p c cs f in
     let w : length (written_certificate c) ≡ written_length c = length_written c in
     let l : length (splice b p (written_certificate c)) ≡ length b = length-splice b p (written_certificate c) here in
-    let rest : all_fit (length (splice b p (written_certificate c))) (row (p + written_length c) cs) ≡ true = rw l (and_right _ _ f) in
-    row_at_once (splice b p (written_certificate c)) (p + written_length c) cs (omega arith) rest ∙ sym (in_turn b p c cs h)
+    let rest : all_fit (length (splice b p (written_certificate c))) (row (p + written_length c) cs) ≡ true = rw l (others_fit (length b) p c cs f) in
+    let first : put_in_turn b (row p (c ∷ cs)) ≡ put_in_turn (splice b p (written_certificate c)) (row (p + written_length c) cs) =
+    put_append (certificate_pieces p c) (row (p + written_length c) cs) b ∙ ap (λ (x : List ℕ). put_in_turn x (row (p + written_length c) cs)) (put_at_once b p c h) in
+    first ∙ row_at_once (splice b p (written_certificate c)) (p + written_length c) cs (omega arith) rest ∙ sym (in_turn b p c cs h)
 
 -- the bytes of an answer
 abbrev bytes_in : List ℕ → Result (ℕ × List ℕ) Refusal → List ℕ

@@ -1,9 +1,9 @@
 -- What writing an image over a copy of its bytes changes is zero.
-use Rattle.std.proofs.Common.{◌≡◌, ℕ, zero, suc, ◌+◌, ◌-◌, ◌*◌, ◌%◌, ◌<◌, ◌≤◌, ◌||◌, ◌⊎◌, inl, inr, ⊎_elim, Bool, true, false, cond, nat_le, Result, Ok, Err, List, [], ◌∷◌, ◌++◌, length, get_or, replicate, Option, Some, None, refl, ap, sym, ◌∙◌, subst, arith}
-use Rattle.std.specs.Prelude.{slice_index, slice_range, unwrap_or, ◌==◌}
-use Rattle.std.proofs.lemmas.Bool.{cases_lt}
+use Rattle.std.proofs.Common.{◌≡◌, ℕ, zero, suc, ◌+◌, ◌-◌, ◌*◌, ◌%◌, ◌<◌, ◌≤◌, ◌||◌, ◌⊎◌, inl, inr, Bool, true, false, cond, nat_le, Result, Ok, Err, List, [], ◌∷◌, ◌++◌, length, get_or, replicate, Option, Some, None, refl, ap, sym, ◌∙◌, subst, arith}
+use Rattle.std.specs.Prelude.{filter, slice_index, slice_range, unwrap_or, ◌==◌}
+use Rattle.std.specs.List.{last_or}
 use Rattle.std.proofs.lemmas.Bool.Decides.{nat_tests}
-use Rattle.std.proofs.lemmas.List.{places, get_or_append_left, get_or-append_right, length-append}
+use Rattle.std.proofs.lemmas.List.{places, length-replicate}
 use Rattle.pe_core.specs.Bytes.{AreBytes, le, bytes_of, holds, range}
 use Rattle.pe_core.specs.Header.{HeaderView, OptionalHeaderView, header, header_at, header_tests, optional_header, optional_header_tests, optional_header_at}
 use Rattle.pe_core.specs.Imports.{ImportRecordView, ImportView, entry_size}
@@ -21,52 +21,39 @@ use Rattle.pe_core.proofs.NumberBytes.{bytes_of-le, range_join}
 use Rattle.pe_core.proofs.SpelledOptional.{spelled_optional}
 use Rattle.pe_core.proofs.SpelledRecords.{spelled_dos, spelled_coff, spelled_section}
 use Rattle.pe_records.specs.Certificates.{CertificateView, certificate_at, certificate, certificate_tests, certificates_at, IsListing, is_revision, is_type, revision_number, revision_of, type_number, type_of}
-use Rattle.pe_records.specs.CertificateWriting.{padding, spell_certificate, written_certificate, written_length}
+use Rattle.pe_records.specs.CertificateWriting.{spell_certificate, written_length}
 use Rattle.pe_records.specs.declared.certificate_table.AttributeCertificateRevision.TheVariants.{Revision1_0, Revision2_0}
 use Rattle.pe_records.specs.declared.certificate_table.AttributeCertificateType.TheVariants.{X509, PkcsSignedData, Reserved1, TsStackSigned}
 use Rattle.pe_records.proofs.CertificateListings.{StandFrom, is_listing, unplaced}
-use Rattle.pe_records.proofs.CertificatePieces.{length-spell}
 use Rattle.pe_records.proofs.CertificatesReadAgain.{next_place}
 use Rattle.pe_image.specs.Core.{CoreView, core_of, core_with, place_in_image, export_data_of, exports_of, import_directory, import_data_of, imports_of}
 use Rattle.pe_image.specs.Fields.{field, given_value}
 use Rattle.pe_image.specs.Image.{ImageView, before_resources, IsBehindCore, IsImage}
 use Rattle.pe_image.specs.Layout.{directory, is_64}
-use Rattle.pe_image.specs.Overlay.{Piece, has_byte, byte_after, overlay}
+use Rattle.pe_image.specs.Overlay.{Piece, EndsInZeros, has_byte, byte_of, byte_after, last_piece, overlay}
 use Rattle.pe_image.specs.Pieces.{all_certificate_pieces, all_section_pieces, certificate_pieces, header_pieces, in_a_row, lacking, section_pieces}
 use Rattle.pe_image.specs.Writing.{AreAligned, certificate_directory, image_by, image_end, image_pieces, image_tests, image_written}
-use Rattle.pe_image.proofs.Overlays.{byte_after_cons, get_or-each, length-each}
+use Rattle.pe_image.proofs.Overlays.{get_or-each, length-each}
 use Rattle.pe_image.proofs.Permissive.{certificates_alone, core_of_image}
 use Rattle.pe_image.proofs.Rows.{accepted_too}
 use Rattle.pe_image.proofs.SectionsFirst.{core_before, of_two, sections_of_core}
 
--- a byte is the one at place q of b, or zero
-abbrev KeptByte : List ℕ → ℕ → ℕ → Type 0
-KeptByte b q x = (x ≡ get_or b q 0) ⊎ (x ≡ 0)
+-- bytes that are to stand from place p on are those of b there
+abbrev AreThose : List ℕ → ℕ → List ℕ → Type 0
+AreThose b p s = (i : ℕ) → i < length s → get_or s i 0 ≡ get_or b (p + i) 0
 
--- bytes that are to stand from place p on are those of b there, or zero
+-- or they are zeros
 abbrev Kept : List ℕ → ℕ → List ℕ → Type 0
-Kept b p s = (i : ℕ) → i < length s → KeptByte b (p + i) (get_or s i 0)
+Kept b p s = AreThose b p s ⊎ (s ≡ replicate (length s) 0)
 
 range_byte : (b : List ℕ) (p q i : ℕ) → i < length (slice_range b p q) → get_or (slice_range b p q) i 0 ≡ get_or b (p + i) 0
 range_byte b p q i h = grind (arith, places)
 
 kept_range : (b s : List ℕ) (p q : ℕ) → s ≡ slice_range b p q → Kept b p s
-kept_range b s p q e = subst (λ (t : List ℕ). Kept b p t) (sym e) (λ i h. inl (range_byte b p q i h))
+kept_range b s p q e = inl (subst (λ (t : List ℕ). AreThose b p t) (sym e) (λ i h. range_byte b p q i h))
 
 kept_zeros : (b : List ℕ) (p n : ℕ) → Kept b p (replicate n 0)
-kept_zeros b p zero i h = absurd (omega arith)
-kept_zeros b p (suc n) i h = inr (grind (arith, places))
-
-kept_append : (b s t : List ℕ) (p : ℕ) → Kept b p s → Kept b (p + length s) t → Kept b p (s ++ t)
-kept_append b s t p h k i lt =
-    ⊎_elim
-    (λ (here : i < length s). subst (KeptByte b (p + i)) (sym (get_or_append_left s t 0 i here)) (h i here))
-    (λ (there : length s ≤ i).
-    let place : p + length s + (i - length s) ≡ p + i = omega arith in
-    let inside : i - length s < length t = omega (arith, length-append s t) in
-    let is : get_or (s ++ t) i 0 ≡ get_or t (i - length s) 0 = get_or-append_right s t (length s) i 0 refl there in
-    subst (KeptByte b (p + i)) (sym is) (subst (λ (n : ℕ). KeptByte b n (get_or t (i - length s) 0)) place (k (i - length s) inside)))
-    (cases_lt i (length s))
+kept_zeros b p n = inr (ap (λ (m : ℕ). replicate m 0) (sym (length-replicate n 0)))
 
 -- all pieces are such
 abbrev AllKept : List ℕ → List Piece → Type 0
@@ -77,24 +64,49 @@ all_append : (b : List ℕ) (xs ys : List Piece) → AllKept b xs → AllKept b 
 all_append b [] ys h k = k
 all_append b (x ∷ xs) ys h k = (h.0, all_append b xs ys h.1 k)
 
-covered_kept : (b : List ℕ) (x : Piece) (q old : ℕ) (t : Bool) → has_byte q x ≡ t → Kept b x.place x.content → KeptByte b q old → KeptByte b q (cond t (get_or x.content (q - x.place) 0) old)
-covered_kept b x q old false e h k = k
-covered_kept b x q old true e h k =
+-- a piece that is such and has a byte for place q, if it is there
+abbrev CoversKept : List ℕ → ℕ → Option Piece → Type 0
+CoversKept b q None = Unit {0}
+CoversKept b q (Some x) = Kept b x.place x.content × (has_byte q x ≡ true)
+
+-- the last of some pieces is such, if the one before them is
+last_kept : (b : List ℕ) (q : ℕ) (xs : List Piece) (before : Option Piece) → AllKept b xs → CoversKept b q before → CoversKept b q (last_or before (filter (has_byte q) xs))
+last_kept_if : (b : List ℕ) (q : ℕ) (x : Piece) (xs : List Piece) (before : Option Piece) (t : Bool) → has_byte q x ≡ t → Kept b x.place x.content → AllKept b xs → CoversKept b q before → CoversKept b q (last_or before (cond t (x ∷ filter (has_byte q) xs) (filter (has_byte q) xs)))
+last_kept b q [] before h k = k
+last_kept b q (x ∷ xs) before h k = last_kept_if b q x xs before (has_byte q x) refl h.0 h.1 k
+last_kept_if b q x xs before true e h rest k = last_kept b q xs (Some x) rest (h, e)
+last_kept_if b q x xs before false e h rest k = last_kept b q xs before rest k
+
+-- a byte that is written over b at place q is the one there, or it is zero and the piece that it is from is one of zeros
+abbrev KeptByte : List ℕ → List Piece → ℕ → ℕ → Type 0
+KeptByte b pieces q x = (x ≡ get_or b q 0) ⊎ ((x ≡ 0) × EndsInZeros pieces q)
+
+zero_at : (n i : ℕ) → get_or (replicate n 0) i 0 ≡ 0
+zero_at zero i = refl
+zero_at (suc n) zero = refl
+zero_at (suc n) (suc i) = zero_at n i
+
+-- the byte for place q of such a piece
+byte_kept : (b : List ℕ) (pieces : List Piece) (q : ℕ) (x : Piece) → last_piece pieces q ≡ Some x → Kept b x.place x.content → has_byte q x ≡ true → KeptByte b pieces q (get_or x.content (q - x.place) 0)
+byte_kept b pieces q x e (inl those) h =
     let above : x.place ≤ q = grind (arith, nat_tests) in
     let below : q < x.place + length x.content = grind (arith, nat_tests) in
     let place : x.place + (q - x.place) ≡ q = omega arith in
-    subst (λ (n : ℕ). KeptByte b n (get_or x.content (q - x.place) 0)) place (h (q - x.place) (omega arith))
+    inl (those (q - x.place) (omega arith) ∙ ap (λ (n : ℕ). get_or b n 0) place)
+byte_kept b pieces q x e (inr zeros) h = inr (ap (λ (s : List ℕ). get_or s (q - x.place) 0) zeros ∙ zero_at (length x.content) (q - x.place), (x, (e, zeros)))
 
-after_kept : (b : List ℕ) (xs : List Piece) (q old : ℕ) → AllKept b xs → KeptByte b q old → KeptByte b q (byte_after xs q old)
-after_kept b [] q old h k = unfold byte_after in k
-after_kept b (x ∷ xs) q old h k =
-    subst (KeptByte b q) (byte_after_cons x xs q old)
-    (after_kept b xs q (cond (has_byte q x) (get_or x.content (q - x.place) 0) old) h.1 (covered_kept b x q old (has_byte q x) refl h.0 k))
+after_by : (b : List ℕ) (pieces : List Piece) (q : ℕ) (found : Option Piece) → last_piece pieces q ≡ found → CoversKept b q found → KeptByte b pieces q (byte_of q (get_or b q 0) found)
+after_by b pieces q None e k = inl refl
+after_by b pieces q (Some x) e k = byte_kept b pieces q x e k.0 k.1
 
-overlay_kept : (b : List ℕ) (xs : List Piece) (q : ℕ) → AllKept b xs → q < length b → KeptByte b q (get_or (overlay b xs) q 0)
+after_kept : (b : List ℕ) (xs : List Piece) (q : ℕ) → AllKept b xs → KeptByte b xs q (byte_after xs q (get_or b q 0))
+unfolding byte_after
+after_kept b xs q h = after_by b xs q (last_piece xs q) refl (last_kept b q xs None h tt)
+
+overlay_kept : (b : List ℕ) (xs : List Piece) (q : ℕ) → AllKept b xs → q < length b → KeptByte b xs q (get_or (overlay b xs) q 0)
 unfolding overlay
 overlay_kept b xs q h lt =
-    subst (KeptByte b q) (sym (get_or-each (λ k. byte_after xs k (slice_index b k)) (length b) q 0 lt)) (after_kept b xs q (get_or b q 0) h (inl refl))
+    subst (KeptByte b xs q) (sym (get_or-each (λ k. byte_after xs k (slice_index b k)) (length b) q 0 lt)) (after_kept b xs q h)
 
 -- ---- the headers
 
@@ -237,14 +249,12 @@ spelled_certificate b p c small r =
     let third : bytes_of 2 (le b (p + 6) 2) ≡ slice_range b (p + 6) (p + 8) = bytes_of-le b (p + 6) 2 small (omega arith) ∙ ap (slice_range b (p + 6)) eight in
     rw (r.size, revision, kind, first, second, third, range_join b p (p + 4) (p + 6) (omega arith) (omega arith) (omega arith)) (range_join b p (p + 6) (p + 8) (omega arith) (omega arith) inside)
 
-certificate_kept : (b : List ℕ) (p : ℕ) (c : CertificateView) (q : ℕ) → AreBytes b → certificate_at b p ≡ Ok (c, q) → Kept b p (written_certificate c)
+certificate_kept : (b : List ℕ) (p : ℕ) (c : CertificateView) (q : ℕ) → AreBytes b → certificate_at b p ≡ Ok (c, q) → AllKept b (certificate_pieces p c)
 certificate_kept b p c q small e =
     let r : ReadAt b p c = read_at b p c q e in
     let head : Kept b p (spell_certificate c) = kept_range b (spell_certificate c) p (p + 8) (spelled_certificate b p c small r) in
     let body : Kept b (p + 8) c.body = kept_range b c.body (p + 8) (p + 8 + (c.length - 8)) r.body in
-    let place : p + 8 ≡ p + length (spell_certificate c) = ap (λ (n : ℕ). p + n) (sym (length-spell c)) in
-    let front : Kept b p (spell_certificate c ++ c.body) = kept_append b (spell_certificate c) c.body p head (subst (λ (n : ℕ). Kept b n c.body) place body) in
-    kept_append b (spell_certificate c ++ c.body) (padding c) p front (kept_zeros b (p + length (spell_certificate c ++ c.body)) (written_length c - (8 + length c.body)))
+    (head, (body, (kept_zeros b (p + 8 + length c.body) (written_length c - (8 + length c.body)), tt)))
 
 stand_kept : (b : List ℕ) (end p : ℕ) (cs : List CertificateView) (q : ℕ) → AreBytes b → (0 < length cs → p % 8 ≡ 0) → StandFrom b end p cs q → AllKept b (in_a_row certificate_pieces written_length p cs)
 stand_kept b end p [] q small m s = tt
@@ -252,7 +262,7 @@ stand_kept b end p (c ∷ cs) q small m s =
     let here : p % 8 ≡ 0 = m (omega arith) in
     let next : s.1 ≡ p + written_length c = next_place b p c s.1 small here s.2 in
     all_append b (certificate_pieces p c) (in_a_row certificate_pieces written_length (p + written_length c) cs)
-    (certificate_kept b p c s.1 small s.2, tt)
+    (certificate_kept b p c s.1 small s.2)
     (stand_kept b end (p + written_length c) cs q small (λ some. omega arith) (subst (λ (n : ℕ). StandFrom b end n cs q) next s.3))
 
 table_kept : (b : List ℕ) (address size : ℕ) (cs : List CertificateView) → AreBytes b → (0 < length cs → address % 8 ≡ 0) → certificates_at b address size ≡ Ok cs → AllKept b (in_a_row certificate_pieces written_length address cs)
@@ -324,12 +334,13 @@ pieces_kept b o x h small is m e =
     (all_append b (header_pieces x.header h) sections (headers_kept b o.parse_mode x.header h small at_image e) (sections_kept b (Some h.windows_fields.file_alignment) x.header x.sections small read))
     (field_kept b o.parse_attribute_certificates (certificate_directory h) x.certificates small (λ d found some. m d (ap (directory 4) e ∙ found) some) listed)
 
-written_by : (k : Option OptionalHeaderView) (b : List ℕ) (x : ImageView) (n q : ℕ) (new : List ℕ) → image_by k b x.header x.sections x.certificates b ≡ Ok (n, new) → ((h : OptionalHeaderView) → k ≡ Some h → AllKept b (image_pieces b x.header h x.sections x.certificates)) → q < length b → KeptByte b q (get_or new q 0)
-written_by None b x n q new e kept lt = absurd cc
-written_by (Some h) b x n q new e kept lt =
+written_by : (k : Option OptionalHeaderView) (b : List ℕ) (x : ImageView) (h : OptionalHeaderView) (n q : ℕ) (new : List ℕ) → k ≡ Some h → image_by k b x.header x.sections x.certificates b ≡ Ok (n, new) → AllKept b (image_pieces b x.header h x.sections x.certificates) → q < length b → KeptByte b (image_pieces b x.header h x.sections x.certificates) q (get_or new q 0)
+written_by None b x h n q new there e kept lt = absurd cc
+written_by (Some o) b x h n q new there e kept lt =
     let pieces : List Piece = image_pieces b x.header h x.sections x.certificates in
-    let same = value_is {Y = ℕ × List ℕ} (image_tests b x.header h x.sections (length b) pieces) (image_end x.header h x.sections x.certificates, overlay b pieces) (n, new) e in
-    subst (λ (s : List ℕ). KeptByte b q (get_or s q 0)) (ap (λ (r : ℕ × List ℕ). r.1) same) (overlay_kept b pieces q (kept h refl) lt)
+    let is : image_by (Some h) b x.header x.sections x.certificates b ≡ Ok (n, new) = ap (λ (k : Option OptionalHeaderView). image_by k b x.header x.sections x.certificates b) (sym there) ∙ e in
+    let same = value_is {Y = ℕ × List ℕ} (image_tests b x.header h x.sections (length b) pieces) (image_end x.header h x.sections x.certificates, overlay b pieces) (n, new) is in
+    subst (λ (s : List ℕ). KeptByte b pieces q (get_or s q 0)) (ap (λ (r : ℕ × List ℕ). r.1) same) (overlay_kept b pieces q kept lt)
 
-pub rewritten : (b new : List ℕ) (o : ParseOptions) (x : ImageView) (n q : ℕ) → AreBytes b → IsImage b o (Ok x) → AreAligned x → image_written b x b ≡ Ok (n, new) → q < length b → (slice_index new q ≡ slice_index b q) ⊎ (slice_index new q ≡ 0)
-rewritten b new o x n q small is m e lt = written_by x.header.optional_header b x n q new e (λ h there. pieces_kept b o x h small is m there) lt
+pub rewritten : (b new : List ℕ) (o : ParseOptions) (x : ImageView) (h : OptionalHeaderView) (n q : ℕ) → AreBytes b → IsImage b o (Ok x) → AreAligned x → x.header.optional_header ≡ Some h → image_written b x b ≡ Ok (n, new) → q < length b → (slice_index new q ≡ slice_index b q) ⊎ ((slice_index new q ≡ 0) × EndsInZeros (image_pieces b x.header h x.sections x.certificates) q)
+rewritten b new o x h n q small is m there e lt = written_by x.header.optional_header b x h n q new there e (pieces_kept b o x h small is m there) lt

@@ -1,5 +1,5 @@
 -- Bytes that are written over others, piece by piece. A byte is that of the last piece that covers its place.
-use Rattle.std.specs.Prelude.{ℕ, ◌+◌, ◌-◌, ◌&&◌, Bool, List, length, filter, Option, Some, None, nat_le, nat_lt, slice_index}
+use Rattle.std.specs.Prelude.{◌≡◌, ℕ, ◌+◌, ◌-◌, ◌&&◌, Bool, List, length, filter, replicate, Option, Some, None, nat_le, nat_lt, slice_index}
 use Rattle.std.specs.List.{last_or, list_all}
 use Rattle.pe_core.specs.Rows.{each}
 
@@ -20,9 +20,13 @@ abbrev pub byte_of : ℕ → ℕ → Option Piece → ℕ
 byte_of q old None = old
 byte_of q old (Some x) = slice_index x.content (q - x.place)
 
+-- the last piece that has a byte for place q
+abbrev pub last_piece : List Piece → ℕ → Option Piece
+last_piece pieces q = last_or None (filter (has_byte q) pieces)
+
 -- byte q once the pieces are written: that of the last piece that covers q, or else the old one
 unfoldable pub byte_after : List Piece → ℕ → ℕ → ℕ
-byte_after pieces q old = byte_of q old (last_or None (filter (has_byte q) pieces))
+byte_after pieces q old = byte_of q old (last_piece pieces q)
 
 -- the bytes once the pieces are written over them
 unfoldable pub overlay : List ℕ → List Piece → List ℕ
@@ -34,3 +38,11 @@ fits n x = nat_le (x.place + length x.content) n
 
 abbrev pub all_fit : ℕ → List Piece → Bool
 all_fit n pieces = list_all (fits n) pieces
+
+-- all bytes of the piece are zero
+abbrev pub IsOfZeros : Piece → Type 0
+IsOfZeros x = x.content ≡ replicate (length x.content) 0
+
+-- the last piece that has a byte for place q is one of zeros
+abbrev pub EndsInZeros : List Piece → ℕ → Type 0
+EndsInZeros pieces q = (x : Piece) × (last_piece pieces q ≡ Some x) × IsOfZeros x

@@ -8,7 +8,7 @@ use Rattle.pe_core.specs.Spelling.{spell_dos, spell_coff, spell_optional, spell_
 use Rattle.pe_core.specs.declared.data_directories.DataDirectory.{DataDirectory}
 use Rattle.pe_core.specs.declared.section_table.SectionTable.{SectionTable}
 use Rattle.pe_records.specs.Certificates.{CertificateView}
-use Rattle.pe_records.specs.CertificateWriting.{written_certificate, written_length}
+use Rattle.pe_records.specs.CertificateWriting.{padding, spell_certificate, written_length}
 use Rattle.pe_image.specs.Overlay.{Piece, piece}
 
 -- the pieces of some records in their order: `pieces_of` gives those of a record for a place, and `width` says how far
@@ -56,7 +56,11 @@ all_section_pieces b unit place sections = in_a_row (section_pieces b unit) head
 
 -- a certificate: its header, its body and zeros up to a multiple of eight
 abbrev pub certificate_pieces : ℕ → CertificateView → List Piece
-certificate_pieces p c = piece p (written_certificate c) ∷ []
+certificate_pieces p c =
+    piece p (spell_certificate c)
+    ∷ piece (p + 8) c.body
+    ∷ piece (p + 8 + length c.body) (padding c)
+    ∷ []
 
 -- the certificates from the directory's address on, and the place behind them; none and 0 without that directory
 abbrev pub all_certificate_pieces : Option DataDirectory → List CertificateView → List Piece

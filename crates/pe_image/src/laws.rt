@@ -16,8 +16,8 @@ ghost use Rattle.pe_image.specs.Core.{CoreView, core_of};
 ghost use Rattle.pe_image.specs.Layout.{alignment};
 ghost use Rattle.pe_image.specs.Fields.{Field, given_value};
 ghost use Rattle.pe_image.specs.Image.{ImageView, core_part, AreResourcesOf, IsImage, certificates_of, debug_of, exceptions_of, relocations_of};
-ghost use Rattle.pe_image.specs.Overlay.{Piece, all_fit, overlay};
-ghost use Rattle.pe_image.specs.Writing.{AreAligned, certificate_directory, certificates_written, clash, image_written};
+ghost use Rattle.pe_image.specs.Overlay.{EndsInZeros, Piece, all_fit, overlay};
+ghost use Rattle.pe_image.specs.Writing.{AreAligned, certificate_directory, certificates_written, clash, image_pieces, image_written};
 ghost use Rattle.pe_image.specs.WritingSteps.{put_in_turn};
 
 use crate::fields::{COFF_MACHINE_ARM64, COFF_MACHINE_X86_64};
@@ -107,10 +107,11 @@ pub fn written_certificates_are_listed_again()
     pe_records::laws::certificates::written_listings_are_listed_again();
 }
 
-/// Writing an image over a copy of its bytes changes none of them but to zero. Where there are certificates, their
-/// directory's address has to be a multiple of eight.
+/// Writing an image over a copy of its bytes changes only those whose last piece is one of zeros, and so to zero. Where
+/// there are certificates, their directory's address has to be a multiple of eight.
 #[tactic(auto, using(crate::proofs::RewrittenBytes::rewritten))]
 pub fn rewritten_images_change_to_zeros_alone()
-    ensures { (b new : List ℕ) (o : ParseOptions) (x : ImageView) (n q : ℕ) → AreBytes b → IsImage b o (Ok x) → AreAligned x →
-        image_written b x b ≡ Ok (n, new) → q < length b → (slice_index new q ≡ slice_index b q) ⊎ (slice_index new q ≡ 0) }
+    ensures { (b new : List ℕ) (o : ParseOptions) (x : ImageView) (h : OptionalHeaderView) (n q : ℕ) → AreBytes b → IsImage b o (Ok x) → AreAligned x →
+        x.header.optional_header ≡ Some h → image_written b x b ≡ Ok (n, new) → q < length b →
+        (slice_index new q ≡ slice_index b q) ⊎ ((slice_index new q ≡ 0) × EndsInZeros (image_pieces b x.header h x.sections x.certificates) q) }
 {}

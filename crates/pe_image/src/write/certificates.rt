@@ -47,7 +47,7 @@ fn require_certificates(
 }
 
 /// Writes a certificate that is known to fit; answers the place behind it.
-#[tactic(auto, unfolding(crate::specs::WritingSteps::put_in_turn))]
+#[tactic(auto, using(crate::proofs::WrittenCertificates::put_in_three))]
 fn set_certificate(buffer: &mut [u8], place: usize, certificate: &AttributeCertificate<'_>) -> usize
     requires { IsTrue (all_fit (length buffer.old) (certificate_pieces place (certificate_view certificate.now))) }
     ensures after { buffer.new ≡ put_in_turn buffer.old (certificate_pieces place (certificate_view certificate.now)) }
