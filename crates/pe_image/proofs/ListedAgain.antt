@@ -31,7 +31,7 @@ last_fits n p c h = grind (arith, nat_tests)
 first_fits : (n p : ℕ) (c : CertificateView) (cs : List CertificateView) → all_fit n (row p (c ∷ cs)) ≡ true → p + length (written_certificate c) ≤ n
 first_fits n p c cs h =
     let end : p + 8 + length c.body + length (padding c) ≤ n = last_fits n p c (and_left _ _ (both_fit n p c cs h)) in
-    omega (arith, end, length-spell c, length-append (spell_certificate c) (c.body ++ padding c), length-append c.body (padding c))
+    omega (arith, end, length-spell c, length-append (spell_certificate c ++ c.body) (padding c), length-append (spell_certificate c) c.body)
 
 others_fit : (n p : ℕ) (c : CertificateView) (cs : List CertificateView) → all_fit n (row p (c ∷ cs)) ≡ true → all_fit n (row (p + written_length c) cs) ≡ true
 others_fit n p c cs h = and_right _ _ (both_fit n p c cs h)

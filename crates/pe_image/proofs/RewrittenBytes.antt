@@ -69,19 +69,22 @@ abbrev CoversKept : List ℕ → ℕ → Option Piece → Type 0
 CoversKept b q None = Unit {0}
 CoversKept b q (Some x) = Kept b x.place x.content × (has_byte q x ≡ true)
 
+first_kept : (b : List ℕ) (q : ℕ) (x : Piece) (xs : List Piece) (before : Option Piece) (t : Bool) → has_byte q x ≡ t → Kept b x.place x.content → ((before : Option Piece) → CoversKept b q before → CoversKept b q (last_or before xs)) → CoversKept b q before → CoversKept b q (last_or before (cond t (x ∷ xs) xs))
+first_kept b q x xs before true e h then k = then (Some x) (h, e)
+first_kept b q x xs before false e h then k = then before k
+
 -- the last of some pieces is such, if the one before them is
 last_kept : (b : List ℕ) (q : ℕ) (xs : List Piece) (before : Option Piece) → AllKept b xs → CoversKept b q before → CoversKept b q (last_or before (filter (has_byte q) xs))
-last_kept_if : (b : List ℕ) (q : ℕ) (x : Piece) (xs : List Piece) (before : Option Piece) (t : Bool) → has_byte q x ≡ t → Kept b x.place x.content → AllKept b xs → CoversKept b q before → CoversKept b q (last_or before (cond t (x ∷ filter (has_byte q) xs) (filter (has_byte q) xs)))
 last_kept b q [] before h k = k
-last_kept b q (x ∷ xs) before h k = last_kept_if b q x xs before (has_byte q x) refl h.0 h.1 k
-last_kept_if b q x xs before true e h rest k = last_kept b q xs (Some x) rest (h, e)
-last_kept_if b q x xs before false e h rest k = last_kept b q xs before rest k
+last_kept b q (x ∷ xs) before h k =
+    let then : (before : Option Piece) → CoversKept b q before → CoversKept b q (last_or before (filter (has_byte q) xs)) = λ before k. last_kept b q xs before h.1 k in
+    first_kept b q x (filter (has_byte q) xs) before (has_byte q x) refl h.0 then k
 
 -- a byte that is written over b at place q is the one there, or it is zero and the piece that it is from is one of zeros
 abbrev KeptByte : List ℕ → List Piece → ℕ → ℕ → Type 0
 KeptByte b pieces q x = (x ≡ get_or b q 0) ⊎ ((x ≡ 0) × EndsInZeros pieces q)
 
-zero_at : (n i : ℕ) → get_or (replicate n 0) i 0 ≡ 0
+zero_at : (n i : ℕ) → get_or {A = ℕ} (replicate n 0) i 0 ≡ 0
 zero_at zero i = refl
 zero_at (suc n) zero = refl
 zero_at (suc n) (suc i) = zero_at n i
@@ -93,7 +96,7 @@ byte_kept b pieces q x e (inl those) h =
     let below : q < x.place + length x.content = grind (arith, nat_tests) in
     let place : x.place + (q - x.place) ≡ q = omega arith in
     inl (those (q - x.place) (omega arith) ∙ ap (λ (n : ℕ). get_or b n 0) place)
-byte_kept b pieces q x e (inr zeros) h = inr (ap (λ (s : List ℕ). get_or s (q - x.place) 0) zeros ∙ zero_at (length x.content) (q - x.place), (x, (e, zeros)))
+byte_kept b pieces q x e (inr zeros) h = inr (ap (λ (s : List ℕ). get_or s (q - x.place) 0) zeros ∙ zero_at (length x.content) (q - x.place), (x, e, zeros))
 
 after_by : (b : List ℕ) (pieces : List Piece) (q : ℕ) (found : Option Piece) → last_piece pieces q ≡ found → CoversKept b q found → KeptByte b pieces q (byte_of q (get_or b q 0) found)
 after_by b pieces q None e k = inl refl

@@ -23,8 +23,8 @@ last_end k l m n h g = grind (arith, nat_tests)
 pub fit_is : (b : List ℕ) (p : ℕ) (c : CertificateView) → all_fit (length b) (certificate_pieces p c) ≡ holds b p (written_length c)
 fit_is b p c =
     let head : length (spell_certificate c) ≡ 8 = length-spell c in
-    let whole : length (spell_certificate c) + (length c.body + length (padding c)) ≡ written_length c =
-    ap (λ (n : ℕ). length (spell_certificate c) + n) (sym (length-append c.body (padding c))) ∙ sym (length-append (spell_certificate c) (c.body ++ padding c)) ∙ length_written c in
+    let whole : length (spell_certificate c) + length c.body + length (padding c) ≡ written_length c =
+    ap (λ (n : ℕ). n + length (padding c)) (sym (length-append (spell_certificate c) c.body)) ∙ sym (length-append (spell_certificate c ++ c.body) (padding c)) ∙ length_written c in
     let end : p + 8 + length c.body + length (padding c) ≡ p + written_length c = omega (arith, head, whole) in
     last_end (p + length (spell_certificate c)) (p + 8 + length c.body) (p + 8 + length c.body + length (padding c)) (length b) (omega (arith, head)) (omega arith) ∙ ap (λ k. nat_le k (length b)) end
 
