@@ -1,10 +1,9 @@
-# Sourced by the tools that run the tests, or that try sources beside them, at the top of the repository.
+# Sourced by the tools that run the tests, or that try or build sources beside them, at the top of the repository.
 # The tests are no crate of the repository, and no .rt files, since the toolchain's gate proves each crate and stops at
 # a .rt file that no check reads.
 
-# Puts the crates' sources into a folder, without what was proved of them, and one more crate, pe_tests, that has no
-# source yet.
-copy_with_tests_crate() {
+# Puts the crates' sources into a folder, without what was proved of them.
+copy_crates() {
   local folder=$1 part
   for part in crates/*/{src,specs,proofs}; do
     if [ -d "$part" ]; then
@@ -12,10 +11,32 @@ copy_with_tests_crate() {
       cp -R "$part/." "$folder/$part"
     fi
   done
+}
+
+# The same and one more crate, pe_tests, that has no source yet.
+copy_with_tests_crate() {
+  local folder=$1
+  copy_crates "$folder"
   mkdir -p "$folder/crates/pe_tests/src"
   {
     cat crates.txt
     echo
     echo "pe_tests: pe_core pe_records pe_unwind pe_resource pe_image pe_images pe_uses linked_list_allocator"
+  } >"$folder/crates.txt"
+}
+
+# The same and one more crate, damaged, the program of tools/damaged.
+copy_with_damaged_crate() {
+  local folder=$1 part
+  copy_crates "$folder"
+  mkdir -p "$folder/crates/damaged/src"
+  for part in tools/damaged/*.txt; do
+    cp "$part" "$folder/crates/damaged/src/$(basename "$part" .txt).rt"
+  done
+  cp tests/refusing.test "$folder/crates/damaged/src/refusing.rt"
+  {
+    cat crates.txt
+    echo
+    echo "damaged: pe_core pe_records pe_unwind pe_resource pe_image pe_images"
   } >"$folder/crates.txt"
 }
