@@ -3,7 +3,7 @@ use Rattle.std.proofs.Common.{◌≡◌, ◌≢◌, ℕ, suc, ◌+◌, ◌-◌, 
 use Rattle.std.proofs.lemmas.Bool.{false≢true}
 use Rattle.std.proofs.lemmas.Bool.Decides.{nat_tests}
 use Rattle.std.proofs.lemmas.Option.{option_and_then_some, cond_some}
-use Rattle.pe_core.specs.Refusals.{Refusal, Short, UnwindVersion, Unmapped, FunctionLink, FunctionCycle, outcome, ◌>>=◌}
+use Rattle.pe_core.specs.Refusals.{Refusal, Memory, Short, UnwindVersion, Unmapped, FunctionLink, FunctionCycle, outcome, ◌>>=◌}
 use Rattle.pe_core.specs.Chains.{after, NeverStops, FollowsKey, HasKeysBelow, KeyDecides}
 use Rattle.pe_core.proofs.Pigeonhole.{never_stops, repeats, after_more}
 use Rattle.pe_unwind.specs.FunctionTable.{function_at}
@@ -157,25 +157,34 @@ comes_again t u k v w saved h to same =
 pub too_long : (t : Table) (u k v saved : ℕ) → FollowedTo t u k v saved → k ≡ count t + 1 → IsEndless t u
 too_long t u k v saved h same = cycles t u v (subst (λ (m : ℕ). after (next t) m u ≡ Some v) same h.reached)
 
--- a record is never refused as a cycle
-five_tests : {Y : Type 0} (a b c d e : Bool) (y : Y) → outcome ((a, Short) ∷ (b, UnwindVersion) ∷ (c, Short) ∷ (d, Short) ∷ (e, Short) ∷ []) y ≡ Err FunctionCycle → ⊥
-five_tests true true true true true y h = cc
-five_tests true true true true false y h = cc
-five_tests true true true false e y h = cc
-five_tests true true false d e y h = cc
-five_tests true false c d e y h = cc
-five_tests false b c d e y h = cc
+-- a record is refused as one of these
+abbrev IsRecordRefusal : Refusal → Type 0
+IsRecordRefusal Short = Unit {0}
+IsRecordRefusal UnwindVersion = Unit {0}
+IsRecordRefusal Unmapped = Unit {0}
+IsRecordRefusal other = ⊥
 
-record_no_cycle : (b : List ℕ) (o : Option ℕ) → record_at_place b o ≡ Err FunctionCycle → ⊥
+refused_as : {Y : Type 0} (j k : Refusal) → IsRecordRefusal j → Path (Result Y Refusal) (Err j) (Err k) → IsRecordRefusal k
+refused_as j k is h = let same : j ≡ k = cc in subst IsRecordRefusal same is
+
+five_tests : {Y : Type 0} (a b c d e : Bool) (y : Y) (k : Refusal) → outcome ((a, Short) ∷ (b, UnwindVersion) ∷ (c, Short) ∷ (d, Short) ∷ (e, Short) ∷ []) y ≡ Err k → IsRecordRefusal k
+five_tests true true true true true y k h = cc
+five_tests true true true true false y k h = refused_as Short k tt h
+five_tests true true true false e y k h = refused_as Short k tt h
+five_tests true true false d e y k h = refused_as Short k tt h
+five_tests true false c d e y k h = refused_as UnwindVersion k tt h
+five_tests false b c d e y k h = refused_as Short k tt h
+
+record_refusal : (b : List ℕ) (o : Option ℕ) (k : Refusal) → record_at_place b o ≡ Err k → IsRecordRefusal k
 unfolding unwind_tests
-record_no_cycle b None h = cc
-record_no_cycle b (Some p) h = five_tests (holds b p 1) (version_at b p == 1 || version_at b p == 2) (holds b p 4) (holds b (p + 4) (2 * count_at b p)) (ending_holds b (behind_codes b p) (flags_at b p)) (unwind_record b p) h
+record_refusal b None k h = refused_as Unmapped k tt h
+record_refusal b (Some p) k h = five_tests (holds b p 1) (version_at b p == 1 || version_at b p == 2) (holds b p 4) (holds b (p + 4) (2 * count_at b p)) (ending_holds b (behind_codes b p) (flags_at b p)) (unwind_record b p) k h
 
 other_value : {X Y : Type 0} (j k : Refusal) → Path (Result X Refusal) (Err j) (Err k) → Path (Result Y Refusal) (Err j) (Err k)
 other_value j k h = let same : j ≡ k = cc in ap (λ (e : Refusal). Err e) same
 
 cycle_at_end : (t : Table) (b : List ℕ) (u : ℕ) (end : Result ℕ Refusal) → Follows t u end → ((end >>= record_at_address t b) ≡ Err FunctionCycle) ↔ IsEndless t u
-cycle_at_end t b u (Ok v) f = (λ e. absurd (record_no_cycle b (t.place v) e), λ endless. absurd (let e = (cycle_is_endless t u (Ok v) f).1 endless in cc))
+cycle_at_end t b u (Ok v) f = (λ e. absurd (record_refusal b (t.place v) FunctionCycle e), λ endless. absurd (let e = (cycle_is_endless t u (Ok v) f).1 endless in cc))
 cycle_at_end t b u (Err k) f = (
   λ e. (cycle_is_endless t u (Err k) f).0 (other_value k FunctionCycle e),
   λ endless. other_value k FunctionCycle ((cycle_is_endless t u (Err k) f).1 endless),
@@ -184,6 +193,17 @@ cycle_at_end t b u (Err k) f = (
 -- the call is refused as a cycle exactly where the chain is endless
 pub unwinds_cycle : (t : Table) (b : List ℕ) (u : ℕ) (answer : Result UnwindInfoView Refusal) → Unwinds t b u answer → (answer ≡ Err FunctionCycle) ↔ IsEndless t u
 unwinds_cycle t b u answer w = rw w.2 (cycle_at_end t b u w.0 w.1)
+
+no_memory_at_end : (t : Table) (b : List ℕ) (u : ℕ) (end : Result ℕ Refusal) → Follows t u end → (end >>= record_at_address t b) ≡ Err Memory → ⊥
+no_memory_at_end t b u (Ok v) f e = absurd (record_refusal b (t.place v) Memory e)
+no_memory_at_end t b u (Err Unmapped) f e = cc
+no_memory_at_end t b u (Err FunctionLink) f e = cc
+no_memory_at_end t b u (Err FunctionCycle) f e = cc
+no_memory_at_end t b u (Err other) f e = absurd f
+
+-- and it never answers that memory has run out
+pub unwinds_no_memory : (t : Table) (b : List ℕ) (u : ℕ) → Unwinds t b u (Err Memory) → ⊥
+unwinds_no_memory t b u w = no_memory_at_end t b u w.0 w.1 (sym w.2)
 
 -- the same of the function that lookup found
 cycle_found : (t : Table) (b : List ℕ) (found : Option RuntimeFunction) (answer : Result (Option UnwindInfoView) Refusal) → UnwindsFound t b found answer → (answer ≡ Err FunctionCycle) ↔ IsSomeAnd found (λ f. IsEndless t f.unwind_info_address)

@@ -1,9 +1,11 @@
--- A chain of links has one answer.
-use Rattle.std.proofs.Common.{◌≡◌, ℕ, zero, suc, ◌-◌, ◌%◌, ◌==◌, if◌then◌else◌, true, false, eqb, Option, Some, None, Result, Ok, Err, ◌⊎◌, inl, inr, ⊎_elim, refl, ap, sym, ◌∙◌, arith, option_and_then}
+-- A chain of links has one answer, and so has the record at its end.
+use Rattle.std.proofs.Common.{◌≡◌, ℕ, List, zero, suc, ◌-◌, ◌%◌, ◌==◌, if◌then◌else◌, true, false, eqb, Option, Some, None, Result, Ok, Err, ◌⊎◌, inl, inr, ⊎_elim, refl, ap, sym, ◌∙◌, arith, option_and_then}
 use Rattle.std.proofs.lemmas.Bool.Decides.{nat_tests}
-use Rattle.pe_core.specs.Refusals.{Refusal, Unmapped, FunctionLink, FunctionCycle}
+use Rattle.pe_core.specs.Refusals.{Refusal, Unmapped, FunctionLink, FunctionCycle, ◌>>=◌}
 use Rattle.pe_core.specs.Chains.{after}
 use Rattle.pe_unwind.specs.Links.{Table, IsEven, link, next, Reaches, Follows}
+use Rattle.pe_unwind.specs.UnwindRecord.{UnwindInfoView}
+use Rattle.pe_unwind.specs.Unwinding.{Unwinds, record_at_address}
 use Rattle.pe_unwind.proofs.LinkChains.{next-unmapped, next-no_entry, cycle_is_endless}
 
 -- steps come to one last state
@@ -65,3 +67,8 @@ one_answer t u a b f g =
     (λ (y : EndsWith t u b). one_end t u a b x y)
     (ends_or_cycles t u b g))
     (ends_or_cycles t u a f)
+
+-- the same of the record at the end of the chain
+pub one_record : (t : Table) (b : List ℕ) (u : ℕ) (x y : Result UnwindInfoView Refusal) → Unwinds t b u x → Unwinds t b u y → x ≡ y
+one_record t b u x y v w =
+    v.2 ∙ ap (λ (end : Result ℕ Refusal). end >>= record_at_address t b) (one_answer t u v.0 w.0 v.1 w.1) ∙ sym w.2

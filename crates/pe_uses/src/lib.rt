@@ -5,6 +5,7 @@ mod arm64;
 mod frames;
 mod imports;
 mod symbols;
+mod unwinding;
 mod versions;
 mod writing;
 
@@ -12,5 +13,6 @@ pub use arm64::arm64_codes;
 pub use frames::frame_operations;
 pub use imports::import_names;
 pub use symbols::symbol_key;
+pub use unwinding::unwind_operations;
 pub use versions::file_version;
 pub use writing::without_time_stamp;

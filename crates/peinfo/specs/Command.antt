@@ -7,16 +7,18 @@ use Rattle.pe_core.specs.declared.options.ParseMode.TheVariants.{Strict, Permiss
 use Rattle.peinfo.specs.declared.command.Command.{Command}
 use Rattle.peinfo.specs.declared.command.Command.TheVariants as commands
 
--- the image of a file is to be shown in a mode, or the function that covers an address of it, or it is to be written anew
--- to another file
+-- the image of a file is to be shown in a mode, or the function that covers an address of it, or this with its records, or
+-- it is to be written anew to another file
 pub data Asked : Type 0 where
   ListOf : List ℕ → ParseMode → Asked
   FunctionAt : List ℕ → ℕ → Asked
+  RecordsAt : List ℕ → ℕ → Asked
   RewriteTo : List ℕ → List ℕ → Asked
 
 abbrev pub asked_by : Command → Asked
 asked_by (commands.List file mode) = ListOf file.now mode
 asked_by (commands.At file rva) = FunctionAt file.now rva
+asked_by (commands.ChainAt file rva) = RecordsAt file.now rva
 asked_by (commands.Rewrite file out) = RewriteTo file.now out.now
 
 -- nothing after the file, or `--permissive`
@@ -45,11 +47,12 @@ number_behind front (code ∷ codes) = option_and_then (λ digit. number_behind 
 abbrev pub rva_of : List ℕ → Option ℕ
 rva_of word = if nat_le 1 (length word) && nat_le (length word) 8 then number_behind 0 word else None
 
--- one word after the file, an address
-abbrev pub rva_word : List (List ℕ) → Option ℕ
-rva_word [] = None
-rva_word (word ∷ []) = rva_of word
-rva_word (word ∷ more ∷ rest) = None
+-- an address after the file, and nothing more or `--chain`
+abbrev pub asked_at : List ℕ → List (List ℕ) → Option Asked
+asked_at file [] = None
+asked_at file (word ∷ []) = option_map (λ rva. FunctionAt file rva) (rva_of word)
+asked_at file (word ∷ flag ∷ []) = if bytes_eq flag (codes "--chain") then option_map (λ rva. RecordsAt file rva) (rva_of word) else None
+asked_at file (word ∷ flag ∷ more ∷ rest) = None
 
 -- the word after the file, if it is the only one
 abbrev pub one_word : List (List ℕ) → Option (List ℕ)
@@ -57,11 +60,12 @@ one_word [] = None
 one_word (word ∷ []) = Some word
 one_word (word ∷ more ∷ rest) = None
 
--- `list FILE`, `list FILE --permissive`, `at FILE HEXRVA` or `rewrite FILE OUT`, and nothing else
+-- `list FILE`, `list FILE --permissive`, `at FILE HEXRVA`, `at FILE HEXRVA --chain` or `rewrite FILE OUT`, and nothing
+-- else
 abbrev pub asked_of : List (List ℕ) → Option Asked
 asked_of [] = None
 asked_of (name ∷ []) = None
 asked_of (name ∷ file ∷ rest) =
     if bytes_eq name (codes "list") then option_map (λ mode. ListOf file mode) (mode_of rest)
-    else (if bytes_eq name (codes "at") then option_map (λ rva. FunctionAt file rva) (rva_word rest)
+    else (if bytes_eq name (codes "at") then asked_at file rest
     else (if bytes_eq name (codes "rewrite") then option_map (λ out. RewriteTo file out) (one_word rest) else None))

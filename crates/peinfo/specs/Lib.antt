@@ -9,4 +9,5 @@ pub mod Report
 pub mod Command
 pub mod Reading
 pub mod Find
+pub mod Plan
 pub mod Rewrite

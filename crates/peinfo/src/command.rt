@@ -13,11 +13,13 @@ pub enum Command<'a> {
     List { file: &'a str, mode: ParseMode },
     /// Shows the function that covers an address of the image in a file.
     At { file: &'a str, rva: u32 },
+    /// Shows that function, and its records up to the root of their chain.
+    ChainAt { file: &'a str, rva: u32 },
     /// Writes the image in a file anew, to another file.
     Rewrite { file: &'a str, out: &'a str },
 }
 
-ghost use Rattle.peinfo.specs.Command.{mode_of, asked_of, asked_by, digit_of, number_behind, rva_of, rva_word, one_word};
+ghost use Rattle.peinfo.specs.Command.{mode_of, asked_at, asked_of, asked_by, digit_of, number_behind, rva_of, one_word};
 
 /// The mode that the words after the file ask for.
 #[tactic(auto, using(crate::proofs::Words::shapes))]
@@ -69,13 +71,20 @@ fn rva_of(word: &[u8]) -> Option<u32>
     number_of(word)
 }
 
-/// The address that the words after the file tell, if they are one word.
+/// What the words after `at` and the file ask for.
 #[tactic(auto, using(crate::proofs::Words::shapes))]
-fn rva_of_words(words: &[String]) -> Option<u32>
-    ensures { result ≡ rva_word (map string_bytes words.now) }
+fn asked_at<'a>(file: &'a str, words: &[String]) -> Option<Command<'a>>
+    ensures { option_map asked_by result ≡ asked_at file.entry.now (map string_bytes words.now) }
 {
     match words {
-        [word] => rva_of(word.as_bytes()),
+        [word] => {
+            let rva = rva_of(word.as_bytes())?;
+            Some(Command::At { file, rva })
+        }
+        [word, flag] if flag.as_str() == "--chain" => {
+            let rva = rva_of(word.as_bytes())?;
+            Some(Command::ChainAt { file, rva })
+        }
         _ => None,
     }
 }
@@ -101,10 +110,7 @@ pub fn command_of<'a>(words: &'a [String]) -> Option<Command<'a>>
             let mode = mode_of(rest)?;
             Some(Command::List { file, mode })
         }
-        [name, file, rest @ ..] if name.as_str() == "at" => {
-            let rva = rva_of_words(rest)?;
-            Some(Command::At { file, rva })
-        }
+        [name, file, rest @ ..] if name.as_str() == "at" => asked_at(file, rest),
         [name, file, rest @ ..] if name.as_str() == "rewrite" => {
             let out = one_word(rest)?;
             Some(Command::Rewrite { file, out })

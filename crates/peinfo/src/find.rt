@@ -15,7 +15,11 @@ use std::io;
 
 /// The function that covers the address, if x64 exception data have one.
 #[tactic(auto, using(crate::proofs::FindTexts::nothing_found))]
-fn found_in(machine: u16, exceptions: &Option<ExceptionData>, rva: u32) -> Option<RuntimeFunction>
+pub fn found_in(
+    machine: u16,
+    exceptions: &Option<ExceptionData>,
+    rva: u32,
+) -> Option<RuntimeFunction>
     ensures { Finds (functions_of machine exceptions.now) rva result }
 {
     match exceptions {
@@ -28,7 +32,7 @@ fn found_in(machine: u16, exceptions: &Option<ExceptionData>, rva: u32) -> Optio
 }
 
 /// Adds the line of a function that is found, or `none`.
-fn push_found<A: Allocator>(
+pub fn push_found<A: Allocator>(
     text: &mut Vec<u8, A>,
     found: Option<RuntimeFunction>,
 ) -> Result<(), AllocError>

@@ -12,6 +12,7 @@ mod find;
 mod functions;
 mod input;
 mod outcome;
+mod plan;
 mod report;
 mod rewrite;
 
@@ -28,6 +29,7 @@ use find::find;
 use input::read_all;
 use outcome::Outcome;
 use pe_image::{Error, PE, ParseMode, ParseOptions};
+use plan::plan;
 use report::report;
 use rewrite::rewrite;
 use std::alloc::Allocator;
@@ -35,7 +37,8 @@ use std::process::ExitCode;
 use std::rt::Files;
 use std::{env, fs, io};
 
-const USAGE: &str = "usage: peinfo list FILE [--permissive] | at FILE HEXRVA | rewrite FILE OUT";
+const USAGE: &str =
+    "usage: peinfo list FILE [--permissive] | at FILE HEXRVA [--chain] | rewrite FILE OUT";
 
 /// The bytes of a file, or what comes of its fault.
 fn bytes_of<R: Files + Eprint + AllocGlobal>(rt: &R, path: &str) -> Result<Vec<u8>, Outcome>
@@ -161,6 +164,19 @@ fn at<R: Files + Print + Eprint + AllocGlobal>(rt: &R, path: &str, rva: u32) -> 
     outcome_of(rt, path, Target::Output, answer, &out, "")
 }
 
+/// Shows the function that covers an address of the image in a file, and its records up to the root of their chain.
+fn chain_at<R: Files + Print + Eprint + AllocGlobal>(rt: &R, path: &str, rva: u32) -> Outcome
+    ensures { result ≢ Misused }
+{
+    let bytes = match bytes_of(rt, path) {
+        Ok(bytes) => bytes,
+        Err(outcome) => return outcome,
+    };
+    let mut out = CountedOut::new(io::writer(rt));
+    let answer = plan(rt.alloc(), &bytes, rva, &mut out);
+    outcome_of(rt, path, Target::Output, answer, &out, "")
+}
+
 /// Writes the image in a file anew, to a file that must not exist. It is made once the image's file is read, and stays
 /// empty where the image is refused.
 fn rewrite_to<R: Files + Eprint + AllocGlobal>(rt: &R, path: &str, target: &str) -> Outcome
@@ -196,6 +212,7 @@ fn outcome_of_words<R: Files + Print + Eprint + AllocGlobal>(rt: &R, words: &[St
     match command_of(words) {
         Some(Command::List { file, mode }) => list(rt, file, mode),
         Some(Command::At { file, rva }) => at(rt, file, rva),
+        Some(Command::ChainAt { file, rva }) => chain_at(rt, file, rva),
         Some(Command::Rewrite { file, out }) => rewrite_to(rt, file, out),
         None => misused(rt),
     }

@@ -7,6 +7,7 @@ mod writers;
 use crate::counted_out::CountedOut;
 use crate::engine::ReportError;
 use crate::find::find;
+use crate::plan::plan;
 use crate::report::report;
 use crate::rewrite::rewrite;
 use linked_list_allocator::LocalHeap;
@@ -251,6 +252,7 @@ fn arm64_functions_of_images(rt: HostRuntime) -> Result<(), Fail> {
 enum Asked {
     Listing(ParseMode),
     FunctionAt(u32),
+    RecordsAt(u32),
     Rewriting,
 }
 
@@ -266,6 +268,7 @@ fn answer<A: Allocator>(
             report(alloc, bytes, &opts, out)
         }
         Asked::FunctionAt(rva) => find(alloc, bytes, rva, out),
+        Asked::RecordsAt(rva) => plan(alloc, bytes, rva, out),
         Asked::Rewriting => rewrite(alloc, bytes, out),
     }
 }
@@ -317,6 +320,10 @@ fn each_request_for_memory_refused(rt: HostRuntime) -> Result<(), Fail> {
         (Asked::Listing(ParseMode::Permissive), FUNCTION_LINES),
         (Asked::FunctionAt(0x1025), second),
         (Asked::FunctionAt(0x1010), b"none\n"),
+        (
+            Asked::RecordsAt(0x1025),
+            b"function 00001020 00001040 00001001\nrecord 1 4 0 0 plain\n",
+        ),
     ] {
         let refusals = refusals_of_memory(alloc, &bytes, asked, want)?;
         assert!(rt; refusals >= 3, "{refusals}");

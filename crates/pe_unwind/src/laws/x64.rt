@@ -1,11 +1,11 @@
 //! Laws of x64: lookup, links, unwind codes, registers and scope tables.
 
-ghost use Rattle.std.specs.Prelude.{◌≡◌, ◌/◌, ◌<◌, ◌↔◌, ℕ, List, Option, Some, Result, IsSome, IsTrue, map};
+ghost use Rattle.std.specs.Prelude.{◌≡◌, ◌/◌, ◌<◌, ◌↔◌, ℕ, List, Option, Some, Result, Err, IsSome, IsTrue, map};
 ghost use Rattle.std.specs.Iterator.{Drains};
 ghost use Rattle.std.specs.List.{Any};
 ghost use Rattle.std.specs.Ordering.{nat_cmp};
 ghost use Rattle.std.specs.declared.cmp.Ordering.TheVariants.{Equal};
-ghost use Rattle.pe_core.specs.Refusals.{Refusal};
+ghost use Rattle.pe_core.specs.Refusals.{Refusal, Memory, FunctionCycle};
 ghost use Rattle.pe_core.specs.declared.error.Error.{Error};
 ghost use Rattle.pe_unwind.specs.declared.function_table.RuntimeFunction.{RuntimeFunction};
 ghost use Rattle.pe_unwind.specs.declared.register.Register.{Register};
@@ -14,8 +14,10 @@ ghost use Rattle.pe_unwind.specs.declared.unwind_code.UnwindCode.{UnwindCode};
 ghost use Rattle.pe_unwind.specs.declared.unwind_code.UnwindCodeIterator.{UnwindCodeIterator};
 ghost use Rattle.pe_unwind.specs.CodeStream.{CodeStream, AreItems, stream_of};
 ghost use Rattle.pe_unwind.specs.FunctionTable.{NeverFalls, NoEndPassesNext, Covers, Finds, answer_of};
-ghost use Rattle.pe_unwind.specs.Links.{Table, Follows};
+ghost use Rattle.pe_unwind.specs.Links.{Table, Follows, IsEndless};
 ghost use Rattle.pe_unwind.specs.UnwindCodes.{BeginsWithCode};
+ghost use Rattle.pe_unwind.specs.UnwindRecord.{UnwindInfoView};
+ghost use Rattle.pe_unwind.specs.Unwinding.{Unwinds};
 
 use crate::register::Register;
 use crate::scope_table::ScopeTableEntry;
@@ -58,4 +60,12 @@ pub fn one_stream_of_codes()
 #[tactic(auto, using(crate::proofs::OneChain::one_answer))]
 pub fn one_answer_of_links()
     ensures { (t : Table) (u : ℕ) (a b : Result ℕ Refusal) → Follows t u a → Follows t u b → a ≡ b }
+{}
+
+/// An unwind address has one record or one refusal, which is a cycle exactly where its links never end, and never want of
+/// memory.
+pub fn one_record_of_addresses()
+    ensures one { (t : Table) (b : List ℕ) (u : ℕ) (x y : Result UnwindInfoView Refusal) → Unwinds t b u x → Unwinds t b u y → x ≡ y }
+    ensures cycle { (t : Table) (b : List ℕ) (u : ℕ) (x : Result UnwindInfoView Refusal) → Unwinds t b u x → ((x ≡ Err FunctionCycle) ↔ IsEndless t u) }
+    ensures no_memory { (t : Table) (b : List ℕ) (u : ℕ) → Unwinds t b u (Err Memory) → ⊥ }
 {}

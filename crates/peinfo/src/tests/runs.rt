@@ -10,7 +10,7 @@ use std::cell::RefCell;
 use std::test::*;
 
 const USAGE_LINE: &[u8] =
-    b"usage: peinfo list FILE [--permissive] | at FILE HEXRVA | rewrite FILE OUT\n";
+    b"usage: peinfo list FILE [--permissive] | at FILE HEXRVA [--chain] | rewrite FILE OUT\n";
 
 fn words(alloc: Global, texts: &[&str]) -> Result<Vec<String>, AllocError> {
     let mut all = Vec::new(alloc);
@@ -83,6 +83,10 @@ fn shows_functions(rt: HostRuntime) -> Result<(), Fail> {
     }
     let headers = headers_alone(alloc)?;
     assert!(rt; shows(alloc, &headers, &["at", IMAGE, "1025"], b"none\n")?);
+    let records = b"function 00001020 00001040 00001001\nrecord 1 4 0 0 plain\n";
+    let chain = ["at", IMAGE, "1025", "--chain"];
+    assert!(rt; shows(alloc, &image, &chain, records)?);
+    assert!(rt; shows(alloc, &headers, &chain, b"none\n")?);
     Ok(())
 }
 
@@ -171,7 +175,9 @@ fn judges_words_first(rt: HostRuntime) -> Result<(), Fail> {
         &["at", IMAGE, "0x1025"],
         &["at", IMAGE, "102g"],
         &["at", IMAGE, "000001025"],
-        &["at", IMAGE, "1025", "--chain"],
+        &["at", IMAGE, "--chain"],
+        &["at", IMAGE, "1025", "--chained"],
+        &["at", IMAGE, "1025", "--chain", "--chain"],
         &["rewrite", IMAGE],
         &["rewrite", IMAGE, "copy", "--permissive"],
     ] {

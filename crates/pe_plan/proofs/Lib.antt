@@ -1,0 +1,5 @@
+pub mod Chains
+pub mod Rings
+pub mod Endings
+pub mod OnePlan
+pub mod Walks

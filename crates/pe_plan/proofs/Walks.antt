@@ -1,0 +1,207 @@
+-- The two walks over a chain: to count its records, and to take them.
+use Rattle.std.proofs.Common.{◌≡◌, ℕ, suc, ◌+◌, ◌^◌, ◌<◌, ◌≤◌, List, [], ◌∷◌, ◌++◌, length, Option, Some, None, Result, Ok, Err, IfSome, map, inl, inr, refl, sym, ◌∙◌, subst, arith, length-append}
+use Rattle.std.proofs.lemmas.List.{length-map, map_push}
+use Rattle.pe_core.specs.Refusals.{Refusal, Memory, FunctionCycle}
+use Rattle.pe_unwind.specs.declared.function_table.RuntimeFunction.{RuntimeFunction}
+use Rattle.pe_unwind.specs.Links.{Table}
+use Rattle.pe_unwind.specs.UnwindRecord.{UnwindInfoView, unwind_view}
+use Rattle.pe_unwind.specs.declared.unwind_info.UnwindInfo.{UnwindInfo}
+use Rattle.pe_unwind.specs.Unwinding.{Unwinds}
+use Rattle.pe_unwind.proofs.LinkChains.{unwinds_cycle, unwinds_no_memory}
+use Rattle.pe_unwind.proofs.OneChain.{one_record}
+use Rattle.pe_plan.specs.Plans.{IsChain, NeverEnds, PlansFrom}
+use Rattle.pe_plan.specs.PlanSteps.{HasLength, Counts, Takes}
+use Rattle.pe_plan.proofs.Chains.{one_more}
+use Rattle.pe_plan.proofs.Rings.{AreBelow, below_more, ring_goes_on, many_go_on}
+use Rattle.pe_plan.proofs.Endings.{same_record}
+
+-- so many chained records were counted, up to the current function; the saved address is that of a function on the way
+pub record CountedTo (t : Table) (b : List ℕ) (f : RuntimeFunction) (chained : ℕ) (current : RuntimeFunction) (saved : ℕ) : Type 0 where
+  pub records : List UnwindInfoView
+  pub many : length records ≡ chained
+  pub chain : IsChain t b (Some f) records (Some current)
+  pub small : AreBelow (2 ^ 32) (Some f) records
+  pub marked : RuntimeFunction
+  pub front : List UnwindInfoView
+  pub around : List UnwindInfoView
+  pub to_marked : IsChain t b (Some f) front (Some marked)
+  pub from_marked : IsChain t b (Some marked) around (Some current)
+  pub is_saved : marked.unwind_info_address ≡ saved
+
+pub count_starts : (t : Table) (b : List ℕ) (f : RuntimeFunction) → f.unwind_info_address < 2 ^ 32 → CountedTo t b f 0 f f.unwind_info_address
+count_starts t b f small = record {
+  records = [];
+  many = refl;
+  chain = refl;
+  small = small;
+  marked = f;
+  front = [];
+  around = [];
+  to_marked = refl;
+  from_marked = refl;
+  is_saved = refl;
+}
+
+-- the record of a function, which is chained to another
+pub record IsChained (t : Table) (b : List ℕ) (current next : RuntimeFunction) : Type 0 where
+  pub info : UnwindInfoView
+  pub unwinds : Unwinds t b current.unwind_info_address (Ok info)
+  pub chained : info.chained_info ≡ Some next
+  pub small : next.unwind_info_address < 2 ^ 32
+
+chain_more : (t : Table) (b : List ℕ) (start : Option RuntimeFunction) (current next : RuntimeFunction) (is : List UnwindInfoView) (i : UnwindInfoView) → IsChain t b start is (Some current) → Unwinds t b current.unwind_info_address (Ok i) → i.chained_info ≡ Some next → IsChain t b start (is ++ i ∷ []) (Some next)
+chain_more t b start current next is i p u to = subst (λ (o : Option RuntimeFunction). IsChain t b start (is ++ i ∷ []) o) to (one_more t b start current is i p u)
+
+small_more : (t : Table) (b : List ℕ) (f current next : RuntimeFunction) (is : List UnwindInfoView) (i : UnwindInfoView) → IsChain t b (Some f) is (Some current) → AreBelow (2 ^ 32) (Some f) is → i.chained_info ≡ Some next → next.unwind_info_address < 2 ^ 32 → AreBelow (2 ^ 32) (Some f) (is ++ i ∷ [])
+small_more t b f current next is i p small to last =
+    below_more t b (2 ^ 32) (Some f) current is i p small (subst (λ (o : Option RuntimeFunction). AreBelow (2 ^ 32) o []) (sym to) last)
+
+-- one record more, by which the saved address stays
+pub keeps_saved : (t : Table) (b : List ℕ) (f current next : RuntimeFunction) (n saved same : ℕ) → CountedTo t b f n current saved → IsChained t b current next → same ≡ saved → CountedTo t b f (n + 1) next same
+keeps_saved t b f current next n saved same c to is = record {
+  records = c.records ++ to.info ∷ [];
+  many = omega (arith, c.many, length-append c.records (to.info ∷ []));
+  chain = chain_more t b (Some f) current next c.records to.info c.chain to.unwinds to.chained;
+  small = small_more t b f current next c.records to.info c.chain c.small to.chained to.small;
+  marked = c.marked;
+  front = c.front;
+  around = c.around ++ to.info ∷ [];
+  to_marked = c.to_marked;
+  from_marked = chain_more t b (Some c.marked) current next c.around to.info c.from_marked to.unwinds to.chained;
+  is_saved = c.is_saved ∙ sym is;
+}
+
+-- and one by which it moves
+pub moves_saved : (t : Table) (b : List ℕ) (f current next : RuntimeFunction) (n saved moved : ℕ) → CountedTo t b f n current saved → IsChained t b current next → moved ≡ next.unwind_info_address → CountedTo t b f (n + 1) next moved
+moves_saved t b f current next n saved moved c to is = record {
+  records = c.records ++ to.info ∷ [];
+  many = omega (arith, c.many, length-append c.records (to.info ∷ []));
+  chain = chain_more t b (Some f) current next c.records to.info c.chain to.unwinds to.chained;
+  small = small_more t b f current next c.records to.info c.chain c.small to.chained to.small;
+  marked = next;
+  front = c.records ++ to.info ∷ [];
+  around = [];
+  to_marked = chain_more t b (Some f) current next c.records to.info c.chain to.unwinds to.chained;
+  from_marked = refl;
+  is_saved = sym is;
+}
+
+-- the saved address comes again
+pub comes_again : (t : Table) (b : List ℕ) (f current next : RuntimeFunction) (n saved : ℕ) → CountedTo t b f n current saved → IsChained t b current next → next.unwind_info_address ≡ saved → NeverEnds t b f
+comes_again t b f current next n saved c to same = inl (ring_goes_on t b (Some f) (record {
+  first = c.marked;
+  again = next;
+  front = c.front;
+  around = c.around ++ to.info ∷ [];
+  some = omega (arith, length-append c.around (to.info ∷ []));
+  to_first = c.to_marked;
+  to_again = chain_more t b (Some c.marked) current next c.around to.info c.from_marked to.unwinds to.chained;
+  same = same ∙ sym c.is_saved;
+}))
+
+-- as many chained records as there are addresses
+pub too_many : (t : Table) (b : List ℕ) (f current : RuntimeFunction) (n saved : ℕ) → CountedTo t b f n current saved → 2 ^ 32 ≤ n → NeverEnds t b f
+too_many t b f current n saved c many =
+    inl (many_go_on t b (2 ^ 32) (Some f) current c.records c.chain c.small (omega (arith, many, c.many)))
+
+-- the root
+pub comes_to_root : (t : Table) (b : List ℕ) (f current : RuntimeFunction) (n saved : ℕ) (i : UnwindInfoView) → CountedTo t b f n current saved → Unwinds t b current.unwind_info_address (Ok i) → i.chained_info ≡ None → HasLength t b f (n + 1)
+comes_to_root t b f current n saved i c u root = (
+  c.records ++ i ∷ [],
+  omega (arith, c.many, length-append c.records (i ∷ [])),
+  subst (λ (o : Option RuntimeFunction). IsChain t b (Some f) (c.records ++ i ∷ []) o) root (one_more t b (Some f) current c.records i c.chain u),
+)
+
+-- a record that is refused
+pub comes_to_fault : (t : Table) (b : List ℕ) (f current : RuntimeFunction) (n saved : ℕ) (k : Refusal) → CountedTo t b f n current saved → Unwinds t b current.unwind_info_address (Err k) → Counts t b f (Err k)
+comes_to_fault t b f current n saved Memory c u = unwinds_no_memory t b current.unwind_info_address u
+comes_to_fault t b f current n saved FunctionCycle c u =
+    inr (current, (c.records, c.chain), (unwinds_cycle t b current.unwind_info_address (Err FunctionCycle) u).0 refl)
+comes_to_fault t b f current n saved fault c u = (current, (c.records, c.chain), u)
+
+-- these records of the chain were taken, and those up to the root are left, from the current function on
+pub record TakenTo (t : Table) (b : List ℕ) (f : RuntimeFunction) (count : ℕ) (records : List UnwindInfoView) (current : RuntimeFunction) : Type 0 where
+  pub rest : List UnwindInfoView
+  pub here : Option RuntimeFunction
+  pub chain : IsChain t b (Some f) records here
+  pub ahead : IsChain t b here rest None
+  pub many : length records + length rest ≡ count
+  pub is_current : IfSome here (λ g. g ≡ current)
+
+pub take_starts : (t : Table) (b : List ℕ) (f : RuntimeFunction) (count : ℕ) → HasLength t b f count → TakenTo t b f count [] f
+take_starts t b f count h = record { rest = h.0; here = Some f; chain = refl; ahead = h.2; many = omega (arith, h.1); is_current = refl }
+
+-- the next record, and those behind it
+record Next (t : Table) (b : List ℕ) (f : RuntimeFunction) (count : ℕ) (records : List UnwindInfoView) (current : RuntimeFunction) : Type 0 where
+  info : UnwindInfoView
+  rest : List UnwindInfoView
+  chain : IsChain t b (Some f) records (Some current)
+  unwinds : Unwinds t b current.unwind_info_address (Ok info)
+  ahead : IsChain t b info.chained_info rest None
+  many : length records + suc (length rest) ≡ count
+
+next_at : (t : Table) (b : List ℕ) (f : RuntimeFunction) (count : ℕ) (records rest : List UnwindInfoView) (here : Option RuntimeFunction) (current : RuntimeFunction) → IsChain t b (Some f) records here → IsChain t b here rest None → length records + length rest ≡ count → IfSome here (λ g. g ≡ current) → length records < count → Next t b f count records current
+next_at t b f count records [] here current p q many is more = absurd (omega arith)
+next_at t b f count records (i ∷ rest) None current p q many is more = absurd q
+next_at t b f count records (i ∷ rest) (Some g) current p q many is more = record {
+  info = i;
+  rest = rest;
+  chain = subst (λ (h : RuntimeFunction). IsChain t b (Some f) records (Some h)) is p;
+  unwinds = subst (λ (h : RuntimeFunction). Unwinds t b h.unwind_info_address (Ok i)) is q.0;
+  ahead = q.1;
+  many = many;
+}
+
+next : (t : Table) (b : List ℕ) (f : RuntimeFunction) (count : ℕ) (records : List UnwindInfoView) (current : RuntimeFunction) → TakenTo t b f count records current → length records < count → Next t b f count records current
+next t b f count records current s more = next_at t b f count records s.rest s.here current s.chain s.ahead s.many s.is_current more
+
+-- its record is not refused
+pub not_refused : (t : Table) (b : List ℕ) (f : RuntimeFunction) (count : ℕ) (records : List UnwindInfoView) (current : RuntimeFunction) (k : Refusal) → TakenTo t b f count records current → length records < count → Unwinds t b current.unwind_info_address (Err k) → ⊥
+not_refused t b f count records current k s more u =
+    let n : Next t b f count records current = next t b f count records current s more in
+    let clash = one_record t b current.unwind_info_address (Ok n.info) (Err k) n.unwinds u in
+    cc
+
+-- one record more
+pub takes_more : (t : Table) (b : List ℕ) (f : RuntimeFunction) (count : ℕ) (records : List UnwindInfoView) (current later : RuntimeFunction) (i : UnwindInfoView) → TakenTo t b f count records current → length records < count → Unwinds t b current.unwind_info_address (Ok i) → IfSome i.chained_info (λ h. h ≡ later) → TakenTo t b f count (records ++ i ∷ []) later
+takes_more t b f count records current later i s more u to =
+    let n : Next t b f count records current = next t b f count records current s more in
+    let same : n.info ≡ i = same_record t b current.unwind_info_address n.info i n.unwinds u in
+    record {
+      rest = n.rest;
+      here = i.chained_info;
+      chain = one_more t b (Some f) current records i n.chain u;
+      ahead = subst (λ (r : UnwindInfoView). IsChain t b r.chained_info n.rest None) same n.ahead;
+      many = omega (arith, n.many, length-append records (i ∷ []));
+      is_current = to;
+    }
+
+-- the same of records that are seen through their view
+pub takes_next : (t : Table) (b : List ℕ) (f : RuntimeFunction) (count : ℕ) (xs ys : List UnwindInfo) (x : UnwindInfo) (current later : RuntimeFunction) → TakenTo t b f count (map unwind_view xs) current → length xs < count → Unwinds t b current.unwind_info_address (Ok (unwind_view x)) → IfSome x.chained_info (λ h. h ≡ later) → ys ≡ xs ++ x ∷ [] → TakenTo t b f count (map unwind_view ys) later
+takes_next t b f count xs ys x current later s more u to same =
+    rw same (rw map_push (takes_more t b f count (map unwind_view xs) current later (unwind_view x) s (omega (arith, more, length-map xs unwind_view)) u to))
+
+pub goes_on : (o : Option RuntimeFunction) (next later : RuntimeFunction) → o ≡ Some next → later ≡ next → IfSome o (λ h. h ≡ later)
+goes_on o next later is same = rw is (sym same)
+
+pub goes_nowhere : (o : Option RuntimeFunction) (later : RuntimeFunction) → o ≡ None → IfSome o (λ h. h ≡ later)
+goes_nowhere o later is = rw is tt
+
+ends_at : (t : Table) (b : List ℕ) (f : RuntimeFunction) (count : ℕ) (records rest : List UnwindInfoView) (here : Option RuntimeFunction) → IsChain t b (Some f) records here → IsChain t b here rest None → length records + length rest ≡ count → count ≤ length records → IsChain t b (Some f) records None
+ends_at t b f count records [] here p q many all = subst (λ (o : Option RuntimeFunction). IsChain t b (Some f) records o) q p
+ends_at t b f count records (i ∷ rest) here p q many all = absurd (omega arith)
+
+-- all of them
+pub takes_all : (t : Table) (b : List ℕ) (f : RuntimeFunction) (count : ℕ) (records : List UnwindInfoView) (current : RuntimeFunction) → TakenTo t b f count records current → count ≤ length records → IsChain t b (Some f) records None
+takes_all t b f count records current s all = ends_at t b f count records s.rest s.here s.chain s.ahead s.many all
+
+-- what both walks answer
+pub counted : (t : Table) (b : List ℕ) (f : RuntimeFunction) (k : Refusal) → Counts t b f (Err k) → PlansFrom t b f (Err k)
+counted t b f Memory c = absurd c
+counted t b f FunctionCycle c = c
+counted t b f fault c = c
+
+pub taken : (t : Table) (b : List ℕ) (f : RuntimeFunction) (n : ℕ) (x : Result (List UnwindInfoView) Refusal) → HasLength t b f n → Takes t b f x → PlansFrom t b f x
+taken t b f n (Ok is) h s = s
+taken t b f n (Err Memory) h s = (h.0, h.2)
+taken t b f n (Err other) h s = absurd s

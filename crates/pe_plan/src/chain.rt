@@ -1,0 +1,89 @@
+//! Chains of unwind records: each is that of the function to which the one before it is chained.
+
+ghost use Rattle.std.specs.Prelude.{◌≡◌, ◌<◌, ◌^◌, map};
+ghost use Rattle.pe_core.specs.Refusals.{answer_by};
+ghost use Rattle.pe_unwind.specs.FunctionTable.{answer_of};
+ghost use Rattle.pe_unwind.specs.Links.{links_of};
+ghost use Rattle.pe_unwind.specs.UnwindRecord.{unwind_view};
+ghost use Rattle.pe_unwind.specs.Unwinding.{Unwinds};
+ghost use Rattle.pe_plan.specs.PlanSteps.{HasLength, Counts, Takes};
+
+use pe_core::{Error, ParseOptions, Reason, Result, SectionTable};
+use pe_unwind::{ExceptionData, RuntimeFunction, UnwindInfo};
+use std::alloc::Allocator;
+
+/// How many unwind addresses there are.
+const ADDRESSES: usize = 0x1_0000_0000;
+
+/// The unwind address of a function, one of so many.
+fn address_of(function: RuntimeFunction) -> u32
+    ensures value { result ≡ function.unwind_info_address }
+    ensures small { function.unwind_info_address < 2 ^ 32 }
+{
+    function.unwind_info_address
+}
+
+/// The records of exception data, and what maps addresses to places in the file.
+#[derive(Clone, Copy)]
+pub(crate) struct Records<'a, 'b> {
+    pub exceptions: &'b ExceptionData<'a>,
+    pub sections: &'b [SectionTable],
+    pub opts: &'b ParseOptions,
+}
+
+impl<'a, 'b> Records<'a, 'b> {
+    /// The record of a function.
+    fn record(&self, function: RuntimeFunction) -> Result<UnwindInfo<'a>>
+        ensures { Unwinds (links_of self.now.exceptions.now self.now.sections.now self.now.opts.now) self.now.exceptions.now.content function.unwind_info_address (answer_by unwind_view result) }
+    {
+        self.exceptions
+            .get_unwind_info_with_opts(function, self.sections, self.opts)
+    }
+
+    /// How many records the chain of a function has, up to its root. One unwind address is saved after 1, 2, 4, 8 and so
+    /// on records, so a ring ends after about as many records as it has, and those before it. No memory is asked for.
+    pub fn count(&self, function: RuntimeFunction) -> Result<usize>
+        ensures { Counts (links_of self.now.exceptions.now self.now.sections.now self.now.opts.now) self.now.exceptions.now.content function (answer_of result) }
+    {
+        let mut current = function;
+        let mut saved = function.unwind_info_address;
+        let mut power: usize = 1;
+        for chained in 0..ADDRESSES {
+            let Some(next) = self.record(current)?.chained_info else {
+                return Ok(chained + 1);
+            };
+            let address = address_of(next);
+            if address == saved {
+                return Err(Error::Malformed(Reason::FunctionCycle(chained + 1)));
+            }
+            if chained + 1 == power {
+                saved = address;
+                power *= 2;
+            }
+            current = next;
+        }
+        Err(Error::Malformed(Reason::FunctionCycle(ADDRESSES)))
+    }
+
+    /// The records of the chain of a function, which has so many. Memory is asked for once.
+    pub fn take<A: Allocator>(
+        &self,
+        alloc: A,
+        function: RuntimeFunction,
+        count: usize,
+    ) -> Result<Vec<UnwindInfo<'a>, A>>
+        requires { HasLength (links_of self.now.exceptions.now self.now.sections.now self.now.opts.now) self.now.exceptions.now.content function count }
+        ensures { Takes (links_of self.now.exceptions.now self.now.sections.now self.now.opts.now) self.now.exceptions.now.content function (answer_by (λ records. map unwind_view records.items) result) }
+    {
+        let mut records = Vec::with_capacity(alloc, count)?;
+        let mut current = function;
+        for _ in 0..count {
+            let record = self.record(current)?;
+            if let Some(next) = record.chained_info {
+                current = next;
+            }
+            records.push(record)?;
+        }
+        Ok(records)
+    }
+}

@@ -1,0 +1,61 @@
+//! The plan of a function, and of an address of code.
+
+ghost use Rattle.std.specs.Prelude.{◌≡◌, ◌↔◌, map, Err};
+ghost use Rattle.std.specs.Option.{option_map};
+ghost use Rattle.pe_core.specs.Refusals.{FunctionCycle, answer_by};
+ghost use Rattle.pe_unwind.specs.Links.{links_of};
+ghost use Rattle.pe_unwind.specs.UnwindRecord.{unwind_view};
+ghost use Rattle.pe_plan.specs.Plans.{NeverEnds, PlansFrom, Plans};
+
+use crate::chain::Records;
+use pe_core::{ParseOptions, Result, SectionTable};
+use pe_unwind::{ExceptionData, RuntimeFunction, UnwindInfo};
+use std::alloc::Allocator;
+
+/// How the frame of a function is unwound, up to the root of its chain of records.
+pub struct UnwindPlan;
+
+impl UnwindPlan {
+    /// The unwind records of the function that covers an address, as `of_function` gives them. `None` where no function
+    /// covers it.
+    pub fn of<'a, A: Allocator>(
+        alloc: A,
+        exceptions: &ExceptionData<'a>,
+        rva: u32,
+        sections: &[SectionTable],
+        opts: &ParseOptions,
+    ) -> Result<Option<Vec<UnwindInfo<'a>, A>>>
+        ensures { Plans exceptions.now sections.now opts.now rva (answer_by (option_map (λ records. map unwind_view records.items)) result) }
+    {
+        let Some(function) = exceptions.find_function(rva)? else {
+            return Ok(None);
+        };
+        let records = UnwindPlan::of_function(alloc, exceptions, function, sections, opts)?;
+        Ok(Some(records))
+    }
+
+    /// The unwind records of a function: its own, then that of the function to which this one is chained, and so on to the
+    /// first that is chained to none.
+    ///
+    /// `FunctionCycle` exactly if the chain goes on for ever, in records or in the links of one of its functions; else
+    /// the first refusal of a record, as `ExceptionData::get_unwind_info_with_opts` gives it. Memory is asked for once,
+    /// and only where the chain ends.
+    pub fn of_function<'a, A: Allocator>(
+        alloc: A,
+        exceptions: &ExceptionData<'a>,
+        function: RuntimeFunction,
+        sections: &[SectionTable],
+        opts: &ParseOptions,
+    ) -> Result<Vec<UnwindInfo<'a>, A>>
+        ensures plan { PlansFrom (links_of exceptions.now sections.now opts.now) exceptions.now.content function (answer_by (λ records. map unwind_view records.items) result) }
+        ensures cycle { (answer_by (λ records. map unwind_view records.items) result ≡ Err FunctionCycle) ↔ NeverEnds (links_of exceptions.now sections.now opts.now) exceptions.now.content function }
+    {
+        let chain = Records {
+            exceptions,
+            sections,
+            opts,
+        };
+        let count = chain.count(function)?;
+        chain.take(alloc, function, count)
+    }
+}

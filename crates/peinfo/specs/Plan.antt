@@ -1,0 +1,67 @@
+-- What `at FILE HEXRVA --chain` shows: the function that covers an address, and its records up to the root of their chain.
+use Rattle.std.specs.Prelude.{◌≡◌, ◌⊎◌, ℕ, ◌++◌, List, [], Option, Some, None, Result, Ok, Err, IsOk, Vec, codes}
+use Rattle.std.specs.List.{flat_map}
+use Rattle.std.specs.Fmt.{decimal}
+use Rattle.pe_core.specs.Options.{default_options}
+use Rattle.pe_core.specs.Refusals.{Refusal, UnlessMemory, IfMemory, kind_of}
+use Rattle.pe_core.specs.declared.error.Error.{Error}
+use Rattle.pe_core.specs.declared.section_table.SectionTable.{SectionTable}
+use Rattle.pe_image.specs.Core.{sections_read}
+use Rattle.pe_image.specs.Image.{ImageView, IsImage}
+use Rattle.pe_plan.specs.Plans.{PlansFrom}
+use Rattle.pe_unwind.specs.ExceptionTable.{ExceptionView}
+use Rattle.pe_unwind.specs.FunctionTable.{Finds}
+use Rattle.pe_unwind.specs.Links.{links_of}
+use Rattle.pe_unwind.specs.UnwindRecord.{UnwindInfoView, HandlerView, Exception, Termination}
+use Rattle.pe_unwind.specs.declared.function_table.RuntimeFunction.{RuntimeFunction}
+use Rattle.peinfo.specs.Find.{functions_of, found_line}
+
+-- what stands behind the codes of a record, by its chained function and its handler
+abbrev pub ending_word : Option RuntimeFunction → Option HandlerView → List ℕ
+ending_word (Some f) handler = codes "chained"
+ending_word None (Some (Exception address bytes)) = codes "exception"
+ending_word None (Some (Termination address bytes)) = codes "termination"
+ending_word None None = codes "plain"
+
+-- its version, the length of its prolog, and its frame register with the offset
+unfoldable pub record_line : UnwindInfoView → List ℕ
+record_line i =
+    codes "record " ++ decimal i.version ++ codes " " ++ decimal i.size_of_prolog
+    ++ codes " " ++ decimal i.frame_register.0 ++ codes " " ++ decimal i.frame_register_offset
+    ++ codes " " ++ ending_word i.chained_info i.handler ++ codes "\n"
+
+-- a line for each record
+abbrev pub record_lines : List UnwindInfoView → List ℕ
+record_lines records = flat_map record_line records
+
+-- what the plan of a function that lookup may have found answers; without a function there are no records
+abbrev pub PlansRecords : Option ExceptionView → List SectionTable → Option RuntimeFunction → Result (List UnwindInfoView) Refusal → Type 0
+PlansRecords (Some v) sections (Some f) answer = PlansFrom (links_of v sections default_options) v.content f answer
+PlansRecords (Some v) sections None answer = answer ≡ Ok []
+PlansRecords None sections found answer = answer ≡ Ok []
+
+-- what the plan of what lookup finds among the functions of the image answers, which is read strictly
+pub record IsPlanned (b : List ℕ) (address : ℕ) (found : Option RuntimeFunction) (answer : Result (List UnwindInfoView) Refusal) : Type 0 where
+  pub image : ImageView
+  pub given : IsImage b default_options (Ok image)
+  pub finds : Finds (functions_of image.header.coff_header.machine image.exception_data) address found
+  pub plan : PlansRecords image.exception_data image.sections found answer
+
+-- the line of that function, and those of its records
+pub record IsPlanText (b : List ℕ) (address : ℕ) (text : List ℕ) : Type 0 where
+  pub found : Option RuntimeFunction
+  pub records : List UnwindInfoView
+  pub planned : IsPlanned b address found (Ok records)
+  pub shown : text ≡ found_line found ++ record_lines records
+
+-- the refusal of the image, or else of the plan; or want of memory, which is asked for once the headers and the section
+-- headers are there
+abbrev pub IsPlanRefusal : List ℕ → ℕ → Error → Type 0
+IsPlanRefusal b address e =
+    UnlessMemory e (IsImage b default_options (Err (kind_of e)) ⊎ ((found : Option RuntimeFunction) × IsPlanned b address found (Err (kind_of e))))
+    × IfMemory e (IsOk (sections_read b default_options))
+
+-- what making that text of an image answers
+abbrev pub GivesPlanText : {Z : Type 0} → List ℕ → ℕ → Result (Vec ℕ Z) Error → Type 0
+GivesPlanText b address (Ok text) = IsPlanText b address text.items
+GivesPlanText b address (Err e) = IsPlanRefusal b address e

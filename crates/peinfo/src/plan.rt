@@ -1,0 +1,118 @@
+//! The records that unwind the function which covers an address.
+
+ghost use Rattle.std.specs.Prelude.{◌≡◌, ◌++◌, map, OnOk};
+ghost use Rattle.pe_core.specs.Refusals.{answer_by};
+ghost use Rattle.pe_unwind.specs.UnwindRecord.{unwind_view};
+ghost use Rattle.peinfo.specs.Engine.{Reports};
+ghost use Rattle.peinfo.specs.Output.{writer_of, failures_of};
+ghost use Rattle.peinfo.specs.Plan.{ending_word, record_line, record_lines, PlansRecords, IsPlanText, IsPlanRefusal, GivesPlanText};
+
+use crate::counted_out::CountedOut;
+use crate::digits::push_decimal;
+use crate::engine::{ReportError, write_text};
+use crate::find::{found_in, push_found};
+use pe_image::{
+    ExceptionData, PE, ParseOptions, RuntimeFunction, SectionTable, UnwindHandler, UnwindInfo,
+};
+use pe_plan::UnwindPlan;
+use std::alloc::{AllocError, Allocator};
+use std::io;
+
+/// The word for what stands behind the codes of a record.
+fn ending_word(record: &UnwindInfo) -> &'static [u8]
+    ensures { result.now ≡ ending_word (unwind_view record.now).chained_info (unwind_view record.now).handler }
+{
+    match (&record.chained_info, &record.handler) {
+        (Some(_), _) => b"chained",
+        (None, Some(UnwindHandler::ExceptionHandler(..))) => b"exception",
+        (None, Some(UnwindHandler::TerminationHandler(..))) => b"termination",
+        (None, None) => b"plain",
+    }
+}
+
+/// Adds the line of a record.
+#[tactic(auto, unfolding(crate::specs::Plan::record_line))]
+fn push_record<A: Allocator>(text: &mut Vec<u8, A>, record: &UnwindInfo) -> Result<(), AllocError>
+    ensures { OnOk result (text.new.items ≡ text.old.items ++ record_line (unwind_view record.now)) }
+{
+    text.extend_from_slice(b"record ")?;
+    push_decimal(text, u32::from(record.version))?;
+    text.push(b' ')?;
+    push_decimal(text, u32::from(record.size_of_prolog))?;
+    text.push(b' ')?;
+    push_decimal(text, u32::from(record.frame_register.0))?;
+    text.push(b' ')?;
+    push_decimal(text, record.frame_register_offset)?;
+    text.push(b' ')?;
+    text.extend_from_slice(ending_word(record))?;
+    text.push(b'\n')?;
+    Ok(())
+}
+
+/// Adds a line for each record.
+#[tactic(auto, using(std::proofs::lemmas::Grind::common_steps))]
+fn push_records<A: Allocator>(
+    text: &mut Vec<u8, A>,
+    records: &[UnwindInfo<'_>],
+) -> Result<(), AllocError>
+    ensures { OnOk result (text.new.items ≡ text.old.items ++ record_lines (map unwind_view records.now)) }
+{
+    for record in records {
+        push_record(text, record)?;
+    }
+    Ok(())
+}
+
+/// The records of a function that is found, up to the root of their chain.
+fn records_of<'a, A: Allocator>(
+    alloc: A,
+    exceptions: &Option<ExceptionData<'a>>,
+    sections: &[SectionTable],
+    found: Option<RuntimeFunction>,
+) -> pe_image::Result<Vec<UnwindInfo<'a>, A>>
+    ensures { PlansRecords exceptions.now sections.now found (answer_by (λ records. map unwind_view records.items) result) }
+{
+    match (exceptions, found) {
+        (Some(exceptions), Some(function)) => {
+            let opts = ParseOptions::default();
+            UnwindPlan::of_function(alloc, exceptions, function, sections, &opts)
+        }
+        _ => Ok(Vec::new(alloc)),
+    }
+}
+
+/// The line of the function that covers the address and those of its records, or the refusal of the image or of the plan.
+fn text_of<A: Allocator + Copy + Drop>(
+    alloc: A,
+    bytes: &[u8],
+    rva: u32,
+) -> pe_image::Result<Vec<u8, A>>
+    ensures { GivesPlanText bytes.now rva result }
+{
+    let image = PE::parse(alloc, bytes)?;
+    let machine = image.header.coff_header.machine;
+    let found = found_in(machine, &image.exception_data, rva);
+    let records = records_of(alloc, &image.exception_data, &image.sections, found)?;
+    let mut text = Vec::new(alloc);
+    push_found(&mut text, found)?;
+    push_records(&mut text, &records)?;
+    Ok(text)
+}
+
+/// Shows the x64 function that covers an address of the image and each of its unwind records up to the root of their
+/// chain, or `none`. The image is read strictly, with the default options.
+#[tactic(auto, using(crate::proofs::Engines::reports))]
+pub fn plan<A: Allocator, W: io::Write>(
+    alloc: A,
+    bytes: &[u8],
+    rva: u32,
+    out: &mut CountedOut<W>,
+) -> Result<(), ReportError>
+    ensures { Reports result (IsPlanText bytes.now rva)
+        (IsPlanRefusal bytes.now rva)
+        (W.contents (writer_of out.old)) (W.contents (writer_of out.new))
+        (failures_of out.old) (failures_of out.new) }
+{
+    let text = text_of(&alloc, bytes, rva).map_err(ReportError::Parse)?;
+    write_text(out, &text)
+}
