@@ -1,11 +1,11 @@
 //! The numbers by which calls answer.
 
 ghost use Rattle.std.specs.Prelude.{◌≡◌};
-ghost use Rattle.pe_core.specs.Refusals.{kind_of, kind_of_reason};
-ghost use Rattle.pe_c.specs.Answers.{number_of};
+ghost use Rattle.pe_core.specs.Refusals.{kind_of, kind_of_reason, answer_by};
+ghost use Rattle.pe_c.specs.Answers.{number_of, Answers, AnswersIf};
 ghost use Rattle.pe_c.specs.Modes.{options_of};
 
-use pe_core::{Error, ParseMode, ParseOptions, Reason};
+use pe_core::{Error, ParseMode, ParseOptions, Reason, Result};
 
 /// The call was answered.
 pub const DONE: u32 = 0;
@@ -80,4 +80,31 @@ pub fn options(mode: u32) -> ParseOptions
         ParseMode::Permissive
     };
     ParseOptions::default().with_parse_mode(parse_mode)
+}
+
+/// Hands out what was given, or its refusal's number.
+pub fn hand_out<T: Copy>(given: Result<T>, out: &mut T) -> u32
+    ensures { Answers result out.old out.new (answer_by (λ x. x) given) }
+{
+    match given {
+        Ok(value) => {
+            *out = value;
+            DONE
+        }
+        Err(error) => number_of(&error),
+    }
+}
+
+/// Hands out what was given if there is something, or its refusal's number.
+pub fn hand_out_some<T: Copy>(given: Result<Option<T>>, out: &mut T) -> u32
+    ensures { AnswersIf result out.old out.new (answer_by (λ x. x) given) }
+{
+    match given {
+        Ok(Some(value)) => {
+            *out = value;
+            DONE
+        }
+        Ok(None) => NOTHING,
+        Err(error) => number_of(&error),
+    }
 }

@@ -2,14 +2,14 @@
 
 ghost use Rattle.std.specs.Prelude.{◌≡◌, ◌+◌, ◌*◌, ◌≤◌, ◌++◌, drop, length, true, Ok};
 ghost use Rattle.pe_core.specs.Header.{header_view};
-ghost use Rattle.pe_core.specs.Refusals.{Gives};
+ghost use Rattle.pe_core.specs.Refusals.{answer_by};
 ghost use Rattle.pe_core.specs.Records.{section_table};
 ghost use Rattle.pe_core.specs.Rows.{rows};
 ghost use Rattle.pe_core.specs.SectionMap.{place_of};
 ghost use Rattle.pe_c.specs.Answers.{Answers, AnswersIf};
 ghost use Rattle.pe_c.specs.Images.{or_absent, image_of, image_at, PutsSections};
 
-use crate::answers::{DONE, NOTHING, ROOM, number_of, options};
+use crate::answers::{DONE, NOTHING, ROOM, hand_out, number_of, options};
 use pe_core::{
     DataDirectory, Header, MAGIC_64, ParseOptions, Result, SectionTable, find_offset, require_bytes,
 };
@@ -101,7 +101,7 @@ fn image_of(header: &Header) -> Image
 }
 
 fn read_image(bytes: &[u8], mode: u32) -> Result<Image>
-    ensures { Gives (λ i. i) result (image_at bytes.now mode) }
+    ensures { answer_by (λ x. x) result ≡ image_at bytes.now mode }
 {
     let header = Header::parse_with_opts(bytes, &options(mode))?;
     Ok(image_of(&header))
@@ -112,13 +112,7 @@ fn read_image(bytes: &[u8], mode: u32) -> Result<Image>
 pub extern "C" fn pe_c_image(bytes: &[u8], mode: u32, out: &mut Image) -> u32
     ensures { Answers result out.old out.new (image_at bytes.now mode) }
 {
-    match read_image(bytes, mode) {
-        Ok(image) => {
-            *out = image;
-            DONE
-        }
-        Err(error) => number_of(&error),
-    }
+    hand_out(read_image(bytes, mode), out)
 }
 
 /// The section header at a place where its 40 bytes are known to be there.
