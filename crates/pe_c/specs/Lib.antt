@@ -3,3 +3,5 @@ pub mod Images
 pub mod Modes
 pub mod Ranges
 pub mod Texts
+pub mod Unwinding
+pub mod Walks

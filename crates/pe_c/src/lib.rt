@@ -10,3 +10,5 @@ mod answers;
 mod image;
 mod ranges;
 mod texts;
+mod unwinding;
+mod walks;
