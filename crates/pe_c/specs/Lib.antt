@@ -1,4 +1,5 @@
 pub mod Answers
+pub mod Arm64
 pub mod Images
 pub mod Modes
 pub mod Ranges
