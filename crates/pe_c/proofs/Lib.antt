@@ -1,2 +1,3 @@
 pub mod LastText
+pub mod PlanSteps
 pub mod Rooms

@@ -9,6 +9,7 @@
 mod answers;
 mod arm64;
 mod image;
+mod plan;
 mod ranges;
 mod texts;
 mod unwinding;
