@@ -9,6 +9,7 @@
 mod answers;
 mod arm64;
 mod image;
+pub mod laws;
 mod plan;
 mod ranges;
 mod texts;
