@@ -1,11 +1,11 @@
 //! Laws of x64: lookup, links, unwind codes, registers and scope tables.
 
-ghost use Rattle.std.specs.Prelude.{◌≡◌, ◌/◌, ◌<◌, ◌↔◌, ℕ, List, Option, Some, Result, Err, IsSome, IsTrue, map};
+ghost use Rattle.std.specs.Prelude.{◌≡◌, ◌/◌, ◌<◌, ◌↔◌, ℕ, List, Option, Some, Result, Err, IsSome, IsTrue, map, Ok};
 ghost use Rattle.std.specs.Iterator.{Drains};
 ghost use Rattle.std.specs.List.{Any};
 ghost use Rattle.std.specs.Ordering.{nat_cmp};
 ghost use Rattle.std.specs.declared.cmp.Ordering.TheVariants.{Equal};
-ghost use Rattle.pe_core.specs.Refusals.{Refusal, Memory, FunctionCycle};
+ghost use Rattle.pe_core.specs.Refusals.{Refusal, Memory, FunctionCycle, outcome};
 ghost use Rattle.pe_core.specs.declared.error.Error.{Error};
 ghost use Rattle.pe_unwind.specs.declared.function_table.RuntimeFunction.{RuntimeFunction};
 ghost use Rattle.pe_unwind.specs.declared.register.Register.{Register};
@@ -15,8 +15,9 @@ ghost use Rattle.pe_unwind.specs.declared.unwind_code.UnwindCodeIterator.{Unwind
 ghost use Rattle.pe_unwind.specs.CodeStream.{CodeStream, AreItems, stream_of};
 ghost use Rattle.pe_unwind.specs.FunctionTable.{NeverFalls, NoEndPassesNext, Covers, Finds, answer_of};
 ghost use Rattle.pe_unwind.specs.Links.{Table, Follows, IsEndless};
+ghost use Rattle.pe_unwind.specs.Places.{PartsStand};
 ghost use Rattle.pe_unwind.specs.UnwindCodes.{BeginsWithCode};
-ghost use Rattle.pe_unwind.specs.UnwindRecord.{UnwindInfoView};
+ghost use Rattle.pe_unwind.specs.UnwindRecord.{UnwindInfoView, unwind_tests, unwind_record};
 ghost use Rattle.pe_unwind.specs.Unwinding.{Unwinds};
 
 use crate::register::Register;
@@ -68,4 +69,9 @@ pub fn one_record_of_addresses()
     ensures one { (t : Table) (b : List ℕ) (u : ℕ) (x y : Result UnwindInfoView Refusal) → Unwinds t b u x → Unwinds t b u y → x ≡ y }
     ensures cycle { (t : Table) (b : List ℕ) (u : ℕ) (x : Result UnwindInfoView Refusal) → Unwinds t b u x → ((x ≡ Err FunctionCycle) ↔ IsEndless t u) }
     ensures no_memory { (t : Table) (b : List ℕ) (u : ℕ) → Unwinds t b u (Err Memory) → ⊥ }
+{}
+
+/// The codes of an unwind record stand four bytes behind its beginning, and its handler's data are the last of the bytes.
+pub fn parts_of_records_stand()
+    ensures { (b : List ℕ) (p : ℕ) (i : UnwindInfoView) → outcome (unwind_tests b p) (unwind_record b p) ≡ Ok i → PartsStand b p i }
 {}

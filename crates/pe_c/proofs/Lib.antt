@@ -1,0 +1,4 @@
+pub mod LastText
+pub mod PlanSteps
+pub mod RecordRanges
+pub mod Rooms

@@ -1,0 +1,9 @@
+pub mod Answers
+pub mod Arm64
+pub mod Images
+pub mod Modes
+pub mod Plans
+pub mod Ranges
+pub mod Texts
+pub mod Unwinding
+pub mod Walks
