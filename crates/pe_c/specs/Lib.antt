@@ -1,6 +1,8 @@
 pub mod Answers
 pub mod Debug
+pub mod DebugWalks
 pub mod Images
 pub mod Modes
 pub mod Ranges
 pub mod Texts
+pub mod Walks

@@ -8,6 +8,8 @@
 
 mod answers;
 mod debug;
+mod debug_walks;
 mod image;
 mod ranges;
 mod texts;
+mod walks;
