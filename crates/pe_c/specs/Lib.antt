@@ -1,4 +1,5 @@
 pub mod Answers
+pub mod Certificates
 pub mod Debug
 pub mod DebugWalks
 pub mod Images

@@ -7,6 +7,7 @@
 #![tactic(auto)]
 
 mod answers;
+mod certificates;
 mod debug;
 mod debug_walks;
 mod image;
