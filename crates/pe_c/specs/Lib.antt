@@ -4,6 +4,7 @@ pub mod Debug
 pub mod DebugWalks
 pub mod Images
 pub mod Modes
+pub mod Parts
 pub mod Ranges
 pub mod Texts
 pub mod Walks

@@ -11,6 +11,7 @@ mod certificates;
 mod debug;
 mod debug_walks;
 mod image;
+pub mod laws;
 mod ranges;
 mod texts;
 mod walks;
