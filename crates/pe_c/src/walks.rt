@@ -1,51 +1,36 @@
-//! Walks over ranges of the bytes, which a caller keeps between the steps.
+//! Walks over entries of one width.
 
-ghost use Rattle.std.specs.Prelude.{◌≡◌, ◌+◌, ◌≤◌, ◌^◌};
-ghost use Rattle.pe_c.specs.Answers.{AnswersIf};
-ghost use Rattle.pe_c.specs.Walks.{Left, behind, told};
+ghost use Rattle.std.specs.Prelude.{◌≡◌, ◌+◌, ◌-◌, ◌≤◌, ◌<◌, length, IfOk, IfSome};
+ghost use Rattle.std.specs.Option.{option_map};
+ghost use Rattle.pe_core.specs.Refusals.{answer_by};
+ghost use Rattle.pe_c.specs.Walks.{left_entry, walk_of};
 
-use crate::answers::{DONE, NOTHING, number_of};
-use crate::ranges::{Range, slice_of};
-use pe_core::Result;
+use crate::ranges::{NO_BYTES, Range, slice_of};
+use pe_core::{Error, Result};
 
-/// The bytes that a walk has left. `None` where it is over; `Short`, and then it is over, where they are not all there.
-pub fn left_of<'a>(bytes: &'a [u8], walk: &mut Range) -> Option<Result<&'a [u8]>>
-    ensures { Left (λ s. s.now) bytes.entry.now walk.old result walk.new }
+/// The bytes that begin with the next entry of a walk, if there is one, and the walk moves behind it. `Short`, and the walk
+/// is over, where the entry is cut or the range of the walk does not lie in the bytes.
+pub fn next_entry<'a>(bytes: &'a [u8], walk: &mut Range, width: usize) -> Result<Option<&'a [u8]>>
+    ensures entry { answer_by (option_map (λ s. s.now)) result ≡ left_entry width bytes.entry.now walk.old }
+    ensures walk { walk.new ≡ walk_of width bytes.entry.now walk.old }
+    ensures whole { IfOk result (λ e. IfSome e (λ s. width ≤ length s.now)) }
 {
-    if walk.length == 0 {
-        return None;
+    let range = *walk;
+    *walk = NO_BYTES;
+    let left = slice_of(bytes, &range)?;
+    if left.is_empty() {
+        *walk = range;
+        return Ok(None);
     }
-    match slice_of(bytes, walk) {
-        Ok(left) => Some(Ok(left)),
-        Err(error) => {
-            walk.length = 0;
-            Some(Err(error))
-        }
+    if left.len() < width {
+        return Err(Error::Short {
+            at: 0,
+            needed: width,
+        });
     }
-}
-
-/// Moves a walk behind the first so many of its bytes.
-pub fn move_behind(walk: &mut Range, taken: usize)
-    requires inside { taken ≤ walk.old.length }
-    requires place { walk.old.place + walk.old.length ≤ 2 ^ 63 }
-    ensures { walk.new ≡ behind walk.old taken }
-{
     *walk = Range {
-        place: walk.place + taken as u64,
-        length: walk.length - taken as u64,
+        place: range.place + width as u64,
+        length: range.length - width as u64,
     };
-}
-
-/// Hands out what a step gave: `NOTHING` at the end of its walk, or the number of its refusal.
-pub fn hand_out_step<T: Copy>(step: Option<Result<T>>, out: &mut T) -> u32
-    ensures { AnswersIf result out.old out.new (told (λ x. x) step) }
-{
-    match step {
-        Some(Ok(item)) => {
-            *out = item;
-            DONE
-        }
-        None => NOTHING,
-        Some(Err(error)) => number_of(&error),
-    }
+    Ok(Some(left))
 }
