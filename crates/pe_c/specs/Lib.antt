@@ -4,3 +4,4 @@ pub mod Images
 pub mod Modes
 pub mod Ranges
 pub mod Texts
+pub mod Versions

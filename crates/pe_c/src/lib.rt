@@ -11,3 +11,4 @@ mod debug;
 mod image;
 mod ranges;
 mod texts;
+mod version;
