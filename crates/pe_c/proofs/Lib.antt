@@ -1,2 +1,3 @@
 pub mod LastText
 pub mod Rooms
+pub mod VersionsTold
