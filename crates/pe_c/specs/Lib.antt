@@ -10,4 +10,5 @@ pub mod Plans
 pub mod Ranges
 pub mod Texts
 pub mod Unwinding
+pub mod Versions
 pub mod Walks

@@ -17,4 +17,5 @@ mod plan;
 mod ranges;
 mod texts;
 mod unwinding;
+mod version;
 mod walks;

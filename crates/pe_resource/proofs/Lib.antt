@@ -4,9 +4,11 @@ pub mod Keys
 pub mod Units
 pub mod Names
 pub mod StringLists
+pub mod ValueRanges
 pub mod Readings
 pub mod Contents
 pub mod NoMemory
 pub mod Halves
 pub mod OneAnswer
+pub mod ContentRanges
 pub mod ResourceModes

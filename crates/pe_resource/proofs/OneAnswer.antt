@@ -6,12 +6,13 @@ use Rattle.pe_core.specs.declared.options.ParseMode.{ParseMode}
 use Rattle.pe_core.specs.declared.options.ParseOptions.{ParseOptions}
 use Rattle.pe_core.specs.declared.section_table.SectionTable.{SectionTable}
 use Rattle.pe_core.proofs.Pigeonhole.{stop_once}
+use Rattle.pe_resource.specs.declared.byte_range.ByteRange.{ByteRange}
 use Rattle.pe_resource.specs.declared.directory.ImageResourceDirectory.{ImageResourceDirectory}
 use Rattle.pe_resource.specs.declared.entry.ResourceEntry.{ResourceEntry}
-use Rattle.pe_resource.specs.Contents.{map_of, IsLeaf, content_in, IsContent, version_of_content, IsVersion}
+use Rattle.pe_resource.specs.Contents.{map_of, IsLeaf, range_in, IsContentRange, content_of, IsContent, version_of_content, IsVersion}
 use Rattle.pe_resource.specs.ResourceEntries.{with_id, is_directory, data_place, entries}
 use Rattle.pe_resource.specs.ResourceWalk.{step, decided, passes, Decides, Walks}
-use Rattle.pe_resource.specs.Resources.{ResourceView, first_entries_in, directory_and_data, IsWithManifest, IsBehindEntries, IsBehindDirectory, IsResource}
+use Rattle.pe_resource.specs.Resources.{ResourceView, first_entries_in, directory_and_data, IsWithManifest, IsBehindEntries, IsBehindDirectory, IsResource, IsRangeBehindEntries, IsRangeBehindDirectory, IsResourceRange}
 use Rattle.pe_resource.specs.VersionFields.{VersionView}
 use Rattle.pe_resource.proofs.Walks.{none_from_decided, cycle_is_endless}
 
@@ -48,10 +49,15 @@ one_leaf b (Some e) r s h k =
     let same : h.0 ≡ k.0 = one_walk b is_directory e h.0 k.0 h.1 k.1 in
     h.2 ∙ ap (λ (w : Result ResourceEntry Refusal). w >>= λ v. Ok (data_place v)) same ∙ sym k.2
 
-one_content : (map : ℕ → Option ℕ) (f b : List ℕ) (es : List ResourceEntry) (id : ℕ) (r s : Result (Option (List ℕ)) Refusal) → IsContent map f b es id r → IsContent map f b es id s → r ≡ s
-one_content map f b es id r s h k =
+one_content_range : (map : ℕ → Option ℕ) (f b : List ℕ) (es : List ResourceEntry) (id : ℕ) (r s : Result (Option ByteRange) Refusal) → IsContentRange map f b es id r → IsContentRange map f b es id s → r ≡ s
+one_content_range map f b es id r s h k =
     let same : h.0 ≡ k.0 = one_leaf b (with_id id es) h.0 k.0 h.1 k.1 in
-    h.2 ∙ ap (λ (w : Result (Option ℕ) Refusal). w >>= content_in map f b) same ∙ sym k.2
+    h.2 ∙ ap (λ (w : Result (Option ℕ) Refusal). w >>= range_in map f b) same ∙ sym k.2
+
+pub one_content : (map : ℕ → Option ℕ) (f b : List ℕ) (es : List ResourceEntry) (id : ℕ) (r s : Result (Option (List ℕ)) Refusal) → IsContent map f b es id r → IsContent map f b es id s → r ≡ s
+one_content map f b es id r s h k =
+    let same : h.0 ≡ k.0 = one_content_range map f b es id h.0 k.0 h.1 k.1 in
+    h.2 ∙ ap (λ (c : Result (Option ByteRange) Refusal). c >>= λ c. Ok (content_of f c)) same ∙ sym k.2
 
 one_version : (map : ℕ → Option ℕ) (f b : List ℕ) (es : List ResourceEntry) (r s : Result (Option VersionView) Refusal) → IsVersion map f b es r → IsVersion map f b es s → r ≡ s
 one_version map f b es r s h k =
@@ -78,3 +84,17 @@ one_behind_directory mode map f (Ok (d, body)) r s h k = one_behind_entries map 
 
 pub one_resource : (o : ParseOptions) (f : List ℕ) (d : DataDirectory) (sections : List SectionTable) (alignment : ℕ) (r s : Result ResourceView Refusal) → IsResource o f d sections alignment r → IsResource o f d sections alignment s → r ≡ s
 one_resource o f d sections alignment r s h k = one_behind_directory o.parse_mode (map_of o sections alignment) f (directory_and_data o f d sections alignment) r s h k
+
+-- ---- ranges
+
+one_range_behind_entries : (map : ℕ → Option ℕ) (f body : List ℕ) (id : ℕ) (t : Result (Option (List ℕ)) Refusal) (r s : Result (Option ByteRange) Refusal) → IsRangeBehindEntries map f body id t r → IsRangeBehindEntries map f body id t s → r ≡ s
+one_range_behind_entries map f body id (Err e) r s h k = h ∙ sym k
+one_range_behind_entries map f body id (Ok None) r s h k = h ∙ sym k
+one_range_behind_entries map f body id (Ok (Some table)) r s h k = one_content_range map f body (entries table) id r s h k
+
+one_range_behind_directory : (mode : ParseMode) (map : ℕ → Option ℕ) (f : List ℕ) (id : ℕ) (t : Result (ImageResourceDirectory × List ℕ) Refusal) (r s : Result (Option ByteRange) Refusal) → IsRangeBehindDirectory mode map f id t r → IsRangeBehindDirectory mode map f id t s → r ≡ s
+one_range_behind_directory mode map f id (Err e) r s h k = h ∙ sym k
+one_range_behind_directory mode map f id (Ok (d, body)) r s h k = one_range_behind_entries map f body id (first_entries_in mode body d) r s h k
+
+pub one_range : (o : ParseOptions) (f : List ℕ) (d : DataDirectory) (id : ℕ) (sections : List SectionTable) (alignment : ℕ) (r s : Result (Option ByteRange) Refusal) → IsResourceRange o f d id sections alignment r → IsResourceRange o f d id sections alignment s → r ≡ s
+one_range o f d id sections alignment r s h k = one_range_behind_directory o.parse_mode (map_of o sections alignment) f id (directory_and_data o f d sections alignment) r s h k
