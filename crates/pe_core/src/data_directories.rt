@@ -42,6 +42,7 @@ const DELAY_IMPORT_DESCRIPTOR: usize = 13;
 const CLR_RUNTIME_HEADER: usize = 14;
 
 /// Where a directory stands and how large it is.
+#[repr(C)]
 #[derive(Clone, Copy, Debug, PartialEq)]
 pub struct DataDirectory {
     /// Its relative virtual address.

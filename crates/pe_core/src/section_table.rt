@@ -17,6 +17,7 @@ use std::alloc::Allocator;
 const SIZE_OF_SECTION_HEADER: usize = 40;
 
 /// The header of a section, 40 bytes.
+#[repr(C)]
 #[derive(Clone, Copy, Debug, PartialEq)]
 pub struct SectionTable {
     /// Text, filled up with zeros.

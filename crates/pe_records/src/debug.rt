@@ -45,6 +45,7 @@ pub use pogo::{POGOEntryIterator, POGOInfo, POGOInfoEntry};
 pub use records::{ExDllCharacteristicsInfo, ReproInfo, VCFeatureInfo};
 
 /// An entry of the debug directory, 28 bytes: which record stands where.
+#[repr(C)]
 #[derive(Clone, Copy, Debug, Default, PartialEq)]
 pub struct ImageDebugDirectory {
     /// Reserved.

@@ -91,6 +91,7 @@ impl VersionField {
 }
 
 /// Fixed file information, 52 bytes.
+#[repr(C)]
 #[derive(Clone, Copy, Debug, Default, PartialEq)]
 pub struct VsFixedFileInfo {
     /// `VS_FFI_SIGNATURE`.

@@ -12,6 +12,7 @@ use pe_core::{CountedTable, Result, number32, split_entry};
 pub(crate) const SIZE_OF_FUNCTION: usize = 12;
 
 /// An entry of the function table: the addresses that a function covers, and where its unwind record stands.
+#[repr(C)]
 #[derive(Clone, Copy, Debug, Default, PartialEq)]
 pub struct RuntimeFunction {
     /// The address of the first byte.

@@ -11,6 +11,7 @@ use pe_core::{number32, split_entry};
 pub(crate) const SIZE_OF_SCOPE: usize = 16;
 
 /// A guarded range of code.
+#[repr(C)]
 #[derive(Clone, Copy, Debug, Default, PartialEq, Eq, Hash)]
 pub struct ScopeTableEntry {
     /// The address of the first guarded byte.

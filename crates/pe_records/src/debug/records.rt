@@ -20,6 +20,7 @@ pub(crate) fn record_place(idd: &ImageDebugDirectory, opts: &ParseOptions) -> u3
 }
 
 /// How many functions of an image were compiled with which features of Visual C++.
+#[repr(C)]
 #[derive(Clone, Copy, Debug, Default, PartialEq)]
 pub struct VCFeatureInfo {
     /// By a compiler before Visual C++ 11.

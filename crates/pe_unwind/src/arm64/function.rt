@@ -35,6 +35,7 @@ pub const ARM64_PDATA_CR_CHAINED: u32 = 3;
 pub(crate) const SIZE_OF_ARM64_FUNCTION: usize = 8;
 
 /// An entry of the ARM64 function table: where a function begins, and how its frame is unwound.
+#[repr(C)]
 #[derive(Clone, Copy, Debug, Default, PartialEq)]
 pub struct Arm64RuntimeFunction {
     /// The address of the first byte.

@@ -1,0 +1,9 @@
+-- A number behind the last refusal says nothing of its own.
+use Rattle.std.proofs.Common.{◌≡◌, ℕ, ◌≤◌, sym, arith}
+use Rattle.std.specs.Prelude.{codes}
+use Rattle.std.proofs.lemmas.List.{get_or_past}
+use Rattle.pe_c.specs.Texts.{texts, refusal_text}
+
+pub text_past : (n : ℕ) → 38 ≤ n → codes "another answer" ≡ refusal_text n
+unfolding refusal_text
+text_past n h = sym (get_or_past texts n (codes "another answer") (omega arith))

@@ -1,0 +1,2 @@
+pub mod LastText
+pub mod Rooms

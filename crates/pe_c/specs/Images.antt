@@ -1,0 +1,73 @@
+-- What is told of an image.
+use Rattle.std.specs.Prelude.{◌≡◌, ℕ, ◌==◌, List, ◌++◌, drop, length, nat_le, Bool, true, false, Option, Some, None, Result, Ok, Err, if◌then◌else◌}
+use Rattle.pe_core.specs.Directories.{present, absent_directory}
+use Rattle.pe_core.specs.Header.{OptionalHeaderView, HeaderView, header_at}
+use Rattle.pe_core.specs.Refusals.{Refusal, ◌>>=◌}
+use Rattle.pe_core.specs.Sections.{sections_at, sections_place}
+use Rattle.pe_core.specs.declared.data_directories.DataDirectory.{DataDirectory}
+use Rattle.pe_core.specs.declared.section_table.SectionTable.{SectionTable}
+use Rattle.pe_c.specs.declared.image.Image.{Image}
+use Rattle.pe_c.specs.Answers.{number_of}
+use Rattle.pe_c.specs.Modes.{mode_of}
+
+-- a directory, or zeros where it is absent
+abbrev pub or_absent : Option DataDirectory → DataDirectory
+or_absent None = absent_directory
+or_absent (Some d) = d
+
+-- what the headers say; without an optional header zeros
+abbrev pub image_by : HeaderView → Option OptionalHeaderView → Image
+image_by h None = record {
+  base = 0;
+  sections_place = sections_place h;
+  entry = 0;
+  file_alignment = 0;
+  exports = absent_directory;
+  imports = absent_directory;
+  resources = absent_directory;
+  exceptions = absent_directory;
+  certificates = absent_directory;
+  debug = absent_directory;
+  machine = h.coff_header.machine;
+  width = 0;
+  number_of_sections = h.coff_header.number_of_sections;
+  spare = 0;
+}
+image_by h (Some o) = record {
+  base = o.windows_fields.image_base;
+  sections_place = sections_place h;
+  entry = o.standard_fields.address_of_entry_point;
+  file_alignment = o.windows_fields.file_alignment;
+  exports = or_absent (present o.data_directories 0);
+  imports = or_absent (present o.data_directories 1);
+  resources = or_absent (present o.data_directories 2);
+  exceptions = or_absent (present o.data_directories 3);
+  certificates = or_absent (present o.data_directories 4);
+  debug = or_absent (present o.data_directories 6);
+  machine = h.coff_header.machine;
+  width = if o.standard_fields.magic == 0x20B then 64 else 32;
+  number_of_sections = h.coff_header.number_of_sections;
+  spare = 0;
+}
+
+abbrev pub image_of : HeaderView → Image
+image_of h = image_by h h.optional_header
+
+-- the image of these bytes in this mode, or the first refusal of its headers
+abbrev pub image_at : List ℕ → ℕ → Result Image Refusal
+image_at b mode = header_at b (mode_of mode) >>= λ h. Ok (image_of h)
+
+-- the rows stand at the beginning of the room, behind them is what was there; or they are refused and the room is as it was
+abbrev pub PutsRows : ℕ → List SectionTable → List SectionTable → Result (List SectionTable) Refusal → Type 0
+PutsRows number old new (Ok sections) = (number ≡ 0) × (new ≡ sections ++ drop (length sections) old)
+PutsRows number old new (Err refusal) = (number ≡ number_of refusal) × (new ≡ old)
+
+-- 101 where the room is too small
+abbrev pub PutsIf : Bool → ℕ → List SectionTable → List SectionTable → Result (List SectionTable) Refusal → Type 0
+PutsIf false number old new sections = (number ≡ 101) × (new ≡ old)
+PutsIf true number old new sections = PutsRows number old new sections
+
+-- what reading the sections of an image answers, with a room of at least as many entries
+abbrev pub PutsSections : List ℕ → Image → ℕ → List SectionTable → List SectionTable → Type 0
+PutsSections b image number old new =
+    PutsIf (nat_le image.number_of_sections (length old)) number old new (sections_at b image.sections_place image.number_of_sections)

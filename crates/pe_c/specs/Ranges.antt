@@ -1,0 +1,14 @@
+-- Ranges of the bytes.
+use Rattle.std.specs.Prelude.{◌≡◌, ℕ, ◌+◌, ◌≤◌, List, length, Result}
+use Rattle.pe_core.specs.Bytes.{range, record_at}
+use Rattle.pe_core.specs.Refusals.{Refusal}
+use Rattle.pe_c.specs.declared.ranges.Range.{Range}
+
+-- the bytes of a range, or `Short` where they are not all there
+abbrev pub bytes_at : List ℕ → Range → Result (List ℕ) Refusal
+bytes_at b r = record_at b r.place r.length (range b r.place r.length)
+
+-- the range lies in the bytes, and these are its bytes
+pub record IsRange (b : List ℕ) (r : Range) (bytes : List ℕ) : Type 0 where
+  pub inside : r.place + r.length ≤ length b
+  pub same : range b r.place r.length ≡ bytes

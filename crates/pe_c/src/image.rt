@@ -1,0 +1,187 @@
+//! The headers of an image, and its sections.
+
+ghost use Rattle.std.specs.Prelude.{◌≡◌, ◌+◌, ◌*◌, ◌≤◌, ◌++◌, drop, length, true, Ok};
+ghost use Rattle.pe_core.specs.Header.{header_view};
+ghost use Rattle.pe_core.specs.Refusals.{answer_by};
+ghost use Rattle.pe_core.specs.Records.{section_table};
+ghost use Rattle.pe_core.specs.Rows.{rows};
+ghost use Rattle.pe_core.specs.SectionMap.{place_of};
+ghost use Rattle.pe_c.specs.Answers.{Answers, AnswersIf};
+ghost use Rattle.pe_c.specs.Images.{or_absent, image_of, image_at, PutsSections};
+
+use crate::answers::{DONE, NOTHING, ROOM, hand_out, number_of, options};
+use pe_core::{
+    DataDirectory, Header, MAGIC_64, ParseOptions, Result, SectionTable, find_offset, require_bytes,
+};
+
+/// What the other calls want to know of an image. Where there is no optional header, what it would say is 0; so is a
+/// directory that is absent.
+#[repr(C)]
+#[derive(Clone, Copy)]
+pub struct Image {
+    /// The preferred address of the first byte in memory.
+    pub base: u64,
+    /// The place of the section headers.
+    pub sections_place: u64,
+    /// The relative virtual address where the program starts.
+    pub entry: u32,
+    pub file_alignment: u32,
+    pub exports: DataDirectory,
+    pub imports: DataDirectory,
+    pub resources: DataDirectory,
+    pub exceptions: DataDirectory,
+    /// Its address is a place in the file.
+    pub certificates: DataDirectory,
+    pub debug: DataDirectory,
+    /// 0x8664 for x64, 0xAA64 for ARM64, 0x14C for x86.
+    pub machine: u16,
+    /// 32, 64, or 0 without an optional header.
+    pub width: u16,
+    pub number_of_sections: u16,
+    pub spare: u16,
+}
+
+const ABSENT: DataDirectory = DataDirectory {
+    virtual_address: 0,
+    size: 0,
+};
+
+fn or_absent(directory: Option<DataDirectory>) -> DataDirectory
+    ensures { result ≡ or_absent directory }
+{
+    match directory {
+        Some(directory) => directory,
+        None => ABSENT,
+    }
+}
+
+fn image_of(header: &Header) -> Image
+    ensures { result ≡ image_of (header_view header.now) }
+{
+    let coff = &header.coff_header;
+    let without = Image {
+        base: 0,
+        sections_place: u64::from(header.dos_header.pe_pointer)
+            + 24
+            + u64::from(coff.size_of_optional_header),
+        entry: 0,
+        file_alignment: 0,
+        exports: ABSENT,
+        imports: ABSENT,
+        resources: ABSENT,
+        exceptions: ABSENT,
+        certificates: ABSENT,
+        debug: ABSENT,
+        machine: coff.machine,
+        width: 0,
+        number_of_sections: coff.number_of_sections,
+        spare: 0,
+    };
+    let Some(optional) = &header.optional_header else {
+        return without;
+    };
+    let directories = &optional.data_directories;
+    Image {
+        base: optional.windows_fields.image_base,
+        entry: optional.standard_fields.address_of_entry_point,
+        file_alignment: optional.windows_fields.file_alignment,
+        exports: or_absent(directories.get_export_table()),
+        imports: or_absent(directories.get_import_table()),
+        resources: or_absent(directories.get_resource_table()),
+        exceptions: or_absent(directories.get_exception_table()),
+        certificates: or_absent(directories.get_certificate_table()),
+        debug: or_absent(directories.get_debug_table()),
+        width: if optional.standard_fields.magic == MAGIC_64 {
+            64
+        } else {
+            32
+        },
+        ..without
+    }
+}
+
+fn read_image(bytes: &[u8], mode: u32) -> Result<Image>
+    ensures { answer_by (λ x. x) result ≡ image_at bytes.now mode }
+{
+    let header = Header::parse_with_opts(bytes, &options(mode))?;
+    Ok(image_of(&header))
+}
+
+/// Reads the headers of an image, as the first refusal of its headers says where they are refused.
+#[unsafe(no_mangle)]
+pub extern "C" fn pe_c_image(bytes: &[u8], mode: u32, out: &mut Image) -> u32
+    ensures { Answers result out.old out.new (image_at bytes.now mode) }
+{
+    hand_out(read_image(bytes, mode), out)
+}
+
+/// The section header at a place where its 40 bytes are known to be there.
+fn section(bytes: &[u8], place: usize) -> SectionTable
+    requires { place + 40 ≤ length bytes.now }
+    ensures { result ≡ section_table bytes.now place }
+{
+    match SectionTable::parse(bytes, place) {
+        Ok(section) => section,
+        Err(_) => unreachable!(),
+    }
+}
+
+/// Puts the section headers from the place on at the beginning of the room.
+#[tactic(auto, using(std::proofs::lemmas::List::take_more_set, crate::proofs::Rooms::kept_more, crate::proofs::Rooms::joined), unfolding(pe_core::specs::Rows::each))]
+fn put_sections(bytes: &[u8], place: usize, count: usize, room: &mut [SectionTable])
+    requires there { place + 40 * count ≤ length bytes.now }
+    requires room { count ≤ length room.old }
+    ensures { room.new ≡ rows (section_table bytes.now) 40 place count ++ drop count room.old }
+{
+    for i in 0..count {
+        room[i] = section(bytes, place + 40 * i);
+    }
+}
+
+/// Reads the section headers into the room, which has to have as many entries as the image has sections: `ROOM` where it
+/// has fewer, `SHORT` where the headers are not all there.
+#[unsafe(no_mangle)]
+pub extern "C" fn pe_c_sections(bytes: &[u8], image: &Image, room: &mut [SectionTable]) -> u32
+    ensures { PutsSections bytes.now image.now result room.old room.new }
+{
+    let count = usize::from(image.number_of_sections);
+    let place = image.sections_place as usize;
+    if room.len() < count {
+        return ROOM;
+    }
+    if count == 0 {
+        return DONE;
+    }
+    match require_bytes(bytes, place, 40 * count) {
+        Ok(()) => {
+            put_sections(bytes, place, count, room);
+            DONE
+        }
+        Err(error) => number_of(&error),
+    }
+}
+
+/// Finds the place in the file of a relative virtual address: `NOTHING` where no section covers it, or the file alignment
+/// is no power of two.
+#[unsafe(no_mangle)]
+pub extern "C" fn pe_c_place(
+    sections: &[SectionTable],
+    file_alignment: u32,
+    rva: u32,
+    out: &mut u64,
+) -> u32
+    ensures { AnswersIf result out.old out.new (Ok (place_of true file_alignment sections.now rva)) }
+{
+    match find_offset(
+        rva as usize,
+        sections,
+        file_alignment,
+        &ParseOptions::default(),
+    ) {
+        Some(place) => {
+            *out = place as u64;
+            DONE
+        }
+        None => NOTHING,
+    }
+}

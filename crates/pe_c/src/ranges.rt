@@ -1,0 +1,27 @@
+//! Ranges of the bytes, which go out and come back as two numbers.
+
+ghost use Rattle.pe_core.specs.Refusals.{Gives};
+ghost use Rattle.pe_c.specs.Ranges.{bytes_at};
+
+use pe_core::{Result, slice_at};
+
+/// So many bytes from a place on.
+#[repr(C)]
+#[derive(Clone, Copy)]
+pub struct Range {
+    pub place: u64,
+    pub length: u64,
+}
+
+/// The range of no bytes, where there is nothing to tell a place of.
+pub const NO_BYTES: Range = Range {
+    place: 0,
+    length: 0,
+};
+
+/// The bytes of a range that a caller handed in. `Short` where they are not all there.
+pub fn slice_of<'a>(bytes: &'a [u8], range: &Range) -> Result<&'a [u8]>
+    ensures { Gives (λ s. s.now) result (bytes_at bytes.entry.now range.now) }
+{
+    slice_at(bytes, range.place as usize, range.length as usize)
+}
