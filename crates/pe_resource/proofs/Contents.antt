@@ -2,9 +2,10 @@
 use Rattle.std.proofs.Common.{◌≡◌, ℕ, List, Option, Some, None, Result, Ok, Err, refl, ap, sym, ◌∙◌, subst}
 use Rattle.pe_core.specs.Refusals.{Refusal, Gives, ◌>>=◌, answer_by}
 use Rattle.pe_core.specs.declared.error.Error.{Error}
+use Rattle.pe_resource.specs.declared.byte_range.ByteRange.{ByteRange}
 use Rattle.pe_resource.specs.declared.directory.ImageResourceDirectory.{ImageResourceDirectory}
 use Rattle.pe_resource.specs.declared.entry.ResourceEntry.{ResourceEntry}
-use Rattle.pe_resource.specs.Contents.{IsLeaf, named_bytes, content_in, IsContent, version_of_content, IsVersion}
+use Rattle.pe_resource.specs.Contents.{IsLeaf, named_range, range_in, IsContentRange, content_of, IsContent, version_of_content, IsVersion}
 use Rattle.pe_resource.specs.ResourceEntries.{with_id, is_directory, data_place, entries}
 use Rattle.pe_resource.specs.ResourceWalk.{Walks}
 use Rattle.pe_resource.specs.Resources.{ResourceView, no_resources, IsBehindEntries}
@@ -23,11 +24,17 @@ leaf_given b o e v p is walks place = subst (λ (x : Option ResourceEntry). IsLe
 pub leaf_fault : (b : List ℕ) (o : Option ResourceEntry) (e : ResourceEntry) (f : Refusal) → Some e ≡ o → Walks b is_directory e (Err f) → IsLeaf b o (Err f)
 leaf_fault b o e f is walks = subst (λ (x : Option ResourceEntry). IsLeaf b x (Err f)) is (Err f, walks, refl)
 
-pub content_fault : (map : ℕ → Option ℕ) (f b : List ℕ) (es : List ResourceEntry) (id : ℕ) (e : Refusal) → IsLeaf b (with_id id es) (Err e) → IsContent map f b es id (Err e)
+pub range_fault : (map : ℕ → Option ℕ) (f b : List ℕ) (es : List ResourceEntry) (id : ℕ) (e : Refusal) → IsLeaf b (with_id id es) (Err e) → IsContentRange map f b es id (Err e)
+range_fault map f b es id e h = (Err e, h, refl)
+
+pub range_given : (map : ℕ → Option ℕ) (f b : List ℕ) (es : List ResourceEntry) (id : ℕ) (p : Option ℕ) (r : Result (Option ByteRange) Refusal) → IsLeaf b (with_id id es) (Ok p) → r ≡ range_in map f b p → IsContentRange map f b es id r
+range_given map f b es id p r h is = (Ok p, h, is)
+
+pub content_fault : (map : ℕ → Option ℕ) (f b : List ℕ) (es : List ResourceEntry) (id : ℕ) (e : Refusal) → IsContentRange map f b es id (Err e) → IsContent map f b es id (Err e)
 content_fault map f b es id e h = (Err e, h, refl)
 
-pub content_given : (map : ℕ → Option ℕ) (f b : List ℕ) (es : List ResourceEntry) (id : ℕ) (p : Option ℕ) (r : Result (Option (List ℕ)) Refusal) → IsLeaf b (with_id id es) (Ok p) → r ≡ content_in map f b p → IsContent map f b es id r
-content_given map f b es id p r h is = (Ok p, h, is)
+pub content_given : (map : ℕ → Option ℕ) (f b : List ℕ) (es : List ResourceEntry) (id : ℕ) (c : Option ByteRange) (r : Option (List ℕ)) → IsContentRange map f b es id (Ok c) → r ≡ content_of f c → IsContent map f b es id (Ok r)
+content_given map f b es id c r h is = (Ok c, h, ap (λ (x : Option (List ℕ)). Ok x) is)
 
 pub version_fault : (map : ℕ → Option ℕ) (f b : List ℕ) (es : List ResourceEntry) (e : Refusal) → IsContent map f b es 16 (Err e) → IsVersion map f b es (Err e)
 version_fault map f b es e h = (Err e, h, refl)
@@ -35,11 +42,11 @@ version_fault map f b es e h = (Err e, h, refl)
 pub version_given : (map : ℕ → Option ℕ) (f b : List ℕ) (es : List ResourceEntry) (c : Option (List ℕ)) (r : Result (Option VersionView) Refusal) → IsContent map f b es 16 (Ok c) → r ≡ version_of_content c → IsVersion map f b es r
 version_given map f b es c r h is = (Ok c, h, is)
 
-pub content_in_fault : (map : ℕ → Option ℕ) (f b : List ℕ) (o : Option ℕ) (p : ℕ) (e : Refusal) → o ≡ Some p → named_bytes map f b p ≡ Err e → content_in map f b o ≡ Err e
-content_in_fault map f b o p e is fault = ap (content_in map f b) is ∙ ap (λ (r : Result (List ℕ) Refusal). r >>= λ c. Ok (Some c)) fault
+pub range_in_fault : (map : ℕ → Option ℕ) (f b : List ℕ) (o : Option ℕ) (p : ℕ) (e : Refusal) → o ≡ Some p → named_range map f b p ≡ Err e → range_in map f b o ≡ Err e
+range_in_fault map f b o p e is fault = ap (range_in map f b) is ∙ ap (λ (r : Result ByteRange Refusal). r >>= λ r. Ok (Some r)) fault
 
-pub content_in_given : (map : ℕ → Option ℕ) (f b : List ℕ) (o : Option ℕ) (p : ℕ) (c : List ℕ) → o ≡ Some p → named_bytes map f b p ≡ Ok c → content_in map f b o ≡ Ok (Some c)
-content_in_given map f b o p c is there = ap (content_in map f b) is ∙ ap (λ (r : Result (List ℕ) Refusal). r >>= λ c. Ok (Some c)) there
+pub range_in_given : (map : ℕ → Option ℕ) (f b : List ℕ) (o : Option ℕ) (p : ℕ) (c : ByteRange) → o ≡ Some p → named_range map f b p ≡ Ok c → range_in map f b o ≡ Ok (Some c)
+range_in_given map f b o p c is there = ap (range_in map f b) is ∙ ap (λ (r : Result ByteRange Refusal). r >>= λ r. Ok (Some r)) there
 
 pub resources_without_version : (map : ℕ → Option ℕ) (f : List ℕ) (d : ImageResourceDirectory) (body table : List ℕ) (es : List ResourceEntry) (e : Refusal) → es ≡ entries table → IsVersion map f body es (Err e) → IsBehindEntries map f d body (Ok (Some table)) (Err e)
 resources_without_version map f d body table es e is h = (Err e, subst (λ (xs : List ResourceEntry). IsVersion map f body xs (Err e)) is h, refl)

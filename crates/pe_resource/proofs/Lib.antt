@@ -4,6 +4,7 @@ pub mod Keys
 pub mod Units
 pub mod Names
 pub mod StringLists
+pub mod ValueRanges
 pub mod Readings
 pub mod Contents
 pub mod NoMemory

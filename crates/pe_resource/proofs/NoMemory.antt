@@ -10,14 +10,15 @@ use Rattle.pe_core.specs.declared.data_directories.DataDirectory.{DataDirectory}
 use Rattle.pe_core.specs.declared.options.ParseMode.{ParseMode}
 use Rattle.pe_core.specs.declared.options.ParseOptions.{ParseOptions}
 use Rattle.pe_core.specs.declared.section_table.SectionTable.{SectionTable}
+use Rattle.pe_resource.specs.declared.byte_range.ByteRange.{ByteRange}
 use Rattle.pe_resource.specs.declared.directory.ImageResourceDirectory.{ImageResourceDirectory}
 use Rattle.pe_resource.specs.declared.entry.ResourceEntry.{ResourceEntry}
-use Rattle.pe_resource.specs.Contents.{map_of, IsLeaf, file_bytes, named_bytes, data_entry_at, content_in, IsContent, version_of_content, IsVersion}
+use Rattle.pe_resource.specs.Contents.{map_of, IsLeaf, bytes_in, file_range, file_bytes, named_range, data_entry_at, range_in, IsContentRange, content_of, IsContent, version_of_content, IsVersion}
 use Rattle.pe_resource.specs.Directories.{directory_at, directory_at_place, directory_of, count}
 use Rattle.pe_resource.specs.ResourceEntries.{with_id, is_directory, data_place, entries}
 use Rattle.pe_resource.specs.ResourceWalk.{Walks}
 use Rattle.pe_resource.specs.Resources.{ResourceView, first_entries_in, directory_and_data, IsWithManifest, IsBehindEntries, IsBehindDirectory, IsResource}
-use Rattle.pe_resource.specs.VersionFields.{VersionView, version_in, fixed_info_in, fixed_info_at}
+use Rattle.pe_resource.specs.VersionFields.{VersionView, version_in, fixed_info_of, fixed_info_in, fixed_info_at}
 use Rattle.pe_resource.specs.VersionStrings.{VersionString, string_at, whole_string_at, string_and_next, is_short_text, value_bytes, value_place, then_more, strings_in, strings, read, all_read, value_of}
 
 abbrev NotMemory : {X : Type 0} → Result X Refusal → Type 0
@@ -55,22 +56,29 @@ leaf_not : (b : List ℕ) (o : Option ResourceEntry) (r : Result (Option ℕ) Re
 leaf_not b None r h = subst NotMemory (sym h) (given None)
 leaf_not b (Some e) r h = subst NotMemory (sym h.2) (then_not h.0 (λ v. Ok (data_place v)) (walk_not b e h.0 h.1) (λ v. given (data_place v)))
 
+file_range_not : (f : List ℕ) (size : ℕ) (o : Option ℕ) → NotMemory (file_range f size o)
+file_range_not f size None = not_kind Unmapped (λ s. cc)
+file_range_not f size (Some p) = one_test (holds f p size) ResourceBounds (record { place = p; length = size }) (λ s. cc)
+
 file_bytes_not : (f : List ℕ) (size : ℕ) (o : Option ℕ) → NotMemory (file_bytes f size o)
-file_bytes_not f size None = not_kind Unmapped (λ s. cc)
-file_bytes_not f size (Some p) = one_test (holds f p size) ResourceBounds (range f p size) (λ s. cc)
+file_bytes_not f size o = then_not (file_range f size o) (λ r. Ok (bytes_in f r)) (file_range_not f size o) (λ r. given (bytes_in f r))
 
-named_not : (map : ℕ → Option ℕ) (f b : List ℕ) (p : ℕ) → NotMemory (named_bytes map f b p)
-unfolding named_bytes
+named_not : (map : ℕ → Option ℕ) (f b : List ℕ) (p : ℕ) → NotMemory (named_range map f b p)
+unfolding named_range
 named_not map f b p =
-    then_not (record_at b p 16 (data_entry_at b p)) (λ d. file_bytes f d.size (map d.offset_to_data)) (one_test (holds b p 16) Short (data_entry_at b p) (λ s. cc)) (λ d. file_bytes_not f d.size (map d.offset_to_data))
+    then_not (record_at b p 16 (data_entry_at b p)) (λ d. file_range f d.size (map d.offset_to_data)) (one_test (holds b p 16) Short (data_entry_at b p) (λ s. cc)) (λ d. file_range_not f d.size (map d.offset_to_data))
 
-content_in_not : (map : ℕ → Option ℕ) (f b : List ℕ) (o : Option ℕ) → NotMemory (content_in map f b o)
-content_in_not map f b None = given None
-content_in_not map f b (Some p) = then_not (named_bytes map f b p) (λ c. Ok (Some c)) (named_not map f b p) (λ c. given (Some c))
+range_in_not : (map : ℕ → Option ℕ) (f b : List ℕ) (o : Option ℕ) → NotMemory (range_in map f b o)
+range_in_not map f b None = given None
+range_in_not map f b (Some p) = then_not (named_range map f b p) (λ r. Ok (Some r)) (named_not map f b p) (λ r. given (Some r))
+
+content_range_not : (map : ℕ → Option ℕ) (f b : List ℕ) (es : List ResourceEntry) (id : ℕ) (r : Result (Option ByteRange) Refusal) → IsContentRange map f b es id r → NotMemory r
+content_range_not map f b es id r h =
+    subst NotMemory (sym h.2) (then_not h.0 (range_in map f b) (leaf_not b (with_id id es) h.0 h.1) (range_in_not map f b))
 
 pub content_no_memory : (map : ℕ → Option ℕ) (f b : List ℕ) (es : List ResourceEntry) (id : ℕ) (r : Result (Option (List ℕ)) Refusal) → IsContent map f b es id r → r ≢ Err Memory
 content_no_memory map f b es id r h =
-    subst NotMemory (sym h.2) (then_not h.0 (content_in map f b) (leaf_not b (with_id id es) h.0 h.1) (content_in_not map f b))
+    subst NotMemory (sym h.2) (then_not h.0 (λ c. Ok (content_of f c)) (content_range_not map f b es id h.0 h.1) (λ c. given (content_of f c)))
 
 -- ---- version information
 
@@ -107,9 +115,13 @@ fixed_not : (o : Option (List ℕ)) → NotMemory (fixed_info_in o)
 fixed_not None = given None
 fixed_not (Some v) = one_test (holds v 0 52) Short (Some (fixed_info_at v 0)) (λ s. cc)
 
+fixed_info_not : (b : List ℕ) → NotMemory (fixed_info_of b)
+unfolding fixed_info_of
+fixed_info_not b = then_not (all_read (strings b)) _ (strings_not b) (λ u. fixed_not (value_of (codes "VS_VERSION_INFO") (read (strings b))))
+
 version_in_not : (b : List ℕ) → NotMemory (version_in b)
 unfolding version_in
-version_in_not b = then_not (all_read (strings b)) _ (strings_not b) (λ u. then_not (fixed_info_in (value_of (codes "VS_VERSION_INFO") (read (strings b)))) _ (fixed_not (value_of (codes "VS_VERSION_INFO") (read (strings b)))) (λ f. given _))
+version_in_not b = then_not (fixed_info_of b) _ (fixed_info_not b) (λ f. given _)
 
 version_of_not : (o : Option (List ℕ)) → NotMemory (version_of_content o)
 version_of_not None = given None

@@ -6,7 +6,7 @@ use Rattle.pe_core.specs.Refusals.{Refusal, Short, outcome, kind_of}
 use Rattle.pe_core.specs.Refusals as refusals
 use Rattle.pe_core.specs.declared.error.Error.{Error}
 use Rattle.pe_resource.specs.declared.string.ResourceString.{ResourceString}
-use Rattle.pe_resource.specs.VersionStrings.{VersionString, string_view, string_at, whole_string_at, string_and_next, is_short_text, value_bytes, value_place, GivesString, then_more, strings_in, strings, read, all_read, value_of, is_name, text}
+use Rattle.pe_resource.specs.VersionStrings.{VersionString, string_view, string_at, whole_string_at, string_and_next, is_short_text, value_bytes, value_place, GivesString, then_more, strings_in, strings, all_read}
 
 abbrev Pair : Type 0
 Pair = Option VersionString × ℕ
@@ -14,19 +14,24 @@ Pair = Option VersionString × ℕ
 abbrev Items : Type 0
 Items = List (Result VersionString Refusal)
 
--- a string ends behind where it begins
-ends_at : (t z a b c : Bool) (e f g : Refusal) (n : ℕ) (p : Pair) (s : VersionString) (q : ℕ) → (if t then (if z then Ok (None, n) else outcome ((a, e) ∷ (b, f) ∷ (c, g) ∷ []) p) else Err Short) ≡ Ok (Some s, q) → p.1 ≡ q
-ends_at false z a b c e f g n p s q h = cc
-ends_at true true a b c e f g n p s q h = let same : (None, n) ≡ (Some s, q) = cc in let none : None ≡ Some s = ap (λ (x : Pair). x.0) same in cc
-ends_at true false false b c e f g n p s q h = cc
-ends_at true false true false c e f g n p s q h = cc
-ends_at true false true true false e f g n p s q h = cc
-ends_at true false true true true e f g n p s q h = let same : p ≡ (Some s, q) = cc in ap (λ (x : Pair). x.1) same
+-- a string that reads passed the last test, and is what the tests guard
+read_as : (t z a b c : Bool) (e f g : Refusal) (n : ℕ) (p : Pair) (s : VersionString) (q : ℕ) → (if t then (if z then Ok (None, n) else outcome ((a, e) ∷ (b, f) ∷ (c, g) ∷ []) p) else Err Short) ≡ Ok (Some s, q) → (c ≡ true) × (p ≡ (Some s, q))
+read_as false z a b c e f g n p s q h = cc
+read_as true true a b c e f g n p s q h = let same : Path Pair (None, n) (Some s, q) = cc in let none : Path (Option VersionString) None (Some s) = ap (λ (x : Pair). x.0) same in cc
+read_as true false false b c e f g n p s q h = cc
+read_as true false true false c e f g n p s q h = cc
+read_as true false true true false e f g n p s q h = cc
+read_as true false true true true e f g n p s q h = (refl, cc)
 
+pub string_read : (b : List ℕ) (s : VersionString) (q : ℕ) → string_at b 0 ≡ Ok (Some s, q) → (holds b (value_place b 0) (value_bytes b 0) ≡ true) × (string_and_next b 0 ≡ (Some s, q))
+unfolding whole_string_at
+string_read b s q h = read_as (holds b 0 2) (le b 0 2 == 0) (holds b 2 4) (is_short_text b 0) (holds b (value_place b 0) (value_bytes b 0)) Short refusals.ResourceString refusals.ResourceString 2 (string_and_next b 0) s q h
+
+-- a string ends behind where it begins
 pub further : (b : List ℕ) (s : VersionString) (q : ℕ) → string_at b 0 ≡ Ok (Some s, q) → 0 < q
-unfolding whole_string_at string_and_next value_place
+unfolding string_and_next value_place
 further b s q h =
-    let end = ends_at (holds b 0 2) (le b 0 2 == 0) (holds b 2 4) (is_short_text b 0) (holds b (value_place b 0) (value_bytes b 0)) Short refusals.ResourceString refusals.ResourceString 2 (string_and_next b 0) s q h in
+    let end : (string_and_next b 0).1 ≡ q = ap (λ (x : Pair). x.1) (string_read b s q h).1 in
     omega (arith, end)
 
 -- the bound on the bytes doesn't matter
@@ -82,28 +87,3 @@ reads_fault b left item r all h is e = sym e ∙ ap all_read (strings_fault b le
 
 pub reads_all : (b left : List ℕ) (all : Result (Unit {0}) Refusal) → GivesString b None left → all_read (strings b) ≡ all → all ≡ Ok tt
 reads_all b left all h e = sym e ∙ ap all_read (strings_none b left h)
-
-abbrev value_in : List ℕ → Items → Option (List ℕ)
-value_in name xs = value_of name (read xs)
-
-found_at : (name : List ℕ) (s : VersionString) (ss : List VersionString) → is_name name (text s.key) ≡ true → value_of name (s ∷ ss) ≡ Some s.value
-found_at name s ss h = rw h refl
-
-passed_at : (name : List ℕ) (s : VersionString) (ss : List VersionString) → is_name name (text s.key) ≡ false → value_of name (s ∷ ss) ≡ value_of name ss
-passed_at name s ss h = rw h refl
-
-pub value_on : (name b left : List ℕ) (item : Item) (s : ResourceString) (v : Option (List ℕ)) → GivesString b (Some item) left → item ≡ Ok s → is_name name (text s.key.now) ≡ false → value_of name (read (strings b)) ≡ v → value_of name (read (strings left)) ≡ v
-value_on name b left item s v h is other e =
-    sym (ap (value_in name) (strings_more b left s (subst (λ (i : Item). GivesString b (Some i) left) is h)) ∙ passed_at name (string_view s) (read (strings left)) other) ∙ e
-
-pub value_here : (name b left : List ℕ) (item : Item) (s : ResourceString) (v : Option (List ℕ)) → GivesString b (Some item) left → item ≡ Ok s → is_name name (text s.key.now) ≡ true → value_of name (read (strings b)) ≡ v → Some s.value.now ≡ v
-value_here name b left item s v h is same e =
-    sym (ap (value_in name) (strings_more b left s (subst (λ (i : Item). GivesString b (Some i) left) is h)) ∙ found_at name (string_view s) (read (strings left)) same) ∙ e
-
-pub value_fault : (name b left : List ℕ) (item : Item) (r : Error) (v : Option (List ℕ)) → GivesString b (Some item) left → item ≡ Err r → value_of name (read (strings b)) ≡ v → value_of name (read (strings left)) ≡ v
-value_fault name b left item r v h is e =
-    let fault = subst (λ (i : Item). GivesString b (Some i) left) is h in
-    ap (λ (l : List ℕ). value_in name (strings l)) fault.2 ∙ ap (value_in name) strings_empty ∙ sym (ap (value_in name) (strings_fault b left r fault)) ∙ e
-
-pub value_none : (name b left : List ℕ) (v : Option (List ℕ)) → GivesString b None left → value_of name (read (strings b)) ≡ v → None ≡ v
-value_none name b left v h e = sym (ap (value_in name) (strings_none b left h)) ∙ e

@@ -1,11 +1,13 @@
 -- What lies behind an entry of the first directory: a leaf, its data entry, and the bytes of the file that this names.
 -- (PE format: resource data entries; the rest by this project's profile.)
-use Rattle.std.specs.Prelude.{◌≡◌, ℕ, ◌+◌, List, [], ◌∷◌, Option, Some, None, Result, Ok, Err}
+use Rattle.std.specs.Prelude.{◌≡◌, ℕ, ◌+◌, ◌≤◌, List, [], ◌∷◌, length, Option, Some, None, Result, Ok, Err}
+use Rattle.std.specs.Option.{option_map}
 use Rattle.pe_core.specs.Bytes.{le, range, holds, record_at}
 use Rattle.pe_core.specs.Refusals.{Refusal, Unmapped, ResourceBounds, outcome, ◌>>=◌}
 use Rattle.pe_core.specs.SectionMap.{place_of}
 use Rattle.pe_core.specs.declared.options.ParseOptions.{ParseOptions}
 use Rattle.pe_core.specs.declared.section_table.SectionTable.{SectionTable}
+use Rattle.pe_resource.specs.declared.byte_range.ByteRange.{ByteRange}
 use Rattle.pe_resource.specs.declared.content.ResourceDataEntry.{ResourceDataEntry}
 use Rattle.pe_resource.specs.declared.entry.ResourceEntry.{ResourceEntry}
 use Rattle.pe_resource.specs.ResourceEntries.{with_id, is_directory, data_place}
@@ -31,22 +33,45 @@ data_entry_at b p = record {
   reserved = le b (p + 12) 4;
 }
 
--- so many bytes of the file at a place, if there is a place
+-- the bytes of a range, and that they are there
+abbrev pub bytes_in : List ℕ → ByteRange → List ℕ
+bytes_in f r = range f r.place r.length
+
+abbrev pub IsWithin : List ℕ → ByteRange → Type 0
+IsWithin f r = r.place + r.length ≤ length f
+
+-- a range of the bytes of another range, as one of all bytes
+abbrev pub inner : ByteRange → ByteRange → ByteRange
+inner outer r = record { place = outer.place + r.place; length = r.length }
+
+-- the range of so many bytes of the file at a place, if there is a place
+abbrev pub file_range : List ℕ → ℕ → Option ℕ → Result ByteRange Refusal
+file_range f size None = Err Unmapped
+file_range f size (Some p) = outcome ((holds f p size, ResourceBounds) ∷ []) (record { place = p; length = size })
+
+-- these bytes
 abbrev pub file_bytes : List ℕ → ℕ → Option ℕ → Result (List ℕ) Refusal
-file_bytes f size None = Err Unmapped
-file_bytes f size (Some p) = outcome ((holds f p size, ResourceBounds) ∷ []) (range f p size)
+file_bytes f size place = file_range f size place >>= λ r. Ok (bytes_in f r)
 
--- the bytes of the file that the data entry at a place names
-unfoldable pub named_bytes : (ℕ → Option ℕ) → List ℕ → List ℕ → ℕ → Result (List ℕ) Refusal
-named_bytes map f b p = record_at b p 16 (data_entry_at b p) >>= λ d. file_bytes f d.size (map d.offset_to_data)
+-- the range of the file that the data entry at a place names
+unfoldable pub named_range : (ℕ → Option ℕ) → List ℕ → List ℕ → ℕ → Result ByteRange Refusal
+named_range map f b p = record_at b p 16 (data_entry_at b p) >>= λ d. file_range f d.size (map d.offset_to_data)
 
-abbrev pub content_in : (ℕ → Option ℕ) → List ℕ → List ℕ → Option ℕ → Result (Option (List ℕ)) Refusal
-content_in map f b None = Ok None
-content_in map f b (Some p) = named_bytes map f b p >>= λ c. Ok (Some c)
+abbrev pub range_in : (ℕ → Option ℕ) → List ℕ → List ℕ → Option ℕ → Result (Option ByteRange) Refusal
+range_in map f b None = Ok None
+range_in map f b (Some p) = named_range map f b p >>= λ r. Ok (Some r)
+
+-- the range of the content of the first entry with an id
+abbrev pub IsContentRange : (ℕ → Option ℕ) → List ℕ → List ℕ → List ResourceEntry → ℕ → Result (Option ByteRange) Refusal → Type 0
+IsContentRange map f b es id r = (leaf : Result (Option ℕ) Refusal) × IsLeaf b (with_id id es) leaf × (r ≡ (leaf >>= range_in map f b))
+
+-- the bytes of a range, if there is a range
+abbrev pub content_of : List ℕ → Option ByteRange → Option (List ℕ)
+content_of f r = option_map (bytes_in f) r
 
 -- the content of the first entry with an id
 abbrev pub IsContent : (ℕ → Option ℕ) → List ℕ → List ℕ → List ResourceEntry → ℕ → Result (Option (List ℕ)) Refusal → Type 0
-IsContent map f b es id r = (leaf : Result (Option ℕ) Refusal) × IsLeaf b (with_id id es) leaf × (r ≡ (leaf >>= content_in map f b))
+IsContent map f b es id r = (c : Result (Option ByteRange) Refusal) × IsContentRange map f b es id c × (r ≡ (c >>= λ c. Ok (content_of f c)))
 
 -- the version information of a content
 abbrev pub version_of_content : Option (List ℕ) → Result (Option VersionView) Refusal

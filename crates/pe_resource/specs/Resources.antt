@@ -8,11 +8,12 @@ use Rattle.pe_core.specs.declared.data_directories.DataDirectory.{DataDirectory}
 use Rattle.pe_core.specs.declared.options.ParseMode.{ParseMode}
 use Rattle.pe_core.specs.declared.options.ParseOptions.{ParseOptions}
 use Rattle.pe_core.specs.declared.section_table.SectionTable.{SectionTable}
+use Rattle.pe_resource.specs.declared.byte_range.ByteRange.{ByteRange}
 use Rattle.pe_resource.specs.declared.directory.ImageResourceDirectory.{ImageResourceDirectory}
 use Rattle.pe_resource.specs.declared.entry.ResourceEntry.{ResourceEntry}
 use Rattle.pe_resource.specs.declared.manifest.ManifestData.{ManifestData}
 use Rattle.pe_resource.specs.declared.resource.ResourceData.{ResourceData}
-use Rattle.pe_resource.specs.Contents.{map_of, file_bytes, IsContent, IsVersion}
+use Rattle.pe_resource.specs.Contents.{map_of, file_bytes, content_of, IsContentRange, IsContent, version_of_content, IsVersion}
 use Rattle.pe_resource.specs.Directories.{directory_at, count}
 use Rattle.pe_resource.specs.ResourceEntries.{entries}
 use Rattle.pe_resource.specs.VersionFields.{VersionView, version_view}
@@ -78,3 +79,23 @@ IsBehindDirectory mode map f (Ok (d, body)) r = IsBehindEntries map f d body (fi
 -- the resources that a data directory leads to, or the first refusal
 abbrev pub IsResource : ParseOptions → List ℕ → DataDirectory → List SectionTable → ℕ → Result ResourceView Refusal → Type 0
 IsResource o f dd sections alignment r = IsBehindDirectory o.parse_mode (map_of o sections alignment) f (directory_and_data o f dd sections alignment) r
+
+-- the range of the content of the first of the first entries with an id; none where there are no first entries
+abbrev pub IsRangeBehindEntries : (ℕ → Option ℕ) → List ℕ → List ℕ → ℕ → Result (Option (List ℕ)) Refusal → Result (Option ByteRange) Refusal → Type 0
+IsRangeBehindEntries map f body id (Err e) r = r ≡ Err e
+IsRangeBehindEntries map f body id (Ok None) r = r ≡ Ok None
+IsRangeBehindEntries map f body id (Ok (Some table)) r = IsContentRange map f body (entries table) id r
+
+abbrev pub IsRangeBehindDirectory : ParseMode → (ℕ → Option ℕ) → List ℕ → ℕ → Result (ImageResourceDirectory × List ℕ) Refusal → Result (Option ByteRange) Refusal → Type 0
+IsRangeBehindDirectory mode map f id (Err e) r = r ≡ Err e
+IsRangeBehindDirectory mode map f id (Ok (d, body)) r = IsRangeBehindEntries map f body id (first_entries_in mode body d) r
+
+-- where the content of the first resource with an id lies in the file, or the first refusal on the way to it
+abbrev pub IsResourceRange : ParseOptions → List ℕ → DataDirectory → ℕ → List SectionTable → ℕ → Result (Option ByteRange) Refusal → Type 0
+IsResourceRange o f dd id sections alignment r =
+    IsRangeBehindDirectory o.parse_mode (map_of o sections alignment) f id (directory_and_data o f dd sections alignment) r
+
+-- the manifest and the version information of resources are what these ranges hold
+abbrev pub IsInRanges : List ℕ → Result (Option ByteRange) Refusal → Result (Option ByteRange) Refusal → ResourceView → Type 0
+IsInRanges f manifest version x =
+    ((manifest >>= λ c. Ok (content_of f c)) ≡ Ok x.manifest) × ((version >>= λ c. version_of_content (content_of f c)) ≡ Ok x.version)

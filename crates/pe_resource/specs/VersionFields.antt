@@ -4,10 +4,13 @@ use Rattle.std.specs.Fmt.{decimal}
 use Rattle.std.specs.Option.{option_map}
 use Rattle.pe_core.specs.Bytes.{le, record_at}
 use Rattle.pe_core.specs.Refusals.{Refusal, ◌>>=◌}
-use Rattle.pe_resource.specs.VersionStrings.{VersionString, strings, read, all_read, value_of, text}
+use Rattle.pe_resource.specs.VersionStrings.{VersionString, strings, read, all_read, value_of, value_range, text}
+use Rattle.pe_resource.specs.declared.byte_range.ByteRange.{ByteRange}
 use Rattle.pe_resource.specs.declared.version.StringFileInfo.{StringFileInfo}
 use Rattle.pe_resource.specs.declared.version.VersionField.{VersionField}
 use Rattle.pe_resource.specs.declared.version.VersionInfo.{VersionInfo}
+use Rattle.pe_resource.specs.declared.version.VersionName.{VersionName}
+use Rattle.pe_resource.specs.declared.version.VersionName.TheVariants as names
 use Rattle.pe_resource.specs.declared.version.VsFixedFileInfo.{VsFixedFileInfo}
 
 -- ---- version numbers
@@ -59,7 +62,26 @@ abbrev pub fixed_info_in : Option (List ℕ) → Result (Option VsFixedFileInfo)
 fixed_info_in None = Ok None
 fixed_info_in (Some v) = record_at v 0 52 (Some (fixed_info_at v 0))
 
+-- that among these strings: every string must read
+unfoldable pub fixed_info_of : List ℕ → Result (Option VsFixedFileInfo) Refusal
+fixed_info_of b = all_read (strings b) >>= λ _. fixed_info_in (value_of (codes "VS_VERSION_INFO") (read (strings b)))
+
 -- ---- the strings of a file
+
+-- the twelve names
+abbrev pub name_of : VersionName → List ℕ
+name_of names.Comments = codes "Comments"
+name_of names.CompanyName = codes "CompanyName"
+name_of names.FileDescription = codes "FileDescription"
+name_of names.FileVersion = codes "FileVersion"
+name_of names.InternalName = codes "InternalName"
+name_of names.LegalCopyright = codes "LegalCopyright"
+name_of names.LegalTrademarks = codes "LegalTrademarks"
+name_of names.OriginalFilename = codes "OriginalFilename"
+name_of names.PrivateBuild = codes "PrivateBuild"
+name_of names.ProductName = codes "ProductName"
+name_of names.ProductVersion = codes "ProductVersion"
+name_of names.SpecialBuild = codes "SpecialBuild"
 
 -- the values of the twelve names
 pub record FileStrings : Type 0 where
@@ -122,8 +144,10 @@ pub record VersionView : Type 0 where
 abbrev pub version_view : VersionInfo → VersionView
 version_view v = record { fixed_info = v.fixed_info; strings = file_strings_view v.string_info }
 
--- the version information of these bytes: every string must read
+-- the version information of these bytes
 unfoldable pub version_in : List ℕ → Result VersionView Refusal
-version_in b =
-    all_read (strings b) >>= λ _. fixed_info_in (value_of (codes "VS_VERSION_INFO") (read (strings b)))
-    >>= λ f. Ok (record { fixed_info = f; strings = file_strings (read (strings b)) })
+version_in b = fixed_info_of b >>= λ f. Ok (record { fixed_info = f; strings = file_strings (read (strings b)) })
+
+-- where the value of a name lies in version information, which is refused as it is
+unfoldable pub value_range_in : VersionName → List ℕ → Result (Option ByteRange) Refusal
+value_range_in name b = fixed_info_of b >>= λ _. Ok (value_range (name_of name) 0 (read (strings b)))

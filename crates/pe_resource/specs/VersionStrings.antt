@@ -8,6 +8,7 @@ use Rattle.pe_core.specs.Bytes.{le, holds, range}
 use Rattle.pe_core.specs.Refusals.{Refusal, Short, outcome, kind_of}
 use Rattle.pe_core.specs.Refusals as refusals
 use Rattle.pe_core.specs.declared.error.Error.{Error}
+use Rattle.pe_resource.specs.declared.byte_range.ByteRange.{ByteRange}
 use Rattle.pe_resource.specs.declared.string.ResourceString.{ResourceString}
 use Rattle.pe_resource.specs.declared.string.ResourceStringIterator.{ResourceStringIterator}
 
@@ -160,6 +161,17 @@ with_key name ss = find (λ s. is_name name (text s.key)) ss
 -- its value
 abbrev pub value_of : List ℕ → List VersionString → Option (List ℕ)
 value_of name ss = option_map (λ s. s.value) (with_key name ss)
+
+-- where the value of a string begins, counted from the string: behind its head, its key and the zero unit
+abbrev pub value_begin : VersionString → ℕ
+value_begin s = up_to_four (6 + length s.key + 2)
+
+-- the range of the value of the first string with a name, where the first of the strings stands at p
+abbrev pub value_range : List ℕ → ℕ → List VersionString → Option ByteRange
+value_range name p [] = None
+value_range name p (s ∷ ss) =
+    if is_name name (text s.key) then Some (record { place = p + value_begin s; length = length s.value })
+    else value_range name (p + (value_begin s + length s.value)) ss
 
 -- each character is ASCII and none is zero
 abbrev pub is_plain : ℕ → Bool

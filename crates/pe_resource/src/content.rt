@@ -1,11 +1,12 @@
 //! What lies behind an entry: a leaf, its data entry, and the bytes of the file that this names.
 
-ghost use Rattle.std.specs.Prelude.{◌≡◌, ◌+◌, ◌≤◌, length};
+ghost use Rattle.std.specs.Prelude.{◌≡◌, ◌+◌, ◌≤◌, length, IfOk, IfSome};
 ghost use Rattle.std.specs.Option.{option_map};
 ghost use Rattle.pe_core.specs.Refusals.{Gives, answer_by};
-ghost use Rattle.pe_resource.specs.Contents.{map_of, IsLeaf, data_entry_at, file_bytes, named_bytes, content_in, IsContent};
+ghost use Rattle.pe_resource.specs.Contents.{map_of, IsLeaf, data_entry_at, IsWithin, file_range, file_bytes, named_range, range_in, IsContentRange, IsContent};
 ghost use Rattle.pe_resource.specs.ResourceEntries.{entries_left, with_id};
 
+use crate::byte_range::ByteRange;
 use crate::directory::ResourceEntryIterator;
 use crate::entry::walk;
 use pe_core::{
@@ -57,6 +58,29 @@ fn leaf(bytes: &[u8], it: ResourceEntryIterator, id: u16) -> Result<Option<u32>>
     }
 }
 
+/// The range of so many bytes of the file, at the place of an address.
+fn file_range(
+    pe: &[u8],
+    address: u32,
+    size: u32,
+    sections: &[SectionTable],
+    file_alignment: u32,
+    opts: &ParseOptions,
+) -> Result<ByteRange>
+    ensures range { Gives (λ r. r) result (file_range pe.now size (map_of opts.now sections.now file_alignment address)) }
+    ensures within { IfOk result (IsWithin pe.now) }
+{
+    let Some(place) = find_offset(address as usize, sections, file_alignment, opts) else {
+        return Err(Error::Malformed(Reason::Unmapped(u64::from(address))));
+    };
+    let length = size as usize;
+    if pe.len() < length || pe.len() - length < place {
+        let end = (place as u64).saturating_add(length as u64);
+        return Err(Error::Malformed(Reason::ResourceBounds(end)));
+    }
+    Ok(ByteRange { place, length })
+}
+
 /// So many bytes of the file, at the place of an address.
 pub(crate) fn file_bytes<'a>(
     pe: &'a [u8],
@@ -68,33 +92,27 @@ pub(crate) fn file_bytes<'a>(
 ) -> Result<&'a [u8]>
     ensures { Gives (λ s. s.now) result (file_bytes pe.entry.now size (map_of opts.now sections.now file_alignment address)) }
 {
-    let Some(place) = find_offset(address as usize, sections, file_alignment, opts) else {
-        return Err(Error::Malformed(Reason::Unmapped(u64::from(address))));
-    };
-    let size = size as usize;
-    if pe.len() < size || pe.len() - size < place {
-        let end = (place as u64).saturating_add(size as u64);
-        return Err(Error::Malformed(Reason::ResourceBounds(end)));
-    }
-    Ok(&pe[place..place + size])
+    let range = file_range(pe, address, size, sections, file_alignment, opts)?;
+    Ok(range.of(pe))
 }
 
-/// The bytes of the file that the data entry at a place names.
-#[tactic(auto, unfolding(crate::specs::Contents::named_bytes))]
-fn named_bytes<'a>(
-    pe: &'a [u8],
+/// The range of the file that the data entry at a place names.
+#[tactic(auto, unfolding(crate::specs::Contents::named_range))]
+fn named_range(
+    pe: &[u8],
     bytes: &[u8],
     place: u32,
     sections: &[SectionTable],
     file_alignment: u32,
     opts: &ParseOptions,
-) -> Result<&'a [u8]>
-    ensures { Gives (λ s. s.now) result (named_bytes (map_of opts.now sections.now file_alignment) pe.entry.now bytes.now place) }
+) -> Result<ByteRange>
+    ensures range { Gives (λ r. r) result (named_range (map_of opts.now sections.now file_alignment) pe.now bytes.now place) }
+    ensures within { IfOk result (IsWithin pe.now) }
 {
     let place = place as usize;
     require_bytes(bytes, place, SIZE_OF_DATA_ENTRY)?;
     let entry = ResourceDataEntry::at(bytes, place);
-    file_bytes(
+    file_range(
         pe,
         entry.offset_to_data,
         entry.size,
@@ -104,25 +122,43 @@ fn named_bytes<'a>(
     )
 }
 
-/// The bytes that the data entry at a leaf names, if there is a leaf.
-fn content_at<'a>(
-    pe: &'a [u8],
+/// The range that the data entry at a leaf names, if there is a leaf.
+fn range_at(
+    pe: &[u8],
     bytes: &[u8],
     place: Option<u32>,
     sections: &[SectionTable],
     file_alignment: u32,
     opts: &ParseOptions,
-) -> Result<Option<&'a [u8]>>
-    ensures { Gives (option_map (λ s. s.now)) result (content_in (map_of opts.now sections.now file_alignment) pe.entry.now bytes.now place) }
+) -> Result<Option<ByteRange>>
+    ensures range { Gives (λ r. r) result (range_in (map_of opts.now sections.now file_alignment) pe.now bytes.now place) }
+    ensures within { IfOk result (λ r. IfSome r (IsWithin pe.now)) }
 {
     match place {
         None => Ok(None),
-        Some(place) => {
-            match named_bytes(pe, bytes, place, sections, file_alignment, opts) {
-                Ok(content) => Ok(Some(content)),
-                Err(error) => Err(error),
-            }
-        }
+        Some(place) => match named_range(pe, bytes, place, sections, file_alignment, opts) {
+            Ok(range) => Ok(Some(range)),
+            Err(error) => Err(error),
+        },
+    }
+}
+
+/// The range of the content of the first of the entries that has this id.
+pub(crate) fn content_range(
+    pe: &[u8],
+    bytes: &[u8],
+    it: ResourceEntryIterator,
+    id: u16,
+    sections: &[SectionTable],
+    file_alignment: u32,
+    opts: &ParseOptions,
+) -> Result<Option<ByteRange>>
+    ensures range { IsContentRange (map_of opts.now sections.now file_alignment) pe.now bytes.now (entries_left it.entry) id (answer_by (λ r. r) result) }
+    ensures within { IfOk result (λ r. IfSome r (IsWithin pe.now)) }
+{
+    match leaf(bytes, it, id) {
+        Ok(place) => range_at(pe, bytes, place, sections, file_alignment, opts),
+        Err(error) => Err(error),
     }
 }
 
@@ -138,8 +174,9 @@ pub(crate) fn content<'a>(
 ) -> Result<Option<&'a [u8]>>
     ensures { IsContent (map_of opts.now sections.now file_alignment) pe.entry.now bytes.now (entries_left it.entry) id (answer_by (option_map (λ s. s.now)) result) }
 {
-    match leaf(bytes, it, id) {
-        Ok(place) => content_at(pe, bytes, place, sections, file_alignment, opts),
+    match content_range(pe, bytes, it, id, sections, file_alignment, opts) {
+        Ok(Some(range)) => Ok(Some(range.of(pe))),
+        Ok(None) => Ok(None),
         Err(error) => Err(error),
     }
 }

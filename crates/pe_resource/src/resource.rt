@@ -1,15 +1,16 @@
 //! The resources of an image, as one value.
 
-ghost use Rattle.std.specs.Prelude.{◌≡◌, ◌≢◌, ◌+◌, ◌≤◌, length, Err, Ok};
+ghost use Rattle.std.specs.Prelude.{◌≡◌, ◌≢◌, ◌+◌, ◌≤◌, length, Err, Ok, IfOk, IfSome};
 ghost use Rattle.std.specs.Option.{option_map};
 ghost use Rattle.pe_core.specs.Options.{default_options};
 ghost use Rattle.pe_core.specs.Refusals.{Gives, Memory, answer_by};
-ghost use Rattle.pe_resource.specs.Contents.{map_of};
+ghost use Rattle.pe_resource.specs.Contents.{map_of, IsWithin};
 ghost use Rattle.pe_resource.specs.Directories.{count};
 ghost use Rattle.pe_resource.specs.ResourceEntries.{entries, entries_left};
-ghost use Rattle.pe_resource.specs.Resources.{resource_view, first_entries_in, directory_and_data, IsBehindEntries, IsResource};
+ghost use Rattle.pe_resource.specs.Resources.{resource_view, first_entries_in, directory_and_data, IsBehindEntries, IsResource, IsRangeBehindEntries, IsResourceRange};
 
-use crate::content::file_bytes;
+use crate::byte_range::ByteRange;
+use crate::content::{content_range, file_bytes};
 use crate::directory::{ImageResourceDirectory, ResourceEntryIterator, SIZE_OF_DIRECTORY};
 use crate::manifest::ManifestData;
 use crate::version::VersionInfo;
@@ -67,6 +68,30 @@ fn first_entries<'a>(
         }
         (Err(_), ParseMode::Permissive) if fits => Ok(Some(&[])),
         (Err(_), ParseMode::Permissive) => Ok(None),
+    }
+}
+
+/// The range of the content of the first resource with an id, in a directory and its data.
+fn range_in_data(
+    bytes: &[u8],
+    data: &[u8],
+    directory: &ImageResourceDirectory,
+    id: u16,
+    sections: &[SectionTable],
+    file_alignment: u32,
+    opts: &ParseOptions,
+) -> Result<Option<ByteRange>>
+    ensures range { IsRangeBehindEntries (map_of opts.now sections.now file_alignment) bytes.now data.now id
+        (first_entries_in opts.now.parse_mode data.now directory.now) (answer_by (λ r. r) result) }
+    ensures within { IfOk result (λ r. IfSome r (IsWithin bytes.now)) }
+{
+    match first_entries(data, directory, opts.parse_mode) {
+        Err(error) => Err(error),
+        Ok(None) => Ok(None),
+        Ok(Some(table)) => {
+            let it = ResourceEntryIterator::new(table);
+            content_range(bytes, data, it, id, sections, file_alignment, opts)
+        }
     }
 }
 
@@ -128,6 +153,30 @@ impl<'a> ResourceData<'a> {
         ensures no_memory { answer_by resource_view result ≢ Err Memory }
     {
         ResourceData::of_directory(bytes, dd, sections, file_alignment, opts)
+    }
+
+    /// Where the content of the first resource with an id lies in the file, as `RT_VERSION` or `RT_MANIFEST`: what the walk
+    /// from the first entry with this id leads to. `None` without such an entry, where the walk ends at a directory, and in
+    /// permissive mode where the directory's data are shorter than a directory. Refused as the directory and its data are,
+    /// then as the walk is, then as the data entry is: `Short`, `Unmapped`, and `ResourceBounds` where its bytes are not in
+    /// the file. What other resources say doesn't matter.
+    pub fn content_range(
+        bytes: &[u8],
+        dd: DataDirectory,
+        id: u16,
+        sections: &[SectionTable],
+        file_alignment: u32,
+        opts: &ParseOptions,
+    ) -> Result<Option<ByteRange>>
+        ensures range { IsResourceRange opts.now bytes.now dd id sections.now file_alignment (answer_by (λ r. r) result) }
+        ensures within { IfOk result (λ r. IfSome r (IsWithin bytes.now)) }
+    {
+        match directory_and_data(bytes, dd, sections, file_alignment, opts) {
+            Err(error) => Err(error),
+            Ok((directory, data)) => {
+                range_in_data(bytes, data, &directory, id, sections, file_alignment, opts)
+            }
+        }
     }
 
     /// The resources that a data directory leads to.

@@ -1,12 +1,14 @@
 //! Strings of version information: a key, and a value that is a text or bytes.
 
-ghost use Rattle.std.specs.Prelude.{◌≡◌, ◌+◌, ◌-◌, ◌*◌, ◌/◌, ◌==◌, ◌<◌, ◌≤◌, ◌^◌, ◌↔◌, length, OnOk, IfOk, IsTrue, Some, string_bytes, take};
+ghost use Rattle.std.specs.Prelude.{◌≡◌, ◌+◌, ◌-◌, ◌*◌, ◌/◌, ◌==◌, ◌<◌, ◌≤◌, ◌^◌, ◌↔◌, length, OnOk, IfOk, IfSome, IsTrue, Some, string_bytes, take};
 ghost use Rattle.std.specs.Iterator.{at_most};
 ghost use Rattle.std.specs.Option.{option_map};
 ghost use Rattle.pe_core.specs.Bytes.{le};
 ghost use Rattle.pe_core.specs.Refusals.{Gives};
-ghost use Rattle.pe_resource.specs.VersionStrings.{Parses, GivesString, VersionString, string_view, key_length, value_place, up_to_four, units, before_zero, text, is_name, IsPlain, rest_of, strings, read, all_read, value_of};
+ghost use Rattle.pe_resource.specs.VersionStrings.{Parses, GivesString, VersionString, string_view, key_length, value_place, up_to_four, units, before_zero, text, is_name, IsPlain, rest_of, strings, read, all_read, value_of, value_range};
+ghost use Rattle.pe_resource.specs.Contents.{IsWithin};
 
+use crate::byte_range::ByteRange;
 use crate::constants::RESOURCE_STRING_FIELD_ALIGNMENT;
 use pe_core::{Error, Reason, Result, number16, require_bytes};
 use std::alloc::{AllocError, Allocator};
@@ -285,21 +287,36 @@ pub(crate) fn require_strings(data: &[u8]) -> Result<()>
     Ok(())
 }
 
-/// The value of the first string with this key.
-pub(crate) fn first_value<'a>(data: &'a [u8], name: &str) -> Option<&'a [u8]>
+/// The range of the value of the first string with this key. A value ends where the next string begins.
+pub(crate) fn value_range(data: &[u8], name: &str) -> Option<ByteRange>
     requires { IsPlain name.now }
-    ensures { option_map (λ s. s.now) result ≡ value_of name.now (read (strings data.entry.now)) }
+    ensures range { result ≡ value_range name.now 0 (read (strings data.now)) }
+    ensures within { IfSome result (IsWithin data.now) }
 {
     let mut left = ResourceStringIterator::new(data);
     while let Some(item) = left.next() {
         match item {
             Ok(string) => {
                 if string.has_key(name) {
-                    return Some(string.value);
+                    let length = string.value.len();
+                    let place = data.len() - left.bytes.len() - length;
+                    return Some(ByteRange { place, length });
                 }
             }
             Err(_) => {}
         }
     }
     None
+}
+
+/// The value of the first string with this key.
+#[tactic(auto, using(crate::proofs::ValueRanges::range_of_value))]
+pub(crate) fn first_value<'a>(data: &'a [u8], name: &str) -> Option<&'a [u8]>
+    requires { IsPlain name.now }
+    ensures { option_map (λ s. s.now) result ≡ value_of name.now (read (strings data.entry.now)) }
+{
+    match value_range(data, name) {
+        Some(range) => Some(range.of(data)),
+        None => None,
+    }
 }

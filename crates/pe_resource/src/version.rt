@@ -1,17 +1,18 @@
 //! Version information: version numbers, fixed file information, and the strings that describe a file.
 
-ghost use Rattle.std.specs.Prelude.{◌≡◌, ◌≢◌, ◌+◌, ◌==◌, ◌≤◌, length, Err, IfOk, string_bytes};
+ghost use Rattle.std.specs.Prelude.{◌≡◌, ◌≢◌, ◌+◌, ◌==◌, ◌≤◌, length, Err, IfOk, IfSome, string_bytes};
 ghost use Rattle.std.specs.Option.{option_map};
 ghost use Rattle.pe_core.specs.Refusals.{Gives, Memory, answer_by};
-ghost use Rattle.pe_resource.specs.Contents.{map_of, version_of_content, IsVersion};
+ghost use Rattle.pe_resource.specs.Contents.{IsWithin, map_of, version_of_content, IsVersion};
 ghost use Rattle.pe_resource.specs.ResourceEntries.{entries_left};
-ghost use Rattle.pe_resource.specs.VersionFields.{version_of_halves, high_half, low_half, version_text, fixed_info_at, fixed_info_in, file_strings, file_strings_view, text_in, version_view, version_in};
-ghost use Rattle.pe_resource.specs.VersionStrings.{strings, read, value_of};
+ghost use Rattle.pe_resource.specs.VersionFields.{version_of_halves, high_half, low_half, version_text, fixed_info_at, fixed_info_in, fixed_info_of, name_of, file_strings, file_strings_view, text_in, version_view, version_in, value_range_in};
+ghost use Rattle.pe_resource.specs.VersionStrings.{strings, read, value_of, IsPlain};
 
+use crate::byte_range::ByteRange;
 use crate::constants::{RT_VERSION, VS_FFI_SIGNATURE, VS_VERSION_INFO_KEY};
 use crate::content::content;
 use crate::directory::ResourceEntryIterator;
-use crate::string::{first_value, require_strings, text_of};
+use crate::string::{first_value, require_strings, text_of, value_range};
 use pe_core::{ParseOptions, Result, SectionTable, number32, require_bytes};
 use std::alloc::{AllocError, Allocator};
 
@@ -146,6 +147,17 @@ impl VsFixedFileInfo {
         }
     }
 
+    /// The fixed file information among the strings of version information, `data`: the value of the first string with the
+    /// key `VS_VERSION_INFO`, `None` without one. Refused as a string that doesn't read is, then `Short` where the value has
+    /// fewer than 52 bytes.
+    #[tactic(auto, unfolding(crate::specs::VersionFields::fixed_info_of))]
+    pub fn of_strings(data: &[u8]) -> Result<Option<VsFixedFileInfo>>
+        ensures { Gives (λ f. f) result (fixed_info_of data.now) }
+    {
+        require_strings(data)?;
+        fixed_info_in(first_value(data, VS_VERSION_INFO_KEY))
+    }
+
     /// Whether the signature is the one of fixed file information.
     pub fn is_valid(&self) -> bool
         ensures { result ≡ (self.now.signature == 0xFEEF04BD) }
@@ -165,6 +177,70 @@ impl VsFixedFileInfo {
         ensures { result ≡ version_of_halves self.now.product_version_ms self.now.product_version_ls }
     {
         VersionField::from_ms_ls(self.product_version_ms, self.product_version_ls)
+    }
+}
+
+/// A name among the strings that describe a file.
+#[derive(Clone, Copy, Debug, PartialEq)]
+pub enum VersionName {
+    /// What else there is to say about the file.
+    Comments,
+    /// Who made the file.
+    CompanyName,
+    /// What the file is, for its users.
+    FileDescription,
+    /// The version of the file.
+    FileVersion,
+    /// The name of the file among its makers.
+    InternalName,
+    /// Whose copyright the file is.
+    LegalCopyright,
+    /// Which trademarks the file has to do with.
+    LegalTrademarks,
+    /// The name of the file before any other.
+    OriginalFilename,
+    /// Why the file is a private build.
+    PrivateBuild,
+    /// The name of the product that the file belongs to.
+    ProductName,
+    /// The version of that product.
+    ProductVersion,
+    /// How this build differs from the usual one.
+    SpecialBuild,
+}
+
+impl VersionName {
+    /// The name, as keys spell it.
+    fn key(self) -> &'static str
+        ensures name { result.now ≡ name_of self }
+        ensures plain { IsPlain result.now }
+    {
+        match self {
+            VersionName::Comments => COMMENTS,
+            VersionName::CompanyName => COMPANY_NAME,
+            VersionName::FileDescription => FILE_DESCRIPTION,
+            VersionName::FileVersion => FILE_VERSION,
+            VersionName::InternalName => INTERNAL_NAME,
+            VersionName::LegalCopyright => LEGAL_COPYRIGHT,
+            VersionName::LegalTrademarks => LEGAL_TRADEMARKS,
+            VersionName::OriginalFilename => ORIGINAL_FILENAME,
+            VersionName::PrivateBuild => PRIVATE_BUILD,
+            VersionName::ProductName => PRODUCT_NAME,
+            VersionName::ProductVersion => PRODUCT_VERSION,
+            VersionName::SpecialBuild => SPECIAL_BUILD,
+        }
+    }
+
+    /// Where the value of the first string with this name lies in version information, `data`: its bytes, with those up to a
+    /// multiple of four if they are there. `None` without such a string. Refused as the version information is: as a string
+    /// that doesn't read, then `Short` where the value of `VS_VERSION_INFO` has fewer than 52 bytes.
+    #[tactic(auto, unfolding(crate::specs::VersionFields::value_range_in))]
+    pub fn value_range(self, data: &[u8]) -> Result<Option<ByteRange>>
+        ensures range { Gives (λ r. r) result (value_range_in self data.now) }
+        ensures within { IfOk result (λ r. IfSome r (IsWithin data.now)) }
+    {
+        VsFixedFileInfo::of_strings(data)?;
+        Ok(value_range(data, self.key()))
     }
 }
 
@@ -368,8 +444,7 @@ impl<'a> VersionInfo<'a> {
     fn of_strings(data: &'a [u8]) -> Result<VersionInfo<'a>>
         ensures { Gives version_view result (version_in data.entry.now) }
     {
-        require_strings(data)?;
-        let fixed_info = fixed_info_in(first_value(data, VS_VERSION_INFO_KEY))?;
+        let fixed_info = VsFixedFileInfo::of_strings(data)?;
         Ok(VersionInfo {
             fixed_info,
             string_info: StringFileInfo::of_strings(data),

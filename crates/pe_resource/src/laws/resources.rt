@@ -10,16 +10,18 @@ ghost use Rattle.pe_core.specs.declared.error.Error.{Error};
 ghost use Rattle.pe_core.specs.declared.options.ParseMode.{ParseMode};
 ghost use Rattle.pe_core.specs.declared.options.ParseOptions.{ParseOptions};
 ghost use Rattle.pe_core.specs.declared.section_table.SectionTable.{SectionTable};
+ghost use Rattle.pe_resource.specs.declared.byte_range.ByteRange.{ByteRange};
 ghost use Rattle.pe_resource.specs.declared.directory.ResourceEntryIterator.{ResourceEntryIterator};
 ghost use Rattle.pe_resource.specs.declared.entry.ResourceEntry.{ResourceEntry};
 ghost use Rattle.pe_resource.specs.declared.string.ResourceString.{ResourceString};
 ghost use Rattle.pe_resource.specs.declared.string.ResourceStringIterator.{ResourceStringIterator};
 ghost use Rattle.pe_resource.specs.declared.version.VersionField.{VersionField};
+ghost use Rattle.pe_resource.specs.Contents.{bytes_in, IsWithin, inner, content_of};
 ghost use Rattle.pe_resource.specs.ResourceEntries.{entry_of, number_of, items_left};
 ghost use Rattle.pe_resource.specs.ResourceWalk.{Walks};
-ghost use Rattle.pe_resource.specs.Resources.{ResourceView, IsResource};
+ghost use Rattle.pe_resource.specs.Resources.{ResourceView, IsResource, IsResourceRange, IsInRanges};
 ghost use Rattle.pe_resource.specs.VersionFields.{version_of_halves, high_half, low_half, whole_number, HasParts};
-ghost use Rattle.pe_resource.specs.VersionStrings.{VersionString, Strings, strings, rest_of, item_of};
+ghost use Rattle.pe_resource.specs.VersionStrings.{VersionString, Strings, strings, read, value_of, value_range, rest_of, item_of};
 
 use crate::directory::ResourceEntryIterator;
 use crate::string::ResourceStringIterator;
@@ -71,12 +73,25 @@ pub fn strings_have_one_reading()
         ⟦<ResourceStringIterator<'static> as Iterator>⟧.next_gives t r u → r ≡ None }
 {}
 
-/// A walk has one answer, and so have resources.
-#[tactic(auto, using(crate::proofs::OneAnswer::one_walk, crate::proofs::OneAnswer::one_resource))]
+/// A walk has one answer, and so have resources, and where the content of one lies.
+#[tactic(auto, using(crate::proofs::OneAnswer::one_walk, crate::proofs::OneAnswer::one_resource, crate::proofs::OneAnswer::one_range))]
 pub fn resources_have_one_answer()
     ensures walk { (b : List ℕ) (p : ResourceEntry → Bool) (e : ResourceEntry) (r s : Result ResourceEntry Refusal) → Walks b p e r → Walks b p e s → r ≡ s }
     ensures resource { (o : ParseOptions) (f : List ℕ) (d : DataDirectory) (sections : List SectionTable) (alignment : ℕ) (r s : Result ResourceView Refusal) →
         IsResource o f d sections alignment r → IsResource o f d sections alignment s → r ≡ s }
+    ensures range { (o : ParseOptions) (f : List ℕ) (d : DataDirectory) (id : ℕ) (sections : List SectionTable) (alignment : ℕ) (r s : Result (Option ByteRange) Refusal) →
+        IsResourceRange o f d id sections alignment r → IsResourceRange o f d id sections alignment s → r ≡ s }
+{}
+
+/// The manifest and the version information of resources are what their ranges hold; the value of a name among version
+/// strings is what its range holds; and a range of a range holds the same bytes as a range of all bytes.
+pub fn ranges_hold_what_is_read()
+    ensures resource { (o : ParseOptions) (f : List ℕ) (d : DataDirectory) (sections : List SectionTable) (alignment : ℕ) (x : ResourceView) (manifest version : Result (Option ByteRange) Refusal) →
+        IsResource o f d sections alignment (Ok x) → IsResourceRange o f d 24 sections alignment manifest → IsResourceRange o f d 16 sections alignment version →
+        IsInRanges f manifest version x }
+    ensures value { (name b : List ℕ) → content_of b (value_range name 0 (read (strings b))) ≡ value_of name (read (strings b)) }
+    ensures inner { (b : List ℕ) (outer r : ByteRange) → IsWithin b outer → IsWithin (bytes_in b outer) r →
+        IsWithin b (inner outer r) × (bytes_in b (inner outer r) ≡ bytes_in (bytes_in b outer) r) }
 {}
 
 /// Resources that strict mode gives are those that permissive mode gives.
