@@ -1,5 +1,5 @@
 -- What is told of an image.
-use Rattle.std.specs.Prelude.{◌≡◌, ℕ, ◌==◌, List, ◌++◌, drop, length, nat_le, Bool, true, false, Option, Some, None, Result, Ok, Err, if◌then◌else◌}
+use Rattle.std.specs.Prelude.{◌≡◌, ℕ, ◌==◌, ◌&&◌, List, ◌++◌, drop, length, nat_le, Bool, true, false, Option, Some, None, Result, Ok, Err, if◌then◌else◌}
 use Rattle.pe_core.specs.Directories.{present, absent_directory}
 use Rattle.pe_core.specs.Header.{OptionalHeaderView, HeaderView, header_at}
 use Rattle.pe_core.specs.Refusals.{Refusal, ◌>>=◌}
@@ -14,6 +14,10 @@ use Rattle.pe_c.specs.Modes.{mode_of}
 abbrev pub or_absent : Option DataDirectory → DataDirectory
 or_absent None = absent_directory
 or_absent (Some d) = d
+
+-- the directory is absent
+abbrev pub is_absent : DataDirectory → Bool
+is_absent d = d.virtual_address == 0 && d.size == 0
 
 -- what the headers say; without an optional header zeros
 abbrev pub image_by : HeaderView → Option OptionalHeaderView → Image

@@ -1,4 +1,5 @@
 pub mod Answers
+pub mod Debug
 pub mod Images
 pub mod Modes
 pub mod Ranges

@@ -7,7 +7,7 @@ ghost use Rattle.pe_core.specs.Records.{section_table};
 ghost use Rattle.pe_core.specs.Rows.{rows};
 ghost use Rattle.pe_core.specs.SectionMap.{place_of};
 ghost use Rattle.pe_c.specs.Answers.{Answers, AnswersIf};
-ghost use Rattle.pe_c.specs.Images.{or_absent, image_of, image_at, PutsSections};
+ghost use Rattle.pe_c.specs.Images.{or_absent, is_absent, image_of, image_at, PutsSections};
 
 use crate::answers::{DONE, NOTHING, ROOM, hand_out, number_of, options};
 use pe_core::{
@@ -53,6 +53,13 @@ fn or_absent(directory: Option<DataDirectory>) -> DataDirectory
         Some(directory) => directory,
         None => ABSENT,
     }
+}
+
+/// Whether a directory is absent.
+pub fn is_absent(directory: DataDirectory) -> bool
+    ensures { result ≡ is_absent directory }
+{
+    directory.virtual_address == 0 && directory.size == 0
 }
 
 fn image_of(header: &Header) -> Image

@@ -7,6 +7,7 @@
 #![tactic(auto)]
 
 mod answers;
+mod debug;
 mod image;
 mod ranges;
 mod texts;

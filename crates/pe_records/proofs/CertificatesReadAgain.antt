@@ -105,7 +105,7 @@ le_small b p small =
     let b3 = small (p + 3) in
     omega arith
 
-range_length : (b : List ℕ) (p n : ℕ) → p + n ≤ length b → length (range b p n) ≡ n
+pub range_length : (b : List ℕ) (p n : ℕ) → p + n ≤ length b → length (range b p n) ≡ n
 range_length b p n h = simp (length-take, length-drop) (omega arith)
 
 pub record Read (b : List ℕ) (p : ℕ) (c : CertificateView) (q : ℕ) : Type 0 where
@@ -114,7 +114,7 @@ pub record Read (b : List ℕ) (p : ℕ) (c : CertificateView) (q : ℕ) : Type 
   pub body : c.body ≡ range b (p + 8) (c.length - 8)
   pub next : q ≡ rounded_up (p + 8 + (c.length - 8)) 8
 
-read : (b : List ℕ) (p : ℕ) (c : CertificateView) (q : ℕ) → certificate_at b p ≡ Ok (c, q) → Read b p c q
+pub read : (b : List ℕ) (p : ℕ) (c : CertificateView) (q : ℕ) → certificate_at b p ≡ Ok (c, q) → Read b p c q
 unfolding certificate_at certificate certificate_tests
 read b p c q e = record { size = grind (arith, nat_tests); inside = grind (arith, nat_tests); body = grind (arith, nat_tests); next = grind (arith, nat_tests) }
 

@@ -1,7 +1,7 @@
 -- What strict mode gives, permissive mode gives too.
 use Rattle.std.proofs.Common.{◌≡◌, ℕ, Bool, true, false, List, Option, Some, None, Result, Ok, Err, refl, ap, ◌∙◌}
-use Rattle.std.specs.Prelude.{drop, nat_lt, if◌then◌else◌}
-use Rattle.pe_core.specs.Bytes.{holds, range}
+use Rattle.std.specs.Prelude.{◌-◌, length, min, nat_lt, if◌then◌else◌}
+use Rattle.pe_core.specs.Bytes.{holds}
 use Rattle.pe_core.specs.Refusals.{Refusal, DebugSize, DebugBounds, ◌>>=◌}
 use Rattle.pe_core.specs.SectionMap.{place_of}
 use Rattle.pe_core.specs.declared.data_directories.DataDirectory.{DataDirectory}
@@ -10,7 +10,7 @@ use Rattle.pe_core.specs.declared.options.ParseMode.TheVariants.{Strict, Permiss
 use Rattle.pe_core.specs.declared.options.ParseOptions.{ParseOptions}
 use Rattle.pe_core.specs.declared.section_table.SectionTable.{SectionTable}
 use Rattle.pe_records.specs.declared.debug.ImageDebugDirectory.{ImageDebugDirectory}
-use Rattle.pe_records.specs.DebugDirectory.{directory_table, table_at, first_of_type}
+use Rattle.pe_records.specs.DebugDirectory.{directory_range, directory_table, range_at, first_of_type}
 use Rattle.pe_records.specs.DebugRecords.{DebugFields, Pdb70, Pdb20, pdb70_record, pdb20_record, pdb70_of, pdb20_of, of_entry, records, debug_data, record_place}
 
 -- the same options in a mode
@@ -26,17 +26,23 @@ sized : {X : Type 0} (small : Bool) (there : Result (Option X) Refusal) (x : Opt
 sized true there x e = absurd cc
 sized false there x e = e
 
-bounded : (inside : Bool) (x y z : List ℕ) → (if inside then Ok x else Err DebugBounds) ≡ Ok z → if◌then◌else◌ {A = Result (List ℕ) Refusal} inside (Ok x) (Ok y) ≡ Ok z
+bounded : (inside : Bool) (x y z : ℕ × ℕ) → (if inside then Ok x else Err DebugBounds) ≡ Ok z → if◌then◌else◌ {A = Result (ℕ × ℕ) Refusal} inside (Ok x) (Ok y) ≡ Ok z
 bounded true x y z e = e
 bounded false x y z e = absurd cc
 
-strict_table_at : (b : List ℕ) (size : ℕ) (place : Option ℕ) (t : List ℕ) → table_at b Strict size place ≡ Ok t → table_at b Permissive size place ≡ Ok t
-strict_table_at b size None t e = e
-strict_table_at b size (Some place) t e = bounded (holds b place size) (range b place size) (drop place b) t e
+strict_range_at : (b : List ℕ) (size : ℕ) (place : Option ℕ) (r : ℕ × ℕ) → range_at b Strict size place ≡ Ok r → range_at b Permissive size place ≡ Ok r
+strict_range_at b size None r e = e
+strict_range_at b size (Some place) r e = bounded (holds b place size) (place, size) (min place (length b), length b - place) r e
+
+strict_range : (o : ParseOptions) (b : List ℕ) (d : DataDirectory) (sections : List SectionTable) (alignment : ℕ) (r : ℕ × ℕ) → directory_range (in_mode Strict o) b d sections alignment ≡ Ok r → directory_range (in_mode Permissive o) b d sections alignment ≡ Ok r
+unfolding directory_range
+strict_range o b d sections alignment r e = strict_range_at b d.size (place_of o.resolve_rva alignment sections d.virtual_address) r e
 
 strict_table : (o : ParseOptions) (b : List ℕ) (d : DataDirectory) (sections : List SectionTable) (alignment : ℕ) (t : List ℕ) → directory_table (in_mode Strict o) b d sections alignment ≡ Ok t → directory_table (in_mode Permissive o) b d sections alignment ≡ Ok t
 unfolding directory_table
-strict_table o b d sections alignment t e = strict_table_at b d.size (place_of o.resolve_rva alignment sections d.virtual_address) t e
+strict_table o b d sections alignment t e =
+    after (directory_range (in_mode Strict o) b d sections alignment) (directory_range (in_mode Permissive o) b d sections alignment) _ _ t
+    (strict_range o b d sections alignment) (λ r h. h) e
 
 strict_pdb70_record : (b : List ℕ) (p size : ℕ) (x : Option Pdb70) → pdb70_record Strict b p size ≡ Ok x → pdb70_record Permissive b p size ≡ Ok x
 unfolding pdb70_record

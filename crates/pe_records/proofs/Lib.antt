@@ -9,4 +9,5 @@ pub mod CertificateListings
 pub mod CertificatePieces
 pub mod CertificatesReadAgain
 pub mod FirstEntries
+pub mod PartsInPlace
 pub mod DebugEquality

@@ -24,7 +24,7 @@ number b xs p q r w small e h end l =
     join b xs (bytes_of w (le b q w)) p q r e (bytes_of-le b q w small inside ∙ ap (slice_range b q) (sym end)) h up l
 
 -- what is given passed its tests
-passed : {X : Type 0} (short : Bool) (mode : ParseMode) (there own whole inside : Bool) (i j : Refusal) (v x : X) →
+pub passed : {X : Type 0} (short : Bool) (mode : ParseMode) (there own whole inside : Bool) (i j : Refusal) (v x : X) →
     (if short then none_if_refused mode (Err DebugSize) else (if there then (if own then outcome ((whole, i) ∷ (inside, j) ∷ []) (Some v) else Ok None) else Err Short)) ≡ Ok (Some x) →
     (short ≡ false) × (inside ≡ true) × (v ≡ x)
 passed true Permissive there own whole inside i j v x e = absurd cc
@@ -67,7 +67,7 @@ spelled_features b p small inside =
 not_below : (n k : ℕ) → nat_lt n k ≡ false → k ≤ n
 not_below n k e = grind (arith, nat_tests)
 
-are_there : (b : List ℕ) (p n : ℕ) → holds b p n ≡ true → p + n ≤ length b
+pub are_there : (b : List ℕ) (p n : ℕ) → holds b p n ≡ true → p + n ≤ length b
 are_there b p n e = grind (arith, nat_tests)
 
 pub spelled_pdb70 : (mode : ParseMode) (b : List ℕ) (p size : ℕ) (r : Pdb70) → AreBytes b → pdb70_record mode b p size ≡ Ok (Some r) → spell_pdb70 r ≡ range b p size
@@ -87,7 +87,7 @@ spelled_pdb20 mode b p size r small e =
     ap spell_pdb20 (sym tests.2) ∙ spelled_pdb20_at b p size small least (omega arith)
 
 -- what is given passed its tests
-passed_pogo : {X : Type 0} (there own larger inside : Bool) (i j : Refusal) (v x : X) →
+pub passed_pogo : {X : Type 0} (there own larger inside : Bool) (i j : Refusal) (v x : X) →
     (if there then (if own then outcome ((larger, i) ∷ (inside, j) ∷ []) (Some v) else Ok None) else Err Short) ≡ Ok (Some x) →
     (larger ≡ true) × (inside ≡ true) × (v ≡ x)
 passed_pogo true true true true i j v x e = (refl, refl, cc)
@@ -111,7 +111,7 @@ spelled_pogo b p size r small e =
     ∙ join b (bytes_of 4 (le b p 4)) (range b (p + 4) (size - 4)) p (p + 4) (p + size) (bytes_of-le b p 4 small (omega arith)) (ap (slice_range b (p + 4)) end) (omega arith) (omega arith) (omega arith)
 
 -- what is given is the stamp, or passed its tests
-passed_repro : (empty there inside : Bool) (i j : Refusal) (v w x : Repro) →
+pub passed_repro : (empty there inside : Bool) (i j : Refusal) (v w x : Repro) →
     (if empty then Ok v else outcome ((there, i) ∷ (inside, j) ∷ []) w) ≡ Ok x →
     (v ≡ x) ⊎ ((inside ≡ true) × (w ≡ x))
 passed_repro true there inside i j v w x e = inl cc

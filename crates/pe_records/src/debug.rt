@@ -6,7 +6,7 @@ mod first_entries;
 mod pogo;
 mod records;
 
-ghost use Rattle.std.specs.Prelude.{◌≡◌, ◌+◌, ◌*◌, ◌/◌, ◌≤◌, ◌==◌, length, map, Some, IfSome};
+ghost use Rattle.std.specs.Prelude.{◌≡◌, ◌+◌, ◌*◌, ◌/◌, ◌≤◌, ◌==◌, length, map, Some, IfSome, IfOk};
 ghost use Rattle.std.specs.List.{find, range_with_len};
 ghost use Rattle.std.specs.Iterator.{at_most, UpTo};
 ghost use Rattle.std.specs.Iterator.SizeHint.{IsWithinCount};
@@ -14,8 +14,8 @@ ghost use Rattle.std.specs.Option.{option_map};
 ghost use Rattle.pe_core.specs.Refusals.{Gives};
 ghost use Rattle.pe_core.specs.Options.{default_options};
 ghost use Rattle.pe_core.specs.TerseHeader.{reduced};
-ghost use Rattle.pe_records.specs.DebugDirectory.{entry_at, directory_table, GivesEntry, rest_of, fixup_of, count, first_of_type};
-ghost use Rattle.pe_records.specs.DebugRecords.{debug_data, debug_view, records, table_of, fixup_of_data, of_entry, some_of_entry, pdb70_view, pdb70_of, pdb20_view, pdb20_of, features_of, characteristics_of, repro_view, repro_of, pogo_view, pogo_of};
+ghost use Rattle.pe_records.specs.DebugDirectory.{entry_at, directory_range, directory_table, GivesEntry, rest_of, fixup_of, count, first_of_type};
+ghost use Rattle.pe_records.specs.DebugRecords.{debug_data, debug_view, record_place, records, table_of, fixup_of_data, of_entry, some_of_entry, pdb70_view, pdb70_of, pdb20_view, pdb20_of, features_of, characteristics_of, repro_view, repro_of, pogo_view, pogo_of};
 
 pub use codeview::{CodeviewPDB20DebugInfo, CodeviewPDB70DebugInfo};
 pub use constants::{
@@ -39,7 +39,7 @@ pub use constants::{
 use first_entries::FirstEntries;
 use pe_core::{
     DataDirectory, Error, ParseMode, ParseOptions, Reason, Result, SectionTable, find_offset,
-    number16, number32, slice_at, split_entry,
+    number16, number32, require_bytes, split_entry,
 };
 pub use pogo::{POGOEntryIterator, POGOInfo, POGOInfoEntry};
 pub use records::{ExDllCharacteristicsInfo, ReproInfo, VCFeatureInfo};
@@ -87,6 +87,17 @@ impl ImageDebugDirectory {
             size_of_data: number32(bytes, place + 16),
             address_of_raw_data: reduced(number32(bytes, place + 20), fixup),
             pointer_to_raw_data: reduced(number32(bytes, place + 24), fixup),
+        }
+    }
+
+    /// The place of the entry's record: its pointer if addresses are mapped to places, else its address.
+    pub fn record_place(&self, opts: &ParseOptions) -> u32
+        ensures { result ≡ record_place opts.now.resolve_rva self.now }
+    {
+        if opts.resolve_rva {
+            self.pointer_to_raw_data
+        } else {
+            self.address_of_raw_data
         }
     }
 }
@@ -162,8 +173,8 @@ impl<'a> ExactSizeIterator for ImageDebugDirectoryIterator<'a> {
     }
 }
 
-/// The bytes of the directory's table: past the end of the file it is refused in strict mode, and cut in permissive.
-#[tactic(auto, using(std::proofs::lemmas::List::drop_all), unfolding(crate::specs::DebugDirectory::directory_table))]
+/// The bytes of the directory's table.
+#[tactic(auto, unfolding(crate::specs::DebugDirectory::directory_table))]
 fn table<'a>(
     bytes: &'a [u8],
     dd: DataDirectory,
@@ -174,20 +185,8 @@ fn table<'a>(
     ensures { Gives (λ s. s.now) result
         (directory_table opts.now bytes.entry.now dd sections.now file_alignment) }
 {
-    let address = dd.virtual_address as usize;
-    let size = dd.size as usize;
-    let Some(place) = find_offset(address, sections, file_alignment, opts) else {
-        return Err(Error::Malformed(Reason::Unmapped(address as u64)));
-    };
-    match (slice_at(bytes, place, size), opts.parse_mode) {
-        (Ok(table), _) => Ok(table),
-        (Err(_), ParseMode::Strict) => {
-            let end = place.saturating_add(size) as u64;
-            Err(Error::Malformed(Reason::DebugBounds(end)))
-        }
-        (Err(_), ParseMode::Permissive) if place < bytes.len() => Ok(bytes.split_at(place).1),
-        (Err(_), ParseMode::Permissive) => Ok(&[]),
-    }
+    let (place, length) = DebugData::table_range(bytes, dd, sections, file_alignment, opts)?;
+    Ok(&bytes[place..place + length])
 }
 
 /// The debug data of an image.
@@ -231,6 +230,38 @@ impl<'a> DebugData<'a> {
             repro_info: repro_of(bytes, first.repro, opts)?,
             pogo_info: pogo_of(bytes, first.pogo, opts)?,
         })
+    }
+
+    /// The place and the length of a directory's table of entries. Refusals: `Unmapped`; `DebugBounds` for a table past
+    /// the end of the file, which is cut there in permissive mode.
+    #[tactic(auto, unfolding(crate::specs::DebugDirectory::directory_range))]
+    pub fn table_range(
+        bytes: &[u8],
+        dd: DataDirectory,
+        sections: &[SectionTable],
+        file_alignment: u32,
+        opts: &ParseOptions,
+    ) -> Result<(usize, usize)>
+        ensures range { Gives (λ r. r) result
+            (directory_range opts.now bytes.now dd sections.now file_alignment) }
+        ensures within { IfOk result (λ r. r.0 + r.1 ≤ length bytes.now) }
+    {
+        let address = dd.virtual_address as usize;
+        let size = dd.size as usize;
+        let Some(place) = find_offset(address, sections, file_alignment, opts) else {
+            return Err(Error::Malformed(Reason::Unmapped(address as u64)));
+        };
+        match (require_bytes(bytes, place, size), opts.parse_mode) {
+            (Ok(()), _) => Ok((place, size)),
+            (Err(_), ParseMode::Strict) => {
+                let end = place.saturating_add(size) as u64;
+                Err(Error::Malformed(Reason::DebugBounds(end)))
+            }
+            (Err(_), ParseMode::Permissive) => {
+                let start = place.min(bytes.len());
+                Ok((start, bytes.len() - start))
+            }
+        }
     }
 
     /// The debug data of a directory, by the default options.

@@ -8,7 +8,6 @@ ghost use Rattle.pe_records.specs.DebugRecords.{pdb70_view, pdb70_of, pdb70_reco
 
 use crate::debug::ImageDebugDirectory;
 use crate::debug::constants::{CODEVIEW_PDB20_MAGIC, CODEVIEW_PDB70_MAGIC};
-use crate::debug::records::record_place;
 use pe_core::{
     Error, ParseMode, ParseOptions, Reason, Result, data_at, number32, require_bytes, u32_at,
 };
@@ -81,7 +80,7 @@ impl<'a> CodeviewPDB70DebugInfo<'a> {
     ) -> Result<Option<Self>>
         ensures { Gives (option_map pdb70_view) result (pdb70_of opts.now bytes.entry.now idd.now) }
     {
-        let place = record_place(idd, opts);
+        let place = idd.record_place(opts);
         CodeviewPDB70DebugInfo::at(bytes, place as usize, idd.size_of_data, opts.parse_mode)
     }
 }
@@ -126,7 +125,7 @@ impl<'a> CodeviewPDB20DebugInfo<'a> {
     ) -> Result<Option<Self>>
         ensures { Gives (option_map pdb20_view) result (pdb20_of opts.now bytes.entry.now idd.now) }
     {
-        let place = record_place(idd, opts);
+        let place = idd.record_place(opts);
         CodeviewPDB20DebugInfo::at(bytes, place as usize, idd.size_of_data, opts.parse_mode)
     }
 }

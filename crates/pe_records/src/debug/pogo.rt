@@ -10,7 +10,6 @@ ghost use Rattle.pe_records.specs.Pogo.{Reads, GivesPogoEntry, stream_of};
 
 use crate::debug::ImageDebugDirectory;
 use crate::debug::constants::{IMAGE_DEBUG_POGO_SIGNATURE_LTCG, IMAGE_DEBUG_POGO_SIGNATURE_PGU};
-use crate::debug::records::record_place;
 use pe_core::{
     Error, ParseOptions, Reason, Result, data_at, number32, require_bytes, rounded_up, u32_at,
 };
@@ -61,7 +60,7 @@ impl<'a> POGOInfo<'a> {
     ) -> Result<Option<Self>>
         ensures { Gives (option_map pogo_view) result (pogo_of opts.now bytes.entry.now idd.now) }
     {
-        POGOInfo::at(bytes, record_place(idd, opts) as usize, idd.size_of_data)
+        POGOInfo::at(bytes, idd.record_place(opts) as usize, idd.size_of_data)
     }
 
     /// The entries of the record.

@@ -3,21 +3,10 @@
 ghost use Rattle.std.specs.Prelude.{◌≡◌, ◌+◌, ◌≤◌, length};
 ghost use Rattle.pe_core.specs.Options.{default_options};
 ghost use Rattle.pe_core.specs.Refusals.{Gives};
-ghost use Rattle.pe_records.specs.DebugRecords.{record_place, features_at, features_of, characteristics_of, repro_view, repro_of, repro_record};
+ghost use Rattle.pe_records.specs.DebugRecords.{features_at, features_of, characteristics_of, repro_view, repro_of, repro_record};
 
 use crate::debug::ImageDebugDirectory;
 use pe_core::{ParseOptions, Reason, Result, data_at, number32, require_bytes, u32_at};
-
-/// Where the record of an entry stands: at its pointer if addresses are mapped to places, else at its address.
-pub(crate) fn record_place(idd: &ImageDebugDirectory, opts: &ParseOptions) -> u32
-    ensures { result ≡ record_place opts.now.resolve_rva idd.now }
-{
-    if opts.resolve_rva {
-        idd.pointer_to_raw_data
-    } else {
-        idd.address_of_raw_data
-    }
-}
 
 /// How many functions of an image were compiled with which features of Visual C++.
 #[repr(C)]
@@ -66,7 +55,7 @@ impl VCFeatureInfo {
     ) -> Result<VCFeatureInfo>
         ensures { Gives (λ r. r) result (features_of opts.now bytes.now idd.now) }
     {
-        let place = record_place(idd, opts) as usize;
+        let place = idd.record_place(opts) as usize;
         require_bytes(bytes, place, 20)?;
         Ok(VCFeatureInfo::at(bytes, place))
     }
@@ -95,7 +84,7 @@ impl ExDllCharacteristicsInfo {
     ) -> Result<ExDllCharacteristicsInfo>
         ensures { Gives (λ r. r) result (characteristics_of opts.now bytes.now idd.now) }
     {
-        let characteristics_ex = u32_at(bytes, record_place(idd, opts) as usize)?;
+        let characteristics_ex = u32_at(bytes, idd.record_place(opts) as usize)?;
         Ok(ExDllCharacteristicsInfo { characteristics_ex })
     }
 }
@@ -143,6 +132,6 @@ impl<'a> ReproInfo<'a> {
     ) -> Result<Self>
         ensures { Gives repro_view result (repro_of opts.now bytes.entry.now idd.now) }
     {
-        ReproInfo::at(bytes, record_place(idd, opts) as usize, idd)
+        ReproInfo::at(bytes, idd.record_place(opts) as usize, idd)
     }
 }

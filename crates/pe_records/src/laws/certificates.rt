@@ -4,6 +4,7 @@ ghost use Rattle.std.specs.Prelude.{◌≡◌, ℕ, ◌+◌, ◌%◌, ◌≤◌,
 ghost use Rattle.pe_core.specs.Bytes.{AreBytes, splice};
 ghost use Rattle.pe_core.specs.Refusals.{Refusal};
 ghost use Rattle.pe_records.specs.Certificates.{CertificateView, certificate_at, certificates_at, IsListing, IsRefused};
+ghost use Rattle.pe_records.specs.Parts.{StandAt};
 ghost use Rattle.pe_records.specs.CertificateWriting.{IsWhole, spell_certificate, padding, written_length, written_certificate, written_certificates};
 
 /// A table has one listing or one refusal, and never both: what the function gives.
@@ -27,6 +28,12 @@ pub fn written_certificates_are_read_again()
 pub fn certificates_are_three_pieces()
     ensures { (b : List ℕ) (p : ℕ) (c : CertificateView) → p ≤ length b →
         splice b p (written_certificate c) ≡ splice (splice (splice b p (spell_certificate c)) (p + 8) c.body) (p + 8 + length c.body) (padding c) }
+{}
+
+/// The body of a certificate that is read stands behind the eight bytes of its header.
+#[tactic(auto, using(crate::proofs::PartsInPlace::body_stands))]
+pub fn bodies_stand_behind_their_headers()
+    ensures { (b : List ℕ) (p : ℕ) (c : CertificateView) (next : ℕ) → certificate_at b p ≡ Ok (c, next) → StandAt b (p + 8) c.body }
 {}
 
 /// A certificate that is read has the body that its length says; at a multiple of eight it takes as many bytes as it

@@ -16,6 +16,7 @@ ghost use Rattle.pe_records.specs.declared.debug.pogo.POGOEntryIterator.{POGOEnt
 ghost use Rattle.pe_records.specs.DebugDirectory.{entries, count, rest_of, fixup_of, item_of};
 ghost use Rattle.pe_records.specs.DebugRecords.{DebugFields, Pdb70, Pdb20, Pogo, pdb70_of, pdb20_of, debug_data, features_at, pdb70_record, pdb20_record, pogo_record, Repro, repro_record};
 ghost use Rattle.pe_records.specs.DebugSpelling.{spell_pdb70, spell_pdb20, spell_features, spell_pogo, spell_repro, size_of_repro};
+ghost use Rattle.pe_records.specs.Parts.{PartsStand};
 ghost use Rattle.pe_records.specs.Pogo.{Entry, Entries, stream_of, stream_item_of};
 
 use crate::debug::{ImageDebugDirectoryIterator, POGOEntryIterator};
@@ -72,4 +73,11 @@ pub fn debug_records_spell_their_bytes()
     ensures features { (b : List ℕ) (p : ℕ) → AreBytes b → p + 20 ≤ length b → spell_features (features_at b p) ≡ range b p 20 }
     ensures repro { (b : List ℕ) (p : ℕ) (e : ImageDebugDirectory) (r : Repro) → AreBytes b → repro_record b p e ≡ Ok r → spell_repro r ≡ range b p (size_of_repro r) }
     ensures pogo { (b : List ℕ) (p size : ℕ) (r : Pogo) → AreBytes b → pogo_record b p size ≡ Ok (Some r) → spell_pogo r ≡ range b p size }
+{}
+
+/// The file names, the hash and the entries of POGO that debug data have are ranges of the bytes: they stand so many bytes
+/// behind the place where the first entry of their type leads.
+pub fn parts_of_debug_data_stand_in_the_bytes()
+    ensures { (o : ParseOptions) (b : List ℕ) (d : DataDirectory) (sections : List SectionTable) (alignment fixup : ℕ) (x : DebugFields) →
+        debug_data o b d sections alignment fixup ≡ Ok x → PartsStand o b x }
 {}
