@@ -149,9 +149,9 @@ uint32_t pe_c_place(const pe_c_section *sections, size_t count, uint32_t file_al
 
 /* ---- debug data
  *
- * The calls but the walks read all debug data, the six records too, and answer the first refusal: PE_C_UNMAPPED,
- * PE_C_DEBUG_BOUNDS, then those of the records, PE_C_DEBUG_SIZE, PE_C_SHORT, PE_C_DEBUG_DATA, PE_C_POGO_SIZE. A record is
- * that of the first entry of its kind. PE_C_NOTHING where there is none, or no debug directory. */
+ * Each call that gives a record reads all debug data, the directory and the six records, and answers the first refusal:
+ * PE_C_UNMAPPED, PE_C_DEBUG_BOUNDS, then those of the records, PE_C_DEBUG_SIZE, PE_C_SHORT, PE_C_DEBUG_DATA,
+ * PE_C_POGO_SIZE. A record is that of the first entry of its kind. PE_C_NOTHING where there is none, or no directory. */
 
 typedef struct {
     uint32_t characteristics, time_date_stamp;
@@ -204,7 +204,8 @@ PE_C_SIZE(pe_c_repro, 24);
 PE_C_SIZE(pe_c_pogo, 24);
 PE_C_SIZE(pe_c_pogo_entry, 24);
 
-/* Gives the range of the debug directory's entries, a walk. */
+/* Gives the range of the debug directory's entries, a walk. PE_C_NOTHING without a directory; PE_C_UNMAPPED,
+ * PE_C_DEBUG_BOUNDS. The records are not read. */
 uint32_t pe_c_debug_entries(const uint8_t *bytes, size_t length, const pe_c_image_info *image,
                             const pe_c_section *sections, size_t count, uint32_t mode, pe_c_range *out);
 

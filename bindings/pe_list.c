@@ -128,6 +128,16 @@ static uint32_t try_imports(const image *it)
     return ended(answer);
 }
 
+/* The debug directory, where none of the records is refused. */
+static uint32_t try_debug(const image *it, pe_c_range *out)
+{
+    pe_c_key key = PE_C_EMPTY;
+    uint32_t answer = pe_c_symbol_key(IMAGE(it), &key);
+    if (answer != PE_C_DONE && answer != PE_C_NOTHING)
+        return answer;
+    return pe_c_debug_entries(IMAGE(it), out);
+}
+
 /* Every certificate is read. */
 static uint32_t try_certificates(const image *it, pe_c_range *out)
 {
@@ -149,7 +159,7 @@ static uint32_t read_directories(const image *it, directories *out)
     int has_version = 0;
     uint32_t answer = try_imports(it);
     if (answer == PE_C_DONE)
-        answer = keep(it, pe_c_debug_entries(IMAGE(it), &out->debug), &out->has_debug);
+        answer = keep(it, try_debug(it, &out->debug), &out->has_debug);
     if (answer == PE_C_DONE)
         answer = keep(it, pe_c_function_table(IMAGE(it), &out->functions), &out->has_functions);
     if (answer == PE_C_DONE)

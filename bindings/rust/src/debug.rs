@@ -131,11 +131,12 @@ impl<'a> Iterator for PogoEntries<'a> {
 
 impl FusedIterator for PogoEntries<'_> {}
 
-/// Debug data. Each call reads all of them, the records too, and is refused as the first that is: [`Error::UNMAPPED`],
-/// [`Error::DEBUG_BOUNDS`], [`Error::DEBUG_SIZE`], [`Error::SHORT`], [`Error::DEBUG_DATA`], [`Error::POGO_SIZE`]. A record is
-/// that of the first entry of its kind.
+/// Debug data. Each call that gives a record reads all of them, the directory and the six records, and is refused as the
+/// first that is: [`Error::UNMAPPED`], [`Error::DEBUG_BOUNDS`], [`Error::DEBUG_SIZE`], [`Error::SHORT`],
+/// [`Error::DEBUG_DATA`], [`Error::POGO_SIZE`]. A record is that of the first entry of its kind.
 impl<'a> Image<'a> {
-    /// The entries of the debug directory. None without one.
+    /// The entries of the debug directory, whose records are not read. None without a directory. [`Error::UNMAPPED`],
+    /// [`Error::DEBUG_BOUNDS`].
     pub fn debug_entries(&self) -> Result<Option<DebugEntries<'a>>, Error> {
         let entries = self.ask(sys::pe_c_debug_entries)?;
         Ok(entries.map(|entries| DebugEntries(Walk::new(self.bytes(), entries))))
