@@ -4,3 +4,5 @@ pub mod Images
 pub mod Modes
 pub mod Ranges
 pub mod Texts
+pub mod Unwinding
+pub mod Walks

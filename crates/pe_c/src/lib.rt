@@ -11,3 +11,5 @@ mod debug;
 mod image;
 mod ranges;
 mod texts;
+mod unwinding;
+mod walks;
