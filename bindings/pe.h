@@ -14,9 +14,7 @@
  * which counts from the image's first byte in memory.
  *
  * A walk is a record that steps: each call gives the next item and moves the walk. PE_C_NOTHING is its end; behind an
- * item that is refused it is over, and a walk that is over answers PE_C_NOTHING and stays where it is. A caller who made
- * a walk by hand stops at any other answer than PE_C_DONE: where its range is not in the bytes, each call answers
- * PE_C_SHORT and the walk stays.
+ * item that is refused it is over. A walk that is over answers PE_C_NOTHING and stays where it is.
  *
  * `mode` is PE_C_STRICT or PE_C_PERMISSIVE; any value but 0 is permissive. Permissive headers may overlap the DOS header,
  * and a permissive debug directory may pass the end of the bytes, and is cut there. All else is alike.

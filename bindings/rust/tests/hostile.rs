@@ -42,6 +42,34 @@ fn lies(length: u64) -> Vec<u64> {
     vec![0, 1, 4, length - 1, length, length + 1, 1 << 31, u32::MAX.into(), 1 << 32, 1 << 63, u64::MAX - 3, u64::MAX]
 }
 
+/// A walk by a range: `SHORT` and then nothing where the range lies; else it ends.
+fn walk<W: Clone, T: Default + PartialEq + std::fmt::Debug>(
+    bytes: &[u8],
+    there: bool,
+    start: W,
+    call: unsafe extern "C" fn(*const u8, usize, *mut W, *mut T) -> u32,
+) {
+    let mut walk = start;
+    let mut step = || {
+        let mut out = T::default();
+        // SAFETY: the pointer and the length are those of one slice, and both records are lent for the call.
+        let answer = unsafe { call(bytes.as_ptr(), bytes.len(), &mut walk, &mut out) };
+        assert!(answer == 0 || out == T::default());
+        answer
+    };
+    let first = step();
+    assert!(there || first == 2);
+    let mut last = first;
+    for _ in 0..bytes.len() {
+        if last != 0 {
+            break;
+        }
+        last = step();
+    }
+    assert!(last != 0, "it ends");
+    assert_eq!((step(), step()), (100, 100), "it stays over");
+}
+
 #[test]
 fn ranges_that_lie_are_refused() {
     let bytes = with_functions();
@@ -57,34 +85,24 @@ fn ranges_that_lie_are_refused() {
                 assert_eq!(answer == 2, !there);
                 let answer = sys::pe_c_function_at(start, length, &range, 0, &mut function);
                 assert!(there || answer == 2);
-                let mut walk = sys::Walk { left: range, version: 7, frame_register: 255, spare: [9; 6] };
-                let before = walk;
-                let mut code = sys::Code::default();
-                let answer = sys::pe_c_next_code(start, length, &mut walk, &mut code);
-                assert!(there || (answer == 2 && walk == before && code == sys::Code::default()));
                 let mut out = sys::Range::default();
                 let answer = sys::pe_c_scope_table(start, length, &range, &mut out);
                 assert!(there || (answer == 2 && out == sys::Range::default()));
-                let mut walk = range;
-                let mut scope = sys::Scope::default();
-                let answer = sys::pe_c_next_scope(start, length, &mut walk, &mut scope);
-                assert!(there || (answer == 2 && walk == range));
-                let mut entry = sys::DebugEntry::default();
-                let answer = sys::pe_c_next_debug_entry(start, length, &mut walk, &mut entry);
-                assert!(there || (answer == 2 && walk == range));
-                let mut part = sys::PogoEntry::default();
-                let mut walk = range;
-                let answer = sys::pe_c_next_pogo_entry(start, length, &mut walk, &mut part);
-                assert!(there || (answer == 2 && walk == range));
+            }
+            walk(&bytes, there, range, sys::pe_c_next_debug_entry);
+            walk(&bytes, there, range, sys::pe_c_next_pogo_entry);
+            walk(&bytes, there, range, sys::pe_c_next_scope);
+            walk(&bytes, there, range, sys::pe_c_next_arm64_scope);
+            for version in [0, 1, 2, 255] {
+                let codes = sys::Walk { left: range, version, frame_register: 255, spare: [9; 6] };
+                walk(&bytes, there, codes, sys::pe_c_next_code);
+            }
+            for offset in lies(length as u64) {
                 let mut codes = sys::Arm64Walk::default();
-                for offset in lies(length as u64) {
-                    let answer = sys::pe_c_arm64_codes(start, length, &range, offset, &mut codes);
-                    assert!(there || answer == 2);
-                    let mut walk = sys::Arm64Walk { left: range, offset };
-                    let mut code = sys::Arm64Code::default();
-                    let answer = sys::pe_c_next_arm64_code(start, length, &mut walk, &mut code);
-                    assert!(there || answer == 2);
-                }
+                // SAFETY: as above.
+                let answer = unsafe { sys::pe_c_arm64_codes(start, length, &range, offset, &mut codes) };
+                assert!(there || answer == 2);
+                walk(&bytes, there, sys::Arm64Walk { left: range, offset }, sys::pe_c_next_arm64_code);
             }
         }
     }

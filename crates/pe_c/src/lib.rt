@@ -12,4 +12,5 @@ mod image;
 mod ranges;
 mod texts;
 mod unwinding;
+mod version;
 mod walks;

@@ -1,0 +1,73 @@
+-- The version information of an image, and its manifest.
+use Rattle.std.specs.Prelude.{◌≡◌, ℕ, ◌==◌, Bool, true, false, List, Option, Some, None, Result, Ok, if◌then◌else◌}
+use Rattle.std.specs.Option.{option_map}
+use Rattle.pe_core.specs.Refusals.{Refusal, ◌>>=◌}
+use Rattle.pe_core.specs.declared.options.ParseOptions.{ParseOptions}
+use Rattle.pe_core.specs.declared.section_table.SectionTable.{SectionTable}
+use Rattle.pe_resource.specs.Contents.{bytes_in, inner}
+use Rattle.pe_resource.specs.Resources.{IsResourceRange}
+use Rattle.pe_resource.specs.VersionFields.{fixed_info_of, value_range_in}
+use Rattle.pe_resource.specs.declared.byte_range.ByteRange.{ByteRange}
+use Rattle.pe_resource.specs.declared.version.VersionName.{VersionName}
+use Rattle.pe_resource.specs.declared.version.VersionName.TheVariants as names
+use Rattle.pe_resource.specs.declared.version.VsFixedFileInfo.{VsFixedFileInfo}
+use Rattle.pe_c.specs.declared.image.Image.{Image}
+use Rattle.pe_c.specs.declared.ranges.Range.{Range}
+use Rattle.pe_c.specs.Answers.{AnswersIf}
+use Rattle.pe_c.specs.Images.{is_absent}
+use Rattle.pe_c.specs.Modes.{options_of}
+
+-- where the content of the first resource with an id lies, or what refuses it; an image without a resource directory has none
+abbrev pub IsContentBy : Bool → ParseOptions → List ℕ → Image → List SectionTable → ℕ → Result (Option ByteRange) Refusal → Type 0
+IsContentBy true o b image sections id r = r ≡ Ok None
+IsContentBy false o b image sections id r = IsResourceRange o b image.resources id sections image.file_alignment r
+
+abbrev pub IsContentOf : List ℕ → Image → List SectionTable → ℕ → ℕ → Result (Option ByteRange) Refusal → Type 0
+IsContentOf b image sections mode id r = IsContentBy (is_absent image.resources) (options_of mode) b image sections id r
+
+-- a range as it goes out
+abbrev pub range_of : ByteRange → Range
+range_of r = record { place = r.place; length = r.length }
+
+-- what is told of a manifest: the content of the resource with the id 24
+abbrev pub AnswersManifest : List ℕ → Image → List SectionTable → ℕ → ℕ → Range → Range → Type 0
+AnswersManifest b image sections mode number old new =
+    (c : Result (Option ByteRange) Refusal) × IsContentOf b image sections mode 24 c
+    × AnswersIf number old new (c >>= λ c. Ok (option_map range_of c))
+
+-- the fixed file information in version information that lies there
+abbrev pub fixed_at : List ℕ → Option ByteRange → Result (Option VsFixedFileInfo) Refusal
+fixed_at b None = Ok None
+fixed_at b (Some c) = fixed_info_of (bytes_in b c)
+
+-- what is told of fixed file information: version information is the content of the resource with the id 16
+abbrev pub AnswersFixed : List ℕ → Image → List SectionTable → ℕ → ℕ → VsFixedFileInfo → VsFixedFileInfo → Type 0
+AnswersFixed b image sections mode number old new =
+    (c : Result (Option ByteRange) Refusal) × IsContentOf b image sections mode 16 c × AnswersIf number old new (c >>= fixed_at b)
+
+-- the range of the value of a name in version information that lies there
+abbrev pub value_at : List ℕ → VersionName → Option ByteRange → Result (Option Range) Refusal
+value_at b name None = Ok None
+value_at b name (Some c) = value_range_in name (bytes_in b c) >>= λ r. Ok (option_map (λ r. range_of (inner c r)) r)
+
+-- the twelve names by their numbers
+abbrev pub name_at : ℕ → Option VersionName
+name_at n =
+    if n == 0 then Some names.Comments
+    else (if n == 1 then Some names.CompanyName
+    else (if n == 2 then Some names.FileDescription
+    else (if n == 3 then Some names.FileVersion
+    else (if n == 4 then Some names.InternalName
+    else (if n == 5 then Some names.LegalCopyright
+    else (if n == 6 then Some names.LegalTrademarks
+    else (if n == 7 then Some names.OriginalFilename
+    else (if n == 8 then Some names.PrivateBuild
+    else (if n == 9 then Some names.ProductName
+    else (if n == 10 then Some names.ProductVersion
+    else (if n == 11 then Some names.SpecialBuild else None)))))))))))
+
+-- what is told of the value of a name: no other number names one
+abbrev pub AnswersText : List ℕ → Image → List SectionTable → ℕ → Option VersionName → ℕ → Range → Range → Type 0
+AnswersText b image sections mode None number old new = (number ≡ 100) × (new ≡ old)
+AnswersText b image sections mode (Some name) number old new =
+    (c : Result (Option ByteRange) Refusal) × IsContentOf b image sections mode 16 c × AnswersIf number old new (c >>= value_at b name)

@@ -1,0 +1,152 @@
+//! The version information of an image, and its manifest.
+
+ghost use Rattle.std.specs.Prelude.{◌≡◌, IfOk, IfSome};
+ghost use Rattle.std.specs.Option.{option_map};
+ghost use Rattle.pe_core.specs.Refusals.{answer_by};
+ghost use Rattle.pe_resource.specs.Contents.{IsWithin, inner};
+ghost use Rattle.pe_c.specs.Versions.{IsContentOf, range_of, AnswersManifest, fixed_at, AnswersFixed, value_at, name_at, AnswersText};
+
+use crate::answers::{NOTHING, hand_out_some, number_of, options};
+use crate::image::{Image, is_absent};
+use crate::ranges::Range;
+use pe_core::{Result, SectionTable};
+use pe_resource::{
+    ByteRange, RT_MANIFEST, RT_VERSION, ResourceData, VersionName, VsFixedFileInfo,
+};
+
+/// Where the content of the first resource with an id lies, if the image has resources.
+fn content_of(
+    bytes: &[u8],
+    image: &Image,
+    sections: &[SectionTable],
+    mode: u32,
+    id: u16,
+) -> Result<Option<ByteRange>>
+    ensures content { IsContentOf bytes.now image.now sections.now mode id (answer_by (λ c. c) result) }
+    ensures within { IfOk result (λ c. IfSome c (IsWithin bytes.now)) }
+{
+    let directory = image.resources;
+    if is_absent(directory) {
+        return Ok(None);
+    }
+    let alignment = image.file_alignment;
+    ResourceData::content_range(bytes, directory, id, sections, alignment, &options(mode))
+}
+
+fn range_of(range: ByteRange) -> Range
+    ensures { result ≡ range_of range }
+{
+    Range {
+        place: range.place as u64,
+        length: range.length as u64,
+    }
+}
+
+/// Tells where the manifest lies: `NOTHING` without one. What the version information says doesn't matter.
+#[unsafe(no_mangle)]
+pub extern "C" fn pe_c_manifest(
+    bytes: &[u8],
+    image: &Image,
+    sections: &[SectionTable],
+    mode: u32,
+    out: &mut Range,
+) -> u32
+    ensures { AnswersManifest bytes.now image.now sections.now mode result out.old out.new }
+{
+    match content_of(bytes, image, sections, mode, RT_MANIFEST) {
+        Ok(content) => hand_out_some(Ok(content.map(range_of)), out),
+        Err(error) => number_of(&error),
+    }
+}
+
+/// The fixed file information in version information that lies there.
+fn fixed_at(bytes: &[u8], content: Option<ByteRange>) -> Result<Option<VsFixedFileInfo>>
+    requires { IfSome content (IsWithin bytes.now) }
+    ensures { answer_by (λ f. f) result ≡ fixed_at bytes.now content }
+{
+    match content {
+        None => Ok(None),
+        Some(ByteRange { place, length }) => {
+            VsFixedFileInfo::of_strings(&bytes[place..place + length])
+        }
+    }
+}
+
+/// Reads the fixed file information: `NOTHING` without version information, or where this has none.
+#[unsafe(no_mangle)]
+pub extern "C" fn pe_c_fixed_version(
+    bytes: &[u8],
+    image: &Image,
+    sections: &[SectionTable],
+    mode: u32,
+    out: &mut VsFixedFileInfo,
+) -> u32
+    ensures { AnswersFixed bytes.now image.now sections.now mode result out.old out.new }
+{
+    match content_of(bytes, image, sections, mode, RT_VERSION) {
+        Ok(content) => hand_out_some(fixed_at(bytes, content), out),
+        Err(error) => number_of(&error),
+    }
+}
+
+/// The range of the value of a name in version information that lies there.
+fn value_at(bytes: &[u8], name: VersionName, content: Option<ByteRange>) -> Result<Option<Range>>
+    requires { IfSome content (IsWithin bytes.now) }
+    ensures { answer_by (λ r. r) result ≡ value_at bytes.now name content }
+{
+    match content {
+        None => Ok(None),
+        Some(ByteRange { place, length }) => {
+            match name.value_range(&bytes[place..place + length])? {
+                None => Ok(None),
+                Some(value) => Ok(Some(Range {
+                    place: place as u64 + value.place as u64,
+                    length: value.length as u64,
+                })),
+            }
+        }
+    }
+}
+
+/// The name with a number.
+fn name_at(number: u32) -> Option<VersionName>
+    ensures { result ≡ name_at number }
+{
+    match number {
+        0 => Some(VersionName::Comments),
+        1 => Some(VersionName::CompanyName),
+        2 => Some(VersionName::FileDescription),
+        3 => Some(VersionName::FileVersion),
+        4 => Some(VersionName::InternalName),
+        5 => Some(VersionName::LegalCopyright),
+        6 => Some(VersionName::LegalTrademarks),
+        7 => Some(VersionName::OriginalFilename),
+        8 => Some(VersionName::PrivateBuild),
+        9 => Some(VersionName::ProductName),
+        10 => Some(VersionName::ProductVersion),
+        11 => Some(VersionName::SpecialBuild),
+        _ => None,
+    }
+}
+
+/// Tells where the value of a name lies, by the name's number: units of UTF-16, with the zeros behind it. `NOTHING` without
+/// version information, where this has no string of that name, and for a number above 11.
+#[unsafe(no_mangle)]
+pub extern "C" fn pe_c_version_text(
+    bytes: &[u8],
+    image: &Image,
+    sections: &[SectionTable],
+    mode: u32,
+    name: u32,
+    out: &mut Range,
+) -> u32
+    ensures { AnswersText bytes.now image.now sections.now mode (name_at name) result out.old out.new }
+{
+    let Some(name) = name_at(name) else {
+        return NOTHING;
+    };
+    match content_of(bytes, image, sections, mode, RT_VERSION) {
+        Ok(content) => hand_out_some(value_at(bytes, name, content), out),
+        Err(error) => number_of(&error),
+    }
+}
