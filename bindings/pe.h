@@ -502,9 +502,10 @@ uint32_t pe_c_next_import(const uint8_t *bytes, size_t length, const pe_c_image_
 
 /* ---- version and manifest
  *
- * The calls read all resources that they tell of, version information and manifest, and answer the first refusal:
- * PE_C_UNMAPPED, PE_C_SHORT, PE_C_RESOURCE_BOUNDS, PE_C_RESOURCE_CYCLE, PE_C_RESOURCE_STRING. PE_C_NOTHING where there is
- * nothing of the kind. */
+ * Version information is the content of the first resource of the kind 16, a manifest that of the kind 24. Each call answers
+ * the refusals of the resource directory and of its own content alone: PE_C_UNMAPPED, PE_C_SHORT, PE_C_RESOURCE_BOUNDS,
+ * PE_C_RESOURCE_CYCLE; those of version information PE_C_RESOURCE_STRING, too. PE_C_NOTHING where there is nothing of the
+ * kind. */
 
 typedef struct {
     uint32_t signature, struct_version;     /* 0xFEEF04BD */
@@ -539,7 +540,7 @@ uint32_t pe_c_fixed_version(const uint8_t *bytes, size_t length, const pe_c_imag
 uint32_t pe_c_version_text(const uint8_t *bytes, size_t length, const pe_c_image_info *image,
                            const pe_c_section *sections, size_t count, uint32_t mode, uint32_t name, pe_c_range *out);
 
-/* Gives the range of the manifest. */
+/* Gives the range of the manifest, a text in XML. */
 uint32_t pe_c_manifest(const uint8_t *bytes, size_t length, const pe_c_image_info *image,
                        const pe_c_section *sections, size_t count, uint32_t mode, pe_c_range *out);
 

@@ -152,11 +152,21 @@ static uint32_t try_certificates(const image *it, pe_c_range *out)
     return ended(answer);
 }
 
+/* Version information and manifest. */
+static uint32_t try_resources(const image *it)
+{
+    pe_c_version version = PE_C_EMPTY;
+    pe_c_range manifest = PE_C_EMPTY;
+    uint32_t answer = pe_c_fixed_version(IMAGE(it), &version);
+    if (answer != PE_C_DONE && answer != PE_C_NOTHING)
+        return answer;
+    return pe_c_manifest(IMAGE(it), &manifest);
+}
+
 /* All that `peinfo list` reads, in its order. */
 static uint32_t read_directories(const image *it, directories *out)
 {
-    pe_c_version version = PE_C_EMPTY;
-    int has_version = 0;
+    int has_resources = 0;
     uint32_t answer = try_imports(it);
     if (answer == PE_C_DONE)
         answer = keep(it, try_debug(it, &out->debug), &out->has_debug);
@@ -167,7 +177,7 @@ static uint32_t read_directories(const image *it, directories *out)
     if (answer == PE_C_DONE)
         answer = keep(it, try_certificates(it, &out->certificates), &out->has_certificates);
     if (answer == PE_C_DONE)
-        answer = keep(it, pe_c_fixed_version(IMAGE(it), &version), &has_version);
+        answer = keep(it, try_resources(it), &has_resources);
     return answer;
 }
 

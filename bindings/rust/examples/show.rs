@@ -264,6 +264,9 @@ fn whole_text(text: Text) -> Option<String> {
 
 fn show_resources(image: &Image) {
     println!("machine {:04x}", image.info().machine);
+    if image.version().is_err() || image.manifest().is_err() {
+        return;
+    }
     if let Some(it) = there(image.version()) {
         println!(
             "fixed {} {} {} {} {} {} {} {} {} {} {} {} {}",
@@ -321,6 +324,7 @@ fn refusal(image: &Image) -> Result<(), Error> {
     image.arm64_functions()?;
     image.certificates().try_for_each(|certificate| certificate.map(|_| ()))?;
     image.version()?;
+    image.manifest()?;
     Ok(())
 }
 

@@ -88,8 +88,9 @@ impl fmt::Display for Text<'_> {
     }
 }
 
-/// Version information and manifest. Each call reads both, and is refused as the first that is: [`Error::UNMAPPED`],
-/// [`Error::SHORT`], [`Error::RESOURCE_BOUNDS`], [`Error::RESOURCE_CYCLE`], [`Error::RESOURCE_STRING`].
+/// Version information and manifest. Each call has the refusals of the resource directory and of its own content alone:
+/// [`Error::UNMAPPED`], [`Error::SHORT`], [`Error::RESOURCE_BOUNDS`], [`Error::RESOURCE_CYCLE`]; of version information
+/// [`Error::RESOURCE_STRING`], too.
 impl<'a> Image<'a> {
     /// The fixed file information.
     pub fn version(&self) -> Result<Option<FixedVersion>, Error> {
