@@ -5,5 +5,5 @@ pub mod Modes
 pub mod Ranges
 pub mod Texts
 pub mod Unwinding
-pub mod Walks
 pub mod Versions
+pub mod Walks
