@@ -1,4 +1,5 @@
 pub mod Answers
+pub mod Arm64
 pub mod Debug
 pub mod Images
 pub mod Modes

@@ -21,8 +21,7 @@ use Rattle.pe_unwind.specs.declared.unwind_code.UnwindOperation.{UnwindOperation
 use Rattle.pe_unwind.specs.declared.unwind_code.UnwindOperation.TheVariants.{PushNonVolatile, Alloc, SetFPRegister, SaveNonVolatile, SaveXMM, Epilog, SaveXMM128, PushMachineFrame, Noop}
 use Rattle.pe_c.specs.Answers.{Answers, AnswersIf}
 use Rattle.pe_c.specs.Modes.{options_of}
-use Rattle.pe_c.specs.Ranges.{bytes_at}
-use Rattle.pe_c.specs.Walks.{over}
+use Rattle.pe_c.specs.Ranges.{no_bytes, last_range, bytes_at}
 use Rattle.pe_c.specs.declared.image.Image.{Image}
 use Rattle.pe_c.specs.declared.ranges.Range.{Range}
 use Rattle.pe_c.specs.declared.unwinding.Code.{Code}
@@ -77,12 +76,8 @@ handler_address None = 0
 handler_address (Some (Exception address d)) = address
 handler_address (Some (Termination address d)) = address
 
--- the range of bytes that are the last of these
-abbrev pub last_range : List ℕ → List ℕ → Range
-last_range b part = record { place = length b - length part; length = length part }
-
 abbrev pub handler_range : List ℕ → Option HandlerView → Range
-handler_range b None = over
+handler_range b None = no_bytes
 handler_range b (Some h) = last_range b (data_of h)
 
 abbrev pub six_zeros : List ℕ
@@ -181,7 +176,7 @@ abbrev pub WalksIn : Result (List ℕ) Refusal → CodeWalk → Option (Result U
 WalksIn (Ok bytes) old answer new = StepsOver bytes old answer new
 WalksIn (Err refusal) old None new = ⊥
 WalksIn (Err refusal) old (Some (Ok code)) new = ⊥
-WalksIn (Err refusal) old (Some (Err e)) new = (kind_of e ≡ refusal) × (new ≡ record old { left = over })
+WalksIn (Err refusal) old (Some (Err e)) new = (kind_of e ≡ refusal) × (new ≡ record old { left = no_bytes })
 
 abbrev pub flat_answer : Option (Result UnwindCode Error) → Result (Option Code) Refusal
 flat_answer None = Ok None

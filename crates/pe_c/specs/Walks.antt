@@ -1,17 +1,10 @@
 -- Walks over entries of one width: a range of what is left, which each step makes shorter.
-use Rattle.std.specs.Prelude.{ℕ, ◌+◌, ◌-◌, ◌==◌, nat_lt, List, Option, Some, None, Result, Ok, Err, if◌then◌else◌}
+use Rattle.std.specs.Prelude.{ℕ, ◌==◌, nat_lt, List, Option, Some, None, Result, Ok, Err, if◌then◌else◌}
 use Rattle.std.specs.Option.{option_map}
 use Rattle.pe_core.specs.Bytes.{holds, range}
 use Rattle.pe_core.specs.Refusals.{Refusal, Short, ◌>>=◌}
+use Rattle.pe_c.specs.Ranges.{no_bytes, behind}
 use Rattle.pe_c.specs.declared.ranges.Range.{Range}
-
--- a range without its first bytes
-abbrev pub behind : Range → ℕ → Range
-behind r n = record { place = r.place + n; length = r.length - n }
-
--- a walk that is over
-abbrev pub over : Range
-over = record { place = 0; length = 0 }
 
 -- the bytes that a walk has left, if some are: they begin with its next entry. `Short` where that is cut, or where the range
 -- does not lie in the bytes
@@ -29,7 +22,7 @@ next_of entry_at width b r = left_entry width b r >>= λ left. Ok (option_map (�
 abbrev pub walk_behind : ℕ → Result (Option (List ℕ)) Refusal → Range → Range
 walk_behind width (Ok None) r = r
 walk_behind width (Ok (Some left)) r = behind r width
-walk_behind width (Err refusal) r = over
+walk_behind width (Err refusal) r = no_bytes
 
 abbrev pub walk_of : ℕ → List ℕ → Range → Range
 walk_of width b r = walk_behind width (left_entry width b r) r

@@ -7,6 +7,7 @@
 #![tactic(auto)]
 
 mod answers;
+mod arm64;
 mod debug;
 mod image;
 mod ranges;

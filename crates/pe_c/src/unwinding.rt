@@ -13,7 +13,7 @@ ghost use Rattle.pe_c.specs.Walks.{next_of, walk_of};
 
 use crate::answers::{DONE, NOTHING, hand_out, hand_out_some, number_of, options};
 use crate::image::Image;
-use crate::ranges::{NO_BYTES, Range, slice_of};
+use crate::ranges::{NO_BYTES, Range, last_range, slice_of};
 use crate::walks::next_entry;
 use pe_core::{CountedTable, Result, SectionTable};
 use pe_unwind::{
@@ -190,18 +190,6 @@ fn chained_of(info: &UnwindInfo) -> (u32, RuntimeFunction)
     match info.chained_info {
         Some(function) => (1, function),
         None => (0, NO_FUNCTION),
-    }
-}
-
-/// The end of so many bytes, as a range.
-pub fn last_range(total: usize, length: usize) -> Range
-    requires { length ≤ total }
-    ensures place { result.place + length ≡ total }
-    ensures length { result.length ≡ length }
-{
-    Range {
-        place: (total - length) as u64,
-        length: length as u64,
     }
 }
 
