@@ -393,7 +393,7 @@ typedef struct {
 typedef struct {
     uint32_t start_offset;          /* bytes, from the function's begin */
     uint32_t start_index;           /* the index of its first code byte */
-    uint32_t reserved;
+    uint32_t reserved;              /* the four bits between them */
     uint32_t word;                  /* the whole entry */
 } pe_c_arm64_scope;
 
@@ -402,14 +402,46 @@ typedef struct {
     uint64_t offset;                /* where they begin, counted from the beginning of the stream */
 } pe_c_arm64_walk;
 
+/* Integer registers are counted from x0, floating-point registers from d0. A preindexed store moves the stack pointer down
+ * by `value` first. A pair is the register and the one behind it, or the link register. */
+enum {
+    PE_C_ARM64_ALLOC_SMALL = 0,     /* made room for `value` bytes on the stack */
+    PE_C_ARM64_SAVE_R19_R20_PREINDEXED = 1,
+    PE_C_ARM64_SAVE_FP_LR = 2,      /* saved x29 and the link register at `value`; so on below, the register `operand` */
+    PE_C_ARM64_SAVE_FP_LR_PREINDEXED = 3,
+    PE_C_ARM64_ALLOC_MEDIUM = 4,
+    PE_C_ARM64_SAVE_REG_PAIR = 5,
+    PE_C_ARM64_SAVE_REG_PAIR_PREINDEXED = 6,
+    PE_C_ARM64_SAVE_REG = 7,
+    PE_C_ARM64_SAVE_REG_PREINDEXED = 8,
+    PE_C_ARM64_SAVE_LR_PAIR = 9,
+    PE_C_ARM64_SAVE_FREG_PAIR = 10,
+    PE_C_ARM64_SAVE_FREG_PAIR_PREINDEXED = 11,
+    PE_C_ARM64_SAVE_FREG = 12,
+    PE_C_ARM64_SAVE_FREG_PREINDEXED = 13,
+    PE_C_ARM64_ALLOC_Z = 14,        /* made room for `operand` scalable vectors */
+    PE_C_ARM64_ALLOC_LARGE = 15,
+    PE_C_ARM64_SET_FP = 16,         /* set x29 to the stack pointer */
+    PE_C_ARM64_ADD_FP = 17,         /* set x29 to `value` bytes above the stack pointer */
+    PE_C_ARM64_NOP = 18,
+    PE_C_ARM64_END = 19,
+    PE_C_ARM64_END_C = 20,
+    PE_C_ARM64_SAVE_NEXT = 21,      /* saved the pair behind the pair of the instruction before it, whose code is next */
+    PE_C_ARM64_SAVE_ANY_REG = 22,   /* `flags`: bit 0 pair, bit 1 preindexed, bits 2 and 3 the kind: 0 x, 1 d, 2 q */
+    PE_C_ARM64_SAVE_ZREG = 23,      /* the numbers of register and offset as the code has them */
+    PE_C_ARM64_SAVE_PREG = 24,
+    PE_C_ARM64_CUSTOM_STACK = 25,   /* 0 trap frame, 1 machine frame, 2 context, 3 of ARM64EC, 4 clear unwound to call */
+    PE_C_ARM64_PAC_SIGN_LR = 26,
+    PE_C_ARM64_RESERVED = 27        /* `operand` the first byte, `value` the number in the bytes behind it */
+};
+
 typedef struct {
     uint32_t offset;                /* where the code begins, counted from the beginning of the stream */
     uint32_t length;                /* its bytes, 1 to 5 */
     uint32_t kind;                  /* PE_C_ARM64_ALLOC_SMALL .. PE_C_ARM64_RESERVED */
     uint32_t operand;               /* register, count, case or first operand; else 0 */
-    uint32_t value;                 /* bytes; else 0 */
-    uint32_t flags;                 /* of PE_C_ARM64_SAVE_ANY_REG: bit 0 pair, bit 1 preindexed, bits 2 and 3 the kind
-                                     * of register: 0 x, 1 d, 2 q */
+    uint32_t value;                 /* bytes, or the other operand; else 0 */
+    uint32_t flags;                 /* of PE_C_ARM64_SAVE_ANY_REG; else 0 */
 } pe_c_arm64_code;
 
 PE_C_SIZE(pe_c_arm64_function, 8);
@@ -431,8 +463,8 @@ uint32_t pe_c_arm64_function_at(const uint8_t *bytes, size_t length, const pe_c_
 /* Gives the fields of unwind data that are packed into an entry. It is never refused. */
 uint32_t pe_c_arm64_packed_fields(const pe_c_arm64_function *function, pe_c_arm64_packed *out);
 
-/* Gives the unwind record of a function. PE_C_NOTHING where its unwind data are packed; PE_C_UNMAPPED, PE_C_SHORT,
- * PE_C_ARM64_VERSION. */
+/* Gives the unwind record of a function. PE_C_NOTHING where its unwind data are packed; the refusals of the table;
+ * PE_C_UNMAPPED, PE_C_SHORT, PE_C_ARM64_VERSION. */
 uint32_t pe_c_arm64_unwind_record(const uint8_t *bytes, size_t length, const pe_c_image_info *image,
                                   const pe_c_section *sections, size_t count, uint32_t mode,
                                   const pe_c_arm64_function *function, pe_c_arm64_record *out);
@@ -446,8 +478,8 @@ uint32_t pe_c_next_arm64_scope(const uint8_t *bytes, size_t length, pe_c_range *
 uint32_t pe_c_arm64_codes(const uint8_t *bytes, size_t length, const pe_c_range *codes, uint64_t start,
                           pe_c_arm64_walk *out);
 
-/* Gives the next code. Walks do not stop at the codes end and end_c, since the codes of epilogs stand behind them.
- * PE_C_ARM64_CUT for a code that is cut. */
+/* Gives the next code. Walks do not stop at PE_C_ARM64_END and PE_C_ARM64_END_C, since the codes of epilogs stand behind
+ * them. PE_C_ARM64_CUT for a code that is cut; PE_C_ARM64_STREAM for a walk of no stream. */
 uint32_t pe_c_next_arm64_code(const uint8_t *bytes, size_t length, pe_c_arm64_walk *walk, pe_c_arm64_code *out);
 
 /* ---- exports and imports */
