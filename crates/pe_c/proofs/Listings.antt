@@ -7,7 +7,7 @@ use Rattle.pe_records.proofs.CertificateListings.{next_above}
 use Rattle.pe_records.specs.Certificates.{CertificateView, certificate_at, certificates_from, certificates_at}
 use Rattle.pe_c.specs.declared.ranges.Range.{Range}
 use Rattle.pe_c.specs.Certificates.{listed, walk_from, StepsList}
-use Rattle.pe_c.specs.Walks.{over}
+use Rattle.pe_c.specs.Ranges.{no_bytes}
 
 yes : (m n : ℕ) → m < n → nat_lt m n ≡ true
 yes m n h = grind (arith, nat_tests)
@@ -52,7 +52,7 @@ unfolding certificates_at
 at_range b p n h = rw (inside (p + n) (length b) h) refl
 
 behind : (b : List ℕ) (w : Range) (k next : ℕ) (t : Bool) → nat_lt next (w.place + w.length) ≡ t → w.place + w.length ≤ length b → w.place + w.length ≤ next + k →
-    certificates_from b (w.place + w.length) k next ≡ listed b (cond t (record { place = next; length = w.place + w.length - next }) (over w))
+    certificates_from b (w.place + w.length) k next ≡ listed b (cond t (record { place = next; length = w.place + w.length - next }) no_bytes)
 behind b w k next true e h i =
     let before : next < w.place + w.length = grind (arith, nat_tests) in
     let same : next + (w.place + w.length - next) ≡ w.place + w.length = omega arith in
@@ -60,7 +60,7 @@ behind b w k next true e h i =
     ∙ ap (λ (end : ℕ). certificates_from b end (w.place + w.length - next) next) (sym same)
     ∙ sym (at_range b next (w.place + w.length - next) (omega arith))
 behind b w k next false e h i =
-    none_from b (w.place + w.length) k next (grind (arith, nat_tests)) ∙ sym (none_from b (w.place + 0) 0 w.place (omega arith)) ∙ sym (at_range b w.place 0 (omega arith))
+    none_from b (w.place + w.length) k next (grind (arith, nat_tests)) ∙ sym (none_from b (0 + 0) 0 0 (omega arith)) ∙ sym (at_range b 0 0 (omega arith))
 
 first_listed : (b : List ℕ) (w : Range) (n : ℕ) → w.length ≡ suc n → w.place + w.length ≤ length b → listed b w ≡ first_and (λ next. listed b (walk_from w next)) (certificate_at b w.place)
 first_listed b w n e h =

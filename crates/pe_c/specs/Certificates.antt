@@ -5,7 +5,7 @@ use Rattle.pe_core.specs.Refusals.{Refusal, CertificateTable, ◌>>=◌}
 use Rattle.pe_records.specs.Certificates.{CertificateView, certificate_at, certificates_at, revision_number, type_number}
 use Rattle.pe_c.specs.declared.certificates.Certificate.{Certificate}
 use Rattle.pe_c.specs.declared.ranges.Range.{Range}
-use Rattle.pe_c.specs.Walks.{over}
+use Rattle.pe_c.specs.Ranges.{no_bytes}
 
 -- the certificate at p: its body stands behind the eight bytes of its header
 abbrev pub told_at : ℕ → CertificateView → Certificate
@@ -18,17 +18,17 @@ told_at p c = record {
 
 -- the walk from a place on: over unless the place is before its end
 abbrev pub walk_from : Range → ℕ → Range
-walk_from w next = if nat_lt next (w.place + w.length) then record { place = next; length = w.place + w.length - next } else over w
+walk_from w next = if nat_lt next (w.place + w.length) then record { place = next; length = w.place + w.length - next } else no_bytes
 
 abbrev pub step_by : Range → Result (CertificateView × ℕ) Refusal → Result (Option Certificate) Refusal × Range
 step_by w (Ok c) = (Ok (Some (told_at w.place c.0)), walk_from w c.1)
-step_by w (Err refusal) = (Err refusal, over w)
+step_by w (Err refusal) = (Err refusal, no_bytes)
 
 -- what a step answers, and the walk behind it: the certificate at its place, and behind it from the next place on
 unfoldable pub step : List ℕ → Range → Result (Option Certificate) Refusal × Range
 step b w =
     if w.length == 0 then (Ok None, w)
-    else (if holds b w.place w.length then step_by w (certificate_at b w.place) else (Err CertificateTable, over w))
+    else (if holds b w.place w.length then step_by w (certificate_at b w.place) else (Err CertificateTable, no_bytes))
 
 -- the certificates of the table at a walk
 abbrev pub listed : List ℕ → Range → Result (List CertificateView) Refusal

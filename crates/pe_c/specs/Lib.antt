@@ -1,4 +1,5 @@
 pub mod Answers
+pub mod Arm64
 pub mod Certificates
 pub mod Debug
 pub mod DebugWalks
@@ -7,4 +8,5 @@ pub mod Modes
 pub mod Parts
 pub mod Ranges
 pub mod Texts
+pub mod Unwinding
 pub mod Walks

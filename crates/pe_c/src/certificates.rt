@@ -7,7 +7,7 @@ ghost use Rattle.pe_c.specs.Answers.{AnswersIf};
 ghost use Rattle.pe_c.specs.Certificates.{step, told_at, walk_from};
 
 use crate::answers::hand_out_some;
-use crate::ranges::{Range, slice_of};
+use crate::ranges::{NO_BYTES, Range, slice_of};
 use pe_core::{Error, Reason, Result};
 use pe_records::AttributeCertificate;
 
@@ -52,7 +52,7 @@ fn walk_from(walk: Range, next: u64) -> Range
             length: end - next,
         }
     } else {
-        Range { length: 0, ..walk }
+        NO_BYTES
     }
 }
 
@@ -64,10 +64,12 @@ fn step(bytes: &[u8], walk: Range) -> (Result<Option<Certificate>>, Range)
     if walk.length == 0 {
         return (Ok(None), walk);
     }
-    let over = Range { length: 0, ..walk };
     if slice_of(bytes, &walk).is_err() {
         let end = walk.place.saturating_add(walk.length);
-        return (Err(Error::Malformed(Reason::CertificateTable(end))), over);
+        return (
+            Err(Error::Malformed(Reason::CertificateTable(end))),
+            NO_BYTES,
+        );
     }
     let mut offset = walk.place as usize;
     match AttributeCertificate::parse(bytes, &mut offset) {
@@ -75,7 +77,7 @@ fn step(bytes: &[u8], walk: Range) -> (Result<Option<Certificate>>, Range)
             let told = told_at(walk.place, &certificate);
             (Ok(Some(told)), walk_from(walk, offset as u64))
         }
-        Err(error) => (Err(error), over),
+        Err(error) => (Err(error), NO_BYTES),
     }
 }
 

@@ -1,14 +1,15 @@
 //! Walks over debug entries, and over the entries of a POGO record.
 
-ghost use Rattle.std.specs.Prelude.{◌≡◌, ◌<◌, ◌≤◌, ◌^◌, drop, length};
-ghost use Rattle.pe_records.specs.DebugDirectory.{GivesEntry};
-ghost use Rattle.pe_records.specs.Pogo.{GivesPogoEntry};
-ghost use Rattle.pe_c.specs.DebugWalks.{AnswersEntry, AnswersPogoEntry, IsNamed, pogo_entry};
-ghost use Rattle.pe_c.specs.Walks.{Walks};
+ghost use Rattle.std.specs.Prelude.{◌≡◌, ◌+◌, ◌≤◌, ◌^◌, length, Ok};
+ghost use Rattle.pe_core.specs.Refusals.{answer_by};
+ghost use Rattle.pe_records.specs.DebugDirectory.{entry_at};
+ghost use Rattle.pe_c.specs.Answers.{AnswersIf};
+ghost use Rattle.pe_c.specs.DebugWalks.{AnswersPogoEntry, IsNamed, Steps, StepsOver, pogo_entry};
+ghost use Rattle.pe_c.specs.Walks.{next_of, walk_of};
 
-use crate::answers::{DONE, NOTHING, number_of};
-use crate::ranges::Range;
-use crate::walks::{hand_out_step, left_of, move_behind};
+use crate::answers::{DONE, NOTHING, hand_out_some, number_of};
+use crate::ranges::{NO_BYTES, Range, slice_of};
+use crate::walks::next_entry;
 use pe_core::{Result, rounded_up};
 use pe_records::{
     IMAGE_DEBUG_DIRECTORY_SIZE, ImageDebugDirectory, ImageDebugDirectoryIterator,
@@ -27,70 +28,75 @@ pub struct PogoEntry {
     pub size: u32,
 }
 
-/// What the bytes begin with, and how many of them it takes.
-#[tactic(auto, using(crate::proofs::Steps::first_of))]
-fn first_entry(left: &[u8]) -> (Option<Result<ImageDebugDirectory>>, usize)
-    requires { 0 < length left.now }
-    ensures entry { GivesEntry 0 left.now result.0 (drop result.1 left.now) }
-    ensures inside { result.1 ≤ length left.now }
+/// The entry that the bytes begin with.
+#[tactic(auto, using(crate::proofs::Steps::first_entry))]
+fn first_entry(left: &[u8]) -> ImageDebugDirectory
+    requires { 28 ≤ length left.now }
+    ensures { result ≡ entry_at 0 left.now 0 }
 {
-    let entry = ImageDebugDirectoryIterator::new(left, 0).next();
-    (entry, left.len().min(IMAGE_DEBUG_DIRECTORY_SIZE))
-}
-
-#[tactic(auto, using(crate::proofs::Steps::steps))]
-fn next_entry(bytes: &[u8], walk: &mut Range) -> Option<Result<ImageDebugDirectory>>
-    ensures { Walks (GivesEntry 0) bytes.now walk.old result walk.new }
-{
-    match left_of(bytes, walk) {
-        None => None,
-        Some(Err(error)) => Some(Err(error)),
-        Some(Ok(left)) => {
-            let (entry, taken) = first_entry(left);
-            move_behind(walk, taken);
-            entry
-        }
+    match ImageDebugDirectoryIterator::new(left, 0).next() {
+        Some(Ok(entry)) => entry,
+        _ => unreachable!(),
     }
 }
 
-/// Reads the next entry of a debug directory's table: `NOTHING` at its end; `SHORT` where the entry is cut, or the bytes
-/// have no such range, and then the walk is over.
+fn next_debug_entry(bytes: &[u8], walk: &mut Range) -> Result<Option<ImageDebugDirectory>>
+    ensures entry { answer_by (λ x. x) result ≡ next_of (entry_at 0) 28 bytes.now walk.old }
+    ensures walk { walk.new ≡ walk_of 28 bytes.now walk.old }
+{
+    match next_entry(bytes, walk, IMAGE_DEBUG_DIRECTORY_SIZE) {
+        Ok(Some(left)) => Ok(Some(first_entry(left))),
+        Ok(None) => Ok(None),
+        Err(error) => Err(error),
+    }
+}
+
+/// Reads the next entry of a debug directory's table: `NOTHING` at its end. `SHORT` where the entry is cut or the bytes
+/// have no such range: behind it the walk is over.
 #[unsafe(no_mangle)]
 pub extern "C" fn pe_c_next_debug_entry(
     bytes: &[u8],
     walk: &mut Range,
     out: &mut ImageDebugDirectory,
 ) -> u32
-    ensures { AnswersEntry bytes.now walk.old walk.new result out.old out.new }
+    ensures entry { AnswersIf result out.old out.new (next_of (entry_at 0) 28 bytes.now walk.old) }
+    ensures walk { walk.new ≡ walk_of 28 bytes.now walk.old }
 {
-    hand_out_step(next_entry(bytes, walk), out)
+    hand_out_some(next_debug_entry(bytes, walk), out)
 }
 
-/// What the bytes begin with, and how many of them it takes.
-fn first_pogo_entry<'a>(left: &'a [u8]) -> (Option<Result<POGOInfoEntry<'a>>>, usize)
-    ensures entry { GivesPogoEntry left.entry.now result.0 (drop result.1 left.entry.now) }
-    ensures inside { result.1 ≤ length left.entry.now }
+/// One step over the bytes that a walk has left.
+#[tactic(auto, using(crate::proofs::Steps::taken))]
+fn step<'a>(left: &'a [u8], walk: &mut Range) -> Option<Result<POGOInfoEntry<'a>>>
+    requires inside { walk.old.place + walk.old.length ≤ 2 ^ 63 }
+    requires length { walk.old.length ≡ length left.now }
+    ensures { StepsOver (Ok left.entry.now) walk.old result walk.new }
 {
     let entry = POGOEntryIterator::new(left).next();
-    let taken = match &entry {
-        Some(Ok(entry)) => rounded_up(8 + entry.name.len(), 4),
-        _ => left.len(),
-    };
-    (entry, taken)
+    match &entry {
+        None => (),
+        Some(Ok(entry)) => {
+            let taken = rounded_up(8 + entry.name.len(), 4) as u64;
+            *walk = Range {
+                place: walk.place + taken,
+                length: walk.length - taken,
+            };
+        }
+        Some(Err(_)) => *walk = NO_BYTES,
+    }
+    entry
 }
 
-#[tactic(auto, using(crate::proofs::Steps::steps, crate::proofs::Steps::named))]
+#[tactic(auto, using(crate::proofs::Steps::named))]
 fn next_pogo_entry<'a>(bytes: &'a [u8], walk: &mut Range) -> Option<Result<POGOInfoEntry<'a>>>
-    ensures walk { Walks GivesPogoEntry bytes.entry.now walk.old result walk.new }
+    ensures step { Steps bytes.entry.now walk.old result walk.new }
     ensures name { IsNamed bytes.entry.now walk.old result }
 {
-    match left_of(bytes, walk) {
-        None => None,
-        Some(Err(error)) => Some(Err(error)),
-        Some(Ok(left)) => {
-            let (entry, taken) = first_pogo_entry(left);
-            move_behind(walk, taken);
-            entry
+    match slice_of(bytes, walk) {
+        Ok(left) => step(left, walk),
+        Err(error) => {
+            *walk = NO_BYTES;
+            Some(Err(error))
         }
     }
 }

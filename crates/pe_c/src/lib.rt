@@ -7,6 +7,7 @@
 #![tactic(auto)]
 
 mod answers;
+mod arm64;
 mod certificates;
 mod debug;
 mod debug_walks;
@@ -14,4 +15,5 @@ mod image;
 pub mod laws;
 mod ranges;
 mod texts;
+mod unwinding;
 mod walks;

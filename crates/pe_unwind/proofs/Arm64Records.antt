@@ -10,6 +10,8 @@ use Rattle.std.proofs.lemmas.Bool.{eqb-true}
 use Rattle.pe_core.specs.Refusals.{Refusal, Short, Arm64Version, outcome}
 use Rattle.pe_unwind.specs.Arm64Record.{Arm64HandlerView, Arm64InfoView, extension_size, extension_at, scope_count, code_words, handler_size, handler_at, scopes_place, codes_place, handler_place, record_size, info_with, info_tests, info_at, size_at, word_bytes, AreRecord}
 use Rattle.pe_unwind.specs.Arm64Words.{bits, has_handler, has_extension}
+use Rattle.pe_unwind.specs.Places.{StandAt, StandLast, Arm64PartsStand}
+use Rattle.pe_unwind.proofs.Places.{range_stands, tail_stands}
 
 -- what is given passed its tests
 passed : {Y : Type 0} (s t u v w x : Bool) (i j k l m n : Refusal) (y o : Y) →
@@ -165,3 +167,24 @@ behind_record b p i given =
     let sum : q + handler_size header ≡ p + record_size header extension = end p (extension_size header) (4 * scope_count header extension) (4 * code_words header extension) (handler_size header) in
     subst (λ (j : Arm64InfoView). IfSome j.handler (λ h. h.bytes ≡ drop (p + record_size j.header j.extension) b)) g.value
     (subst (λ (k : ℕ). IfSome (handler_at b q header) (λ h. h.bytes ≡ drop k b)) sum (data_behind (has_handler header) b q))
+
+-- and its parts are ranges of the bytes
+data_stands : (t : Bool) (b : List ℕ) (q : ℕ) → IfSome (handler_if t b q) (λ h. StandLast b h.bytes)
+data_stands true b q = tail_stands b (q + 4)
+data_stands false b q = tt
+
+pub parts_stand : (b : List ℕ) (p : ℕ) (i : Arm64InfoView) → info_at b p ≡ Ok i → Arm64PartsStand b p i
+unfolding info_at
+parts_stand b p i given =
+    let header : ℕ = le b p 4 in
+    let extension : Option ℕ = extension_at b (p + 4) header in
+    let g = facts b p header extension i given in
+    let s : ℕ = 4 * scope_count header extension in
+    let count : length (range b (scopes_place p header) s) ≡ s = length_range b (scopes_place p header) s g.scopes in
+    let codes : StandAt b (codes_place p header extension) (range b (codes_place p header extension) (4 * code_words header extension)) =
+    range_stands b (codes_place p header extension) (4 * code_words header extension) g.codes in
+    subst (λ (j : Arm64InfoView). Arm64PartsStand b p j) g.value record {
+      scopes = range_stands b (scopes_place p header) s g.scopes;
+      codes = rw count codes;
+      tail = data_stands (has_handler header) b (handler_place p header extension);
+    }

@@ -117,6 +117,10 @@ unwind_tests b p =
 abbrev pub code_stream : UnwindInfoView → CodeStream
 code_stream i = record { content = i.codes; version = i.version; frame = (i.frame_register).0 }
 
+-- how many bytes of entries stand behind the count of the scope table in a handler's data, if they are there
+abbrev pub scope_table_size : List ℕ → Option ℕ
+scope_table_size d = if holds d 0 4 then (if holds d 4 (16 * le d 0 4) then Some (16 * le d 0 4) else None) else None
+
 -- the scope table in a handler's data: a count, and that many entries
 unfoldable pub scope_table_at : List ℕ → Option (List ScopeTableEntry)
 scope_table_at d =

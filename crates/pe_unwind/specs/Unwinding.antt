@@ -1,6 +1,7 @@
 -- From an address to the unwind record of the function that covers it.
 use Rattle.std.specs.Prelude.{◌≡◌, ◌↔◌, IsSomeAnd, ℕ, List, Option, Some, None, Result, Ok, Err}
 use Rattle.pe_core.specs.Refusals.{Refusal, Unmapped, FunctionCycle, outcome, ◌>>=◌}
+use Rattle.pe_core.specs.SectionMap.{mapped}
 use Rattle.pe_core.specs.declared.options.ParseOptions.{ParseOptions}
 use Rattle.pe_core.specs.declared.section_table.SectionTable.{SectionTable}
 use Rattle.pe_unwind.specs.declared.function_table.RuntimeFunction.{RuntimeFunction}
@@ -17,6 +18,11 @@ record_at_place b (Some p) = outcome (unwind_tests b p) (unwind_record b p)
 -- the unwind record at an address
 abbrev pub record_at_address : Table → List ℕ → ℕ → Result UnwindInfoView Refusal
 record_at_address t b a = record_at_place b (t.place a)
+
+-- what asking for the place of the record of an unwind address answers: that of the address at the end of its chain, or the
+-- chain's refusal
+abbrev pub FindsRecord : Table → ℕ → Result ℕ Refusal → Type 0
+FindsRecord t u answer = (end : Result ℕ Refusal) × Follows t u end × (answer ≡ (end >>= λ a. mapped (t.place a)))
 
 -- what asking for the record of an unwind address answers: the record at the end of its chain, or the chain's refusal
 abbrev pub Unwinds : Table → List ℕ → ℕ → Result UnwindInfoView Refusal → Type 0

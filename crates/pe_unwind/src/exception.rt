@@ -1,12 +1,10 @@
 //! Exception data: the function table of an image, lookup in it, and the records that it leads to.
 
 use crate::arm64::function::{
-    Arm64RuntimeFunction, Arm64RuntimeFunctionIterator, SIZE_OF_ARM64_FUNCTION, read_arm64_function,
+    Arm64RuntimeFunction, Arm64RuntimeFunctionIterator, SIZE_OF_ARM64_FUNCTION,
 };
 use crate::arm64::info::Arm64UnwindInfo;
-use crate::function_table::{
-    RuntimeFunction, RuntimeFunctionIterator, SIZE_OF_FUNCTION, read_function, search,
-};
+use crate::function_table::{RuntimeFunction, RuntimeFunctionIterator, SIZE_OF_FUNCTION, search};
 use crate::links::Links;
 use crate::unwind_info::UnwindInfo;
 use pe_core::{
@@ -14,6 +12,7 @@ use pe_core::{
 };
 use std::fmt;
 use std::marker::Model;
+use std::ops::Range;
 
 /// The exception directory of an image: its function table, and the bytes in which its records stand.
 #[derive(Drop)]
@@ -47,17 +46,17 @@ impl<'a> fmt::Debug for ExceptionData<'a> {
 }
 
 impl<'a> ExceptionData<'a> {
-    ghost use Rattle.std.specs.Prelude.{◌≡◌, ◌<◌, ◌==◌, ◌↔◌, length, Err, IsOkAnd};
+    ghost use Rattle.std.specs.Prelude.{◌≡◌, ◌+◌, ◌<◌, ◌==◌, ◌↔◌, length, Err, IsOkAnd};
     ghost use Rattle.std.specs.Option.{option_map};
     ghost use Rattle.pe_core.specs.Options.{default_options};
     ghost use Rattle.pe_core.specs.Refusals.{Gives, FunctionCycle, answer_by};
     ghost use Rattle.pe_unwind.specs.ExceptionTable.{exception_at, table_of, function_of};
     ghost use Rattle.pe_unwind.specs.Arm64Functions.{arm64_functions, arm64_function_items, items_of_arm64_functions, arm64_function_of};
     ghost use Rattle.pe_unwind.specs.Arm64Record.{info_view};
-    ghost use Rattle.pe_unwind.specs.Arm64Unwinding.{info_of_function};
+    ghost use Rattle.pe_unwind.specs.Arm64Unwinding.{place_of_function, info_of_function};
     ghost use Rattle.pe_unwind.specs.FunctionTable.{functions, function_items, items_of_functions, answer_of, Finds};
     ghost use Rattle.pe_unwind.specs.Links.{IsEndless, links_of, table_view};
-    ghost use Rattle.pe_unwind.specs.Unwinding.{Unwinds, UnwindsAt, CyclesAt, record_at_address};
+    ghost use Rattle.pe_unwind.specs.Unwinding.{FindsRecord, Unwinds, UnwindsAt, CyclesAt};
     ghost use Rattle.pe_unwind.specs.UnwindRecord.{unwind_view};
 
     /// The exception directory of an x64 image, with the default options.
@@ -147,13 +146,20 @@ impl<'a> ExceptionData<'a> {
         })
     }
 
+    /// The places of the function table in the file.
+    pub fn places(&self) -> Range<usize>
+        ensures { result ≡ record { start = self.now.start; end = self.now.start + self.now.size } }
+    {
+        self.offset..self.offset + self.size
+    }
+
     /// The bytes of the function table.
     fn table_bytes(&self) -> &'a [u8]
         ensures bytes { result.now ≡ table_of self.now }
         ensures size { length result.now ≡ self.now.size }
     {
         let bytes = self.bytes;
-        &bytes[self.offset..self.offset + self.size]
+        &bytes[self.places()]
     }
 
     /// How many whole entries for x64 the table has.
@@ -190,12 +196,7 @@ impl<'a> ExceptionData<'a> {
     pub fn get_function(&self, index: usize) -> Result<RuntimeFunction>
         ensures { Gives (λ f. f) result (function_of (table_of self.now) index) }
     {
-        let table = self.table_bytes();
-        if index < table.len() / SIZE_OF_FUNCTION {
-            Ok(read_function(table, SIZE_OF_FUNCTION * index))
-        } else {
-            Err(Error::Malformed(Reason::FunctionIndex(index)))
-        }
+        RuntimeFunction::of_table(self.table_bytes(), index)
     }
 
     /// The entries for ARM64 in the order of the table.
@@ -209,12 +210,7 @@ impl<'a> ExceptionData<'a> {
     pub fn get_function_arm64(&self, index: usize) -> Result<Arm64RuntimeFunction>
         ensures { Gives (λ f. f) result (arm64_function_of (table_of self.now) index) }
     {
-        let table = self.table_bytes();
-        if index < table.len() / SIZE_OF_ARM64_FUNCTION {
-            Ok(read_arm64_function(table, SIZE_OF_ARM64_FUNCTION * index))
-        } else {
-            Err(Error::Malformed(Reason::FunctionIndex(index)))
-        }
+        Arm64RuntimeFunction::of_table(self.table_bytes(), index)
     }
 
     /// The table, with its reads counted from 0.
@@ -243,6 +239,20 @@ impl<'a> ExceptionData<'a> {
             file_alignment: self.file_alignment,
             opts,
         }
+    }
+
+    /// The place in the file of the unwind record of an unwind address. An odd address is a link to the entry at that
+    /// address less one: `Unmapped`; `FunctionLink` where no entry stands there; `FunctionCycle` where the links never
+    /// end. Then `Unmapped` where the address at their end has no place.
+    pub fn record_place(
+        &self,
+        unwind_address: u32,
+        sections: &[SectionTable],
+        opts: &ParseOptions,
+    ) -> Result<usize>
+        ensures { FindsRecord (links_of self.now sections.now opts.now) unwind_address (answer_of result) }
+    {
+        self.links(sections, opts).record_place(unwind_address)
     }
 
     /// The unwind record of a function, with the default options.
@@ -277,18 +287,8 @@ impl<'a> ExceptionData<'a> {
     fn linked_record(&self, links: &Links<'a, '_>, address: u32) -> Result<UnwindInfo<'a>>
         ensures { Unwinds (table_view links.now) self.now.content address (answer_by unwind_view result) }
     {
-        let last = links.end_of(address)?;
-        self.record_at(links, last)
-    }
-
-    /// The record at an address.
-    fn record_at(&self, links: &Links<'a, '_>, address: u32) -> Result<UnwindInfo<'a>>
-        ensures { Gives unwind_view result (record_at_address (table_view links.now) self.now.content address) }
-    {
-        match links.place(address) {
-            Some(place) => UnwindInfo::parse(self.bytes, place),
-            None => Err(Error::Malformed(Reason::Unmapped(u64::from(address)))),
-        }
+        let place = links.record_place(address)?;
+        UnwindInfo::parse(self.bytes, place)
     }
 
     /// The unwind record of an ARM64 function, with the default options.
@@ -312,12 +312,28 @@ impl<'a> ExceptionData<'a> {
     ) -> Option<Result<Arm64UnwindInfo<'a>>>
         ensures { option_map (answer_by info_view) result ≡ info_of_function self.now sections.now opts.now function }
     {
+        match self.record_place_arm64(function, sections, opts)? {
+            Ok(place) => Some(Arm64UnwindInfo::parse(self.bytes, place)),
+            Err(error) => Some(Err(error)),
+        }
+    }
+
+    /// The place in the file of the unwind record of an ARM64 function: `None` where its unwind data are packed,
+    /// `Unmapped` where their address has no place.
+    pub fn record_place_arm64(
+        &self,
+        function: Arm64RuntimeFunction,
+        sections: &[SectionTable],
+        opts: &ParseOptions,
+    ) -> Option<Result<usize>>
+        ensures { option_map answer_of result ≡ place_of_function self.now sections.now opts.now function }
+    {
         if function.is_packed() {
             return None;
         }
         let address = function.unwind_data_rva();
         match find_offset(address as usize, sections, self.file_alignment, opts) {
-            Some(place) => Some(Arm64UnwindInfo::parse(self.bytes, place)),
+            Some(place) => Some(Ok(place)),
             None => Some(Err(Error::Malformed(Reason::Unmapped(u64::from(address))))),
         }
     }

@@ -4,9 +4,11 @@ ghost use Rattle.std.specs.Prelude.{◌≡◌, ◌+◌, ◌/◌, ◌≤◌, leng
 ghost use Rattle.std.specs.Iterator.{UpTo, YieldsFirstBy, item_count};
 ghost use Rattle.std.specs.Iterator.SizeHint.{IsWithinCount};
 ghost use Rattle.pe_core.specs.CountedTable.{after_read};
+ghost use Rattle.pe_core.specs.Refusals.{Gives};
+ghost use Rattle.pe_unwind.specs.ExceptionTable.{function_of};
 ghost use Rattle.pe_unwind.specs.FunctionTable.{function_at, functions, function_items, items_of_functions, answer_of, Finds, digits};
 
-use pe_core::{CountedTable, Result, number32, split_entry};
+use pe_core::{CountedTable, Error, Reason, Result, number32, split_entry};
 
 /// The bytes of one entry.
 pub(crate) const SIZE_OF_FUNCTION: usize = 12;
@@ -32,6 +34,20 @@ pub(crate) fn read_function(bytes: &[u8], place: usize) -> RuntimeFunction
         begin_address: number32(bytes, place),
         end_address: number32(bytes, place + 4),
         unwind_info_address: number32(bytes, place + 8),
+    }
+}
+
+impl RuntimeFunction {
+    /// The entry of a table with this index, which counts entries. `FunctionIndex` where the table has no more than that
+    /// many whole ones.
+    pub fn of_table(table: &[u8], index: usize) -> Result<RuntimeFunction>
+        ensures { Gives (λ f. f) result (function_of table.now index) }
+    {
+        if index < table.len() / SIZE_OF_FUNCTION {
+            Ok(read_function(table, SIZE_OF_FUNCTION * index))
+        } else {
+            Err(Error::Malformed(Reason::FunctionIndex(index)))
+        }
     }
 }
 

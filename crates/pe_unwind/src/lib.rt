@@ -33,4 +33,4 @@ pub use function_table::{RuntimeFunction, RuntimeFunctionIterator, search};
 pub use register::Register;
 pub use scope_table::{ScopeTableEntry, ScopeTableIterator};
 pub use unwind_code::{StackFrameOffset, UnwindCode, UnwindCodeIterator, UnwindOperation};
-pub use unwind_info::{UnwindHandler, UnwindInfo};
+pub use unwind_info::{UnwindHandler, UnwindInfo, scope_table_size};

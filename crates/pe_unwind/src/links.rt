@@ -4,6 +4,7 @@ ghost use Rattle.std.specs.Prelude.{◌≡◌, ◌%◌};
 ghost use Rattle.pe_unwind.specs.FunctionTable.{answer_of};
 ghost use Rattle.pe_unwind.specs.LinkSteps.{Leads};
 ghost use Rattle.pe_unwind.specs.Links.{table_view, Follows};
+ghost use Rattle.pe_unwind.specs.Unwinding.{FindsRecord};
 
 use crate::function_table::{SIZE_OF_FUNCTION, read_function};
 use pe_core::{Error, ParseOptions, Reason, Result, SectionTable, find_offset};
@@ -73,5 +74,16 @@ impl<'a, 'b> Links<'a, 'b> {
             }
         }
         Err(Error::Malformed(Reason::FunctionCycle(entries + 1)))
+    }
+
+    /// The place of the record at the end of a chain of links.
+    pub fn record_place(&self, address: u32) -> Result<usize>
+        ensures { FindsRecord (table_view self.now) address (answer_of result) }
+    {
+        let last = self.end_of(address)?;
+        match self.place(last) {
+            Some(place) => Ok(place),
+            None => Err(Error::Malformed(Reason::Unmapped(u64::from(last)))),
+        }
     }
 }

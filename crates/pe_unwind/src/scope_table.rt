@@ -3,9 +3,11 @@
 ghost use Rattle.std.specs.Prelude.{◌≡◌, ◌+◌, ◌≤◌, length, IfSome, Some};
 ghost use Rattle.std.specs.Iterator.{UpTo, YieldsFirst, item_count};
 ghost use Rattle.std.specs.Iterator.SizeHint.{IsWithinCount};
+ghost use Rattle.pe_core.specs.Bytes.{record_at};
+ghost use Rattle.pe_core.specs.Refusals.{Gives};
 ghost use Rattle.pe_unwind.specs.ScopeTable.{scope_at, scopes, scopes_left};
 
-use pe_core::{number32, split_entry};
+use pe_core::{Result, number32, require_bytes, split_entry};
 
 /// The bytes of one entry.
 pub(crate) const SIZE_OF_SCOPE: usize = 16;
@@ -34,6 +36,16 @@ fn read_scope(bytes: &[u8], place: usize) -> ScopeTableEntry
         end: number32(bytes, place + 4),
         handler: number32(bytes, place + 8),
         target: number32(bytes, place + 12),
+    }
+}
+
+impl ScopeTableEntry {
+    /// The entry at the place, 16 bytes.
+    pub fn parse(bytes: &[u8], place: usize) -> Result<ScopeTableEntry>
+        ensures { Gives (λ s. s) result (record_at bytes.now place 16 (scope_at bytes.now place)) }
+    {
+        require_bytes(bytes, place, SIZE_OF_SCOPE)?;
+        Ok(read_scope(bytes, place))
     }
 }
 

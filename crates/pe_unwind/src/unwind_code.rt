@@ -283,6 +283,13 @@ impl<'a> UnwindCodeIterator<'a> {
             frame_register,
         }
     }
+
+    /// How many bytes of codes are left.
+    pub fn bytes_left(&self) -> usize
+        ensures { result ≡ length (stream_of self.now).content }
+    {
+        self.bytes.len()
+    }
 }
 
 impl<'a> Iterator for UnwindCodeIterator<'a> {

@@ -5,7 +5,7 @@ ghost use Rattle.std.specs.Option.{option_map};
 ghost use Rattle.pe_core.specs.Refusals.{Gives, Short, outcome};
 ghost use Rattle.pe_unwind.specs.CodeStream.{stream_of};
 ghost use Rattle.pe_unwind.specs.ScopeTable.{scopes_left};
-ghost use Rattle.pe_unwind.specs.UnwindRecord.{handler_view, ending_view, unwind_view, ending_holds, ending_at, unwind_tests, unwind_record, code_stream, scope_table_at, scope_table_of};
+ghost use Rattle.pe_unwind.specs.UnwindRecord.{handler_view, ending_view, unwind_view, ending_holds, ending_at, unwind_tests, unwind_record, code_stream, scope_table_size, scope_table_at, scope_table_of};
 
 use crate::function_table::{RuntimeFunction, SIZE_OF_FUNCTION, read_function};
 use crate::register::Register;
@@ -68,13 +68,24 @@ fn ending(
     Ok((None, Some(handler)))
 }
 
+/// How many bytes of entries stand behind the count of a scope table that begins a handler's data. `None` where they are
+/// not all there.
+pub fn scope_table_size(handler_data: &[u8]) -> Option<usize>
+    ensures { result ≡ scope_table_size handler_data.now }
+{
+    let count = u32_at(handler_data, 0).ok()?;
+    let size = SIZE_OF_SCOPE * count as usize;
+    require_bytes(handler_data, 4, size).ok()?;
+    Some(size)
+}
+
 /// The scope table in a handler's data: a count, and that many entries. `None` where they are not all there.
 #[tactic(auto, unfolding(crate::specs::UnwindRecord::scope_table_at))]
 fn scope_table(handler_data: &[u8]) -> Option<ScopeTableIterator<'_>>
     ensures { option_map scopes_left result ≡ scope_table_at handler_data.now }
 {
-    let count = u32_at(handler_data, 0).ok()?;
-    let table = slice_at(handler_data, 4, SIZE_OF_SCOPE * count as usize).ok()?;
+    let size = scope_table_size(handler_data)?;
+    let table = slice_at(handler_data, 4, size).ok()?;
     Some(ScopeTableIterator::new(table))
 }
 
@@ -111,6 +122,13 @@ impl<'a> UnwindInfo<'a> {
         ensures { stream_of result ≡ code_stream (unwind_view self.now) }
     {
         UnwindCodeIterator::new(self.code_bytes, self.version, self.frame_register)
+    }
+
+    /// The bytes of its codes, two for each slot. Where the record was read at a place they stand four bytes behind it.
+    pub fn code_bytes(&self) -> &'a [u8]
+        ensures { result.now ≡ (unwind_view self.now).codes }
+    {
+        self.code_bytes
     }
 
     /// The scope table that an exception handler for C has as its data: a count of four bytes, and that many entries.

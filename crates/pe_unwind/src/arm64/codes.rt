@@ -436,6 +436,19 @@ fn code_at(bytes: &[u8]) -> Option<(Arm64UnwindCode, usize)>
     Some((code, len))
 }
 
+impl Arm64UnwindCode {
+    /// The code that the bytes begin with, and how many bytes it has, from 1 to 5. `None` with no bytes, and for a code
+    /// that is cut.
+    pub fn parse(bytes: &[u8]) -> Option<(Arm64UnwindCode, usize)>
+        ensures some { IfSome result (λ x. BeginsWithArm64Code bytes.now x.0) }
+        ensures len { IfSome result (λ x. x.1 ≡ length (encoding x.0)) }
+        ensures fits { IfSome result (λ x. (0 < x.1) × (x.1 ≤ 5) × (x.1 ≤ length bytes.now)) }
+        ensures none { IfNone result (BeginsWithNoArm64Code bytes.now) }
+    {
+        code_at(bytes)
+    }
+}
+
 /// A code, and which bytes of its stream it is.
 #[derive(Clone, Copy, Debug, PartialEq, Eq)]
 pub struct Arm64UnwindCodeData {
@@ -506,7 +519,7 @@ impl<'a> Iterator for Arm64UnwindCodeIterator<'a> {
         if bytes.len() <= offset {
             return None;
         }
-        match code_at(bytes.split_at(offset).1) {
+        match Arm64UnwindCode::parse(bytes.split_at(offset).1) {
             Some((code, len)) => {
                 self.offset = offset + len;
                 Some(Ok(Arm64UnwindCodeData {

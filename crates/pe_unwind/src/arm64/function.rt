@@ -5,10 +5,11 @@ ghost use Rattle.std.specs.Iterator.{UpTo, YieldsFirstBy, item_count};
 ghost use Rattle.std.specs.Iterator.SizeHint.{IsWithinCount};
 ghost use Rattle.pe_unwind.specs.FunctionTable.{answer_of};
 ghost use Rattle.pe_unwind.specs.Arm64Words.{bits};
-ghost use Rattle.pe_unwind.specs.Arm64Functions.{is_packed, arm64_function_at, arm64_function_items, items_of_arm64_functions};
+ghost use Rattle.pe_core.specs.Refusals.{Gives};
+ghost use Rattle.pe_unwind.specs.Arm64Functions.{is_packed, arm64_function_of, arm64_function_at, arm64_function_items, items_of_arm64_functions};
 
 use super::words::bits;
-use pe_core::{Result, number32, split_entry};
+use pe_core::{Error, Reason, Result, number32, split_entry};
 
 /// The flag of an entry whose unwind data are the address of an unwind record.
 pub const ARM64_PDATA_REF_TO_FULL_XDATA: u32 = 0;
@@ -121,6 +122,20 @@ pub(crate) fn read_arm64_function(bytes: &[u8], place: usize) -> Arm64RuntimeFun
     Arm64RuntimeFunction {
         begin_address: number32(bytes, place),
         unwind_data: number32(bytes, place + 4),
+    }
+}
+
+impl Arm64RuntimeFunction {
+    /// The entry of a table with this index, which counts entries. `FunctionIndex` where the table has no more than that
+    /// many whole ones.
+    pub fn of_table(table: &[u8], index: usize) -> Result<Arm64RuntimeFunction>
+        ensures { Gives (λ f. f) result (arm64_function_of table.now index) }
+    {
+        if index < table.len() / SIZE_OF_ARM64_FUNCTION {
+            Ok(read_arm64_function(table, SIZE_OF_ARM64_FUNCTION * index))
+        } else {
+            Err(Error::Malformed(Reason::FunctionIndex(index)))
+        }
     }
 }
 

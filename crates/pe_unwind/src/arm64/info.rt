@@ -164,6 +164,20 @@ impl<'a> Arm64UnwindInfo<'a> {
         Some(Arm64EpilogScopeIterator::new(self.scope_bytes))
     }
 
+    /// The bytes of its epilog scopes, four for each. Where the record was read at a place they stand behind its words.
+    pub fn scope_bytes(&self) -> &'a [u8]
+        ensures { result.now ≡ (info_view self.now).scopes }
+    {
+        self.scope_bytes
+    }
+
+    /// The bytes of its codes, which stand behind those of the epilog scopes.
+    pub fn code_bytes(&self) -> &'a [u8]
+        ensures { result.now ≡ (info_view self.now).codes }
+    {
+        self.code_bytes
+    }
+
     /// The unwind codes from this index on, which counts bytes. `Arm64Stream` where it is behind their end.
     pub fn unwind_codes(&self, start_index: u16) -> Result<Arm64UnwindCodeIterator<'a>>
         ensures { Gives stream_place result (stream_at (info_view self.now).codes start_index) }

@@ -11,6 +11,7 @@ ghost use Rattle.pe_unwind.specs.Arm64Encoding.{encoding, Legal, BeginsWithArm64
 ghost use Rattle.pe_unwind.specs.Arm64Tiling.{Tiles, Joins, stream_place};
 ghost use Rattle.pe_unwind.specs.Arm64Record.{Arm64InfoView, AreRecord, HasWords, info_at, record_size, size_at};
 ghost use Rattle.pe_unwind.specs.FunctionTable.{answer_of};
+ghost use Rattle.pe_unwind.specs.Places.{Arm64PartsStand};
 
 use crate::arm64::codes::Arm64UnwindCodeIterator;
 use crate::arm64::function::{
@@ -58,6 +59,12 @@ pub fn arm64_records_have_their_size()
     ensures size { (b : List ℕ) (i : Arm64InfoView) → info_at b 0 ≡ Ok i → size_at b ≡ Ok (record_size i.header i.extension) }
     ensures inside { (b : List ℕ) (p : ℕ) (i : Arm64InfoView) → info_at b p ≡ Ok i → p + record_size i.header i.extension ≤ length b }
     ensures handler { (b : List ℕ) (p : ℕ) (i : Arm64InfoView) → info_at b p ≡ Ok i → IfSome i.handler (λ h. h.bytes ≡ drop (p + record_size i.header i.extension) b) }
+{}
+
+/// The scopes of an ARM64 unwind record stand behind its words, its codes behind them, and its handler's data are the last
+/// of the bytes.
+pub fn parts_of_arm64_records_stand()
+    ensures { (b : List ℕ) (p : ℕ) (i : Arm64InfoView) → info_at b p ≡ Ok i → Arm64PartsStand b p i }
 {}
 
 /// The numbers of the constants for packed unwind data.

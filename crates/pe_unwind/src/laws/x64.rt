@@ -1,11 +1,11 @@
 //! Laws of x64: lookup, links, unwind codes, registers and scope tables.
 
-ghost use Rattle.std.specs.Prelude.{◌≡◌, ◌/◌, ◌<◌, ◌↔◌, ℕ, List, Option, Some, Result, IsSome, IsTrue, map};
+ghost use Rattle.std.specs.Prelude.{◌≡◌, ◌/◌, ◌<◌, ◌↔◌, ℕ, List, Option, Some, Result, Ok, IsSome, IsTrue, map};
 ghost use Rattle.std.specs.Iterator.{Drains};
 ghost use Rattle.std.specs.List.{Any};
 ghost use Rattle.std.specs.Ordering.{nat_cmp};
 ghost use Rattle.std.specs.declared.cmp.Ordering.TheVariants.{Equal};
-ghost use Rattle.pe_core.specs.Refusals.{Refusal};
+ghost use Rattle.pe_core.specs.Refusals.{Refusal, outcome};
 ghost use Rattle.pe_core.specs.declared.error.Error.{Error};
 ghost use Rattle.pe_unwind.specs.declared.function_table.RuntimeFunction.{RuntimeFunction};
 ghost use Rattle.pe_unwind.specs.declared.register.Register.{Register};
@@ -15,7 +15,9 @@ ghost use Rattle.pe_unwind.specs.declared.unwind_code.UnwindCodeIterator.{Unwind
 ghost use Rattle.pe_unwind.specs.CodeStream.{CodeStream, AreItems, stream_of};
 ghost use Rattle.pe_unwind.specs.FunctionTable.{NeverFalls, NoEndPassesNext, Covers, Finds, answer_of};
 ghost use Rattle.pe_unwind.specs.Links.{Table, Follows};
+ghost use Rattle.pe_unwind.specs.Places.{PartsStand};
 ghost use Rattle.pe_unwind.specs.UnwindCodes.{BeginsWithCode};
+ghost use Rattle.pe_unwind.specs.UnwindRecord.{UnwindInfoView, unwind_tests, unwind_record};
 
 use crate::register::Register;
 use crate::scope_table::ScopeTableEntry;
@@ -58,4 +60,9 @@ pub fn one_stream_of_codes()
 #[tactic(auto, using(crate::proofs::OneChain::one_answer))]
 pub fn one_answer_of_links()
     ensures { (t : Table) (u : ℕ) (a b : Result ℕ Refusal) → Follows t u a → Follows t u b → a ≡ b }
+{}
+
+/// The codes of an unwind record stand four bytes behind its beginning, and its handler's data are the last of the bytes.
+pub fn parts_of_records_stand()
+    ensures { (b : List ℕ) (p : ℕ) (i : UnwindInfoView) → outcome (unwind_tests b p) (unwind_record b p) ≡ Ok i → PartsStand b p i }
 {}
