@@ -1,2 +1,5 @@
 pub mod LastText
+pub mod Listings
+pub mod Parts
 pub mod Rooms
+pub mod Steps

@@ -1,8 +1,7 @@
 -- The functions of x64 images, and how their frames are unwound.
-use Rattle.std.specs.Prelude.{◌≡◌, ℕ, ◌+◌, ◌-◌, ◌==◌, ◌≤◌, length, drop, ◌&&◌, Bool, true, false, List, [], ◌∷◌, Option, Some, None, Result, Ok, Err, if◌then◌else◌}
+use Rattle.std.specs.Prelude.{◌≡◌, ℕ, ◌+◌, ◌-◌, ◌==◌, ◌≤◌, length, drop, ◌&&◌, List, [], ◌∷◌, Option, Some, None, Result, Ok, Err, if◌then◌else◌}
 use Rattle.std.specs.Option.{option_map}
-use Rattle.pe_core.specs.Bytes.{holds, range}
-use Rattle.pe_core.specs.Refusals.{Refusal, Short, kind_of, outcome, ◌>>=◌}
+use Rattle.pe_core.specs.Refusals.{Refusal, kind_of, outcome, ◌>>=◌}
 use Rattle.pe_core.specs.declared.error.Error.{Error}
 use Rattle.pe_core.specs.declared.section_table.SectionTable.{SectionTable}
 use Rattle.pe_unwind.specs.CodeStream.{CodeStream, GivesCode}

@@ -8,8 +8,11 @@
 
 mod answers;
 mod arm64;
+mod certificates;
 mod debug;
+mod debug_walks;
 mod image;
+pub mod laws;
 mod ranges;
 mod texts;
 mod unwinding;
