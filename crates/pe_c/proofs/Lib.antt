@@ -1,5 +1,6 @@
 pub mod LastText
 pub mod Listings
 pub mod Parts
+pub mod PlanSteps
 pub mod Rooms
 pub mod Steps

@@ -13,6 +13,7 @@ mod debug;
 mod debug_walks;
 mod image;
 pub mod laws;
+mod plan;
 mod ranges;
 mod texts;
 mod unwinding;

@@ -268,7 +268,7 @@ fn find_place(
     }
 }
 
-fn read_record(
+pub fn read_record(
     bytes: &[u8],
     image: &Image,
     sections: &[SectionTable],
