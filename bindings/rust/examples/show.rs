@@ -1,6 +1,8 @@
 //! Shows what the calls read of an image, a fact a line: `show unwind|debug|resources|tables FILE`. The lines are those of
-//! the programs tools/show_*.txt, as far as the calls tell them, so that the two can be compared. A first line `strict` says
-//! that the image is refused in strict mode; what follows is then what permissive mode gives.
+//! the programs tools/show_*.txt, so that the two can be compared, and tools/compare_unwind, compare_debug and
+//! compare_resources take it by a script of the program's name. What no call tells is read from the bytes: three fields of
+//! an ARM64 record, and the first resource entries; of `tables` relocations and symbols are left out. A first line `strict`
+//! says that the image is refused in strict mode; what follows is then what permissive mode gives.
 
 use pe_c::{
     Arm64Code, Arm64Operation, Arm64Record, Arm64Unwinding, Code, CustomStack, Error, Function, Handler, Image, Mode, Offset,
@@ -148,9 +150,24 @@ fn show_codes(record: &Arm64Record, start: u32) {
     }
 }
 
-fn show_arm64_record(record: &Arm64Record) {
+/// A number of four bytes at a place of the bytes, which is known to be there.
+fn number_at(bytes: &[u8], place: u64) -> u32 {
+    let place = place as usize;
+    u32::from_le_bytes(bytes[place..place + 4].try_into().expect("four bytes"))
+}
+
+fn show_arm64_record(bytes: &[u8], place: u64, record: &Arm64Record) {
     let raw = record.raw();
-    println!("record64 {} {} {} {}", raw.function_length, raw.version, raw.has_handler, raw.epilog_in_header);
+    let (header, extension) = (number_at(bytes, place), number_at(bytes, place + 4));
+    let (epilogs, words) = (header >> 22 & 31, header >> 27);
+    let size = raw.codes.place + raw.codes.length + 4 * u64::from(raw.has_handler) - place;
+    println!(
+        "record64 {} {} {} {} {epilogs} {words} {size}",
+        raw.function_length, raw.version, raw.has_handler, raw.epilog_in_header
+    );
+    if epilogs == 0 && words == 0 {
+        println!("extension {} {}", extension & 0xFFFF, extension >> 16 & 0xFF);
+    }
     if let Some((address, data)) = record.handler() {
         println!("handler64 {address:08x} {}", data.len());
     }
@@ -180,7 +197,10 @@ fn show_arm64(image: &Image) {
                 "packed {} {} {} {} {} {} {}",
                 packed.flag, packed.function_length, packed.reg_f, packed.reg_i, packed.h, packed.cr, packed.frame_size
             ),
-            Ok(Arm64Unwinding::Record(record)) => show_arm64_record(&record),
+            Ok(Arm64Unwinding::Record(record)) => {
+                let place = image.place(function.unwind).expect("the record was read");
+                show_arm64_record(image.bytes(), place, &record);
+            }
             Err(error) => println!("refused {error:?}"),
         }
     }
@@ -266,6 +286,15 @@ fn show_resources(image: &Image) {
     println!("machine {:04x}", image.info().machine);
     if image.version().is_err() || image.manifest().is_err() {
         return;
+    }
+    let directory = image.info().resources;
+    if let Some(root) = image.place(directory.virtual_address).filter(|_| directory.size >= 16) {
+        let counts = number_at(image.bytes(), root + 12);
+        for index in 0..u64::from((counts & 0xFFFF) + (counts >> 16)) {
+            let entry = root + 16 + 8 * index;
+            let (name, offset) = (number_at(image.bytes(), entry), number_at(image.bytes(), entry + 4));
+            println!("entry {}", u64::from(name) << 32 | u64::from(offset));
+        }
     }
     if let Some(it) = there(image.version()) {
         println!(
