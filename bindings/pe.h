@@ -141,8 +141,8 @@ uint32_t pe_c_image(const uint8_t *bytes, size_t length, uint32_t mode, pe_c_ima
 uint32_t pe_c_sections(const uint8_t *bytes, size_t length, const pe_c_image_info *image, pe_c_section *room,
                        size_t entries);
 
-/* Gives the place of an address in the file, by the first section that covers it. PE_C_NOTHING where none does. The place
- * may be behind the end of the bytes. */
+/* Gives the place of an address in the file, by the first section that covers it. PE_C_NOTHING where none does, or where the
+ * file alignment is no power of two. The place may be behind the end of the bytes. */
 uint32_t pe_c_place(const pe_c_section *sections, size_t count, uint32_t file_alignment, uint32_t rva, uint64_t *out);
 
 /* ---- debug data
