@@ -1,0 +1,486 @@
+/* pe_list: shows what the calls of pe.h read of a Windows executable.
+ *
+ *     pe_list list FILE [--permissive]    the lines of `peinfo list`
+ *     pe_list key FILE                    the key by which a symbol server files the image's symbols
+ *     pe_list version FILE                the version information
+ *     pe_list unwind FILE HEXRVA          how the frame of the x64 function that covers an address is unwound, record by
+ *                                         record up to the root of its chain
+ *
+ * The file is mapped, and nothing of it is copied. `list` refuses an image as `peinfo list` does, but that no call reads
+ * base relocations, whose directory alone may refuse an image there. The status is 0, 1 for an image that is refused, 2
+ * for misused words, 3 for a fault of a file or of standard output. */
+#define _POSIX_C_SOURCE 200809L
+#include "pe.h"
+
+#include <fcntl.h>
+#include <inttypes.h>
+#include <stdio.h>
+#include <stdlib.h>
+#include <string.h>
+#include <sys/mman.h>
+#include <sys/stat.h>
+#include <unistd.h>
+
+enum { FINE = 0, REFUSED = 1, MISUSED = 2, FAULT = 3 };
+
+enum { X64 = 0x8664, ARM64 = 0xAA64, FUNCTION_SIZE = 12, ARM64_FUNCTION_SIZE = 8 };
+
+/* The bytes of a file, and what two calls say of them. */
+typedef struct {
+    const char *file;
+    const uint8_t *bytes;
+    size_t length;
+    uint32_t mode;
+    pe_c_image_info info;
+    pe_c_section *sections;
+    size_t count;
+} image;
+
+/* What each call of an image takes first. */
+#define BYTES(it) (it)->bytes, (it)->length
+#define IMAGE(it) BYTES(it), &(it)->info, (it)->sections, (it)->count, (it)->mode
+
+/* ---- reading */
+
+/* Maps a file. An empty one has no bytes. */
+static int map_file(const char *file, image *it)
+{
+    int opened = open(file, O_RDONLY | O_CLOEXEC);
+    struct stat about;
+    if (opened < 0 || fstat(opened, &about) != 0) {
+        fprintf(stderr, "pe_list: ");
+        perror(file);
+        return FAULT;
+    }
+    it->file = file;
+    it->length = (size_t)about.st_size;
+    if (it->length > 0) {
+        void *mapped = mmap(NULL, it->length, PROT_READ, MAP_PRIVATE, opened, 0);
+        if (mapped == MAP_FAILED) {
+            fprintf(stderr, "pe_list: ");
+            perror(file);
+            return FAULT;
+        }
+        it->bytes = (const uint8_t *)mapped;
+    }
+    close(opened);
+    return FINE;
+}
+
+/* The headers and the sections. */
+static uint32_t read_image(image *it, uint32_t mode)
+{
+    it->mode = mode;
+    uint32_t answer = pe_c_image(it->bytes, it->length, mode, &it->info);
+    if (answer != PE_C_DONE)
+        return answer;
+    it->count = it->info.number_of_sections;
+    free(it->sections);
+    it->sections = (pe_c_section *)calloc(it->count + 1, sizeof *it->sections);
+    if (it->sections == NULL)
+        return PE_C_MEMORY;
+    return pe_c_sections(BYTES(it), &it->info, it->sections, it->count);
+}
+
+static int refused(const image *it, uint32_t answer, const char *advice)
+{
+    uint8_t text[128] = {0};
+    size_t length = pe_c_text(answer, text, sizeof text);
+    if (length > sizeof text)
+        length = sizeof text;
+    fprintf(stderr, "pe_list: \"%s\" is refused: %.*s%s\n", it->file, (int)length, (const char *)text, advice);
+    return REFUSED;
+}
+
+/* ---- list */
+
+/* What an image has besides its headers. */
+typedef struct {
+    pe_c_range debug, functions, arm64_functions, certificates;
+    int has_debug, has_functions, has_arm64_functions, has_certificates;
+} directories;
+
+/* Where a directory is there. One that is refused refuses the image in strict mode, and counts as absent in permissive. */
+static uint32_t keep(const image *it, uint32_t answer, int *has)
+{
+    *has = answer == PE_C_DONE;
+    if (answer == PE_C_NOTHING || it->mode != PE_C_STRICT)
+        return PE_C_DONE;
+    return answer;
+}
+
+/* The answer of a walk that was read to its end. */
+static uint32_t ended(uint32_t answer)
+{
+    if (answer == PE_C_NOTHING)
+        return PE_C_DONE;
+    return answer;
+}
+
+/* Every import is read: one that is refused refuses the image in both modes. */
+static uint32_t try_imports(const image *it)
+{
+    pe_c_imports walk = PE_C_EMPTY;
+    uint32_t answer = pe_c_import_records(IMAGE(it), &walk);
+    pe_c_import item = PE_C_EMPTY;
+    while (answer == PE_C_DONE)
+        answer = pe_c_next_import(IMAGE(it), &walk, &item);
+    return ended(answer);
+}
+
+/* The debug directory, where none of the records is refused. */
+static uint32_t try_debug(const image *it, pe_c_range *out)
+{
+    pe_c_key key = PE_C_EMPTY;
+    uint32_t answer = pe_c_symbol_key(IMAGE(it), &key);
+    if (answer != PE_C_DONE && answer != PE_C_NOTHING)
+        return answer;
+    return pe_c_debug_entries(IMAGE(it), out);
+}
+
+/* Every certificate is read. */
+static uint32_t try_certificates(const image *it, pe_c_range *out)
+{
+    pe_c_range walk = {it->info.certificates.virtual_address, it->info.certificates.size};
+    *out = walk;
+    if (walk.place == 0 && walk.length == 0)
+        return PE_C_NOTHING;
+    pe_c_certificate certificate = PE_C_EMPTY;
+    uint32_t answer = PE_C_DONE;
+    while (answer == PE_C_DONE)
+        answer = pe_c_next_certificate(BYTES(it), &walk, &certificate);
+    return ended(answer);
+}
+
+/* Version information and manifest. */
+static uint32_t try_resources(const image *it)
+{
+    pe_c_version version = PE_C_EMPTY;
+    pe_c_range manifest = PE_C_EMPTY;
+    uint32_t answer = pe_c_fixed_version(IMAGE(it), &version);
+    if (answer != PE_C_DONE && answer != PE_C_NOTHING)
+        return answer;
+    return pe_c_manifest(IMAGE(it), &manifest);
+}
+
+/* All that `peinfo list` reads, in its order. */
+static uint32_t read_directories(const image *it, directories *out)
+{
+    int has_resources = 0;
+    uint32_t answer = try_imports(it);
+    if (answer == PE_C_DONE)
+        answer = keep(it, try_debug(it, &out->debug), &out->has_debug);
+    if (answer == PE_C_DONE)
+        answer = keep(it, pe_c_function_table(IMAGE(it), &out->functions), &out->has_functions);
+    if (answer == PE_C_DONE)
+        answer = keep(it, pe_c_arm64_table(IMAGE(it), &out->arm64_functions), &out->has_arm64_functions);
+    if (answer == PE_C_DONE)
+        answer = keep(it, try_certificates(it, &out->certificates), &out->has_certificates);
+    if (answer == PE_C_DONE)
+        answer = keep(it, try_resources(it), &has_resources);
+    return answer;
+}
+
+static void list_debug(const image *it, pe_c_range walk)
+{
+    pe_c_debug_entry entry = PE_C_EMPTY;
+    uint32_t answer;
+    while ((answer = pe_c_next_debug_entry(BYTES(it), &walk, &entry)) == PE_C_DONE)
+        printf("debug %" PRIu32 " %" PRIu32 " %08" PRIx32 " %08" PRIx32 "\n", entry.data_type, entry.size_of_data,
+               entry.address_of_raw_data, entry.pointer_to_raw_data);
+    if (answer != PE_C_NOTHING)
+        printf("debug cut\n");
+}
+
+static void list_certificates(const image *it, pe_c_range walk)
+{
+    pe_c_certificate certificate = PE_C_EMPTY;
+    while (pe_c_next_certificate(BYTES(it), &walk, &certificate) == PE_C_DONE)
+        printf("certificate %" PRIu32 " %04x %04x\n", certificate.length, (unsigned)certificate.revision,
+               (unsigned)certificate.type);
+}
+
+static void show_function(const char *word, const pe_c_function *function)
+{
+    printf("%s %08" PRIx32 " %08" PRIx32 " %08" PRIx32 "\n", word, function->begin, function->end, function->unwind);
+}
+
+static void list_functions(const image *it, const pe_c_range *table)
+{
+    pe_c_function function = PE_C_EMPTY;
+    for (uint64_t i = 0; i < table->length / FUNCTION_SIZE; i++)
+        if (pe_c_function_at(BYTES(it), table, i, &function) == PE_C_DONE)
+            show_function("function", &function);
+}
+
+static void list_arm64_functions(const image *it, const pe_c_range *table)
+{
+    pe_c_arm64_function function = PE_C_EMPTY;
+    for (uint64_t i = 0; i < table->length / ARM64_FUNCTION_SIZE; i++)
+        if (pe_c_arm64_function_at(BYTES(it), table, i, &function) == PE_C_DONE)
+            printf("function64 %08" PRIx32 " %08" PRIx32 "\n", function.begin, function.unwind);
+}
+
+/* The answer of an image with all that `peinfo list` reads of it. */
+static uint32_t read_all(image *it, uint32_t mode, directories *out)
+{
+    uint32_t answer = read_image(it, mode);
+    return answer == PE_C_DONE ? read_directories(it, out) : answer;
+}
+
+static int list(image *it, uint32_t mode)
+{
+    directories found = PE_C_EMPTY;
+    uint32_t answer = read_all(it, mode, &found);
+    if (answer != PE_C_DONE) {
+        int helps = mode == PE_C_STRICT && read_all(it, PE_C_PERMISSIVE, &found) == PE_C_DONE;
+        return refused(it, answer, helps ? "; --permissive lists the rest" : "");
+    }
+    printf("image %d entry %08" PRIx32 " base %016" PRIx64 "\n", it->info.width == 64 ? 64 : 32, it->info.entry,
+           it->info.base);
+    if (found.has_debug)
+        list_debug(it, found.debug);
+    if (found.has_certificates)
+        list_certificates(it, found.certificates);
+    if (found.has_functions)
+        list_functions(it, &found.functions);
+    if (found.has_arm64_functions)
+        list_arm64_functions(it, &found.arm64_functions);
+    return FINE;
+}
+
+/* ---- key */
+
+/* The GUID's digits as symbol servers write them, the age, and the file's name up to its first zero. */
+static int show_key(image *it)
+{
+    pe_c_key key = PE_C_EMPTY;
+    uint32_t answer = read_image(it, PE_C_STRICT);
+    if (answer == PE_C_DONE)
+        answer = pe_c_symbol_key(IMAGE(it), &key);
+    if (answer == PE_C_NOTHING) {
+        printf("none\n");
+        return FINE;
+    }
+    if (answer != PE_C_DONE)
+        return refused(it, answer, "");
+    static const int order[16] = {3, 2, 1, 0, 5, 4, 7, 6, 8, 9, 10, 11, 12, 13, 14, 15};
+    printf("key ");
+    for (int i = 0; i < 16; i++)
+        printf("%02X", key.guid[order[i]]);
+    const char *name = (const char *)it->bytes + key.name.place;
+    printf("%" PRIX32 " %.*s\n", key.age, (int)strnlen(name, key.name.length), name);
+    return FINE;
+}
+
+/* ---- version */
+
+static const char *const names[] = {
+    "Comments", "CompanyName", "FileDescription", "FileVersion", "InternalName", "LegalCopyright", "LegalTrademarks",
+    "OriginalFilename", "PrivateBuild", "ProductName", "ProductVersion", "SpecialBuild"
+};
+
+/* A character in UTF-8; a replacement for half a surrogate pair. */
+static void show_character(uint32_t c)
+{
+    if (c >= 0xD800 && c < 0xE000)
+        c = 0xFFFD;
+    if (c < 0x80) {
+        putchar((int)c);
+    } else if (c < 0x800) {
+        putchar((int)(0xC0 | c >> 6));
+        putchar((int)(0x80 | (c & 63)));
+    } else {
+        if (c < 0x10000) {
+            putchar((int)(0xE0 | c >> 12));
+        } else {
+            putchar((int)(0xF0 | c >> 18));
+            putchar((int)(0x80 | (c >> 12 & 63)));
+        }
+        putchar((int)(0x80 | (c >> 6 & 63)));
+        putchar((int)(0x80 | (c & 63)));
+    }
+}
+
+/* A text of UTF-16 units up to the first zero. */
+static void show_units(const uint8_t *units, uint64_t length)
+{
+    for (uint64_t i = 0; i + 2 <= length; i += 2) {
+        uint32_t unit = units[i] | (uint32_t)units[i + 1] << 8;
+        if (unit == 0)
+            return;
+        if (unit >= 0xD800 && unit < 0xDC00 && i + 4 <= length && units[i + 3] >> 2 == 0x37) {
+            uint32_t low = units[i + 2] | (uint32_t)units[i + 3] << 8;
+            unit = 0x10000 + ((unit - 0xD800) << 10) + (low - 0xDC00);
+            i += 2;
+        }
+        show_character(unit);
+    }
+}
+
+static int show_version(image *it)
+{
+    pe_c_version version = PE_C_EMPTY;
+    uint32_t answer = read_image(it, PE_C_STRICT);
+    if (answer == PE_C_DONE)
+        answer = pe_c_fixed_version(IMAGE(it), &version);
+    if (answer != PE_C_DONE && answer != PE_C_NOTHING)
+        return refused(it, answer, "");
+    if (answer == PE_C_DONE) {
+        const uint32_t ms = version.file_version_ms, ls = version.file_version_ls;
+        const uint32_t product_ms = version.product_version_ms, product_ls = version.product_version_ls;
+        printf("file %" PRIu32 ".%" PRIu32 ".%" PRIu32 ".%" PRIu32 "\n", ms >> 16, ms & 0xFFFF, ls >> 16, ls & 0xFFFF);
+        printf("product %" PRIu32 ".%" PRIu32 ".%" PRIu32 ".%" PRIu32 "\n", product_ms >> 16, product_ms & 0xFFFF,
+               product_ls >> 16, product_ls & 0xFFFF);
+    }
+    for (uint32_t name = PE_C_COMMENTS; name <= PE_C_SPECIAL_BUILD; name++) {
+        pe_c_range text = PE_C_EMPTY;
+        if (pe_c_version_text(IMAGE(it), name, &text) == PE_C_DONE) {
+            printf("%s ", names[name]);
+            show_units(it->bytes + text.place, text.length);
+            putchar('\n');
+        }
+    }
+    return FINE;
+}
+
+/* ---- unwind */
+
+static const char *const registers[] = {
+    "rax", "rcx", "rdx", "rbx", "rsp", "rbp", "rsi", "rdi", "r8", "r9", "r10", "r11", "r12", "r13", "r14", "r15", "rip",
+    "xmm0", "xmm1", "xmm2", "xmm3", "xmm4", "xmm5", "xmm6", "xmm7", "xmm8", "xmm9", "xmm10", "xmm11", "xmm12", "xmm13",
+    "xmm14", "xmm15"
+};
+
+static const char *register_name(unsigned number)
+{
+    return number < sizeof registers / sizeof *registers ? registers[number] : "?";
+}
+
+static void show_code(const pe_c_code *code)
+{
+    const char *from = code->from_frame ? "frame" : "stack";
+    printf("  code %02x ", (unsigned)code->code_offset);
+    switch (code->operation) {
+    case PE_C_PUSH:
+        printf("push %s\n", register_name(code->operand));
+        break;
+    case PE_C_ALLOC:
+        printf("alloc %" PRIu32 "\n", code->value);
+        break;
+    case PE_C_SET_FRAME:
+        printf("set frame\n");
+        break;
+    case PE_C_SAVE:
+        printf("save %s %s+%" PRIu32 "\n", register_name(code->operand), from, code->value);
+        break;
+    case PE_C_SAVE_XMM:
+        printf("save low %s %s+%" PRIu32 "\n", register_name(code->operand), from, code->value);
+        break;
+    case PE_C_SAVE_XMM128:
+        printf("save %s %s+%" PRIu32 "\n", register_name(code->operand), from, code->value);
+        break;
+    case PE_C_EPILOG:
+        printf("epilog %" PRIu32 " %u\n", code->value, (unsigned)code->operand);
+        break;
+    case PE_C_MACHINE_FRAME:
+        printf("machine frame%s\n", code->operand ? " with an error code" : "");
+        break;
+    default:
+        printf("nothing\n");
+    }
+}
+
+static uint32_t show_record(const image *it, pe_c_record *record)
+{
+    printf("record version %u prolog %u", (unsigned)record->codes.version, (unsigned)record->size_of_prolog);
+    if (record->codes.frame_register != 0)
+        printf(" frame %s-%" PRIu32, register_name(record->codes.frame_register), record->frame_register_offset);
+    if (record->handler_kind != 0)
+        printf(" %s handler %08" PRIx32, record->handler_kind == 1 ? "exception" : "termination", record->handler);
+    printf("\n");
+    pe_c_code code = PE_C_EMPTY;
+    uint32_t answer;
+    while ((answer = pe_c_next_code(BYTES(it), &record->codes, &code)) == PE_C_DONE)
+        show_code(&code);
+    if (record->is_chained)
+        show_function("chained", &record->chained);
+    return answer;
+}
+
+static int show_unwinding(image *it, uint32_t rva)
+{
+    pe_c_range table = PE_C_EMPTY;
+    pe_c_function function = PE_C_EMPTY;
+    uint32_t answer = read_image(it, PE_C_STRICT);
+    if (answer == PE_C_DONE)
+        answer = pe_c_function_table(IMAGE(it), &table);
+    if (answer == PE_C_DONE)
+        answer = pe_c_find_function(BYTES(it), &table, rva, &function);
+    if (answer == PE_C_NOTHING) {
+        printf("none\n");
+        return FINE;
+    }
+    if (answer != PE_C_DONE)
+        return refused(it, answer, "");
+    show_function("function", &function);
+    pe_c_plan plan = pe_c_plan_from(function.unwind);
+    pe_c_record record = PE_C_EMPTY;
+    while ((answer = pe_c_next_record(IMAGE(it), &plan, &record)) == PE_C_DONE) {
+        answer = show_record(it, &record);
+        if (answer != PE_C_NOTHING)
+            break;
+    }
+    return answer == PE_C_NOTHING ? FINE : refused(it, answer, "");
+}
+
+/* ---- words */
+
+/* One to eight hexadecimal digits. */
+static int address_of(const char *word, uint32_t *out)
+{
+    size_t length = strlen(word);
+    if (length < 1 || length > 8 || strspn(word, "0123456789abcdefABCDEF") != length)
+        return 0;
+    *out = (uint32_t)strtoul(word, NULL, 16);
+    return 1;
+}
+
+static int usage(void)
+{
+    fprintf(stderr, "usage: pe_list list FILE [--permissive] | key FILE | version FILE | unwind FILE HEXRVA\n");
+    return MISUSED;
+}
+
+static int run(int argc, char **argv, image *it)
+{
+    uint32_t rva = 0;
+    const char *word = argc >= 3 ? argv[1] : "";
+    int permissive = argc == 4 && strcmp(argv[3], "--permissive") == 0;
+    int lists = strcmp(word, "list") == 0 && (argc == 3 || permissive);
+    int keys = strcmp(word, "key") == 0 && argc == 3;
+    int versions = strcmp(word, "version") == 0 && argc == 3;
+    int unwinds = strcmp(word, "unwind") == 0 && argc == 4 && address_of(argv[3], &rva);
+    if (!lists && !keys && !versions && !unwinds)
+        return usage();
+    int status = map_file(argv[2], it);
+    if (status != FINE)
+        return status;
+    if (lists)
+        return list(it, permissive ? PE_C_PERMISSIVE : PE_C_STRICT);
+    if (keys)
+        return show_key(it);
+    return versions ? show_version(it) : show_unwinding(it, rva);
+}
+
+int main(int argc, char **argv)
+{
+    image it = PE_C_EMPTY;
+    int status = run(argc, argv, &it);
+    free(it.sections);
+    if (fclose(stdout) != 0) {
+        fprintf(stderr, "pe_list: standard output takes no more\n");
+        return FAULT;
+    }
+    return status;
+}

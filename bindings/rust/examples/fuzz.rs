@@ -1,0 +1,283 @@
+//! Makes every call on damaged images: `fuzz SECONDS [--seed N] [FILE ..]`. The files are images, or damaged ones made of
+//! the tests' images where none is named; those above 1 MiB are passed over.
+//!
+//! Each input is a file with a few bytes changed, and at times cut, and ends where memory ends, so that a read behind it
+//! faults. The calls that take ranges and walks get ones that lie, too. A run with the same seed, files and machine makes
+//! the same inputs. The last line tells what was read.
+
+#[path = "../tests/made/mod.rs"]
+mod made;
+#[path = "../tests/reading/mod.rs"]
+mod reading;
+
+use pe_c::{sys, Image, Mode};
+use reading::{read_all, Seen};
+use std::ffi::c_void;
+use std::ops::Range;
+use std::time::Instant;
+
+extern "C" {
+    fn mmap(at: *mut c_void, length: usize, may: i32, how: i32, file: i32, from: i64) -> *mut c_void;
+    fn mprotect(at: *mut c_void, length: usize, may: i32) -> i32;
+}
+
+/// How many bytes an input has at most, and the bytes of a page.
+const ROOM: usize = 1 << 20;
+const PAGE: usize = 1 << 16;
+
+/// Of one file so many inputs are made in turn.
+const INPUTS_OF_A_FILE: usize = 64;
+
+/// Writable memory, behind which there is none.
+fn fenced() -> &'static mut [u8] {
+    const READ_AND_WRITE: i32 = 3;
+    const PRIVATE_AND_ANONYMOUS: i32 = 0x22;
+    // SAFETY: fresh memory of the process, the last page of which is made unreadable; the rest is given out once.
+    unsafe {
+        let at = mmap(std::ptr::null_mut(), ROOM + PAGE, READ_AND_WRITE, PRIVATE_AND_ANONYMOUS, -1, 0);
+        assert!(at as isize != -1 && mprotect(at.cast::<u8>().add(ROOM).cast(), PAGE, 0) == 0);
+        std::slice::from_raw_parts_mut(at.cast(), ROOM)
+    }
+}
+
+/// Numbers by the method xorshift.
+struct Random(u64);
+
+impl Random {
+    fn next(&mut self) -> u64 {
+        self.0 ^= self.0 << 13;
+        self.0 ^= self.0 >> 7;
+        self.0 ^= self.0 << 17;
+        self.0
+    }
+
+    fn below(&mut self, end: usize) -> usize {
+        (self.next() >> 16) as usize % end
+    }
+
+    /// A number that is like to be at the edge of something.
+    fn edge(&mut self, length: u64) -> u64 {
+        match self.below(8) {
+            0 => 0,
+            1 => length,
+            2 => length.wrapping_sub(1 + self.next() % 16),
+            3 => u64::MAX - self.next() % 16,
+            4 => 1 << (self.next() % 64),
+            5 => self.next(),
+            _ => self.next() % (length + 2),
+        }
+    }
+}
+
+/// The places where a change matters most: headers, section headers, the tables of directories and what is behind them.
+fn hot_places(bytes: &[u8]) -> Vec<Range<usize>> {
+    let mut places = vec![0..bytes.len(), 0..bytes.len().min(1024), 60..64];
+    let Ok(image) = Image::parse(bytes, Mode::Permissive) else {
+        return places;
+    };
+    let info = image.info();
+    let certificates = info.certificates.virtual_address as usize;
+    places.push(certificates..certificates.saturating_add(32));
+    for directory in [info.exports, info.imports, info.resources, info.exceptions, info.debug] {
+        let Some(place) = image.place(directory.virtual_address).filter(|_| directory.size > 0) else {
+            continue;
+        };
+        let (place, size) = (place as usize, directory.size as usize);
+        places.push(place..bytes.len().min(place.saturating_add(size)));
+        places.push(place..bytes.len().min(place.saturating_add(64)));
+    }
+    if let Ok(Some(functions)) = image.functions() {
+        for function in functions.iter().take(32) {
+            if let Some(place) = image.place(function.unwind & !1) {
+                places.push(place as usize..bytes.len().min(place as usize + 16));
+            }
+        }
+    }
+    if let Ok(Some(functions)) = image.arm64_functions() {
+        for function in functions.iter().take(32) {
+            if let Some(place) = image.place(function.unwind & !3) {
+                places.push(place as usize..bytes.len().min(place as usize + 24));
+            }
+        }
+    }
+    places.retain(|place| place.start < place.end && place.end <= bytes.len());
+    places
+}
+
+/// Copies a file to the end of the memory, cut at times and with a few bytes changed.
+fn make_input<'m>(memory: &'m mut [u8], bytes: &[u8], places: &[Range<usize>], random: &mut Random) -> &'m [u8] {
+    let cut = if random.below(8) == 0 { random.below(bytes.len()) } else { 0 };
+    let length = bytes.len() - cut;
+    let input = &mut memory[ROOM - length..];
+    input.copy_from_slice(&bytes[..length]);
+    for _ in 0..1 + random.below(6) {
+        let place = &places[random.below(places.len())];
+        let at = place.start + random.below(place.len());
+        let value = [0, 1, 0x7F, 0x80, 0xFF, random.next() as u8][random.below(6)];
+        if let Some(byte) = input.get_mut(at) {
+            *byte = value;
+        }
+    }
+    input
+}
+
+/// Calls with records that lie: none of them may touch anything but the bytes and what it is lent.
+fn read_by_lies(bytes: &[u8], random: &mut Random, seen: &mut Seen) {
+    let (start, length) = (bytes.as_ptr(), bytes.len());
+    let number = length as u64;
+    let range = sys::Range { place: random.edge(number), length: random.edge(number) };
+    let few = random.next() as u32;
+    let directory = sys::Directory { virtual_address: random.edge(number) as u32, size: random.edge(64) as u32 };
+    let image = sys::ImageInfo {
+        sections_place: random.edge(number),
+        file_alignment: 1 << (few % 32),
+        exports: directory,
+        imports: directory,
+        resources: directory,
+        exceptions: directory,
+        debug: directory,
+        certificates: directory,
+        machine: if few & 1 == 0 { made::X64 } else { made::ARM64 },
+        width: if few & 2 == 0 { 32 } else { 64 },
+        number_of_sections: (few >> 2) as u16 % 4,
+        ..sys::ImageInfo::default()
+    };
+    let section = sys::Section {
+        virtual_address: random.edge(number) as u32,
+        virtual_size: random.edge(number) as u32,
+        size_of_raw_data: random.edge(number) as u32,
+        pointer_to_raw_data: random.edge(number) as u32,
+        ..sys::Section::default()
+    };
+    let sections = [sys::Section::default(), section];
+    let mut room = sections;
+    let (index, mode) = (random.edge(64), few >> 5 & 1);
+    macro_rules! call {
+        ($name:ident($($more:expr),*), $out:ident) => {{
+            let mut out = sys::$out::default();
+            // SAFETY: the pointers and lengths are those of slices, and each record is lent for its call.
+            let answer = unsafe { sys::$name(start, length, $($more,)* &mut out) };
+            assert!(answer == 0 || out == sys::$out::default());
+            seen.refusals += u64::from(answer != 0);
+            out
+        }};
+    }
+    macro_rules! call_of_image {
+        ($name:ident($($more:expr),*), $out:ident) => {
+            call!($name(&image, sections.as_ptr(), sections.len(), mode $(, $more)*), $out)
+        };
+    }
+    // steps a walk while it gives items, but not for ever
+    macro_rules! walk {
+        ($name:ident($walk:expr), $out:ident) => {{
+            let mut walk = $walk;
+            for _ in 0..reading::MOST {
+                let mut out = sys::$out::default();
+                // SAFETY: as above.
+                if unsafe { sys::$name(start, length, &mut walk, &mut out) } != 0 {
+                    break;
+                }
+            }
+        }};
+    }
+    macro_rules! walk_of_image {
+        ($name:ident($walk:expr), $out:ident) => {{
+            let mut walk = $walk;
+            for _ in 0..reading::MOST {
+                let mut out = sys::$out::default();
+                let (first, count) = (sections.as_ptr(), sections.len());
+                // SAFETY: as above.
+                if unsafe { sys::$name(start, length, &image, first, count, mode, &mut walk, &mut out) } != 0 {
+                    break;
+                }
+            }
+        }};
+    }
+    // SAFETY: as above.
+    unsafe {
+        sys::pe_c_sections(start, length, &image, room.as_mut_ptr(), room.len());
+        let mut place = 0;
+        sys::pe_c_place(sections.as_ptr(), sections.len(), image.file_alignment, few, &mut place);
+        let mut fields = sys::Arm64Packed::default();
+        sys::pe_c_arm64_packed_fields(&sys::Arm64Function { begin: few, unwind: few.rotate_left(7) }, &mut fields);
+    }
+    walk!(pe_c_next_debug_entry(range), DebugEntry);
+    walk!(pe_c_next_pogo_entry(range), PogoEntry);
+    walk!(pe_c_next_certificate(range), Certificate);
+    walk!(pe_c_next_scope(range), Scope);
+    walk!(pe_c_next_arm64_scope(range), Arm64Scope);
+    walk!(pe_c_next_code(sys::Walk { left: range, version: few as u8 % 4, frame_register: 5, spare: [1; 6] }), Code);
+    walk!(pe_c_next_arm64_code(sys::Arm64Walk { left: range, offset: index }), Arm64Code);
+    call!(pe_c_find_function(&range, few), Function);
+    call!(pe_c_function_at(&range, index), Function);
+    call!(pe_c_arm64_function_at(&range, index), Arm64Function);
+    call!(pe_c_scope_table(&range), Range);
+    call!(pe_c_arm64_codes(&range, index), Arm64Walk);
+    call_of_image!(pe_c_debug_entries(), Range);
+    call_of_image!(pe_c_symbol_key(), Key);
+    call_of_image!(pe_c_debug_repro(), Repro);
+    call_of_image!(pe_c_debug_pogo(), Pogo);
+    call_of_image!(pe_c_function_table(), Range);
+    call_of_image!(pe_c_arm64_table(), Range);
+    call_of_image!(pe_c_unwind_record(directory.virtual_address ^ (few & 1)), Record);
+    call_of_image!(pe_c_arm64_unwind_record(&sys::Arm64Function { begin: few, unwind: directory.virtual_address & !3 }), Arm64Record);
+    call_of_image!(pe_c_fixed_version(), Version);
+    call_of_image!(pe_c_version_text(few % 16), Range);
+    call_of_image!(pe_c_manifest(), Range);
+    let tables = call_of_image!(pe_c_export_tables(), Exports);
+    walk_of_image!(pe_c_next_export(tables), Export);
+    walk_of_image!(pe_c_next_export(sys::Exports { names: range, next: index, ..tables }), Export);
+    let records = call_of_image!(pe_c_import_records(), Imports);
+    walk_of_image!(pe_c_next_import(records), Import);
+    walk_of_image!(pe_c_next_import(sys::Imports { record: range.place, entry: index }), Import);
+    let saved = if few & 8 == 0 { directory.virtual_address } else { few };
+    let plan = sys::Plan { unwind: directory.virtual_address, saved, steps: index, limit: range.length, ..sys::Plan::default() };
+    walk_of_image!(pe_c_next_record(plan), Record);
+}
+
+/// Words: the seconds, the seed, and the files.
+fn words() -> Option<(u64, u64, Vec<String>)> {
+    let mut words = std::env::args().skip(1);
+    let seconds = words.next()?.parse().ok()?;
+    let mut files: Vec<String> = words.collect();
+    let mut seed = 0x9E37_79B9_7F4A_7C15;
+    if files.first().is_some_and(|word| word == "--seed") {
+        seed = files.get(1)?.parse().ok()?;
+        files.drain(..2);
+    }
+    Some((seconds, seed, files))
+}
+
+fn main() {
+    let Some((seconds, seed, names)) = words() else {
+        eprintln!("usage: fuzz SECONDS [--seed N] [FILE ..]");
+        std::process::exit(2);
+    };
+    let read = names.iter().filter_map(|name| std::fs::read(name).ok());
+    let mut files: Vec<Vec<u8>> = read.filter(|bytes| (64..=ROOM).contains(&bytes.len())).collect();
+    if files.is_empty() {
+        files = made::all().into_iter().map(|(_, bytes)| bytes).collect();
+    }
+    let files: Vec<_> = files.into_iter().map(|bytes| (hot_places(&bytes), bytes)).collect();
+    let memory = fenced();
+    let mut random = Random(seed.max(1));
+    let (mut inputs, mut seen) = (0u64, Seen::default());
+    let start = Instant::now();
+    while start.elapsed().as_secs() < seconds {
+        let (places, bytes) = &files[random.below(files.len())];
+        for _ in 0..INPUTS_OF_A_FILE {
+            let input = make_input(memory, bytes, places, &mut random);
+            let mode = if random.below(2) == 0 { Mode::Strict } else { Mode::Permissive };
+            seen.add(read_all(input, mode));
+            read_by_lies(input, &mut random, &mut seen);
+            inputs += 1;
+        }
+    }
+    let rate = inputs as f64 / start.elapsed().as_secs_f64();
+    let Seen { images, records, codes, slices, refusals } = seen;
+    println!(
+        "{} files, {inputs} inputs, {images} images, {records} unwind records, {codes} codes, {slices} slices, {refusals} \
+         refusals, {rate:.0} inputs a second",
+        files.len()
+    );
+}

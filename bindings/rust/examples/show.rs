@@ -1,0 +1,396 @@
+//! Shows what the calls read of an image, a fact a line: `show unwind|debug|resources|tables FILE`. The lines are those of
+//! the programs tools/show_*.txt, so that the two can be compared, and tools/compare_unwind, compare_debug and
+//! compare_resources take it by a script of the program's name. What no call tells is read from the bytes: three fields of
+//! an ARM64 record, and the first resource entries; of `tables` relocations and symbols are left out. A first line `strict`
+//! says that the image is refused in strict mode; what follows is then what permissive mode gives.
+
+use pe_c::{
+    Arm64Code, Arm64Operation, Arm64Record, Arm64Unwinding, Code, CustomStack, Error, Function, Handler, Image, Mode, Offset,
+    Operation, RegisterKind, Repro, Text, UnwindRecord, VersionName,
+};
+
+/// What a directory gives: nothing where it is refused, which permissive mode leaves out.
+fn there<T>(answer: Result<Option<T>, Error>) -> Option<T> {
+    answer.ok().flatten()
+}
+
+fn show_function(word: &str, function: Function) {
+    println!("{word} {:08x} {:08x} {:08x}", function.begin, function.end, function.unwind);
+}
+
+fn offset_of(offset: Offset) -> String {
+    match offset {
+        Offset::Stack(bytes) => format!("RSP({bytes})"),
+        Offset::Frame(bytes) => format!("FP({bytes})"),
+    }
+}
+
+fn show_code(code: Code) {
+    let operation = match code.operation {
+        Operation::Push(register) => format!("PushNonVolatile({register:?})"),
+        Operation::Alloc(size) => format!("Alloc({size})"),
+        Operation::SetFrame => "SetFPRegister".to_owned(),
+        Operation::Save(register, offset) => format!("SaveNonVolatile({register:?}, {})", offset_of(offset)),
+        Operation::SaveXmm(register, offset) => format!("SaveXMM({register:?}, {})", offset_of(offset)),
+        Operation::Epilog { size_or_low, flags_or_high } => {
+            format!("Epilog {{ offset_low_or_size: {size_or_low}, offset_high_or_flags: {flags_or_high} }}")
+        }
+        Operation::SaveXmm128(register, offset) => format!("SaveXMM128({register:?}, {})", offset_of(offset)),
+        Operation::MachineFrame { has_error_code } => format!("PushMachineFrame({has_error_code})"),
+        Operation::Noop => "Noop".to_owned(),
+    };
+    println!("code {} {operation}", code.code_offset);
+}
+
+fn show_record(record: &UnwindRecord) {
+    let raw = record.raw();
+    println!("record {} {} {} {}", record.version(), record.size_of_prolog(), raw.codes.frame_register, raw.frame_register_offset);
+    for code in record.codes() {
+        match code {
+            Ok(code) => show_code(code),
+            Err(error) => println!("refused {error:?}"),
+        }
+    }
+    match record.handler() {
+        Some(Handler::Exception(address, data)) => println!("handler exception {address:08x} {}", data.len()),
+        Some(Handler::Termination(address, data)) => println!("handler termination {address:08x} {}", data.len()),
+        None => {}
+    }
+    if let Some(function) = record.chained() {
+        show_function("chained", function);
+    }
+}
+
+fn show_x64(image: &Image) {
+    let Some(functions) = there(image.functions()) else {
+        return;
+    };
+    for function in functions.iter() {
+        show_function("function", function);
+        match functions.record(function) {
+            Ok(record) => show_record(&record),
+            Err(error) => println!("refused {error:?}"),
+        }
+    }
+}
+
+fn arm64_operation(operation: Arm64Operation) -> String {
+    use Arm64Operation::*;
+    match operation {
+        AllocSmall { size } => format!("AllocSmall {{ size_bytes: {size} }}"),
+        SaveR19R20Preindexed { offset } => format!("SaveR19R20Preindexed {{ offset_bytes: {offset} }}"),
+        SaveFpLr { offset } => format!("SaveFpLr {{ offset_bytes: {offset} }}"),
+        SaveFpLrPreindexed { offset } => format!("SaveFpLrPreindexed {{ offset_bytes: {offset} }}"),
+        AllocMedium { size } => format!("AllocMedium {{ size_bytes: {size} }}"),
+        SaveRegPair { first, offset } => format!("SaveRegPair {{ first_reg: {first}, offset_bytes: {offset} }}"),
+        SaveRegPairPreindexed { first, offset } => {
+            format!("SaveRegPairPreindexed {{ first_reg: {first}, offset_bytes: {offset} }}")
+        }
+        SaveReg { register, offset } => format!("SaveReg {{ reg: {register}, offset_bytes: {offset} }}"),
+        SaveRegPreindexed { register, offset } => format!("SaveRegPreindexed {{ reg: {register}, offset_bytes: {offset} }}"),
+        SaveLrPair { first, offset } => format!("SaveLrPair {{ first_reg: {first}, offset_bytes: {offset} }}"),
+        SaveFRegPair { first, offset } => format!("SaveFRegPair {{ first_reg: {first}, offset_bytes: {offset} }}"),
+        SaveFRegPairPreindexed { first, offset } => {
+            format!("SaveFRegPairPreindexed {{ first_reg: {first}, offset_bytes: {offset} }}")
+        }
+        SaveFReg { register, offset } => format!("SaveFReg {{ reg: {register}, offset_bytes: {offset} }}"),
+        SaveFRegPreindexed { register, offset } => format!("SaveFRegPreindexed {{ reg: {register}, offset_bytes: {offset} }}"),
+        AllocZ { count } => format!("AllocZ {{ count: {count} }}"),
+        AllocLarge { size } => format!("AllocLarge {{ size_bytes: {size} }}"),
+        AddFp { offset } => format!("AddFp {{ imm8: {}, offset_bytes: {offset} }}", offset / 8),
+        SaveAnyReg { kind, pair, preindexed, register, offset } => {
+            let kind = match kind {
+                RegisterKind::Integer => 0,
+                RegisterKind::Float => 1,
+                RegisterKind::Vector => 2,
+            };
+            format!(
+                "SaveAnyReg {{ kind: {kind}, pair: {pair}, preindexed: {preindexed}, reg: {register}, offset_bytes: {offset} }}"
+            )
+        }
+        SaveZReg { register, number } => format!("SaveZReg {{ r: {register}, o: {number} }}"),
+        SavePReg { register, number } => format!("SavePReg {{ r: {register}, o: {number} }}"),
+        Custom(case) => {
+            let case = match case {
+                CustomStack::TrapFrame => "TrapFrame",
+                CustomStack::MachineFrame => "MachineFrame",
+                CustomStack::Context => "Context",
+                CustomStack::EcContext => "EcContext",
+                CustomStack::ClearUnwoundToCall => "ClearUnwoundToCall",
+            };
+            format!("CustomStack({case})")
+        }
+        plain @ (SetFp | Nop | End | EndC | SaveNext | PacSignLr) => format!("{plain:?}"),
+        Reserved { .. } => "Reserved".to_owned(),
+    }
+}
+
+fn show_arm64_code(code: Arm64Code) {
+    let operation = match code.operation {
+        Arm64Operation::Reserved { opcode, value } => {
+            format!("Reserved {{ opcode: {opcode}, value: {value}, data_len: {} }}", code.length - 1)
+        }
+        operation => arm64_operation(operation),
+    };
+    println!("code {} {} {operation}", code.offset, code.length);
+}
+
+fn show_codes(record: &Arm64Record, start: u32) {
+    println!("codes {start}");
+    match record.codes(start) {
+        Ok(codes) => {
+            for code in codes {
+                match code {
+                    Ok(code) => show_arm64_code(code),
+                    Err(error) => println!("refused {error:?}"),
+                }
+            }
+        }
+        Err(error) => println!("refused {error:?}"),
+    }
+}
+
+/// A number of four bytes at a place of the bytes, which is known to be there.
+fn number_at(bytes: &[u8], place: u64) -> u32 {
+    let place = place as usize;
+    u32::from_le_bytes(bytes[place..place + 4].try_into().expect("four bytes"))
+}
+
+fn show_arm64_record(bytes: &[u8], place: u64, record: &Arm64Record) {
+    let raw = record.raw();
+    let (header, extension) = (number_at(bytes, place), number_at(bytes, place + 4));
+    let (epilogs, words) = (header >> 22 & 31, header >> 27);
+    let size = raw.codes.place + raw.codes.length + 4 * u64::from(raw.has_handler) - place;
+    println!(
+        "record64 {} {} {} {} {epilogs} {words} {size}",
+        raw.function_length, raw.version, raw.has_handler, raw.epilog_in_header
+    );
+    if epilogs == 0 && words == 0 {
+        println!("extension {} {}", extension & 0xFFFF, extension >> 16 & 0xFF);
+    }
+    if let Some((address, data)) = record.handler() {
+        println!("handler64 {address:08x} {}", data.len());
+    }
+    show_codes(record, 0);
+    if let Some(start) = record.epilog_start() {
+        show_codes(record, start);
+    }
+    for scope in record.scopes() {
+        match scope {
+            Ok(scope) => {
+                println!("scope {} {} {}", scope.start_offset, scope.reserved, scope.start_index);
+                show_codes(record, scope.start_index);
+            }
+            Err(error) => println!("refused {error:?}"),
+        }
+    }
+}
+
+fn show_arm64(image: &Image) {
+    let Some(functions) = there(image.arm64_functions()) else {
+        return;
+    };
+    for function in functions.iter() {
+        println!("function64 {:08x} {:08x}", function.begin, function.unwind);
+        match functions.unwinding(function) {
+            Ok(Arm64Unwinding::Packed(packed)) => println!(
+                "packed {} {} {} {} {} {} {}",
+                packed.flag, packed.function_length, packed.reg_f, packed.reg_i, packed.h, packed.cr, packed.frame_size
+            ),
+            Ok(Arm64Unwinding::Record(record)) => {
+                let place = image.place(function.unwind).expect("the record was read");
+                show_arm64_record(image.bytes(), place, &record);
+            }
+            Err(error) => println!("refused {error:?}"),
+        }
+    }
+}
+
+fn show_unwind(image: &Image) {
+    println!("machine {:04x}", image.info().machine);
+    show_x64(image);
+    show_arm64(image);
+}
+
+fn show_debug(image: &Image) {
+    println!("machine {:04x}", image.info().machine);
+    let mut stamp = None;
+    if image.symbol_key().is_err() {
+        return;
+    }
+    for entry in there(image.debug_entries()).into_iter().flatten() {
+        match entry {
+            Ok(it) => {
+                println!(
+                    "entry {} {} {} {} {} {} {} {}",
+                    it.characteristics,
+                    it.time_date_stamp,
+                    it.major_version,
+                    it.minor_version,
+                    it.data_type,
+                    it.size_of_data,
+                    it.address_of_raw_data,
+                    it.pointer_to_raw_data
+                );
+                if it.data_type == 16 {
+                    stamp = stamp.or(Some(it.time_date_stamp));
+                }
+            }
+            Err(error) => println!("refused {error:?}"),
+        }
+    }
+    let key = there(image.symbol_key());
+    if let Some(key) = key {
+        println!("pdb70 {} {} {:?} {:?}", 0x5344_5352, key.age, key.guid, key.name_bytes);
+    }
+    if let Some(it) = there(image.pdb20()) {
+        println!("pdb20 {} {} {} {} {:?}", 0x3031_424E, it.offset, it.signature, it.age, it.name_bytes);
+    }
+    if let Some(key) = key {
+        println!("guid {:?}", key.guid);
+    }
+    if let Some(it) = there(image.vc_features()) {
+        println!(
+            "features {} {} {} {} {}",
+            it.pre_vc_plusplus_count, it.c_and_cplusplus_count, it.guard_stack_count, it.sdl_count, it.guard_count
+        );
+    }
+    if let Some(flags) = there(image.debug_characteristics()) {
+        println!("characteristics {flags}");
+    }
+    match there(image.repro()) {
+        Some(Repro::TimeStamp) => println!("repro {}", stamp.unwrap_or_default()),
+        Some(Repro::Hash(hash)) => println!("hash {} {hash:?}", hash.len()),
+        None => {}
+    }
+    if let Some(pogo) = there(image.pogo()) {
+        println!("pogo {} {}", pogo.signature, pogo.entry_bytes.len());
+        for part in pogo.entries() {
+            match part {
+                Ok(part) => println!("part {} {} {:?}", part.rva, part.size, part.name_bytes),
+                Err(error) => println!("refused {error:?}"),
+            }
+        }
+    }
+}
+
+/// A text, none where it is no text: of an odd number of bytes, or with half a surrogate pair.
+fn whole_text(text: Text) -> Option<String> {
+    if text.0.len() % 2 != 0 {
+        return None;
+    }
+    char::decode_utf16(text.units()).collect::<Result<String, _>>().ok()
+}
+
+fn show_resources(image: &Image) {
+    println!("machine {:04x}", image.info().machine);
+    if image.version().is_err() || image.manifest().is_err() {
+        return;
+    }
+    let directory = image.info().resources;
+    if let Some(root) = image.place(directory.virtual_address).filter(|_| directory.size >= 16) {
+        let counts = number_at(image.bytes(), root + 12);
+        for index in 0..u64::from((counts & 0xFFFF) + (counts >> 16)) {
+            let entry = root + 16 + 8 * index;
+            let (name, offset) = (number_at(image.bytes(), entry), number_at(image.bytes(), entry + 4));
+            println!("entry {}", u64::from(name) << 32 | u64::from(offset));
+        }
+    }
+    if let Some(it) = there(image.version()) {
+        println!(
+            "fixed {} {} {} {} {} {} {} {} {} {} {} {} {}",
+            it.signature,
+            it.struct_version,
+            it.file_version_ms,
+            it.file_version_ls,
+            it.product_version_ms,
+            it.product_version_ls,
+            it.file_flags_mask,
+            it.file_flags,
+            it.file_os,
+            it.file_type,
+            it.file_subtype,
+            it.file_date_ms,
+            it.file_date_ls
+        );
+    }
+    for name in VersionName::ALL {
+        if let Some(text) = there(image.version_text(name)).and_then(whole_text) {
+            println!("{name:?} {:?}", text.as_bytes());
+        }
+    }
+    if let Some(manifest) = there(image.manifest()) {
+        println!("manifest {manifest:?}");
+    }
+}
+
+fn show_tables(image: &Image) {
+    println!("image {}", image.info().machine);
+    for export in there(image.exports()).into_iter().flatten() {
+        match export {
+            Ok(it) => println!("export {} {:?} {:?}", it.rva, it.place, Some(String::from_utf8_lossy(it.name))),
+            Err(error) => println!("refused {error:?}"),
+        }
+    }
+    for import in there(image.imports()).into_iter().flatten() {
+        match import {
+            Ok(it) => {
+                let (library, name) = (String::from_utf8_lossy(it.library), it.name.map(String::from_utf8_lossy));
+                println!("import {} {} {library:?} {name:?}", it.rva, it.ordinal);
+            }
+            Err(error) => println!("refused {error:?}"),
+        }
+    }
+}
+
+/// The first refusal of an image's directories.
+fn refusal(image: &Image) -> Result<(), Error> {
+    for import in image.imports()?.into_iter().flatten() {
+        import?;
+    }
+    image.symbol_key()?;
+    image.functions()?;
+    image.arm64_functions()?;
+    image.certificates().try_for_each(|certificate| certificate.map(|_| ()))?;
+    image.version()?;
+    image.manifest()?;
+    Ok(())
+}
+
+/// The image in strict mode; in permissive mode where that refuses it.
+fn read(bytes: &[u8]) -> Result<Image<'_>, Error> {
+    let strict = Image::parse(bytes, Mode::Strict).and_then(|image| refusal(&image).map(|()| image));
+    strict.or_else(|error| {
+        println!("strict {error:?}");
+        let image = Image::parse(bytes, Mode::Permissive)?;
+        for import in image.imports()?.into_iter().flatten() {
+            import?;
+        }
+        Ok(image)
+    })
+}
+
+fn main() {
+    let words: Vec<String> = std::env::args().skip(1).collect();
+    let [what, file] = words.as_slice() else {
+        eprintln!("usage: show unwind|debug|resources|tables FILE");
+        std::process::exit(2);
+    };
+    let show = match what.as_str() {
+        "unwind" => show_unwind,
+        "debug" => show_debug,
+        "resources" => show_resources,
+        _ => show_tables,
+    };
+    let bytes = match std::fs::read(file) {
+        Ok(bytes) => bytes,
+        Err(error) => {
+            eprintln!("show: {file}: {error}");
+            std::process::exit(3);
+        }
+    };
+    match read(&bytes) {
+        Ok(image) => show(&image),
+        Err(error) => println!("refused {error:?}"),
+    }
+}

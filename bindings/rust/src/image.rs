@@ -1,0 +1,294 @@
+//! Images, modes and errors, and how calls are made.
+
+use crate::sys::{self, ImageInfo, Section};
+use alloc::vec::Vec;
+use core::fmt;
+
+/// What becomes of a damaged header or directory.
+#[derive(Clone, Copy, Debug, PartialEq, Eq, Hash)]
+pub enum Mode {
+    /// It is refused.
+    Strict,
+    /// Headers may overlap the DOS header, and a debug directory may pass the end of the bytes.
+    Permissive,
+}
+
+impl Mode {
+    pub(crate) fn number(self) -> u32 {
+        match self {
+            Mode::Strict => 0,
+            Mode::Permissive => 1,
+        }
+    }
+}
+
+/// Why a call refuses, by the library's number, which stays the same from version to version. Its text is the library's.
+///
+/// ```
+/// use pe_c::{Error, Image, Mode};
+///
+/// let refusal = Image::parse(b"MZ", Mode::Strict).unwrap_err();
+/// assert_eq!(refusal, Error::SHORT);
+/// assert_eq!(refusal.number(), 2);
+/// println!("{refusal}");
+/// ```
+#[derive(Clone, Copy, PartialEq, Eq, Hash)]
+pub struct Error(u32);
+
+macro_rules! errors {
+    ($($(#[$doc:meta])* $name:ident = $number:literal;)*) => {
+        impl Error {
+            $($(#[$doc])* pub const $name: Error = Error($number);)*
+
+            /// The name of the constant. None for a number that has none here.
+            pub const fn name(self) -> Option<&'static str> {
+                match self.0 {
+                    $($number => Some(stringify!($name)),)*
+                    _ => None,
+                }
+            }
+        }
+    };
+}
+
+errors! {
+    /// Memory was refused: to [`Image::parse`] alone.
+    MEMORY = 1;
+    /// The bytes end too early.
+    SHORT = 2;
+    /// The bytes begin no image.
+    BAD_MAGIC = 3;
+    /// The DOS header points into itself.
+    HEADER_POINTER = 4;
+    /// The name of a library or an import has no end, or is not UTF-8.
+    IMPORT_NAME = 5;
+    /// The revision of a certificate is none.
+    CERTIFICATE_REVISION = 7;
+    /// The type of a certificate is none.
+    CERTIFICATE_TYPE = 8;
+    /// The bytes end before a certificate does.
+    CERTIFICATE_SIZE = 9;
+    /// The bytes end before the certificate table does.
+    CERTIFICATE_TABLE = 10;
+    /// An address has no place in the file.
+    UNMAPPED = 11;
+    /// The bytes end before the debug directory does.
+    DEBUG_BOUNDS = 12;
+    /// A debug record is too small for what it is.
+    DEBUG_SIZE = 13;
+    /// The bytes end before a debug record does.
+    DEBUG_DATA = 14;
+    /// A POGO record has no room for entries.
+    POGO_SIZE = 15;
+    /// The name of a POGO entry has no end.
+    POGO_NAME = 16;
+    /// The exception directory is no whole number of entries.
+    EXCEPTION_SIZE = 17;
+    /// The place of the exception directory is no multiple of four.
+    EXCEPTION_OFFSET = 18;
+    /// The bytes end before the exception directory does.
+    EXCEPTION_BOUNDS = 19;
+    /// The table has no such entry.
+    FUNCTION_INDEX = 20;
+    /// A link leads to no entry of the table.
+    FUNCTION_LINK = 21;
+    /// Links, or chained records, never end.
+    FUNCTION_CYCLE = 22;
+    /// An unwind record is of no known version.
+    UNWIND_VERSION = 23;
+    /// Bytes begin with no unwind code.
+    UNWIND_CODE = 24;
+    /// An ARM64 unwind record is of no known version.
+    ARM64_VERSION = 25;
+    /// No ARM64 codes can be read from there.
+    ARM64_STREAM = 26;
+    /// An ARM64 code is cut.
+    ARM64_CUT = 27;
+    /// Resource data pass the bytes that are to hold them.
+    RESOURCE_BOUNDS = 28;
+    /// A resource directory leads back to itself.
+    RESOURCE_CYCLE = 29;
+    /// A version string has no value.
+    RESOURCE_STRING = 30;
+}
+
+impl Error {
+    /// The number, as in `pe.h`.
+    pub const fn number(self) -> u32 {
+        self.0
+    }
+}
+
+impl fmt::Debug for Error {
+    fn fmt(&self, f: &mut fmt::Formatter<'_>) -> fmt::Result {
+        match self.name() {
+            Some(name) => f.write_str(name),
+            None => write!(f, "Error({})", self.0),
+        }
+    }
+}
+
+impl fmt::Display for Error {
+    fn fmt(&self, f: &mut fmt::Formatter<'_>) -> fmt::Result {
+        let mut room = [0; 128];
+        // SAFETY: the pointer and the length are those of one array, which is lent for the call.
+        let length = unsafe { sys::pe_c_text(self.0, room.as_mut_ptr(), room.len()) };
+        let text = room.get(..length).unwrap_or(&room);
+        f.write_str(core::str::from_utf8(text).unwrap_or("refused"))
+    }
+}
+
+impl core::error::Error for Error {}
+
+/// An answer by its number.
+pub(crate) fn answer<T>(number: u32, value: T) -> Result<Option<T>, Error> {
+    match number {
+        sys::DONE => Ok(Some(value)),
+        sys::NOTHING => Ok(None),
+        number => Err(Error(number)),
+    }
+}
+
+/// The bytes of a range that the library gave. They are always there.
+pub(crate) fn bytes_of(range: sys::Range, bytes: &[u8]) -> Result<&[u8], Error> {
+    range.of(bytes).ok_or(Error::SHORT)
+}
+
+/// The bytes up to the first zero.
+pub(crate) fn up_to_zero(bytes: &[u8]) -> &[u8] {
+    bytes.split(|byte| *byte == 0).next().unwrap_or_default()
+}
+
+impl Section {
+    /// The name, without the zeros behind it.
+    pub fn name(&self) -> &[u8] {
+        up_to_zero(&self.name)
+    }
+}
+
+/// An image: its bytes, its headers and its sections.
+#[derive(Clone)]
+pub struct Image<'a> {
+    bytes: &'a [u8],
+    mode: Mode,
+    info: ImageInfo,
+    sections: Vec<Section>,
+}
+
+impl fmt::Debug for Image<'_> {
+    fn fmt(&self, f: &mut fmt::Formatter<'_>) -> fmt::Result {
+        f.debug_struct("Image").field("mode", &self.mode).field("info", &self.info).field("sections", &self.sections).finish()
+    }
+}
+
+/// A call of an image.
+type Call<T> =
+    unsafe extern "C" fn(*const u8, usize, *const ImageInfo, *const Section, usize, u32, *mut T) -> u32;
+/// A call of an image that takes one thing more.
+type CallWith<M, T> =
+    unsafe extern "C" fn(*const u8, usize, *const ImageInfo, *const Section, usize, u32, M, *mut T) -> u32;
+
+// SAFETY of all calls here: they are the declarations of `sys`, which fit the exports. Each pointer and length are those of
+// one borrow that lives over the call; what is lent to be written overlaps nothing, and is initialised. The library has no
+// other premise, and all that it writes are numbers.
+
+impl<'a> Image<'a> {
+    /// Reads the headers and the section headers: [`SHORT`](Error::SHORT), [`BAD_MAGIC`](Error::BAD_MAGIC), and in strict mode
+    /// [`HEADER_POINTER`](Error::HEADER_POINTER). [`MEMORY`](Error::MEMORY) where there is none for the section headers.
+    pub fn parse(bytes: &'a [u8], mode: Mode) -> Result<Self, Error> {
+        let mut info = ImageInfo::default();
+        // SAFETY: as above.
+        let number = unsafe { sys::pe_c_image(bytes.as_ptr(), bytes.len(), mode.number(), &mut info) };
+        if number != sys::DONE {
+            return Err(Error(number));
+        }
+        let count = usize::from(info.number_of_sections);
+        let mut sections = Vec::new();
+        sections.try_reserve_exact(count).map_err(|_| Error::MEMORY)?;
+        sections.resize(count, Section::default());
+        // SAFETY: as above.
+        let number = unsafe { sys::pe_c_sections(bytes.as_ptr(), bytes.len(), &info, sections.as_mut_ptr(), count) };
+        if number != sys::DONE {
+            return Err(Error(number));
+        }
+        Ok(Image { bytes, mode, info, sections })
+    }
+
+    /// The bytes that it was read from.
+    pub fn bytes(&self) -> &'a [u8] {
+        self.bytes
+    }
+
+    /// The mode in which it is read.
+    pub fn mode(&self) -> Mode {
+        self.mode
+    }
+
+    /// What the headers say.
+    pub fn info(&self) -> &ImageInfo {
+        &self.info
+    }
+
+    /// The section headers, in their order.
+    pub fn sections(&self) -> &[Section] {
+        &self.sections
+    }
+
+    /// The place of an address in the file, by the first section that covers it. It may be behind the end of the bytes.
+    pub fn place(&self, rva: u32) -> Option<u64> {
+        let mut place = 0;
+        // SAFETY: as above.
+        let number = unsafe {
+            sys::pe_c_place(self.sections.as_ptr(), self.sections.len(), self.info.file_alignment, rva, &mut place)
+        };
+        (number == sys::DONE).then_some(place)
+    }
+
+    /// Makes a call of the image.
+    pub(crate) fn ask<T: Default>(&self, call: Call<T>) -> Result<Option<T>, Error> {
+        let mut out = T::default();
+        let (bytes, sections) = (self.bytes, &self.sections);
+        // SAFETY: as above.
+        let number = unsafe {
+            let mode = self.mode.number();
+            call(bytes.as_ptr(), bytes.len(), &self.info, sections.as_ptr(), sections.len(), mode, &mut out)
+        };
+        answer(number, out)
+    }
+
+    /// Makes a call that takes a number besides.
+    pub(crate) fn ask_with<T: Default>(&self, call: CallWith<u32, T>, more: u32) -> Result<Option<T>, Error> {
+        let mut out = T::default();
+        let (bytes, sections) = (self.bytes, &self.sections);
+        // SAFETY: as above.
+        let number = unsafe {
+            let mode = self.mode.number();
+            call(bytes.as_ptr(), bytes.len(), &self.info, sections.as_ptr(), sections.len(), mode, more, &mut out)
+        };
+        answer(number, out)
+    }
+
+    /// Makes a call that takes a record besides.
+    pub(crate) fn ask_of<M, T: Default>(&self, call: CallWith<*const M, T>, more: &M) -> Result<Option<T>, Error> {
+        let mut out = T::default();
+        let (bytes, sections) = (self.bytes, &self.sections);
+        // SAFETY: as above.
+        let number = unsafe {
+            let mode = self.mode.number();
+            call(bytes.as_ptr(), bytes.len(), &self.info, sections.as_ptr(), sections.len(), mode, more, &mut out)
+        };
+        answer(number, out)
+    }
+
+    /// Makes a call that moves a walk.
+    pub(crate) fn step<W, T: Default>(&self, call: CallWith<*mut W, T>, walk: &mut W) -> Result<Option<T>, Error> {
+        let mut out = T::default();
+        let (bytes, sections) = (self.bytes, &self.sections);
+        // SAFETY: as above.
+        let number = unsafe {
+            let mode = self.mode.number();
+            call(bytes.as_ptr(), bytes.len(), &self.info, sections.as_ptr(), sections.len(), mode, walk, &mut out)
+        };
+        answer(number, out)
+    }
+}

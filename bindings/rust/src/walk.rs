@@ -1,0 +1,81 @@
+//! What all walks share: steps over bytes, and that nothing comes behind an end or a refusal.
+
+use crate::image::{answer, Error, Image};
+
+/// A call over bytes that takes a record and a number, and gives a record.
+pub(crate) type Look<M, N, T> = unsafe extern "C" fn(*const u8, usize, *const M, N, *mut T) -> u32;
+
+/// Makes such a call.
+pub(crate) fn look<M, N, T: Default>(bytes: &[u8], call: Look<M, N, T>, more: &M, n: N) -> Result<Option<T>, Error> {
+    let mut out = T::default();
+    // SAFETY: the call is one of the declarations of `sys`. The pointer and the length are those of one slice, `more` and
+    // `out` are lent for the call, and the library has no other premise.
+    let number = unsafe { call(bytes.as_ptr(), bytes.len(), more, n, &mut out) };
+    answer(number, out)
+}
+
+/// A walk over bytes.
+#[derive(Clone, Copy, Debug)]
+pub(crate) struct Walk<'a, W> {
+    pub bytes: &'a [u8],
+    walk: W,
+    is_over: bool,
+}
+
+impl<'a, W> Walk<'a, W> {
+    pub fn new(bytes: &'a [u8], walk: W) -> Self {
+        Walk { bytes, walk, is_over: false }
+    }
+
+    /// The next item.
+    pub fn step<T: Default>(
+        &mut self,
+        call: unsafe extern "C" fn(*const u8, usize, *mut W, *mut T) -> u32,
+    ) -> Option<Result<T, Error>> {
+        if self.is_over {
+            return None;
+        }
+        let mut out = T::default();
+        // SAFETY: as in `look`; the walk is lent for the call too, and overlaps nothing.
+        let number = unsafe { call(self.bytes.as_ptr(), self.bytes.len(), &mut self.walk, &mut out) };
+        let item = answer(number, out).transpose();
+        self.is_over = !matches!(item, Some(Ok(_)));
+        item
+    }
+}
+
+/// A walk over an image.
+#[derive(Clone, Debug)]
+pub(crate) struct ImageWalk<'i, 'a, W> {
+    pub image: &'i Image<'a>,
+    walk: W,
+    is_over: bool,
+}
+
+/// A call that moves a walk over an image.
+pub(crate) type ImageStep<W, T> = unsafe extern "C" fn(
+    *const u8,
+    usize,
+    *const crate::sys::ImageInfo,
+    *const crate::sys::Section,
+    usize,
+    u32,
+    *mut W,
+    *mut T,
+) -> u32;
+
+impl<'i, 'a, W> ImageWalk<'i, 'a, W> {
+    pub fn new(image: &'i Image<'a>, walk: W) -> Self {
+        ImageWalk { image, walk, is_over: false }
+    }
+
+    /// The next item.
+    pub fn step<T: Default>(&mut self, call: ImageStep<W, T>) -> Option<Result<T, Error>> {
+        if self.is_over {
+            return None;
+        }
+        let item = self.image.step(call, &mut self.walk).transpose();
+        self.is_over = !matches!(item, Some(Ok(_)));
+        item
+    }
+}

@@ -1,0 +1,426 @@
+//! What each call gives of images that are made by hand. Expected values come from how they are made.
+
+mod made;
+
+use made::*;
+use pe_c::{
+    Arm64Operation, Arm64Unwinding, Error, Handler, Image, Mode, Offset, Operation, Register, Repro, VersionName,
+};
+
+fn strict(bytes: &[u8]) -> Image<'_> {
+    Image::parse(bytes, Mode::Strict).unwrap()
+}
+
+#[test]
+fn headers_and_sections_are_read() {
+    let image = strict(SMALL);
+    let info = image.info();
+    assert_eq!((info.machine, info.width, info.entry, info.base), (X64, 64, 0x1000, 0x1_4000_0000));
+    assert_eq!((info.sections_place, info.file_alignment), (0x148, 0x200));
+    assert_eq!((info.exceptions.virtual_address, info.exceptions.size), (0x1000, 24));
+    assert_eq!((info.certificates.virtual_address, info.certificates.size), (0x400, 16));
+    assert_eq!((info.debug.virtual_address, info.debug.size), (0x1040, 28));
+    assert_eq!((info.exports.virtual_address, info.imports.size, info.resources.size), (0, 0, 0));
+    let [section] = image.sections() else { panic!("one section") };
+    assert_eq!(section.name(), b".rdata");
+    assert_eq!((section.virtual_size, section.virtual_address), (0x100, 0x1000));
+    assert_eq!((section.size_of_raw_data, section.pointer_to_raw_data), (0x200, 0x200));
+    assert_eq!(section.characteristics, 0x4000_0040);
+}
+
+#[test]
+fn addresses_have_places_where_a_section_covers_them() {
+    let image = strict(SMALL);
+    assert_eq!(image.place(0x1000), Some(0x200));
+    assert_eq!(image.place(0x1040), Some(0x240));
+    assert_eq!(image.place(0x0FFF), None);
+    assert_eq!(image.place(0xFFFF_FFFF), None);
+}
+
+#[test]
+fn images_are_refused_by_number() {
+    assert_eq!(Image::parse(&[], Mode::Strict).unwrap_err(), Error::SHORT);
+    assert_eq!(Image::parse(&[0; 64], Mode::Strict).unwrap_err(), Error::BAD_MAGIC);
+    assert_eq!(Error::BAD_MAGIC.number(), 3);
+    let mut low = [0; 64];
+    low[..2].copy_from_slice(b"MZ");
+    low[0x20..0x22].copy_from_slice(b"PE");
+    low[0x3C] = 0x20;
+    assert_eq!(Image::parse(&low, Mode::Strict).unwrap_err(), Error::HEADER_POINTER);
+    assert!(Image::parse(&low, Mode::Permissive).is_ok());
+    let mut many = SMALL.to_vec();
+    many[0x46..0x48].copy_from_slice(&[0xFF, 0xFF]);
+    assert_eq!(Image::parse(&many, Mode::Strict).unwrap_err(), Error::SHORT);
+}
+
+#[test]
+fn answers_have_texts() {
+    let mut texts = Vec::new();
+    for number in (0..=40).chain([100, 101, 102, u32::MAX]) {
+        let mut room = [0; 128];
+        // SAFETY: the pointer and the length are those of one array.
+        let length = unsafe { pe_c::sys::pe_c_text(number, room.as_mut_ptr(), room.len()) };
+        assert!(0 < length && length < 128, "{number}");
+        texts.push(String::from_utf8(room[..length].to_vec()).unwrap());
+    }
+    assert_eq!(Error::SHORT.to_string(), texts[2]);
+    assert!(texts[2].contains("too early"), "{}", texts[2]);
+    // those of 1 to 37, and of 100 and 101, differ from each other
+    let mut known: Vec<_> = texts[1..38].iter().chain(&texts[41..43]).collect();
+    known.sort();
+    known.dedup();
+    assert_eq!(known.len(), 39);
+}
+
+#[test]
+fn a_text_is_cut_at_the_end_of_its_room() {
+    let mut whole = [0; 128];
+    let mut room = [b'.'; 8];
+    // SAFETY: the pointers and the lengths are those of arrays; the last is of no bytes.
+    unsafe {
+        let length = pe_c::sys::pe_c_text(2, whole.as_mut_ptr(), whole.len());
+        assert_eq!(pe_c::sys::pe_c_text(2, room.as_mut_ptr(), 6), length);
+        assert_eq!(pe_c::sys::pe_c_text(2, core::ptr::null_mut(), 0), length);
+    }
+    assert_eq!(room[..6], whole[..6]);
+    assert_eq!(room[6..], *b"..");
+}
+
+#[test]
+fn debug_records_are_read() {
+    let bytes = with_debug();
+    let image = strict(&bytes);
+    let entries: Vec<_> = image.debug_entries().unwrap().unwrap().map(Result::unwrap).collect();
+    assert_eq!(entries.iter().map(|entry| entry.data_type).collect::<Vec<_>>(), [2, 12, 13, 16, 20]);
+    assert_eq!(entries[0].size_of_data, 30);
+    assert_eq!((entries[0].address_of_raw_data, entries[0].pointer_to_raw_data), (ADDRESS, PLACE));
+    assert_eq!(entries[3].time_date_stamp, 0x5F00_0000);
+    let key = image.symbol_key().unwrap().unwrap();
+    assert_eq!((key.guid, key.age, key.name_bytes, key.name()), (GUID, 1, b"a.pdb\0".as_slice(), b"a.pdb".as_slice()));
+    assert_eq!(key.to_string(), "497B72F6390A44FC878E5A2D63B6CC4B1");
+    assert!(bytes.as_ptr_range().contains(&key.name().as_ptr()), "the name is borrowed");
+    assert_eq!(image.pdb20(), Ok(None));
+    let features = image.vc_features().unwrap().unwrap();
+    assert_eq!((features.pre_vc_plusplus_count, features.guard_count), (1, 5));
+    assert_eq!(image.debug_characteristics(), Ok(Some(0x41)));
+    assert_eq!(image.repro(), Ok(Some(Repro::Hash(b"hash"))));
+    let pogo = image.pogo().unwrap().unwrap();
+    assert_eq!((pogo.signature, pogo.entry_bytes.len()), (0x4C54_4347, 36));
+    let parts: Vec<_> = pogo.entries().map(Result::unwrap).map(|part| (part.rva, part.size, part.name())).collect();
+    assert_eq!(parts, [(0x1000, 16, b".text$mn".as_slice()), (0x2000, 8, b".bss".as_slice())]);
+}
+
+#[test]
+fn older_debug_records_are_read() {
+    let bytes = with_old_debug();
+    let image = strict(&bytes);
+    assert_eq!(image.symbol_key(), Ok(None));
+    let record = image.pdb20().unwrap().unwrap();
+    assert_eq!((record.offset, record.signature, record.age), (0, 0x3333, 7));
+    assert_eq!((record.name(), record.name_bytes.len()), (b"b.pdb".as_slice(), 8));
+    assert_eq!(image.repro(), Ok(Some(Repro::TimeStamp)));
+    assert_eq!(image.vc_features(), Ok(None));
+    assert_eq!(image.debug_characteristics(), Ok(None));
+    assert!(image.pogo().unwrap().is_none());
+}
+
+#[test]
+fn damaged_debug_data_are_refused() {
+    // the file's name ends behind the file
+    let mut bytes = with_debug();
+    let table = bytes.windows(4).rposition(|word| word == 0x5F00_0000u32.to_le_bytes()).unwrap() - 4 * 28 - 4;
+    bytes[table + 16..table + 20].copy_from_slice(&0x10_0000u32.to_le_bytes());
+    let image = strict(&bytes);
+    assert_eq!(image.symbol_key(), Err(Error::DEBUG_DATA));
+    assert_eq!(image.repro(), Err(Error::DEBUG_DATA));
+    // a directory that passes the end is cut in permissive mode
+    let mut long = SMALL.to_vec();
+    long[0xFC..0x100].copy_from_slice(&0x1000u32.to_le_bytes());
+    assert_eq!(strict(&long).debug_entries().err(), Some(Error::DEBUG_BOUNDS));
+    let image = Image::parse(&long, Mode::Permissive).unwrap();
+    let entries: Vec<_> = image.debug_entries().unwrap().unwrap().collect();
+    assert_eq!(entries.len(), 17);
+    assert!(entries[..16].iter().all(Result::is_ok));
+    assert_eq!(entries[16], Err(Error::SHORT));
+}
+
+#[test]
+fn certificates_are_read() {
+    let found: Vec<_> = strict(SMALL).certificates().map(Result::unwrap).map(|it| (it.length, it.revision, it.kind, it.body)).collect();
+    assert_eq!(found, [(9, 0x200, 2, [0xAA].as_slice())]);
+    let bytes = with_certificates();
+    let found: Vec<_> = strict(&bytes).certificates().map(Result::unwrap).map(|it| (it.length, it.revision, it.kind)).collect();
+    assert_eq!(found, [(9, 0x200, 2), (8, 0x100, 1)]);
+    assert_eq!(strict(&with_debug()).certificates().count(), 0);
+}
+
+#[test]
+fn damaged_certificates_are_refused() {
+    let bytes = with_certificates();
+    let start = (PLACE + 0x200) as usize;
+    for (place, value, error) in [
+        (start + 5, 3, Error::CERTIFICATE_REVISION),
+        (start + 6, 9, Error::CERTIFICATE_TYPE),
+        (start + 2, 1, Error::CERTIFICATE_SIZE),
+        (0xEC, 25, Error::CERTIFICATE_TABLE),
+    ] {
+        let mut damaged = bytes.clone();
+        damaged[place] = value;
+        let image = strict(&damaged);
+        let found: Vec<_> = image.certificates().collect();
+        assert_eq!(found, [Err(error)]);
+    }
+}
+
+#[test]
+fn functions_are_found() {
+    let image = strict(SMALL);
+    let functions = image.functions().unwrap().unwrap();
+    assert_eq!(functions.len(), 2);
+    let all: Vec<_> = functions.iter().map(|it| (it.begin, it.end, it.unwind)).collect();
+    assert_eq!(all, [(0x1000, 0x1010, 0x1020), (0x1020, 0x1040, 0x1001)]);
+    for (address, begin) in [(0x0FFF, None), (0x1000, Some(0x1000)), (0x100F, Some(0x1000)), (0x1010, None), (0x1025, Some(0x1020)), (0x1040, None), (u32::MAX, None)] {
+        assert_eq!(functions.find(address).unwrap().map(|it| it.begin), begin);
+    }
+    // the record behind the link of the second is that of the first
+    let first = functions.record(functions.get(0).unwrap()).unwrap();
+    let second = functions.record(functions.get(1).unwrap()).unwrap();
+    assert_eq!(first.raw(), second.raw());
+    let codes: Vec<_> = first.codes().map(|code| code.unwrap()).map(|code| (code.code_offset, code.operation)).collect();
+    assert_eq!(codes, [(4, Operation::Alloc(40)), (1, Operation::Push(Register(5)))]);
+}
+
+#[test]
+fn records_are_read() {
+    let bytes = with_functions();
+    let image = strict(&bytes);
+    let functions = image.functions().unwrap().unwrap();
+    let record = functions.record(functions.get(0).unwrap()).unwrap();
+    assert_eq!((record.version(), record.size_of_prolog()), (1, 8));
+    assert_eq!(record.frame(), Some((Register(5), 32)));
+    assert_eq!(record.frame().unwrap().0.name(), "rbp");
+    let codes: Vec<_> = record.codes().map(|code| code.unwrap().operation).collect();
+    assert_eq!(codes, [Operation::Alloc(32), Operation::SetFrame, Operation::Push(Register(5))]);
+    let Some(Handler::Exception(0x1100, data)) = record.handler() else { panic!("a handler") };
+    assert_eq!(data[..4], [1, 0, 0, 0]);
+    assert_eq!(data.as_ptr_range().end, bytes.as_ptr_range().end, "they go to the end of the bytes");
+    let scopes: Vec<_> = record.scopes().unwrap().map(Result::unwrap).collect();
+    assert_eq!(scopes.iter().map(|it| [it.begin, it.end, it.handler, it.target]).collect::<Vec<_>>(), [[0x1002, 0x1008, 1, 0x100A]]);
+    let record = functions.record(functions.get(1).unwrap()).unwrap();
+    let codes: Vec<_> = record.codes().map(|code| code.unwrap()).map(|code| (code.code_offset, code.operation)).collect();
+    assert_eq!(codes, [(5, Operation::Save(Register(3), Offset::Frame(40)))]);
+    assert_eq!(record.chained(), functions.get(0));
+    assert!(record.handler().is_none() && record.scopes().is_none());
+}
+
+#[test]
+fn plans_lead_to_the_root() {
+    let bytes = with_functions();
+    let image = strict(&bytes);
+    let functions = image.functions().unwrap().unwrap();
+    let chained = |index| -> Vec<_> {
+        functions.plan(functions.get(index).unwrap()).map(|record| record.map(|it| it.chained().is_some())).collect()
+    };
+    assert_eq!(chained(0), [Ok(false)]);
+    assert_eq!(chained(1), [Ok(true), Ok(false)]);
+    assert_eq!(chained(2), [Ok(false)], "the link leads to the first function");
+    let endless = chained(3);
+    assert_eq!(endless.last(), Some(&Err(Error::FUNCTION_CYCLE)));
+    assert!(endless[..endless.len() - 1].iter().all(|it| *it == Ok(true)));
+}
+
+/// Each operation of versions 1 and 2, by the bytes of its code.
+#[test]
+fn each_operation_is_read() {
+    let frames = [(0, Offset::Stack as fn(u32) -> Offset), (5, Offset::Frame as fn(u32) -> Offset)];
+    for (frame, at) in frames {
+        for (version, slots, operation) in [
+            (1, vec![9, 0x50], Operation::Push(Register(5))),
+            (1, vec![9, 0x01, 6, 0], Operation::Alloc(48)),
+            (1, vec![9, 0x11, 0, 0, 2, 0], Operation::Alloc(0x2_0000)),
+            (1, vec![9, 0xF2], Operation::Alloc(128)),
+            (1, vec![9, 0x03], Operation::SetFrame),
+            (1, vec![9, 0x34, 5, 0], Operation::Save(Register(3), at(40))),
+            (1, vec![9, 0x35, 0, 0, 1, 0], Operation::Save(Register(3), at(0x1_0000))),
+            (1, vec![9, 0x66, 2, 0], Operation::SaveXmm(Register(23), at(32))),
+            (2, vec![9, 0x16], Operation::Epilog { size_or_low: 9, flags_or_high: 1 }),
+            (1, vec![9, 0x67, 0, 0, 1, 0], Operation::SaveXmm128(Register(23), at(0x1_0000))),
+            (2, vec![9, 0x07, 0, 0, 0, 0], Operation::Noop),
+            (1, vec![9, 0x68, 2, 0], Operation::SaveXmm128(Register(23), at(32))),
+            (1, vec![9, 0x69, 0, 0, 1, 0], Operation::SaveXmm128(Register(23), at(0x1_0000))),
+            (1, vec![9, 0x0A], Operation::MachineFrame { has_error_code: false }),
+            (1, vec![9, 0x1A], Operation::MachineFrame { has_error_code: true }),
+        ] {
+            let mut made = Made::new(X64);
+            let record = [[version, 9, slots.len() as u8 / 2, frame].as_slice(), &slots].concat();
+            let address = made.put(&record);
+            let table = made.put_words(&[0x5000, 0x5010, address]);
+            made.directory(EXCEPTIONS, table, 12);
+            let bytes = made.image();
+            let image = strict(&bytes);
+            let functions = image.functions().unwrap().unwrap();
+            let record = functions.record(functions.get(0).unwrap()).unwrap();
+            let codes: Vec<_> = record.codes().collect();
+            let [Ok(code)] = codes[..] else { panic!("one code of {slots:?}") };
+            assert_eq!((code.code_offset, code.operation), (9, operation));
+        }
+    }
+}
+
+#[test]
+fn arm64_functions_are_read() {
+    let bytes = with_arm64_functions();
+    let image = strict(&bytes);
+    assert!(image.functions().unwrap().is_none());
+    let functions = image.arm64_functions().unwrap().unwrap();
+    assert_eq!(functions.iter().map(|it| it.begin).collect::<Vec<_>>(), [0x5000, 0x5010]);
+    let Arm64Unwinding::Packed(packed) = functions.unwinding(functions.get(0).unwrap()).unwrap() else {
+        panic!("packed data")
+    };
+    assert_eq!((packed.is_packed, packed.flag, packed.function_length, packed.frame_size), (1, 1, 16, 96));
+    assert_eq!((packed.reg_f, packed.reg_i, packed.h, packed.cr), (1, 2, 1, 3));
+    let Arm64Unwinding::Record(record) = functions.unwinding(functions.get(1).unwrap()).unwrap() else {
+        panic!("a record")
+    };
+    assert_eq!((record.function_length(), record.epilog_start()), (64, None));
+    let scopes: Vec<_> = record.scopes().map(Result::unwrap).map(|it| (it.start_offset, it.start_index)).collect();
+    assert_eq!(scopes, [(48, 5)]);
+    let read = |start| -> Vec<_> {
+        record.codes(start).unwrap().map(Result::unwrap).map(|it| (it.offset, it.length, it.operation)).collect()
+    };
+    let alloc = Arm64Operation::AllocMedium { size: 32 };
+    let epilog = [(5, 2, alloc), (7, 1, Arm64Operation::End)];
+    assert_eq!(read(5), epilog);
+    let prolog = [
+        (0, 1, Arm64Operation::SaveFpLrPreindexed { offset: 16 }),
+        (1, 2, alloc),
+        (3, 1, Arm64Operation::SetFp),
+        (4, 1, Arm64Operation::End),
+    ];
+    assert_eq!(read(0), [prolog.as_slice(), &epilog].concat());
+    assert_eq!(record.codes(9).err(), Some(Error::ARM64_STREAM));
+    let Some((0x1100, data)) = record.handler() else { panic!("a handler") };
+    assert_eq!(data[..4], [0x77; 4]);
+}
+
+/// Each ARM64 operation, by the bytes of its code.
+#[test]
+fn each_arm64_operation_is_read() {
+    use pe_c::{CustomStack::*, RegisterKind};
+    use Arm64Operation::*;
+    for (code, operation) in [
+        (vec![0x02], AllocSmall { size: 32 }),
+        (vec![0x23], SaveR19R20Preindexed { offset: 24 }),
+        (vec![0x43], SaveFpLr { offset: 24 }),
+        (vec![0x83], SaveFpLrPreindexed { offset: 32 }),
+        (vec![0xC1, 0x02], AllocMedium { size: 0x1020 }),
+        (vec![0xC9, 0x42], SaveRegPair { first: 24, offset: 16 }),
+        (vec![0xCD, 0x42], SaveRegPairPreindexed { first: 24, offset: 24 }),
+        (vec![0xD1, 0x42], SaveReg { register: 24, offset: 16 }),
+        (vec![0xD5, 0x42], SaveRegPreindexed { register: 29, offset: 24 }),
+        (vec![0xD7, 0x42], SaveLrPair { first: 29, offset: 16 }),
+        (vec![0xD9, 0x42], SaveFRegPair { first: 13, offset: 16 }),
+        (vec![0xDB, 0x42], SaveFRegPairPreindexed { first: 13, offset: 24 }),
+        (vec![0xDD, 0x42], SaveFReg { register: 13, offset: 16 }),
+        (vec![0xDE, 0x42], SaveFRegPreindexed { register: 10, offset: 24 }),
+        (vec![0xDF, 0x42], AllocZ { count: 0x42 }),
+        (vec![0xE0, 1, 2, 3], AllocLarge { size: 16 * 0x01_0203 }),
+        (vec![0xE1], SetFp),
+        (vec![0xE2, 3], AddFp { offset: 24 }),
+        (vec![0xE3], Nop),
+        (vec![0xE4], End),
+        (vec![0xE5], EndC),
+        (vec![0xE6], SaveNext),
+        (vec![0xE7, 0x44, 0x42], SaveAnyReg { kind: RegisterKind::Float, pair: true, preindexed: false, register: 4, offset: 32 }),
+        (vec![0xE7, 0x24, 0x82], SaveAnyReg { kind: RegisterKind::Vector, pair: false, preindexed: true, register: 4, offset: 32 }),
+        (vec![0xE7, 0x04, 0x02], SaveAnyReg { kind: RegisterKind::Integer, pair: false, preindexed: false, register: 4, offset: 16 }),
+        (vec![0xE7, 0x23, 0xC5], SaveZReg { register: 3, number: 69 }),
+        (vec![0xE7, 0x33, 0xC5], SavePReg { register: 3, number: 69 }),
+        (vec![0xE8], Custom(TrapFrame)),
+        (vec![0xE9], Custom(MachineFrame)),
+        (vec![0xEA], Custom(Context)),
+        (vec![0xEB], Custom(EcContext)),
+        (vec![0xEC], Custom(ClearUnwoundToCall)),
+        (vec![0xFC], PacSignLr),
+        (vec![0xE7, 0x80], Reserved { opcode: 0xE7, value: 0x80 }),
+        (vec![0xFB, 1, 2, 3, 4], Reserved { opcode: 0xFB, value: 0x0102_0304 }),
+        (vec![0xED], Reserved { opcode: 0xED, value: 0 }),
+    ] {
+        let length = code.len() as u32;
+        let mut stream = code.clone();
+        stream.resize(8, 0xE4);
+        let mut made = Made::new(ARM64);
+        let record = made.put_words(&[1 << 21 | 2 << 27]);
+        made.put(&stream);
+        let table = made.put_words(&[0x5000, record]);
+        made.directory(EXCEPTIONS, table, 8);
+        let bytes = made.image();
+        let image = strict(&bytes);
+        let functions = image.arm64_functions().unwrap().unwrap();
+        let Arm64Unwinding::Record(record) = functions.unwinding(functions.get(0).unwrap()).unwrap() else {
+            panic!("a record")
+        };
+        assert_eq!(record.epilog_start(), Some(0));
+        let first = record.codes(0).unwrap().next().unwrap().unwrap();
+        assert_eq!((first.offset, first.length, first.operation), (0, length, operation), "{code:02x?}");
+    }
+}
+
+#[test]
+fn exports_are_listed() {
+    let bytes = with_exports();
+    let image = strict(&bytes);
+    let exports: Vec<_> = image.exports().unwrap().unwrap().map(Result::unwrap).map(|it| (it.name, it.rva, it.place)).collect();
+    assert_eq!(exports, [(b"first".as_slice(), 0x9_0000, None), (b"second".as_slice(), 0x1004, Some(0x404))]);
+    assert!(strict(SMALL).exports().unwrap().is_none());
+}
+
+#[test]
+fn imports_are_listed() {
+    let bytes = with_imports();
+    let image = strict(&bytes);
+    let imports: Vec<_> = image.imports().unwrap().unwrap().map(Result::unwrap).map(|it| (it.library, it.name, it.ordinal, it.rva)).collect();
+    let library = b"KERNEL32.dll".as_slice();
+    assert_eq!(imports, [(library, Some(b"Sleep".as_slice()), 42, 0x8000), (library, None, 17, 0x8008)]);
+    assert!(strict(SMALL).imports().unwrap().is_none());
+}
+
+#[test]
+fn versions_and_manifests_are_read() {
+    let bytes = with_resources();
+    let image = strict(&bytes);
+    let version = image.version().unwrap().unwrap();
+    assert_eq!((version.signature, version.file_os, version.file_type), (FIXED[0], FIXED[8], FIXED[9]));
+    assert_eq!(version.file_version(), [3, 11, 3150, 1013]);
+    assert_eq!(version.product_version(), [1, 2, 3, 4]);
+    let text = |name| image.version_text(name).unwrap().map(|text| text.to_string_lossy());
+    assert_eq!(text(VersionName::CompanyName).as_deref(), Some("Größe & Söhne \u{1F600}"));
+    assert_eq!(text(VersionName::ProductName).as_deref(), Some("made"));
+    assert_eq!(text(VersionName::Comments), None);
+    assert_eq!(image.manifest(), Ok(Some(MANIFEST)));
+    let small = strict(SMALL);
+    assert_eq!((small.version(), small.manifest()), (Ok(None), Ok(None)));
+}
+
+#[test]
+fn images_are_shared_by_threads() {
+    let image = strict(SMALL);
+    std::thread::scope(|scope| {
+        for _ in 0..4 {
+            scope.spawn(|| {
+                for rva in 0x1020..0x1040 {
+                    assert!(image.functions().unwrap().unwrap().find(rva).unwrap().is_some());
+                }
+            });
+        }
+    });
+}
+
+/// What an image gives outlives the image.
+#[test]
+fn what_is_given_outlives_the_image() {
+    fn name(bytes: &[u8]) -> &[u8] {
+        strict(bytes).symbol_key().unwrap().unwrap().name()
+    }
+    assert_eq!(name(&with_debug()), b"a.pdb");
+}

@@ -1,0 +1,141 @@
+//! Bytes and records that are damaged, cut or lie: every call returns, and what it gives lies in the bytes.
+
+mod made;
+mod reading;
+
+use made::*;
+use pe_c::{sys, Mode};
+use reading::read_all;
+
+const MODES: [Mode; 2] = [Mode::Strict, Mode::Permissive];
+
+#[test]
+fn every_beginning_of_an_image_is_read_or_refused() {
+    for (_, image) in made::all() {
+        for length in 0..image.len() {
+            // bytes of their own, so that a tool that watches memory sees a read behind their end
+            let bytes = image[..length].to_vec();
+            for mode in MODES {
+                read_all(&bytes, mode);
+            }
+        }
+    }
+}
+
+#[test]
+fn every_byte_of_an_image_may_change() {
+    for (_, image) in made::all() {
+        for place in 0..image.len() {
+            for value in [0, 1, 0x7F, 0x80, 0xFF] {
+                let mut bytes = image.clone();
+                bytes[place] = value;
+                for mode in MODES {
+                read_all(&bytes, mode);
+            }
+            }
+        }
+    }
+}
+
+/// Numbers at the ends of their ranges, and near the bytes' length.
+fn lies(length: u64) -> Vec<u64> {
+    vec![0, 1, 4, length - 1, length, length + 1, 1 << 31, u32::MAX.into(), 1 << 32, 1 << 63, u64::MAX - 3, u64::MAX]
+}
+
+/// A walk by a range: `SHORT` and then nothing where the range lies; else it ends.
+fn walk<W: Clone, T: Default + PartialEq + std::fmt::Debug>(
+    bytes: &[u8],
+    there: bool,
+    start: W,
+    call: unsafe extern "C" fn(*const u8, usize, *mut W, *mut T) -> u32,
+) {
+    let mut walk = start;
+    let mut step = || {
+        let mut out = T::default();
+        // SAFETY: the pointer and the length are those of one slice, and both records are lent for the call.
+        let answer = unsafe { call(bytes.as_ptr(), bytes.len(), &mut walk, &mut out) };
+        assert!(answer == 0 || out == T::default());
+        answer
+    };
+    let first = step();
+    assert!(there || first == 2);
+    let mut last = first;
+    for _ in 0..bytes.len() {
+        if last != 0 {
+            break;
+        }
+        last = step();
+    }
+    assert!(last != 0, "it ends");
+    assert_eq!((step(), step()), (100, 100), "it stays over");
+}
+
+#[test]
+fn ranges_that_lie_are_refused() {
+    let bytes = with_functions();
+    let (start, length) = (bytes.as_ptr(), bytes.len());
+    for place in lies(length as u64) {
+        for size in lies(length as u64) {
+            let range = sys::Range { place, length: size };
+            let there = range.of(&bytes).is_some();
+            // SAFETY: the pointer and the length are those of one slice, and each record is lent for its call.
+            unsafe {
+                let mut function = sys::Function::default();
+                let answer = sys::pe_c_find_function(start, length, &range, 0x5008, &mut function);
+                assert_eq!(answer == 2, !there);
+                let answer = sys::pe_c_function_at(start, length, &range, 0, &mut function);
+                assert!(there || answer == 2);
+                let mut out = sys::Range::default();
+                let answer = sys::pe_c_scope_table(start, length, &range, &mut out);
+                assert!(there || (answer == 2 && out == sys::Range::default()));
+            }
+            walk(&bytes, there, range, sys::pe_c_next_debug_entry);
+            walk(&bytes, there, range, sys::pe_c_next_pogo_entry);
+            walk(&bytes, there, range, sys::pe_c_next_scope);
+            walk(&bytes, there, range, sys::pe_c_next_arm64_scope);
+            for version in [0, 1, 2, 255] {
+                let codes = sys::Walk { left: range, version, frame_register: 255, spare: [9; 6] };
+                walk(&bytes, there, codes, sys::pe_c_next_code);
+            }
+            for offset in lies(length as u64) {
+                let mut codes = sys::Arm64Walk::default();
+                // SAFETY: as above.
+                let answer = unsafe { sys::pe_c_arm64_codes(start, length, &range, offset, &mut codes) };
+                assert!(there || answer == 2);
+                walk(&bytes, there, sys::Arm64Walk { left: range, offset }, sys::pe_c_next_arm64_code);
+            }
+        }
+    }
+}
+
+#[test]
+fn images_that_lie_are_refused() {
+    let bytes = with_functions();
+    let (start, length) = (bytes.as_ptr(), bytes.len());
+    let mut sections = vec![sys::Section::default(); 65_535];
+    for sections_place in lies(length as u64) {
+        for number_of_sections in [0, 1, 2, 255, 65_534, 65_535] {
+            let image = sys::ImageInfo { sections_place, number_of_sections, ..sys::ImageInfo::default() };
+            // SAFETY: the pointers and lengths are those of one slice and one vector, and the record is lent for the call.
+            let answer = unsafe { sys::pe_c_sections(start, length, &image, sections.as_mut_ptr(), sections.len()) };
+            let there = sections_place.checked_add(40 * u64::from(number_of_sections)).is_some_and(|end| end <= length as u64);
+            assert_eq!(answer == 0, there || number_of_sections == 0, "{sections_place} {number_of_sections}");
+        }
+    }
+    let image = sys::ImageInfo { number_of_sections: 3, ..sys::ImageInfo::default() };
+    // SAFETY: as above.
+    let answer = unsafe { sys::pe_c_sections(start, length, &image, sections.as_mut_ptr(), 2) };
+    assert_eq!(answer, 101);
+}
+
+#[test]
+fn no_bytes_may_be_null() {
+    let mut info = sys::ImageInfo::default();
+    let mut place = 7;
+    // SAFETY: slices of no entries may be null; each record is lent for its call.
+    unsafe {
+        assert_eq!(sys::pe_c_image(core::ptr::null(), 0, 0, &mut info), 2);
+        assert_eq!(sys::pe_c_place(core::ptr::null(), 0, 512, 0x1000, &mut place), 100);
+    }
+    assert_eq!((info, place), (sys::ImageInfo::default(), 7));
+}

@@ -1,0 +1,222 @@
+//! Reads all that the calls give of an image, for tests, the fuzz loop and the bench.
+#![allow(dead_code)]
+
+use pe_c::{Arm64Unwinding, Arm64Record, Error, Handler, Image, Mode, UnwindRecord, VersionName};
+
+/// How many functions, exports and imports of an image are read, at most.
+pub const MOST: usize = 64;
+
+/// What was read.
+#[derive(Clone, Copy, Debug, Default, PartialEq, Eq)]
+pub struct Seen {
+    pub images: u64,
+    pub records: u64,
+    pub codes: u64,
+    pub slices: u64,
+    pub refusals: u64,
+}
+
+impl Seen {
+    pub fn add(&mut self, other: Seen) {
+        self.images += other.images;
+        self.records += other.records;
+        self.codes += other.codes;
+        self.slices += other.slices;
+        self.refusals += other.refusals;
+    }
+
+    /// Reads the ends of a slice of the input.
+    fn touch(&mut self, slice: &[u8]) {
+        self.slices += 1;
+        std::hint::black_box((slice.first(), slice.last()));
+    }
+
+    /// The value of a call, none where it refuses.
+    fn keep<T>(&mut self, answer: Result<Option<T>, Error>) -> Option<T> {
+        answer.unwrap_or_else(|_| {
+            self.refusals += 1;
+            None
+        })
+    }
+
+    /// Counts an item of a walk.
+    fn item<T>(&mut self, item: Result<T, Error>) -> Option<T> {
+        self.keep(item.map(Some))
+    }
+}
+
+fn read_debug(image: &Image, seen: &mut Seen) {
+    if let Some(entries) = seen.keep(image.debug_entries()) {
+        for entry in entries {
+            seen.item(entry);
+        }
+    }
+    if let Some(key) = seen.keep(image.symbol_key()) {
+        assert!(key.name().len() <= key.name_bytes.len());
+        seen.touch(key.name_bytes);
+    }
+    if let Some(record) = seen.keep(image.pdb20()) {
+        seen.touch(record.name_bytes);
+    }
+    seen.keep(image.vc_features());
+    seen.keep(image.debug_characteristics());
+    if let Some(pe_c::Repro::Hash(hash)) = seen.keep(image.repro()) {
+        seen.touch(hash);
+    }
+    if let Some(pogo) = seen.keep(image.pogo()) {
+        for entry in pogo.entries().take(MOST) {
+            if let Some(entry) = seen.item(entry) {
+                assert_eq!(entry.name_bytes.last(), Some(&0));
+                seen.touch(entry.name_bytes);
+            }
+        }
+    }
+}
+
+fn read_certificates(image: &Image, seen: &mut Seen) {
+    for certificate in image.certificates().take(MOST) {
+        if let Some(certificate) = seen.item(certificate) {
+            assert_eq!(certificate.body.len() as u64, u64::from(certificate.length).saturating_sub(8));
+            seen.touch(certificate.body);
+        }
+    }
+}
+
+fn read_record(record: &UnwindRecord, seen: &mut Seen) {
+    seen.records += 1;
+    assert!(record.version() == 1 || record.version() == 2);
+    let mut count = 0;
+    for code in record.codes() {
+        seen.item(code);
+        count += 1;
+    }
+    assert!(count <= 255);
+    seen.codes += count;
+    match record.handler() {
+        Some(Handler::Exception(_, data) | Handler::Termination(_, data)) => seen.touch(data),
+        None => {}
+    }
+    if let Some(scopes) = record.scopes() {
+        for scope in scopes.take(MOST) {
+            seen.item(scope);
+        }
+    }
+}
+
+fn read_functions(image: &Image, seen: &mut Seen) {
+    let Some(functions) = seen.keep(image.functions()) else {
+        return;
+    };
+    assert_eq!(functions.get(functions.len()), None);
+    for function in functions.iter().take(MOST) {
+        for address in [function.begin, function.end.wrapping_sub(1)] {
+            if let Some(found) = seen.keep(functions.find(address)) {
+                assert!(found.begin <= address && address < found.end);
+            }
+        }
+        let answer = functions.record(function);
+        if let Some(record) = seen.item(answer) {
+            read_record(&record, seen);
+        }
+        for record in functions.plan(function).take(MOST) {
+            if let Some(record) = seen.item(record) {
+                read_record(&record, seen);
+            }
+        }
+    }
+}
+
+fn read_arm64_codes(record: &Arm64Record, start: u32, seen: &mut Seen) {
+    let answer = record.codes(start);
+    let Some(codes) = seen.item(answer) else {
+        return;
+    };
+    let mut place = start;
+    for code in codes {
+        let Some(code) = seen.item(code) else {
+            continue;
+        };
+        seen.codes += 1;
+        assert_eq!(code.offset, place);
+        assert!((1..=5).contains(&code.length));
+        place += code.length;
+    }
+}
+
+fn read_arm64_functions(image: &Image, seen: &mut Seen) {
+    let Some(functions) = seen.keep(image.arm64_functions()) else {
+        return;
+    };
+    assert_eq!(functions.get(functions.len()), None);
+    for function in functions.iter().take(MOST) {
+        let answer = functions.unwinding(function);
+        let Some(Arm64Unwinding::Record(record)) = seen.item(answer) else {
+            continue;
+        };
+        seen.records += 1;
+        read_arm64_codes(&record, 0, seen);
+        if let Some(start) = record.epilog_start() {
+            read_arm64_codes(&record, start, seen);
+        }
+        for scope in record.scopes().take(MOST) {
+            if let Some(scope) = seen.item(scope) {
+                read_arm64_codes(&record, scope.start_index, seen);
+            }
+        }
+        if let Some((_, data)) = record.handler() {
+            seen.touch(data);
+        }
+    }
+}
+
+fn read_tables(image: &Image, seen: &mut Seen) {
+    if let Some(exports) = seen.keep(image.exports()) {
+        for export in exports.take(MOST) {
+            if let Some(export) = seen.item(export) {
+                seen.touch(export.name);
+            }
+        }
+    }
+    if let Some(imports) = seen.keep(image.imports()) {
+        for import in imports.take(MOST) {
+            if let Some(import) = seen.item(import) {
+                seen.touch(import.library);
+                seen.touch(import.name.unwrap_or_default());
+            }
+        }
+    }
+}
+
+fn read_version(image: &Image, seen: &mut Seen) {
+    seen.keep(image.version());
+    for name in VersionName::ALL {
+        if let Some(text) = seen.keep(image.version_text(name)) {
+            seen.touch(text.0);
+            std::hint::black_box(text.characters().count());
+        }
+    }
+    if let Some(manifest) = seen.keep(image.manifest()) {
+        seen.touch(manifest);
+    }
+}
+
+/// Makes every call on these bytes.
+pub fn read_all(bytes: &[u8], mode: Mode) -> Seen {
+    let mut seen = Seen::default();
+    let answer = Image::parse(bytes, mode);
+    let Some(image) = seen.item(answer) else {
+        return seen;
+    };
+    seen.images += 1;
+    for section in image.sections() {
+        std::hint::black_box(section.name().len());
+    }
+    std::hint::black_box(image.place(image.info().entry));
+    read_debug(&image, &mut seen);
+    read_certificates(&image, &mut seen);
+    read_functions(&image, &mut seen);
+    read_arm64_functions(&image, &mut seen);
+    read_tables(&image, &mut seen);
+    read_version(&image, &mut seen);
+    seen
+}
