@@ -7,4 +7,5 @@ pub mod Engines
 pub mod Lines
 pub mod FunctionItems
 pub mod FindTexts
+pub mod PlanTexts
 pub mod Numbers

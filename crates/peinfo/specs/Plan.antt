@@ -16,19 +16,23 @@ use Rattle.pe_unwind.specs.UnwindRecord.{UnwindInfoView, HandlerView, Exception,
 use Rattle.pe_unwind.specs.declared.function_table.RuntimeFunction.{RuntimeFunction}
 use Rattle.peinfo.specs.Find.{functions_of, found_line}
 
--- what stands behind the codes of a record, by its chained function and its handler
-abbrev pub ending_word : Option RuntimeFunction → Option HandlerView → List ℕ
-ending_word (Some f) handler = codes "chained"
-ending_word None (Some (Exception address bytes)) = codes "exception"
-ending_word None (Some (Termination address bytes)) = codes "termination"
-ending_word None None = codes "plain"
+-- a number in decimal, behind a space
+unfoldable pub number_text : ℕ → List ℕ
+number_text n = codes " " ++ decimal n
 
--- its version, the length of its prolog, and its frame register with the offset
+-- the version of a record, the length of its prolog, and its frame register with the offset
+unfoldable pub numbers_text : UnwindInfoView → List ℕ
+numbers_text i = number_text i.version ++ number_text i.size_of_prolog ++ number_text i.frame_register.0 ++ number_text i.frame_register_offset
+
+-- the end of its line: the word for what stands behind its codes, by its chained function and its handler
+abbrev pub line_end : Option RuntimeFunction → Option HandlerView → List ℕ
+line_end (Some f) handler = codes " chained\n"
+line_end None (Some (Exception address bytes)) = codes " exception\n"
+line_end None (Some (Termination address bytes)) = codes " termination\n"
+line_end None None = codes " plain\n"
+
 unfoldable pub record_line : UnwindInfoView → List ℕ
-record_line i =
-    codes "record " ++ decimal i.version ++ codes " " ++ decimal i.size_of_prolog
-    ++ codes " " ++ decimal i.frame_register.0 ++ codes " " ++ decimal i.frame_register_offset
-    ++ codes " " ++ ending_word i.chained_info i.handler ++ codes "\n"
+record_line i = codes "record" ++ numbers_text i ++ line_end i.chained_info i.handler
 
 -- a line for each record
 abbrev pub record_lines : List UnwindInfoView → List ℕ

@@ -5,7 +5,7 @@ ghost use Rattle.pe_core.specs.Refusals.{answer_by};
 ghost use Rattle.pe_unwind.specs.UnwindRecord.{unwind_view};
 ghost use Rattle.peinfo.specs.Engine.{Reports};
 ghost use Rattle.peinfo.specs.Output.{writer_of, failures_of};
-ghost use Rattle.peinfo.specs.Plan.{ending_word, record_line, record_lines, PlansRecords, IsPlanText, IsPlanRefusal, GivesPlanText};
+ghost use Rattle.peinfo.specs.Plan.{line_end, number_text, numbers_text, record_line, record_lines, PlansRecords, IsPlanText, IsPlanRefusal, GivesPlanText};
 
 use crate::counted_out::CountedOut;
 use crate::digits::push_decimal;
@@ -18,35 +18,46 @@ use pe_plan::UnwindPlan;
 use std::alloc::{AllocError, Allocator};
 use std::io;
 
-/// The word for what stands behind the codes of a record.
-fn ending_word(record: &UnwindInfo) -> &'static [u8]
-    ensures { result.now ≡ ending_word (unwind_view record.now).chained_info (unwind_view record.now).handler }
+/// The end of a record's line: the word for what stands behind its codes.
+fn line_end(info: &UnwindInfo) -> &'static [u8]
+    ensures { result.now ≡ line_end (unwind_view info.now).chained_info (unwind_view info.now).handler }
 {
-    match (&record.chained_info, &record.handler) {
-        (Some(_), _) => b"chained",
-        (None, Some(UnwindHandler::ExceptionHandler(..))) => b"exception",
-        (None, Some(UnwindHandler::TerminationHandler(..))) => b"termination",
-        (None, None) => b"plain",
+    match (&info.chained_info, &info.handler) {
+        (Some(_), _) => b" chained\n",
+        (None, Some(UnwindHandler::ExceptionHandler(..))) => b" exception\n",
+        (None, Some(UnwindHandler::TerminationHandler(..))) => b" termination\n",
+        (None, None) => b" plain\n",
     }
+}
+
+/// Adds a number, behind a space.
+#[tactic(auto, unfolding(crate::specs::Plan::number_text))]
+fn push_number<A: Allocator>(text: &mut Vec<u8, A>, number: u32) -> Result<(), AllocError>
+    ensures { OnOk result (text.new.items ≡ text.old.items ++ number_text number) }
+{
+    text.push(b' ')?;
+    push_decimal(text, number)
+}
+
+/// Adds the numbers of a record.
+#[tactic(auto, unfolding(crate::specs::Plan::numbers_text))]
+fn push_numbers<A: Allocator>(text: &mut Vec<u8, A>, info: &UnwindInfo) -> Result<(), AllocError>
+    ensures { OnOk result (text.new.items ≡ text.old.items ++ numbers_text (unwind_view info.now)) }
+{
+    push_number(text, u32::from(info.version))?;
+    push_number(text, u32::from(info.size_of_prolog))?;
+    push_number(text, u32::from(info.frame_register.0))?;
+    push_number(text, info.frame_register_offset)
 }
 
 /// Adds the line of a record.
 #[tactic(auto, unfolding(crate::specs::Plan::record_line))]
-fn push_record<A: Allocator>(text: &mut Vec<u8, A>, record: &UnwindInfo) -> Result<(), AllocError>
-    ensures { OnOk result (text.new.items ≡ text.old.items ++ record_line (unwind_view record.now)) }
+fn push_record<A: Allocator>(text: &mut Vec<u8, A>, info: &UnwindInfo) -> Result<(), AllocError>
+    ensures { OnOk result (text.new.items ≡ text.old.items ++ record_line (unwind_view info.now)) }
 {
-    text.extend_from_slice(b"record ")?;
-    push_decimal(text, u32::from(record.version))?;
-    text.push(b' ')?;
-    push_decimal(text, u32::from(record.size_of_prolog))?;
-    text.push(b' ')?;
-    push_decimal(text, u32::from(record.frame_register.0))?;
-    text.push(b' ')?;
-    push_decimal(text, record.frame_register_offset)?;
-    text.push(b' ')?;
-    text.extend_from_slice(ending_word(record))?;
-    text.push(b'\n')?;
-    Ok(())
+    text.extend_from_slice(b"record")?;
+    push_numbers(text, info)?;
+    text.extend_from_slice(line_end(info))
 }
 
 /// Adds a line for each record.
