@@ -5,3 +5,4 @@ pub mod PlanSteps
 pub mod RecordRanges
 pub mod Rooms
 pub mod Steps
+pub mod VersionsTold

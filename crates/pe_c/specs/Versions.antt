@@ -5,8 +5,8 @@ use Rattle.pe_core.specs.Refusals.{Refusal, ◌>>=◌}
 use Rattle.pe_core.specs.declared.options.ParseOptions.{ParseOptions}
 use Rattle.pe_core.specs.declared.section_table.SectionTable.{SectionTable}
 use Rattle.pe_resource.specs.Contents.{bytes_in, inner}
-use Rattle.pe_resource.specs.Resources.{IsResourceRange}
-use Rattle.pe_resource.specs.VersionFields.{fixed_info_of, value_range_in}
+use Rattle.pe_resource.specs.Resources.{ResourceView, IsResource, IsResourceRange}
+use Rattle.pe_resource.specs.VersionFields.{VersionView, fixed_info_of, value_named, value_range_in}
 use Rattle.pe_resource.specs.declared.byte_range.ByteRange.{ByteRange}
 use Rattle.pe_resource.specs.declared.version.VersionName.{VersionName}
 use Rattle.pe_resource.specs.declared.version.VersionName.TheVariants as names
@@ -16,6 +16,7 @@ use Rattle.pe_c.specs.declared.ranges.Range.{Range}
 use Rattle.pe_c.specs.Answers.{AnswersIf}
 use Rattle.pe_c.specs.Images.{is_absent}
 use Rattle.pe_c.specs.Modes.{options_of}
+use Rattle.pe_c.specs.Ranges.{IsRange}
 
 -- where the content of the first resource with an id lies, or what refuses it; an image without a resource directory has none
 abbrev pub IsContentBy : Bool → ParseOptions → List ℕ → Image → List SectionTable → ℕ → Result (Option ByteRange) Refusal → Type 0
@@ -71,3 +72,23 @@ abbrev pub AnswersText : List ℕ → Image → List SectionTable → ℕ → Op
 AnswersText b image sections mode None number old new = (number ≡ 100) × (new ≡ old)
 AnswersText b image sections mode (Some name) number old new =
     (c : Result (Option ByteRange) Refusal) × IsContentOf b image sections mode 16 c × AnswersIf number old new (c >>= value_at b name)
+
+-- ---- the same by the resources
+
+-- the resources of an image that has some
+abbrev pub AreResourcesOf : List ℕ → Image → List SectionTable → ℕ → ResourceView → Type 0
+AreResourcesOf b image sections mode x =
+    (is_absent image.resources ≡ false) × IsResource (options_of mode) b image.resources sections image.file_alignment (Ok x)
+
+-- 100 where there is nothing; else 0, and the range lies in the bytes and these are its bytes
+abbrev pub TellsRange : List ℕ → ℕ → Range → Option (List ℕ) → Type 0
+TellsRange b number out None = number ≡ 100
+TellsRange b number out (Some bytes) = (number ≡ 0) × IsRange b out bytes
+
+abbrev pub fixed_of : Option VersionView → Option VsFixedFileInfo
+fixed_of None = None
+fixed_of (Some v) = v.fixed_info
+
+abbrev pub value_of : VersionName → Option VersionView → Option (List ℕ)
+value_of name None = None
+value_of name (Some v) = value_named name v.strings

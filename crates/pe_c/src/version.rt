@@ -1,10 +1,17 @@
 //! The version information of an image, and its manifest.
 
-ghost use Rattle.std.specs.Prelude.{◌≡◌, IfOk, IfSome};
+ghost use Rattle.std.specs.Prelude.{◌≡◌, ℕ, List, Some, Ok, IfOk, IfSome};
 ghost use Rattle.std.specs.Option.{option_map};
 ghost use Rattle.pe_core.specs.Refusals.{answer_by};
+ghost use Rattle.pe_core.specs.declared.section_table.SectionTable.{SectionTable};
 ghost use Rattle.pe_resource.specs.Contents.{IsWithin, inner};
-ghost use Rattle.pe_c.specs.Versions.{IsContentOf, range_of, AnswersManifest, fixed_at, AnswersFixed, value_at, name_at, AnswersText};
+ghost use Rattle.pe_resource.specs.Resources.{ResourceView};
+ghost use Rattle.pe_resource.specs.declared.version.VersionName.{VersionName};
+ghost use Rattle.pe_resource.specs.declared.version.VsFixedFileInfo.{VsFixedFileInfo};
+ghost use Rattle.pe_c.specs.Answers.{AnswersIf};
+ghost use Rattle.pe_c.specs.Versions.{IsContentOf, range_of, AnswersManifest, fixed_at, AnswersFixed, value_at, name_at, AnswersText, AreResourcesOf, TellsRange, fixed_of, value_of};
+ghost use Rattle.pe_c.specs.declared.image.Image.{Image};
+ghost use Rattle.pe_c.specs.declared.ranges.Range.{Range};
 
 use crate::answers::{NOTHING, hand_out_some, number_of, options};
 use crate::image::{Image, is_absent};
@@ -150,3 +157,13 @@ pub extern "C" fn pe_c_version_text(
         Err(error) => number_of(&error),
     }
 }
+
+/// Where the resources of an image are not refused, what is told is what they hold.
+pub fn told_of_resources()
+    ensures manifest { (b : List ℕ) (image : Image) (sections : List SectionTable) (mode : ℕ) (x : ResourceView) (number : ℕ) (old new : Range) →
+        AreResourcesOf b image sections mode x → AnswersManifest b image sections mode number old new → TellsRange b number new x.manifest }
+    ensures fixed { (b : List ℕ) (image : Image) (sections : List SectionTable) (mode : ℕ) (x : ResourceView) (number : ℕ) (old new : VsFixedFileInfo) →
+        AreResourcesOf b image sections mode x → AnswersFixed b image sections mode number old new → AnswersIf number old new (Ok (fixed_of x.version)) }
+    ensures value { (b : List ℕ) (image : Image) (sections : List SectionTable) (mode : ℕ) (name : VersionName) (x : ResourceView) (number : ℕ) (old new : Range) →
+        AreResourcesOf b image sections mode x → AnswersText b image sections mode (Some name) number old new → TellsRange b number new (value_of name x.version) }
+{}

@@ -10,4 +10,5 @@ pub mod Contents
 pub mod NoMemory
 pub mod Halves
 pub mod OneAnswer
+pub mod ContentRanges
 pub mod ResourceModes

@@ -12,7 +12,7 @@ use Rattle.pe_resource.specs.declared.entry.ResourceEntry.{ResourceEntry}
 use Rattle.pe_resource.specs.Contents.{map_of, IsLeaf, range_in, IsContentRange, content_of, IsContent, version_of_content, IsVersion}
 use Rattle.pe_resource.specs.ResourceEntries.{with_id, is_directory, data_place, entries}
 use Rattle.pe_resource.specs.ResourceWalk.{step, decided, passes, Decides, Walks}
-use Rattle.pe_resource.specs.Resources.{ResourceView, no_resources, first_entries_in, directory_and_data, IsWithManifest, IsBehindEntries, IsBehindDirectory, IsResource, IsRangeBehindEntries, IsRangeBehindDirectory, IsResourceRange, IsInRanges}
+use Rattle.pe_resource.specs.Resources.{ResourceView, first_entries_in, directory_and_data, IsWithManifest, IsBehindEntries, IsBehindDirectory, IsResource, IsRangeBehindEntries, IsRangeBehindDirectory, IsResourceRange}
 use Rattle.pe_resource.specs.VersionFields.{VersionView}
 use Rattle.pe_resource.proofs.Walks.{none_from_decided, cycle_is_endless}
 
@@ -54,7 +54,7 @@ one_content_range map f b es id r s h k =
     let same : h.0 ≡ k.0 = one_leaf b (with_id id es) h.0 k.0 h.1 k.1 in
     h.2 ∙ ap (λ (w : Result (Option ℕ) Refusal). w >>= range_in map f b) same ∙ sym k.2
 
-one_content : (map : ℕ → Option ℕ) (f b : List ℕ) (es : List ResourceEntry) (id : ℕ) (r s : Result (Option (List ℕ)) Refusal) → IsContent map f b es id r → IsContent map f b es id s → r ≡ s
+pub one_content : (map : ℕ → Option ℕ) (f b : List ℕ) (es : List ResourceEntry) (id : ℕ) (r s : Result (Option (List ℕ)) Refusal) → IsContent map f b es id r → IsContent map f b es id s → r ≡ s
 one_content map f b es id r s h k =
     let same : h.0 ≡ k.0 = one_content_range map f b es id h.0 k.0 h.1 k.1 in
     h.2 ∙ ap (λ (c : Result (Option ByteRange) Refusal). c >>= λ c. Ok (content_of f c)) same ∙ sym k.2
@@ -98,47 +98,3 @@ one_range_behind_directory mode map f id (Ok (d, body)) r s h k = one_range_behi
 
 pub one_range : (o : ParseOptions) (f : List ℕ) (d : DataDirectory) (id : ℕ) (sections : List SectionTable) (alignment : ℕ) (r s : Result (Option ByteRange) Refusal) → IsResourceRange o f d id sections alignment r → IsResourceRange o f d id sections alignment s → r ≡ s
 one_range o f d id sections alignment r s h k = one_range_behind_directory o.parse_mode (map_of o sections alignment) f id (directory_and_data o f d sections alignment) r s h k
-
--- the manifest and the version information of resources are those of their ranges
-ok_once : {X : Type 0} (x y : X) → Path (Result X Refusal) (Ok x) (Ok y) → x ≡ y
-ok_once x y e = cc
-
-ok_not_refused : {X : Type 0} (x : X) (e : Refusal) → Path (Result X Refusal) (Ok x) (Err e) → ⊥
-ok_not_refused x e h = cc
-
-given_manifest : (d : ImageResourceDirectory) (es : List ResourceEntry) (v : Option VersionView) (m : Result (Option (List ℕ)) Refusal) (x : ResourceView) → Ok x ≡ (m >>= λ m. Ok (record { directory = d; first_entries = es; version = v; manifest = m })) → m ≡ Ok x.manifest
-given_manifest d es v (Err e) x h = absurd (ok_not_refused x e h)
-given_manifest d es v (Ok m) x h = ap (λ (y : ResourceView). Ok y.manifest) (sym (ok_once x (record { directory = d; first_entries = es; version = v; manifest = m }) h))
-
-given_version : (d : ImageResourceDirectory) (es : List ResourceEntry) (v : Option VersionView) (m : Result (Option (List ℕ)) Refusal) (x : ResourceView) → Ok x ≡ (m >>= λ m. Ok (record { directory = d; first_entries = es; version = v; manifest = m })) → v ≡ x.version
-given_version d es v (Err e) x h = absurd (ok_not_refused x e h)
-given_version d es v (Ok m) x h = sym (ap (λ (y : ResourceView). y.version) (ok_once x (record { directory = d; first_entries = es; version = v; manifest = m }) h))
-
-then_version : (f : List ℕ) (r : Result (Option ByteRange) Refusal) → ((r >>= λ c. Ok (content_of f c)) >>= version_of_content) ≡ (r >>= λ c. version_of_content (content_of f c))
-then_version f (Ok c) = refl
-then_version f (Err e) = refl
-
-in_ranges_with_manifest : (map : ℕ → Option ℕ) (f : List ℕ) (d : ImageResourceDirectory) (body : List ℕ) (es : List ResourceEntry) (v : Result (Option VersionView) Refusal) (x : ResourceView) (m w : Result (Option ByteRange) Refusal) → IsVersion map f body es v → IsWithManifest map f d body es v (Ok x) → IsContentRange map f body es 24 m → IsContentRange map f body es 16 w → IsInRanges f m w x
-in_ranges_with_manifest map f d body es (Err e) x m w i h k l = absurd (ok_not_refused x e h)
-in_ranges_with_manifest map f d body es (Ok v) x m w i h k l = (
-  one_content map f body es 24 (m >>= λ c. Ok (content_of f c)) h.0 (m, k, refl) h.1 ∙ given_manifest d es v h.0 x h.2,
-  sym (then_version f w) ∙ ap (λ (c : Result (Option (List ℕ)) Refusal). c >>= version_of_content) (one_content map f body es 16 (w >>= λ c. Ok (content_of f c)) i.0 (w, l, refl) i.1)
-      ∙ sym i.2 ∙ ap (λ (o : Option VersionView). Ok o) (given_version d es v h.0 x h.2),
-)
-
-in_ranges_behind_entries : (map : ℕ → Option ℕ) (f : List ℕ) (d : ImageResourceDirectory) (body : List ℕ) (t : Result (Option (List ℕ)) Refusal) (x : ResourceView) (m w : Result (Option ByteRange) Refusal) → IsBehindEntries map f d body t (Ok x) → IsRangeBehindEntries map f body 24 t m → IsRangeBehindEntries map f body 16 t w → IsInRanges f m w x
-in_ranges_behind_entries map f d body (Err e) x m w h k l = absurd (ok_not_refused x e h)
-in_ranges_behind_entries map f d body (Ok None) x m w h k l =
-    let none : x ≡ no_resources = ok_once x no_resources h in
-    subst (IsInRanges f m w) (sym none) (
-      ap (λ (r : Result (Option ByteRange) Refusal). r >>= λ c. Ok (content_of f c)) k,
-      ap (λ (r : Result (Option ByteRange) Refusal). r >>= λ c. version_of_content (content_of f c)) l,
-    )
-in_ranges_behind_entries map f d body (Ok (Some table)) x m w h k l = in_ranges_with_manifest map f d body (entries table) h.0 x m w h.1 h.2 k l
-
-in_ranges_behind_directory : (mode : ParseMode) (map : ℕ → Option ℕ) (f : List ℕ) (t : Result (ImageResourceDirectory × List ℕ) Refusal) (x : ResourceView) (m w : Result (Option ByteRange) Refusal) → IsBehindDirectory mode map f t (Ok x) → IsRangeBehindDirectory mode map f 24 t m → IsRangeBehindDirectory mode map f 16 t w → IsInRanges f m w x
-in_ranges_behind_directory mode map f (Err e) x m w h k l = absurd (ok_not_refused x e h)
-in_ranges_behind_directory mode map f (Ok (d, body)) x m w h k l = in_ranges_behind_entries map f d body (first_entries_in mode body d) x m w h k l
-
-pub in_ranges : (o : ParseOptions) (f : List ℕ) (d : DataDirectory) (sections : List SectionTable) (alignment : ℕ) (x : ResourceView) (m w : Result (Option ByteRange) Refusal) → IsResource o f d sections alignment (Ok x) → IsResourceRange o f d 24 sections alignment m → IsResourceRange o f d 16 sections alignment w → IsInRanges f m w x
-in_ranges o f d sections alignment x m w h k l = in_ranges_behind_directory o.parse_mode (map_of o sections alignment) f (directory_and_data o f d sections alignment) x m w h k l

@@ -9,7 +9,7 @@ use Rattle.pe_core.specs.Refusals.{Refusal}
 use Rattle.pe_core.specs.declared.error.Error.{Error}
 use Rattle.pe_resource.specs.declared.byte_range.ByteRange.{ByteRange}
 use Rattle.pe_resource.specs.declared.string.ResourceString.{ResourceString}
-use Rattle.pe_resource.specs.Contents.{bytes_in, IsWithin, inner, content_of}
+use Rattle.pe_resource.specs.Contents.{bytes_in, IsWithin, IsThere, inner, content_of}
 use Rattle.pe_resource.specs.VersionStrings.{VersionString, string_view, string_at, string_and_next, key_length, value_bytes, value_place, value_begin, value_range, lengthened, up_to_four, GivesString, then_more, strings, read, value_of, is_name, text}
 use Rattle.pe_resource.proofs.StringLists.{string_read, further, strings_begin, strings_empty, strings_more, strings_fault, strings_none}
 
@@ -88,11 +88,6 @@ string_placed b s q h =
     placed b s q (value_place b 0) (lengthened b 0) (ap (λ (n : ℕ). up_to_four (6 + n + 2)) many ∙ begins b) next fits (sym value)
 
 -- ---- all strings
-
--- no range and no value, or a range that lies in the bytes and is the value
-abbrev pub IsThere : List ℕ → Option ByteRange → Option (List ℕ) → Type 0
-IsThere f None v = v ≡ None
-IsThere f (Some r) v = IsWithin f r × (v ≡ Some (bytes_in f r))
 
 there_by : (t : Bool) (f : List ℕ) (s : VersionString) (r : ByteRange) (rest : Option ByteRange) (o : Option VersionString) → IsWithin f r → s.value ≡ bytes_in f r → IsThere f rest (option_map (λ x. x.value) o) → IsThere f (if t then Some r else rest) (option_map (λ (x : VersionString). x.value) (if t then Some s else o))
 there_by true f s r rest o within value later = (within, ap (λ (v : List ℕ). Some v) value)

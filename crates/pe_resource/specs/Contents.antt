@@ -40,6 +40,11 @@ bytes_in f r = range f r.place r.length
 abbrev pub IsWithin : List ℕ → ByteRange → Type 0
 IsWithin f r = r.place + r.length ≤ length f
 
+-- no range and nothing, or a range that is there and its bytes
+abbrev pub IsThere : List ℕ → Option ByteRange → Option (List ℕ) → Type 0
+IsThere f None v = v ≡ None
+IsThere f (Some r) v = IsWithin f r × (v ≡ Some (bytes_in f r))
+
 -- a range of the bytes of another range, as one of all bytes
 abbrev pub inner : ByteRange → ByteRange → ByteRange
 inner outer r = record { place = outer.place + r.place; length = r.length }

@@ -13,7 +13,7 @@ use Rattle.pe_resource.specs.declared.directory.ImageResourceDirectory.{ImageRes
 use Rattle.pe_resource.specs.declared.entry.ResourceEntry.{ResourceEntry}
 use Rattle.pe_resource.specs.declared.manifest.ManifestData.{ManifestData}
 use Rattle.pe_resource.specs.declared.resource.ResourceData.{ResourceData}
-use Rattle.pe_resource.specs.Contents.{map_of, file_bytes, content_of, IsContentRange, IsContent, version_of_content, IsVersion}
+use Rattle.pe_resource.specs.Contents.{map_of, IsThere, file_bytes, IsContentRange, IsContent, version_of_content, IsVersion}
 use Rattle.pe_resource.specs.Directories.{directory_at, count}
 use Rattle.pe_resource.specs.ResourceEntries.{entries}
 use Rattle.pe_resource.specs.VersionFields.{VersionView, version_view}
@@ -95,7 +95,10 @@ abbrev pub IsResourceRange : ParseOptions → List ℕ → DataDirectory → ℕ
 IsResourceRange o f dd id sections alignment r =
     IsRangeBehindDirectory o.parse_mode (map_of o sections alignment) f id (directory_and_data o f dd sections alignment) r
 
--- the manifest and the version information of resources are what these ranges hold
-abbrev pub IsInRanges : List ℕ → Result (Option ByteRange) Refusal → Result (Option ByteRange) Refusal → ResourceView → Type 0
-IsInRanges f manifest version x =
-    ((manifest >>= λ c. Ok (content_of f c)) ≡ Ok x.manifest) × ((version >>= λ c. version_of_content (content_of f c)) ≡ Ok x.version)
+-- the range of a manifest is found, and it is there
+abbrev pub IsManifestIn : List ℕ → Result (Option ByteRange) Refusal → Option (List ℕ) → Type 0
+IsManifestIn f r m = (c : Option ByteRange) × (r ≡ Ok c) × IsThere f c m
+
+-- the range of version information is found, and its bytes are there and read as it
+abbrev pub IsVersionIn : List ℕ → Result (Option ByteRange) Refusal → Option VersionView → Type 0
+IsVersionIn f r v = (c : Option ByteRange) × (b : Option (List ℕ)) × (r ≡ Ok c) × IsThere f c b × (version_of_content b ≡ Ok v)

@@ -98,6 +98,21 @@ pub record FileStrings : Type 0 where
   pub product_version : Option (List ℕ)
   pub special_build : Option (List ℕ)
 
+-- the value of a name
+abbrev pub value_named : VersionName → FileStrings → Option (List ℕ)
+value_named names.Comments s = s.comments
+value_named names.CompanyName s = s.company_name
+value_named names.FileDescription s = s.file_description
+value_named names.FileVersion s = s.file_version
+value_named names.InternalName s = s.internal_name
+value_named names.LegalCopyright s = s.legal_copyright
+value_named names.LegalTrademarks s = s.legal_trademarks
+value_named names.OriginalFilename s = s.original_filename
+value_named names.PrivateBuild s = s.private_build
+value_named names.ProductName s = s.product_name
+value_named names.ProductVersion s = s.product_version
+value_named names.SpecialBuild s = s.special_build
+
 abbrev pub file_strings : List VersionString → FileStrings
 file_strings ss = record {
   comments = value_of (codes "Comments") ss;

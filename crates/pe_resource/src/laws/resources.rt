@@ -16,12 +16,13 @@ ghost use Rattle.pe_resource.specs.declared.entry.ResourceEntry.{ResourceEntry};
 ghost use Rattle.pe_resource.specs.declared.string.ResourceString.{ResourceString};
 ghost use Rattle.pe_resource.specs.declared.string.ResourceStringIterator.{ResourceStringIterator};
 ghost use Rattle.pe_resource.specs.declared.version.VersionField.{VersionField};
-ghost use Rattle.pe_resource.specs.Contents.{bytes_in, IsWithin, inner, content_of};
+ghost use Rattle.pe_resource.specs.declared.version.VersionName.{VersionName};
+ghost use Rattle.pe_resource.specs.Contents.{bytes_in, IsWithin, IsThere, inner};
 ghost use Rattle.pe_resource.specs.ResourceEntries.{entry_of, number_of, items_left};
 ghost use Rattle.pe_resource.specs.ResourceWalk.{Walks};
-ghost use Rattle.pe_resource.specs.Resources.{ResourceView, IsResource, IsResourceRange, IsInRanges};
-ghost use Rattle.pe_resource.specs.VersionFields.{version_of_halves, high_half, low_half, whole_number, HasParts};
-ghost use Rattle.pe_resource.specs.VersionStrings.{VersionString, Strings, strings, read, value_of, value_range, rest_of, item_of};
+ghost use Rattle.pe_resource.specs.Resources.{ResourceView, IsResource, IsResourceRange, IsManifestIn, IsVersionIn};
+ghost use Rattle.pe_resource.specs.VersionFields.{version_of_halves, high_half, low_half, whole_number, HasParts, VersionView, fixed_info_of, value_named, version_in, value_range_in};
+ghost use Rattle.pe_resource.specs.VersionStrings.{VersionString, Strings, strings, rest_of, item_of};
 
 use crate::directory::ResourceEntryIterator;
 use crate::string::ResourceStringIterator;
@@ -83,13 +84,16 @@ pub fn resources_have_one_answer()
         IsResourceRange o f d id sections alignment r → IsResourceRange o f d id sections alignment s → r ≡ s }
 {}
 
-/// The manifest and the version information of resources are what their ranges hold; the value of a name among version
-/// strings is what its range holds; and a range of a range holds the same bytes as a range of all bytes.
+/// The manifest and the version information of resources are what their ranges hold, and so are the parts of version
+/// information; and a range of a range holds the same bytes as a range of all bytes.
 pub fn ranges_hold_what_is_read()
-    ensures resource { (o : ParseOptions) (f : List ℕ) (d : DataDirectory) (sections : List SectionTable) (alignment : ℕ) (x : ResourceView) (manifest version : Result (Option ByteRange) Refusal) →
-        IsResource o f d sections alignment (Ok x) → IsResourceRange o f d 24 sections alignment manifest → IsResourceRange o f d 16 sections alignment version →
-        IsInRanges f manifest version x }
-    ensures value { (name b : List ℕ) → content_of b (value_range name 0 (read (strings b))) ≡ value_of name (read (strings b)) }
+    ensures manifest { (o : ParseOptions) (f : List ℕ) (d : DataDirectory) (sections : List SectionTable) (alignment : ℕ) (x : ResourceView) (r : Result (Option ByteRange) Refusal) →
+        IsResource o f d sections alignment (Ok x) → IsResourceRange o f d 24 sections alignment r → IsManifestIn f r x.manifest }
+    ensures version { (o : ParseOptions) (f : List ℕ) (d : DataDirectory) (sections : List SectionTable) (alignment : ℕ) (x : ResourceView) (r : Result (Option ByteRange) Refusal) →
+        IsResource o f d sections alignment (Ok x) → IsResourceRange o f d 16 sections alignment r → IsVersionIn f r x.version }
+    ensures fixed { (b : List ℕ) (v : VersionView) → version_in b ≡ Ok v → fixed_info_of b ≡ Ok v.fixed_info }
+    ensures value { (b : List ℕ) (v : VersionView) (name : VersionName) → version_in b ≡ Ok v →
+        (r : Option ByteRange) × (value_range_in name b ≡ Ok r) × IsThere b r (value_named name v.strings) }
     ensures inner { (b : List ℕ) (outer r : ByteRange) → IsWithin b outer → IsWithin (bytes_in b outer) r →
         IsWithin b (inner outer r) × (bytes_in b (inner outer r) ≡ bytes_in (bytes_in b outer) r) }
 {}

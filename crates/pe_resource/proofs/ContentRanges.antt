@@ -1,0 +1,158 @@
+-- What the ranges of contents hold.
+use Rattle.std.proofs.Common.{◌≡◌, ℕ, ◌+◌, ◌≤◌, Bool, true, false, List, [], ◌∷◌, length, Option, Some, None, Result, Ok, Err, refl, ap, sym, ◌∙◌, subst, arith}
+use Rattle.std.proofs.lemmas.Bool.Decides.{nat_tests}
+use Rattle.std.specs.Prelude.{nat_le}
+use Rattle.pe_core.specs.Bytes.{holds, record_at}
+use Rattle.pe_core.specs.Refusals.{Refusal, Short, ResourceBounds, outcome, ◌>>=◌}
+use Rattle.pe_core.specs.declared.data_directories.DataDirectory.{DataDirectory}
+use Rattle.pe_core.specs.declared.options.ParseMode.{ParseMode}
+use Rattle.pe_core.specs.declared.options.ParseOptions.{ParseOptions}
+use Rattle.pe_core.specs.declared.section_table.SectionTable.{SectionTable}
+use Rattle.pe_resource.specs.declared.byte_range.ByteRange.{ByteRange}
+use Rattle.pe_resource.specs.declared.content.ResourceDataEntry.{ResourceDataEntry}
+use Rattle.pe_resource.specs.declared.directory.ImageResourceDirectory.{ImageResourceDirectory}
+use Rattle.pe_resource.specs.declared.entry.ResourceEntry.{ResourceEntry}
+use Rattle.pe_resource.specs.declared.version.VersionName.{VersionName}
+use Rattle.pe_resource.specs.declared.version.VersionName.TheVariants as names
+use Rattle.pe_resource.specs.declared.version.VsFixedFileInfo.{VsFixedFileInfo}
+use Rattle.pe_resource.specs.Contents.{map_of, bytes_in, IsWithin, IsThere, data_entry_at, file_range, named_range, range_in, IsContentRange, content_of, IsContent, version_of_content, IsVersion}
+use Rattle.pe_resource.specs.ResourceEntries.{entries}
+use Rattle.pe_resource.specs.Resources.{ResourceView, no_resources, first_entries_in, directory_and_data, IsWithManifest, IsBehindEntries, IsBehindDirectory, IsResource, IsRangeBehindEntries, IsRangeBehindDirectory, IsResourceRange, IsManifestIn, IsVersionIn}
+use Rattle.pe_resource.specs.VersionFields.{VersionView, file_strings, fixed_info_of, name_of, value_named, version_in, value_range_in}
+use Rattle.pe_resource.specs.VersionStrings.{VersionString, strings, read, value_of, value_range}
+use Rattle.pe_resource.proofs.OneAnswer.{one_content}
+use Rattle.pe_resource.proofs.ValueRanges.{value_there}
+
+ok_once : {X : Type 0} (x y : X) → Path (Result X Refusal) (Ok x) (Ok y) → x ≡ y
+ok_once x y e = cc
+
+ok_not_refused : {X : Type 0} (x : X) (e : Refusal) → Path (Result X Refusal) (Ok x) (Err e) → ⊥
+ok_not_refused x e h = cc
+
+some_once : {X : Type 0} (x y : X) → Path (Option X) (Some x) (Some y) → x ≡ y
+some_once x y e = cc
+
+-- ---- a range that is found lies in the file
+
+tested : (t : Bool) (e : Refusal) (r s : ByteRange) → outcome ((t, e) ∷ []) r ≡ Ok s → (t ≡ true) × (r ≡ s)
+tested true e r s h = (refl, ok_once r s h)
+tested false e r s h = absurd cc
+
+file_within : (f : List ℕ) (size : ℕ) (o : Option ℕ) (r : ByteRange) → file_range f size o ≡ Ok r → IsWithin f r
+file_within f size None r h = absurd cc
+file_within f size (Some p) r h =
+    let is = tested (holds f p size) ResourceBounds (record { place = p; length = size }) r h in
+    let fits : p + size ≤ length f = grind (arith, nat_tests, is.0) in
+    subst (IsWithin f) is.1 fits
+
+named_by : (t : Bool) (map : ℕ → Option ℕ) (f : List ℕ) (d : ResourceDataEntry) (r : ByteRange) → (outcome ((t, Short) ∷ []) d >>= λ d. file_range f d.size (map d.offset_to_data)) ≡ Ok r → IsWithin f r
+named_by true map f d r h = file_within f d.size (map d.offset_to_data) r h
+named_by false map f d r h = absurd cc
+
+named_within : (map : ℕ → Option ℕ) (f b : List ℕ) (p : ℕ) (r : ByteRange) → named_range map f b p ≡ Ok r → IsWithin f r
+unfolding named_range
+named_within map f b p r h = named_by (holds b p 16) map f (data_entry_at b p) r h
+
+given_some : (q : Result ByteRange Refusal) (r : ByteRange) → (q >>= λ r. Ok (Some r)) ≡ Ok (Some r) → q ≡ Ok r
+given_some (Ok s) r h = ap (λ (x : ByteRange). Ok x) (some_once s r (ok_once (Some s) (Some r) h))
+given_some (Err e) r h = absurd cc
+
+range_within : (map : ℕ → Option ℕ) (f b : List ℕ) (leaf : Result (Option ℕ) Refusal) (r : ByteRange) → Ok (Some r) ≡ (leaf >>= range_in map f b) → IsWithin f r
+range_within map f b (Err e) r h = absurd cc
+range_within map f b (Ok None) r h = absurd cc
+range_within map f b (Ok (Some p)) r h = named_within map f b p r (given_some (named_range map f b p) r (sym h))
+
+content_within : (map : ℕ → Option ℕ) (f b : List ℕ) (es : List ResourceEntry) (id : ℕ) (r : ByteRange) → IsContentRange map f b es id (Ok (Some r)) → IsWithin f r
+content_within map f b es id r h = range_within map f b h.0 r h.2
+
+-- ---- so what it holds is there
+
+there : (map : ℕ → Option ℕ) (f b : List ℕ) (es : List ResourceEntry) (id : ℕ) (c : Option ByteRange) → IsContentRange map f b es id (Ok c) → IsThere f c (content_of f c)
+there map f b es id None h = refl
+there map f b es id (Some r) h = (content_within map f b es id r h, refl)
+
+given_manifest : (d : ImageResourceDirectory) (es : List ResourceEntry) (v : Option VersionView) (m : Result (Option (List ℕ)) Refusal) (x : ResourceView) → Ok x ≡ (m >>= λ m. Ok (record { directory = d; first_entries = es; version = v; manifest = m })) → (m ≡ Ok x.manifest) × (v ≡ x.version)
+given_manifest d es v (Err e) x h = absurd (ok_not_refused x e h)
+given_manifest d es v (Ok m) x h =
+    let same = ok_once x (record { directory = d; first_entries = es; version = v; manifest = m }) h in
+    (ap (λ (y : ResourceView). Ok y.manifest) (sym same), ap (λ (y : ResourceView). y.version) (sym same))
+
+in_range : (map : ℕ → Option ℕ) (f b : List ℕ) (es : List ResourceEntry) (id : ℕ) (r : Result (Option ByteRange) Refusal) (m : Option (List ℕ)) → IsContentRange map f b es id r → IsContent map f b es id (Ok m) → IsManifestIn f r m
+in_range map f b es id (Err e) m h k = absurd (ok_not_refused m e (one_content map f b es id (Ok m) (Err e) k (Err e, h, refl)))
+in_range map f b es id (Ok c) m h k =
+    let same : content_of f c ≡ m = ok_once (content_of f c) m (one_content map f b es id (Ok (content_of f c)) (Ok m) (Ok c, h, refl) k) in
+    (c, refl, subst (IsThere f c) same (there map f b es id c h))
+
+version_by : (map : ℕ → Option ℕ) (f b : List ℕ) (es : List ResourceEntry) (r : Result (Option ByteRange) Refusal) (c : Result (Option (List ℕ)) Refusal) (v : Option VersionView) → IsContentRange map f b es 16 r → IsContent map f b es 16 c → Ok v ≡ (c >>= version_of_content) → IsVersionIn f r v
+version_by map f b es r (Err e) v h k is = absurd (ok_not_refused v e is)
+version_by map f b es r (Ok m) v h k is = let found = in_range map f b es 16 r m h k in (found.0, m, found.1, found.2, sym is)
+
+with_manifest : (map : ℕ → Option ℕ) (f : List ℕ) (d : ImageResourceDirectory) (body : List ℕ) (es : List ResourceEntry) (v : Result (Option VersionView) Refusal) (x : ResourceView) → IsVersion map f body es v → IsWithManifest map f d body es v (Ok x) → IsContent map f body es 24 (Ok x.manifest) × IsVersion map f body es (Ok x.version)
+with_manifest map f d body es (Err e) x i h = absurd (ok_not_refused x e h)
+with_manifest map f d body es (Ok v) x i h =
+    let is = given_manifest d es v h.0 x h.2 in
+    (subst (IsContent map f body es 24) is.0 h.1, subst (λ (o : Option VersionView). IsVersion map f body es (Ok o)) is.1 i)
+
+manifest_behind_entries : (map : ℕ → Option ℕ) (f : List ℕ) (d : ImageResourceDirectory) (body : List ℕ) (t : Result (Option (List ℕ)) Refusal) (x : ResourceView) (r : Result (Option ByteRange) Refusal) → IsBehindEntries map f d body t (Ok x) → IsRangeBehindEntries map f body 24 t r → IsManifestIn f r x.manifest
+manifest_behind_entries map f d body (Err e) x r h k = absurd (ok_not_refused x e h)
+manifest_behind_entries map f d body (Ok None) x r h k = (None, k, ap (λ (y : ResourceView). y.manifest) (ok_once x no_resources h))
+manifest_behind_entries map f d body (Ok (Some table)) x r h k = in_range map f body (entries table) 24 r x.manifest k (with_manifest map f d body (entries table) h.0 x h.1 h.2).0
+
+version_behind_entries : (map : ℕ → Option ℕ) (f : List ℕ) (d : ImageResourceDirectory) (body : List ℕ) (t : Result (Option (List ℕ)) Refusal) (x : ResourceView) (r : Result (Option ByteRange) Refusal) → IsBehindEntries map f d body t (Ok x) → IsRangeBehindEntries map f body 16 t r → IsVersionIn f r x.version
+version_behind_entries map f d body (Err e) x r h k = absurd (ok_not_refused x e h)
+version_behind_entries map f d body (Ok None) x r h k = (None, None, k, refl, ap (λ (y : ResourceView). Ok y.version) (sym (ok_once x no_resources h)))
+version_behind_entries map f d body (Ok (Some table)) x r h k =
+    let is = (with_manifest map f d body (entries table) h.0 x h.1 h.2).1 in
+    version_by map f body (entries table) r is.0 x.version k is.1 is.2
+
+manifest_behind_directory : (mode : ParseMode) (map : ℕ → Option ℕ) (f : List ℕ) (t : Result (ImageResourceDirectory × List ℕ) Refusal) (x : ResourceView) (r : Result (Option ByteRange) Refusal) → IsBehindDirectory mode map f t (Ok x) → IsRangeBehindDirectory mode map f 24 t r → IsManifestIn f r x.manifest
+manifest_behind_directory mode map f (Err e) x r h k = absurd (ok_not_refused x e h)
+manifest_behind_directory mode map f (Ok (d, body)) x r h k = manifest_behind_entries map f d body (first_entries_in mode body d) x r h k
+
+version_behind_directory : (mode : ParseMode) (map : ℕ → Option ℕ) (f : List ℕ) (t : Result (ImageResourceDirectory × List ℕ) Refusal) (x : ResourceView) (r : Result (Option ByteRange) Refusal) → IsBehindDirectory mode map f t (Ok x) → IsRangeBehindDirectory mode map f 16 t r → IsVersionIn f r x.version
+version_behind_directory mode map f (Err e) x r h k = absurd (ok_not_refused x e h)
+version_behind_directory mode map f (Ok (d, body)) x r h k = version_behind_entries map f d body (first_entries_in mode body d) x r h k
+
+pub manifest_in : (o : ParseOptions) (f : List ℕ) (d : DataDirectory) (sections : List SectionTable) (alignment : ℕ) (x : ResourceView) (r : Result (Option ByteRange) Refusal) → IsResource o f d sections alignment (Ok x) → IsResourceRange o f d 24 sections alignment r → IsManifestIn f r x.manifest
+manifest_in o f d sections alignment x r h k = manifest_behind_directory o.parse_mode (map_of o sections alignment) f (directory_and_data o f d sections alignment) x r h k
+
+pub version_in_range : (o : ParseOptions) (f : List ℕ) (d : DataDirectory) (sections : List SectionTable) (alignment : ℕ) (x : ResourceView) (r : Result (Option ByteRange) Refusal) → IsResource o f d sections alignment (Ok x) → IsResourceRange o f d 16 sections alignment r → IsVersionIn f r x.version
+version_in_range o f d sections alignment x r h k = version_behind_directory o.parse_mode (map_of o sections alignment) f (directory_and_data o f d sections alignment) x r h k
+
+-- ---- version information by its parts
+
+named : (name : VersionName) (ss : List VersionString) → value_of (name_of name) ss ≡ value_named name (file_strings ss)
+named names.Comments ss = refl
+named names.CompanyName ss = refl
+named names.FileDescription ss = refl
+named names.FileVersion ss = refl
+named names.InternalName ss = refl
+named names.LegalCopyright ss = refl
+named names.LegalTrademarks ss = refl
+named names.OriginalFilename ss = refl
+named names.PrivateBuild ss = refl
+named names.ProductName ss = refl
+named names.ProductVersion ss = refl
+named names.SpecialBuild ss = refl
+
+parts_by : (b : List ℕ) (f : Result (Option VsFixedFileInfo) Refusal) (v : VersionView) → fixed_info_of b ≡ f → (f >>= λ f. Ok (record { fixed_info = f; strings = file_strings (read (strings b)) })) ≡ Ok v → (fixed_info_of b ≡ Ok v.fixed_info) × (file_strings (read (strings b)) ≡ v.strings)
+parts_by b (Err e) v is h = absurd cc
+parts_by b (Ok f) v is h =
+    let same : record { fixed_info = f; strings = file_strings (read (strings b)) } ≡ v = ok_once (record { fixed_info = f; strings = file_strings (read (strings b)) }) v h in
+    (is ∙ ap (λ (w : VersionView). Ok w.fixed_info) same, ap (λ (w : VersionView). w.strings) same)
+
+pub version_fixed : (b : List ℕ) (v : VersionView) → version_in b ≡ Ok v → fixed_info_of b ≡ Ok v.fixed_info
+unfolding version_in
+version_fixed b v h = (parts_by b (fixed_info_of b) v refl h).0
+
+version_strings : (b : List ℕ) (v : VersionView) → version_in b ≡ Ok v → file_strings (read (strings b)) ≡ v.strings
+unfolding version_in
+version_strings b v h = (parts_by b (fixed_info_of b) v refl h).1
+
+pub version_named : (b : List ℕ) (v : VersionView) (name : VersionName) → version_in b ≡ Ok v → (r : Option ByteRange) × (value_range_in name b ≡ Ok r) × IsThere b r (value_named name v.strings)
+unfolding value_range_in
+version_named b v name h = (
+  value_range (name_of name) 0 (read (strings b)),
+  ap (λ (f : Result (Option VsFixedFileInfo) Refusal). f >>= λ _. Ok (value_range (name_of name) 0 (read (strings b)))) (version_fixed b v h),
+  subst (IsThere b (value_range (name_of name) 0 (read (strings b)))) (named name (read (strings b)) ∙ ap (value_named name) (version_strings b v h)) (value_there (name_of name) b),
+)
