@@ -491,8 +491,8 @@ typedef struct {
 
 typedef struct {
     pe_c_range name;                /* UTF-8, without the zero behind it */
-    uint64_t place;                 /* where the address stands in the file; 0 unless has_place */
-    uint32_t rva;
+    uint64_t place;                 /* the place of its address in the file; 0 unless has_place */
+    uint32_t rva;                   /* its address */
     uint32_t has_place;             /* 1 or 0 */
 } pe_c_export;
 
