@@ -237,9 +237,6 @@ fn read_by_lies(bytes: &[u8], random: &mut Random, seen: &mut Seen) {
     let tables = call_of_image!(pe_c_export_tables(), Exports);
     walk_of_image!(pe_c_next_export(tables), Export);
     walk_of_image!(pe_c_next_export(sys::Exports { names: range, next: index, ..tables }), Export);
-    let records = call_of_image!(pe_c_import_records(), Imports);
-    walk_of_image!(pe_c_next_import(records), Import);
-    walk_of_image!(pe_c_next_import(sys::Imports { record: range.place, entry: index }), Import);
     let saved = if few & 8 == 0 { directory.virtual_address } else { few };
     let plan = sys::Plan { unwind: directory.virtual_address, saved, steps: index, limit: range.length, ..sys::Plan::default() };
     walk_of_image!(pe_c_next_record(plan), Record);

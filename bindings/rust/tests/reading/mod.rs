@@ -173,19 +173,11 @@ fn read_arm64_functions(image: &Image, seen: &mut Seen) {
     }
 }
 
-fn read_tables(image: &Image, seen: &mut Seen) {
+fn read_exports(image: &Image, seen: &mut Seen) {
     if let Some(exports) = seen.keep(image.exports()) {
         for export in exports.take(seen.most) {
             if let Some(export) = seen.item(export) {
                 seen.touch(export.name);
-            }
-        }
-    }
-    if let Some(imports) = seen.keep(image.imports()) {
-        for import in imports.take(seen.most) {
-            if let Some(import) = seen.item(import) {
-                seen.touch(import.library);
-                seen.touch(import.name.unwrap_or_default());
             }
         }
     }
@@ -220,7 +212,7 @@ pub fn read_all(bytes: &[u8], mode: Mode, most: usize) -> Seen {
     read_certificates(&image, &mut seen);
     read_functions(&image, &mut seen);
     read_arm64_functions(&image, &mut seen);
-    read_tables(&image, &mut seen);
+    read_exports(&image, &mut seen);
     read_version(&image, &mut seen);
     seen
 }
