@@ -1,3 +1,4 @@
+pub mod ExportParts
 pub mod LastText
 pub mod Listings
 pub mod Parts

@@ -1,12 +1,14 @@
 //! What follows from the definitions alone.
 
-ghost use Rattle.std.specs.Prelude.{◌≡◌, ℕ, List, Ok};
+ghost use Rattle.std.specs.Prelude.{◌≡◌, ℕ, List, Option, Ok};
 ghost use Rattle.std.specs.Option.{option_map};
+ghost use Rattle.pe_core.specs.Exports.{ExportDataView, export_at, export_data_at};
 ghost use Rattle.pe_records.specs.Certificates.{CertificateView, certificate_at};
 ghost use Rattle.pe_records.specs.Parts.{hash_of};
-ghost use Rattle.pe_c.specs.Certificates.{StepsList, told_at};
+ghost use Rattle.pe_c.specs.Certificates.{StepsList, certificate_told};
 ghost use Rattle.pe_c.specs.Debug.{key_of, pdb20_of, repro_of, pogo_of};
-ghost use Rattle.pe_c.specs.Parts.{TellsPart};
+ghost use Rattle.pe_c.specs.Exports.{told_entry, walk_over, with_tables};
+ghost use Rattle.pe_c.specs.Parts.{HasTables, TellsExport, TellsPart};
 ghost use Rattle.pe_c.specs.Ranges.{IsRange};
 
 /// The ranges that are told of debug data lie in the bytes, and are the file names, the hash and the entries of POGO that
@@ -23,5 +25,14 @@ pub fn ranges_of_debug_data_are_their_parts()
 #[tactic(auto, using(crate::proofs::Listings::steps_list, crate::proofs::Parts::body_is_told))]
 pub fn walks_list_the_certificates()
     ensures listing { StepsList }
-    ensures body { (b : List ℕ) (p : ℕ) (c : CertificateView) (next : ℕ) → certificate_at b p ≡ Ok (c, next) → IsRange b (told_at p c).body c.body }
+    ensures body { (b : List ℕ) (p : ℕ) (c : CertificateView) (next : ℕ) → certificate_at b p ≡ Ok (c, next) → IsRange b (certificate_told p c).body c.body }
+{}
+
+/// The ranges of a walk over exports are the tables of the export data, and what the walk tells of an entry of the name
+/// table is the export that the entry has.
+#[tactic(auto, using(crate::proofs::ExportParts::tells))]
+pub fn walks_tell_the_exports()
+    ensures tables { (place : ℕ → Option ℕ) (b : List ℕ) (rva : ℕ) (d : ExportDataView) → export_data_at place b rva ≡ Ok d → HasTables b (walk_over place d) d }
+    ensures exports { (place : ℕ → Option ℕ) (b : List ℕ) (d : ExportDataView) (i : ℕ) →
+        TellsExport b (told_entry place b (with_tables d.names d.ordinals d.addresses) i) (export_at place b d i) }
 {}
