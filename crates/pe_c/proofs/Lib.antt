@@ -1,3 +1,4 @@
+pub mod Cycles
 pub mod LastText
 pub mod PlanSteps
 pub mod RecordRanges
