@@ -1,21 +1,19 @@
 -- What a walk tells of exports.
-use Rattle.std.proofs.Common.{◌≡◌, ℕ, ◌+◌, ◌-◌, ◌*◌, ◌<◌, ◌≤◌, Bool, true, false, List, [], length, take, drop, Option, Some, None, Result, Ok, Err, refl, sym, subst, ap, ◌∙◌, length-drop, length-take-le, arith}
-use Rattle.std.specs.Prelude.{◌==◌, position, slice_range, nat_le, if◌then◌else◌}
+use Rattle.std.proofs.Common.{◌≡◌, ℕ, ◌+◌, ◌-◌, ◌*◌, ◌<◌, ◌≤◌, Bool, true, false, List, [], length, take, drop, Option, Some, None, Result, Ok, Err, refl, subst, length-drop, length-take-le, arith}
+use Rattle.std.specs.Prelude.{◌==◌, position, slice_range, if◌then◌else◌}
 use Rattle.std.specs.Option.{option_map, option_and_then}
 use Rattle.std.specs.Str.{is_utf8}
 use Rattle.std.proofs.lemmas.Bool.Decides.{nat_tests}
 use Rattle.std.proofs.lemmas.List.{places, same_lists}
 use Rattle.std.proofs.lemmas.List.Quantifiers.{position-Some}
-use Rattle.pe_core.specs.Bytes.{holds, le, range, record_at}
-use Rattle.pe_core.specs.Exports.{ExportDataView, ExportView, entry_of, export_at, export_data_at, image_name, named_export, table_at}
+use Rattle.pe_core.specs.Bytes.{le, range, record_at}
+use Rattle.pe_core.specs.Exports.{ExportDataView, entry_of, export_at, export_data_at, named_export, table_at}
 use Rattle.pe_core.specs.Records.{export_directory}
 use Rattle.pe_core.specs.Refusals.{Refusal, ◌>>=◌}
 use Rattle.pe_core.specs.SectionMap.{mapped}
 use Rattle.pe_core.specs.Text.{text_at, text_of, text_to_zero}
 use Rattle.pe_core.specs.declared.export.ExportDirectoryTable.{ExportDirectoryTable}
-use Rattle.pe_c.specs.declared.exports.Export.{Export}
-use Rattle.pe_c.specs.declared.ranges.Range.{Range}
-use Rattle.pe_c.specs.Exports.{export_told, range_from, table_range, told_entry, walk_over, with_tables}
+use Rattle.pe_c.specs.Exports.{export_told, range_from, told_entry, walk_over, with_tables}
 use Rattle.pe_c.specs.Parts.{HasTables, TellsExport}
 use Rattle.pe_c.specs.Ranges.{IsRange, no_bytes}
 

@@ -1,6 +1,9 @@
+pub mod Cycles
 pub mod ExportParts
 pub mod LastText
 pub mod Listings
 pub mod Parts
+pub mod PlanSteps
+pub mod RecordRanges
 pub mod Rooms
 pub mod Steps

@@ -7,6 +7,7 @@ pub mod Exports
 pub mod Images
 pub mod Modes
 pub mod Parts
+pub mod Plans
 pub mod Ranges
 pub mod Texts
 pub mod Unwinding

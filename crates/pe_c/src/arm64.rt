@@ -546,3 +546,64 @@ pub extern "C" fn pe_c_next_arm64_code(
 {
     hand_out_some(next_code(bytes, walk), out)
 }
+
+#[cfg(test)]
+mod tests {
+    use super::{
+        Arm64Code, Arm64Scope, OVER, pe_c_arm64_codes, pe_c_next_arm64_code, pe_c_next_arm64_scope,
+    };
+    use crate::answers::{DONE, NOTHING};
+    use crate::ranges::Range;
+
+    #[test]
+    fn walks_over_codes(rt: HostRuntime) {
+        // save_fplr_x of 16 bytes, end, and two nops.
+        let bytes = [0x81, 0xE4, 0xE3, 0xE3];
+        let codes = Range {
+            place: 0,
+            length: 4,
+        };
+        let mut walk = OVER;
+        let mut code = Arm64Code {
+            offset: 9,
+            length: 9,
+            kind: 9,
+            operand: 9,
+            value: 9,
+            flags: 9,
+        };
+        assert_eq!(rt; pe_c_arm64_codes(&bytes, &codes, 5, &mut walk), 26);
+        assert_eq!(rt; pe_c_arm64_codes(&bytes, &codes, 0, &mut walk), DONE);
+        assert_eq!(rt; pe_c_next_arm64_code(&bytes, &mut walk, &mut code), DONE);
+        assert_eq!(rt;
+            (code.offset, code.length, code.kind, code.value),
+            (0, 1, 3, 16)
+        );
+        assert_eq!(rt; pe_c_next_arm64_code(&bytes, &mut walk, &mut code), DONE);
+        assert_eq!(rt;
+            (code.offset, code.length, code.kind, code.value),
+            (1, 1, 19, 0)
+        );
+    }
+
+    #[test]
+    fn walks_over_scopes(rt: HostRuntime) {
+        let bytes = [3, 0, 0x40, 0];
+        let mut walk = Range {
+            place: 0,
+            length: 4,
+        };
+        let mut scope = Arm64Scope {
+            start_offset: 0,
+            start_index: 0,
+            reserved: 0,
+            word: 0,
+        };
+        assert_eq!(rt; pe_c_next_arm64_scope(&bytes, &mut walk, &mut scope), DONE);
+        assert_eq!(rt; (scope.start_offset, scope.start_index), (12, 1));
+        assert_eq!(rt;
+            pe_c_next_arm64_scope(&bytes, &mut walk, &mut scope),
+            NOTHING
+        );
+    }
+}

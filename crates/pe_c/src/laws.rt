@@ -1,15 +1,51 @@
-//! What follows from the definitions alone.
+//! Laws over the definitions. Each is the contract of a function that does nothing.
 
-ghost use Rattle.std.specs.Prelude.{◌≡◌, ℕ, List, Option, Ok};
+ghost use Rattle.std.specs.Prelude.{◌≡◌, ℕ, List, Option, Ok, Err, IfSome};
 ghost use Rattle.std.specs.Option.{option_map};
-ghost use Rattle.pe_core.specs.Exports.{ExportDataView, export_at, export_data_at};
-ghost use Rattle.pe_records.specs.Certificates.{CertificateView, certificate_at};
-ghost use Rattle.pe_records.specs.Parts.{hash_of};
+ghost use Rattle.pe_c.specs.Arm64.{flat_info};
 ghost use Rattle.pe_c.specs.Certificates.{StepsList, certificate_told};
 ghost use Rattle.pe_c.specs.Debug.{key_of, pdb20_of, repro_of, pogo_of};
 ghost use Rattle.pe_c.specs.Exports.{told_entry, walk_over, with_tables};
 ghost use Rattle.pe_c.specs.Parts.{HasTables, TellsExport, TellsPart};
+ghost use Rattle.pe_c.specs.Plans.{plan_from, StepsPlan, GivesInTurn, IsCycle};
 ghost use Rattle.pe_c.specs.Ranges.{IsRange};
+ghost use Rattle.pe_c.specs.Unwinding.{flat_record};
+ghost use Rattle.pe_c.specs.declared.image.Image.{Image};
+ghost use Rattle.pe_c.specs.declared.plan.Plan.{Plan};
+ghost use Rattle.pe_c.specs.declared.unwinding.UnwindRecord.{UnwindRecord};
+ghost use Rattle.pe_core.specs.Exports.{ExportDataView, export_at, export_data_at};
+ghost use Rattle.pe_core.specs.Refusals.{FunctionCycle, outcome};
+ghost use Rattle.pe_core.specs.declared.section_table.SectionTable.{SectionTable};
+ghost use Rattle.pe_records.specs.Certificates.{CertificateView, certificate_at};
+ghost use Rattle.pe_records.specs.Parts.{hash_of};
+ghost use Rattle.pe_unwind.specs.Arm64Record.{Arm64InfoView, info_at};
+ghost use Rattle.pe_unwind.specs.Places.{data_of};
+ghost use Rattle.pe_unwind.specs.UnwindRecord.{UnwindInfoView, unwind_tests, unwind_record};
+
+/// The ranges of an unwind record that is given lie in the bytes, and are its codes and its handler's data.
+pub fn ranges_of_records()
+    ensures codes { (b : List ℕ) (p : ℕ) (i : UnwindInfoView) → outcome (unwind_tests b p) (unwind_record b p) ≡ Ok i →
+        IsRange b (flat_record b p i).codes.left i.codes }
+    ensures handler { (b : List ℕ) (p : ℕ) (i : UnwindInfoView) → outcome (unwind_tests b p) (unwind_record b p) ≡ Ok i →
+        IfSome i.handler (λ h. IsRange b (flat_record b p i).handler_data (data_of h)) }
+{}
+
+/// The ranges of an ARM64 unwind record that is given lie in the bytes, and are its epilog scopes, its codes and its
+/// handler's data.
+pub fn ranges_of_arm64_records()
+    ensures scopes { (b : List ℕ) (p : ℕ) (i : Arm64InfoView) → info_at b p ≡ Ok i → IsRange b (flat_info b p i).scopes i.scopes }
+    ensures codes { (b : List ℕ) (p : ℕ) (i : Arm64InfoView) → info_at b p ≡ Ok i → IsRange b (flat_info b p i).codes i.codes }
+    ensures handler { (b : List ℕ) (p : ℕ) (i : Arm64InfoView) → info_at b p ≡ Ok i →
+        IfSome i.handler (λ h. IsRange b (flat_info b p i).handler_data h.bytes) }
+{}
+
+/// A plan that began at an unwind address, and is refused as a cycle, is one whose chain never ends: in records, or in the
+/// links of one of its functions.
+pub fn refused_plans_never_end()
+    ensures { (b : List ℕ) (image : Image) (sections : List SectionTable) (mode unwind : ℕ) (given : List UnwindRecord) (p q : Plan) →
+        GivesInTurn b image sections mode (plan_from unwind) given p → StepsPlan b image sections mode p (Err FunctionCycle) q →
+        IsCycle b image sections mode unwind }
+{}
 
 /// The ranges that are told of debug data lie in the bytes, and are the file names, the hash and the entries of POGO that
 /// the debug data have.

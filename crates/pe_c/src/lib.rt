@@ -14,6 +14,7 @@ mod debug_walks;
 mod exports;
 mod image;
 pub mod laws;
+mod plan;
 mod ranges;
 mod texts;
 mod unwinding;

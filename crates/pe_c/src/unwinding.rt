@@ -268,7 +268,7 @@ fn find_place(
     }
 }
 
-fn read_record(
+pub fn read_record(
     bytes: &[u8],
     image: &Image,
     sections: &[SectionTable],
@@ -451,4 +451,87 @@ pub extern "C" fn pe_c_next_scope(bytes: &[u8], walk: &mut Range, out: &mut Scop
     ensures walk { walk.new ≡ walk_of 16 bytes.now walk.old }
 {
     hand_out_some(next_scope(bytes, walk), out)
+}
+
+#[cfg(test)]
+mod tests {
+    use super::{
+        Code, CodeWalk, pe_c_find_function, pe_c_function_at, pe_c_next_code, pe_c_next_scope,
+        pe_c_scope_table,
+    };
+    use crate::answers::{DONE, NOTHING};
+    use crate::ranges::{NO_BYTES, Range};
+    use pe_unwind::{RuntimeFunction, ScopeTableEntry};
+
+    #[test]
+    fn finds_a_function_in_a_range(rt: HostRuntime) {
+        let mut bytes = [0; 28];
+        bytes[5] = 0x10;
+        bytes[8] = 0x10;
+        bytes[9] = 0x10;
+        let table = Range {
+            place: 4,
+            length: 24,
+        };
+        let mut function = RuntimeFunction::default();
+        assert_eq!(rt; pe_c_function_at(&bytes, &table, 2, &mut function), 20);
+        assert_eq!(rt; pe_c_function_at(&bytes, &table, 0, &mut function), DONE);
+        assert_eq!(rt; function.begin_address, 0x1000);
+        let first = Range {
+            place: 4,
+            length: 12,
+        };
+        assert_eq!(rt;
+            pe_c_find_function(&bytes, &first, 0x100F, &mut function),
+            DONE
+        );
+        assert_eq!(rt;
+            pe_c_find_function(&bytes, &first, 0x1010, &mut function),
+            NOTHING
+        );
+    }
+
+    #[test]
+    fn walks_over_codes(rt: HostRuntime) {
+        // Behind four bytes: a prolog that pushed rbx, up to 1, and made room for 8 bytes, up to 5.
+        let bytes = [0, 0, 0, 0, 5, 0x02, 1, 0x30];
+        let mut walk = CodeWalk {
+            left: Range {
+                place: 4,
+                length: 4,
+            },
+            version: 1,
+            frame_register: 0,
+            spare: [0; 6],
+        };
+        let mut code = Code {
+            code_offset: 0,
+            operation: 0,
+            operand: 0,
+            from_frame: 0,
+            value: 0,
+        };
+        assert_eq!(rt; pe_c_next_code(&bytes, &mut walk, &mut code), DONE);
+        assert_eq!(rt; (code.code_offset, code.operation, code.value), (5, 1, 8));
+        assert_eq!(rt; pe_c_next_code(&bytes, &mut walk, &mut code), DONE);
+        assert_eq!(rt; (code.code_offset, code.operation, code.operand), (1, 0, 3));
+        assert_eq!(rt; pe_c_next_code(&bytes, &mut walk, &mut code), NOTHING);
+    }
+
+    #[test]
+    fn walks_over_scopes(rt: HostRuntime) {
+        let mut bytes = [0; 20];
+        bytes[0] = 1;
+        bytes[16] = 7;
+        let data = Range {
+            place: 0,
+            length: 20,
+        };
+        let mut walk = NO_BYTES;
+        let mut scope = ScopeTableEntry::default();
+        assert_eq!(rt; pe_c_scope_table(&bytes, &data, &mut walk), DONE);
+        assert_eq!(rt; pe_c_next_scope(&bytes, &mut walk, &mut scope), DONE);
+        assert_eq!(rt; scope.target, 7);
+        assert_eq!(rt; pe_c_next_scope(&bytes, &mut walk, &mut scope), NOTHING);
+    }
 }
