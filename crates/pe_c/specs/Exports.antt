@@ -94,8 +94,8 @@ abbrev pub export_told : ℕ → ExportView → Export
 export_told p e = record { name = record { place = p; length = length e.name }; place = or_zero e.offset; rva = e.rva; has_place = one_if_some e.offset }
 
 -- the export of entry i of the name table, if its name has a place and is text, and it has an address
-abbrev pub told_at : (ℕ → Option ℕ) → List ℕ → ExportDataView → ℕ → Option Export
-told_at place b d i = option_and_then (λ p. option_map (export_told p) (option_and_then (named_export place d i) (text_at b p))) (place (le d.names (4 * i) 4))
+abbrev pub told_entry : (ℕ → Option ℕ) → List ℕ → ExportDataView → ℕ → Option Export
+told_entry place b d i = option_and_then (λ p. option_map (export_told p) (option_and_then (named_export place d i) (text_at b p))) (place (le d.names (4 * i) 4))
 
 -- none of the entries from one on up to another has an export
 abbrev pub HaveNone : (ℕ → Option Export) → ℕ → ℕ → Type 0
@@ -118,7 +118,7 @@ walk_behind w (Some x) = record w { next = x.1 }
 -- a step over the entries that are left of these tables
 abbrev pub StepsOver : (ℕ → Option ℕ) → List ℕ → Result ExportDataView Refusal → Exports → Result (Option Export) Refusal → Exports → Type 0
 StepsOver place b (Ok d) w answer new =
-    (found : Option (Export × ℕ)) × FindsNext (told_at place b d) w.next (count_of w) found × (answer ≡ Ok (option_map (λ x. x.0) found)) × (new ≡ walk_behind w found)
+    (found : Option (Export × ℕ)) × FindsNext (told_entry place b d) w.next (count_of w) found × (answer ≡ Ok (option_map (λ x. x.0) found)) × (new ≡ walk_behind w found)
 StepsOver place b (Err refusal) w answer new = (answer ≡ Err refusal) × (new ≡ record w { names = no_bytes })
 
 abbrev pub StepsIf : Bool → (ℕ → Option ℕ) → List ℕ → Exports → Result (Option Export) Refusal → Exports → Type 0

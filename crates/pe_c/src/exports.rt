@@ -4,7 +4,7 @@ ghost use Rattle.std.specs.Prelude.{◌≡◌, ◌+◌, ◌*◌, ◌/◌, ◌≤
 ghost use Rattle.pe_core.specs.Exports.{export_data_view};
 ghost use Rattle.pe_core.specs.Refusals.{Gives, answer_by};
 ghost use Rattle.pe_c.specs.Answers.{AnswersIf};
-ghost use Rattle.pe_c.specs.Exports.{AnswersExport, FindsNext, Steps, place_in, table_range, tables_at, tables_or_short, told_at, view_of, walk_over};
+ghost use Rattle.pe_c.specs.Exports.{AnswersExport, FindsNext, Steps, place_in, table_range, tables_at, tables_or_short, told_entry, view_of, walk_over};
 
 use crate::answers::{hand_out_some, options};
 use crate::image::{Image, is_absent};
@@ -124,7 +124,7 @@ struct Tables<'a> {
 }
 
 /// The export of entry `i` of the name table, if its name has a place and is text, and it has an address.
-fn told_at(
+fn told_entry(
     bytes: &[u8],
     tables: &Tables<'_>,
     i: usize,
@@ -132,7 +132,7 @@ fn told_at(
     sections: &[SectionTable],
 ) -> Option<Export>
     requires { 4 * i + 4 ≤ length tables.now.names.now }
-    ensures { result ≡ told_at (place_in image.now sections.now) bytes.now (view_of tables.now) i }
+    ensures { result ≡ told_entry (place_in image.now sections.now) bytes.now (view_of tables.now) i }
 {
     let place = place_of(number32(tables.names, 4 * i), image, sections)?;
     let name = text_at(bytes, place)?;
@@ -158,10 +158,10 @@ fn find_next(
     image: &Image,
     sections: &[SectionTable],
 ) -> Option<(Export, u64)>
-    ensures { FindsNext (told_at (place_in image.now sections.now) bytes.now (view_of tables.now)) from (length tables.now.names.now / 4) result }
+    ensures { FindsNext (told_entry (place_in image.now sections.now) bytes.now (view_of tables.now)) from (length tables.now.names.now / 4) result }
 {
     for i in from..tables.names.len() / 4 {
-        if let Some(export) = told_at(bytes, tables, i, image, sections) {
+        if let Some(export) = told_entry(bytes, tables, i, image, sections) {
             return Some((export, i as u64 + 1));
         }
     }
