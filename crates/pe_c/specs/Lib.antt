@@ -1,7 +1,11 @@
 pub mod Answers
+pub mod Arm64
 pub mod Debug
 pub mod Images
 pub mod Modes
+pub mod Plans
 pub mod Ranges
 pub mod Texts
+pub mod Unwinding
 pub mod Versions
+pub mod Walks

@@ -1,8 +1,20 @@
 -- Ranges of the bytes.
-use Rattle.std.specs.Prelude.{◌≡◌, ℕ, ◌+◌, ◌≤◌, List, length, Result}
+use Rattle.std.specs.Prelude.{◌≡◌, ℕ, ◌+◌, ◌-◌, ◌≤◌, List, length, Result}
 use Rattle.pe_core.specs.Bytes.{range, record_at}
 use Rattle.pe_core.specs.Refusals.{Refusal}
 use Rattle.pe_c.specs.declared.ranges.Range.{Range}
+
+-- the range of no bytes; a walk that is over
+abbrev pub no_bytes : Range
+no_bytes = record { place = 0; length = 0 }
+
+-- a range without its first bytes
+abbrev pub behind : Range → ℕ → Range
+behind r n = record { place = r.place + n; length = r.length - n }
+
+-- the range of bytes that are the last of these
+abbrev pub last_range : List ℕ → List ℕ → Range
+last_range b part = record { place = length b - length part; length = length part }
 
 -- the bytes of a range, or `Short` where they are not all there
 abbrev pub bytes_at : List ℕ → Range → Result (List ℕ) Refusal

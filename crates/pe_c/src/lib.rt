@@ -7,8 +7,13 @@
 #![tactic(auto)]
 
 mod answers;
+mod arm64;
 mod debug;
 mod image;
+pub mod laws;
+mod plan;
 mod ranges;
 mod texts;
+mod unwinding;
 mod version;
+mod walks;

@@ -1,5 +1,6 @@
 //! Ranges of the bytes, which go out and come back as two numbers.
 
+ghost use Rattle.std.specs.Prelude.{◌≡◌, ◌+◌, ◌≤◌};
 ghost use Rattle.pe_core.specs.Refusals.{Gives};
 ghost use Rattle.pe_c.specs.Ranges.{bytes_at};
 
@@ -24,4 +25,16 @@ pub fn slice_of<'a>(bytes: &'a [u8], range: &Range) -> Result<&'a [u8]>
     ensures { Gives (λ s. s.now) result (bytes_at bytes.entry.now range.now) }
 {
     slice_at(bytes, range.place as usize, range.length as usize)
+}
+
+/// The last so many bytes of a total, as a range.
+pub fn last_range(total: usize, length: usize) -> Range
+    requires { length ≤ total }
+    ensures place { result.place + length ≡ total }
+    ensures length { result.length ≡ length }
+{
+    Range {
+        place: (total - length) as u64,
+        length: length as u64,
+    }
 }

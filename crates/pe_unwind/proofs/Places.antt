@@ -1,5 +1,5 @@
 -- The parts of unwind records are ranges of the bytes.
-use Rattle.std.proofs.Common.{◌≡◌, ℕ, ◌+◌, ◌-◌, ◌*◌, ◌≤◌, Bool, true, false, List, [], ◌∷◌, length, drop, Option, Some, None, Ok, refl, ap, sym, subst, ◌∙◌, arith}
+use Rattle.std.proofs.Common.{◌≡◌, ℕ, ◌+◌, ◌-◌, ◌*◌, ◌≤◌, Bool, true, false, List, [], ◌∷◌, length, drop, Some, None, Ok, refl, subst, arith}
 use Rattle.std.specs.Prelude.{slice_range, ◌==◌, ◌||◌, if◌then◌else◌, IfSome}
 use Rattle.std.proofs.lemmas.Bool.Decides.{nat_tests}
 use Rattle.std.proofs.lemmas.List.{places, same_lists}
@@ -7,7 +7,7 @@ use Rattle.pe_core.specs.Bytes.{holds, le, range}
 use Rattle.pe_core.specs.Refusals.{Refusal, Short, UnwindVersion, outcome}
 use Rattle.pe_unwind.specs.FunctionTable.{function_at}
 use Rattle.pe_unwind.specs.Places.{StandAt, StandLast, data_of, PartsStand}
-use Rattle.pe_unwind.specs.UnwindRecord.{HandlerView, Exception, Termination, UnwindInfoView, Ending, ending_at, unwind_tests, unwind_record, count_at, version_at, flags_at, behind_codes, ending_holds, is_chained, handles_exceptions, handles_termination}
+use Rattle.pe_unwind.specs.UnwindRecord.{Exception, Termination, UnwindInfoView, Ending, ending_at, unwind_tests, unwind_record, count_at, version_at, flags_at, behind_codes, ending_holds, is_chained, handles_exceptions, handles_termination}
 
 length_of_range : (b : List ℕ) (p n : ℕ) → p + n ≤ length b → length (slice_range b p (p + n)) ≡ n
 length_of_range b p n h = grind (arith, places)

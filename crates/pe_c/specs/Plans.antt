@@ -1,0 +1,54 @@
+-- The records of a function up to the root of its chain, one a step.
+use Rattle.std.specs.Prelude.{◌≡◌, ℕ, ◌+◌, ◌*◌, ◌==◌, min, nat_le, Bool, true, false, List, Option, Some, None, Result, Ok, Err, if◌then◌else◌}
+use Rattle.pe_core.specs.Refusals.{Refusal, FunctionCycle}
+use Rattle.pe_core.specs.declared.section_table.SectionTable.{SectionTable}
+use Rattle.pe_c.specs.Answers.{AnswersIf}
+use Rattle.pe_c.specs.Unwinding.{FollowsToRecord}
+use Rattle.pe_c.specs.declared.image.Image.{Image}
+use Rattle.pe_c.specs.declared.plan.Plan.{Plan}
+use Rattle.pe_c.specs.declared.unwinding.UnwindRecord.{UnwindRecord}
+
+-- the plan that begins at an unwind address
+abbrev pub plan_from : ℕ → Plan
+plan_from unwind = record { unwind = unwind; is_over = 0; saved = unwind; spare = 0; steps = 0; limit = 1 }
+
+abbrev pub ended : Plan → Plan
+ended p = record p { is_over = 1 }
+
+-- a plan that goes on at an address, which is saved if as many records were given as the limit says: then the limit doubles
+abbrev pub goes_on : Plan → ℕ → Plan
+goes_on p address =
+    if nat_le p.limit (p.steps + 1)
+    then record p { unwind = address; saved = address; steps = 0; limit = min (2 * p.limit) 18446744073709551615 }
+    else record p { unwind = address; steps = p.steps + 1 }
+
+-- what a plan gives whose next record is this one: a record that goes on at the saved address is one of a ring
+abbrev pub gives_record : Plan → UnwindRecord → Result (Option UnwindRecord) Refusal
+gives_record p r =
+    if r.is_chained == 0 then Ok (Some r) else (if r.chained.unwind_info_address == p.saved then Err FunctionCycle else Ok (Some r))
+
+abbrev pub behind_record : Plan → UnwindRecord → Plan
+behind_record p r =
+    if r.is_chained == 0 then ended p
+    else (if r.chained.unwind_info_address == p.saved then ended p else goes_on p r.chained.unwind_info_address)
+
+abbrev pub gives : Plan → Result UnwindRecord Refusal → Result (Option UnwindRecord) Refusal
+gives p (Ok r) = gives_record p r
+gives p (Err refusal) = Err refusal
+
+abbrev pub leaves : Plan → Result UnwindRecord Refusal → Plan
+leaves p (Ok r) = behind_record p r
+leaves p (Err refusal) = ended p
+
+-- one step of a plan: nothing where it is over; else what asking for the record of its address answers decides
+abbrev pub StepsIf : Bool → List ℕ → Image → List SectionTable → ℕ → Plan → Result (Option UnwindRecord) Refusal → Plan → Type 0
+StepsIf false b image sections mode old answer new = (answer ≡ Ok None) × (new ≡ old)
+StepsIf true b image sections mode old answer new =
+    (next : Result UnwindRecord Refusal) × FollowsToRecord b image sections mode old.unwind next × (answer ≡ gives old next) × (new ≡ leaves old next)
+
+abbrev pub StepsPlan : List ℕ → Image → List SectionTable → ℕ → Plan → Result (Option UnwindRecord) Refusal → Plan → Type 0
+StepsPlan b image sections mode old answer new = StepsIf (old.is_over == 0) b image sections mode old answer new
+
+abbrev pub AnswersPlan : List ℕ → Image → List SectionTable → ℕ → Plan → Plan → ℕ → UnwindRecord → UnwindRecord → Type 0
+AnswersPlan b image sections mode old_plan new_plan number old new =
+    (answer : Result (Option UnwindRecord) Refusal) × StepsPlan b image sections mode old_plan answer new_plan × AnswersIf number old new answer

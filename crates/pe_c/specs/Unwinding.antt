@@ -1,0 +1,193 @@
+-- The functions of x64 images, and how their frames are unwound.
+use Rattle.std.specs.Prelude.{◌≡◌, ℕ, ◌+◌, ◌-◌, ◌==◌, ◌≤◌, length, drop, ◌&&◌, List, [], ◌∷◌, Option, Some, None, Result, Ok, Err, if◌then◌else◌}
+use Rattle.std.specs.Option.{option_map}
+use Rattle.pe_core.specs.Refusals.{Refusal, kind_of, outcome, ◌>>=◌}
+use Rattle.pe_core.specs.declared.error.Error.{Error}
+use Rattle.pe_core.specs.declared.section_table.SectionTable.{SectionTable}
+use Rattle.pe_unwind.specs.CodeStream.{CodeStream, GivesCode}
+use Rattle.pe_unwind.specs.ExceptionTable.{ExceptionView, exception_at, function_of}
+use Rattle.pe_unwind.specs.FunctionTable.{functions, Finds}
+use Rattle.pe_unwind.specs.Links.{links_of}
+use Rattle.pe_unwind.specs.Places.{data_of}
+use Rattle.pe_unwind.specs.UnwindRecord.{HandlerView, Exception, Termination, UnwindInfoView, unwind_tests, unwind_record, scope_table_size}
+use Rattle.pe_unwind.specs.Unwinding.{FindsRecord}
+use Rattle.pe_unwind.specs.declared.function_table.RuntimeFunction.{RuntimeFunction}
+use Rattle.pe_unwind.specs.declared.register.Register.{Register}
+use Rattle.pe_unwind.specs.declared.unwind_code.StackFrameOffset.{StackFrameOffset}
+use Rattle.pe_unwind.specs.declared.unwind_code.StackFrameOffset.TheVariants.{RSP, FP}
+use Rattle.pe_unwind.specs.declared.unwind_code.UnwindCode.{UnwindCode}
+use Rattle.pe_unwind.specs.declared.unwind_code.UnwindOperation.{UnwindOperation}
+use Rattle.pe_unwind.specs.declared.unwind_code.UnwindOperation.TheVariants.{PushNonVolatile, Alloc, SetFPRegister, SaveNonVolatile, SaveXMM, Epilog, SaveXMM128, PushMachineFrame, Noop}
+use Rattle.pe_c.specs.Answers.{Answers, AnswersIf}
+use Rattle.pe_c.specs.Modes.{options_of}
+use Rattle.pe_c.specs.Ranges.{no_bytes, last_range, bytes_at}
+use Rattle.pe_c.specs.declared.image.Image.{Image}
+use Rattle.pe_c.specs.declared.ranges.Range.{Range}
+use Rattle.pe_c.specs.declared.unwinding.Code.{Code}
+use Rattle.pe_c.specs.declared.unwinding.CodeWalk.{CodeWalk}
+use Rattle.pe_c.specs.declared.unwinding.UnwindRecord.{UnwindRecord}
+
+-- ---- function tables
+
+-- where a function table stands
+abbrev pub table_range : ExceptionView → Range
+table_range v = record { place = v.start; length = v.size }
+
+-- where the function table of an image for this machine stands, of entries of this width, if it has one; or what refuses it
+unfoldable pub table_at : ℕ → ℕ → List ℕ → Image → List SectionTable → ℕ → Result (Option Range) Refusal
+table_at machine width b image sections mode =
+    if image.machine == machine
+    then (if image.exceptions.virtual_address == 0 && image.exceptions.size == 0 then Ok None
+    else exception_at width b image.exceptions sections image.file_alignment (options_of mode) >>= λ v. Ok (Some (table_range v)))
+    else Ok None
+
+-- what lookup of an address in these entries answers, or in a table that is refused
+abbrev pub LocatesIn : Result (List ℕ) Refusal → ℕ → Result (Option RuntimeFunction) Refusal → Type 0
+LocatesIn (Err refusal) a answer = answer ≡ Err refusal
+LocatesIn (Ok entries) a (Ok found) = Finds (functions entries) a found
+LocatesIn (Ok entries) a (Err refusal) = ⊥
+
+abbrev pub AnswersFound : List ℕ → Range → ℕ → ℕ → RuntimeFunction → RuntimeFunction → Type 0
+AnswersFound b table a number old new =
+    (answer : Result (Option RuntimeFunction) Refusal) × LocatesIn (bytes_at b table) a answer × AnswersIf number old new answer
+
+-- the entry of a table with this index
+abbrev pub function_in : List ℕ → Range → ℕ → Result RuntimeFunction Refusal
+function_in b table index = bytes_at b table >>= λ entries. function_of entries index
+
+-- ---- unwind records
+
+abbrev pub is_some_number : {X : Type 0} → Option X → ℕ
+is_some_number None = 0
+is_some_number (Some x) = 1
+
+abbrev pub or_no_function : Option RuntimeFunction → RuntimeFunction
+or_no_function None = record { begin_address = 0; end_address = 0; unwind_info_address = 0 }
+or_no_function (Some f) = f
+
+abbrev pub handler_kind : Option HandlerView → ℕ
+handler_kind None = 0
+handler_kind (Some (Exception address d)) = 1
+handler_kind (Some (Termination address d)) = 2
+
+abbrev pub handler_address : Option HandlerView → ℕ
+handler_address None = 0
+handler_address (Some (Exception address d)) = address
+handler_address (Some (Termination address d)) = address
+
+abbrev pub handler_range : List ℕ → Option HandlerView → Range
+handler_range b None = no_bytes
+handler_range b (Some h) = last_range b (data_of h)
+
+abbrev pub six_zeros : List ℕ
+six_zeros = 0 ∷ 0 ∷ 0 ∷ 0 ∷ 0 ∷ 0 ∷ []
+
+-- a record that stands at p, as numbers: its codes are behind four bytes
+abbrev pub flat_record : List ℕ → ℕ → UnwindInfoView → UnwindRecord
+flat_record b p i = record {
+  codes = record {
+    left = record { place = p + 4; length = length i.codes };
+    version = i.version;
+    frame_register = (i.frame_register).0;
+    spare = six_zeros;
+  };
+  handler_data = handler_range b i.handler;
+  handler = handler_address i.handler;
+  chained = or_no_function i.chained_info;
+  is_chained = is_some_number i.chained_info;
+  frame_register_offset = i.frame_register_offset;
+  size_of_prolog = i.size_of_prolog;
+  handler_kind = handler_kind i.handler;
+  spare = six_zeros;
+}
+
+-- the record at p as numbers, or what refuses it
+abbrev pub flat_record_at : List ℕ → ℕ → Result UnwindRecord Refusal
+flat_record_at b p = outcome (unwind_tests b p) (unwind_record b p) >>= λ i. Ok (flat_record b p i)
+
+-- the place of the record of an unwind address, in a table that is given; or what refuses the table
+abbrev pub FindsPlaceIn : Result ExceptionView Refusal → List SectionTable → ℕ → ℕ → Result ℕ Refusal → Type 0
+FindsPlaceIn (Err refusal) sections mode address answer = answer ≡ Err refusal
+FindsPlaceIn (Ok v) sections mode address answer = FindsRecord (links_of v sections (options_of mode)) address answer
+
+abbrev pub FindsPlace : List ℕ → Image → List SectionTable → ℕ → ℕ → Result ℕ Refusal → Type 0
+FindsPlace b image sections mode address answer =
+    FindsPlaceIn (exception_at 12 b image.exceptions sections image.file_alignment (options_of mode)) sections mode address answer
+
+-- what asking for the record of an unwind address answers: the record at its place
+abbrev pub FollowsToRecord : List ℕ → Image → List SectionTable → ℕ → ℕ → Result UnwindRecord Refusal → Type 0
+FollowsToRecord b image sections mode address answer =
+    (place : Result ℕ Refusal) × FindsPlace b image sections mode address place × (answer ≡ (place >>= flat_record_at b))
+
+abbrev pub AnswersRecord : List ℕ → Image → List SectionTable → ℕ → ℕ → ℕ → UnwindRecord → UnwindRecord → Type 0
+AnswersRecord b image sections mode address number old new =
+    (answer : Result UnwindRecord Refusal) × FollowsToRecord b image sections mode address answer × Answers number old new answer
+
+-- ---- unwind codes
+
+abbrev pub from_frame : StackFrameOffset → ℕ
+from_frame (RSP n) = 0
+from_frame (FP n) = 1
+
+abbrev pub bytes_from : StackFrameOffset → ℕ
+bytes_from (RSP n) = n
+bytes_from (FP n) = n
+
+abbrev pub saving : ℕ → ℕ → Register → StackFrameOffset → Code
+saving place operation register offset =
+    record { code_offset = place; operation = operation; operand = register.0; from_frame = from_frame offset; value = bytes_from offset }
+
+abbrev pub plain : ℕ → ℕ → ℕ → ℕ → Code
+plain place operation operand value = record { code_offset = place; operation = operation; operand = operand; from_frame = 0; value = value }
+
+-- an operation as numbers
+abbrev pub flat_operation : ℕ → UnwindOperation → Code
+flat_operation place (PushNonVolatile register) = plain place 0 register.0 0
+flat_operation place (Alloc size) = plain place 1 0 size
+flat_operation place SetFPRegister = plain place 2 0 0
+flat_operation place (SaveNonVolatile register offset) = saving place 3 register offset
+flat_operation place (SaveXMM register offset) = saving place 4 register offset
+flat_operation place (Epilog low high) = plain place 5 high low
+flat_operation place (SaveXMM128 register offset) = saving place 6 register offset
+flat_operation place (PushMachineFrame has_code) = plain place 7 (if has_code then 1 else 0) 0
+flat_operation place Noop = plain place 8 0 0
+
+abbrev pub flat : UnwindCode → Code
+flat c = flat_operation c.code_offset c.operation
+
+-- the stream of code bytes that a walk has left
+abbrev pub stream_at : List ℕ → CodeWalk → CodeStream
+stream_at bytes w = record { content = bytes; version = w.version; frame = w.frame_register }
+
+-- the bytes that a walk has left, in the bytes that an older walk had left
+abbrev pub left_of : List ℕ → CodeWalk → CodeWalk → List ℕ
+left_of bytes old new = drop (length bytes - new.left.length) bytes
+
+-- one step over these bytes: what the stream gives, and a walk that ends where it ended
+pub record StepsOver (bytes : List ℕ) (old : CodeWalk) (answer : Option (Result UnwindCode Error)) (new : CodeWalk) : Type 0 where
+  pub code : GivesCode (stream_at bytes old) answer (stream_at (left_of bytes old new) new)
+  pub shorter : new.left.length ≤ old.left.length
+  pub same_end : new.left.place + new.left.length ≡ old.left.place + old.left.length
+  pub others : new ≡ record old { left = new.left }
+
+-- a step of a walk over the bytes of its range; where they are not there it is refused, and over
+abbrev pub WalksIn : Result (List ℕ) Refusal → CodeWalk → Option (Result UnwindCode Error) → CodeWalk → Type 0
+WalksIn (Ok bytes) old answer new = StepsOver bytes old answer new
+WalksIn (Err refusal) old None new = ⊥
+WalksIn (Err refusal) old (Some (Ok code)) new = ⊥
+WalksIn (Err refusal) old (Some (Err e)) new = (kind_of e ≡ refusal) × (new ≡ record old { left = no_bytes })
+
+abbrev pub flat_answer : Option (Result UnwindCode Error) → Result (Option Code) Refusal
+flat_answer None = Ok None
+flat_answer (Some (Ok code)) = Ok (Some (flat code))
+flat_answer (Some (Err e)) = Err (kind_of e)
+
+abbrev pub AnswersCode : List ℕ → CodeWalk → CodeWalk → ℕ → Code → Code → Type 0
+AnswersCode b old_walk new_walk number old new =
+    (answer : Option (Result UnwindCode Error)) × WalksIn (bytes_at b old_walk.left) old_walk answer new_walk × AnswersIf number old new (flat_answer answer)
+
+-- ---- scope tables
+
+-- where the scope table in a handler's data stands, behind its count
+abbrev pub scopes_at : List ℕ → Range → Result (Option Range) Refusal
+scopes_at b r = bytes_at b r >>= λ d. Ok (option_map (λ n. record { place = r.place + 4; length = n }) (scope_table_size d))

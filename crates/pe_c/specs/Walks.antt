@@ -1,0 +1,28 @@
+-- Walks over entries of one width: a range of what is left, which each step makes shorter.
+use Rattle.std.specs.Prelude.{ℕ, ◌==◌, nat_lt, List, Option, Some, None, Result, Ok, Err, if◌then◌else◌}
+use Rattle.std.specs.Option.{option_map}
+use Rattle.pe_core.specs.Bytes.{holds, range}
+use Rattle.pe_core.specs.Refusals.{Refusal, Short, ◌>>=◌}
+use Rattle.pe_c.specs.Ranges.{no_bytes, behind}
+use Rattle.pe_c.specs.declared.ranges.Range.{Range}
+
+-- the bytes that a walk has left, if some are: they begin with its next entry. `Short` where that is cut, or where the range
+-- does not lie in the bytes
+abbrev pub left_entry : ℕ → List ℕ → Range → Result (Option (List ℕ)) Refusal
+left_entry width b r =
+    if holds b r.place r.length
+    then (if r.length == 0 then Ok None else (if nat_lt r.length width then Err Short else Ok (Some (range b r.place r.length))))
+    else Err Short
+
+-- the next entry of a walk, if there is one
+abbrev pub next_of : {X : Type 0} → (List ℕ → ℕ → X) → ℕ → List ℕ → Range → Result (Option X) Refusal
+next_of entry_at width b r = left_entry width b r >>= λ left. Ok (option_map (λ d. entry_at d 0) left)
+
+-- where a walk stands behind such a step: it stays at its end, and is over behind a refusal
+abbrev pub walk_behind : ℕ → Result (Option (List ℕ)) Refusal → Range → Range
+walk_behind width (Ok None) r = r
+walk_behind width (Ok (Some left)) r = behind r width
+walk_behind width (Err refusal) r = no_bytes
+
+abbrev pub walk_of : ℕ → List ℕ → Range → Range
+walk_of width b r = walk_behind width (left_entry width b r) r

@@ -1,0 +1,609 @@
+//! The functions of ARM64 images, and how their frames are unwound.
+
+ghost use Rattle.std.specs.Prelude.{◌≡◌, ◌+◌, ◌*◌, ◌≤◌, ◌^◌, ◌==◌, length};
+ghost use Rattle.pe_core.specs.Refusals.{answer_by};
+ghost use Rattle.pe_unwind.specs.Arm64Encoding.{bit};
+ghost use Rattle.pe_unwind.specs.Arm64Record.{info_view, extension_view};
+ghost use Rattle.pe_unwind.specs.Places.{Arm64PartsStand};
+ghost use Rattle.pe_c.specs.Answers.{Answers, AnswersIf};
+ghost use Rattle.pe_c.specs.Arm64.{arm64_function_in, packed_fields, arm64_handler_range, arm64_handler_address, has_arm64_handler, first_count, flat_info, flat_info_at, arm64_record_of, flat_scope, flat_scope_at, case_number, numbers_of, arm64_walk_at, left_of_stream, StepsOverArm64, WalksInArm64, AnswersArm64Code};
+ghost use Rattle.pe_c.specs.Unwinding.{table_at};
+ghost use Rattle.pe_c.specs.Walks.{next_of, walk_of};
+
+use crate::answers::{DONE, hand_out, hand_out_some, options};
+use crate::image::Image;
+use crate::ranges::{NO_BYTES, Range, last_range, slice_of};
+use crate::unwinding::table_range;
+use crate::walks::next_entry;
+use pe_core::{Error, Reason, Result, SectionTable, u32_at};
+use pe_unwind::{
+    Arm64CustomStackCase, Arm64EpilogScope, Arm64RuntimeFunction, Arm64UnwindCode,
+    Arm64UnwindCodeIterator, Arm64UnwindExtension, Arm64UnwindHeader, Arm64UnwindInfo,
+    ExceptionData,
+};
+
+const MACHINE_ARM64: u16 = 0xAA64;
+
+/// The bytes of one epilog scope.
+const SIZE_OF_SCOPE: usize = 4;
+
+/// The bytes of the longest stream of codes.
+const LONGEST_STREAM: u64 = 4_294_967_292;
+
+/// The fields of unwind data that are packed into an entry of the function table.
+#[repr(C)]
+#[derive(Clone, Copy)]
+pub struct Arm64Packed {
+    /// 0 where the unwind data are the address of a record, and the fields mean nothing; 1 of a function, 2 of a part of
+    /// one; 3 is reserved.
+    pub flag: u32,
+    /// In bytes.
+    pub function_length: u32,
+    /// In bytes.
+    pub frame_size: u32,
+    pub reg_f: u32,
+    pub reg_i: u32,
+    pub h: u32,
+    pub cr: u32,
+    /// 0 where `flag` is 0, else 1.
+    pub is_packed: u32,
+}
+
+/// An ARM64 unwind record.
+#[repr(C)]
+#[derive(Clone, Copy)]
+pub struct Arm64Record {
+    /// A walk over its epilog scopes, at their beginning.
+    pub scopes: Range,
+    /// Its code bytes.
+    pub codes: Range,
+    /// What the handler finds behind its address, to the end of the bytes. Empty without a handler.
+    pub handler_data: Range,
+    /// The address of the handler, or 0.
+    pub handler: u32,
+    /// 1 where it has a handler.
+    pub has_handler: u32,
+    /// In bytes.
+    pub function_length: u32,
+    /// 1 where the record has one epilog, whose codes begin at `epilog_start`.
+    pub epilog_in_header: u32,
+    /// The index of that epilog's first code byte; else 0.
+    pub epilog_start: u32,
+    /// 0.
+    pub version: u32,
+}
+
+/// An epilog scope.
+#[repr(C)]
+#[derive(Clone, Copy)]
+pub struct Arm64Scope {
+    /// How far behind the start of the function the epilog begins, in bytes.
+    pub start_offset: u32,
+    /// The index of its first code byte.
+    pub start_index: u32,
+    /// Four bits that are reserved.
+    pub reserved: u32,
+    pub word: u32,
+}
+
+/// A walk over ARM64 unwind codes.
+#[repr(C)]
+#[derive(Clone, Copy)]
+pub struct Arm64CodeWalk {
+    /// The code bytes that are left.
+    pub left: Range,
+    /// Where they begin, counted from the beginning of the stream.
+    pub offset: u64,
+}
+
+/// An ARM64 unwind code.
+#[repr(C)]
+#[derive(Clone, Copy)]
+pub struct Arm64Code {
+    /// Where it begins, counted from the beginning of the stream.
+    pub offset: u32,
+    /// Its bytes, from 1 to 5.
+    pub length: u32,
+    /// Its number in the order of `Arm64UnwindCode`, from 0.
+    pub kind: u32,
+    /// The register, the first of two registers, a count of vectors, the byte of an `AddFp`, the case of a custom stack in
+    /// their order from 0, or the first byte of a reserved code; else 0.
+    pub operand: u32,
+    /// Bytes that are allocated, or the offset of what is saved; of a scalable register the offset's number, of a reserved
+    /// code the number in the bytes behind its first; else 0.
+    pub value: u32,
+    /// Of a save of any register: 1 for a pair, 2 for a preindexed store, and four times the kind of register. Else 0.
+    pub flags: u32,
+}
+
+#[tactic(auto, unfolding(crate::specs::Unwinding::table_at))]
+fn table_of(
+    bytes: &[u8],
+    image: &Image,
+    sections: &[SectionTable],
+    mode: u32,
+) -> Result<Option<Range>>
+    ensures { answer_by (λ x. x) result ≡ table_at 0xAA64 8 bytes.now image.now sections.now mode }
+{
+    let directory = image.exceptions;
+    if image.machine != MACHINE_ARM64 || (directory.virtual_address == 0 && directory.size == 0) {
+        return Ok(None);
+    }
+    let alignment = image.file_alignment;
+    let opts = options(mode);
+    let exceptions = ExceptionData::parse_arm64_with_opts(
+        bytes, directory, sections, alignment, &opts,
+    )?;
+    Ok(Some(table_range(&exceptions)))
+}
+
+/// Finds the function table of an ARM64 image: `NOTHING` where it has none, or is for another machine. Else what refuses the
+/// exception directory.
+#[unsafe(no_mangle)]
+pub extern "C" fn pe_c_arm64_table(
+    bytes: &[u8],
+    image: &Image,
+    sections: &[SectionTable],
+    mode: u32,
+    out: &mut Range,
+) -> u32
+    ensures { AnswersIf result out.old out.new (table_at 0xAA64 8 bytes.now image.now sections.now mode) }
+{
+    hand_out_some(table_of(bytes, image, sections, mode), out)
+}
+
+fn function_in(bytes: &[u8], table: &Range, index: u64) -> Result<Arm64RuntimeFunction>
+    ensures { answer_by (λ x. x) result ≡ arm64_function_in bytes.now table.now index }
+{
+    let entries = slice_of(bytes, table)?;
+    Arm64RuntimeFunction::of_table(entries, index as usize)
+}
+
+/// Reads the entry with this index of the function table at this range: `FUNCTION_INDEX` where the table has no more than
+/// that many, `SHORT` where the bytes have no such range.
+#[unsafe(no_mangle)]
+pub extern "C" fn pe_c_arm64_function_at(
+    bytes: &[u8],
+    table: &Range,
+    index: u64,
+    out: &mut Arm64RuntimeFunction,
+) -> u32
+    ensures { Answers result out.old out.new (arm64_function_in bytes.now table.now index) }
+{
+    hand_out(function_in(bytes, table, index), out)
+}
+
+/// Reads the fields of unwind data that are packed into an entry. It is always `DONE`.
+#[unsafe(no_mangle)]
+pub extern "C" fn pe_c_arm64_packed_fields(
+    function: &Arm64RuntimeFunction,
+    out: &mut Arm64Packed,
+) -> u32
+    ensures done { result ≡ 0 }
+    ensures fields { out.new ≡ packed_fields function.now }
+{
+    *out = Arm64Packed {
+        flag: function.flag(),
+        function_length: function.function_length(),
+        frame_size: function.frame_size(),
+        reg_f: function.reg_f(),
+        reg_i: function.reg_i(),
+        h: u32::from(function.h()),
+        cr: function.cr(),
+        is_packed: u32::from(function.is_packed()),
+    };
+    DONE
+}
+
+/// The address of a record's handler, whether it has one, and its data.
+fn handler_of(info: &Arm64UnwindInfo, bytes: &[u8], place: usize) -> (u32, u32, Range)
+    requires { Arm64PartsStand bytes.now place (info_view info.now) }
+    ensures address { result.0 ≡ arm64_handler_address (info_view info.now).handler }
+    ensures some { result.1 ≡ has_arm64_handler (info_view info.now).handler }
+    ensures range { result.2 ≡ arm64_handler_range bytes.now (info_view info.now).handler }
+{
+    match &info.exception_handler {
+        None => (0, 0, NO_BYTES),
+        Some(handler) => (handler.rva, 1, last_range(bytes.len(), handler.bytes.len())),
+    }
+}
+
+/// The count that the header or the extension word has in the place of a count of scopes.
+fn first_count(header: Arm64UnwindHeader, extension: Option<Arm64UnwindExtension>) -> u32
+    ensures { result ≡ first_count header.0 (extension_view extension) }
+{
+    match extension {
+        Some(extension) => extension.epilog_count(),
+        None => header.epilog_count(),
+    }
+}
+
+/// The record that was read at a place of the bytes, as numbers.
+fn flat_info(info: &Arm64UnwindInfo, bytes: &[u8], place: usize) -> Arm64Record
+    requires { Arm64PartsStand bytes.now place (info_view info.now) }
+    ensures { result ≡ flat_info bytes.now place (info_view info.now) }
+{
+    let header = info.header;
+    let (handler, has_handler, handler_data) = handler_of(info, bytes, place);
+    let scopes = if header.has_extension() {
+        place + 8
+    } else {
+        place + 4
+    };
+    let count = info.scope_bytes().len();
+    Arm64Record {
+        scopes: Range {
+            place: scopes as u64,
+            length: count as u64,
+        },
+        codes: Range {
+            place: (scopes + count) as u64,
+            length: info.code_bytes().len() as u64,
+        },
+        handler_data,
+        handler,
+        has_handler,
+        function_length: header.function_length(),
+        epilog_in_header: u32::from(header.epilog_in_header()),
+        epilog_start: if header.epilog_in_header() {
+            first_count(header, info.extension)
+        } else {
+            0
+        },
+        version: header.version(),
+    }
+}
+
+/// The unwind record at a place of the bytes.
+fn info_at(bytes: &[u8], place: usize) -> Result<Arm64Record>
+    ensures { answer_by (λ x. x) result ≡ flat_info_at bytes.now place }
+{
+    match Arm64UnwindInfo::parse(bytes, place) {
+        Ok(info) => Ok(flat_info(&info, bytes, place)),
+        Err(error) => Err(error),
+    }
+}
+
+fn read_record(
+    bytes: &[u8],
+    image: &Image,
+    sections: &[SectionTable],
+    mode: u32,
+    function: Arm64RuntimeFunction,
+) -> Result<Option<Arm64Record>>
+    ensures { answer_by (λ x. x) result ≡ arm64_record_of bytes.now image.now sections.now mode function }
+{
+    let opts = options(mode);
+    let alignment = image.file_alignment;
+    let table = image.exceptions;
+    let exceptions = ExceptionData::parse_arm64_with_opts(
+        bytes, table, sections, alignment, &opts,
+    )?;
+    match exceptions.record_place_arm64(function, sections, &opts) {
+        None => Ok(None),
+        Some(Ok(place)) => match info_at(bytes, place) {
+            Ok(record) => Ok(Some(record)),
+            Err(error) => Err(error),
+        },
+        Some(Err(error)) => Err(error),
+    }
+}
+
+/// Reads the unwind record of a function: `NOTHING` where its unwind data are packed, `UNMAPPED` where their address has no
+/// place, `ARM64_VERSION` unless its version is 0, `SHORT` where it is not all there; else what refuses the exception
+/// directory.
+#[unsafe(no_mangle)]
+pub extern "C" fn pe_c_arm64_unwind_record(
+    bytes: &[u8],
+    image: &Image,
+    sections: &[SectionTable],
+    mode: u32,
+    function: &Arm64RuntimeFunction,
+    out: &mut Arm64Record,
+) -> u32
+    ensures { AnswersIf result out.old out.new (arm64_record_of bytes.now image.now sections.now mode function.now) }
+{
+    hand_out_some(read_record(bytes, image, sections, mode, *function), out)
+}
+
+/// An epilog scope as numbers.
+fn flat_scope(scope: Arm64EpilogScope) -> Arm64Scope
+    ensures { result ≡ flat_scope scope.0 }
+{
+    Arm64Scope {
+        start_offset: scope.start_offset_words(),
+        start_index: scope.start_index(),
+        reserved: scope.condition(),
+        word: scope.0,
+    }
+}
+
+fn next_scope(bytes: &[u8], walk: &mut Range) -> Result<Option<Arm64Scope>>
+    ensures scope { answer_by (λ x. x) result ≡ next_of flat_scope_at 4 bytes.now walk.old }
+    ensures walk { walk.new ≡ walk_of 4 bytes.now walk.old }
+{
+    match next_entry(bytes, walk, SIZE_OF_SCOPE) {
+        Ok(Some(entry)) => match u32_at(entry, 0) {
+            Ok(word) => Ok(Some(flat_scope(Arm64EpilogScope(word)))),
+            Err(error) => Err(error),
+        },
+        Ok(None) => Ok(None),
+        Err(error) => Err(error),
+    }
+}
+
+/// The next epilog scope of a walk: `NOTHING` at its end. `SHORT` where a scope is cut or the bytes have no such range:
+/// behind it the walk is over.
+#[unsafe(no_mangle)]
+pub extern "C" fn pe_c_next_arm64_scope(bytes: &[u8], walk: &mut Range, out: &mut Arm64Scope) -> u32
+    ensures scope { AnswersIf result out.old out.new (next_of flat_scope_at 4 bytes.now walk.old) }
+    ensures walk { walk.new ≡ walk_of 4 bytes.now walk.old }
+{
+    hand_out_some(next_scope(bytes, walk), out)
+}
+
+fn codes_at(bytes: &[u8], codes: &Range, start: u64) -> Result<Arm64CodeWalk>
+    ensures { answer_by (λ x. x) result ≡ arm64_walk_at bytes.now codes.now start }
+{
+    let stream = slice_of(bytes, codes)?;
+    Arm64UnwindCodeIterator::new(stream, start as usize)?;
+    Ok(Arm64CodeWalk {
+        left: Range {
+            place: codes.place + start,
+            length: codes.length - start,
+        },
+        offset: start,
+    })
+}
+
+/// Begins a walk over the codes of a record from a code byte on, by its index: `ARM64_STREAM` where it is behind their end,
+/// or the bytes are no whole words of four or more than 4,294,967,292; `SHORT` where the bytes have no such range.
+#[unsafe(no_mangle)]
+pub extern "C" fn pe_c_arm64_codes(
+    bytes: &[u8],
+    codes: &Range,
+    start: u64,
+    out: &mut Arm64CodeWalk,
+) -> u32
+    ensures { Answers result out.old out.new (arm64_walk_at bytes.now codes.now start) }
+{
+    hand_out(codes_at(bytes, codes, start), out)
+}
+
+fn case_number(what: Arm64CustomStackCase) -> u32
+    ensures { result ≡ case_number what }
+{
+    match what {
+        Arm64CustomStackCase::TrapFrame => 0,
+        Arm64CustomStackCase::MachineFrame => 1,
+        Arm64CustomStackCase::Context => 2,
+        Arm64CustomStackCase::EcContext => 3,
+        Arm64CustomStackCase::ClearUnwoundToCall => 4,
+    }
+}
+
+/// The numbers of a save of any register.
+fn any_register(
+    kind: u8,
+    pair: bool,
+    preindexed: bool,
+    register: u8,
+    offset: u32,
+) -> (u32, u32, u32, u32)
+    ensures { result ≡ (22, register, offset, bit pair + 2 * bit preindexed + 4 * kind) }
+{
+    let flags = u32::from(pair) + 2 * u32::from(preindexed) + 4 * u32::from(kind);
+    (22, u32::from(register), offset, flags)
+}
+
+/// Kind, operand, value and flags of a code.
+fn numbers_of(code: Arm64UnwindCode) -> (u32, u32, u32, u32)
+    ensures { result ≡ numbers_of code }
+{
+    match code {
+        Arm64UnwindCode::AllocSmall { size_bytes } => (0, 0, size_bytes, 0),
+        Arm64UnwindCode::SaveR19R20Preindexed { offset_bytes } => (1, 0, offset_bytes, 0),
+        Arm64UnwindCode::SaveFpLr { offset_bytes } => (2, 0, offset_bytes, 0),
+        Arm64UnwindCode::SaveFpLrPreindexed { offset_bytes } => (3, 0, offset_bytes, 0),
+        Arm64UnwindCode::AllocMedium { size_bytes } => (4, 0, size_bytes, 0),
+        Arm64UnwindCode::SaveRegPair {
+            first_reg,
+            offset_bytes,
+        } => (5, u32::from(first_reg), offset_bytes, 0),
+        Arm64UnwindCode::SaveRegPairPreindexed {
+            first_reg,
+            offset_bytes,
+        } => (6, u32::from(first_reg), offset_bytes, 0),
+        Arm64UnwindCode::SaveReg { reg, offset_bytes } => (7, u32::from(reg), offset_bytes, 0),
+        Arm64UnwindCode::SaveRegPreindexed { reg, offset_bytes } => (
+            8,
+            u32::from(reg),
+            offset_bytes,
+            0,
+        ),
+        Arm64UnwindCode::SaveLrPair {
+            first_reg,
+            offset_bytes,
+        } => (9, u32::from(first_reg), offset_bytes, 0),
+        Arm64UnwindCode::SaveFRegPair {
+            first_reg,
+            offset_bytes,
+        } => (10, u32::from(first_reg), offset_bytes, 0),
+        Arm64UnwindCode::SaveFRegPairPreindexed {
+            first_reg,
+            offset_bytes,
+        } => (11, u32::from(first_reg), offset_bytes, 0),
+        Arm64UnwindCode::SaveFReg { reg, offset_bytes } => (12, u32::from(reg), offset_bytes, 0),
+        Arm64UnwindCode::SaveFRegPreindexed { reg, offset_bytes } => (
+            13,
+            u32::from(reg),
+            offset_bytes,
+            0,
+        ),
+        Arm64UnwindCode::AllocZ { count } => (14, u32::from(count), 0, 0),
+        Arm64UnwindCode::AllocLarge { size_bytes } => (15, 0, size_bytes, 0),
+        Arm64UnwindCode::SetFp => (16, 0, 0, 0),
+        Arm64UnwindCode::AddFp { imm8, offset_bytes } => (17, u32::from(imm8), offset_bytes, 0),
+        Arm64UnwindCode::Nop => (18, 0, 0, 0),
+        Arm64UnwindCode::End => (19, 0, 0, 0),
+        Arm64UnwindCode::EndC => (20, 0, 0, 0),
+        Arm64UnwindCode::SaveNext => (21, 0, 0, 0),
+        Arm64UnwindCode::SaveAnyReg {
+            kind,
+            pair,
+            preindexed,
+            reg,
+            offset_bytes,
+        } => any_register(kind, pair, preindexed, reg, offset_bytes),
+        Arm64UnwindCode::SaveZReg { r, o } => (23, u32::from(r), u32::from(o), 0),
+        Arm64UnwindCode::SavePReg { r, o } => (24, u32::from(r), u32::from(o), 0),
+        Arm64UnwindCode::CustomStack(what) => (25, case_number(what), 0, 0),
+        Arm64UnwindCode::PacSignLr => (26, 0, 0, 0),
+        Arm64UnwindCode::Reserved { opcode, value, .. } => (27, u32::from(opcode), value, 0),
+    }
+}
+
+/// The bytes that a walk has left, if they and those before them can be a stream.
+fn left_of_stream<'a>(bytes: &'a [u8], walk: &Arm64CodeWalk) -> Result<&'a [u8]>
+    ensures { answer_by (λ s. s.now) result ≡ left_of_stream bytes.entry.now walk.now }
+{
+    let left = slice_of(bytes, &walk.left)?;
+    let end = walk.offset.saturating_add(walk.left.length);
+    if LONGEST_STREAM < end || end % 4 != 0 {
+        return Err(Error::Malformed(Reason::Arm64Stream {
+            length: left.len(),
+            start: 0,
+        }));
+    }
+    Ok(left)
+}
+
+/// One step of a walk whose bytes are there.
+fn step(left: &[u8], walk: &mut Arm64CodeWalk) -> Result<Option<Arm64Code>>
+    requires length { length left.now ≡ walk.old.left.length }
+    requires end { walk.old.left.place + walk.old.left.length ≤ 2 ^ 63 }
+    requires stream { walk.old.offset + walk.old.left.length ≤ 4294967292 }
+    ensures { StepsOverArm64 left.now walk.old (answer_by (λ x. x) result) walk.new }
+{
+    if left.is_empty() {
+        return Ok(None);
+    }
+    let offset = walk.offset;
+    let range = walk.left;
+    match Arm64UnwindCode::parse(left) {
+        Some((code, length)) => {
+            let count = length as u64;
+            *walk = Arm64CodeWalk {
+                left: Range {
+                    place: range.place + count,
+                    length: range.length - count,
+                },
+                offset: offset + count,
+            };
+            let (kind, operand, value, flags) = numbers_of(code);
+            Ok(Some(Arm64Code {
+                offset: offset as u32,
+                length: length as u32,
+                kind,
+                operand,
+                value,
+                flags,
+            }))
+        }
+        None => {
+            *walk = OVER;
+            Err(Error::Malformed(Reason::Arm64Cut(offset as usize)))
+        }
+    }
+}
+
+const OVER: Arm64CodeWalk = Arm64CodeWalk {
+    left: NO_BYTES,
+    offset: 0,
+};
+
+fn next_code(bytes: &[u8], walk: &mut Arm64CodeWalk) -> Result<Option<Arm64Code>>
+    ensures { WalksInArm64 (left_of_stream bytes.now walk.old) walk.old (answer_by (λ x. x) result) walk.new }
+{
+    match left_of_stream(bytes, walk) {
+        Ok(left) => step(left, walk),
+        Err(error) => {
+            *walk = OVER;
+            Err(error)
+        }
+    }
+}
+
+/// The next code of a walk: `NOTHING` at its end. `ARM64_CUT` where a code is cut, `ARM64_STREAM` where the bytes that are
+/// left and those before them can be no stream, `SHORT` where the bytes have no such range: behind these the walk is over.
+#[unsafe(no_mangle)]
+pub extern "C" fn pe_c_next_arm64_code(
+    bytes: &[u8],
+    walk: &mut Arm64CodeWalk,
+    out: &mut Arm64Code,
+) -> u32
+    ensures { AnswersArm64Code bytes.now walk.old walk.new result out.old out.new }
+{
+    hand_out_some(next_code(bytes, walk), out)
+}
+
+#[cfg(test)]
+mod tests {
+    use super::{
+        Arm64Code, Arm64Scope, OVER, pe_c_arm64_codes, pe_c_next_arm64_code, pe_c_next_arm64_scope,
+    };
+    use crate::answers::{DONE, NOTHING};
+    use crate::ranges::Range;
+
+    #[test]
+    fn walks_over_codes(rt: HostRuntime) {
+        // save_fplr_x of 16 bytes, end, and two nops.
+        let bytes = [0x81, 0xE4, 0xE3, 0xE3];
+        let codes = Range {
+            place: 0,
+            length: 4,
+        };
+        let mut walk = OVER;
+        let mut code = Arm64Code {
+            offset: 9,
+            length: 9,
+            kind: 9,
+            operand: 9,
+            value: 9,
+            flags: 9,
+        };
+        assert_eq!(rt; pe_c_arm64_codes(&bytes, &codes, 5, &mut walk), 26);
+        assert_eq!(rt; pe_c_arm64_codes(&bytes, &codes, 0, &mut walk), DONE);
+        assert_eq!(rt; pe_c_next_arm64_code(&bytes, &mut walk, &mut code), DONE);
+        assert_eq!(rt;
+            (code.offset, code.length, code.kind, code.value),
+            (0, 1, 3, 16)
+        );
+        assert_eq!(rt; pe_c_next_arm64_code(&bytes, &mut walk, &mut code), DONE);
+        assert_eq!(rt;
+            (code.offset, code.length, code.kind, code.value),
+            (1, 1, 19, 0)
+        );
+    }
+
+    #[test]
+    fn walks_over_scopes(rt: HostRuntime) {
+        let bytes = [3, 0, 0x40, 0];
+        let mut walk = Range {
+            place: 0,
+            length: 4,
+        };
+        let mut scope = Arm64Scope {
+            start_offset: 0,
+            start_index: 0,
+            reserved: 0,
+            word: 0,
+        };
+        assert_eq!(rt; pe_c_next_arm64_scope(&bytes, &mut walk, &mut scope), DONE);
+        assert_eq!(rt; (scope.start_offset, scope.start_index), (12, 1));
+        assert_eq!(rt;
+            pe_c_next_arm64_scope(&bytes, &mut walk, &mut scope),
+            NOTHING
+        );
+    }
+}

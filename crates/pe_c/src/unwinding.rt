@@ -1,0 +1,537 @@
+//! The functions of x64 images, and how their frames are unwound.
+
+ghost use Rattle.std.specs.Prelude.{◌≡◌, ◌+◌, ◌^◌, ◌≤◌, length};
+ghost use Rattle.pe_core.specs.Refusals.{answer_by};
+ghost use Rattle.pe_unwind.specs.FunctionTable.{answer_of};
+ghost use Rattle.pe_unwind.specs.Places.{PartsStand};
+ghost use Rattle.pe_unwind.specs.ScopeTable.{scope_at};
+ghost use Rattle.pe_unwind.specs.UnwindRecord.{unwind_view};
+ghost use Rattle.pe_c.specs.Answers.{Answers, AnswersIf};
+ghost use Rattle.pe_c.specs.Ranges.{bytes_at};
+ghost use Rattle.pe_c.specs.Unwinding.{table_range, table_at, LocatesIn, AnswersFound, function_in, is_some_number, or_no_function, handler_kind, handler_address, handler_range, flat_record, flat_record_at, FindsPlace, FollowsToRecord, AnswersRecord, from_frame, bytes_from, saving, plain, flat, StepsOver, WalksIn, AnswersCode, scopes_at};
+ghost use Rattle.pe_c.specs.Walks.{next_of, walk_of};
+
+use crate::answers::{DONE, NOTHING, hand_out, hand_out_some, number_of, options};
+use crate::image::Image;
+use crate::ranges::{NO_BYTES, Range, last_range, slice_of};
+use crate::walks::next_entry;
+use pe_core::{CountedTable, Result, SectionTable};
+use pe_unwind::{
+    ExceptionData, Register, RuntimeFunction, ScopeTableEntry, StackFrameOffset, UnwindCode,
+    UnwindCodeIterator, UnwindHandler, UnwindInfo, UnwindOperation, scope_table_size, search,
+};
+
+const MACHINE_X64: u16 = 0x8664;
+
+/// The bytes of one entry of a scope table.
+const SIZE_OF_SCOPE: usize = 16;
+
+/// A walk over unwind codes: the code bytes that are left, two for each slot, and how they are read.
+#[repr(C)]
+#[derive(Clone, Copy)]
+pub struct CodeWalk {
+    pub left: Range,
+    /// The version of the record, 1 or 2.
+    pub version: u8,
+    /// The register that holds the frame; 0 means that none does.
+    pub frame_register: u8,
+    pub spare: [u8; 6],
+}
+
+/// An unwind record.
+#[repr(C)]
+#[derive(Clone, Copy)]
+pub struct UnwindRecord {
+    /// A walk over its codes, at their beginning.
+    pub codes: CodeWalk,
+    /// What the handler finds behind its address, to the end of the bytes. Empty without a handler.
+    pub handler_data: Range,
+    /// The address of the handler, or 0.
+    pub handler: u32,
+    /// The function whose record goes on with this one. All 0 where `is_chained` is 0.
+    pub chained: RuntimeFunction,
+    /// 1 where `chained` is a function.
+    pub is_chained: u32,
+    /// How far the frame register was set above the stack pointer, in bytes.
+    pub frame_register_offset: u32,
+    /// The length of the prolog in bytes.
+    pub size_of_prolog: u8,
+    /// 0 for no handler, 1 for one of exceptions, 2 for one of termination.
+    pub handler_kind: u8,
+    pub spare: [u8; 6],
+}
+
+/// An unwind code.
+#[repr(C)]
+#[derive(Clone, Copy)]
+pub struct Code {
+    /// The place behind the instruction, from the start of the prolog.
+    pub code_offset: u8,
+    /// 0 push, 1 alloc, 2 set the frame register, 3 save an integer register, 4 save an XMM register's low half,
+    /// 5 epilog, 6 save an XMM register, 7 machine frame, 8 nothing.
+    pub operation: u8,
+    /// The register that is pushed or saved; of an epilog the flags or the high part of the offset; of a machine frame 1
+    /// if it has an error code; else 0.
+    pub operand: u8,
+    /// 1 where `value` counts from the frame register, else 0.
+    pub from_frame: u8,
+    /// Bytes that are allocated, or the offset of what is saved; of an epilog the size or the low part of the offset.
+    pub value: u32,
+}
+
+/// Where the function table of exception data stands.
+pub fn table_range(exceptions: &ExceptionData) -> Range
+    ensures { result ≡ table_range exceptions.now }
+{
+    let places = exceptions.places();
+    Range {
+        place: places.start as u64,
+        length: (places.end - places.start) as u64,
+    }
+}
+
+#[tactic(auto, unfolding(crate::specs::Unwinding::table_at))]
+fn table_of(
+    bytes: &[u8],
+    image: &Image,
+    sections: &[SectionTable],
+    mode: u32,
+) -> Result<Option<Range>>
+    ensures { answer_by (λ x. x) result ≡ table_at 0x8664 12 bytes.now image.now sections.now mode }
+{
+    let directory = image.exceptions;
+    if image.machine != MACHINE_X64 || (directory.virtual_address == 0 && directory.size == 0) {
+        return Ok(None);
+    }
+    let alignment = image.file_alignment;
+    let exceptions = ExceptionData::parse_with_opts(
+        bytes,
+        directory,
+        sections,
+        alignment,
+        &options(mode),
+    )?;
+    Ok(Some(table_range(&exceptions)))
+}
+
+/// Finds the function table of an x64 image: `NOTHING` where it has none, or is for another machine. Else what refuses the
+/// exception directory.
+#[unsafe(no_mangle)]
+pub extern "C" fn pe_c_function_table(
+    bytes: &[u8],
+    image: &Image,
+    sections: &[SectionTable],
+    mode: u32,
+    out: &mut Range,
+) -> u32
+    ensures { AnswersIf result out.old out.new (table_at 0x8664 12 bytes.now image.now sections.now mode) }
+{
+    hand_out_some(table_of(bytes, image, sections, mode), out)
+}
+
+fn find(bytes: &[u8], table: &Range, rva: u32) -> Result<Option<RuntimeFunction>>
+    ensures { LocatesIn (bytes_at bytes.now table.now) rva (answer_of result) }
+{
+    match slice_of(bytes, table) {
+        Ok(entries) => {
+            let mut counted = CountedTable::new(entries);
+            Ok(search(&mut counted, rva))
+        }
+        Err(error) => Err(error),
+    }
+}
+
+/// Finds the function that covers an address, in the function table at this range: `NOTHING` where none does, `SHORT` where
+/// the bytes have no such range. It reads at most as many entries as their number has binary digits.
+#[unsafe(no_mangle)]
+pub extern "C" fn pe_c_find_function(
+    bytes: &[u8],
+    table: &Range,
+    rva: u32,
+    out: &mut RuntimeFunction,
+) -> u32
+    ensures { AnswersFound bytes.now table.now rva result out.old out.new }
+{
+    hand_out_some(find(bytes, table, rva), out)
+}
+
+fn function_in(bytes: &[u8], table: &Range, index: u64) -> Result<RuntimeFunction>
+    ensures { answer_by (λ x. x) result ≡ function_in bytes.now table.now index }
+{
+    let entries = slice_of(bytes, table)?;
+    RuntimeFunction::of_table(entries, index as usize)
+}
+
+/// Reads the entry with this index of the function table at this range: `FUNCTION_INDEX` where the table has no more than
+/// that many, `SHORT` where the bytes have no such range.
+#[unsafe(no_mangle)]
+pub extern "C" fn pe_c_function_at(
+    bytes: &[u8],
+    table: &Range,
+    index: u64,
+    out: &mut RuntimeFunction,
+) -> u32
+    ensures { Answers result out.old out.new (function_in bytes.now table.now index) }
+{
+    hand_out(function_in(bytes, table, index), out)
+}
+
+const NO_FUNCTION: RuntimeFunction = RuntimeFunction {
+    begin_address: 0,
+    end_address: 0,
+    unwind_info_address: 0,
+};
+
+/// The chained function of a record, and whether it has one.
+fn chained_of(info: &UnwindInfo) -> (u32, RuntimeFunction)
+    ensures some { result.0 ≡ is_some_number (unwind_view info.now).chained_info }
+    ensures function { result.1 ≡ or_no_function (unwind_view info.now).chained_info }
+{
+    match info.chained_info {
+        Some(function) => (1, function),
+        None => (0, NO_FUNCTION),
+    }
+}
+
+/// The kind, address and data of a record's handler.
+fn handler_of(info: &UnwindInfo, bytes: &[u8], place: usize) -> (u8, u32, Range)
+    requires { PartsStand bytes.now place (unwind_view info.now) }
+    ensures kind { result.0 ≡ handler_kind (unwind_view info.now).handler }
+    ensures address { result.1 ≡ handler_address (unwind_view info.now).handler }
+    ensures range { result.2 ≡ handler_range bytes.now (unwind_view info.now).handler }
+{
+    let total = bytes.len();
+    match info.handler {
+        None => (0, 0, NO_BYTES),
+        Some(UnwindHandler::ExceptionHandler(address, data)) => {
+            (1, address, last_range(total, data.len()))
+        }
+        Some(UnwindHandler::TerminationHandler(address, data)) => {
+            (2, address, last_range(total, data.len()))
+        }
+    }
+}
+
+/// The record that was read at a place of the bytes, as numbers.
+fn flat_record(info: &UnwindInfo, bytes: &[u8], place: usize) -> UnwindRecord
+    requires { PartsStand bytes.now place (unwind_view info.now) }
+    ensures { result ≡ flat_record bytes.now place (unwind_view info.now) }
+{
+    let (is_chained, chained) = chained_of(info);
+    let (handler_kind, handler, handler_data) = handler_of(info, bytes, place);
+    UnwindRecord {
+        codes: CodeWalk {
+            left: Range {
+                place: place as u64 + 4,
+                length: info.code_bytes().len() as u64,
+            },
+            version: info.version,
+            frame_register: info.frame_register.0,
+            spare: [0; 6],
+        },
+        handler_data,
+        handler,
+        chained,
+        is_chained,
+        frame_register_offset: info.frame_register_offset,
+        size_of_prolog: info.size_of_prolog,
+        handler_kind,
+        spare: [0; 6],
+    }
+}
+
+/// The unwind record at a place of the bytes.
+fn record_at(bytes: &[u8], place: usize) -> Result<UnwindRecord>
+    ensures { answer_by (λ x. x) result ≡ flat_record_at bytes.now place }
+{
+    match UnwindInfo::parse(bytes, place) {
+        Ok(info) => Ok(flat_record(&info, bytes, place)),
+        Err(error) => Err(error),
+    }
+}
+
+/// The place of the record of an unwind address.
+fn find_place(
+    bytes: &[u8],
+    image: &Image,
+    sections: &[SectionTable],
+    mode: u32,
+    unwind: u32,
+) -> Result<usize>
+    ensures { FindsPlace bytes.now image.now sections.now mode unwind (answer_of result) }
+{
+    let opts = options(mode);
+    let alignment = image.file_alignment;
+    match ExceptionData::parse_with_opts(bytes, image.exceptions, sections, alignment, &opts) {
+        Ok(exceptions) => exceptions.record_place(unwind, sections, &opts),
+        Err(error) => Err(error),
+    }
+}
+
+pub fn read_record(
+    bytes: &[u8],
+    image: &Image,
+    sections: &[SectionTable],
+    mode: u32,
+    unwind: u32,
+) -> Result<UnwindRecord>
+    ensures { FollowsToRecord bytes.now image.now sections.now mode unwind (answer_by (λ x. x) result) }
+{
+    match find_place(bytes, image, sections, mode, unwind) {
+        Ok(place) => record_at(bytes, place),
+        Err(error) => Err(error),
+    }
+}
+
+/// Reads the unwind record of an unwind address, as a function of the table has it. An odd address is a link to another
+/// entry, and is followed to the end of its chain: `FUNCTION_LINK` where no entry stands there, `FUNCTION_CYCLE` where the
+/// links never end. `UNMAPPED` for an address with no place; else what refuses the exception directory or the record.
+#[unsafe(no_mangle)]
+pub extern "C" fn pe_c_unwind_record(
+    bytes: &[u8],
+    image: &Image,
+    sections: &[SectionTable],
+    mode: u32,
+    unwind: u32,
+    out: &mut UnwindRecord,
+) -> u32
+    ensures { AnswersRecord bytes.now image.now sections.now mode unwind result out.old out.new }
+{
+    hand_out(read_record(bytes, image, sections, mode, unwind), out)
+}
+
+/// What an offset is, and whether it counts from the frame register.
+fn from_offset(offset: StackFrameOffset) -> (u8, u32)
+    ensures { result ≡ (from_frame offset, bytes_from offset) }
+{
+    match offset {
+        StackFrameOffset::RSP(value) => (0, value),
+        StackFrameOffset::FP(value) => (1, value),
+    }
+}
+
+/// A code of one of the operations that save a register.
+fn saving(code_offset: u8, operation: u8, register: Register, offset: StackFrameOffset) -> Code
+    ensures { result ≡ saving code_offset operation register offset }
+{
+    let (from_frame, value) = from_offset(offset);
+    Code {
+        code_offset,
+        operation,
+        operand: register.0,
+        from_frame,
+        value,
+    }
+}
+
+/// A code of one of the other operations.
+fn plain(code_offset: u8, operation: u8, operand: u8, value: u32) -> Code
+    ensures { result ≡ plain code_offset operation operand value }
+{
+    Code {
+        code_offset,
+        operation,
+        operand,
+        from_frame: 0,
+        value,
+    }
+}
+
+fn flat(code: UnwindCode) -> Code
+    ensures { result ≡ flat code }
+{
+    let place = code.code_offset;
+    match code.operation {
+        UnwindOperation::PushNonVolatile(register) => plain(place, 0, register.0, 0),
+        UnwindOperation::Alloc(size) => plain(place, 1, 0, size),
+        UnwindOperation::SetFPRegister => plain(place, 2, 0, 0),
+        UnwindOperation::SaveNonVolatile(register, offset) => saving(place, 3, register, offset),
+        UnwindOperation::SaveXMM(register, offset) => saving(place, 4, register, offset),
+        UnwindOperation::Epilog {
+            offset_low_or_size,
+            offset_high_or_flags,
+        } => plain(
+            place,
+            5,
+            offset_high_or_flags,
+            u32::from(offset_low_or_size),
+        ),
+        UnwindOperation::SaveXMM128(register, offset) => saving(place, 6, register, offset),
+        UnwindOperation::PushMachineFrame(has_code) => plain(place, 7, u8::from(has_code), 0),
+        UnwindOperation::Noop => plain(place, 8, 0, 0),
+    }
+}
+
+/// One step of a walk whose bytes are there.
+fn step(left: &[u8], walk: &mut CodeWalk) -> Option<Result<UnwindCode>>
+    requires length { length left.now ≡ walk.old.left.length }
+    requires end { walk.old.left.place + walk.old.left.length ≤ 2 ^ 63 }
+    ensures { StepsOver left.now walk.old result walk.new }
+{
+    let mut codes = UnwindCodeIterator::new(left, walk.version, Register(walk.frame_register));
+    let code = codes.next();
+    let behind = codes.bytes_left() as u64;
+    walk.left = Range {
+        place: walk.left.place + (walk.left.length - behind),
+        length: behind,
+    };
+    code
+}
+
+fn next_code(bytes: &[u8], walk: &mut CodeWalk) -> Option<Result<UnwindCode>>
+    ensures { WalksIn (bytes_at bytes.now walk.old.left) walk.old result walk.new }
+{
+    match slice_of(bytes, &walk.left) {
+        Ok(left) => step(left, walk),
+        Err(error) => {
+            walk.left = NO_BYTES;
+            Some(Err(error))
+        }
+    }
+}
+
+/// The next code of a walk: `NOTHING` at its end. `UNWIND_CODE` where no code begins so, `SHORT` where one is cut or the
+/// bytes have no such range: behind these the walk is over. The codes of the chained function come behind those of the
+/// record.
+#[unsafe(no_mangle)]
+pub extern "C" fn pe_c_next_code(bytes: &[u8], walk: &mut CodeWalk, out: &mut Code) -> u32
+    ensures { AnswersCode bytes.now walk.old walk.new result out.old out.new }
+{
+    match next_code(bytes, walk) {
+        Some(Ok(code)) => {
+            *out = flat(code);
+            DONE
+        }
+        None => NOTHING,
+        Some(Err(error)) => number_of(&error),
+    }
+}
+
+fn scopes_in(bytes: &[u8], handler_data: &Range) -> Result<Option<Range>>
+    ensures { answer_by (λ x. x) result ≡ scopes_at bytes.now handler_data.now }
+{
+    let data = slice_of(bytes, handler_data)?;
+    match scope_table_size(data) {
+        Some(size) => Ok(Some(Range {
+            place: handler_data.place + 4,
+            length: size as u64,
+        })),
+        None => Ok(None),
+    }
+}
+
+/// Finds the scope table that an exception handler for C has as its data, as a walk over its entries: `NOTHING` where it is
+/// not all there, `SHORT` where the bytes have no such range.
+#[unsafe(no_mangle)]
+pub extern "C" fn pe_c_scope_table(bytes: &[u8], handler_data: &Range, out: &mut Range) -> u32
+    ensures { AnswersIf result out.old out.new (scopes_at bytes.now handler_data.now) }
+{
+    hand_out_some(scopes_in(bytes, handler_data), out)
+}
+
+fn next_scope(bytes: &[u8], walk: &mut Range) -> Result<Option<ScopeTableEntry>>
+    ensures scope { answer_by (λ x. x) result ≡ next_of scope_at 16 bytes.now walk.old }
+    ensures walk { walk.new ≡ walk_of 16 bytes.now walk.old }
+{
+    match next_entry(bytes, walk, SIZE_OF_SCOPE) {
+        Ok(Some(entry)) => match ScopeTableEntry::parse(entry, 0) {
+            Ok(scope) => Ok(Some(scope)),
+            Err(error) => Err(error),
+        },
+        Ok(None) => Ok(None),
+        Err(error) => Err(error),
+    }
+}
+
+/// The next entry of a scope table: `NOTHING` at its end. `SHORT` where an entry is cut or the bytes have no such range:
+/// behind it the walk is over.
+#[unsafe(no_mangle)]
+pub extern "C" fn pe_c_next_scope(bytes: &[u8], walk: &mut Range, out: &mut ScopeTableEntry) -> u32
+    ensures scope { AnswersIf result out.old out.new (next_of scope_at 16 bytes.now walk.old) }
+    ensures walk { walk.new ≡ walk_of 16 bytes.now walk.old }
+{
+    hand_out_some(next_scope(bytes, walk), out)
+}
+
+#[cfg(test)]
+mod tests {
+    use super::{
+        Code, CodeWalk, pe_c_find_function, pe_c_function_at, pe_c_next_code, pe_c_next_scope,
+        pe_c_scope_table,
+    };
+    use crate::answers::{DONE, NOTHING};
+    use crate::ranges::{NO_BYTES, Range};
+    use pe_unwind::{RuntimeFunction, ScopeTableEntry};
+
+    #[test]
+    fn finds_a_function_in_a_range(rt: HostRuntime) {
+        let mut bytes = [0; 28];
+        bytes[5] = 0x10;
+        bytes[8] = 0x10;
+        bytes[9] = 0x10;
+        let table = Range {
+            place: 4,
+            length: 24,
+        };
+        let mut function = RuntimeFunction::default();
+        assert_eq!(rt; pe_c_function_at(&bytes, &table, 2, &mut function), 20);
+        assert_eq!(rt; pe_c_function_at(&bytes, &table, 0, &mut function), DONE);
+        assert_eq!(rt; function.begin_address, 0x1000);
+        let first = Range {
+            place: 4,
+            length: 12,
+        };
+        assert_eq!(rt;
+            pe_c_find_function(&bytes, &first, 0x100F, &mut function),
+            DONE
+        );
+        assert_eq!(rt;
+            pe_c_find_function(&bytes, &first, 0x1010, &mut function),
+            NOTHING
+        );
+    }
+
+    #[test]
+    fn walks_over_codes(rt: HostRuntime) {
+        // Behind four bytes: a prolog that pushed rbx, up to 1, and made room for 8 bytes, up to 5.
+        let bytes = [0, 0, 0, 0, 5, 0x02, 1, 0x30];
+        let mut walk = CodeWalk {
+            left: Range {
+                place: 4,
+                length: 4,
+            },
+            version: 1,
+            frame_register: 0,
+            spare: [0; 6],
+        };
+        let mut code = Code {
+            code_offset: 0,
+            operation: 0,
+            operand: 0,
+            from_frame: 0,
+            value: 0,
+        };
+        assert_eq!(rt; pe_c_next_code(&bytes, &mut walk, &mut code), DONE);
+        assert_eq!(rt; (code.code_offset, code.operation, code.value), (5, 1, 8));
+        assert_eq!(rt; pe_c_next_code(&bytes, &mut walk, &mut code), DONE);
+        assert_eq!(rt; (code.code_offset, code.operation, code.operand), (1, 0, 3));
+        assert_eq!(rt; pe_c_next_code(&bytes, &mut walk, &mut code), NOTHING);
+    }
+
+    #[test]
+    fn walks_over_scopes(rt: HostRuntime) {
+        let mut bytes = [0; 20];
+        bytes[0] = 1;
+        bytes[16] = 7;
+        let data = Range {
+            place: 0,
+            length: 20,
+        };
+        let mut walk = NO_BYTES;
+        let mut scope = ScopeTableEntry::default();
+        assert_eq!(rt; pe_c_scope_table(&bytes, &data, &mut walk), DONE);
+        assert_eq!(rt; pe_c_next_scope(&bytes, &mut walk, &mut scope), DONE);
+        assert_eq!(rt; scope.target, 7);
+        assert_eq!(rt; pe_c_next_scope(&bytes, &mut walk, &mut scope), NOTHING);
+    }
+}

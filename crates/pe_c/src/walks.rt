@@ -1,0 +1,36 @@
+//! Walks over entries of one width.
+
+ghost use Rattle.std.specs.Prelude.{◌≡◌, ◌+◌, ◌-◌, ◌≤◌, ◌<◌, length, IfOk, IfSome};
+ghost use Rattle.std.specs.Option.{option_map};
+ghost use Rattle.pe_core.specs.Refusals.{answer_by};
+ghost use Rattle.pe_c.specs.Walks.{left_entry, walk_of};
+
+use crate::ranges::{NO_BYTES, Range, slice_of};
+use pe_core::{Error, Result};
+
+/// The bytes that begin with the next entry of a walk, if there is one, and the walk moves behind it. `Short`, and the walk
+/// is over, where the entry is cut or the range of the walk does not lie in the bytes.
+pub fn next_entry<'a>(bytes: &'a [u8], walk: &mut Range, width: usize) -> Result<Option<&'a [u8]>>
+    ensures entry { answer_by (option_map (λ s. s.now)) result ≡ left_entry width bytes.entry.now walk.old }
+    ensures walk { walk.new ≡ walk_of width bytes.entry.now walk.old }
+    ensures whole { IfOk result (λ e. IfSome e (λ s. width ≤ length s.now)) }
+{
+    let range = *walk;
+    *walk = NO_BYTES;
+    let left = slice_of(bytes, &range)?;
+    if left.is_empty() {
+        *walk = range;
+        return Ok(None);
+    }
+    if left.len() < width {
+        return Err(Error::Short {
+            at: 0,
+            needed: width,
+        });
+    }
+    *walk = Range {
+        place: range.place + width as u64,
+        length: range.length - width as u64,
+    };
+    Ok(Some(left))
+}
