@@ -1,8 +1,11 @@
 pub mod Answers
 pub mod Arm64
+pub mod Certificates
 pub mod Debug
+pub mod DebugWalks
 pub mod Images
 pub mod Modes
+pub mod Parts
 pub mod Plans
 pub mod Ranges
 pub mod Texts

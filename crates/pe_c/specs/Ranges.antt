@@ -20,10 +20,6 @@ last_range b part = record { place = length b - length part; length = length par
 abbrev pub bytes_at : List ℕ → Range → Result (List ℕ) Refusal
 bytes_at b r = record_at b r.place r.length (range b r.place r.length)
 
--- the range of no bytes
-abbrev pub no_bytes : Range
-no_bytes = record { place = 0; length = 0 }
-
 -- the range lies in the bytes, and these are its bytes
 pub record IsRange (b : List ℕ) (r : Range) (bytes : List ℕ) : Type 0 where
   pub inside : r.place + r.length ≤ length b

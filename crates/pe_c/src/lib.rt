@@ -8,7 +8,9 @@
 
 mod answers;
 mod arm64;
+mod certificates;
 mod debug;
+mod debug_walks;
 mod image;
 pub mod laws;
 mod plan;

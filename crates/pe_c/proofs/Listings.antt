@@ -1,0 +1,74 @@
+-- A walk over certificates lists what their table lists.
+use Rattle.std.proofs.Common.{◌≡◌, ℕ, zero, suc, ◌+◌, ◌-◌, ◌<◌, ◌≤◌, Bool, true, false, cond, List, [], ◌∷◌, length, Result, Ok, Err, refl, sym, ap, ◌∙◌, arith}
+use Rattle.std.specs.Prelude.{nat_lt, nat_le}
+use Rattle.std.proofs.lemmas.Bool.Decides.{nat_tests}
+use Rattle.pe_core.specs.Refusals.{Refusal, ◌>>=◌}
+use Rattle.pe_records.proofs.CertificateListings.{next_above}
+use Rattle.pe_records.specs.Certificates.{CertificateView, certificate_at, certificates_from, certificates_at}
+use Rattle.pe_c.specs.declared.ranges.Range.{Range}
+use Rattle.pe_c.specs.Certificates.{listed, walk_from, StepsList}
+use Rattle.pe_c.specs.Ranges.{no_bytes}
+
+yes : (m n : ℕ) → m < n → nat_lt m n ≡ true
+yes m n h = grind (arith, nat_tests)
+
+no : (m n : ℕ) → n ≤ m → nat_lt m n ≡ false
+no m n h = grind (arith, nat_tests)
+
+inside : (m n : ℕ) → m ≤ n → nat_le m n ≡ true
+inside m n h = grind (arith, nat_tests)
+
+-- the first certificate, and those that a function lists from the next place on
+abbrev first_and : (ℕ → Result (List CertificateView) Refusal) → Result (CertificateView × ℕ) Refusal → Result (List CertificateView) Refusal
+first_and more x = x >>= λ c. more c.1 >>= λ cs. Ok (c.0 ∷ cs)
+
+same_more : (f g : ℕ → Result (List CertificateView) Refusal) (x : Result (CertificateView × ℕ) Refusal) → ((c : CertificateView) (next : ℕ) → x ≡ Ok (c, next) → f next ≡ g next) → first_and f x ≡ first_and g x
+same_more f g (Ok c) h = ap (λ (r : Result (List CertificateView) Refusal). r >>= λ cs. Ok (c.0 ∷ cs)) (h c.0 c.1 refl)
+same_more f g (Err r) h = refl
+
+none_from : (b : List ℕ) (end n p : ℕ) → end ≤ p → certificates_from b end n p ≡ Ok []
+unfolding certificates_from
+none_from b end zero p h = refl
+none_from b end (suc n) p h = rw (no p end h) refl
+
+some_from : (b : List ℕ) (end n p : ℕ) → p < end → certificates_from b end (suc n) p ≡ first_and (certificates_from b end n) (certificate_at b p)
+unfolding certificates_from
+some_from b end n p h = rw (yes p end h) refl
+
+-- steps enough to come to the end list the same
+enough : (b : List ℕ) (end n m p : ℕ) (t : Bool) → nat_lt p end ≡ t → end ≤ p + n → end ≤ p + m → certificates_from b end n p ≡ certificates_from b end m p
+enough b end n m p false e h k = none_from b end n p (grind (arith, nat_tests)) ∙ sym (none_from b end m p (grind (arith, nat_tests)))
+enough b end zero m p true e h k = let before : p < end = grind (arith, nat_tests) in absurd (omega arith)
+enough b end (suc n) zero p true e h k = let before : p < end = grind (arith, nat_tests) in absurd (omega arith)
+enough b end (suc n) (suc m) p true e h k =
+    let before : p < end = grind (arith, nat_tests) in
+    some_from b end n p before
+    ∙ same_more (certificates_from b end n) (certificates_from b end m) (certificate_at b p)
+    (λ c next given. let further : p < next = next_above b p c next given in enough b end n m next (nat_lt next end) refl (omega arith) (omega arith))
+    ∙ sym (some_from b end m p before)
+
+at_range : (b : List ℕ) (p n : ℕ) → p + n ≤ length b → certificates_at b p n ≡ certificates_from b (p + n) n p
+unfolding certificates_at
+at_range b p n h = rw (inside (p + n) (length b) h) refl
+
+behind : (b : List ℕ) (w : Range) (k next : ℕ) (t : Bool) → nat_lt next (w.place + w.length) ≡ t → w.place + w.length ≤ length b → w.place + w.length ≤ next + k →
+    certificates_from b (w.place + w.length) k next ≡ listed b (cond t (record { place = next; length = w.place + w.length - next }) no_bytes)
+behind b w k next true e h i =
+    let before : next < w.place + w.length = grind (arith, nat_tests) in
+    let same : next + (w.place + w.length - next) ≡ w.place + w.length = omega arith in
+    enough b (w.place + w.length) k (w.place + w.length - next) next true e i (omega arith)
+    ∙ ap (λ (end : ℕ). certificates_from b end (w.place + w.length - next) next) (sym same)
+    ∙ sym (at_range b next (w.place + w.length - next) (omega arith))
+behind b w k next false e h i =
+    none_from b (w.place + w.length) k next (grind (arith, nat_tests)) ∙ sym (none_from b (0 + 0) 0 0 (omega arith)) ∙ sym (at_range b 0 0 (omega arith))
+
+first_listed : (b : List ℕ) (w : Range) (n : ℕ) → w.length ≡ suc n → w.place + w.length ≤ length b → listed b w ≡ first_and (λ next. listed b (walk_from w next)) (certificate_at b w.place)
+first_listed b w n e h =
+    at_range b w.place w.length h
+    ∙ ap (λ (k : ℕ). certificates_from b (w.place + w.length) k w.place) e
+    ∙ some_from b (w.place + w.length) n w.place (omega arith)
+    ∙ same_more (certificates_from b (w.place + w.length) n) (λ next. listed b (walk_from w next)) (certificate_at b w.place)
+    (λ c next given. let further : w.place < next = next_above b w.place c next given in behind b w n next (nat_lt next (w.place + w.length)) refl h (omega arith))
+
+pub steps_list : StepsList
+steps_list b w some h = first_listed b w (w.length - 1) (omega arith) (grind (arith, nat_tests))

@@ -1,0 +1,93 @@
+-- The ranges that are told of records are their parts.
+use Rattle.std.proofs.Common.{◌≡◌, ℕ, ◌+◌, Bool, true, false, List, length, Option, Some, None, Result, Ok, Err, refl, sym, subst, ap, ◌∙◌}
+use Rattle.std.specs.Prelude.{if◌then◌else◌}
+use Rattle.std.specs.Option.{option_map, option_and_then}
+use Rattle.pe_core.specs.Refusals.{Refusal, ◌>>=◌}
+use Rattle.pe_core.specs.declared.section_table.SectionTable.{SectionTable}
+use Rattle.pe_records.proofs.PartsInPlace.{parts_stand, body_stands}
+use Rattle.pe_records.specs.Certificates.{CertificateView, certificate_at}
+use Rattle.pe_records.specs.DebugDirectory.{first_of_type}
+use Rattle.pe_records.specs.DebugRecords.{DebugFields, Stamp, Buffer, debug_data, record_place}
+use Rattle.pe_records.specs.DebugRecords as records
+use Rattle.pe_records.specs.Parts.{StandAt, StandsBehind, PartsStand, hash_of}
+use Rattle.pe_records.specs.declared.debug.ImageDebugDirectory.{ImageDebugDirectory}
+use Rattle.pe_c.specs.declared.debug.Repro.{Repro}
+use Rattle.pe_c.specs.declared.image.Image.{Image}
+use Rattle.pe_c.specs.declared.ranges.Range.{Range}
+use Rattle.pe_c.specs.Certificates.{told_at}
+use Rattle.pe_c.specs.Debug.{debug_of, key_of, pdb20_of, repro_by, repro_of, pogo_of}
+use Rattle.pe_c.specs.Images.{is_absent}
+use Rattle.pe_c.specs.Modes.{options_of}
+use Rattle.pe_c.specs.Parts.{IsPart, TellsPart}
+use Rattle.pe_c.specs.Ranges.{IsRange, no_bytes}
+
+there : (b : List ℕ) (p : ℕ) (part : List ℕ) → StandAt b p part → IsRange b (record { place = p; length = length part }) part
+there b p part s = record { inside = s.inside; same = s.here }
+
+-- ---- certificates
+
+pub body_is_told : (b : List ℕ) (p : ℕ) (c : CertificateView) (next : ℕ) → certificate_at b p ≡ Ok (c, next) → IsRange b (told_at p c).body c.body
+body_is_told b p c next e = there b (p + 8) c.body (body_stands b p c next e)
+
+-- ---- debug data
+
+told_by : {Y : Type 0} (told : DebugFields → Option Y) (r : Result (Option DebugFields) Refusal) (y : Y) → (r >>= λ d. Ok (option_and_then told d)) ≡ Ok (Some y) →
+    (d : DebugFields) × (r ≡ Ok (Some d)) × (told d ≡ Some y)
+told_by told (Ok None) y e = absurd cc
+told_by told (Ok (Some d)) y e = (d, refl, cc)
+told_by told (Err r) y e = absurd cc
+
+data_by : (absent : Bool) (r : Result DebugFields Refusal) (d : DebugFields) → if◌then◌else◌ {A = Result (Option DebugFields) Refusal} absent (Ok None) (r >>= λ x. Ok (Some x)) ≡ Ok (Some d) → r ≡ Ok d
+data_by true r d e = absurd cc
+data_by false (Ok x) d e = cc
+data_by false (Err x) d e = absurd cc
+
+parts_of : (b : List ℕ) (image : Image) (s : List SectionTable) (mode : ℕ) (d : DebugFields) → debug_of b image s mode ≡ Ok (Some d) → PartsStand (options_of mode) b d
+unfolding debug_of
+parts_of b image s mode d e =
+    parts_stand (options_of mode) b image.debug s image.file_alignment 0 d
+    (data_by (is_absent image.debug) (debug_data (options_of mode) b image.debug s image.file_alignment 0) d e)
+
+-- what is told of debug data whose parts stand tells its part
+tells : {Y : Type 0} (told : DebugFields → Option Y) (range_of : Y → Range) (part_of : DebugFields → Option (List ℕ)) →
+    ((b : List ℕ) (mode : ℕ) (d : DebugFields) (y : Y) → PartsStand (options_of mode) b d → told d ≡ Some y → IsPart b (range_of y) (part_of d)) → TellsPart told range_of part_of
+tells told range_of part_of h b image s mode y e =
+    let given = told_by told (debug_of b image s mode) y e in
+    (given.0, given.1, given.2, h b mode given.0 y (parts_of b image s mode given.0 given.1) given.2)
+
+-- a value that is made of a record and the range of its part
+made : {X Y : Type 0} (b : List ℕ) (mode n : ℕ) (part : X → List ℕ) (make : X → Range → Y) (range_of : Y → Range) → ((x : X) (r : Range) → range_of (make x r) ≡ r) →
+    (x : Option X) (e : Option ImageDebugDirectory) (y : Y) → StandsBehind (options_of mode) b n e (option_map part x) →
+    option_and_then (λ v. option_map (make v) (option_map (λ entry. record { place = record_place true entry + n; length = length (part v) }) e)) x ≡ Some y →
+    IsPart b (range_of y) (option_map part x)
+made b mode n part make range_of h None e y s given = absurd cc
+made b mode n part make range_of h (Some v) None y s given = absurd cc
+made b mode n part make range_of h (Some v) (Some e) y s given =
+    let r : Range = record { place = record_place true e + n; length = length (part v) } in
+    let same : make v r ≡ y = cc in
+    subst (λ (x : Range). IsRange b x (part v)) (sym (h v r) ∙ ap range_of same) (there b (record_place true e + n) (part v) s)
+
+pub key_tells : TellsPart key_of (λ k. k.name) (λ d. option_map (λ r. r.filename) d.pdb70)
+key_tells =
+    tells key_of (λ k. k.name) (λ d. option_map (λ r. r.filename) d.pdb70)
+    (λ b mode d y s e. made b mode 24 (λ r. r.filename) (λ r name. record { guid = r.signature; age = r.age; spare = 0; name = name }) (λ k. k.name) (λ x r. refl) d.pdb70 (first_of_type d.fixup 2 d.table) y s.pdb70 e)
+
+pub pdb20_tells : TellsPart pdb20_of (λ k. k.name) (λ d. option_map (λ r. r.filename) d.pdb20)
+pdb20_tells =
+    tells pdb20_of (λ k. k.name) (λ d. option_map (λ r. r.filename) d.pdb20)
+    (λ b mode d y s e. made b mode 16 (λ r. r.filename) (λ r name. record { name = name; offset = r.codeview_offset; signature = r.signature; age = r.age; spare = 0 }) (λ k. k.name) (λ x r. refl) d.pdb20 (first_of_type d.fixup 2 d.table) y s.pdb20 e)
+
+pub pogo_tells : TellsPart pogo_of (λ p. p.entries) (λ d. option_map (λ r. r.bytes) d.pogo)
+pogo_tells =
+    tells pogo_of (λ p. p.entries) (λ d. option_map (λ r. r.bytes) d.pogo)
+    (λ b mode d y s e. made b mode 4 (λ r. r.bytes) (λ r entries. record { entries = entries; signature = r.signature; spare = 0 }) (λ p. p.entries) (λ x r. refl) d.pogo (first_of_type d.fixup 13 d.table) y s.pogo e)
+
+hash_by : (b : List ℕ) (mode : ℕ) (d : DebugFields) (r : Option records.Repro) (y : Repro) → StandsBehind (options_of mode) b 4 (first_of_type d.fixup 16 d.table) (hash_of r) →
+    option_and_then (repro_by d) r ≡ Some y → IsPart b y.hash (hash_of r)
+hash_by b mode d None y s e = absurd cc
+hash_by b mode d (Some (Stamp stamp)) y s e = let same : (record { hash = no_bytes; has_hash = 0; spare = 0 }) ≡ y = cc in ap (λ (x : Repro). x.hash) (sym same)
+hash_by b mode d (Some (Buffer count bytes)) y s e =
+    made b mode 4 (λ (x : List ℕ). x) (λ x hash. record { hash = hash; has_hash = 1; spare = 0 }) (λ (x : Repro). x.hash) (λ x r. refl) (Some bytes) (first_of_type d.fixup 16 d.table) y s e
+
+pub repro_tells : TellsPart repro_of (λ r. r.hash) (λ d. hash_of d.repro)
+repro_tells = tells repro_of (λ r. r.hash) (λ d. hash_of d.repro) (λ b mode d y s e. hash_by b mode d d.repro y s.repro e)

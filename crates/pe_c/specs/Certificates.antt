@@ -1,0 +1,41 @@
+-- A walk over the certificates of a table.
+use Rattle.std.specs.Prelude.{◌≡◌, ◌≢◌, ℕ, ◌+◌, ◌-◌, ◌==◌, List, ◌∷◌, length, nat_lt, true, Option, Some, None, Result, Ok, Err, if◌then◌else◌}
+use Rattle.pe_core.specs.Bytes.{holds}
+use Rattle.pe_core.specs.Refusals.{Refusal, CertificateTable, ◌>>=◌}
+use Rattle.pe_records.specs.Certificates.{CertificateView, certificate_at, certificates_at, revision_number, type_number}
+use Rattle.pe_c.specs.declared.certificates.Certificate.{Certificate}
+use Rattle.pe_c.specs.declared.ranges.Range.{Range}
+use Rattle.pe_c.specs.Ranges.{no_bytes}
+
+-- the certificate at p: its body stands behind the eight bytes of its header
+abbrev pub told_at : ℕ → CertificateView → Certificate
+told_at p c = record {
+  body = record { place = p + 8; length = length c.body };
+  length = c.length;
+  revision = revision_number c.revision;
+  certificate_type = type_number c.certificate_type;
+}
+
+-- the walk from a place on: over unless the place is before its end
+abbrev pub walk_from : Range → ℕ → Range
+walk_from w next = if nat_lt next (w.place + w.length) then record { place = next; length = w.place + w.length - next } else no_bytes
+
+abbrev pub step_by : Range → Result (CertificateView × ℕ) Refusal → Result (Option Certificate) Refusal × Range
+step_by w (Ok c) = (Ok (Some (told_at w.place c.0)), walk_from w c.1)
+step_by w (Err refusal) = (Err refusal, no_bytes)
+
+-- what a step answers, and the walk behind it: the certificate at its place, and behind it from the next place on
+unfoldable pub step : List ℕ → Range → Result (Option Certificate) Refusal × Range
+step b w =
+    if w.length == 0 then (Ok None, w)
+    else (if holds b w.place w.length then step_by w (certificate_at b w.place) else (Err CertificateTable, no_bytes))
+
+-- the certificates of the table at a walk
+abbrev pub listed : List ℕ → Range → Result (List CertificateView) Refusal
+listed b w = certificates_at b w.place w.length
+
+-- a walk that is not over lists the certificate at its place, and then what it lists from the next place on
+abbrev pub StepsList : Type 0
+StepsList =
+    (b : List ℕ) (w : Range) → w.length ≢ 0 → holds b w.place w.length ≡ true →
+    listed b w ≡ (certificate_at b w.place >>= λ c. listed b (walk_from w c.1) >>= λ cs. Ok (c.0 ∷ cs))

@@ -1,0 +1,48 @@
+-- Walks over the entries of a POGO record.
+use Rattle.std.specs.Prelude.{◌≡◌, ℕ, ◌+◌, ◌-◌, List, length, Option, Some, None, Result, Ok, Err}
+use Rattle.pe_core.specs.Refusals.{Refusal, kind_of}
+use Rattle.pe_core.specs.declared.error.Error.{Error}
+use Rattle.pe_records.specs.Pogo.{GivesPogoEntry}
+use Rattle.pe_records.specs.declared.debug.pogo.POGOInfoEntry.{POGOInfoEntry}
+use Rattle.pe_c.specs.declared.debug_walks.PogoEntry.{PogoEntry}
+use Rattle.pe_c.specs.declared.ranges.Range.{Range}
+use Rattle.pe_c.specs.Answers.{AnswersIf}
+use Rattle.pe_c.specs.Ranges.{IsRange, behind, bytes_at, no_bytes}
+
+-- where a walk stands behind a step that took n bytes: it stays at its end, and is over behind a refusal
+abbrev pub walk_behind : Range → ℕ → Option (Result POGOInfoEntry Error) → Range
+walk_behind w n None = w
+walk_behind w n (Some (Ok e)) = behind w n
+walk_behind w n (Some (Err e)) = no_bytes
+
+-- a step over these bytes gives the entry that they begin with, and leaves what stands behind it
+abbrev pub StepsOver : Result (List ℕ) Refusal → Range → Option (Result POGOInfoEntry Error) → Range → Type 0
+StepsOver (Ok left) w answer new = (rest : List ℕ) × GivesPogoEntry left answer rest × (new ≡ walk_behind w (length left - length rest) answer)
+StepsOver (Err refusal) w None new = ⊥
+StepsOver (Err refusal) w (Some (Ok e)) new = ⊥
+StepsOver (Err refusal) w (Some (Err e)) new = (kind_of e ≡ refusal) × (new ≡ no_bytes)
+
+-- a step over the bytes that a walk has left, or `Short` where the bytes have no such range
+abbrev pub Steps : List ℕ → Range → Option (Result POGOInfoEntry Error) → Range → Type 0
+Steps b w answer new = StepsOver (bytes_at b w) w answer new
+
+-- an entry at the beginning of a walk: its name stands behind two numbers
+abbrev pub pogo_entry : Range → POGOInfoEntry → PogoEntry
+pogo_entry w e = record { name = record { place = w.place + 8; length = length e.name.now }; rva = e.rva; size = e.size }
+
+-- the range of an entry's name is the name
+abbrev pub IsNamed : List ℕ → Range → Option (Result POGOInfoEntry Error) → Type 0
+IsNamed b w None = Unit {0}
+IsNamed b w (Some (Ok e)) = IsRange b (pogo_entry w e).name e.name.now
+IsNamed b w (Some (Err e)) = Unit {0}
+
+-- what is told of a step
+abbrev pub told : Range → Option (Result POGOInfoEntry Error) → Result (Option PogoEntry) Refusal
+told w None = Ok None
+told w (Some (Ok e)) = Ok (Some (pogo_entry w e))
+told w (Some (Err e)) = Err (kind_of e)
+
+-- what a call answers for a step
+abbrev pub AnswersPogoEntry : List ℕ → Range → Range → ℕ → PogoEntry → PogoEntry → Type 0
+AnswersPogoEntry b w walk number old new =
+    (answer : Option (Result POGOInfoEntry Error)) × Steps b w answer walk × IsNamed b w answer × AnswersIf number old new (told w answer)

@@ -1,0 +1,19 @@
+-- The ranges that are told of records are their parts.
+use Rattle.std.specs.Prelude.{◌≡◌, ℕ, List, Option, Some, None, Ok}
+use Rattle.pe_core.specs.declared.section_table.SectionTable.{SectionTable}
+use Rattle.pe_records.specs.DebugRecords.{DebugFields}
+use Rattle.pe_c.specs.declared.image.Image.{Image}
+use Rattle.pe_c.specs.declared.ranges.Range.{Range}
+use Rattle.pe_c.specs.Debug.{debug_of, told_of}
+use Rattle.pe_c.specs.Ranges.{IsRange, no_bytes}
+
+-- the range of a part, if there is one
+abbrev pub IsPart : List ℕ → Range → Option (List ℕ) → Type 0
+IsPart b r None = r ≡ no_bytes
+IsPart b r (Some part) = IsRange b r part
+
+-- whatever is told of debug data, its range is this part of them
+abbrev pub TellsPart : {Y : Type 0} → (DebugFields → Option Y) → (Y → Range) → (DebugFields → Option (List ℕ)) → Type 0
+TellsPart {Y} told range_of part_of =
+    (b : List ℕ) (image : Image) (sections : List SectionTable) (mode : ℕ) (y : Y) → told_of told b image sections mode ≡ Ok (Some y) →
+    (d : DebugFields) × (debug_of b image sections mode ≡ Ok (Some d)) × (told d ≡ Some y) × IsPart b (range_of y) (part_of d)

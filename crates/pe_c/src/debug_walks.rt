@@ -1,0 +1,133 @@
+//! Walks over debug entries, and over the entries of a POGO record.
+
+ghost use Rattle.std.specs.Prelude.{◌≡◌, ◌+◌, ◌≤◌, ◌^◌, length, Ok};
+ghost use Rattle.pe_core.specs.Refusals.{answer_by};
+ghost use Rattle.pe_records.specs.DebugDirectory.{entry_at};
+ghost use Rattle.pe_c.specs.Answers.{AnswersIf};
+ghost use Rattle.pe_c.specs.DebugWalks.{AnswersPogoEntry, IsNamed, Steps, StepsOver, pogo_entry};
+ghost use Rattle.pe_c.specs.Walks.{next_of, walk_of};
+
+use crate::answers::{DONE, NOTHING, hand_out_some, number_of};
+use crate::ranges::{NO_BYTES, Range, slice_of};
+use crate::walks::next_entry;
+use pe_core::{Result, rounded_up};
+use pe_records::{
+    IMAGE_DEBUG_DIRECTORY_SIZE, ImageDebugDirectory, ImageDebugDirectoryIterator,
+    POGOEntryIterator, POGOInfoEntry,
+};
+
+/// An entry of a POGO record: a part of the image.
+#[repr(C)]
+#[derive(Clone, Copy)]
+pub struct PogoEntry {
+    /// With the zero byte that ends it.
+    pub name: Range,
+    /// The part's relative virtual address.
+    pub rva: u32,
+    /// In bytes.
+    pub size: u32,
+}
+
+/// The entry that the bytes begin with.
+#[tactic(auto, using(crate::proofs::Steps::first_entry))]
+fn first_entry(left: &[u8]) -> ImageDebugDirectory
+    requires { 28 ≤ length left.now }
+    ensures { result ≡ entry_at 0 left.now 0 }
+{
+    match ImageDebugDirectoryIterator::new(left, 0).next() {
+        Some(Ok(entry)) => entry,
+        _ => unreachable!(),
+    }
+}
+
+fn next_debug_entry(bytes: &[u8], walk: &mut Range) -> Result<Option<ImageDebugDirectory>>
+    ensures entry { answer_by (λ x. x) result ≡ next_of (entry_at 0) 28 bytes.now walk.old }
+    ensures walk { walk.new ≡ walk_of 28 bytes.now walk.old }
+{
+    match next_entry(bytes, walk, IMAGE_DEBUG_DIRECTORY_SIZE) {
+        Ok(Some(left)) => Ok(Some(first_entry(left))),
+        Ok(None) => Ok(None),
+        Err(error) => Err(error),
+    }
+}
+
+/// Reads the next entry of a debug directory's table: `NOTHING` at its end. `SHORT` where the entry is cut or the bytes
+/// have no such range: behind it the walk is over.
+#[unsafe(no_mangle)]
+pub extern "C" fn pe_c_next_debug_entry(
+    bytes: &[u8],
+    walk: &mut Range,
+    out: &mut ImageDebugDirectory,
+) -> u32
+    ensures entry { AnswersIf result out.old out.new (next_of (entry_at 0) 28 bytes.now walk.old) }
+    ensures walk { walk.new ≡ walk_of 28 bytes.now walk.old }
+{
+    hand_out_some(next_debug_entry(bytes, walk), out)
+}
+
+/// One step over the bytes that a walk has left.
+#[tactic(auto, using(crate::proofs::Steps::taken))]
+fn step<'a>(left: &'a [u8], walk: &mut Range) -> Option<Result<POGOInfoEntry<'a>>>
+    requires inside { walk.old.place + walk.old.length ≤ 2 ^ 63 }
+    requires length { walk.old.length ≡ length left.now }
+    ensures { StepsOver (Ok left.entry.now) walk.old result walk.new }
+{
+    let entry = POGOEntryIterator::new(left).next();
+    match &entry {
+        None => (),
+        Some(Ok(entry)) => {
+            let taken = rounded_up(8 + entry.name.len(), 4) as u64;
+            *walk = Range {
+                place: walk.place + taken,
+                length: walk.length - taken,
+            };
+        }
+        Some(Err(_)) => *walk = NO_BYTES,
+    }
+    entry
+}
+
+#[tactic(auto, using(crate::proofs::Steps::named))]
+fn next_pogo_entry<'a>(bytes: &'a [u8], walk: &mut Range) -> Option<Result<POGOInfoEntry<'a>>>
+    ensures step { Steps bytes.entry.now walk.old result walk.new }
+    ensures name { IsNamed bytes.entry.now walk.old result }
+{
+    match slice_of(bytes, walk) {
+        Ok(left) => step(left, walk),
+        Err(error) => {
+            *walk = NO_BYTES;
+            Some(Err(error))
+        }
+    }
+}
+
+fn pogo_entry(walk: &Range, entry: &POGOInfoEntry) -> PogoEntry
+    requires { walk.now.place ≤ 2 ^ 63 }
+    ensures { result ≡ pogo_entry walk.now entry.now }
+{
+    PogoEntry {
+        name: Range {
+            place: walk.place + 8,
+            length: entry.name.len() as u64,
+        },
+        rva: entry.rva,
+        size: entry.size,
+    }
+}
+
+/// Reads the next entry of a POGO record: `NOTHING` at the end; `SHORT` where the bytes have no such range, or too few are
+/// left for an entry; `POGO_NAME` where its name does not end or its end is cut. Behind a refusal the walk is over.
+#[unsafe(no_mangle)]
+pub extern "C" fn pe_c_next_pogo_entry(bytes: &[u8], walk: &mut Range, out: &mut PogoEntry) -> u32
+    ensures { AnswersPogoEntry bytes.now walk.old walk.new result out.old out.new }
+{
+    let here = *walk;
+    match next_pogo_entry(bytes, walk) {
+        Some(Ok(entry)) => {
+            *out = pogo_entry(&here, &entry);
+            DONE
+        }
+        None => NOTHING,
+        Some(Err(error)) => number_of(&error),
+    }
+}
