@@ -10,9 +10,7 @@ use crate::answers::{NOTHING, hand_out_some, number_of, options};
 use crate::image::{Image, is_absent};
 use crate::ranges::Range;
 use pe_core::{Result, SectionTable};
-use pe_resource::{
-    ByteRange, RT_MANIFEST, RT_VERSION, ResourceData, VersionName, VsFixedFileInfo,
-};
+use pe_resource::{ByteRange, RT_MANIFEST, RT_VERSION, ResourceData, VersionName, VsFixedFileInfo};
 
 /// Where the content of the first resource with an id lies, if the image has resources.
 fn content_of(
