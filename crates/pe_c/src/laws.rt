@@ -10,6 +10,7 @@ ghost use Rattle.pe_c.specs.Parts.{HasTables, TellsExport, TellsPart};
 ghost use Rattle.pe_c.specs.Plans.{plan_from, StepsPlan, GivesInTurn, IsCycle};
 ghost use Rattle.pe_c.specs.Ranges.{IsRange};
 ghost use Rattle.pe_c.specs.Unwinding.{flat_record};
+ghost use Rattle.pe_c.specs.Versions.{TellsManifest, TellsFixed, TellsValue};
 ghost use Rattle.pe_c.specs.declared.image.Image.{Image};
 ghost use Rattle.pe_c.specs.declared.plan.Plan.{Plan};
 ghost use Rattle.pe_c.specs.declared.unwinding.UnwindRecord.{UnwindRecord};
@@ -71,4 +72,12 @@ pub fn walks_tell_the_exports()
     ensures tables { (place : ℕ → Option ℕ) (b : List ℕ) (rva : ℕ) (d : ExportDataView) → export_data_at place b rva ≡ Ok d → HasTables b (walk_over place d) d }
     ensures exports { (place : ℕ → Option ℕ) (b : List ℕ) (d : ExportDataView) (i : ℕ) →
         TellsExport b (told_entry place b (with_tables d.names d.ordinals d.addresses) i) (export_at place b d i) }
+{}
+
+/// Where the resources of an image are not refused, what is told of their manifest and version information is what they
+/// hold, and the ranges lie in the bytes.
+pub fn versions_are_those_of_resources()
+    ensures manifest { TellsManifest }
+    ensures fixed { TellsFixed }
+    ensures value { TellsValue }
 {}
