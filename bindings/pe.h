@@ -49,7 +49,7 @@ enum {
     PE_C_SHORT = 2,                 /* the bytes end too early */
     PE_C_BAD_MAGIC = 3,             /* the bytes begin no image */
     PE_C_HEADER_POINTER = 4,        /* the DOS header points into itself; strict alone */
-    PE_C_IMPORT_NAME = 5,           /* the name of a library or an import has no end, or is not UTF-8 */
+    PE_C_IMPORT_NAME = 5,           /* no call answers it */
     PE_C_STRING_TABLE = 6,          /* no call answers it */
     PE_C_CERTIFICATE_REVISION = 7,
     PE_C_CERTIFICATE_TYPE = 8,
@@ -482,7 +482,7 @@ uint32_t pe_c_arm64_codes(const uint8_t *bytes, size_t length, const pe_c_range 
  * them. PE_C_ARM64_CUT for a code that is cut; PE_C_ARM64_STREAM for a walk of no stream. */
 uint32_t pe_c_next_arm64_code(const uint8_t *bytes, size_t length, pe_c_arm64_walk *walk, pe_c_arm64_code *out);
 
-/* ---- exports and imports */
+/* ---- exports */
 
 typedef struct {
     pe_c_range names, ordinals, addresses;  /* the three tables, of 4, 2 and 4 bytes an entry */
@@ -491,28 +491,13 @@ typedef struct {
 
 typedef struct {
     pe_c_range name;                /* UTF-8, without the zero behind it */
-    uint64_t place;                 /* where the address stands in the file; 0 unless has_place */
-    uint32_t rva;
+    uint64_t place;                 /* the place of its address in the file; 0 unless has_place */
+    uint32_t rva;                   /* its address */
     uint32_t has_place;             /* 1 or 0 */
 } pe_c_export;
 
-typedef struct {
-    uint64_t record;                /* the place of the directory's record that is read */
-    uint64_t entry;                 /* the index of its next entry */
-} pe_c_imports;
-
-typedef struct {
-    pe_c_range library;             /* UTF-8, without the zero behind it */
-    pe_c_range name;                /* UTF-8, without the zero behind it; empty unless has_name */
-    uint64_t rva;                   /* where the loader puts the import's address */
-    uint32_t ordinal;               /* the ordinal, or the hint of the name */
-    uint32_t has_name;              /* 1 or 0 */
-} pe_c_import;
-
 PE_C_SIZE(pe_c_exports, 56);
 PE_C_SIZE(pe_c_export, 32);
-PE_C_SIZE(pe_c_imports, 16);
-PE_C_SIZE(pe_c_import, 48);
 
 /* Gives the tables of the export directory, a walk. PE_C_NOTHING without one; PE_C_UNMAPPED, PE_C_SHORT. */
 uint32_t pe_c_export_tables(const uint8_t *bytes, size_t length, const pe_c_image_info *image,
@@ -522,15 +507,6 @@ uint32_t pe_c_export_tables(const uint8_t *bytes, size_t length, const pe_c_imag
 uint32_t pe_c_next_export(const uint8_t *bytes, size_t length, const pe_c_image_info *image,
                           const pe_c_section *sections, size_t count, uint32_t mode, pe_c_exports *walk,
                           pe_c_export *out);
-
-/* Gives a walk over the import directory. PE_C_NOTHING without one; PE_C_UNMAPPED. */
-uint32_t pe_c_import_records(const uint8_t *bytes, size_t length, const pe_c_image_info *image,
-                             const pe_c_section *sections, size_t count, uint32_t mode, pe_c_imports *out);
-
-/* Gives the next import. PE_C_UNMAPPED, PE_C_SHORT, PE_C_IMPORT_NAME. */
-uint32_t pe_c_next_import(const uint8_t *bytes, size_t length, const pe_c_image_info *image,
-                          const pe_c_section *sections, size_t count, uint32_t mode, pe_c_imports *walk,
-                          pe_c_import *out);
 
 /* ---- version and manifest
  *

@@ -28,6 +28,9 @@ const PAGE: usize = 1 << 16;
 /// Of one file so many inputs are made in turn.
 const INPUTS_OF_A_FILE: usize = 64;
 
+/// How many items a walk that lies may give.
+const MOST: usize = 16;
+
 /// Writable memory, behind which there is none.
 fn fenced() -> &'static mut [u8] {
     const READ_AND_WRITE: i32 = 3;
@@ -104,21 +107,28 @@ fn hot_places(bytes: &[u8]) -> Vec<Range<usize>> {
     places
 }
 
-/// Copies a file to the end of the memory, cut at times and with a few bytes changed.
-fn make_input<'m>(memory: &'m mut [u8], bytes: &[u8], places: &[Range<usize>], random: &mut Random) -> &'m [u8] {
+/// Copies a file, cut at times, to the end of the memory.
+fn copy<'m>(memory: &'m mut [u8], bytes: &[u8], random: &mut Random) -> &'m mut [u8] {
     let cut = if random.below(8) == 0 { random.below(bytes.len()) } else { 0 };
     let length = bytes.len() - cut;
     let input = &mut memory[ROOM - length..];
     input.copy_from_slice(&bytes[..length]);
+    input
+}
+
+/// Changes a few bytes; gives what they were.
+fn change(input: &mut [u8], places: &[Range<usize>], random: &mut Random) -> Vec<(usize, u8)> {
+    let mut before = Vec::new();
     for _ in 0..1 + random.below(6) {
         let place = &places[random.below(places.len())];
         let at = place.start + random.below(place.len());
         let value = [0, 1, 0x7F, 0x80, 0xFF, random.next() as u8][random.below(6)];
         if let Some(byte) = input.get_mut(at) {
+            before.push((at, *byte));
             *byte = value;
         }
     }
-    input
+    before
 }
 
 /// Calls with records that lie: none of them may touch anything but the bytes and what it is lent.
@@ -171,7 +181,7 @@ fn read_by_lies(bytes: &[u8], random: &mut Random, seen: &mut Seen) {
     macro_rules! walk {
         ($name:ident($walk:expr), $out:ident) => {{
             let mut walk = $walk;
-            for _ in 0..reading::MOST {
+            for _ in 0..MOST {
                 let mut out = sys::$out::default();
                 // SAFETY: as above.
                 if unsafe { sys::$name(start, length, &mut walk, &mut out) } != 0 {
@@ -183,7 +193,7 @@ fn read_by_lies(bytes: &[u8], random: &mut Random, seen: &mut Seen) {
     macro_rules! walk_of_image {
         ($name:ident($walk:expr), $out:ident) => {{
             let mut walk = $walk;
-            for _ in 0..reading::MOST {
+            for _ in 0..MOST {
                 let mut out = sys::$out::default();
                 let (first, count) = (sections.as_ptr(), sections.len());
                 // SAFETY: as above.
@@ -227,9 +237,6 @@ fn read_by_lies(bytes: &[u8], random: &mut Random, seen: &mut Seen) {
     let tables = call_of_image!(pe_c_export_tables(), Exports);
     walk_of_image!(pe_c_next_export(tables), Export);
     walk_of_image!(pe_c_next_export(sys::Exports { names: range, next: index, ..tables }), Export);
-    let records = call_of_image!(pe_c_import_records(), Imports);
-    walk_of_image!(pe_c_next_import(records), Import);
-    walk_of_image!(pe_c_next_import(sys::Imports { record: range.place, entry: index }), Import);
     let saved = if few & 8 == 0 { directory.virtual_address } else { few };
     let plan = sys::Plan { unwind: directory.virtual_address, saved, steps: index, limit: range.length, ..sys::Plan::default() };
     walk_of_image!(pe_c_next_record(plan), Record);
@@ -261,20 +268,27 @@ fn main() {
     let files: Vec<_> = files.into_iter().map(|bytes| (hot_places(&bytes), bytes)).collect();
     let memory = fenced();
     let mut random = Random(seed.max(1));
-    let (mut inputs, mut seen) = (0u64, Seen::default());
+    let (mut inputs, mut seen) = (0u64, Seen::up_to(0));
     let start = Instant::now();
     while start.elapsed().as_secs() < seconds {
         let (places, bytes) = &files[random.below(files.len())];
+        let input = copy(memory, bytes, &mut random);
         for _ in 0..INPUTS_OF_A_FILE {
-            let input = make_input(memory, bytes, places, &mut random);
+            let before = change(input, places, &mut random);
             let mode = if random.below(2) == 0 { Mode::Strict } else { Mode::Permissive };
-            seen.add(read_all(input, mode));
-            read_by_lies(input, &mut random, &mut seen);
+            let most = [1, 1, 2, 4, 8, 64][random.below(6)];
+            seen.add(read_all(input, mode, most));
+            if random.below(4) == 0 {
+                read_by_lies(input, &mut random, &mut seen);
+            }
             inputs += 1;
+            for (at, byte) in before.into_iter().rev() {
+                input[at] = byte;
+            }
         }
     }
     let rate = inputs as f64 / start.elapsed().as_secs_f64();
-    let Seen { images, records, codes, slices, refusals } = seen;
+    let Seen { images, records, codes, slices, refusals, .. } = seen;
     println!(
         "{} files, {inputs} inputs, {images} images, {records} unwind records, {codes} codes, {slices} slices, {refusals} \
          refusals, {rate:.0} inputs a second",

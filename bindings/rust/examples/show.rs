@@ -1,8 +1,8 @@
-//! Shows what the calls read of an image, a fact a line: `show unwind|debug|resources|tables FILE`. The lines are those of
+//! Shows what the calls read of an image, a fact a line: `show unwind|debug|resources|exports FILE`. The lines are those of
 //! the programs tools/show_*.txt, so that the two can be compared, and tools/compare_unwind, compare_debug and
 //! compare_resources take it by a script of the program's name. What no call tells is read from the bytes: three fields of
-//! an ARM64 record, and the first resource entries; of `tables` relocations and symbols are left out. A first line `strict`
-//! says that the image is refused in strict mode; what follows is then what permissive mode gives.
+//! an ARM64 record, and the first resource entries; of the lines of show_tables.txt only those of exports are there. A first
+//! line `strict` says that the image is refused in strict mode; what follows is then what permissive mode gives.
 
 use pe_c::{
     Arm64Code, Arm64Operation, Arm64Record, Arm64Unwinding, Code, CustomStack, Error, Function, Handler, Image, Mode, Offset,
@@ -324,7 +324,7 @@ fn show_resources(image: &Image) {
     }
 }
 
-fn show_tables(image: &Image) {
+fn show_exports(image: &Image) {
     println!("image {}", image.info().machine);
     for export in there(image.exports()).into_iter().flatten() {
         match export {
@@ -332,22 +332,10 @@ fn show_tables(image: &Image) {
             Err(error) => println!("refused {error:?}"),
         }
     }
-    for import in there(image.imports()).into_iter().flatten() {
-        match import {
-            Ok(it) => {
-                let (library, name) = (String::from_utf8_lossy(it.library), it.name.map(String::from_utf8_lossy));
-                println!("import {} {} {library:?} {name:?}", it.rva, it.ordinal);
-            }
-            Err(error) => println!("refused {error:?}"),
-        }
-    }
 }
 
 /// The first refusal of an image's directories.
 fn refusal(image: &Image) -> Result<(), Error> {
-    for import in image.imports()?.into_iter().flatten() {
-        import?;
-    }
     image.symbol_key()?;
     image.functions()?;
     image.arm64_functions()?;
@@ -362,25 +350,21 @@ fn read(bytes: &[u8]) -> Result<Image<'_>, Error> {
     let strict = Image::parse(bytes, Mode::Strict).and_then(|image| refusal(&image).map(|()| image));
     strict.or_else(|error| {
         println!("strict {error:?}");
-        let image = Image::parse(bytes, Mode::Permissive)?;
-        for import in image.imports()?.into_iter().flatten() {
-            import?;
-        }
-        Ok(image)
+        Image::parse(bytes, Mode::Permissive)
     })
 }
 
 fn main() {
     let words: Vec<String> = std::env::args().skip(1).collect();
     let [what, file] = words.as_slice() else {
-        eprintln!("usage: show unwind|debug|resources|tables FILE");
+        eprintln!("usage: show unwind|debug|resources|exports FILE");
         std::process::exit(2);
     };
     let show = match what.as_str() {
         "unwind" => show_unwind,
         "debug" => show_debug,
         "resources" => show_resources,
-        _ => show_tables,
+        _ => show_exports,
     };
     let bytes = match std::fs::read(file) {
         Ok(bytes) => bytes,

@@ -1,5 +1,5 @@
 //! Reading Windows executables by a proved library: headers, debug data, certificates, x64 and ARM64 unwind data, exports,
-//! imports, version information and manifest.
+//! version information and manifest.
 //!
 //! [`Image`] borrows the bytes that it was read from, and names, bodies and texts are slices of these bytes: they outlive
 //! the `Image`. Every walk is an iterator. No byte string makes a call panic or run for ever, and no call but
@@ -32,10 +32,10 @@ extern crate alloc;
 mod arm64;
 mod certificates;
 mod debug;
+mod exports;
 mod image;
 #[allow(missing_docs)]
 pub mod sys;
-mod tables;
 mod version;
 mod walk;
 mod x64;
@@ -45,8 +45,8 @@ pub use arm64::{
 };
 pub use certificates::{Certificate, Certificates};
 pub use debug::{DebugEntries, Pdb20, Pogo, PogoEntries, PogoEntry, Repro, SymbolKey};
+pub use exports::{Export, Exports};
 pub use image::{Error, Image, Mode};
 pub use sys::{Arm64Function, Arm64Packed, Arm64Scope, DebugEntry, Directory, Function, ImageInfo, Scope, Section, VcFeatures};
-pub use tables::{Export, Exports, Import, Imports};
 pub use version::{FixedVersion, Text, VersionName};
 pub use x64::{Code, Codes, Functions, Handler, Offset, Operation, Plan, Register, Scopes, UnwindRecord};

@@ -183,12 +183,6 @@ record!(
     /// An export.
     Export, 32 { name: Range, place: u64, rva: u32, has_place: u32 });
 record!(
-    /// A walk over imports.
-    Imports, 16 { record: u64, entry: u64 });
-record!(
-    /// An import.
-    Import, 48 { library: Range, name: Range, rva: u64, ordinal: u32, has_name: u32 });
-record!(
     /// The fixed file information.
     Version, 52 {
         signature: u32,
@@ -276,8 +270,6 @@ calls_of_an_image! {
     pe_c_arm64_unwind_record(function: *const Arm64Function) -> Arm64Record;
     pe_c_export_tables() -> Exports;
     pe_c_next_export(walk: *mut Exports) -> Export;
-    pe_c_import_records() -> Imports;
-    pe_c_next_import(walk: *mut Imports) -> Import;
     pe_c_fixed_version() -> Version;
     pe_c_version_text(name: u32) -> Range;
     pe_c_manifest() -> Range;

@@ -376,16 +376,6 @@ fn exports_are_listed() {
 }
 
 #[test]
-fn imports_are_listed() {
-    let bytes = with_imports();
-    let image = strict(&bytes);
-    let imports: Vec<_> = image.imports().unwrap().unwrap().map(Result::unwrap).map(|it| (it.library, it.name, it.ordinal, it.rva)).collect();
-    let library = b"KERNEL32.dll".as_slice();
-    assert_eq!(imports, [(library, Some(b"Sleep".as_slice()), 42, 0x8000), (library, None, 17, 0x8008)]);
-    assert!(strict(SMALL).imports().unwrap().is_none());
-}
-
-#[test]
 fn versions_and_manifests_are_read() {
     let bytes = with_resources();
     let image = strict(&bytes);

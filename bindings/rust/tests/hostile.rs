@@ -16,7 +16,7 @@ fn every_beginning_of_an_image_is_read_or_refused() {
             // bytes of their own, so that a tool that watches memory sees a read behind their end
             let bytes = image[..length].to_vec();
             for mode in MODES {
-                read_all(&bytes, mode);
+                read_all(&bytes, mode, 64);
             }
         }
     }
@@ -30,7 +30,7 @@ fn every_byte_of_an_image_may_change() {
                 let mut bytes = image.clone();
                 bytes[place] = value;
                 for mode in MODES {
-                read_all(&bytes, mode);
+                read_all(&bytes, mode, 64);
             }
             }
         }

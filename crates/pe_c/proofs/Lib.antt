@@ -1,3 +1,5 @@
+pub mod Cycles
+pub mod ExportParts
 pub mod LastText
 pub mod Listings
 pub mod Parts

@@ -14,7 +14,7 @@ use Rattle.pe_records.specs.declared.debug.ImageDebugDirectory.{ImageDebugDirect
 use Rattle.pe_c.specs.declared.debug.Repro.{Repro}
 use Rattle.pe_c.specs.declared.image.Image.{Image}
 use Rattle.pe_c.specs.declared.ranges.Range.{Range}
-use Rattle.pe_c.specs.Certificates.{told_at}
+use Rattle.pe_c.specs.Certificates.{certificate_told}
 use Rattle.pe_c.specs.Debug.{debug_of, key_of, pdb20_of, repro_by, repro_of, pogo_of}
 use Rattle.pe_c.specs.Images.{is_absent}
 use Rattle.pe_c.specs.Modes.{options_of}
@@ -26,7 +26,7 @@ there b p part s = record { inside = s.inside; same = s.here }
 
 -- ---- certificates
 
-pub body_is_told : (b : List ℕ) (p : ℕ) (c : CertificateView) (next : ℕ) → certificate_at b p ≡ Ok (c, next) → IsRange b (told_at p c).body c.body
+pub body_is_told : (b : List ℕ) (p : ℕ) (c : CertificateView) (next : ℕ) → certificate_at b p ≡ Ok (c, next) → IsRange b (certificate_told p c).body c.body
 body_is_told b p c next e = there b (p + 8) c.body (body_stands b p c next e)
 
 -- ---- debug data

@@ -1,12 +1,11 @@
 -- What is told of versions is what the resources hold.
-use Rattle.std.proofs.Common.{◌≡◌, ℕ, ◌+◌, ◌≤◌, Bool, true, false, List, length, Option, Some, None, Result, Ok, Err, refl, ap, sym, ◌∙◌, subst}
+use Rattle.std.proofs.Common.{◌≡◌, ℕ, Bool, false, List, Option, Some, None, Result, Ok, Err, refl, ap, sym, ◌∙◌, subst}
 use Rattle.std.specs.Option.{option_map}
-use Rattle.pe_core.specs.Bytes.{range}
 use Rattle.pe_core.specs.Refusals.{Refusal, ◌>>=◌}
 use Rattle.pe_core.specs.declared.section_table.SectionTable.{SectionTable}
 use Rattle.pe_resource.specs.Contents.{bytes_in, IsWithin, IsThere, inner, version_of_content}
 use Rattle.pe_resource.specs.Resources.{ResourceView, IsResourceRange}
-use Rattle.pe_resource.specs.VersionFields.{VersionView, value_named, version_in, value_range_in}
+use Rattle.pe_resource.specs.VersionFields.{VersionView, value_named, version_in}
 use Rattle.pe_resource.specs.declared.byte_range.ByteRange.{ByteRange}
 use Rattle.pe_resource.specs.declared.version.VersionName.{VersionName}
 use Rattle.pe_resource.specs.declared.version.VsFixedFileInfo.{VsFixedFileInfo}

@@ -8,8 +8,8 @@ use Rattle.pe_c.specs.declared.ranges.Range.{Range}
 use Rattle.pe_c.specs.Ranges.{no_bytes}
 
 -- the certificate at p: its body stands behind the eight bytes of its header
-abbrev pub told_at : ℕ → CertificateView → Certificate
-told_at p c = record {
+abbrev pub certificate_told : ℕ → CertificateView → Certificate
+certificate_told p c = record {
   body = record { place = p + 8; length = length c.body };
   length = c.length;
   revision = revision_number c.revision;
@@ -21,7 +21,7 @@ abbrev pub walk_from : Range → ℕ → Range
 walk_from w next = if nat_lt next (w.place + w.length) then record { place = next; length = w.place + w.length - next } else no_bytes
 
 abbrev pub step_by : Range → Result (CertificateView × ℕ) Refusal → Result (Option Certificate) Refusal × Range
-step_by w (Ok c) = (Ok (Some (told_at w.place c.0)), walk_from w c.1)
+step_by w (Ok c) = (Ok (Some (certificate_told w.place c.0)), walk_from w c.1)
 step_by w (Err refusal) = (Err refusal, no_bytes)
 
 -- what a step answers, and the walk behind it: the certificate at its place, and behind it from the next place on

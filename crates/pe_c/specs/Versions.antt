@@ -92,3 +92,19 @@ fixed_of (Some v) = v.fixed_info
 abbrev pub value_of : VersionName → Option VersionView → Option (List ℕ)
 value_of name None = None
 value_of name (Some v) = value_named name v.strings
+
+-- what is told of a manifest, of fixed file information and of the value of a name is what the resources hold
+abbrev pub TellsManifest : Type 0
+TellsManifest =
+    (b : List ℕ) (image : Image) (sections : List SectionTable) (mode : ℕ) (x : ResourceView) (number : ℕ) (old new : Range) →
+    AreResourcesOf b image sections mode x → AnswersManifest b image sections mode number old new → TellsRange b number new x.manifest
+
+abbrev pub TellsFixed : Type 0
+TellsFixed =
+    (b : List ℕ) (image : Image) (sections : List SectionTable) (mode : ℕ) (x : ResourceView) (number : ℕ) (old new : VsFixedFileInfo) →
+    AreResourcesOf b image sections mode x → AnswersFixed b image sections mode number old new → AnswersIf number old new (Ok (fixed_of x.version))
+
+abbrev pub TellsValue : Type 0
+TellsValue =
+    (b : List ℕ) (image : Image) (sections : List SectionTable) (mode : ℕ) (name : VersionName) (x : ResourceView) (number : ℕ) (old new : Range) →
+    AreResourcesOf b image sections mode x → AnswersText b image sections mode (Some name) number old new → TellsRange b number new (value_of name x.version)

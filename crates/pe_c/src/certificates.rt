@@ -4,7 +4,7 @@ ghost use Rattle.std.specs.Prelude.{◌≡◌, ◌+◌, ◌≤◌, ◌^◌};
 ghost use Rattle.pe_core.specs.Refusals.{answer_by};
 ghost use Rattle.pe_records.specs.Certificates.{certificate_at, certificate_view};
 ghost use Rattle.pe_c.specs.Answers.{AnswersIf};
-ghost use Rattle.pe_c.specs.Certificates.{step, told_at, walk_from};
+ghost use Rattle.pe_c.specs.Certificates.{step, certificate_told, walk_from};
 
 use crate::answers::hand_out_some;
 use crate::ranges::{NO_BYTES, Range, slice_of};
@@ -25,9 +25,9 @@ pub struct Certificate {
 }
 
 /// The certificate that was read at a place.
-fn told_at(place: u64, certificate: &AttributeCertificate) -> Certificate
+fn certificate_told(place: u64, certificate: &AttributeCertificate) -> Certificate
     requires { place ≤ 2 ^ 63 }
-    ensures { result ≡ told_at place (certificate_view certificate.now) }
+    ensures { result ≡ certificate_told place (certificate_view certificate.now) }
 {
     Certificate {
         body: Range {
@@ -74,7 +74,7 @@ fn step(bytes: &[u8], walk: Range) -> (Result<Option<Certificate>>, Range)
     let mut offset = walk.place as usize;
     match AttributeCertificate::parse(bytes, &mut offset) {
         Ok(certificate) => {
-            let told = told_at(walk.place, &certificate);
+            let told = certificate_told(walk.place, &certificate);
             (Ok(Some(told)), walk_from(walk, offset as u64))
         }
         Err(error) => (Err(error), NO_BYTES),

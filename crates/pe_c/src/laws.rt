@@ -1,19 +1,27 @@
 //! Laws over the definitions. Each is the contract of a function that does nothing.
 
+ghost use Rattle.std.specs.Prelude.{◌≡◌, ℕ, List, Option, Ok, Err, IfSome};
+ghost use Rattle.std.specs.Option.{option_map};
 ghost use Rattle.pe_c.specs.Arm64.{flat_info};
-ghost use Rattle.pe_c.specs.Certificates.{StepsList, told_at};
+ghost use Rattle.pe_c.specs.Certificates.{StepsList, certificate_told};
 ghost use Rattle.pe_c.specs.Debug.{key_of, pdb20_of, repro_of, pogo_of};
-ghost use Rattle.pe_c.specs.Parts.{TellsPart};
+ghost use Rattle.pe_c.specs.Exports.{told_entry, walk_over, with_tables};
+ghost use Rattle.pe_c.specs.Parts.{HasTables, TellsExport, TellsPart};
+ghost use Rattle.pe_c.specs.Plans.{plan_from, StepsPlan, GivesInTurn, IsCycle};
 ghost use Rattle.pe_c.specs.Ranges.{IsRange};
 ghost use Rattle.pe_c.specs.Unwinding.{flat_record};
-ghost use Rattle.pe_core.specs.Refusals.{outcome};
+ghost use Rattle.pe_c.specs.Versions.{TellsManifest, TellsFixed, TellsValue};
+ghost use Rattle.pe_c.specs.declared.image.Image.{Image};
+ghost use Rattle.pe_c.specs.declared.plan.Plan.{Plan};
+ghost use Rattle.pe_c.specs.declared.unwinding.UnwindRecord.{UnwindRecord};
+ghost use Rattle.pe_core.specs.Exports.{ExportDataView, export_at, export_data_at};
+ghost use Rattle.pe_core.specs.Refusals.{FunctionCycle, outcome};
+ghost use Rattle.pe_core.specs.declared.section_table.SectionTable.{SectionTable};
 ghost use Rattle.pe_records.specs.Certificates.{CertificateView, certificate_at};
 ghost use Rattle.pe_records.specs.Parts.{hash_of};
 ghost use Rattle.pe_unwind.specs.Arm64Record.{Arm64InfoView, info_at};
 ghost use Rattle.pe_unwind.specs.Places.{data_of};
 ghost use Rattle.pe_unwind.specs.UnwindRecord.{UnwindInfoView, unwind_tests, unwind_record};
-ghost use Rattle.std.specs.Option.{option_map};
-ghost use Rattle.std.specs.Prelude.{◌≡◌, ℕ, List, Ok, IfSome};
 
 /// The ranges of an unwind record that is given lie in the bytes, and are its codes and its handler's data.
 pub fn ranges_of_records()
@@ -32,6 +40,14 @@ pub fn ranges_of_arm64_records()
         IfSome i.handler (λ h. IsRange b (flat_info b p i).handler_data h.bytes) }
 {}
 
+/// A plan that began at an unwind address, and is refused as a cycle, is one whose chain never ends: in records, or in the
+/// links of one of its functions.
+pub fn refused_plans_never_end()
+    ensures { (b : List ℕ) (image : Image) (sections : List SectionTable) (mode unwind : ℕ) (given : List UnwindRecord) (p q : Plan) →
+        GivesInTurn b image sections mode (plan_from unwind) given p → StepsPlan b image sections mode p (Err FunctionCycle) q →
+        IsCycle b image sections mode unwind }
+{}
+
 /// The ranges that are told of debug data lie in the bytes, and are the file names, the hash and the entries of POGO that
 /// the debug data have.
 #[tactic(auto, using(crate::proofs::Parts::key_tells, crate::proofs::Parts::pdb20_tells, crate::proofs::Parts::repro_tells, crate::proofs::Parts::pogo_tells))]
@@ -46,5 +62,22 @@ pub fn ranges_of_debug_data_are_their_parts()
 #[tactic(auto, using(crate::proofs::Listings::steps_list, crate::proofs::Parts::body_is_told))]
 pub fn walks_list_the_certificates()
     ensures listing { StepsList }
-    ensures body { (b : List ℕ) (p : ℕ) (c : CertificateView) (next : ℕ) → certificate_at b p ≡ Ok (c, next) → IsRange b (told_at p c).body c.body }
+    ensures body { (b : List ℕ) (p : ℕ) (c : CertificateView) (next : ℕ) → certificate_at b p ≡ Ok (c, next) → IsRange b (certificate_told p c).body c.body }
+{}
+
+/// The ranges of a walk over exports are the tables of the export data, and what the walk tells of an entry of the name
+/// table is the export that the entry has.
+#[tactic(auto, using(crate::proofs::ExportParts::tells))]
+pub fn walks_tell_the_exports()
+    ensures tables { (place : ℕ → Option ℕ) (b : List ℕ) (rva : ℕ) (d : ExportDataView) → export_data_at place b rva ≡ Ok d → HasTables b (walk_over place d) d }
+    ensures exports { (place : ℕ → Option ℕ) (b : List ℕ) (d : ExportDataView) (i : ℕ) →
+        TellsExport b (told_entry place b (with_tables d.names d.ordinals d.addresses) i) (export_at place b d i) }
+{}
+
+/// Where the resources of an image are not refused, what is told of their manifest and version information is what they
+/// hold, and the ranges lie in the bytes.
+pub fn versions_are_those_of_resources()
+    ensures manifest { TellsManifest }
+    ensures fixed { TellsFixed }
+    ensures value { TellsValue }
 {}

@@ -11,6 +11,7 @@ mod arm64;
 mod certificates;
 mod debug;
 mod debug_walks;
+mod exports;
 mod image;
 pub mod laws;
 mod plan;

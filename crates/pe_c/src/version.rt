@@ -1,25 +1,16 @@
 //! The version information of an image, and its manifest.
 
-ghost use Rattle.std.specs.Prelude.{◌≡◌, ℕ, List, Some, Ok, IfOk, IfSome};
+ghost use Rattle.std.specs.Prelude.{◌≡◌, IfOk, IfSome};
 ghost use Rattle.std.specs.Option.{option_map};
 ghost use Rattle.pe_core.specs.Refusals.{answer_by};
-ghost use Rattle.pe_core.specs.declared.section_table.SectionTable.{SectionTable};
 ghost use Rattle.pe_resource.specs.Contents.{IsWithin, inner};
-ghost use Rattle.pe_resource.specs.Resources.{ResourceView};
-ghost use Rattle.pe_resource.specs.declared.version.VersionName.{VersionName};
-ghost use Rattle.pe_resource.specs.declared.version.VsFixedFileInfo.{VsFixedFileInfo};
-ghost use Rattle.pe_c.specs.Answers.{AnswersIf};
-ghost use Rattle.pe_c.specs.Versions.{IsContentOf, range_of, AnswersManifest, fixed_at, AnswersFixed, value_at, name_at, AnswersText, AreResourcesOf, TellsRange, fixed_of, value_of};
-ghost use Rattle.pe_c.specs.declared.image.Image.{Image};
-ghost use Rattle.pe_c.specs.declared.ranges.Range.{Range};
+ghost use Rattle.pe_c.specs.Versions.{IsContentOf, range_of, AnswersManifest, fixed_at, AnswersFixed, value_at, name_at, AnswersText};
 
 use crate::answers::{NOTHING, hand_out_some, number_of, options};
 use crate::image::{Image, is_absent};
 use crate::ranges::Range;
 use pe_core::{Result, SectionTable};
-use pe_resource::{
-    ByteRange, RT_MANIFEST, RT_VERSION, ResourceData, VersionName, VsFixedFileInfo,
-};
+use pe_resource::{ByteRange, RT_MANIFEST, RT_VERSION, ResourceData, VersionName, VsFixedFileInfo};
 
 /// Where the content of the first resource with an id lies, if the image has resources.
 fn content_of(
@@ -158,12 +149,73 @@ pub extern "C" fn pe_c_version_text(
     }
 }
 
-/// Where the resources of an image are not refused, what is told is what they hold.
-pub fn told_of_resources()
-    ensures manifest { (b : List ℕ) (image : Image) (sections : List SectionTable) (mode : ℕ) (x : ResourceView) (number : ℕ) (old new : Range) →
-        AreResourcesOf b image sections mode x → AnswersManifest b image sections mode number old new → TellsRange b number new x.manifest }
-    ensures fixed { (b : List ℕ) (image : Image) (sections : List SectionTable) (mode : ℕ) (x : ResourceView) (number : ℕ) (old new : VsFixedFileInfo) →
-        AreResourcesOf b image sections mode x → AnswersFixed b image sections mode number old new → AnswersIf number old new (Ok (fixed_of x.version)) }
-    ensures value { (b : List ℕ) (image : Image) (sections : List SectionTable) (mode : ℕ) (name : VersionName) (x : ResourceView) (number : ℕ) (old new : Range) →
-        AreResourcesOf b image sections mode x → AnswersText b image sections mode (Some name) number old new → TellsRange b number new (value_of name x.version) }
-{}
+#[cfg(test)]
+mod tests {
+    use super::{pe_c_fixed_version, pe_c_manifest, pe_c_version_text};
+    use crate::answers::{DONE, NOTHING};
+    use crate::image::Image;
+    use crate::ranges::NO_BYTES;
+    use pe_core::{DataDirectory, SectionTable};
+    use pe_resource::VsFixedFileInfo;
+
+    const ABSENT: DataDirectory = DataDirectory {
+        virtual_address: 0,
+        size: 0,
+    };
+
+    /// An image whose resource directory stands at the address 0x1000.
+    fn image(size: u32) -> Image {
+        Image {
+            base: 0,
+            sections_place: 0,
+            entry: 0,
+            file_alignment: 512,
+            exports: ABSENT,
+            imports: ABSENT,
+            resources: DataDirectory {
+                virtual_address: 0x1000,
+                size,
+            },
+            exceptions: ABSENT,
+            certificates: ABSENT,
+            debug: ABSENT,
+            machine: 0,
+            width: 64,
+            number_of_sections: 1,
+            spare: 0,
+        }
+    }
+
+    /// The directory has one entry, with the id 24, and its data entry leads to the three bytes at its end.
+    #[test]
+    fn a_manifest_without_version_information(rt: HostRuntime) {
+        let mut bytes = [0; 0x2B];
+        bytes[0x0E] = 1;
+        bytes[0x10] = 24;
+        bytes[0x14] = 0x18;
+        bytes[0x18] = 0x28;
+        bytes[0x19] = 0x10;
+        bytes[0x1C] = 3;
+        let section = SectionTable {
+            name: *b".rsrc\0\0\0",
+            virtual_size: 0x200,
+            virtual_address: 0x1000,
+            size_of_raw_data: 0x200,
+            pointer_to_raw_data: 0,
+            pointer_to_relocations: 0,
+            pointer_to_linenumbers: 0,
+            number_of_relocations: 0,
+            number_of_linenumbers: 0,
+            characteristics: 0,
+        };
+        let (image, sections) = (image(0x2B), [section]);
+        let mut range = NO_BYTES;
+        let number = pe_c_version_text(&bytes, &image, &sections, 0, 0, &mut range);
+        assert_eq!(rt; (number, range.length), (NOTHING, 0));
+        let mut fixed = VsFixedFileInfo::default();
+        let number = pe_c_fixed_version(&bytes, &image, &sections, 0, &mut fixed);
+        assert_eq!(rt; number, NOTHING);
+        let number = pe_c_manifest(&bytes, &image, &sections, 0, &mut range);
+        assert_eq!(rt; (number, range.place, range.length), (DONE, 0x28, 3));
+    }
+}

@@ -3,12 +3,11 @@
 
 use pe_c::{Arm64Unwinding, Arm64Record, Error, Handler, Image, Mode, UnwindRecord, VersionName};
 
-/// How many functions, exports and imports of an image are read, at most.
-pub const MOST: usize = 64;
-
 /// What was read.
 #[derive(Clone, Copy, Debug, Default, PartialEq, Eq)]
 pub struct Seen {
+    /// How many items of a table or a walk are read, at most.
+    most: usize,
     pub images: u64,
     pub records: u64,
     pub codes: u64,
@@ -17,6 +16,11 @@ pub struct Seen {
 }
 
 impl Seen {
+    /// Nothing so far, of which so many items of a table or a walk will be read.
+    pub fn up_to(most: usize) -> Seen {
+        Seen { most, ..Seen::default() }
+    }
+
     pub fn add(&mut self, other: Seen) {
         self.images += other.images;
         self.records += other.records;
@@ -64,7 +68,7 @@ fn read_debug(image: &Image, seen: &mut Seen) {
         seen.touch(hash);
     }
     if let Some(pogo) = seen.keep(image.pogo()) {
-        for entry in pogo.entries().take(MOST) {
+        for entry in pogo.entries().take(seen.most) {
             if let Some(entry) = seen.item(entry) {
                 assert_eq!(entry.name_bytes.last(), Some(&0));
                 seen.touch(entry.name_bytes);
@@ -74,7 +78,7 @@ fn read_debug(image: &Image, seen: &mut Seen) {
 }
 
 fn read_certificates(image: &Image, seen: &mut Seen) {
-    for certificate in image.certificates().take(MOST) {
+    for certificate in image.certificates().take(seen.most) {
         if let Some(certificate) = seen.item(certificate) {
             assert_eq!(certificate.body.len() as u64, u64::from(certificate.length).saturating_sub(8));
             seen.touch(certificate.body);
@@ -97,7 +101,7 @@ fn read_record(record: &UnwindRecord, seen: &mut Seen) {
         None => {}
     }
     if let Some(scopes) = record.scopes() {
-        for scope in scopes.take(MOST) {
+        for scope in scopes.take(seen.most) {
             seen.item(scope);
         }
     }
@@ -108,7 +112,7 @@ fn read_functions(image: &Image, seen: &mut Seen) {
         return;
     };
     assert_eq!(functions.get(functions.len()), None);
-    for function in functions.iter().take(MOST) {
+    for function in functions.iter().take(seen.most) {
         for address in [function.begin, function.end.wrapping_sub(1)] {
             if let Some(found) = seen.keep(functions.find(address)) {
                 assert!(found.begin <= address && address < found.end);
@@ -118,7 +122,7 @@ fn read_functions(image: &Image, seen: &mut Seen) {
         if let Some(record) = seen.item(answer) {
             read_record(&record, seen);
         }
-        for record in functions.plan(function).take(MOST) {
+        for record in functions.plan(function).take(seen.most) {
             if let Some(record) = seen.item(record) {
                 read_record(&record, seen);
             }
@@ -148,7 +152,7 @@ fn read_arm64_functions(image: &Image, seen: &mut Seen) {
         return;
     };
     assert_eq!(functions.get(functions.len()), None);
-    for function in functions.iter().take(MOST) {
+    for function in functions.iter().take(seen.most) {
         let answer = functions.unwinding(function);
         let Some(Arm64Unwinding::Record(record)) = seen.item(answer) else {
             continue;
@@ -158,7 +162,7 @@ fn read_arm64_functions(image: &Image, seen: &mut Seen) {
         if let Some(start) = record.epilog_start() {
             read_arm64_codes(&record, start, seen);
         }
-        for scope in record.scopes().take(MOST) {
+        for scope in record.scopes().take(seen.most) {
             if let Some(scope) = seen.item(scope) {
                 read_arm64_codes(&record, scope.start_index, seen);
             }
@@ -169,19 +173,11 @@ fn read_arm64_functions(image: &Image, seen: &mut Seen) {
     }
 }
 
-fn read_tables(image: &Image, seen: &mut Seen) {
+fn read_exports(image: &Image, seen: &mut Seen) {
     if let Some(exports) = seen.keep(image.exports()) {
-        for export in exports.take(MOST) {
+        for export in exports.take(seen.most) {
             if let Some(export) = seen.item(export) {
                 seen.touch(export.name);
-            }
-        }
-    }
-    if let Some(imports) = seen.keep(image.imports()) {
-        for import in imports.take(MOST) {
-            if let Some(import) = seen.item(import) {
-                seen.touch(import.library);
-                seen.touch(import.name.unwrap_or_default());
             }
         }
     }
@@ -189,7 +185,7 @@ fn read_tables(image: &Image, seen: &mut Seen) {
 
 fn read_version(image: &Image, seen: &mut Seen) {
     seen.keep(image.version());
-    for name in VersionName::ALL {
+    for name in VersionName::ALL.into_iter().take(seen.most) {
         if let Some(text) = seen.keep(image.version_text(name)) {
             seen.touch(text.0);
             std::hint::black_box(text.characters().count());
@@ -200,9 +196,9 @@ fn read_version(image: &Image, seen: &mut Seen) {
     }
 }
 
-/// Makes every call on these bytes.
-pub fn read_all(bytes: &[u8], mode: Mode) -> Seen {
-    let mut seen = Seen::default();
+/// Makes every call on these bytes, and reads so many items of each table and walk.
+pub fn read_all(bytes: &[u8], mode: Mode, most: usize) -> Seen {
+    let mut seen = Seen::up_to(most);
     let answer = Image::parse(bytes, mode);
     let Some(image) = seen.item(answer) else {
         return seen;
@@ -216,7 +212,7 @@ pub fn read_all(bytes: &[u8], mode: Mode) -> Seen {
     read_certificates(&image, &mut seen);
     read_functions(&image, &mut seen);
     read_arm64_functions(&image, &mut seen);
-    read_tables(&image, &mut seen);
+    read_exports(&image, &mut seen);
     read_version(&image, &mut seen);
     seen
 }

@@ -1,5 +1,5 @@
 use Rattle.pe_c.proofs.VersionsTold.{manifest_told, fixed_told, value_told}
-use Rattle.pe_c.proofs.version.told_of_resources.Goals as goal
+use Rattle.pe_c.proofs.laws.versions_are_those_of_resources.Goals as goal
 
 pub returns-clause-manifest : goal.returns-clause-manifest
 returns-clause-manifest c = manifest_told

@@ -1,0 +1,133 @@
+-- Exports: where their tables stand, and a walk over those that have a name.
+use Rattle.std.specs.Prelude.{◌≡◌, ℕ, ◌+◌, ◌*◌, ◌/◌, ◌<◌, ◌≤◌, ◌==◌, Bool, true, false, List, length, nat_le, Option, Some, None, Result, Ok, Err, if◌then◌else◌}
+use Rattle.std.specs.Option.{option_map, option_and_then}
+use Rattle.pe_core.specs.Bytes.{le}
+use Rattle.pe_core.specs.Exports.{ExportDataView, ExportView, export_data_at, named_export}
+use Rattle.pe_core.specs.Refusals.{Refusal, ◌>>=◌}
+use Rattle.pe_core.specs.SectionMap.{place_of}
+use Rattle.pe_core.specs.Text.{text_at}
+use Rattle.pe_core.specs.declared.section_table.SectionTable.{SectionTable}
+use Rattle.pe_c.specs.declared.exports.Export.{Export}
+use Rattle.pe_c.specs.declared.exports.Exports.{Exports}
+use Rattle.pe_c.specs.declared.exports.Tables.{Tables}
+use Rattle.pe_c.specs.declared.image.Image.{Image}
+use Rattle.pe_c.specs.declared.ranges.Range.{Range}
+use Rattle.pe_c.specs.Answers.{AnswersIf}
+use Rattle.pe_c.specs.Images.{is_absent}
+use Rattle.pe_c.specs.Ranges.{bytes_at, no_bytes}
+
+-- the map from an image's addresses to places in its file
+abbrev pub place_in : Image → List SectionTable → ℕ → Option ℕ
+place_in image sections = place_of true image.file_alignment sections
+
+-- ---- the tables
+
+-- the range of a table of n bytes at an address; one of none has no place
+abbrev pub range_from : ℕ → Option ℕ → Range
+range_from n None = no_bytes
+range_from n (Some p) = record { place = p; length = n }
+
+abbrev pub table_range : (ℕ → Option ℕ) → ℕ → ℕ → Range
+table_range place rva n = if n == 0 then no_bytes else range_from n (place rva)
+
+-- a walk over the exports of a directory, at its beginning
+abbrev pub walk_over : (ℕ → Option ℕ) → ExportDataView → Exports
+walk_over place d = record {
+  names = table_range place d.directory.name_pointer_rva (4 * d.directory.number_of_name_pointers);
+  ordinals = table_range place d.directory.ordinal_table_rva (2 * d.directory.number_of_name_pointers);
+  addresses = table_range place d.directory.address_table_rva (4 * d.directory.address_table_entries);
+  next = 0;
+}
+
+-- the tables of an image's export directory, if it has one; or what refuses it
+unfoldable pub tables_at : List ℕ → Image → List SectionTable → Result (Option Exports) Refusal
+tables_at b image sections =
+    if is_absent image.exports then Ok None
+    else export_data_at (place_in image sections) b image.exports.virtual_address >>= λ d. Ok (Some (walk_over (place_in image sections) d))
+
+-- ---- the walk
+
+-- export data of which these tables alone are known: no export is read from anything else
+abbrev pub with_tables : List ℕ → List ℕ → List ℕ → ExportDataView
+with_tables names ordinals addresses = record {
+  directory = record {
+    characteristics = 0;
+    time_date_stamp = 0;
+    major = 0;
+    minor = 0;
+    name_rva = 0;
+    ordinal_base = 0;
+    address_table_entries = 0;
+    number_of_name_pointers = 0;
+    address_table_rva = 0;
+    name_pointer_rva = 0;
+    ordinal_table_rva = 0;
+  };
+  name = None;
+  addresses = addresses;
+  names = names;
+  ordinals = ordinals;
+}
+
+abbrev pub view_of : Tables → ExportDataView
+view_of t = with_tables t.names.now t.ordinals.now t.addresses.now
+
+-- the tables of a walk, or `Short` where the bytes have no such ranges
+abbrev pub tables_or_short : List ℕ → Exports → Result ExportDataView Refusal
+tables_or_short b w = do
+  names ← bytes_at b w.names
+  ordinals ← bytes_at b w.ordinals
+  addresses ← bytes_at b w.addresses
+  Ok (with_tables names ordinals addresses)
+
+-- the place, if there is one, and whether there is one
+abbrev pub or_zero : Option ℕ → ℕ
+or_zero None = 0
+or_zero (Some p) = p
+
+abbrev pub one_if_some : Option ℕ → ℕ
+one_if_some None = 0
+one_if_some (Some p) = 1
+
+-- an export whose name stands at p
+abbrev pub export_told : ℕ → ExportView → Export
+export_told p e = record { name = record { place = p; length = length e.name }; place = or_zero e.offset; rva = e.rva; has_place = one_if_some e.offset }
+
+-- the export of entry i of the name table, if its name has a place and is text, and it has an address
+abbrev pub told_entry : (ℕ → Option ℕ) → List ℕ → ExportDataView → ℕ → Option Export
+told_entry place b d i = option_and_then (λ p. option_map (export_told p) (option_and_then (named_export place d i) (text_at b p))) (place (le d.names (4 * i) 4))
+
+-- none of the entries from one on up to another has an export
+abbrev pub HaveNone : (ℕ → Option Export) → ℕ → ℕ → Type 0
+HaveNone told from end = (k : ℕ) → from ≤ k → k < end → told k ≡ None
+
+-- the first entry from one on that has an export, and the index behind it
+abbrev pub FindsNext : (ℕ → Option Export) → ℕ → ℕ → Option (Export × ℕ) → Type 0
+FindsNext told from end None = HaveNone told from end
+FindsNext told from end (Some x) = (i : ℕ) × (from ≤ i) × (i < end) × HaveNone told from i × (told i ≡ Some x.0) × (x.1 ≡ i + 1)
+
+-- how many entries the name table has
+abbrev pub count_of : Exports → ℕ
+count_of w = w.names.length / 4
+
+-- the walk behind what was found: at its end where nothing was
+abbrev pub walk_behind : Exports → Option (Export × ℕ) → Exports
+walk_behind w None = record w { next = count_of w }
+walk_behind w (Some x) = record w { next = x.1 }
+
+-- a step over the entries that are left of these tables
+abbrev pub StepsOver : (ℕ → Option ℕ) → List ℕ → Result ExportDataView Refusal → Exports → Result (Option Export) Refusal → Exports → Type 0
+StepsOver place b (Ok d) w answer new =
+    (found : Option (Export × ℕ)) × FindsNext (told_entry place b d) w.next (count_of w) found × (answer ≡ Ok (option_map (λ x. x.0) found)) × (new ≡ walk_behind w found)
+StepsOver place b (Err refusal) w answer new = (answer ≡ Err refusal) × (new ≡ record w { names = no_bytes })
+
+abbrev pub StepsIf : Bool → (ℕ → Option ℕ) → List ℕ → Exports → Result (Option Export) Refusal → Exports → Type 0
+StepsIf true place b w answer new = (answer ≡ Ok None) × (new ≡ w)
+StepsIf false place b w answer new = StepsOver place b (tables_or_short b w) w answer new
+
+-- a step: nothing where all entries are behind the walk; `Short`, and then it is over, where the bytes have no such tables
+abbrev pub Steps : (ℕ → Option ℕ) → List ℕ → Exports → Result (Option Export) Refusal → Exports → Type 0
+Steps place b w answer new = StepsIf (nat_le (count_of w) w.next) place b w answer new
+
+abbrev pub AnswersExport : (ℕ → Option ℕ) → List ℕ → Exports → Exports → ℕ → Export → Export → Type 0
+AnswersExport place b w walk number old new = (answer : Result (Option Export) Refusal) × Steps place b w answer walk × AnswersIf number old new answer

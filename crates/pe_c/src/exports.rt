@@ -1,0 +1,230 @@
+//! Exports: where their tables stand, and a walk over those that have a name.
+
+ghost use Rattle.std.specs.Prelude.{◌≡◌, ◌+◌, ◌*◌, ◌/◌, ◌≤◌, length};
+ghost use Rattle.pe_core.specs.Exports.{export_data_view};
+ghost use Rattle.pe_core.specs.Refusals.{Gives, answer_by};
+ghost use Rattle.pe_c.specs.Answers.{AnswersIf};
+ghost use Rattle.pe_c.specs.Exports.{AnswersExport, FindsNext, Steps, place_in, table_range, tables_at, tables_or_short, told_entry, view_of, walk_over};
+
+use crate::answers::{hand_out_some, options};
+use crate::image::{Image, is_absent};
+use crate::ranges::{NO_BYTES, Range, slice_of};
+use pe_core::{
+    ExportData, ParseOptions, Result, SectionTable, find_offset, number32, text_at, u16_at, u32_at,
+};
+
+/// A walk over the exports of an image: the tables of its export directory, and the index of the next name.
+#[repr(C)]
+#[derive(Clone, Copy)]
+pub struct Exports {
+    /// Addresses of names, 4 bytes each.
+    pub names: Range,
+    /// For each name the index of its address, 2 bytes each.
+    pub ordinals: Range,
+    /// Addresses of what is exported, 4 bytes each.
+    pub addresses: Range,
+    pub next: u64,
+}
+
+/// An export that has a name.
+#[repr(C)]
+#[derive(Clone, Copy)]
+pub struct Export {
+    pub name: Range,
+    /// Its place in the file; 0 where `has_place` is 0.
+    pub place: u64,
+    /// Its relative virtual address.
+    pub rva: u32,
+    /// 1 where a section maps its address, else 0.
+    pub has_place: u32,
+}
+
+/// The place of an address.
+fn place_of(rva: u32, image: &Image, sections: &[SectionTable]) -> Option<usize>
+    ensures { result ≡ place_in image.now sections.now rva }
+{
+    find_offset(
+        rva as usize,
+        sections,
+        image.file_alignment,
+        &ParseOptions::default(),
+    )
+}
+
+/// The range of a table of so many bytes at an address.
+fn table_range(rva: u32, size: u64, image: &Image, sections: &[SectionTable]) -> Range
+    ensures { result ≡ table_range (place_in image.now sections.now) rva size }
+{
+    if size == 0 {
+        return NO_BYTES;
+    }
+    match place_of(rva, image, sections) {
+        Some(place) => Range {
+            place: place as u64,
+            length: size,
+        },
+        None => NO_BYTES,
+    }
+}
+
+fn walk_over(export_data: &ExportData, image: &Image, sections: &[SectionTable]) -> Exports
+    ensures { result ≡ walk_over (place_in image.now sections.now) (export_data_view export_data.now) }
+{
+    let directory = &export_data.directory;
+    let names = u64::from(directory.number_of_name_pointers);
+    let addresses = u64::from(directory.address_table_entries);
+    Exports {
+        names: table_range(directory.name_pointer_rva, 4 * names, image, sections),
+        ordinals: table_range(directory.ordinal_table_rva, 2 * names, image, sections),
+        addresses: table_range(directory.address_table_rva, 4 * addresses, image, sections),
+        next: 0,
+    }
+}
+
+#[tactic(auto, unfolding(crate::specs::Exports::tables_at))]
+fn tables_at(
+    bytes: &[u8],
+    image: &Image,
+    sections: &[SectionTable],
+    mode: u32,
+) -> Result<Option<Exports>>
+    ensures { answer_by (λ x. x) result ≡ tables_at bytes.now image.now sections.now }
+{
+    let directory = image.exports;
+    if is_absent(directory) {
+        return Ok(None);
+    }
+    let alignment = image.file_alignment;
+    let opts = options(mode);
+    let export_data = ExportData::parse_with_opts(bytes, directory, sections, alignment, &opts)?;
+    Ok(Some(walk_over(&export_data, image, sections)))
+}
+
+/// Finds the tables of an image's export directory, a walk at its beginning: `NOTHING` where the directory is absent;
+/// `UNMAPPED` or `SHORT` of the directory and of each table. No mode makes a difference.
+#[unsafe(no_mangle)]
+pub extern "C" fn pe_c_export_tables(
+    bytes: &[u8],
+    image: &Image,
+    sections: &[SectionTable],
+    mode: u32,
+    out: &mut Exports,
+) -> u32
+    ensures { AnswersIf result out.old out.new (tables_at bytes.now image.now sections.now) }
+{
+    hand_out_some(tables_at(bytes, image, sections, mode), out)
+}
+
+/// The three tables of a walk.
+#[derive(Clone, Copy)]
+struct Tables<'a> {
+    names: &'a [u8],
+    ordinals: &'a [u8],
+    addresses: &'a [u8],
+}
+
+/// The export of entry `i` of the name table, if its name has a place and is text, and it has an address.
+fn told_entry(
+    bytes: &[u8],
+    tables: &Tables<'_>,
+    i: usize,
+    image: &Image,
+    sections: &[SectionTable],
+) -> Option<Export>
+    requires { 4 * i + 4 ≤ length tables.now.names.now }
+    ensures { result ≡ told_entry (place_in image.now sections.now) bytes.now (view_of tables.now) i }
+{
+    let place = place_of(number32(tables.names, 4 * i), image, sections)?;
+    let name = text_at(bytes, place)?;
+    let ordinal = u16_at(tables.ordinals, 2 * i).ok()?;
+    let rva = u32_at(tables.addresses, 4 * usize::from(ordinal)).ok()?;
+    let offset = place_of(rva, image, sections);
+    Some(Export {
+        name: Range {
+            place: place as u64,
+            length: name.len() as u64,
+        },
+        place: offset.unwrap_or(0) as u64,
+        rva,
+        has_place: u32::from(offset.is_some()),
+    })
+}
+
+/// The first entry of the name table, from one on, that has an export, and the index behind it.
+fn find_next(
+    bytes: &[u8],
+    tables: &Tables<'_>,
+    from: usize,
+    image: &Image,
+    sections: &[SectionTable],
+) -> Option<(Export, u64)>
+    ensures { FindsNext (told_entry (place_in image.now sections.now) bytes.now (view_of tables.now)) from (length tables.now.names.now / 4) result }
+{
+    for i in from..tables.names.len() / 4 {
+        if let Some(export) = told_entry(bytes, tables, i, image, sections) {
+            return Some((export, i as u64 + 1));
+        }
+    }
+    None
+}
+
+/// The tables of a walk. `Short` where they are not all there.
+fn tables_of<'a>(bytes: &'a [u8], walk: &Exports) -> Result<Tables<'a>>
+    ensures { Gives view_of result (tables_or_short bytes.entry.now walk.now) }
+{
+    Ok(Tables {
+        names: slice_of(bytes, &walk.names)?,
+        ordinals: slice_of(bytes, &walk.ordinals)?,
+        addresses: slice_of(bytes, &walk.addresses)?,
+    })
+}
+
+/// One step of a walk.
+fn step(
+    bytes: &[u8],
+    image: &Image,
+    sections: &[SectionTable],
+    walk: &mut Exports,
+) -> Result<Option<Export>>
+    ensures { Steps (place_in image.now sections.now) bytes.now walk.old (answer_by (λ x. x) result) walk.new }
+{
+    let count = walk.names.length / 4;
+    if count <= walk.next {
+        return Ok(None);
+    }
+    let tables = match tables_of(bytes, walk) {
+        Ok(tables) => tables,
+        Err(error) => {
+            walk.names = NO_BYTES;
+            return Err(error);
+        }
+    };
+    match find_next(bytes, &tables, walk.next as usize, image, sections) {
+        Some((export, next)) => {
+            walk.next = next;
+            Ok(Some(export))
+        }
+        None => {
+            walk.next = count;
+            Ok(None)
+        }
+    }
+}
+
+/// Reads the next export that has a name, in the order of the name table: `NOTHING` behind the last; `SHORT` where the bytes
+/// have no such tables, and then the walk is over. Entries are passed by whose name has no place, no end or is not UTF-8, or
+/// whose ordinal is not in the address table. No mode makes a difference. Each name is read to its end, so names that
+/// overlap are read once each.
+#[unsafe(no_mangle)]
+pub extern "C" fn pe_c_next_export(
+    bytes: &[u8],
+    image: &Image,
+    sections: &[SectionTable],
+    _mode: u32,
+    walk: &mut Exports,
+    out: &mut Export,
+) -> u32
+    ensures { AnswersExport (place_in image.now sections.now) bytes.now walk.old walk.new result out.old out.new }
+{
+    hand_out_some(step(bytes, image, sections, walk), out)
+}
