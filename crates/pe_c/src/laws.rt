@@ -1,6 +1,7 @@
 //! Laws over the definitions. Each is the contract of a function that does nothing.
 
-ghost use Rattle.std.specs.Prelude.{◌≡◌, ℕ, List, Ok, Err, IfSome};
+ghost use Rattle.std.specs.Prelude.{◌≡◌, ℕ, ◌*◌, ◌^◌, ◌<◌, ◌≤◌, List, length, Ok, Err, IfSome};
+ghost use Rattle.pe_core.specs.Bytes.{AreBytes};
 ghost use Rattle.pe_core.specs.Refusals.{FunctionCycle, outcome};
 ghost use Rattle.pe_core.specs.declared.section_table.SectionTable.{SectionTable};
 ghost use Rattle.pe_unwind.specs.Arm64Record.{Arm64InfoView, info_at};
@@ -37,4 +38,11 @@ pub fn refused_plans_never_end()
     ensures { (b : List ℕ) (image : Image) (sections : List SectionTable) (mode unwind : ℕ) (given : List UnwindRecord) (p q : Plan) →
         GivesInTurn b image sections mode (plan_from unwind) given p → StepsPlan b image sections mode p (Err FunctionCycle) q →
         IsCycle b image sections mode unwind }
+{}
+
+/// A plan that began at an unwind address gives at most three times as many records as there are addresses: so it comes to
+/// the root, or is refused.
+pub fn plans_end()
+    ensures { (b : List ℕ) (image : Image) (sections : List SectionTable) (mode unwind : ℕ) (given : List UnwindRecord) (p : Plan) →
+        AreBytes b → unwind < 2 ^ 32 → GivesInTurn b image sections mode (plan_from unwind) given p → length given ≤ 3 * 2 ^ 32 }
 {}
