@@ -1,6 +1,7 @@
 pub mod Addresses
 pub mod Cycles
 pub mod Rings
+pub mod EndlessPlans
 pub mod LastText
 pub mod PlanEnds
 pub mod PlanSteps

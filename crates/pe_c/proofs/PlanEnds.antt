@@ -29,7 +29,7 @@ one_place (Ok v) s mode u x y f g =
     let same : f.0 ≡ g.0 = one_answer t u f.0 g.0 f.1 g.1 in
     f.2 ∙ ap (λ (end : Result ℕ Refusal). end >>= λ a. mapped (t.place a)) same ∙ sym g.2
 
-one_record : (b : List ℕ) (image : Image) (s : List SectionTable) (mode u : ℕ) (x y : Result UnwindRecord Refusal) → FollowsToRecord b image s mode u x → FollowsToRecord b image s mode u y → x ≡ y
+pub one_record : (b : List ℕ) (image : Image) (s : List SectionTable) (mode u : ℕ) (x y : Result UnwindRecord Refusal) → FollowsToRecord b image s mode u x → FollowsToRecord b image s mode u y → x ≡ y
 one_record b image s mode u x y f g =
     let same : f.0 ≡ g.0 = one_place (exception_at 12 b image.exceptions s image.file_alignment (options_of mode)) s mode u f.0 g.0 f.1 g.1 in
     f.2 ∙ ap (λ (place : Result ℕ Refusal). place >>= flat_record_at b) same ∙ sym g.2
@@ -37,7 +37,7 @@ one_record b image s mode u x y f g =
 same_inside : (x y : UnwindRecord) → ◌≡◌ {A = Result UnwindRecord Refusal} (Ok x) (Ok y) → x ≡ y
 same_inside x y e = cc
 
-goes_once : (b : List ℕ) (image : Image) (s : List SectionTable) (mode : ℕ) → HasOneEnd (GoesTo b image s mode)
+pub goes_once : (b : List ℕ) (image : Image) (s : List SectionTable) (mode : ℕ) → HasOneEnd (GoesTo b image s mode)
 goes_once b image s mode u v w p q =
     let same : p.0 ≡ q.0 = same_inside p.0 q.0 (one_record b image s mode u (Ok p.0) (Ok q.0) p.1 q.1) in
     sym p.3 ∙ ap (λ (r : UnwindRecord). r.chained.unwind_info_address) same ∙ q.3

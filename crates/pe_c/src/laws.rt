@@ -1,8 +1,8 @@
 //! Laws over the definitions. Each is the contract of a function that does nothing.
 
-ghost use Rattle.std.specs.Prelude.{◌≡◌, ℕ, ◌*◌, ◌^◌, ◌<◌, ◌≤◌, List, length, Ok, Err, IfSome};
+ghost use Rattle.std.specs.Prelude.{◌≡◌, ◌⊎◌, ℕ, ◌*◌, ◌^◌, ◌<◌, ◌≤◌, List, length, Option, Some, Result, Ok, Err, IfSome};
 ghost use Rattle.pe_core.specs.Bytes.{AreBytes};
-ghost use Rattle.pe_core.specs.Refusals.{FunctionCycle, outcome};
+ghost use Rattle.pe_core.specs.Refusals.{Refusal, FunctionCycle, outcome};
 ghost use Rattle.pe_core.specs.declared.section_table.SectionTable.{SectionTable};
 ghost use Rattle.pe_unwind.specs.Arm64Record.{Arm64InfoView, info_at};
 ghost use Rattle.pe_unwind.specs.Places.{data_of};
@@ -32,12 +32,15 @@ pub fn ranges_of_arm64_records()
         IfSome i.handler (λ h. IsRange b (flat_info b p i).handler_data h.bytes) }
 {}
 
-/// A plan that began at an unwind address, and is refused as a cycle, is one whose chain never ends: in records, or in the
-/// links of one of its functions.
-pub fn refused_plans_never_end()
-    ensures { (b : List ℕ) (image : Image) (sections : List SectionTable) (mode unwind : ℕ) (given : List UnwindRecord) (p q : Plan) →
+/// A plan that began at an unwind address is refused as a cycle only where its chain never ends: in records, or in the
+/// links of one of its functions. And where it never ends each step gives a record or is refused so.
+pub fn plans_are_cycles_where_chains_never_end()
+    ensures endless { (b : List ℕ) (image : Image) (sections : List SectionTable) (mode unwind : ℕ) (given : List UnwindRecord) (p q : Plan) →
         GivesInTurn b image sections mode (plan_from unwind) given p → StepsPlan b image sections mode p (Err FunctionCycle) q →
         IsCycle b image sections mode unwind }
+    ensures refused { (b : List ℕ) (image : Image) (sections : List SectionTable) (mode unwind : ℕ) (given : List UnwindRecord) (p q : Plan) (answer : Result (Option UnwindRecord) Refusal) →
+        IsCycle b image sections mode unwind → GivesInTurn b image sections mode (plan_from unwind) given p → StepsPlan b image sections mode p answer q →
+        (answer ≡ Err FunctionCycle) ⊎ ((r : UnwindRecord) × (answer ≡ Ok (Some r))) }
 {}
 
 /// A plan that began at an unwind address gives at most three times as many records as there are addresses: so it comes to
