@@ -1,5 +1,5 @@
 -- The address that a record goes on at is one of 32 bits.
-use Rattle.std.proofs.Common.{◌≡◌, ℕ, suc, ◌+◌, ◌<◌, Bool, true, false, List, Option, Some, None, Result, Ok, Err, refl, ap, sym, subst, drop, arith}
+use Rattle.std.proofs.Common.{◌≡◌, ℕ, suc, ◌+◌, ◌<◌, Bool, true, false, List, Option, Some, None, Result, Ok, Err, refl, sym, subst, drop, arith}
 use Rattle.std.specs.Prelude.{if◌then◌else◌, IfSome}
 use Rattle.pe_core.proofs.NumberBytes.{le-zero, le-cons}
 use Rattle.pe_core.specs.Bytes.{AreBytes, le}

@@ -1,10 +1,10 @@
 -- A plan is refused as a cycle where its chain never ends.
-use Rattle.std.proofs.Common.{◌≡◌, ℕ, zero, suc, ◌+◌, ◌*◌, ◌≤◌, Bool, true, false, List, [], ◌∷◌, Option, Some, None, Result, Ok, Err, ◌⊎◌, inl, inr, ⊎_elim, refl, ap, sym, subst, ◌∙◌, arith}
+use Rattle.std.proofs.Common.{◌≡◌, ℕ, zero, suc, ◌+◌, ◌*◌, Bool, true, false, List, [], ◌∷◌, Option, Some, None, Result, Ok, Err, ◌⊎◌, inl, inr, ⊎_elim, refl, ap, sym, subst, arith}
 use Rattle.std.specs.Prelude.{◌==◌, if◌then◌else◌, nat_le, min}
 use Rattle.std.proofs.lemmas.Bool.{eqb-true}
 use Rattle.pe_core.specs.Refusals.{Refusal, FunctionCycle}
 use Rattle.pe_core.specs.declared.section_table.SectionTable.{SectionTable}
-use Rattle.pe_c.specs.Plans.{plan_from, ended, goes_on, gives, leaves, gives_record, behind_record, StepsIf, StepsPlan, GoesTo, LeadsIn, NeverEnds, GivesInTurn, IsCycle}
+use Rattle.pe_c.specs.Plans.{plan_from, ended, goes_on, gives, leaves, StepsIf, StepsPlan, GoesTo, LeadsIn, NeverEnds, GivesInTurn, IsCycle}
 use Rattle.pe_c.specs.Unwinding.{FollowsToRecord}
 use Rattle.pe_c.specs.declared.image.Image.{Image}
 use Rattle.pe_c.specs.declared.plan.Plan.{Plan}

@@ -1,5 +1,5 @@
 -- The plan of a chain that never ends gives records, or is refused as a cycle.
-use Rattle.std.proofs.Common.{◌≡◌, ℕ, zero, suc, ◌+◌, ◌-◌, ◌*◌, ◌<◌, ◌≤◌, Bool, true, false, List, [], ◌∷◌, Option, Some, None, Result, Ok, Err, ◌⊎◌, inl, inr, ⊎_elim, refl, ap, sym, subst, ◌∙◌, arith}
+use Rattle.std.proofs.Common.{◌≡◌, ℕ, zero, suc, ◌+◌, ◌-◌, ◌*◌, ◌<◌, ◌≤◌, Bool, true, false, List, [], ◌∷◌, Option, Some, Result, Ok, Err, ◌⊎◌, inl, inr, ⊎_elim, refl, ap, sym, subst, ◌∙◌, arith}
 use Rattle.std.specs.Prelude.{◌==◌, if◌then◌else◌, nat_le, min}
 use Rattle.std.proofs.lemmas.Bool.{cases_Bool}
 use Rattle.std.proofs.lemmas.Bool.Decides.{nat_tests}
@@ -95,8 +95,12 @@ by_met : (b : List ℕ) (image : Image) (s : List SectionTable) (mode u : ℕ) (
 by_met b image s mode u p q r true met answer n w g e f = absurd cc
 by_met b image s mode u p q r false true answer n w g e f = inl e
 by_met b image s mode u p q r false false answer n w g e f =
-    inr (r, e, subst (λ (x : Plan). Alive (GoesTo b image s mode) u x) (sym f)
-    (still (GoesTo b image s mode) u r.chained.unwind_info_address p (nat_le p.limit (p.steps + 1)) w g))
+    inr (
+      r,
+      e,
+      subst (λ (x : Plan). Alive (GoesTo b image s mode) u x) (sym f)
+          (still (GoesTo b image s mode) u r.chained.unwind_info_address p (nat_le p.limit (p.steps + 1)) w g),
+    )
 
 by_next : (b : List ℕ) (image : Image) (s : List SectionTable) (mode u : ℕ) (p q : Plan) (next : Result UnwindRecord Refusal) (answer : Result (Option UnwindRecord) Refusal) →
     Alive (GoesTo b image s mode) u p → FollowsToRecord b image s mode p.unwind next → GoesOn next → answer ≡ gives p next → q ≡ leaves p next → Holds b image s mode u answer q

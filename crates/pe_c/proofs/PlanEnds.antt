@@ -1,5 +1,5 @@
 -- A plan that began at an address ends.
-use Rattle.std.proofs.Common.{◌≡◌, ◌≢◌, ℕ, zero, suc, ◌+◌, ◌-◌, ◌*◌, ◌^◌, ◌<◌, ◌≤◌, Bool, true, false, List, [], ◌∷◌, length, Option, Some, None, Result, Ok, Err, ◌⊎◌, inl, inr, ⊎_elim, refl, ap, sym, subst, ◌∙◌, arith}
+use Rattle.std.proofs.Common.{◌≡◌, ◌≢◌, ℕ, suc, ◌+◌, ◌-◌, ◌*◌, ◌^◌, ◌<◌, ◌≤◌, Bool, true, false, List, [], ◌∷◌, length, Some, Result, Ok, Err, ◌⊎◌, inl, inr, ⊎_elim, refl, ap, sym, subst, ◌∙◌, arith}
 use Rattle.std.specs.Prelude.{◌==◌, if◌then◌else◌, nat_le, min}
 use Rattle.std.proofs.lemmas.Bool.{cases_Bool}
 use Rattle.std.proofs.lemmas.Bool.Decides.{nat_tests}
@@ -11,7 +11,7 @@ use Rattle.pe_unwind.proofs.OneChain.{one_answer}
 use Rattle.pe_unwind.specs.ExceptionTable.{ExceptionView, exception_at}
 use Rattle.pe_unwind.specs.Links.{links_of}
 use Rattle.pe_c.specs.Modes.{options_of}
-use Rattle.pe_c.specs.Plans.{plan_from, ended, goes_on, leaves, StepsIf, StepsPlan, GoesTo, LeadsIn, GivesInTurn}
+use Rattle.pe_c.specs.Plans.{plan_from, ended, goes_on, leaves, StepsIf, GoesTo, LeadsIn, GivesInTurn}
 use Rattle.pe_c.specs.Unwinding.{FindsPlaceIn, FollowsToRecord, flat_record_at}
 use Rattle.pe_c.specs.declared.image.Image.{Image}
 use Rattle.pe_c.specs.declared.plan.Plan.{Plan}
