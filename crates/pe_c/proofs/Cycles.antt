@@ -12,14 +12,14 @@ use Rattle.pe_c.specs.declared.unwinding.UnwindRecord.{UnwindRecord}
 
 -- ---- steps, one behind the other
 
-as_many : (goes : ℕ → ℕ → Type 0) (m n u v : ℕ) → m ≡ n → LeadsIn goes m u v → LeadsIn goes n u v
+pub as_many : (goes : ℕ → ℕ → Type 0) (m n u v : ℕ) → m ≡ n → LeadsIn goes m u v → LeadsIn goes n u v
 as_many goes m n u v e p = subst (λ (k : ℕ). LeadsIn goes k u v) e p
 
-joined : (goes : ℕ → ℕ → Type 0) (m n u v w : ℕ) → LeadsIn goes m u v → LeadsIn goes n v w → LeadsIn goes (m + n) u w
+pub joined : (goes : ℕ → ℕ → Type 0) (m n u v w : ℕ) → LeadsIn goes m u v → LeadsIn goes n v w → LeadsIn goes (m + n) u w
 joined goes zero n u v w p q = as_many goes n (0 + n) u w (omega arith) (subst (λ (x : ℕ). LeadsIn goes n x w) (sym p) q)
 joined goes (suc m) n u v w p q = as_many goes (suc (m + n)) (suc m + n) u w (omega arith) (p.0, p.1, joined goes m n p.0 v w p.2 q)
 
-one_more : (goes : ℕ → ℕ → Type 0) (n u v w : ℕ) → LeadsIn goes n u v → goes v w → LeadsIn goes (suc n) u w
+pub one_more : (goes : ℕ → ℕ → Type 0) (n u v w : ℕ) → LeadsIn goes n u v → goes v w → LeadsIn goes (suc n) u w
 one_more goes zero u v w p g = (w, subst (λ (x : ℕ). goes x w) (sym p) g, refl)
 one_more goes (suc n) u v w p g = (p.0, p.1, one_more goes n p.0 v w p.2 g)
 
@@ -101,7 +101,7 @@ step_stands false b image s mode u p q r w step = absurd (let e = step.0 in cc)
 step_stands true b image s mode u p q r w step = stands_behind b image s mode u p q r true step.0 w step.1 step.3
 
 -- a plan that is over gives nothing
-over_gives : (b : List ℕ) (image : Image) (s : List SectionTable) (mode : ℕ) (p q : Plan) (answer : Result (Option UnwindRecord) Refusal) → p.is_over ≡ 1 → StepsPlan b image s mode p answer q → answer ≡ Ok None
+pub over_gives : (b : List ℕ) (image : Image) (s : List SectionTable) (mode : ℕ) (p q : Plan) (answer : Result (Option UnwindRecord) Refusal) → p.is_over ≡ 1 → StepsPlan b image s mode p answer q → answer ≡ Ok None
 over_gives b image s mode p q answer e step = (rw e at step).0
 
 -- a refusal as a cycle: the record goes on at the saved address, or its links never end

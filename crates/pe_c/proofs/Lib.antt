@@ -1,10 +1,14 @@
+pub mod Addresses
 pub mod Cycles
+pub mod EndlessPlans
 pub mod ExportParts
 pub mod LastText
 pub mod Listings
 pub mod Parts
+pub mod PlanEnds
 pub mod PlanSteps
 pub mod RecordRanges
+pub mod Rings
 pub mod Rooms
 pub mod Steps
 pub mod VersionsTold

@@ -62,7 +62,7 @@ held : (b : List ℕ) (p n : ℕ) → holds b p n ≡ true → p + n ≤ length 
 held b p n e = grind (arith, nat_tests)
 
 -- what is given is what stands there
-given : (b : List ℕ) (p : ℕ) (i : UnwindInfoView) → outcome (unwind_tests b p) (unwind_record b p) ≡ Ok i → (holds b (p + 4) (2 * count_at b p) ≡ true) × (unwind_record b p ≡ i)
+pub given : (b : List ℕ) (p : ℕ) (i : UnwindInfoView) → outcome (unwind_tests b p) (unwind_record b p) ≡ Ok i → (holds b (p + 4) (2 * count_at b p) ≡ true) × (unwind_record b p ≡ i)
 unfolding unwind_tests
 given b p i e =
     passed (holds b p 1) (version_at b p == 1 || version_at b p == 2) (holds b p 4) (holds b (p + 4) (2 * count_at b p)) (ending_holds b (behind_codes b p) (flags_at b p))

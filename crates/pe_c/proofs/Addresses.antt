@@ -1,0 +1,77 @@
+-- The address that a record goes on at is one of 32 bits.
+use Rattle.std.proofs.Common.{◌≡◌, ℕ, suc, ◌+◌, ◌<◌, Bool, true, false, List, Option, Some, None, Result, Ok, Err, refl, sym, subst, drop, arith}
+use Rattle.std.specs.Prelude.{if◌then◌else◌, IfSome}
+use Rattle.pe_core.proofs.NumberBytes.{le-zero, le-cons}
+use Rattle.pe_core.specs.Bytes.{AreBytes, le}
+use Rattle.pe_core.specs.Refusals.{Refusal, outcome, ◌>>=◌}
+use Rattle.pe_core.specs.declared.section_table.SectionTable.{SectionTable}
+use Rattle.pe_unwind.proofs.Places.{given}
+use Rattle.pe_unwind.specs.FunctionTable.{function_at}
+use Rattle.pe_unwind.specs.UnwindRecord.{Exception, Termination, UnwindInfoView, Ending, ending_at, unwind_tests, unwind_record, behind_codes, flags_at, is_chained, handles_exceptions, handles_termination}
+use Rattle.pe_unwind.specs.declared.function_table.RuntimeFunction.{RuntimeFunction}
+use Rattle.pe_c.specs.Plans.{GoesTo}
+use Rattle.pe_c.specs.Unwinding.{or_no_function, flat_record, flat_record_at}
+use Rattle.pe_c.specs.declared.image.Image.{Image}
+use Rattle.pe_c.specs.declared.unwinding.UnwindRecord.{UnwindRecord}
+use Rattle.pe_c.proofs.Rings.{EndsBelow}
+
+number_small : (b : List ℕ) (p : ℕ) → AreBytes b → le b p 4 < 4294967296
+number_small b p small =
+    omega (
+      arith,
+      le-cons b p 3,
+      le-cons b (suc p) 2,
+      le-cons b (suc (suc p)) 1,
+      le-cons b (suc (suc (suc p))) 0,
+      le-zero b (suc (suc (suc (suc p)))),
+      small p,
+      small (suc p),
+      small (suc (suc p)),
+      small (suc (suc (suc p))),
+    )
+
+abbrev IsSmall : Option RuntimeFunction → Type 0
+IsSmall o = IfSome o (λ f. f.unwind_info_address < 4294967296)
+
+abbrev ending_by : List ℕ → ℕ → Bool → Bool → Bool → Ending
+ending_by b q chained exception termination =
+    if chained then record { chained = Some (function_at b q); handler = None }
+    else (if exception then record { chained = None; handler = Some (Exception (le b q 4) (drop (q + 4) b)) }
+    else (if termination then record { chained = None; handler = Some (Termination (le b q 4) (drop (q + 4) b)) }
+    else record { chained = None; handler = None }))
+
+small_by_flags : (b : List ℕ) (q : ℕ) (chained exception termination : Bool) → AreBytes b → IsSmall (ending_by b q chained exception termination).chained
+small_by_flags b q true exception termination small = number_small b (q + 8) small
+small_by_flags b q false true termination small = tt
+small_by_flags b q false false true small = tt
+small_by_flags b q false false false small = tt
+
+small_ending : (b : List ℕ) (q flags : ℕ) → AreBytes b → IsSmall (ending_at b q flags).chained
+unfolding ending_at
+small_ending b q flags small = small_by_flags b q (is_chained flags) (handles_exceptions flags) (handles_termination flags) small
+
+small_record : (b : List ℕ) (p : ℕ) → AreBytes b → IsSmall (unwind_record b p).chained_info
+unfolding unwind_record
+small_record b p small = small_ending b (behind_codes b p) (flags_at b p) small
+
+small_or_none : (o : Option RuntimeFunction) → IsSmall o → (or_no_function o).unwind_info_address < 4294967296
+small_or_none None h = omega arith
+small_or_none (Some f) h = h
+
+same_inside : (x y : UnwindRecord) → ◌≡◌ {A = Result UnwindRecord Refusal} (Ok x) (Ok y) → x ≡ y
+same_inside x y e = cc
+
+by_record : (b : List ℕ) (p : ℕ) (r : UnwindRecord) (o : Result UnwindInfoView Refusal) → AreBytes b → outcome (unwind_tests b p) (unwind_record b p) ≡ o → Ok r ≡ (o >>= λ i. Ok (flat_record b p i)) →
+    r.chained.unwind_info_address < 4294967296
+by_record b p r (Err refusal) small e f = absurd cc
+by_record b p r (Ok i) small e f =
+    let same : r ≡ flat_record b p i = same_inside r (flat_record b p i) f in
+    let info : IsSmall i.chained_info = subst (λ (j : UnwindInfoView). IsSmall j.chained_info) (given b p i e).1 (small_record b p small) in
+    subst (λ (x : UnwindRecord). x.chained.unwind_info_address < 4294967296) (sym same) (small_or_none i.chained_info info)
+
+by_place : (b : List ℕ) (r : UnwindRecord) (place : Result ℕ Refusal) → AreBytes b → Ok r ≡ (place >>= flat_record_at b) → r.chained.unwind_info_address < 4294967296
+by_place b r (Err refusal) small f = absurd cc
+by_place b r (Ok p) small f = by_record b p r (outcome (unwind_tests b p) (unwind_record b p)) small refl f
+
+pub goes_below : (b : List ℕ) (image : Image) (s : List SectionTable) (mode : ℕ) → AreBytes b → EndsBelow 4294967296 (GoesTo b image s mode)
+goes_below b image s mode small u v g = subst (λ (x : ℕ). x < 4294967296) g.3 (by_place b g.0 g.1.0 small g.1.2)

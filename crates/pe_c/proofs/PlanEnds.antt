@@ -1,0 +1,169 @@
+-- A plan that began at an address ends.
+use Rattle.std.proofs.Common.{◌≡◌, ◌≢◌, ℕ, suc, ◌+◌, ◌-◌, ◌*◌, ◌^◌, ◌<◌, ◌≤◌, Bool, true, false, List, [], ◌∷◌, length, Some, Result, Ok, Err, ◌⊎◌, inl, inr, ⊎_elim, refl, ap, sym, subst, ◌∙◌, arith}
+use Rattle.std.specs.Prelude.{◌==◌, if◌then◌else◌, nat_le, min}
+use Rattle.std.proofs.lemmas.Bool.{cases_Bool}
+use Rattle.std.proofs.lemmas.Bool.Decides.{nat_tests}
+use Rattle.pe_core.specs.Bytes.{AreBytes}
+use Rattle.pe_core.specs.Refusals.{Refusal, ◌>>=◌}
+use Rattle.pe_core.specs.SectionMap.{mapped}
+use Rattle.pe_core.specs.declared.section_table.SectionTable.{SectionTable}
+use Rattle.pe_unwind.proofs.OneChain.{one_answer}
+use Rattle.pe_unwind.specs.ExceptionTable.{ExceptionView, exception_at}
+use Rattle.pe_unwind.specs.Links.{links_of}
+use Rattle.pe_c.specs.Modes.{options_of}
+use Rattle.pe_c.specs.Plans.{plan_from, ended, goes_on, leaves, StepsIf, GoesTo, LeadsIn, GivesInTurn}
+use Rattle.pe_c.specs.Unwinding.{FindsPlaceIn, FollowsToRecord, flat_record_at}
+use Rattle.pe_c.specs.declared.image.Image.{Image}
+use Rattle.pe_c.specs.declared.plan.Plan.{Plan}
+use Rattle.pe_c.specs.declared.unwinding.UnwindRecord.{UnwindRecord}
+use Rattle.pe_c.proofs.Addresses.{goes_below}
+use Rattle.pe_c.proofs.Cycles.{as_many, joined, one_more, over_gives}
+use Rattle.pe_c.proofs.Rings.{HasOneEnd, EndsBelow, same_end, split, Ring, ring_within, comes_again}
+
+-- ---- an address has one record
+
+one_place : (t : Result ExceptionView Refusal) (s : List SectionTable) (mode u : ℕ) (x y : Result ℕ Refusal) → FindsPlaceIn t s mode u x → FindsPlaceIn t s mode u y → x ≡ y
+one_place (Err refusal) s mode u x y f g = f ∙ sym g
+one_place (Ok v) s mode u x y f g =
+    let t = links_of v s (options_of mode) in
+    let same : f.0 ≡ g.0 = one_answer t u f.0 g.0 f.1 g.1 in
+    f.2 ∙ ap (λ (end : Result ℕ Refusal). end >>= λ a. mapped (t.place a)) same ∙ sym g.2
+
+pub one_record : (b : List ℕ) (image : Image) (s : List SectionTable) (mode u : ℕ) (x y : Result UnwindRecord Refusal) → FollowsToRecord b image s mode u x → FollowsToRecord b image s mode u y → x ≡ y
+one_record b image s mode u x y f g =
+    let same : f.0 ≡ g.0 = one_place (exception_at 12 b image.exceptions s image.file_alignment (options_of mode)) s mode u f.0 g.0 f.1 g.1 in
+    f.2 ∙ ap (λ (place : Result ℕ Refusal). place >>= flat_record_at b) same ∙ sym g.2
+
+same_inside : (x y : UnwindRecord) → ◌≡◌ {A = Result UnwindRecord Refusal} (Ok x) (Ok y) → x ≡ y
+same_inside x y e = cc
+
+pub goes_once : (b : List ℕ) (image : Image) (s : List SectionTable) (mode : ℕ) → HasOneEnd (GoesTo b image s mode)
+goes_once b image s mode u v w p q =
+    let same : p.0 ≡ q.0 = same_inside p.0 q.0 (one_record b image s mode u (Ok p.0) (Ok q.0) p.1 q.1) in
+    sym p.3 ∙ ap (λ (r : UnwindRecord). r.chained.unwind_info_address) same ∙ q.3
+
+-- ---- where a plan stands behind k records
+
+record At (goes : ℕ → ℕ → Type 0) (u : ℕ) (p : Plan) (k : ℕ) : Type 0 where
+  before : ℕ
+  to_saved : LeadsIn goes before u p.saved
+  to_next : LeadsIn goes p.steps p.saved p.unwind
+  count : k ≡ before + p.steps
+  limit : p.limit ≡ before + 1
+  less : p.steps < p.limit
+  early : before < 8589934592
+  apart : (j : ℕ) → 1 ≤ j → j ≤ p.steps → LeadsIn goes j p.saved p.saved → ⊥
+
+-- so many steps without the saved address are none
+late : (goes : ℕ → ℕ → Type 0) → HasOneEnd goes → EndsBelow 4294967296 goes → (u : ℕ) (p : Plan) (k : ℕ) → u < 4294967296 → At goes u p k → 4294967296 ≤ p.steps → ⊥
+late goes one small u p k h a many =
+    let rest : ℕ = a.before - 4294967296 in
+    let way = split goes 4294967296 rest u p.saved (as_many goes a.before (4294967296 + rest) u p.saved (omega (arith, many, a.less, a.limit)) a.to_saved) in
+    let ring : Ring goes u 4294967296 = ring_within goes 4294967296 small u way.0 h way.1 in
+    a.apart (suc ring.around) (omega arith) (omega (arith, ring.within, many))
+    (comes_again goes one 4294967296 u a.before p.saved ring (omega (arith, many, a.less, a.limit)) a.to_saved)
+
+few : (goes : ℕ → ℕ → Type 0) → HasOneEnd goes → EndsBelow 4294967296 goes → (u : ℕ) (p : Plan) (k : ℕ) → u < 4294967296 → At goes u p k → p.steps < 4294967296
+few goes one small u p k h a =
+    ⊎_elim (λ (e : nat_le 4294967296 p.steps ≡ true). absurd (late goes one small u p k h a (grind (arith, nat_tests))))
+    (λ (e : nat_le 4294967296 p.steps ≡ false). grind (arith, nat_tests))
+    (cases_Bool (nat_le 4294967296 p.steps))
+
+not_again : (goes : ℕ → ℕ → Type 0) → HasOneEnd goes → (u a k : ℕ) (p : Plan) → (w : At goes u p k) → LeadsIn goes (suc p.steps) p.saved a → a ≢ p.saved → (j : ℕ) → 1 ≤ j → j ≤ p.steps + 1 → LeadsIn goes j p.saved p.saved → ⊥
+not_again goes one u a k p w way other j some most back =
+    ⊎_elim (λ (e : nat_le j p.steps ≡ true). w.apart j some (grind (arith, nat_tests)) back)
+    (λ (e : nat_le j p.steps ≡ false).
+    let last : j ≡ suc p.steps = (let lt : p.steps < j = grind (arith, nat_tests) in omega (arith, lt, most)) in
+    other (same_end goes one (suc p.steps) p.saved a p.saved way (as_many goes j (suc p.steps) p.saved p.saved last back)))
+    (cases_Bool (nat_le j p.steps))
+
+moved : (goes : ℕ → ℕ → Type 0) → HasOneEnd goes → (u a k : ℕ) (p : Plan) (saves : Bool) → nat_le p.limit (p.steps + 1) ≡ saves → At goes u p k → p.steps < 4294967296 → goes p.unwind a → a ≢ p.saved →
+    At goes u (if saves then record p { unwind = a; saved = a; steps = 0; limit = min (2 * p.limit) 18446744073709551615 } else record p { unwind = a; steps = p.steps + 1 }) (suc k)
+moved goes one u a k p true e w small g other =
+    let full : p.limit ≤ p.steps + 1 = grind (arith, nat_tests) in
+    let double : min (2 * p.limit) 18446744073709551615 ≡ suc (w.before + p.steps) + 1 = omega (arith, full, w.less, w.limit, w.early) in
+    record {
+      before = suc (w.before + p.steps);
+      to_saved = one_more goes (w.before + p.steps) u p.unwind a (joined goes w.before p.steps u p.saved p.unwind w.to_saved w.to_next) g;
+      to_next = refl;
+      count = omega (arith, w.count);
+      limit = double;
+      less = omega (arith, double);
+      early = omega (arith, full, w.less, w.limit, small);
+      apart = λ j some most back. absurd (omega (arith, some, most));
+    }
+moved goes one u a k p false e w small g other =
+    let room : p.steps + 1 < p.limit = grind (arith, nat_tests) in
+    let way : LeadsIn goes (suc p.steps) p.saved a = one_more goes p.steps p.saved p.unwind a w.to_next g in
+    record {
+      before = w.before;
+      to_saved = w.to_saved;
+      to_next = as_many goes (suc p.steps) (p.steps + 1) p.saved a (omega arith) way;
+      count = omega (arith, w.count);
+      limit = w.limit;
+      less = room;
+      early = w.early;
+      apart = λ j some most back. not_again goes one u a k p w way other j some most back;
+    }
+
+-- ---- runs
+
+left : (goes : ℕ → ℕ → Type 0) → HasOneEnd goes → EndsBelow 4294967296 goes → (u k : ℕ) (p : Plan) (r : UnwindRecord) (root met : Bool) → u < 4294967296 → At goes u p k →
+    (root ≡ false → goes p.unwind r.chained.unwind_info_address) → (met ≡ false → r.chained.unwind_info_address ≢ p.saved) → (q : Plan) →
+    q ≡ (if root then ended p else (if met then ended p else goes_on p r.chained.unwind_info_address)) → (q.is_over ≡ 1) ⊎ At goes u q (suc k)
+left goes one small u k p r true met h w g other q e = inl (ap (λ (x : Plan). x.is_over) e)
+left goes one small u k p r false true h w g other q e = inl (ap (λ (x : Plan). x.is_over) e)
+left goes one small u k p r false false h w g other q e =
+    inr (subst (λ (x : Plan). At goes u x (suc k)) (sym e)
+    (moved goes one u r.chained.unwind_info_address k p (nat_le p.limit (p.steps + 1)) refl w (few goes one small u p k h w) (g refl) (other refl)))
+
+apart_of : (a b : ℕ) → (a == b) ≡ false → a ≢ b
+apart_of a b e same = absurd (grind (arith, nat_tests))
+
+behind : (b : List ℕ) (image : Image) (s : List SectionTable) (mode u k : ℕ) (p q : Plan) (next : Result UnwindRecord Refusal) → EndsBelow 4294967296 (GoesTo b image s mode) → u < 4294967296 → At (GoesTo b image s mode) u p k →
+    FollowsToRecord b image s mode p.unwind next → q ≡ leaves p next → (q.is_over ≡ 1) ⊎ At (GoesTo b image s mode) u q (suc k)
+behind b image s mode u k p q (Err refusal) small h w f e = inl (ap (λ (x : Plan). x.is_over) e)
+behind b image s mode u k p q (Ok given) small h w f e =
+    left (GoesTo b image s mode) (goes_once b image s mode) small u k p given (given.is_chained == 0) (given.chained.unwind_info_address == p.saved) h w
+    (λ root. (given, f, root, refl)) (λ met. apart_of given.chained.unwind_info_address p.saved met) q e
+
+step_at : (test : Bool) (b : List ℕ) (image : Image) (s : List SectionTable) (mode u k : ℕ) (p q : Plan) (r : UnwindRecord) → EndsBelow 4294967296 (GoesTo b image s mode) → u < 4294967296 → At (GoesTo b image s mode) u p k →
+    StepsIf test b image s mode p (Ok (Some r)) q → (q.is_over ≡ 1) ⊎ At (GoesTo b image s mode) u q (suc k)
+step_at false b image s mode u k p q r small h w step = absurd (let e = step.0 in cc)
+step_at true b image s mode u k p q r small h w step = behind b image s mode u k p q step.0 small h w step.1 step.3
+
+none_behind : (b : List ℕ) (image : Image) (s : List SectionTable) (mode : ℕ) (p q : Plan) (rs : List UnwindRecord) → p.is_over ≡ 1 → GivesInTurn b image s mode p rs q → length rs ≡ 0
+none_behind b image s mode p q [] over g = refl
+none_behind b image s mode p q (r ∷ rs) over g = absurd (let e = over_gives b image s mode p g.0 (Ok (Some r)) over g.1 in cc)
+
+run : (b : List ℕ) (image : Image) (s : List SectionTable) (mode u k : ℕ) (p q : Plan) (rs : List UnwindRecord) → EndsBelow 4294967296 (GoesTo b image s mode) → u < 4294967296 → At (GoesTo b image s mode) u p k →
+    GivesInTurn b image s mode p rs q → k + length rs ≤ 12884901888
+run b image s mode u k p q [] small h w g =
+    omega (arith, w.count, w.early, few (GoesTo b image s mode) (goes_once b image s mode) small u p k h w)
+run b image s mode u k p q (r ∷ rs) small h w g =
+    ⊎_elim (λ (over : (g.0).is_over ≡ 1).
+    omega (arith, none_behind b image s mode g.0 q rs over g.2, w.count, w.early, few (GoesTo b image s mode) (goes_once b image s mode) small u p k h w))
+    (λ (next : At (GoesTo b image s mode) u g.0 (suc k)).
+    let more : suc k + length rs ≤ 12884901888 = run b image s mode u (suc k) g.0 q rs small h next g.2 in
+    omega (arith, more))
+    (step_at (p.is_over == 0) b image s mode u k p g.0 r small h w g.1)
+
+pub plans_end_below : (b : List ℕ) (image : Image) (s : List SectionTable) (mode u : ℕ) (rs : List UnwindRecord) (q : Plan) → EndsBelow 4294967296 (GoesTo b image s mode) → u < 4294967296 →
+    GivesInTurn b image s mode (plan_from u) rs q → length rs ≤ 12884901888
+plans_end_below b image s mode u rs q small h g =
+    let start : At (GoesTo b image s mode) u (plan_from u) 0 = record {
+      before = 0;
+      to_saved = refl;
+      to_next = refl;
+      count = refl;
+      limit = refl;
+      less = omega arith;
+      early = omega arith;
+      apart = λ j some most back. absurd (omega (arith, some, most));
+    } in
+    let bound : 0 + length rs ≤ 12884901888 = run b image s mode u 0 (plan_from u) q rs small h start g in
+    omega (arith, bound)
+
+pub plans_end : (b : List ℕ) (image : Image) (s : List SectionTable) (mode u : ℕ) (rs : List UnwindRecord) (q : Plan) → AreBytes b → u < 2 ^ 32 →
+    GivesInTurn b image s mode (plan_from u) rs q → length rs ≤ 3 * 2 ^ 32
+plans_end b image s mode u rs q small h g = plans_end_below b image s mode u rs q (goes_below b image s mode small) h g
