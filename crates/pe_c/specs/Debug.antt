@@ -17,8 +17,8 @@ use Rattle.pe_c.specs.Modes.{options_of}
 use Rattle.pe_c.specs.Ranges.{no_bytes}
 
 -- where the entries of the debug directory stand, if an image has one; or what refuses their table
-unfoldable pub table_at : List ℕ → Image → List SectionTable → ℕ → Result (Option Range) Refusal
-table_at b image sections mode =
+unfoldable pub entries_at : List ℕ → Image → List SectionTable → ℕ → Result (Option Range) Refusal
+entries_at b image sections mode =
     if is_absent image.debug then Ok None
     else directory_range (options_of mode) b image.debug sections image.file_alignment >>= λ r. Ok (Some (record { place = r.0; length = r.1 }))
 

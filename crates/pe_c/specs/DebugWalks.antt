@@ -10,21 +10,21 @@ use Rattle.pe_c.specs.Answers.{AnswersIf}
 use Rattle.pe_c.specs.Ranges.{IsRange, behind, bytes_at, no_bytes}
 
 -- where a walk stands behind a step that took n bytes: it stays at its end, and is over behind a refusal
-abbrev pub walk_behind : Range → ℕ → Option (Result POGOInfoEntry Error) → Range
-walk_behind w n None = w
-walk_behind w n (Some (Ok e)) = behind w n
-walk_behind w n (Some (Err e)) = no_bytes
+abbrev pub pogo_behind : Range → ℕ → Option (Result POGOInfoEntry Error) → Range
+pogo_behind w n None = w
+pogo_behind w n (Some (Ok e)) = behind w n
+pogo_behind w n (Some (Err e)) = no_bytes
 
 -- a step over these bytes gives the entry that they begin with, and leaves what stands behind it
-abbrev pub StepsOver : Result (List ℕ) Refusal → Range → Option (Result POGOInfoEntry Error) → Range → Type 0
-StepsOver (Ok left) w answer new = (rest : List ℕ) × GivesPogoEntry left answer rest × (new ≡ walk_behind w (length left - length rest) answer)
-StepsOver (Err refusal) w None new = ⊥
-StepsOver (Err refusal) w (Some (Ok e)) new = ⊥
-StepsOver (Err refusal) w (Some (Err e)) new = (kind_of e ≡ refusal) × (new ≡ no_bytes)
+abbrev pub StepsOverPogo : Result (List ℕ) Refusal → Range → Option (Result POGOInfoEntry Error) → Range → Type 0
+StepsOverPogo (Ok left) w answer new = (rest : List ℕ) × GivesPogoEntry left answer rest × (new ≡ pogo_behind w (length left - length rest) answer)
+StepsOverPogo (Err refusal) w None new = ⊥
+StepsOverPogo (Err refusal) w (Some (Ok e)) new = ⊥
+StepsOverPogo (Err refusal) w (Some (Err e)) new = (kind_of e ≡ refusal) × (new ≡ no_bytes)
 
 -- a step over the bytes that a walk has left, or `Short` where the bytes have no such range
-abbrev pub Steps : List ℕ → Range → Option (Result POGOInfoEntry Error) → Range → Type 0
-Steps b w answer new = StepsOver (bytes_at b w) w answer new
+abbrev pub StepsPogo : List ℕ → Range → Option (Result POGOInfoEntry Error) → Range → Type 0
+StepsPogo b w answer new = StepsOverPogo (bytes_at b w) w answer new
 
 -- an entry at the beginning of a walk: its name stands behind two numbers
 abbrev pub pogo_entry : Range → POGOInfoEntry → PogoEntry
@@ -45,4 +45,4 @@ told w (Some (Err e)) = Err (kind_of e)
 -- what a call answers for a step
 abbrev pub AnswersPogoEntry : List ℕ → Range → Range → ℕ → PogoEntry → PogoEntry → Type 0
 AnswersPogoEntry b w walk number old new =
-    (answer : Option (Result POGOInfoEntry Error)) × Steps b w answer walk × IsNamed b w answer × AnswersIf number old new (told w answer)
+    (answer : Option (Result POGOInfoEntry Error)) × StepsPogo b w answer walk × IsNamed b w answer × AnswersIf number old new (told w answer)

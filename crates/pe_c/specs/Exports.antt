@@ -27,15 +27,15 @@ abbrev pub range_from : ℕ → Option ℕ → Range
 range_from n None = no_bytes
 range_from n (Some p) = record { place = p; length = n }
 
-abbrev pub table_range : (ℕ → Option ℕ) → ℕ → ℕ → Range
-table_range place rva n = if n == 0 then no_bytes else range_from n (place rva)
+abbrev pub export_table : (ℕ → Option ℕ) → ℕ → ℕ → Range
+export_table place rva n = if n == 0 then no_bytes else range_from n (place rva)
 
 -- a walk over the exports of a directory, at its beginning
 abbrev pub walk_over : (ℕ → Option ℕ) → ExportDataView → Exports
 walk_over place d = record {
-  names = table_range place d.directory.name_pointer_rva (4 * d.directory.number_of_name_pointers);
-  ordinals = table_range place d.directory.ordinal_table_rva (2 * d.directory.number_of_name_pointers);
-  addresses = table_range place d.directory.address_table_rva (4 * d.directory.address_table_entries);
+  names = export_table place d.directory.name_pointer_rva (4 * d.directory.number_of_name_pointers);
+  ordinals = export_table place d.directory.ordinal_table_rva (2 * d.directory.number_of_name_pointers);
+  addresses = export_table place d.directory.address_table_rva (4 * d.directory.address_table_entries);
   next = 0;
 }
 
@@ -111,23 +111,23 @@ abbrev pub count_of : Exports → ℕ
 count_of w = w.names.length / 4
 
 -- the walk behind what was found: at its end where nothing was
-abbrev pub walk_behind : Exports → Option (Export × ℕ) → Exports
-walk_behind w None = record w { next = count_of w }
-walk_behind w (Some x) = record w { next = x.1 }
+abbrev pub exports_behind : Exports → Option (Export × ℕ) → Exports
+exports_behind w None = record w { next = count_of w }
+exports_behind w (Some x) = record w { next = x.1 }
 
 -- a step over the entries that are left of these tables
-abbrev pub StepsOver : (ℕ → Option ℕ) → List ℕ → Result ExportDataView Refusal → Exports → Result (Option Export) Refusal → Exports → Type 0
-StepsOver place b (Ok d) w answer new =
-    (found : Option (Export × ℕ)) × FindsNext (told_entry place b d) w.next (count_of w) found × (answer ≡ Ok (option_map (λ x. x.0) found)) × (new ≡ walk_behind w found)
-StepsOver place b (Err refusal) w answer new = (answer ≡ Err refusal) × (new ≡ record w { names = no_bytes })
+abbrev pub StepsOverExports : (ℕ → Option ℕ) → List ℕ → Result ExportDataView Refusal → Exports → Result (Option Export) Refusal → Exports → Type 0
+StepsOverExports place b (Ok d) w answer new =
+    (found : Option (Export × ℕ)) × FindsNext (told_entry place b d) w.next (count_of w) found × (answer ≡ Ok (option_map (λ x. x.0) found)) × (new ≡ exports_behind w found)
+StepsOverExports place b (Err refusal) w answer new = (answer ≡ Err refusal) × (new ≡ record w { names = no_bytes })
 
-abbrev pub StepsIf : Bool → (ℕ → Option ℕ) → List ℕ → Exports → Result (Option Export) Refusal → Exports → Type 0
-StepsIf true place b w answer new = (answer ≡ Ok None) × (new ≡ w)
-StepsIf false place b w answer new = StepsOver place b (tables_or_short b w) w answer new
+abbrev pub StepsExportsIf : Bool → (ℕ → Option ℕ) → List ℕ → Exports → Result (Option Export) Refusal → Exports → Type 0
+StepsExportsIf true place b w answer new = (answer ≡ Ok None) × (new ≡ w)
+StepsExportsIf false place b w answer new = StepsOverExports place b (tables_or_short b w) w answer new
 
 -- a step: nothing where all entries are behind the walk; `Short`, and then it is over, where the bytes have no such tables
-abbrev pub Steps : (ℕ → Option ℕ) → List ℕ → Exports → Result (Option Export) Refusal → Exports → Type 0
-Steps place b w answer new = StepsIf (nat_le (count_of w) w.next) place b w answer new
+abbrev pub StepsExports : (ℕ → Option ℕ) → List ℕ → Exports → Result (Option Export) Refusal → Exports → Type 0
+StepsExports place b w answer new = StepsExportsIf (nat_le (count_of w) w.next) place b w answer new
 
 abbrev pub AnswersExport : (ℕ → Option ℕ) → List ℕ → Exports → Exports → ℕ → Export → Export → Type 0
-AnswersExport place b w walk number old new = (answer : Result (Option Export) Refusal) × Steps place b w answer walk × AnswersIf number old new answer
+AnswersExport place b w walk number old new = (answer : Result (Option Export) Refusal) × StepsExports place b w answer walk × AnswersIf number old new answer

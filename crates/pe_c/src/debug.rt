@@ -5,7 +5,7 @@ ghost use Rattle.std.specs.Option.{option_map};
 ghost use Rattle.pe_core.specs.Refusals.{answer_by};
 ghost use Rattle.pe_records.specs.DebugRecords.{debug_view};
 ghost use Rattle.pe_c.specs.Answers.{AnswersIf};
-ghost use Rattle.pe_c.specs.Debug.{table_at, debug_of, told_of, part_behind, key_of, pdb20_of, characteristics_of, repro_of, pogo_of};
+ghost use Rattle.pe_c.specs.Debug.{entries_at, debug_of, told_of, part_behind, key_of, pdb20_of, characteristics_of, repro_of, pogo_of};
 
 use crate::answers::{DONE, NOTHING, hand_out_some, number_of, options};
 use crate::image::{Image, is_absent};
@@ -69,14 +69,14 @@ const REPRO_HEADER: u32 = 4;
 
 const POGO_HEADER: u32 = 4;
 
-#[tactic(auto, unfolding(crate::specs::Debug::table_at))]
+#[tactic(auto, unfolding(crate::specs::Debug::entries_at))]
 fn table_of(
     bytes: &[u8],
     image: &Image,
     sections: &[SectionTable],
     mode: u32,
 ) -> Result<Option<Range>>
-    ensures { answer_by (λ x. x) result ≡ table_at bytes.now image.now sections.now mode }
+    ensures { answer_by (λ x. x) result ≡ entries_at bytes.now image.now sections.now mode }
 {
     let directory = image.debug;
     if is_absent(directory) {
@@ -102,7 +102,7 @@ pub extern "C" fn pe_c_debug_entries(
     mode: u32,
     out: &mut Range,
 ) -> u32
-    ensures { AnswersIf result out.old out.new (table_at bytes.now image.now sections.now mode) }
+    ensures { AnswersIf result out.old out.new (entries_at bytes.now image.now sections.now mode) }
 {
     hand_out_some(table_of(bytes, image, sections, mode), out)
 }

@@ -4,7 +4,7 @@ ghost use Rattle.std.specs.Prelude.{◌≡◌, ◌+◌, ◌≤◌, ◌^◌, leng
 ghost use Rattle.pe_core.specs.Refusals.{answer_by};
 ghost use Rattle.pe_records.specs.DebugDirectory.{entry_at};
 ghost use Rattle.pe_c.specs.Answers.{AnswersIf};
-ghost use Rattle.pe_c.specs.DebugWalks.{AnswersPogoEntry, IsNamed, Steps, StepsOver, pogo_entry};
+ghost use Rattle.pe_c.specs.DebugWalks.{AnswersPogoEntry, IsNamed, StepsPogo, StepsOverPogo, pogo_entry};
 ghost use Rattle.pe_c.specs.Walks.{next_of, walk_of};
 
 use crate::answers::{DONE, NOTHING, hand_out_some, number_of};
@@ -44,10 +44,9 @@ fn next_debug_entry(bytes: &[u8], walk: &mut Range) -> Result<Option<ImageDebugD
     ensures entry { answer_by (λ x. x) result ≡ next_of (entry_at 0) 28 bytes.now walk.old }
     ensures walk { walk.new ≡ walk_of 28 bytes.now walk.old }
 {
-    match next_entry(bytes, walk, IMAGE_DEBUG_DIRECTORY_SIZE) {
-        Ok(Some(left)) => Ok(Some(first_entry(left))),
-        Ok(None) => Ok(None),
-        Err(error) => Err(error),
+    match next_entry(bytes, walk, IMAGE_DEBUG_DIRECTORY_SIZE)? {
+        Some(left) => Ok(Some(first_entry(left))),
+        None => Ok(None),
     }
 }
 
@@ -70,7 +69,7 @@ pub extern "C" fn pe_c_next_debug_entry(
 fn step<'a>(left: &'a [u8], walk: &mut Range) -> Option<Result<POGOInfoEntry<'a>>>
     requires inside { walk.old.place + walk.old.length ≤ 2 ^ 63 }
     requires length { walk.old.length ≡ length left.now }
-    ensures { StepsOver (Ok left.entry.now) walk.old result walk.new }
+    ensures { StepsOverPogo (Ok left.entry.now) walk.old result walk.new }
 {
     let entry = POGOEntryIterator::new(left).next();
     match &entry {
@@ -89,7 +88,7 @@ fn step<'a>(left: &'a [u8], walk: &mut Range) -> Option<Result<POGOInfoEntry<'a>
 
 #[tactic(auto, using(crate::proofs::Steps::named))]
 fn next_pogo_entry<'a>(bytes: &'a [u8], walk: &mut Range) -> Option<Result<POGOInfoEntry<'a>>>
-    ensures step { Steps bytes.entry.now walk.old result walk.new }
+    ensures step { StepsPogo bytes.entry.now walk.old result walk.new }
     ensures name { IsNamed bytes.entry.now walk.old result }
 {
     match slice_of(bytes, walk) {

@@ -4,7 +4,7 @@ ghost use Rattle.std.specs.Prelude.{◌≡◌, ◌+◌, ◌*◌, ◌/◌, ◌≤
 ghost use Rattle.pe_core.specs.Exports.{export_data_view};
 ghost use Rattle.pe_core.specs.Refusals.{Gives, answer_by};
 ghost use Rattle.pe_c.specs.Answers.{AnswersIf};
-ghost use Rattle.pe_c.specs.Exports.{AnswersExport, FindsNext, Steps, place_in, table_range, tables_at, tables_or_short, told_entry, view_of, walk_over};
+ghost use Rattle.pe_c.specs.Exports.{AnswersExport, FindsNext, StepsExports, place_in, export_table, tables_at, tables_or_short, told_entry, view_of, walk_over};
 
 use crate::answers::{hand_out_some, options};
 use crate::image::{Image, is_absent};
@@ -52,8 +52,8 @@ fn place_of(rva: u32, image: &Image, sections: &[SectionTable]) -> Option<usize>
 }
 
 /// The range of a table of so many bytes at an address.
-fn table_range(rva: u32, size: u64, image: &Image, sections: &[SectionTable]) -> Range
-    ensures { result ≡ table_range (place_in image.now sections.now) rva size }
+fn export_table(rva: u32, size: u64, image: &Image, sections: &[SectionTable]) -> Range
+    ensures { result ≡ export_table (place_in image.now sections.now) rva size }
 {
     if size == 0 {
         return NO_BYTES;
@@ -74,9 +74,9 @@ fn walk_over(export_data: &ExportData, image: &Image, sections: &[SectionTable])
     let names = u64::from(directory.number_of_name_pointers);
     let addresses = u64::from(directory.address_table_entries);
     Exports {
-        names: table_range(directory.name_pointer_rva, 4 * names, image, sections),
-        ordinals: table_range(directory.ordinal_table_rva, 2 * names, image, sections),
-        addresses: table_range(directory.address_table_rva, 4 * addresses, image, sections),
+        names: export_table(directory.name_pointer_rva, 4 * names, image, sections),
+        ordinals: export_table(directory.ordinal_table_rva, 2 * names, image, sections),
+        addresses: export_table(directory.address_table_rva, 4 * addresses, image, sections),
         next: 0,
     }
 }
@@ -186,7 +186,7 @@ fn step(
     sections: &[SectionTable],
     walk: &mut Exports,
 ) -> Result<Option<Export>>
-    ensures { Steps (place_in image.now sections.now) bytes.now walk.old (answer_by (λ x. x) result) walk.new }
+    ensures { StepsExports (place_in image.now sections.now) bytes.now walk.old (answer_by (λ x. x) result) walk.new }
 {
     let count = walk.names.length / 4;
     if count <= walk.next {
