@@ -22,8 +22,7 @@
 //! # Ok::<(), pe_c::Error>(())
 //! ```
 //!
-//! The library is `libpe_c.a`, for Linux on x86-64 (with SSE4.2 and POPCNT) and AArch64. `build.rs` says where it is looked
-//! for.
+//! The library is `libpe_c.a`, for Linux on x86-64 with SSE4.2 and POPCNT. `build.rs` says where it is looked for.
 #![no_std]
 #![warn(missing_docs, unsafe_op_in_unsafe_fn)]
 
