@@ -9,7 +9,8 @@ use core::fmt;
 pub enum Mode {
     /// It is refused.
     Strict,
-    /// Headers may overlap the DOS header, and a debug directory may pass the end of the bytes.
+    /// Headers may overlap the DOS header; a debug directory may pass the end of the bytes, and is cut there; a debug
+    /// record that is too small, and resource data that are too short for a directory, count as absent.
     Permissive,
 }
 
