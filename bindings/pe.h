@@ -2,28 +2,30 @@
  *
  * What a caller owes, for each call:
  *   - `bytes` points to `length` readable bytes, which nothing writes during the call. With length 0 it may be NULL;
- *   - the other pointers are not NULL (an array of 0 entries may be), are aligned for their type, and what they point to
- *     is initialised (`= PE_C_EMPTY`), also where a call only writes it;
+ *   - the other pointers are not NULL (an array of 0 entries may be), are aligned for their type, and what they point
+ *     to is initialised (`= PE_C_EMPTY`), also where a call only writes it;
  *   - what a call writes (`out`, a walk, `room`) overlaps nothing else that it is handed.
- * Nothing is owed about what the bytes or the fields of records say: every value is legal, and is tested where it matters.
+ * Nothing is owed about what the bytes or the fields of records say: every value is legal, and tested where it matters.
  *
  * No call allocates, keeps anything, prints, calls back, or needs a start-up call. Any thread may call at any time.
  *
- * A call answers PE_C_DONE and fills `out`, or a number that says why not, and then leaves `out` as it was. A place is a
- * number of bytes from `bytes` on; a range that a call gives lies in the bytes. An address is a relative virtual one,
- * which counts from the image's first byte in memory.
+ * A call answers PE_C_DONE and fills `out`, or a number that says why not, and then leaves `out` as it was. A place is
+ * a number of bytes from `bytes` on; a range that a call gives lies in the bytes. An address is a relative virtual
+ * one, which counts from the image's first byte in memory.
  *
  * A walk is a record that steps: each call gives the next item and moves the walk. PE_C_NOTHING is its end; behind an
  * item that is refused it is over. A walk that is over answers PE_C_NOTHING and stays where it is.
  *
- * `mode` is PE_C_STRICT or PE_C_PERMISSIVE; any value but 0 is permissive. Permissive headers may overlap the DOS header,
- * and a permissive debug directory may pass the end of the bytes, and is cut there. All else is alike.
+ * `mode` is PE_C_STRICT or PE_C_PERMISSIVE; any value but 0 is permissive. Permissive headers may overlap the DOS
+ * header; a permissive debug directory may pass the end of the bytes, and is cut there; a debug record that is too
+ * small for what it is, and resource data that are too short for a directory, count as absent.
  *
  * The calls of an image take what two calls gave, pe_c_image and pe_c_sections, and the mode:
  *
  *     bytes, length, image, sections, count, mode
  *
- * Where a call takes a range, a walk or an address besides, it answers PE_C_SHORT for a range that is not in the bytes. */
+ * Where a call takes a range, a walk or an address besides, it answers PE_C_SHORT for a range that is not in the
+ * bytes. */
 #ifndef PE_C_H
 #define PE_C_H
 
@@ -136,20 +138,20 @@ PE_C_SIZE(pe_c_section, 40);
 /* Reads the headers of an image. PE_C_SHORT, PE_C_BAD_MAGIC; in strict mode PE_C_HEADER_POINTER. */
 uint32_t pe_c_image(const uint8_t *bytes, size_t length, uint32_t mode, pe_c_image_info *out);
 
-/* Puts the section headers at the beginning of the array, image->number_of_sections of them, and leaves the rest of it as
- * it was. PE_C_ROOM where the array has fewer entries; PE_C_SHORT where the section headers are not all there. */
+/* Puts the section headers at the beginning of the array, image->number_of_sections of them, and leaves the rest of it
+ * as it was. PE_C_ROOM where the array has fewer entries; PE_C_SHORT where the section headers are not all there. */
 uint32_t pe_c_sections(const uint8_t *bytes, size_t length, const pe_c_image_info *image, pe_c_section *room,
                        size_t entries);
 
-/* Gives the place of an address in the file, by the first section that covers it. PE_C_NOTHING where none does, or where the
- * file alignment is no power of two. The place may be behind the end of the bytes. */
+/* Gives the place of an address in the file, by the first section that covers it. PE_C_NOTHING where none does, or
+ * where the file alignment is no power of two. The place may be behind the end of the bytes. */
 uint32_t pe_c_place(const pe_c_section *sections, size_t count, uint32_t file_alignment, uint32_t rva, uint64_t *out);
 
 /* ---- debug data
  *
- * Each call that gives a record reads all debug data, the directory and the six records, and answers the first refusal:
- * PE_C_UNMAPPED, PE_C_DEBUG_BOUNDS, then those of the records, PE_C_DEBUG_SIZE, PE_C_SHORT, PE_C_DEBUG_DATA,
- * PE_C_POGO_SIZE. A record is that of the first entry of its kind. PE_C_NOTHING where there is none, or no directory. */
+ * Each call that gives a record reads all debug data, the directory and the six records, and answers the first
+ * refusal: PE_C_UNMAPPED, PE_C_DEBUG_BOUNDS, then those of the records, PE_C_DEBUG_SIZE, PE_C_SHORT, PE_C_DEBUG_DATA,
+ * PE_C_POGO_SIZE. A record is that of the first entry of its kind. PE_C_NOTHING without one or a directory. */
 
 typedef struct {
     uint32_t characteristics, time_date_stamp;
@@ -245,9 +247,9 @@ typedef struct {
 PE_C_SIZE(pe_c_certificate, 24);
 
 /* Gives the next attribute certificate. The walk begins as the range of image.certificates, whose virtual_address is a
- * place: { image.certificates.virtual_address, image.certificates.size }. PE_C_CERTIFICATE_TABLE where that is not in the
- * bytes; PE_C_SHORT, PE_C_CERTIFICATE_SIZE, PE_C_CERTIFICATE_REVISION, PE_C_CERTIFICATE_TYPE of a certificate. The body of
- * the last certificate may pass the range, not the bytes. */
+ * place: { image.certificates.virtual_address, image.certificates.size }. PE_C_CERTIFICATE_TABLE where that is not in
+ * the bytes; PE_C_SHORT, PE_C_CERTIFICATE_SIZE, PE_C_CERTIFICATE_REVISION, PE_C_CERTIFICATE_TYPE of a certificate. The
+ * body of the last certificate may pass the range, not the bytes. */
 uint32_t pe_c_next_certificate(const uint8_t *bytes, size_t length, pe_c_range *walk, pe_c_certificate *out);
 
 /* ---- x64 functions and how their frames are unwound */
@@ -291,7 +293,7 @@ enum {
 typedef struct {
     uint8_t code_offset;            /* the place behind the instruction, from the start of the prolog */
     uint8_t operation;              /* PE_C_PUSH .. PE_C_NOOP */
-    uint8_t operand;                /* registers: 0 to 15 rax, rcx, rdx, rbx, rsp, rbp, rsi, rdi, r8 ..; 17 on xmm0 .. */
+    uint8_t operand;                /* 0 to 15 rax, rcx, rdx, rbx, rsp, rbp, rsi, rdi, r8 ..; 17 on xmm0 .. */
     uint8_t from_frame;             /* 1 where value counts from the frame register, 0 from the stack pointer */
     uint32_t value;                 /* bytes */
 } pe_c_code;
@@ -317,8 +319,8 @@ PE_C_SIZE(pe_c_code, 8);
 PE_C_SIZE(pe_c_scope, 16);
 PE_C_SIZE(pe_c_plan, 32);
 
-/* Gives the range of the function table, entries of 12 bytes. PE_C_NOTHING without one, or for another machine than x64;
- * PE_C_EXCEPTION_SIZE, PE_C_UNMAPPED, PE_C_EXCEPTION_OFFSET, PE_C_EXCEPTION_BOUNDS. */
+/* Gives the range of the function table, entries of 12 bytes. PE_C_NOTHING without one, or for another machine than
+ * x64; PE_C_EXCEPTION_SIZE, PE_C_UNMAPPED, PE_C_EXCEPTION_OFFSET, PE_C_EXCEPTION_BOUNDS. */
 uint32_t pe_c_function_table(const uint8_t *bytes, size_t length, const pe_c_image_info *image,
                              const pe_c_section *sections, size_t count, uint32_t mode, pe_c_range *out);
 
@@ -342,16 +344,16 @@ uint32_t pe_c_unwind_record(const uint8_t *bytes, size_t length, const pe_c_imag
  * bytes that begin none. */
 uint32_t pe_c_next_code(const uint8_t *bytes, size_t length, pe_c_walk *walk, pe_c_code *out);
 
-/* Gives the scope table in the data of a handler of C, as a walk. PE_C_NOTHING where it is not all there; whether a handler
- * has such a table is known by its address alone. */
+/* Gives the scope table in the data of a handler of C, as a walk. PE_C_NOTHING where it is not all there; whether a
+ * handler has such a table is known by its address alone. */
 uint32_t pe_c_scope_table(const uint8_t *bytes, size_t length, const pe_c_range *handler_data, pe_c_range *out);
 
 /* Gives the next entry of a scope table. PE_C_SHORT for a last one that is cut. */
 uint32_t pe_c_next_scope(const uint8_t *bytes, size_t length, pe_c_range *walk, pe_c_scope *out);
 
 /* Gives the next record of a plan: that of the function, then that of the function which it is chained to, and so on.
- * PE_C_NOTHING behind the root. PE_C_FUNCTION_CYCLE exactly if the chain never ends; else what pe_c_unwind_record answers
- * of the next record. A plan that is refused is over. */
+ * PE_C_NOTHING behind the root. PE_C_FUNCTION_CYCLE exactly if the chain never ends; else what pe_c_unwind_record
+ * answers of the next record. A plan that is refused is over. */
 uint32_t pe_c_next_record(const uint8_t *bytes, size_t length, const pe_c_image_info *image,
                           const pe_c_section *sections, size_t count, uint32_t mode, pe_c_plan *plan,
                           pe_c_record *out);
@@ -402,12 +404,12 @@ typedef struct {
     uint64_t offset;                /* where they begin, counted from the beginning of the stream */
 } pe_c_arm64_walk;
 
-/* Integer registers are counted from x0, floating-point registers from d0. A preindexed store moves the stack pointer down
- * by `value` first. A pair is the register and the one behind it, or the link register. */
+/* Integer registers are counted from x0, floating-point registers from d0. A preindexed store moves the stack pointer
+ * down by `value` first. A pair is the register and the one behind it, or the link register. */
 enum {
     PE_C_ARM64_ALLOC_SMALL = 0,     /* made room for `value` bytes on the stack */
     PE_C_ARM64_SAVE_R19_R20_PREINDEXED = 1,
-    PE_C_ARM64_SAVE_FP_LR = 2,      /* saved x29 and the link register at `value`; so on below, the register `operand` */
+    PE_C_ARM64_SAVE_FP_LR = 2,      /* saved x29 and the link register at `value`; others the register `operand` */
     PE_C_ARM64_SAVE_FP_LR_PREINDEXED = 3,
     PE_C_ARM64_ALLOC_MEDIUM = 4,
     PE_C_ARM64_SAVE_REG_PAIR = 5,
@@ -426,11 +428,11 @@ enum {
     PE_C_ARM64_NOP = 18,
     PE_C_ARM64_END = 19,
     PE_C_ARM64_END_C = 20,
-    PE_C_ARM64_SAVE_NEXT = 21,      /* saved the pair behind the pair of the instruction before it, whose code is next */
+    PE_C_ARM64_SAVE_NEXT = 21,      /* saved the pair behind that of the instruction before it, whose code is next */
     PE_C_ARM64_SAVE_ANY_REG = 22,   /* `flags`: bit 0 pair, bit 1 preindexed, bits 2 and 3 the kind: 0 x, 1 d, 2 q */
     PE_C_ARM64_SAVE_ZREG = 23,      /* the numbers of register and offset as the code has them */
     PE_C_ARM64_SAVE_PREG = 24,
-    PE_C_ARM64_CUSTOM_STACK = 25,   /* 0 trap frame, 1 machine frame, 2 context, 3 of ARM64EC, 4 clear unwound to call */
+    PE_C_ARM64_CUSTOM_STACK = 25,   /* `operand`: 0 trap frame, 1 machine frame, 2 context, 3 of ARM64EC, 4 clear */
     PE_C_ARM64_PAC_SIGN_LR = 26,
     PE_C_ARM64_RESERVED = 27        /* `operand` the first byte, `value` the number in the bytes behind it */
 };
@@ -455,8 +457,8 @@ PE_C_SIZE(pe_c_arm64_code, 24);
 uint32_t pe_c_arm64_table(const uint8_t *bytes, size_t length, const pe_c_image_info *image,
                           const pe_c_section *sections, size_t count, uint32_t mode, pe_c_range *out);
 
-/* Gives the function of an index from 0 on. PE_C_FUNCTION_INDEX where the table has fewer. Where an ARM64 function ends is
- * in its unwind data. */
+/* Gives the function of an index from 0 on. PE_C_FUNCTION_INDEX where the table has fewer. Where an ARM64 function
+ * ends is in its unwind data. */
 uint32_t pe_c_arm64_function_at(const uint8_t *bytes, size_t length, const pe_c_range *table, uint64_t index,
                                 pe_c_arm64_function *out);
 
@@ -472,14 +474,14 @@ uint32_t pe_c_arm64_unwind_record(const uint8_t *bytes, size_t length, const pe_
 /* Gives the next epilog scope of a record. */
 uint32_t pe_c_next_arm64_scope(const uint8_t *bytes, size_t length, pe_c_range *walk, pe_c_arm64_scope *out);
 
-/* Gives a walk over a record's codes from the start on, a number of code bytes: 0 for the prolog, start_index of a scope or
- * epilog_start for an epilog. PE_C_ARM64_STREAM where the codes are no multiple of four bytes, more than 4,294,967,292, or
- * fewer than the start. */
+/* Gives a walk over a record's codes from the start on, a number of code bytes: 0 for the prolog, start_index of a
+ * scope or epilog_start for an epilog. PE_C_ARM64_STREAM where the codes are no multiple of four bytes, more than
+ * 4,294,967,292, or fewer than the start. */
 uint32_t pe_c_arm64_codes(const uint8_t *bytes, size_t length, const pe_c_range *codes, uint64_t start,
                           pe_c_arm64_walk *out);
 
-/* Gives the next code. Walks do not stop at PE_C_ARM64_END and PE_C_ARM64_END_C, since the codes of epilogs stand behind
- * them. PE_C_ARM64_CUT for a code that is cut; PE_C_ARM64_STREAM for a walk of no stream. */
+/* Gives the next code. Walks do not stop at PE_C_ARM64_END and PE_C_ARM64_END_C, since the codes of epilogs stand
+ * behind them. PE_C_ARM64_CUT for a code that is cut; PE_C_ARM64_STREAM for a walk of no stream. */
 uint32_t pe_c_next_arm64_code(const uint8_t *bytes, size_t length, pe_c_arm64_walk *walk, pe_c_arm64_code *out);
 
 /* ---- exports */
@@ -510,10 +512,10 @@ uint32_t pe_c_next_export(const uint8_t *bytes, size_t length, const pe_c_image_
 
 /* ---- version and manifest
  *
- * Version information is the content of the first resource of the kind 16, a manifest that of the kind 24. Each call answers
- * the refusals of the resource directory and of its own content alone: PE_C_UNMAPPED, PE_C_SHORT, PE_C_RESOURCE_BOUNDS,
- * PE_C_RESOURCE_CYCLE; those of version information PE_C_RESOURCE_STRING, too. PE_C_NOTHING where there is nothing of the
- * kind. */
+ * Version information is the content of the first resource of the kind 16, a manifest that of the kind 24. Each call
+ * answers the refusals of the resource directory and of its own content alone: PE_C_UNMAPPED, PE_C_SHORT,
+ * PE_C_RESOURCE_BOUNDS, PE_C_RESOURCE_CYCLE; those of version information PE_C_RESOURCE_STRING, too. PE_C_NOTHING
+ * where there is nothing of the kind. */
 
 typedef struct {
     uint32_t signature, struct_version;     /* 0xFEEF04BD */
@@ -543,8 +545,8 @@ PE_C_SIZE(pe_c_version, 52);
 uint32_t pe_c_fixed_version(const uint8_t *bytes, size_t length, const pe_c_image_info *image,
                             const pe_c_section *sections, size_t count, uint32_t mode, pe_c_version *out);
 
-/* Gives the value of a name, PE_C_COMMENTS .. PE_C_SPECIAL_BUILD, as a range of UTF-16 units, little-endian, with the zeros
- * behind it: a text ends at the first zero. PE_C_NOTHING for another name. */
+/* Gives the value of a name, PE_C_COMMENTS .. PE_C_SPECIAL_BUILD, as a range of UTF-16 units, little-endian, with the
+ * zeros behind it: a text ends at the first zero. PE_C_NOTHING for another name. */
 uint32_t pe_c_version_text(const uint8_t *bytes, size_t length, const pe_c_image_info *image,
                            const pe_c_section *sections, size_t count, uint32_t mode, uint32_t name, pe_c_range *out);
 

@@ -3,12 +3,12 @@
  *     pe_list list FILE [--permissive]    the lines of `peinfo list`
  *     pe_list key FILE                    the key by which a symbol server files the image's symbols
  *     pe_list version FILE                the version information
- *     pe_list unwind FILE HEXRVA          how the frame of the x64 function that covers an address is unwound, record by
- *                                         record up to the root of its chain
+ *     pe_list unwind FILE HEXRVA          how the frame of the x64 function that covers an address is unwound, record
+ *                                         by record up to the root of its chain
  *
- * The file is mapped, and nothing of it is copied. `list` refuses an image as `peinfo list` does, but for the imports and
- * the base relocations, which no call reads: where these alone are damaged the image is listed. The status is 0, 1 for an
- * image that is refused, 2 for misused words, 3 for a fault of a file or of standard output. */
+ * The file is mapped, and nothing of it is copied. `list` refuses an image as `peinfo list` does, but for the imports
+ * and the base relocations, which no call reads: where these alone are damaged the image is listed. The status is 0, 1
+ * for an image that is refused, 2 for misused words, 3 for a fault of a file or of standard output. */
 #define _POSIX_C_SOURCE 200809L
 #include "pe.h"
 
@@ -100,7 +100,8 @@ typedef struct {
     int has_debug, has_functions, has_arm64_functions, has_certificates;
 } directories;
 
-/* Where a directory is there. One that is refused refuses the image in strict mode, and counts as absent in permissive. */
+/* Where a directory is there. One that is refused refuses the image in strict mode, and counts as absent in
+ * permissive. */
 static uint32_t keep(const image *it, uint32_t answer, int *has)
 {
     *has = answer == PE_C_DONE;

@@ -1,5 +1,5 @@
-//! Finds libpe_c.a: in the folder that PE_C_FOLDER names; else where the toolchain's command puts it in this repository;
-//! else where pkg-config finds pe_c.
+//! Finds libpe_c.a: in the folder that PE_C_FOLDER names; else where the toolchain's command puts it in this
+//! repository; else where pkg-config finds pe_c.
 
 use std::path::{Path, PathBuf};
 use std::{env, process};

@@ -1,9 +1,9 @@
-//! Makes every call on damaged images: `fuzz SECONDS [--seed N] [FILE ..]`. The files are images, or damaged ones made of
-//! the tests' images where none is named; those above 1 MiB are passed over.
+//! Makes every call on damaged images: `fuzz SECONDS [--seed N] [FILE ..]`. The files are images, or damaged ones made
+//! of the tests' images where none is named; those above 1 MiB are passed over.
 //!
-//! Each input is a file with a few bytes changed, and at times cut, and ends where memory ends, so that a read behind it
-//! faults. The calls that take ranges and walks get ones that lie, too. A run with the same seed, files and machine makes
-//! the same inputs. The last line tells what was read.
+//! Each input is a file with a few bytes changed, and at times cut, and ends where memory ends, so that a read behind
+//! it faults. The calls that take ranges and walks get ones that lie, too. A run with the same seed, files and machine
+//! makes the same inputs. The last line tells what was read.
 
 #[path = "../tests/made/mod.rs"]
 mod made;
@@ -230,7 +230,10 @@ fn read_by_lies(bytes: &[u8], random: &mut Random, seen: &mut Seen) {
     call_of_image!(pe_c_function_table(), Range);
     call_of_image!(pe_c_arm64_table(), Range);
     call_of_image!(pe_c_unwind_record(directory.virtual_address ^ (few & 1)), Record);
-    call_of_image!(pe_c_arm64_unwind_record(&sys::Arm64Function { begin: few, unwind: directory.virtual_address & !3 }), Arm64Record);
+    call_of_image!(
+        pe_c_arm64_unwind_record(&sys::Arm64Function { begin: few, unwind: directory.virtual_address & !3 }),
+        Arm64Record
+    );
     call_of_image!(pe_c_fixed_version(), Version);
     call_of_image!(pe_c_version_text(few % 16), Range);
     call_of_image!(pe_c_manifest(), Range);
@@ -238,7 +241,13 @@ fn read_by_lies(bytes: &[u8], random: &mut Random, seen: &mut Seen) {
     walk_of_image!(pe_c_next_export(tables), Export);
     walk_of_image!(pe_c_next_export(sys::Exports { names: range, next: index, ..tables }), Export);
     let saved = if few & 8 == 0 { directory.virtual_address } else { few };
-    let plan = sys::Plan { unwind: directory.virtual_address, saved, steps: index, limit: range.length, ..sys::Plan::default() };
+    let plan = sys::Plan {
+        unwind: directory.virtual_address,
+        saved,
+        steps: index,
+        limit: range.length,
+        ..sys::Plan::default()
+    };
     walk_of_image!(pe_c_next_record(plan), Record);
 }
 
@@ -290,8 +299,8 @@ fn main() {
     let rate = inputs as f64 / start.elapsed().as_secs_f64();
     let Seen { images, records, codes, slices, refusals, .. } = seen;
     println!(
-        "{} files, {inputs} inputs, {images} images, {records} unwind records, {codes} codes, {slices} slices, {refusals} \
-         refusals, {rate:.0} inputs a second",
+        "{} files, {inputs} inputs, {images} images, {records} unwind records, {codes} codes, {slices} slices, \
+         {refusals} refusals, {rate:.0} inputs a second",
         files.len()
     );
 }

@@ -1,12 +1,13 @@
-//! Shows what the calls read of an image, a fact a line: `show unwind|debug|resources|exports FILE`. The lines are those of
-//! the programs tools/show_*.txt, so that the two can be compared, and tools/compare_unwind, compare_debug and
-//! compare_resources take it by a script of the program's name. What no call tells is read from the bytes: three fields of
-//! an ARM64 record, and the first resource entries; of the lines of show_tables.txt only those of exports are there. A first
-//! line `strict` says that the image is refused in strict mode; what follows is then what permissive mode gives.
+//! Shows what the calls read of an image, a fact a line: `show unwind|debug|resources|exports FILE`. The lines are
+//! those of the programs tools/show_*.txt, so that the two can be compared, and tools/compare_unwind, compare_debug and
+//! compare_resources take it by a script of the program's name. What no call tells is read from the bytes: three fields
+//! of an ARM64 record, and the first resource entries; of the lines of show_tables.txt only those of exports are there.
+//! A first line `strict` says that the image is refused in strict mode; what follows is then what permissive mode
+//! gives.
 
 use pe_c::{
-    Arm64Code, Arm64Operation, Arm64Record, Arm64Unwinding, Code, CustomStack, Error, Function, Handler, Image, Mode, Offset,
-    Operation, RegisterKind, Repro, Text, UnwindRecord, VersionName,
+    Arm64Code, Arm64Operation, Arm64Record, Arm64Unwinding, Code, CustomStack, Error, Function, Handler, Image, Mode,
+    Offset, Operation, RegisterKind, Repro, Text, UnwindRecord, VersionName,
 };
 
 /// What a directory gives: nothing where it is refused, which permissive mode leaves out.
@@ -44,7 +45,13 @@ fn show_code(code: Code) {
 
 fn show_record(record: &UnwindRecord) {
     let raw = record.raw();
-    println!("record {} {} {} {}", record.version(), record.size_of_prolog(), raw.codes.frame_register, raw.frame_register_offset);
+    println!(
+        "record {} {} {} {}",
+        record.version(),
+        record.size_of_prolog(),
+        raw.codes.frame_register,
+        raw.frame_register_offset
+    );
     for code in record.codes() {
         match code {
             Ok(code) => show_code(code),
@@ -87,14 +94,18 @@ fn arm64_operation(operation: Arm64Operation) -> String {
             format!("SaveRegPairPreindexed {{ first_reg: {first}, offset_bytes: {offset} }}")
         }
         SaveReg { register, offset } => format!("SaveReg {{ reg: {register}, offset_bytes: {offset} }}"),
-        SaveRegPreindexed { register, offset } => format!("SaveRegPreindexed {{ reg: {register}, offset_bytes: {offset} }}"),
+        SaveRegPreindexed { register, offset } => {
+            format!("SaveRegPreindexed {{ reg: {register}, offset_bytes: {offset} }}")
+        }
         SaveLrPair { first, offset } => format!("SaveLrPair {{ first_reg: {first}, offset_bytes: {offset} }}"),
         SaveFRegPair { first, offset } => format!("SaveFRegPair {{ first_reg: {first}, offset_bytes: {offset} }}"),
         SaveFRegPairPreindexed { first, offset } => {
             format!("SaveFRegPairPreindexed {{ first_reg: {first}, offset_bytes: {offset} }}")
         }
         SaveFReg { register, offset } => format!("SaveFReg {{ reg: {register}, offset_bytes: {offset} }}"),
-        SaveFRegPreindexed { register, offset } => format!("SaveFRegPreindexed {{ reg: {register}, offset_bytes: {offset} }}"),
+        SaveFRegPreindexed { register, offset } => {
+            format!("SaveFRegPreindexed {{ reg: {register}, offset_bytes: {offset} }}")
+        }
         AllocZ { count } => format!("AllocZ {{ count: {count} }}"),
         AllocLarge { size } => format!("AllocLarge {{ size_bytes: {size} }}"),
         AddFp { offset } => format!("AddFp {{ imm8: {}, offset_bytes: {offset} }}", offset / 8),
@@ -105,7 +116,8 @@ fn arm64_operation(operation: Arm64Operation) -> String {
                 RegisterKind::Vector => 2,
             };
             format!(
-                "SaveAnyReg {{ kind: {kind}, pair: {pair}, preindexed: {preindexed}, reg: {register}, offset_bytes: {offset} }}"
+                "SaveAnyReg {{ kind: {kind}, pair: {pair}, preindexed: {preindexed}, reg: {register}, \
+                 offset_bytes: {offset} }}"
             )
         }
         SaveZReg { register, number } => format!("SaveZReg {{ r: {register}, o: {number} }}"),

@@ -31,8 +31,8 @@ pub enum RegisterKind {
     Vector,
 }
 
-/// What an instruction did. Integer registers are counted from x0, floating-point registers from d0; sizes and offsets are
-/// in bytes. A preindexed store moves the stack pointer down by its offset first.
+/// What an instruction did. Integer registers are counted from x0, floating-point registers from d0; sizes and offsets
+/// are in bytes. A preindexed store moves the stack pointer down by its offset first.
 #[derive(Clone, Copy, Debug, PartialEq, Eq, Hash)]
 #[allow(missing_docs)]
 pub enum Arm64Operation {
@@ -231,8 +231,8 @@ impl<'a> Arm64Record<'a> {
         (self.raw.epilog_in_header != 0).then_some(self.raw.epilog_start)
     }
 
-    /// The codes from the byte of an index on: 0 for the prolog, `start_index` of a scope or `epilog_start` for an epilog.
-    /// [`Error::ARM64_STREAM`] where none can be read from there.
+    /// The codes from the byte of an index on: 0 for the prolog, `start_index` of a scope or `epilog_start` for an
+    /// epilog. [`Error::ARM64_STREAM`] where none can be read from there.
     pub fn codes(&self, start: u32) -> Result<Arm64Codes<'a>, Error> {
         let walk = look(self.bytes, sys::pe_c_arm64_codes, &self.raw.codes, u64::from(start))?;
         Ok(Arm64Codes(Walk::new(self.bytes, walk.ok_or(Error::ARM64_STREAM)?)))

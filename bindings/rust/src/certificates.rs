@@ -18,8 +18,8 @@ pub struct Certificate<'a> {
     pub body: &'a [u8],
 }
 
-/// The certificates of an image. Nothing comes behind one that is refused: [`Error::CERTIFICATE_TABLE`], [`Error::SHORT`],
-/// [`Error::CERTIFICATE_SIZE`], [`Error::CERTIFICATE_REVISION`], [`Error::CERTIFICATE_TYPE`].
+/// The certificates of an image. Nothing comes behind one that is refused: [`Error::CERTIFICATE_TABLE`],
+/// [`Error::SHORT`], [`Error::CERTIFICATE_SIZE`], [`Error::CERTIFICATE_REVISION`], [`Error::CERTIFICATE_TYPE`].
 #[derive(Clone, Debug)]
 pub struct Certificates<'a>(Walk<'a, sys::Range>);
 

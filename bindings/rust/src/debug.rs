@@ -6,8 +6,8 @@ use crate::walk::Walk;
 use core::fmt;
 use core::iter::FusedIterator;
 
-/// The key by which a symbol server files the symbols of an image: a record of PDB 7.0. Its text is the key's: the GUID's
-/// digits and the age.
+/// The key by which a symbol server files the symbols of an image: a record of PDB 7.0. Its text is the key's: the
+/// GUID's digits and the age.
 #[derive(Clone, Copy, Debug, PartialEq, Eq)]
 pub struct SymbolKey<'a> {
     /// As in the file: three little-endian numbers, of four, two and two bytes, and eight bytes.
@@ -131,8 +131,8 @@ impl<'a> Iterator for PogoEntries<'a> {
 
 impl FusedIterator for PogoEntries<'_> {}
 
-/// Debug data. Each call that gives a record reads all of them, the directory and the six records, and is refused as the
-/// first that is: [`Error::UNMAPPED`], [`Error::DEBUG_BOUNDS`], [`Error::DEBUG_SIZE`], [`Error::SHORT`],
+/// Debug data. Each call that gives a record reads all of them, the directory and the six records, and is refused as
+/// the first that is: [`Error::UNMAPPED`], [`Error::DEBUG_BOUNDS`], [`Error::DEBUG_SIZE`], [`Error::SHORT`],
 /// [`Error::DEBUG_DATA`], [`Error::POGO_SIZE`]. A record is that of the first entry of its kind.
 impl<'a> Image<'a> {
     /// The entries of the debug directory, whose records are not read. None without a directory. [`Error::UNMAPPED`],

@@ -9,7 +9,8 @@ use core::fmt;
 pub enum Mode {
     /// It is refused.
     Strict,
-    /// Headers may overlap the DOS header, and a debug directory may pass the end of the bytes.
+    /// Headers may overlap the DOS header; a debug directory may pass the end of the bytes, and is cut there; a debug
+    /// record that is too small, and resource data that are too short for a directory, count as absent.
     Permissive,
 }
 
@@ -22,7 +23,8 @@ impl Mode {
     }
 }
 
-/// Why a call refuses, by the library's number, which stays the same from version to version. Its text is the library's.
+/// Why a call refuses, by the library's number, which stays the same from version to version. Its text is the
+/// library's.
 ///
 /// ```
 /// use pe_c::{Error, Image, Mode};
@@ -175,24 +177,28 @@ pub struct Image<'a> {
 
 impl fmt::Debug for Image<'_> {
     fn fmt(&self, f: &mut fmt::Formatter<'_>) -> fmt::Result {
-        f.debug_struct("Image").field("mode", &self.mode).field("info", &self.info).field("sections", &self.sections).finish()
+        f.debug_struct("Image")
+            .field("mode", &self.mode)
+            .field("info", &self.info)
+            .field("sections", &self.sections)
+            .finish()
     }
 }
 
 /// A call of an image.
-type Call<T> =
-    unsafe extern "C" fn(*const u8, usize, *const ImageInfo, *const Section, usize, u32, *mut T) -> u32;
+type Call<T> = unsafe extern "C" fn(*const u8, usize, *const ImageInfo, *const Section, usize, u32, *mut T) -> u32;
 /// A call of an image that takes one thing more.
 type CallWith<M, T> =
     unsafe extern "C" fn(*const u8, usize, *const ImageInfo, *const Section, usize, u32, M, *mut T) -> u32;
 
-// SAFETY of all calls here: they are the declarations of `sys`, which fit the exports. Each pointer and length are those of
-// one borrow that lives over the call; what is lent to be written overlaps nothing, and is initialised. The library has no
-// other premise, and all that it writes are numbers.
+// SAFETY of all calls here: they are the declarations of `sys`, which fit the exports. Each pointer and length are
+// those of one borrow that lives over the call; what is lent to be written overlaps nothing, and is initialised. The
+// library has no other premise, and all that it writes are numbers.
 
 impl<'a> Image<'a> {
-    /// Reads the headers and the section headers: [`SHORT`](Error::SHORT), [`BAD_MAGIC`](Error::BAD_MAGIC), and in strict mode
-    /// [`HEADER_POINTER`](Error::HEADER_POINTER). [`MEMORY`](Error::MEMORY) where there is none for the section headers.
+    /// Reads the headers and the section headers: [`SHORT`](Error::SHORT), [`BAD_MAGIC`](Error::BAD_MAGIC), and in
+    /// strict mode [`HEADER_POINTER`](Error::HEADER_POINTER). [`MEMORY`](Error::MEMORY) where there is none for the
+    /// section headers.
     pub fn parse(bytes: &'a [u8], mode: Mode) -> Result<Self, Error> {
         let mut info = ImageInfo::default();
         // SAFETY: as above.

@@ -1,8 +1,8 @@
-//! Reading Windows executables by a proved library: headers, debug data, certificates, x64 and ARM64 unwind data, exports,
-//! version information and manifest.
+//! Reading Windows executables by a proved library: headers, debug data, certificates, x64 and ARM64 unwind data,
+//! exports, version information and manifest.
 //!
-//! [`Image`] borrows the bytes that it was read from, and names, bodies and texts are slices of these bytes: they outlive
-//! the `Image`. Every walk is an iterator. No byte string makes a call panic or run for ever, and no call but
+//! [`Image`] borrows the bytes that it was read from, and names, bodies and texts are slices of these bytes: they
+//! outlive the `Image`. Every walk is an iterator. No byte string makes a call panic or run for ever, and no call but
 //! [`Image::parse`], which keeps the section headers in a vector, and [`Text::to_string_lossy`] asks for memory.
 //!
 //! ```
@@ -40,12 +40,15 @@ mod walk;
 mod x64;
 
 pub use arm64::{
-    Arm64Code, Arm64Codes, Arm64Functions, Arm64Operation, Arm64Record, Arm64Scopes, Arm64Unwinding, CustomStack, RegisterKind,
+    Arm64Code, Arm64Codes, Arm64Functions, Arm64Operation, Arm64Record, Arm64Scopes, Arm64Unwinding, CustomStack,
+    RegisterKind,
 };
 pub use certificates::{Certificate, Certificates};
 pub use debug::{DebugEntries, Pdb20, Pogo, PogoEntries, PogoEntry, Repro, SymbolKey};
 pub use exports::{Export, Exports};
 pub use image::{Error, Image, Mode};
-pub use sys::{Arm64Function, Arm64Packed, Arm64Scope, DebugEntry, Directory, Function, ImageInfo, Scope, Section, VcFeatures};
+pub use sys::{
+    Arm64Function, Arm64Packed, Arm64Scope, DebugEntry, Directory, Function, ImageInfo, Scope, Section, VcFeatures,
+};
 pub use version::{FixedVersion, Text, VersionName};
 pub use x64::{Code, Codes, Functions, Handler, Offset, Operation, Plan, Register, Scopes, UnwindRecord};

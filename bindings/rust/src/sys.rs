@@ -1,8 +1,8 @@
 //! The calls and records as `pe.h` declares them, for those who want no allocation at all. What each call gives and
 //! answers, and what its caller owes, is told there.
 //!
-//! `tools/bindings` compares the names and the counts of parameters with the header and the archive, and the sizes of the
-//! records stand below.
+//! `tools/bindings` compares the names and the counts of parameters with the header and the archive, and the sizes of
+//! the records stand below.
 
 /// The call was answered.
 pub const DONE: u32 = 0;
@@ -26,57 +26,57 @@ record!(
     /// Where a directory is. Both are 0 where it is absent.
     Directory, 8 { virtual_address: u32, size: u32 });
 record!(
-    /// What the headers say of all of an image. Without an optional header its numbers are 0, and its directories absent.
-    ImageInfo, 80 {
-        /// The preferred address of the first byte in memory.
-        base: u64,
-        /// Where the section headers stand.
-        sections_place: u64,
-        /// The address of the entry point.
-        entry: u32,
-        file_alignment: u32,
-        exports: Directory,
-        imports: Directory,
-        resources: Directory,
-        exceptions: Directory,
-        /// Its address is a place in the file.
-        certificates: Directory,
-        debug: Directory,
-        /// 0x8664 for x64, 0xAA64 for ARM64, 0x14C for x86.
-        machine: u16,
-        /// 32, 64, or 0 without an optional header.
-        width: u16,
-        number_of_sections: u16,
-        spare: u16,
-    });
+/// What the headers say of all of an image. Without an optional header its numbers are 0, and its directories absent.
+ImageInfo, 80 {
+    /// The preferred address of the first byte in memory.
+    base: u64,
+    /// Where the section headers stand.
+    sections_place: u64,
+    /// The address of the entry point.
+    entry: u32,
+    file_alignment: u32,
+    exports: Directory,
+    imports: Directory,
+    resources: Directory,
+    exceptions: Directory,
+    /// Its address is a place in the file.
+    certificates: Directory,
+    debug: Directory,
+    /// 0x8664 for x64, 0xAA64 for ARM64, 0x14C for x86.
+    machine: u16,
+    /// 32, 64, or 0 without an optional header.
+    width: u16,
+    number_of_sections: u16,
+    spare: u16,
+});
 record!(
-    /// A section header.
-    Section, 40 {
-        /// With zeros behind it, none where it has eight bytes.
-        name: [u8; 8],
-        virtual_size: u32,
-        virtual_address: u32,
-        size_of_raw_data: u32,
-        pointer_to_raw_data: u32,
-        pointer_to_relocations: u32,
-        pointer_to_linenumbers: u32,
-        number_of_relocations: u16,
-        number_of_linenumbers: u16,
-        characteristics: u32,
-    });
+/// A section header.
+Section, 40 {
+    /// With zeros behind it, none where it has eight bytes.
+    name: [u8; 8],
+    virtual_size: u32,
+    virtual_address: u32,
+    size_of_raw_data: u32,
+    pointer_to_raw_data: u32,
+    pointer_to_relocations: u32,
+    pointer_to_linenumbers: u32,
+    number_of_relocations: u16,
+    number_of_linenumbers: u16,
+    characteristics: u32,
+});
 record!(
-    /// An entry of the debug directory.
-    DebugEntry, 28 {
-        characteristics: u32,
-        time_date_stamp: u32,
-        major_version: u16,
-        minor_version: u16,
-        /// 2 CodeView, 12 VC features, 13 POGO, 16 Repro, 20 characteristics.
-        data_type: u32,
-        size_of_data: u32,
-        address_of_raw_data: u32,
-        pointer_to_raw_data: u32,
-    });
+/// An entry of the debug directory.
+DebugEntry, 28 {
+    characteristics: u32,
+    time_date_stamp: u32,
+    major_version: u16,
+    minor_version: u16,
+    /// 2 CodeView, 12 VC features, 13 POGO, 16 Repro, 20 characteristics.
+    data_type: u32,
+    size_of_data: u32,
+    address_of_raw_data: u32,
+    pointer_to_raw_data: u32,
+});
 record!(
     /// A record of PDB 7.0.
     Key, 40 { guid: [u8; 16], age: u32, spare: u32, name: Range });
@@ -84,14 +84,14 @@ record!(
     /// A record of PDB 2.0.
     Pdb20, 32 { name: Range, offset: u32, signature: u32, age: u32, spare: u32 });
 record!(
-    /// A record of VC features.
-    VcFeatures, 20 {
-        pre_vc_plusplus_count: u32,
-        c_and_cplusplus_count: u32,
-        guard_stack_count: u32,
-        sdl_count: u32,
-        guard_count: u32,
-    });
+/// A record of VC features.
+VcFeatures, 20 {
+    pre_vc_plusplus_count: u32,
+    c_and_cplusplus_count: u32,
+    guard_stack_count: u32,
+    sdl_count: u32,
+    guard_count: u32,
+});
 record!(
     /// A Repro record.
     Repro, 24 { hash: Range, has_hash: u32, spare: u32 });
@@ -105,30 +105,30 @@ record!(
     /// An attribute certificate.
     Certificate, 24 { body: Range, length: u32, revision: u16, kind: u16 });
 record!(
-    /// The addresses that an x64 function covers, and where its unwind record is.
-    Function, 12 {
-        begin: u32,
-        /// Behind the last address.
-        end: u32,
-        /// The address of its unwind record, or, plus one, of the entry that it links to.
-        unwind: u32,
-    });
+/// The addresses that an x64 function covers, and where its unwind record is.
+Function, 12 {
+    begin: u32,
+    /// Behind the last address.
+    end: u32,
+    /// The address of its unwind record, or, plus one, of the entry that it links to.
+    unwind: u32,
+});
 record!(
     /// A walk over unwind codes.
     Walk, 24 { left: Range, version: u8, frame_register: u8, spare: [u8; 6] });
 record!(
-    /// An unwind record.
-    Record, 72 {
-        codes: Walk,
-        handler_data: Range,
-        handler: u32,
-        chained: Function,
-        is_chained: u32,
-        frame_register_offset: u32,
-        size_of_prolog: u8,
-        handler_kind: u8,
-        spare: [u8; 6],
-    });
+/// An unwind record.
+Record, 72 {
+    codes: Walk,
+    handler_data: Range,
+    handler: u32,
+    chained: Function,
+    is_chained: u32,
+    frame_register_offset: u32,
+    size_of_prolog: u8,
+    handler_kind: u8,
+    spare: [u8; 6],
+});
 record!(
     /// An unwind code.
     Code, 8 { code_offset: u8, operation: u8, operand: u8, from_frame: u8, value: u32 });
@@ -142,33 +142,33 @@ record!(
     /// Where an ARM64 function begins, and its unwind data or their address.
     Arm64Function, 8 { begin: u32, unwind: u32 });
 record!(
-    /// Unwind data that are packed into an entry.
-    Arm64Packed, 32 {
-        flag: u32,
-        function_length: u32,
-        frame_size: u32,
-        reg_f: u32,
-        reg_i: u32,
-        h: u32,
-        cr: u32,
-        is_packed: u32,
-    });
+/// Unwind data that are packed into an entry.
+Arm64Packed, 32 {
+    flag: u32,
+    function_length: u32,
+    frame_size: u32,
+    reg_f: u32,
+    reg_i: u32,
+    h: u32,
+    cr: u32,
+    is_packed: u32,
+});
 record!(
-    /// An ARM64 unwind record.
-    Arm64Record, 72 {
-        scopes: Range,
-        codes: Range,
-        handler_data: Range,
-        handler: u32,
-        has_handler: u32,
-        function_length: u32,
-        epilog_in_header: u32,
-        epilog_start: u32,
-        version: u32,
-    });
+/// An ARM64 unwind record.
+Arm64Record, 72 {
+    scopes: Range,
+    codes: Range,
+    handler_data: Range,
+    handler: u32,
+    has_handler: u32,
+    function_length: u32,
+    epilog_in_header: u32,
+    epilog_start: u32,
+    version: u32,
+});
 record!(
-    /// An epilog of an ARM64 function: where it begins, in bytes from the function's begin, and the index of its first code
-    /// byte.
+    /// An epilog of an ARM64 function: where it begins, in bytes from the function's begin, and the index of its first
+    /// code byte.
     Arm64Scope, 16 { start_offset: u32, start_index: u32, reserved: u32, word: u32 });
 record!(
     /// A walk over ARM64 unwind codes.
@@ -183,22 +183,22 @@ record!(
     /// An export.
     Export, 32 { name: Range, place: u64, rva: u32, has_place: u32 });
 record!(
-    /// The fixed file information.
-    Version, 52 {
-        signature: u32,
-        struct_version: u32,
-        file_version_ms: u32,
-        file_version_ls: u32,
-        product_version_ms: u32,
-        product_version_ls: u32,
-        file_flags_mask: u32,
-        file_flags: u32,
-        file_os: u32,
-        file_type: u32,
-        file_subtype: u32,
-        file_date_ms: u32,
-        file_date_ls: u32,
-    });
+/// The fixed file information.
+Version, 52 {
+    signature: u32,
+    struct_version: u32,
+    file_version_ms: u32,
+    file_version_ls: u32,
+    product_version_ms: u32,
+    product_version_ls: u32,
+    file_flags_mask: u32,
+    file_flags: u32,
+    file_os: u32,
+    file_type: u32,
+    file_subtype: u32,
+    file_date_ms: u32,
+    file_date_ls: u32,
+});
 
 impl Range {
     /// The bytes of a range, if it lies in them.
@@ -214,8 +214,8 @@ macro_rules! calls_of_an_image {
     ($($name:ident($($more:ident: $type:ty),*) -> $out:ty;)*) => {
         extern "C" {
             $(pub fn $name(
-                bytes: *const u8, length: usize, image: *const ImageInfo, sections: *const Section, count: usize, mode: u32,
-                $($more: $type,)* out: *mut $out,
+                bytes: *const u8, length: usize, image: *const ImageInfo, sections: *const Section, count: usize,
+                mode: u32, $($more: $type,)* out: *mut $out,
             ) -> u32;)*
         }
     };
@@ -233,7 +233,11 @@ macro_rules! calls_of_bytes {
 extern "C" {
     pub fn pe_c_text(answer: u32, room: *mut u8, length: usize) -> usize;
     pub fn pe_c_sections(
-        bytes: *const u8, length: usize, image: *const ImageInfo, room: *mut Section, entries: usize,
+        bytes: *const u8,
+        length: usize,
+        image: *const ImageInfo,
+        room: *mut Section,
+        entries: usize,
     ) -> u32;
     pub fn pe_c_place(sections: *const Section, count: usize, file_alignment: u32, rva: u32, out: *mut u64) -> u32;
     pub fn pe_c_arm64_packed_fields(function: *const Arm64Function, out: *mut Arm64Packed) -> u32;

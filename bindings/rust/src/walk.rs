@@ -8,8 +8,8 @@ pub(crate) type Look<M, N, T> = unsafe extern "C" fn(*const u8, usize, *const M,
 /// Makes such a call.
 pub(crate) fn look<M, N, T: Default>(bytes: &[u8], call: Look<M, N, T>, more: &M, n: N) -> Result<Option<T>, Error> {
     let mut out = T::default();
-    // SAFETY: the call is one of the declarations of `sys`. The pointer and the length are those of one slice, `more` and
-    // `out` are lent for the call, and the library has no other premise.
+    // SAFETY: the call is one of the declarations of `sys`. The pointer and the length are those of one slice, `more`
+    // and `out` are lent for the call, and the library has no other premise.
     let number = unsafe { call(bytes.as_ptr(), bytes.len(), more, n, &mut out) };
     answer(number, out)
 }

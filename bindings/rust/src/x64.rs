@@ -13,9 +13,9 @@ impl Register {
     /// Its name, empty for a number that is none.
     pub fn name(self) -> &'static str {
         const NAMES: [&str; 33] = [
-            "rax", "rcx", "rdx", "rbx", "rsp", "rbp", "rsi", "rdi", "r8", "r9", "r10", "r11", "r12", "r13", "r14", "r15", "rip",
-            "xmm0", "xmm1", "xmm2", "xmm3", "xmm4", "xmm5", "xmm6", "xmm7", "xmm8", "xmm9", "xmm10", "xmm11", "xmm12",
-            "xmm13", "xmm14", "xmm15",
+            "rax", "rcx", "rdx", "rbx", "rsp", "rbp", "rsi", "rdi", "r8", "r9", "r10", "r11", "r12", "r13", "r14",
+            "r15", "rip", "xmm0", "xmm1", "xmm2", "xmm3", "xmm4", "xmm5", "xmm6", "xmm7", "xmm8", "xmm9", "xmm10",
+            "xmm11", "xmm12", "xmm13", "xmm14", "xmm15",
         ];
         NAMES.get(usize::from(self.0)).copied().unwrap_or_default()
     }
@@ -177,8 +177,8 @@ impl<'a> UnwindRecord<'a> {
         }
     }
 
-    /// The scope table in the handler's data. None where it is not all there; whether a handler has such a table is known by
-    /// its address alone.
+    /// The scope table in the handler's data. None where it is not all there; whether a handler has such a table is
+    /// known by its address alone.
     pub fn scopes(&self) -> Option<Scopes<'a>> {
         let mut table = sys::Range::default();
         let (place, length) = (self.bytes.as_ptr(), self.bytes.len());
@@ -220,8 +220,8 @@ impl<'i, 'a> Functions<'i, 'a> {
         (0..self.len()).map_while(move |index| functions.get(index))
     }
 
-    /// The function that covers an address, by halving: the last that begins at or before it, where the begins of the table
-    /// never fall; else some function that covers it, or none.
+    /// The function that covers an address, by halving: the last that begins at or before it, where the begins of the
+    /// table never fall; else some function that covers it, or none.
     pub fn find(&self, rva: u32) -> Result<Option<Function>, Error> {
         look(self.image.bytes(), sys::pe_c_find_function, &self.table, rva)
     }

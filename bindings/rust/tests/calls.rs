@@ -146,10 +146,12 @@ fn damaged_debug_data_are_refused() {
 
 #[test]
 fn certificates_are_read() {
-    let found: Vec<_> = strict(SMALL).certificates().map(Result::unwrap).map(|it| (it.length, it.revision, it.kind, it.body)).collect();
+    let found: Vec<_> =
+        strict(SMALL).certificates().map(Result::unwrap).map(|it| (it.length, it.revision, it.kind, it.body)).collect();
     assert_eq!(found, [(9, 0x200, 2, [0xAA].as_slice())]);
     let bytes = with_certificates();
-    let found: Vec<_> = strict(&bytes).certificates().map(Result::unwrap).map(|it| (it.length, it.revision, it.kind)).collect();
+    let found: Vec<_> =
+        strict(&bytes).certificates().map(Result::unwrap).map(|it| (it.length, it.revision, it.kind)).collect();
     assert_eq!(found, [(9, 0x200, 2), (8, 0x100, 1)]);
     assert_eq!(strict(&with_debug()).certificates().count(), 0);
 }
@@ -179,14 +181,23 @@ fn functions_are_found() {
     assert_eq!(functions.len(), 2);
     let all: Vec<_> = functions.iter().map(|it| (it.begin, it.end, it.unwind)).collect();
     assert_eq!(all, [(0x1000, 0x1010, 0x1020), (0x1020, 0x1040, 0x1001)]);
-    for (address, begin) in [(0x0FFF, None), (0x1000, Some(0x1000)), (0x100F, Some(0x1000)), (0x1010, None), (0x1025, Some(0x1020)), (0x1040, None), (u32::MAX, None)] {
+    for (address, begin) in [
+        (0x0FFF, None),
+        (0x1000, Some(0x1000)),
+        (0x100F, Some(0x1000)),
+        (0x1010, None),
+        (0x1025, Some(0x1020)),
+        (0x1040, None),
+        (u32::MAX, None),
+    ] {
         assert_eq!(functions.find(address).unwrap().map(|it| it.begin), begin);
     }
     // the record behind the link of the second is that of the first
     let first = functions.record(functions.get(0).unwrap()).unwrap();
     let second = functions.record(functions.get(1).unwrap()).unwrap();
     assert_eq!(first.raw(), second.raw());
-    let codes: Vec<_> = first.codes().map(|code| code.unwrap()).map(|code| (code.code_offset, code.operation)).collect();
+    let codes: Vec<_> =
+        first.codes().map(|code| code.unwrap()).map(|code| (code.code_offset, code.operation)).collect();
     assert_eq!(codes, [(4, Operation::Alloc(40)), (1, Operation::Push(Register(5)))]);
 }
 
@@ -205,9 +216,13 @@ fn records_are_read() {
     assert_eq!(data[..4], [1, 0, 0, 0]);
     assert_eq!(data.as_ptr_range().end, bytes.as_ptr_range().end, "they go to the end of the bytes");
     let scopes: Vec<_> = record.scopes().unwrap().map(Result::unwrap).collect();
-    assert_eq!(scopes.iter().map(|it| [it.begin, it.end, it.handler, it.target]).collect::<Vec<_>>(), [[0x1002, 0x1008, 1, 0x100A]]);
+    assert_eq!(
+        scopes.iter().map(|it| [it.begin, it.end, it.handler, it.target]).collect::<Vec<_>>(),
+        [[0x1002, 0x1008, 1, 0x100A]]
+    );
     let record = functions.record(functions.get(1).unwrap()).unwrap();
-    let codes: Vec<_> = record.codes().map(|code| code.unwrap()).map(|code| (code.code_offset, code.operation)).collect();
+    let codes: Vec<_> =
+        record.codes().map(|code| code.unwrap()).map(|code| (code.code_offset, code.operation)).collect();
     assert_eq!(codes, [(5, Operation::Save(Register(3), Offset::Frame(40)))]);
     assert_eq!(record.chained(), functions.get(0));
     assert!(record.handler().is_none() && record.scopes().is_none());
@@ -331,9 +346,18 @@ fn each_arm64_operation_is_read() {
         (vec![0xE4], End),
         (vec![0xE5], EndC),
         (vec![0xE6], SaveNext),
-        (vec![0xE7, 0x44, 0x42], SaveAnyReg { kind: RegisterKind::Float, pair: true, preindexed: false, register: 4, offset: 32 }),
-        (vec![0xE7, 0x24, 0x82], SaveAnyReg { kind: RegisterKind::Vector, pair: false, preindexed: true, register: 4, offset: 32 }),
-        (vec![0xE7, 0x04, 0x02], SaveAnyReg { kind: RegisterKind::Integer, pair: false, preindexed: false, register: 4, offset: 16 }),
+        (
+            vec![0xE7, 0x44, 0x42],
+            SaveAnyReg { kind: RegisterKind::Float, pair: true, preindexed: false, register: 4, offset: 32 },
+        ),
+        (
+            vec![0xE7, 0x24, 0x82],
+            SaveAnyReg { kind: RegisterKind::Vector, pair: false, preindexed: true, register: 4, offset: 32 },
+        ),
+        (
+            vec![0xE7, 0x04, 0x02],
+            SaveAnyReg { kind: RegisterKind::Integer, pair: false, preindexed: false, register: 4, offset: 16 },
+        ),
         (vec![0xE7, 0x23, 0xC5], SaveZReg { register: 3, number: 69 }),
         (vec![0xE7, 0x33, 0xC5], SavePReg { register: 3, number: 69 }),
         (vec![0xE8], Custom(TrapFrame)),
@@ -370,7 +394,8 @@ fn each_arm64_operation_is_read() {
 fn exports_are_listed() {
     let bytes = with_exports();
     let image = strict(&bytes);
-    let exports: Vec<_> = image.exports().unwrap().unwrap().map(Result::unwrap).map(|it| (it.name, it.rva, it.place)).collect();
+    let exports: Vec<_> =
+        image.exports().unwrap().unwrap().map(Result::unwrap).map(|it| (it.name, it.rva, it.place)).collect();
     assert_eq!(exports, [(b"first".as_slice(), 0x9_0000, None), (b"second".as_slice(), 0x1004, Some(0x404))]);
     assert!(strict(SMALL).exports().unwrap().is_none());
 }

@@ -30,8 +30,8 @@ fn every_byte_of_an_image_may_change() {
                 let mut bytes = image.clone();
                 bytes[place] = value;
                 for mode in MODES {
-                read_all(&bytes, mode, 64);
-            }
+                    read_all(&bytes, mode, 64);
+                }
             }
         }
     }
@@ -116,9 +116,11 @@ fn images_that_lie_are_refused() {
     for sections_place in lies(length as u64) {
         for number_of_sections in [0, 1, 2, 255, 65_534, 65_535] {
             let image = sys::ImageInfo { sections_place, number_of_sections, ..sys::ImageInfo::default() };
-            // SAFETY: the pointers and lengths are those of one slice and one vector, and the record is lent for the call.
+            // SAFETY: the pointers and lengths are those of one slice and one vector, and the record is lent for the
+            // call.
             let answer = unsafe { sys::pe_c_sections(start, length, &image, sections.as_mut_ptr(), sections.len()) };
-            let there = sections_place.checked_add(40 * u64::from(number_of_sections)).is_some_and(|end| end <= length as u64);
+            let there =
+                sections_place.checked_add(40 * u64::from(number_of_sections)).is_some_and(|end| end <= length as u64);
             assert_eq!(answer == 0, there || number_of_sections == 0, "{sections_place} {number_of_sections}");
         }
     }

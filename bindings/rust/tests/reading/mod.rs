@@ -1,7 +1,7 @@
 //! Reads all that the calls give of an image, for tests, the fuzz loop and the bench.
 #![allow(dead_code)]
 
-use pe_c::{Arm64Unwinding, Arm64Record, Error, Handler, Image, Mode, UnwindRecord, VersionName};
+use pe_c::{Arm64Record, Arm64Unwinding, Error, Handler, Image, Mode, UnwindRecord, VersionName};
 
 /// What was read.
 #[derive(Clone, Copy, Debug, Default, PartialEq, Eq)]
