@@ -268,6 +268,7 @@ fn find_place(
     }
 }
 
+/// The unwind record of an unwind address, as `pe_c_unwind_record` hands it out.
 pub fn read_record(
     bytes: &[u8],
     image: &Image,
