@@ -1,7 +1,7 @@
 -- From the parts of an image, read one after the other, to the image.
 use Rattle.std.proofs.Common.{◌≡◌, ℕ, List, [], Option, None, Some, Result, Ok, Err, refl, sym, ap, ◌∙◌}
 use Rattle.std.specs.Prelude.{IsOk, unwrap_or, if◌then◌else◌}
-use Rattle.pe_core.specs.Refusals.{Refusal, UnlessMemory, IfMemory, answer_by, kind_of, ◌>>=◌}
+use Rattle.pe_core.specs.Refusals.{Refusal, UnlessMemory, answer_by, kind_of, ◌>>=◌}
 use Rattle.pe_core.specs.declared.error.Error.{Error}
 use Rattle.pe_core.specs.declared.options.ParseMode.{ParseMode}
 use Rattle.pe_core.specs.declared.options.ParseMode.TheVariants.{Strict, Permissive}

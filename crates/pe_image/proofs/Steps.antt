@@ -1,5 +1,5 @@
 -- Tests in front of a value, and facts that are owed by the kind of a refusal.
-use Rattle.std.proofs.Common.{◌≡◌, Bool, true, false, List, [], ◌∷◌, Result, Ok, Err, refl, sym, ap, ◌∙◌}
+use Rattle.std.proofs.Common.{◌≡◌, Bool, true, false, [], ◌∷◌, Result, Ok, Err, refl, sym, ap}
 use Rattle.pe_core.specs.Refusals.{Refusal, WriteFit, UnlessMemory, IfMemory, outcome, ◌>>=◌}
 use Rattle.pe_core.specs.declared.error.Error.{Error}
 use Rattle.pe_core.specs.declared.error.Error.TheVariants as errors

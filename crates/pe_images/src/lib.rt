@@ -4,13 +4,11 @@
 mod every_directory;
 mod objects;
 
-pub use every_directory::with_every_directory;
-pub use every_directory::with_every_directory_and_records;
-pub use every_directory::with_every_directory_of_arm64;
-pub use every_directory::with_every_directory_of_x86;
-pub use objects::object;
-pub use objects::terse;
-pub use objects::terse_with_debug;
+pub use every_directory::{
+    with_every_directory, with_every_directory_and_records, with_every_directory_of_arm64,
+    with_every_directory_of_x86,
+};
+pub use objects::{object, terse, terse_with_debug};
 use std::alloc::{AllocError, Global};
 
 /// Puts each part at its place. What does not fit is left out.
