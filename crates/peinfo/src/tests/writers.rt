@@ -2,12 +2,22 @@
 
 use crate::counted_out::CountedOut;
 use crate::engine::ReportError;
+use crate::find::find;
 use crate::report::report;
 use crate::rewrite::rewrite;
 use pe_image::ParseOptions;
-use pe_images::with_debug;
+use pe_images::{with_debug, with_functions};
+use std::alloc::Global;
 use std::io;
 use std::test::*;
+
+/// What an engine is asked for.
+#[derive(Clone, Copy)]
+enum Asked {
+    Listing,
+    FunctionAt(u32),
+    Rewriting,
+}
 
 #[derive(Clone, Copy, PartialEq, Eq)]
 enum Way {
@@ -16,18 +26,19 @@ enum Way {
     TakesOne,
 }
 
-/// A writer that takes ten bytes a write, and from its third write on behaves in its own way.
+/// A writer that takes ten bytes a write, and from one write on, counted from 1, behaves in its own way.
 #[derive(Drop)]
 struct Slow {
     written: Vec<u8>,
     writes: u64,
+    from: u64,
     way: Way,
 }
 
 impl io::Write for Slow {
     fn write(&mut self, buf: &[u8]) -> io::Result<usize> {
         self.writes = self.writes.saturating_add(1);
-        let most = if self.writes < 3 {
+        let most = if self.writes < self.from {
             10
         } else {
             match self.way {
@@ -60,6 +71,7 @@ fn reports_to_slow_writers(rt: HostRuntime) -> Result<(), Fail> {
         let mut out = CountedOut::new(Slow {
             written,
             writes: 0,
+            from: 3,
             way,
         });
         match report(rt.alloc(), &bytes, &opts, &mut out) {
@@ -92,6 +104,7 @@ fn rewrites_to_slow_writers(rt: HostRuntime) -> Result<(), Fail> {
         let mut out = CountedOut::new(Slow {
             written,
             writes: 0,
+            from: 3,
             way,
         });
         match rewrite(rt.alloc(), &bytes, &mut out) {
@@ -108,11 +121,70 @@ fn rewrites_to_slow_writers(rt: HostRuntime) -> Result<(), Fail> {
     Ok(())
 }
 
+/// The text of an engine, to a writer that stops at a write.
+fn written_to(
+    alloc: Global,
+    bytes: &[u8],
+    asked: Asked,
+    from: u64,
+    way: Way,
+) -> (bool, CountedOut<Slow>) {
+    let mut out = CountedOut::new(Slow {
+        written: Vec::new(alloc),
+        writes: 0,
+        from,
+        way,
+    });
+    let answer = match asked {
+        Asked::Listing => report(alloc, bytes, &ParseOptions::default(), &mut out),
+        Asked::FunctionAt(rva) => find(alloc, bytes, rva, &mut out),
+        Asked::Rewriting => rewrite(alloc, bytes, &mut out),
+    };
+    (answer.is_ok(), out)
+}
+
+/// A writer that stops at its first write, at its second and so on, until the whole text is written in front of that: what
+/// is written is a beginning of the text, ten bytes a write, and the write at which it stops is the last.
+#[test]
+fn stops_at_each_write(rt: HostRuntime) -> Result<(), Fail> {
+    let alloc = rt.alloc();
+    let bytes = with_functions(alloc)?;
+    let line = b"function 00001020 00001040 00001001\n".as_slice();
+    for (asked, text) in [
+        (Asked::Listing, super::FUNCTION_LINES),
+        (Asked::FunctionAt(0x1025), line),
+        (Asked::Rewriting, bytes.as_slice()),
+    ] {
+        for way in [Way::Fails, Way::TakesNothing] {
+            let mut whole = 0u64;
+            for before in 0..200u64 {
+                let (is_done, out) = written_to(alloc, &bytes, asked, before.wrapping_add(1), way);
+                let taken = text.len().min(before.wrapping_mul(10) as usize);
+                assert_eq!(rt; is_done, taken == text.len());
+                assert_eq!(rt; out.failures(), u64::from(!is_done));
+                let slow = out.into_inner();
+                assert!(rt; text.get(..taken) == Some(slow.written.as_slice()));
+                if is_done {
+                    whole = whole.wrapping_add(1);
+                } else {
+                    assert_eq!(rt; slow.writes, before.wrapping_add(1));
+                }
+            }
+            assert!(rt; whole > 0);
+        }
+        let (is_done, out) = written_to(alloc, &bytes, asked, 1, Way::TakesOne);
+        assert!(rt; is_done && out.failures() == 0);
+        assert!(rt; out.into_inner().written.as_slice() == text);
+    }
+    Ok(())
+}
+
 #[test]
 fn counts_failed_writes_alone(rt: HostRuntime) -> Result<(), Fail> {
     let mut out = CountedOut::new(Slow {
         written: Vec::new(rt.alloc()),
         writes: 0,
+        from: 3,
         way: Way::Fails,
     });
     for (piece, taken, failures) in [
