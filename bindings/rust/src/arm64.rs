@@ -2,8 +2,7 @@
 
 use crate::image::{Error, Image};
 use crate::sys::{self, Arm64Function, Arm64Packed, Arm64Scope};
-use crate::walk::{look, Walk};
-use core::iter::FusedIterator;
+use crate::walk::{items, look, Walk};
 
 /// What the operating system put on the stack.
 #[derive(Clone, Copy, Debug, PartialEq, Eq, Hash)]
@@ -174,34 +173,16 @@ impl From<sys::Arm64Code> for Arm64Code {
     }
 }
 
-/// ARM64 unwind codes one behind the other, also behind `End` and `EndC`, where those of epilogs stand. The last may be
-/// [`ARM64_CUT`](Error::ARM64_CUT).
-#[derive(Clone, Debug)]
-pub struct Arm64Codes<'a>(Walk<'a, sys::Arm64Walk>);
-
-impl Iterator for Arm64Codes<'_> {
-    type Item = Result<Arm64Code, Error>;
-
-    fn next(&mut self) -> Option<Self::Item> {
-        Some(self.0.step(sys::pe_c_next_arm64_code)?.map(Arm64Code::from))
-    }
+items! {
+    /// ARM64 unwind codes one behind the other, also behind `End` and `EndC`, where those of epilogs stand. The last may be
+    /// [`ARM64_CUT`](Error::ARM64_CUT).
+    Arm64Codes<'a>(sys::Arm64Walk): Arm64Code, sys::pe_c_next_arm64_code, |code, _| Ok(Arm64Code::from(code))
 }
 
-impl FusedIterator for Arm64Codes<'_> {}
-
-/// The epilog scopes of an ARM64 record.
-#[derive(Clone, Debug)]
-pub struct Arm64Scopes<'a>(Walk<'a, sys::Range>);
-
-impl Iterator for Arm64Scopes<'_> {
-    type Item = Result<Arm64Scope, Error>;
-
-    fn next(&mut self) -> Option<Self::Item> {
-        self.0.step(sys::pe_c_next_arm64_scope)
-    }
+items! {
+    /// The epilog scopes of an ARM64 record.
+    Arm64Scopes<'a>(sys::Range): Arm64Scope, sys::pe_c_next_arm64_scope, |scope, _| Ok(scope)
 }
-
-impl FusedIterator for Arm64Scopes<'_> {}
 
 /// An ARM64 unwind record.
 #[derive(Clone, Copy, Debug)]

@@ -2,8 +2,7 @@
 
 use crate::image::{bytes_of, Error, Image};
 use crate::sys;
-use crate::walk::Walk;
-use core::iter::FusedIterator;
+use crate::walk::{items, Walk};
 
 /// An attribute certificate.
 #[derive(Clone, Copy, Debug, PartialEq, Eq)]
@@ -18,25 +17,16 @@ pub struct Certificate<'a> {
     pub body: &'a [u8],
 }
 
-/// The certificates of an image. Nothing comes behind one that is refused: [`Error::CERTIFICATE_TABLE`],
-/// [`Error::SHORT`], [`Error::CERTIFICATE_SIZE`], [`Error::CERTIFICATE_REVISION`], [`Error::CERTIFICATE_TYPE`].
-#[derive(Clone, Debug)]
-pub struct Certificates<'a>(Walk<'a, sys::Range>);
-
-impl<'a> Iterator for Certificates<'a> {
-    type Item = Result<Certificate<'a>, Error>;
-
-    fn next(&mut self) -> Option<Self::Item> {
-        let found: sys::Certificate = match self.0.step(sys::pe_c_next_certificate)? {
-            Ok(found) => found,
-            Err(error) => return Some(Err(error)),
-        };
-        let sys::Certificate { length, revision, kind, .. } = found;
-        Some(bytes_of(found.body, self.0.bytes).map(|body| Certificate { length, revision, kind, body }))
-    }
+fn certificate_of(found: sys::Certificate, bytes: &[u8]) -> Result<Certificate<'_>, Error> {
+    let sys::Certificate { length, revision, kind, .. } = found;
+    Ok(Certificate { length, revision, kind, body: bytes_of(found.body, bytes)? })
 }
 
-impl FusedIterator for Certificates<'_> {}
+items! {
+    /// The certificates of an image. Nothing comes behind one that is refused: [`Error::CERTIFICATE_TABLE`],
+    /// [`Error::SHORT`], [`Error::CERTIFICATE_SIZE`], [`Error::CERTIFICATE_REVISION`], [`Error::CERTIFICATE_TYPE`].
+    Certificates<'a>(sys::Range): Certificate<'a>, sys::pe_c_next_certificate, certificate_of
+}
 
 impl<'a> Image<'a> {
     /// The attribute certificates, none without their directory.

@@ -2,9 +2,8 @@
 
 use crate::image::{bytes_of, up_to_zero, Error, Image};
 use crate::sys::{self, DebugEntry, VcFeatures};
-use crate::walk::Walk;
+use crate::walk::{items, Walk};
 use core::fmt;
-use core::iter::FusedIterator;
 
 /// The key by which a symbol server files the symbols of an image: a record of PDB 7.0. Its text is the key's: the
 /// GUID's digits and the age.
@@ -98,38 +97,19 @@ impl<'a> PogoEntry<'a> {
     }
 }
 
-/// The entries of a debug directory. A last one that is cut is [`SHORT`](Error::SHORT).
-#[derive(Clone, Debug)]
-pub struct DebugEntries<'a>(Walk<'a, sys::Range>);
-
-impl Iterator for DebugEntries<'_> {
-    type Item = Result<DebugEntry, Error>;
-
-    fn next(&mut self) -> Option<Self::Item> {
-        self.0.step(sys::pe_c_next_debug_entry)
-    }
+items! {
+    /// The entries of a debug directory. A last one that is cut is [`SHORT`](Error::SHORT).
+    DebugEntries<'a>(sys::Range): DebugEntry, sys::pe_c_next_debug_entry, |entry, _| Ok(entry)
 }
 
-impl FusedIterator for DebugEntries<'_> {}
-
-/// The entries of a POGO record. The last may be [`SHORT`](Error::SHORT) or [`POGO_NAME`](Error::POGO_NAME).
-#[derive(Clone, Debug)]
-pub struct PogoEntries<'a>(Walk<'a, sys::Range>);
-
-impl<'a> Iterator for PogoEntries<'a> {
-    type Item = Result<PogoEntry<'a>, Error>;
-
-    fn next(&mut self) -> Option<Self::Item> {
-        let entry: sys::PogoEntry = match self.0.step(sys::pe_c_next_pogo_entry)? {
-            Ok(entry) => entry,
-            Err(error) => return Some(Err(error)),
-        };
-        let name_bytes = bytes_of(entry.name, self.0.bytes);
-        Some(name_bytes.map(|name_bytes| PogoEntry { rva: entry.rva, size: entry.size, name_bytes }))
-    }
+fn pogo_entry_of(found: sys::PogoEntry, bytes: &[u8]) -> Result<PogoEntry<'_>, Error> {
+    Ok(PogoEntry { rva: found.rva, size: found.size, name_bytes: bytes_of(found.name, bytes)? })
 }
 
-impl FusedIterator for PogoEntries<'_> {}
+items! {
+    /// The entries of a POGO record. The last may be [`SHORT`](Error::SHORT) or [`POGO_NAME`](Error::POGO_NAME).
+    PogoEntries<'a>(sys::Range): PogoEntry<'a>, sys::pe_c_next_pogo_entry, pogo_entry_of
+}
 
 /// Debug data. Each call that gives a record reads all of them, the directory and the six records, and is refused as
 /// the first that is: [`Error::UNMAPPED`], [`Error::DEBUG_BOUNDS`], [`Error::DEBUG_SIZE`], [`Error::SHORT`],

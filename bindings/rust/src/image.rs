@@ -260,39 +260,30 @@ impl<'a> Image<'a> {
         answer(number, out)
     }
 
-    /// Makes a call that takes a number besides.
-    pub(crate) fn ask_with<T: Default>(&self, call: CallWith<u32, T>, more: u32) -> Result<Option<T>, Error> {
+    /// Makes a call that takes something besides: a number, or a pointer that the caller lends for the call.
+    fn call_with<M, T: Default>(&self, call: CallWith<M, T>, more: M) -> Result<Option<T>, Error> {
         let mut out = T::default();
         let (bytes, sections) = (self.bytes, &self.sections);
-        // SAFETY: as above.
+        // SAFETY: as above, and `more` is a number, or comes from a reference of the three calls below.
         let number = unsafe {
             let mode = self.mode.number();
             call(bytes.as_ptr(), bytes.len(), &self.info, sections.as_ptr(), sections.len(), mode, more, &mut out)
         };
         answer(number, out)
+    }
+
+    /// Makes a call that takes a number besides.
+    pub(crate) fn ask_with<T: Default>(&self, call: CallWith<u32, T>, more: u32) -> Result<Option<T>, Error> {
+        self.call_with(call, more)
     }
 
     /// Makes a call that takes a record besides.
     pub(crate) fn ask_of<M, T: Default>(&self, call: CallWith<*const M, T>, more: &M) -> Result<Option<T>, Error> {
-        let mut out = T::default();
-        let (bytes, sections) = (self.bytes, &self.sections);
-        // SAFETY: as above.
-        let number = unsafe {
-            let mode = self.mode.number();
-            call(bytes.as_ptr(), bytes.len(), &self.info, sections.as_ptr(), sections.len(), mode, more, &mut out)
-        };
-        answer(number, out)
+        self.call_with(call, more)
     }
 
     /// Makes a call that moves a walk.
     pub(crate) fn step<W, T: Default>(&self, call: CallWith<*mut W, T>, walk: &mut W) -> Result<Option<T>, Error> {
-        let mut out = T::default();
-        let (bytes, sections) = (self.bytes, &self.sections);
-        // SAFETY: as above.
-        let number = unsafe {
-            let mode = self.mode.number();
-            call(bytes.as_ptr(), bytes.len(), &self.info, sections.as_ptr(), sections.len(), mode, walk, &mut out)
-        };
-        answer(number, out)
+        self.call_with(call, walk)
     }
 }

@@ -44,6 +44,29 @@ impl<'a, W> Walk<'a, W> {
     }
 }
 
+/// Declares an iterator over bytes: its walk, its items, the call that steps, and what an item is by what the call gives
+/// and by the bytes.
+macro_rules! items {
+    ($(#[$doc:meta])* $name:ident<'a>($walk:ty): $item:ty, $call:path, $told:expr) => {
+        $(#[$doc])*
+        #[derive(Clone, Debug)]
+        pub struct $name<'a>(crate::walk::Walk<'a, $walk>);
+
+        impl<'a> Iterator for $name<'a> {
+            type Item = Result<$item, Error>;
+
+            fn next(&mut self) -> Option<Self::Item> {
+                let bytes = self.0.bytes;
+                Some(self.0.step($call)?.and_then(|found| $told(found, bytes)))
+            }
+        }
+
+        impl core::iter::FusedIterator for $name<'_> {}
+    };
+}
+
+pub(crate) use items;
+
 /// A walk over an image.
 #[derive(Clone, Debug)]
 pub(crate) struct ImageWalk<'i, 'a, W> {

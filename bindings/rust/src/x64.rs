@@ -2,7 +2,7 @@
 
 use crate::image::{bytes_of, Error, Image};
 use crate::sys::{self, Function, Scope};
-use crate::walk::{look, ImageWalk, Walk};
+use crate::walk::{items, look, ImageWalk, Walk};
 use core::iter::FusedIterator;
 
 /// A register by its number: 0 to 15 are rax, rcx, rdx, rbx, rsp, rbp, rsi, rdi and r8 to r15, 17 to 32 xmm0 to xmm15.
@@ -90,34 +90,16 @@ impl From<sys::Code> for Code {
     }
 }
 
-/// The codes of an unwind record, its last instruction first. The last may be [`SHORT`](Error::SHORT) or
-/// [`UNWIND_CODE`](Error::UNWIND_CODE).
-#[derive(Clone, Debug)]
-pub struct Codes<'a>(Walk<'a, sys::Walk>);
-
-impl Iterator for Codes<'_> {
-    type Item = Result<Code, Error>;
-
-    fn next(&mut self) -> Option<Self::Item> {
-        Some(self.0.step(sys::pe_c_next_code)?.map(Code::from))
-    }
+items! {
+    /// The codes of an unwind record, its last instruction first. The last may be [`SHORT`](Error::SHORT) or
+    /// [`UNWIND_CODE`](Error::UNWIND_CODE).
+    Codes<'a>(sys::Walk): Code, sys::pe_c_next_code, |code, _| Ok(Code::from(code))
 }
 
-impl FusedIterator for Codes<'_> {}
-
-/// The entries of a scope table.
-#[derive(Clone, Debug)]
-pub struct Scopes<'a>(Walk<'a, sys::Range>);
-
-impl Iterator for Scopes<'_> {
-    type Item = Result<Scope, Error>;
-
-    fn next(&mut self) -> Option<Self::Item> {
-        self.0.step(sys::pe_c_next_scope)
-    }
+items! {
+    /// The entries of a scope table.
+    Scopes<'a>(sys::Range): Scope, sys::pe_c_next_scope, |scope, _| Ok(scope)
 }
-
-impl FusedIterator for Scopes<'_> {}
 
 /// The handler of a function: its address, and what it finds behind that, to the end of the bytes.
 #[derive(Clone, Copy, Debug, PartialEq, Eq)]

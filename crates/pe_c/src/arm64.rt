@@ -258,10 +258,8 @@ fn flat_info(info: &Arm64UnwindInfo, bytes: &[u8], place: usize) -> Arm64Record
 fn info_at(bytes: &[u8], place: usize) -> Result<Arm64Record>
     ensures { answer_by (λ x. x) result ≡ flat_info_at bytes.now place }
 {
-    match Arm64UnwindInfo::parse(bytes, place) {
-        Ok(info) => Ok(flat_info(&info, bytes, place)),
-        Err(error) => Err(error),
-    }
+    let info = Arm64UnwindInfo::parse(bytes, place)?;
+    Ok(flat_info(&info, bytes, place))
 }
 
 fn read_record(
@@ -281,11 +279,7 @@ fn read_record(
     )?;
     match exceptions.record_place_arm64(function, sections, &opts) {
         None => Ok(None),
-        Some(Ok(place)) => match info_at(bytes, place) {
-            Ok(record) => Ok(Some(record)),
-            Err(error) => Err(error),
-        },
-        Some(Err(error)) => Err(error),
+        Some(place) => Ok(Some(info_at(bytes, place?)?)),
     }
 }
 
@@ -322,13 +316,9 @@ fn next_scope(bytes: &[u8], walk: &mut Range) -> Result<Option<Arm64Scope>>
     ensures scope { answer_by (λ x. x) result ≡ next_of flat_scope_at 4 bytes.now walk.old }
     ensures walk { walk.new ≡ walk_of 4 bytes.now walk.old }
 {
-    match next_entry(bytes, walk, SIZE_OF_SCOPE) {
-        Ok(Some(entry)) => match u32_at(entry, 0) {
-            Ok(word) => Ok(Some(flat_scope(Arm64EpilogScope(word)))),
-            Err(error) => Err(error),
-        },
-        Ok(None) => Ok(None),
-        Err(error) => Err(error),
+    match next_entry(bytes, walk, SIZE_OF_SCOPE)? {
+        Some(entry) => Ok(Some(flat_scope(Arm64EpilogScope(u32_at(entry, 0)?)))),
+        None => Ok(None),
     }
 }
 

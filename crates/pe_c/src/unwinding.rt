@@ -132,13 +132,8 @@ pub extern "C" fn pe_c_function_table(
 fn find(bytes: &[u8], table: &Range, rva: u32) -> Result<Option<RuntimeFunction>>
     ensures { LocatesIn (bytes_at bytes.now table.now) rva (answer_of result) }
 {
-    match slice_of(bytes, table) {
-        Ok(entries) => {
-            let mut counted = CountedTable::new(entries);
-            Ok(search(&mut counted, rva))
-        }
-        Err(error) => Err(error),
-    }
+    let mut counted = CountedTable::new(slice_of(bytes, table)?);
+    Ok(search(&mut counted, rva))
 }
 
 /// Finds the function that covers an address, in the function table at this range: `NOTHING` where none does, `SHORT` where
@@ -244,10 +239,8 @@ fn flat_record(info: &UnwindInfo, bytes: &[u8], place: usize) -> UnwindRecord
 fn record_at(bytes: &[u8], place: usize) -> Result<UnwindRecord>
     ensures { answer_by (λ x. x) result ≡ flat_record_at bytes.now place }
 {
-    match UnwindInfo::parse(bytes, place) {
-        Ok(info) => Ok(flat_record(&info, bytes, place)),
-        Err(error) => Err(error),
-    }
+    let info = UnwindInfo::parse(bytes, place)?;
+    Ok(flat_record(&info, bytes, place))
 }
 
 /// The place of the record of an unwind address.
@@ -262,10 +255,9 @@ fn find_place(
 {
     let opts = options(mode);
     let alignment = image.file_alignment;
-    match ExceptionData::parse_with_opts(bytes, image.exceptions, sections, alignment, &opts) {
-        Ok(exceptions) => exceptions.record_place(unwind, sections, &opts),
-        Err(error) => Err(error),
-    }
+    let table = image.exceptions;
+    let exceptions = ExceptionData::parse_with_opts(bytes, table, sections, alignment, &opts)?;
+    exceptions.record_place(unwind, sections, &opts)
 }
 
 /// The unwind record of an unwind address, as `pe_c_unwind_record` hands it out.
@@ -278,10 +270,8 @@ pub fn read_record(
 ) -> Result<UnwindRecord>
     ensures { FollowsToRecord bytes.now image.now sections.now mode unwind (answer_by (λ x. x) result) }
 {
-    match find_place(bytes, image, sections, mode, unwind) {
-        Ok(place) => record_at(bytes, place),
-        Err(error) => Err(error),
-    }
+    let place = find_place(bytes, image, sections, mode, unwind)?;
+    record_at(bytes, place)
 }
 
 /// Reads the unwind record of an unwind address, as a function of the table has it. An odd address is a link to another
@@ -434,13 +424,9 @@ fn next_scope(bytes: &[u8], walk: &mut Range) -> Result<Option<ScopeTableEntry>>
     ensures scope { answer_by (λ x. x) result ≡ next_of scope_at 16 bytes.now walk.old }
     ensures walk { walk.new ≡ walk_of 16 bytes.now walk.old }
 {
-    match next_entry(bytes, walk, SIZE_OF_SCOPE) {
-        Ok(Some(entry)) => match ScopeTableEntry::parse(entry, 0) {
-            Ok(scope) => Ok(Some(scope)),
-            Err(error) => Err(error),
-        },
-        Ok(None) => Ok(None),
-        Err(error) => Err(error),
+    match next_entry(bytes, walk, SIZE_OF_SCOPE)? {
+        Some(entry) => Ok(Some(ScopeTableEntry::parse(entry, 0)?)),
+        None => Ok(None),
     }
 }
 

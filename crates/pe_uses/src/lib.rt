@@ -4,6 +4,7 @@
 mod arm64;
 mod frames;
 mod imports;
+mod resources;
 mod symbols;
 mod unwinding;
 mod versions;
@@ -12,6 +13,7 @@ mod writing;
 pub use arm64::arm64_codes;
 pub use frames::frame_operations;
 pub use imports::import_names;
+pub use resources::first_data_entry;
 pub use symbols::symbol_key;
 pub use unwinding::unwind_operations;
 pub use versions::file_version;

@@ -3,4 +3,4 @@ use Rattle.pe_unwind.proofs.Places.{parts_stand}
 use Rattle.pe_c.proofs.unwinding.record_at.Goals as goal
 
 pub flat_record-requires : goal.flat_record-requires
-flat_record-requires c = parts_stand c.args.bytes.now c.args.place (unwind_view c.in-Ok.info) c.in-Ok.ensures
+flat_record-requires c = parts_stand c.args.bytes.now c.args.place (unwind_view c.in_ok-info.info) c.in_ok-info.ensures
