@@ -9,7 +9,7 @@ use Rattle.pe_records.specs.Certificates.{CertificateView, certificate_at}
 use Rattle.pe_records.specs.DebugDirectory.{first_of_type}
 use Rattle.pe_records.specs.DebugRecords.{DebugFields, Stamp, Buffer, debug_data, record_place}
 use Rattle.pe_records.specs.DebugRecords as records
-use Rattle.pe_records.specs.Parts.{StandAt, StandsBehind, PartsStand, hash_of}
+use Rattle.pe_records.specs.Parts.{StandsBehind, DebugPartsStand, hash_of}
 use Rattle.pe_records.specs.declared.debug.ImageDebugDirectory.{ImageDebugDirectory}
 use Rattle.pe_c.specs.declared.debug.Repro.{Repro}
 use Rattle.pe_c.specs.declared.image.Image.{Image}
@@ -18,16 +18,14 @@ use Rattle.pe_c.specs.Certificates.{certificate_told}
 use Rattle.pe_c.specs.Debug.{debug_of, key_of, pdb20_of, repro_by, repro_of, pogo_of}
 use Rattle.pe_c.specs.Images.{is_absent}
 use Rattle.pe_c.specs.Modes.{options_of}
+use Rattle.pe_c.proofs.RecordRanges.{of_place}
 use Rattle.pe_c.specs.Parts.{IsPart, TellsPart}
 use Rattle.pe_c.specs.Ranges.{IsRange, no_bytes}
-
-there : (b : List ℕ) (p : ℕ) (part : List ℕ) → StandAt b p part → IsRange b (record { place = p; length = length part }) part
-there b p part s = record { inside = s.inside; same = s.here }
 
 -- ---- certificates
 
 pub body_is_told : (b : List ℕ) (p : ℕ) (c : CertificateView) (next : ℕ) → certificate_at b p ≡ Ok (c, next) → IsRange b (certificate_told p c).body c.body
-body_is_told b p c next e = there b (p + 8) c.body (body_stands b p c next e)
+body_is_told b p c next e = of_place b (p + 8) c.body (body_stands b p c next e)
 
 -- ---- debug data
 
@@ -42,7 +40,7 @@ data_by true r d e = absurd cc
 data_by false (Ok x) d e = cc
 data_by false (Err x) d e = absurd cc
 
-parts_of : (b : List ℕ) (image : Image) (s : List SectionTable) (mode : ℕ) (d : DebugFields) → debug_of b image s mode ≡ Ok (Some d) → PartsStand (options_of mode) b d
+parts_of : (b : List ℕ) (image : Image) (s : List SectionTable) (mode : ℕ) (d : DebugFields) → debug_of b image s mode ≡ Ok (Some d) → DebugPartsStand (options_of mode) b d
 unfolding debug_of
 parts_of b image s mode d e =
     parts_stand (options_of mode) b image.debug s image.file_alignment 0 d
@@ -50,7 +48,7 @@ parts_of b image s mode d e =
 
 -- what is told of debug data whose parts stand tells its part
 tells : {Y : Type 0} (told : DebugFields → Option Y) (range_of : Y → Range) (part_of : DebugFields → Option (List ℕ)) →
-    ((b : List ℕ) (mode : ℕ) (d : DebugFields) (y : Y) → PartsStand (options_of mode) b d → told d ≡ Some y → IsPart b (range_of y) (part_of d)) → TellsPart told range_of part_of
+    ((b : List ℕ) (mode : ℕ) (d : DebugFields) (y : Y) → DebugPartsStand (options_of mode) b d → told d ≡ Some y → IsPart b (range_of y) (part_of d)) → TellsPart told range_of part_of
 tells told range_of part_of h b image s mode y e =
     let given = told_by told (debug_of b image s mode) y e in
     (given.0, given.1, given.2, h b mode given.0 y (parts_of b image s mode given.0 given.1) given.2)
@@ -65,7 +63,7 @@ made b mode n part make range_of h (Some v) None y s given = absurd cc
 made b mode n part make range_of h (Some v) (Some e) y s given =
     let r : Range = record { place = record_place true e + n; length = length (part v) } in
     let same : make v r ≡ y = cc in
-    subst (λ (x : Range). IsRange b x (part v)) (sym (h v r) ∙ ap range_of same) (there b (record_place true e + n) (part v) s)
+    subst (λ (x : Range). IsRange b x (part v)) (sym (h v r) ∙ ap range_of same) (of_place b (record_place true e + n) (part v) s)
 
 pub key_tells : TellsPart key_of (λ k. k.name) (λ d. option_map (λ r. r.filename) d.pdb70)
 key_tells =

@@ -5,17 +5,16 @@ use Rattle.pe_core.specs.Refusals.{outcome}
 use Rattle.pe_unwind.proofs.Arm64Records as arm64
 use Rattle.pe_unwind.proofs.Places as x64
 use Rattle.pe_unwind.specs.Arm64Record.{Arm64HandlerView, Arm64InfoView, info_at, scopes_place}
-use Rattle.pe_unwind.specs.Places.{StandAt, StandLast, data_of}
+use Rattle.pe_core.specs.Places.{StandAt}
+use Rattle.pe_unwind.specs.Places.{StandLast, data_of}
 use Rattle.pe_unwind.specs.UnwindRecord.{HandlerView, Exception, Termination, UnwindInfoView, unwind_tests, unwind_record}
 use Rattle.pe_c.specs.Arm64.{arm64_handler_range, flat_info}
 use Rattle.pe_c.specs.Ranges.{IsRange, last_range}
 use Rattle.pe_c.specs.Unwinding.{handler_range, flat_record}
 
-of_place : (b : List ℕ) (p : ℕ) (part : List ℕ) → StandAt b p part → IsRange b (record { place = p; length = length part }) part
-of_place b p part s = record {
-  inside = s.inside;
-  same = s.same;
-}
+-- what stands at a place is the range from there
+pub of_place : (b : List ℕ) (p : ℕ) (part : List ℕ) → StandAt b p part → IsRange b (record { place = p; length = length part }) part
+of_place b p part s = record { inside = s.inside; same = s.here }
 
 of_handler : (b : List ℕ) (h : Option HandlerView) → IfSome h (λ h. StandLast b (data_of h)) → IfSome h (λ x. IsRange b (handler_range b h) (data_of x))
 of_handler b None s = tt

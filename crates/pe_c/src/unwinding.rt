@@ -3,7 +3,7 @@
 ghost use Rattle.std.specs.Prelude.{◌≡◌, ◌+◌, ◌^◌, ◌≤◌, length};
 ghost use Rattle.pe_core.specs.Refusals.{answer_by};
 ghost use Rattle.pe_unwind.specs.FunctionTable.{answer_of};
-ghost use Rattle.pe_unwind.specs.Places.{PartsStand};
+ghost use Rattle.pe_unwind.specs.Places.{UnwindPartsStand};
 ghost use Rattle.pe_unwind.specs.ScopeTable.{scope_at};
 ghost use Rattle.pe_unwind.specs.UnwindRecord.{unwind_view};
 ghost use Rattle.pe_c.specs.Answers.{Answers, AnswersIf};
@@ -190,7 +190,7 @@ fn chained_of(info: &UnwindInfo) -> (u32, RuntimeFunction)
 
 /// The kind, address and data of a record's handler.
 fn handler_of(info: &UnwindInfo, bytes: &[u8], place: usize) -> (u8, u32, Range)
-    requires { PartsStand bytes.now place (unwind_view info.now) }
+    requires { UnwindPartsStand bytes.now place (unwind_view info.now) }
     ensures kind { result.0 ≡ handler_kind (unwind_view info.now).handler }
     ensures address { result.1 ≡ handler_address (unwind_view info.now).handler }
     ensures range { result.2 ≡ handler_range bytes.now (unwind_view info.now).handler }
@@ -209,7 +209,7 @@ fn handler_of(info: &UnwindInfo, bytes: &[u8], place: usize) -> (u8, u32, Range)
 
 /// The record that was read at a place of the bytes, as numbers.
 fn flat_record(info: &UnwindInfo, bytes: &[u8], place: usize) -> UnwindRecord
-    requires { PartsStand bytes.now place (unwind_view info.now) }
+    requires { UnwindPartsStand bytes.now place (unwind_view info.now) }
     ensures { result ≡ flat_record bytes.now place (unwind_view info.now) }
 {
     let (is_chained, chained) = chained_of(info);

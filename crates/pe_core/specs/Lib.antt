@@ -2,6 +2,7 @@ pub mod Refusals
 pub mod Names
 pub mod Traits
 pub mod Bytes
+pub mod Places
 pub mod CountedTable
 pub mod Text
 pub mod TextRuns

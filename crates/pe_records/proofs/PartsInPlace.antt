@@ -12,7 +12,8 @@ use Rattle.pe_records.specs.declared.debug.ImageDebugDirectory.{ImageDebugDirect
 use Rattle.pe_records.specs.Certificates.{CertificateView, certificate_at}
 use Rattle.pe_records.specs.DebugDirectory.{first_of_type, directory_table}
 use Rattle.pe_records.specs.DebugRecords.{DebugFields, Pdb70, Pdb20, Pogo, Repro, Stamp, Buffer, pdb70_at, pdb70_record, pdb20_at, pdb20_record, pogo_record, repro_record, pdb70_of, pdb20_of, features_of, characteristics_of, repro_of, pogo_of, of_entry, some_of_entry, record_place, records, debug_data}
-use Rattle.pe_records.specs.Parts.{StandAt, StandsBehind, PartsStand, hash_of}
+use Rattle.pe_core.specs.Places.{StandAt}
+use Rattle.pe_records.specs.Parts.{StandsBehind, DebugPartsStand, hash_of}
 use Rattle.pe_records.proofs.CertificatesReadAgain.{Read, read, range_length}
 use Rattle.pe_records.proofs.SpelledDebug.{passed, passed_pogo, passed_repro, are_there}
 
@@ -88,7 +89,7 @@ given (Err r) f y e = absurd cc
 same_inside : {X : Type 0} (x y : X) → ◌≡◌ {A = Result X Refusal} (Ok x) (Ok y) → x ≡ y
 same_inside x y e = cc
 
-parts_of_records : (o : ParseOptions) (b : List ℕ) (fixup : ℕ) (t : List ℕ) (d : DebugFields) → records o b fixup t ≡ Ok d → PartsStand o b d
+parts_of_records : (o : ParseOptions) (b : List ℕ) (fixup : ℕ) (t : List ℕ) (d : DebugFields) → records o b fixup t ≡ Ok d → DebugPartsStand o b d
 unfolding records
 parts_of_records o b fixup t d e =
     let pdb70 = given (of_entry (pdb70_of o b) (first_of_type fixup 2 t)) _ d e in
@@ -97,14 +98,14 @@ parts_of_records o b fixup t d e =
     let characteristics = given (some_of_entry (characteristics_of o b) (first_of_type fixup 20 t)) _ d features.2 in
     let repro = given (some_of_entry (repro_of o b) (first_of_type fixup 16 t)) _ d characteristics.2 in
     let pogo = given (of_entry (pogo_of o b) (first_of_type fixup 13 t)) _ d repro.2 in
-    subst (PartsStand o b) (same_inside _ d pogo.2) (record {
+    subst (DebugPartsStand o b) (same_inside _ d pogo.2) (record {
       pdb70 = behind o b 24 (λ r. r.filename) (pdb70_of o b) (λ x. name70 o.parse_mode b (record_place o.resolve_rva x) x.size_of_data) (first_of_type fixup 2 t) pdb70.0 pdb70.1;
       pdb20 = behind o b 16 (λ r. r.filename) (pdb20_of o b) (λ x. name20 o.parse_mode b (record_place o.resolve_rva x) x.size_of_data) (first_of_type fixup 2 t) pdb20.0 pdb20.1;
       repro = hash_behind o b (first_of_type fixup 16 t) repro.0 repro.1;
       pogo = behind o b 4 (λ r. r.bytes) (pogo_of o b) (λ x. pogo_entries b (record_place o.resolve_rva x) x.size_of_data) (first_of_type fixup 13 t) pogo.0 pogo.1;
     })
 
-pub parts_stand : (o : ParseOptions) (b : List ℕ) (d : DataDirectory) (sections : List SectionTable) (alignment fixup : ℕ) (x : DebugFields) → debug_data o b d sections alignment fixup ≡ Ok x → PartsStand o b x
+pub parts_stand : (o : ParseOptions) (b : List ℕ) (d : DataDirectory) (sections : List SectionTable) (alignment fixup : ℕ) (x : DebugFields) → debug_data o b d sections alignment fixup ≡ Ok x → DebugPartsStand o b x
 unfolding debug_data
 parts_stand o b d sections alignment fixup x e =
     let table = given (directory_table o b d sections alignment) (records o b fixup) x e in

@@ -1,16 +1,11 @@
 -- Where the parts of records stand that are ranges of the bytes.
-use Rattle.std.specs.Prelude.{◌≡◌, ℕ, ◌+◌, ◌≤◌, List, length, Option, Some, None}
+use Rattle.std.specs.Prelude.{ℕ, ◌+◌, List, Option, Some, None}
 use Rattle.std.specs.Option.{option_map}
-use Rattle.pe_core.specs.Bytes.{range}
+use Rattle.pe_core.specs.Places.{StandAt}
 use Rattle.pe_core.specs.declared.options.ParseOptions.{ParseOptions}
 use Rattle.pe_records.specs.DebugDirectory.{first_of_type}
 use Rattle.pe_records.specs.DebugRecords.{DebugFields, Repro, Stamp, Buffer, record_place}
 use Rattle.pe_records.specs.declared.debug.ImageDebugDirectory.{ImageDebugDirectory}
-
--- these bytes stand at p
-pub record StandAt (b : List ℕ) (p : ℕ) (part : List ℕ) : Type 0 where
-  pub inside : p + length part ≤ length b
-  pub here : range b p (length part) ≡ part
 
 -- the part of a record, if there is one, stands n bytes behind the place where the entry leads
 abbrev pub StandsBehind : ParseOptions → List ℕ → ℕ → Option ImageDebugDirectory → Option (List ℕ) → Type 0
@@ -25,7 +20,7 @@ hash_of (Some (Stamp stamp)) = None
 hash_of (Some (Buffer count bytes)) = Some bytes
 
 -- the parts of the records that the first entries lead to: the two file names, the hash and the entries of POGO
-pub record PartsStand (o : ParseOptions) (b : List ℕ) (d : DebugFields) : Type 0 where
+pub record DebugPartsStand (o : ParseOptions) (b : List ℕ) (d : DebugFields) : Type 0 where
   pub pdb70 : StandsBehind o b 24 (first_of_type d.fixup 2 d.table) (option_map (λ r. r.filename) d.pdb70)
   pub pdb20 : StandsBehind o b 16 (first_of_type d.fixup 2 d.table) (option_map (λ r. r.filename) d.pdb20)
   pub repro : StandsBehind o b 4 (first_of_type d.fixup 16 d.table) (hash_of d.repro)

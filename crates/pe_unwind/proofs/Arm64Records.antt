@@ -10,7 +10,8 @@ use Rattle.std.proofs.lemmas.Bool.{eqb-true}
 use Rattle.pe_core.specs.Refusals.{Refusal, Short, Arm64Version, outcome}
 use Rattle.pe_unwind.specs.Arm64Record.{Arm64HandlerView, Arm64InfoView, extension_size, extension_at, scope_count, code_words, handler_size, handler_at, scopes_place, codes_place, handler_place, record_size, info_with, info_tests, info_at, size_at, word_bytes, AreRecord}
 use Rattle.pe_unwind.specs.Arm64Words.{bits, has_handler, has_extension}
-use Rattle.pe_unwind.specs.Places.{StandAt, StandLast, Arm64PartsStand}
+use Rattle.pe_core.specs.Places.{StandAt}
+use Rattle.pe_unwind.specs.Places.{StandLast, Arm64PartsStand}
 use Rattle.pe_unwind.proofs.Places.{range_stands, tail_stands}
 
 -- what is given passed its tests

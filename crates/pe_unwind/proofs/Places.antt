@@ -6,7 +6,8 @@ use Rattle.std.proofs.lemmas.List.{places, same_lists}
 use Rattle.pe_core.specs.Bytes.{holds, le, range}
 use Rattle.pe_core.specs.Refusals.{Refusal, Short, UnwindVersion, outcome}
 use Rattle.pe_unwind.specs.FunctionTable.{function_at}
-use Rattle.pe_unwind.specs.Places.{StandAt, StandLast, data_of, PartsStand}
+use Rattle.pe_core.specs.Places.{StandAt}
+use Rattle.pe_unwind.specs.Places.{StandLast, data_of, UnwindPartsStand}
 use Rattle.pe_unwind.specs.UnwindRecord.{Exception, Termination, UnwindInfoView, Ending, ending_at, unwind_tests, unwind_record, count_at, version_at, flags_at, behind_codes, ending_holds, is_chained, handles_exceptions, handles_termination}
 
 length_of_range : (b : List ℕ) (p n : ℕ) → p + n ≤ length b → length (slice_range b p (p + n)) ≡ n
@@ -24,13 +25,13 @@ range_stands b p n h =
     let count : length (slice_range b p (p + n)) ≡ n = length_of_range b p n h in
     record {
       inside = omega (arith, count, h);
-      same = rw count refl;
+      here = rw count refl;
     }
 
 pub tail_stands : (b : List ℕ) (k : ℕ) → StandLast b (drop k b)
 tail_stands b k = record {
   inside = tail_is_inside b k;
-  same = tail_is_range b k;
+  here = tail_is_range b k;
 }
 
 abbrev ending_by : List ℕ → ℕ → Bool → Bool → Bool → Ending
@@ -68,7 +69,7 @@ given b p i e =
     passed (holds b p 1) (version_at b p == 1 || version_at b p == 2) (holds b p 4) (holds b (p + 4) (2 * count_at b p)) (ending_holds b (behind_codes b p) (flags_at b p))
     Short UnwindVersion Short Short Short (unwind_record b p) i e
 
-parts_of_record : (b : List ℕ) (p : ℕ) → p + 4 + 2 * count_at b p ≤ length b → PartsStand b p (unwind_record b p)
+parts_of_record : (b : List ℕ) (p : ℕ) → p + 4 + 2 * count_at b p ≤ length b → UnwindPartsStand b p (unwind_record b p)
 unfolding unwind_record
 parts_of_record b p h = record {
   codes = range_stands b (p + 4) (2 * count_at b p) h;
@@ -76,7 +77,7 @@ parts_of_record b p h = record {
 }
 
 -- the parts of a record that is given
-pub parts_stand : (b : List ℕ) (p : ℕ) (i : UnwindInfoView) → outcome (unwind_tests b p) (unwind_record b p) ≡ Ok i → PartsStand b p i
+pub parts_stand : (b : List ℕ) (p : ℕ) (i : UnwindInfoView) → outcome (unwind_tests b p) (unwind_record b p) ≡ Ok i → UnwindPartsStand b p i
 parts_stand b p i e =
     let found = given b p i e in
-    subst (λ (j : UnwindInfoView). PartsStand b p j) found.1 (parts_of_record b p (held b (p + 4) (2 * count_at b p) found.0))
+    subst (λ (j : UnwindInfoView). UnwindPartsStand b p j) found.1 (parts_of_record b p (held b (p + 4) (2 * count_at b p) found.0))

@@ -1,13 +1,8 @@
 -- Where the parts of unwind records stand in the bytes that they were read from.
-use Rattle.std.specs.Prelude.{◌≡◌, ℕ, ◌+◌, ◌-◌, ◌≤◌, List, length, IfSome}
-use Rattle.pe_core.specs.Bytes.{range}
+use Rattle.std.specs.Prelude.{ℕ, ◌+◌, ◌-◌, List, length, IfSome}
+use Rattle.pe_core.specs.Places.{StandAt}
 use Rattle.pe_unwind.specs.Arm64Record.{Arm64InfoView, scopes_place}
 use Rattle.pe_unwind.specs.UnwindRecord.{HandlerView, Exception, Termination, UnwindInfoView}
-
--- these bytes stand at p
-pub record StandAt (b : List ℕ) (p : ℕ) (part : List ℕ) : Type 0 where
-  pub inside : p + length part ≤ length b
-  pub same : range b p (length part) ≡ part
 
 -- these are the last of the bytes
 abbrev pub StandLast : List ℕ → List ℕ → Type 0
@@ -19,7 +14,7 @@ data_of (Exception address d) = d
 data_of (Termination address d) = d
 
 -- the codes of a record at p stand behind four bytes, and its handler's data go to the end of the bytes
-pub record PartsStand (b : List ℕ) (p : ℕ) (i : UnwindInfoView) : Type 0 where
+pub record UnwindPartsStand (b : List ℕ) (p : ℕ) (i : UnwindInfoView) : Type 0 where
   pub codes : StandAt b (p + 4) i.codes
   pub tail : IfSome i.handler (λ h. StandLast b (data_of h))
 

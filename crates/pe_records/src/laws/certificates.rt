@@ -4,7 +4,7 @@ ghost use Rattle.std.specs.Prelude.{◌≡◌, ℕ, ◌+◌, ◌%◌, ◌≤◌,
 ghost use Rattle.pe_core.specs.Bytes.{AreBytes, splice};
 ghost use Rattle.pe_core.specs.Refusals.{Refusal};
 ghost use Rattle.pe_records.specs.Certificates.{CertificateView, certificate_at, certificates_at, IsListing, IsRefused};
-ghost use Rattle.pe_records.specs.Parts.{StandAt};
+ghost use Rattle.pe_core.specs.Places.{StandAt};
 ghost use Rattle.pe_records.specs.CertificateWriting.{IsWhole, spell_certificate, padding, written_length, written_certificate, written_certificates};
 
 /// A table has one listing or one refusal, and never both: what the function gives.

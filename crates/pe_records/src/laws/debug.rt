@@ -16,7 +16,7 @@ ghost use Rattle.pe_records.specs.declared.debug.pogo.POGOEntryIterator.{POGOEnt
 ghost use Rattle.pe_records.specs.DebugDirectory.{entries, count, rest_of, fixup_of, item_of};
 ghost use Rattle.pe_records.specs.DebugRecords.{DebugFields, Pdb70, Pdb20, Pogo, pdb70_of, pdb20_of, debug_data, features_at, pdb70_record, pdb20_record, pogo_record, Repro, repro_record};
 ghost use Rattle.pe_records.specs.DebugSpelling.{spell_pdb70, spell_pdb20, spell_features, spell_pogo, spell_repro, size_of_repro};
-ghost use Rattle.pe_records.specs.Parts.{PartsStand};
+ghost use Rattle.pe_records.specs.Parts.{DebugPartsStand};
 ghost use Rattle.pe_records.specs.Pogo.{Entry, Entries, stream_of, stream_item_of};
 
 use crate::debug::{ImageDebugDirectoryIterator, POGOEntryIterator};
@@ -79,5 +79,5 @@ pub fn debug_records_spell_their_bytes()
 /// behind the place where the first entry of their type leads.
 pub fn parts_of_debug_data_stand_in_the_bytes()
     ensures { (o : ParseOptions) (b : List ℕ) (d : DataDirectory) (sections : List SectionTable) (alignment fixup : ℕ) (x : DebugFields) →
-        debug_data o b d sections alignment fixup ≡ Ok x → PartsStand o b x }
+        debug_data o b d sections alignment fixup ≡ Ok x → DebugPartsStand o b x }
 {}

@@ -15,7 +15,7 @@ ghost use Rattle.pe_unwind.specs.declared.unwind_code.UnwindCodeIterator.{Unwind
 ghost use Rattle.pe_unwind.specs.CodeStream.{CodeStream, AreItems, stream_of};
 ghost use Rattle.pe_unwind.specs.FunctionTable.{NeverFalls, NoEndPassesNext, Covers, Finds, answer_of};
 ghost use Rattle.pe_unwind.specs.Links.{Table, Follows, IsEndless};
-ghost use Rattle.pe_unwind.specs.Places.{PartsStand};
+ghost use Rattle.pe_unwind.specs.Places.{UnwindPartsStand};
 ghost use Rattle.pe_unwind.specs.UnwindCodes.{BeginsWithCode};
 ghost use Rattle.pe_unwind.specs.UnwindRecord.{UnwindInfoView, unwind_tests, unwind_record};
 ghost use Rattle.pe_unwind.specs.Unwinding.{Unwinds};
@@ -73,5 +73,5 @@ pub fn one_record_of_addresses()
 
 /// The codes of an unwind record stand four bytes behind its beginning, and its handler's data are the last of the bytes.
 pub fn parts_of_records_stand()
-    ensures { (b : List ℕ) (p : ℕ) (i : UnwindInfoView) → outcome (unwind_tests b p) (unwind_record b p) ≡ Ok i → PartsStand b p i }
+    ensures { (b : List ℕ) (p : ℕ) (i : UnwindInfoView) → outcome (unwind_tests b p) (unwind_record b p) ≡ Ok i → UnwindPartsStand b p i }
 {}
