@@ -15,7 +15,7 @@ use Rattle.pe_c.specs.declared.image.Image.{Image}
 use Rattle.pe_c.specs.declared.unwinding.UnwindRecord.{UnwindRecord}
 use Rattle.pe_c.proofs.Rings.{EndsBelow}
 
-number_small : (b : List ℕ) (p : ℕ) → AreBytes b → le b p 4 < 4294967296
+pub number_small : (b : List ℕ) (p : ℕ) → AreBytes b → le b p 4 < 4294967296
 number_small b p small =
     omega (
       arith,

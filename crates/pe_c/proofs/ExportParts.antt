@@ -13,11 +13,11 @@ use Rattle.pe_core.specs.Refusals.{Refusal, ◌>>=◌}
 use Rattle.pe_core.specs.SectionMap.{mapped}
 use Rattle.pe_core.specs.Text.{text_at, text_of, text_to_zero}
 use Rattle.pe_core.specs.declared.export.ExportDirectoryTable.{ExportDirectoryTable}
-use Rattle.pe_c.specs.Exports.{export_told, range_from, told_entry, walk_over, with_tables}
+use Rattle.pe_c.specs.Exports.{export_told, told_entry, walk_over, with_tables}
 use Rattle.pe_c.specs.Parts.{HasTables, TellsExport}
-use Rattle.pe_c.specs.Ranges.{IsRange, no_bytes}
+use Rattle.pe_c.specs.Ranges.{IsRange, no_bytes, range_from}
 
-range_length : (b : List ℕ) (p n : ℕ) → p + n ≤ length b → length (slice_range b p (p + n)) ≡ n
+pub range_length : (b : List ℕ) (p n : ℕ) → p + n ≤ length b → length (slice_range b p (p + n)) ≡ n
 range_length b p n h = grind (arith, places)
 
 -- ---- a text stands where it is read
@@ -77,11 +77,11 @@ table_by : (place : ℕ → Option ℕ) (b : List ℕ) (rva n : ℕ) (none : Boo
 table_by place b rva n true t e = let same : [] ≡ t = cc in subst (IsRange b no_bytes) same (record { inside = omega arith; same = refl })
 table_by place b rva n false t e = table_mapped b n (place rva) t e
 
-given : {X Y : Type 0} (r : Result X Refusal) (f : X → Result Y Refusal) (y : Y) → (r >>= f) ≡ Ok y → (x : X) × (r ≡ Ok x) × (f x ≡ Ok y)
+pub given : {X Y : Type 0} (r : Result X Refusal) (f : X → Result Y Refusal) (y : Y) → (r >>= f) ≡ Ok y → (x : X) × (r ≡ Ok x) × (f x ≡ Ok y)
 given (Ok x) f y e = (x, refl, e)
 given (Err r) f y e = absurd cc
 
-same_inside : {X : Type 0} (x y : X) → ◌≡◌ {A = Result X Refusal} (Ok x) (Ok y) → x ≡ y
+pub same_inside : {X : Type 0} (x y : X) → ◌≡◌ {A = Result X Refusal} (Ok x) (Ok y) → x ≡ y
 same_inside x y e = cc
 
 pub tables_stand : (place : ℕ → Option ℕ) (b : List ℕ) (rva : ℕ) (d : ExportDataView) → export_data_at place b rva ≡ Ok d → HasTables b (walk_over place d) d

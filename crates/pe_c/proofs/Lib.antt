@@ -2,6 +2,7 @@ pub mod Addresses
 pub mod Cycles
 pub mod EndlessPlans
 pub mod ExportParts
+pub mod ImportRuns
 pub mod LastText
 pub mod Listings
 pub mod Parts

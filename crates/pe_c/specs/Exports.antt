@@ -4,7 +4,6 @@ use Rattle.std.specs.Option.{option_map, option_and_then}
 use Rattle.pe_core.specs.Bytes.{le}
 use Rattle.pe_core.specs.Exports.{ExportDataView, ExportView, export_data_at, named_export}
 use Rattle.pe_core.specs.Refusals.{Refusal, ◌>>=◌}
-use Rattle.pe_core.specs.SectionMap.{place_of}
 use Rattle.pe_core.specs.Text.{text_at}
 use Rattle.pe_core.specs.declared.section_table.SectionTable.{SectionTable}
 use Rattle.pe_c.specs.declared.exports.Export.{Export}
@@ -13,20 +12,12 @@ use Rattle.pe_c.specs.declared.exports.Tables.{Tables}
 use Rattle.pe_c.specs.declared.image.Image.{Image}
 use Rattle.pe_c.specs.declared.ranges.Range.{Range}
 use Rattle.pe_c.specs.Answers.{AnswersIf}
-use Rattle.pe_c.specs.Images.{is_absent}
-use Rattle.pe_c.specs.Ranges.{bytes_at, no_bytes}
-
--- the map from an image's addresses to places in its file
-abbrev pub place_in : Image → List SectionTable → ℕ → Option ℕ
-place_in image sections = place_of true image.file_alignment sections
+use Rattle.pe_c.specs.Images.{is_absent, place_in}
+use Rattle.pe_c.specs.Ranges.{bytes_at, no_bytes, range_from}
 
 -- ---- the tables
 
 -- the range of a table of n bytes at an address; one of none has no place
-abbrev pub range_from : ℕ → Option ℕ → Range
-range_from n None = no_bytes
-range_from n (Some p) = record { place = p; length = n }
-
 abbrev pub export_table : (ℕ → Option ℕ) → ℕ → ℕ → Range
 export_table place rva n = if n == 0 then no_bytes else range_from n (place rva)
 
@@ -85,9 +76,9 @@ abbrev pub or_zero : Option ℕ → ℕ
 or_zero None = 0
 or_zero (Some p) = p
 
-abbrev pub one_if_some : Option ℕ → ℕ
+abbrev pub one_if_some : {X : Type 0} → Option X → ℕ
 one_if_some None = 0
-one_if_some (Some p) = 1
+one_if_some (Some x) = 1
 
 -- an export whose name stands at p
 abbrev pub export_told : ℕ → ExportView → Export

@@ -5,10 +5,12 @@ pub mod Debug
 pub mod DebugWalks
 pub mod Exports
 pub mod Images
+pub mod Imports
 pub mod Modes
 pub mod Parts
 pub mod Plans
 pub mod Ranges
+pub mod Runs
 pub mod Texts
 pub mod Unwinding
 pub mod Versions

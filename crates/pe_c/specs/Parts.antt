@@ -1,15 +1,22 @@
 -- The ranges that are told of records are their parts.
-use Rattle.std.specs.Prelude.{◌≡◌, ℕ, List, Option, Some, None, Ok}
+use Rattle.std.specs.Prelude.{◌≡◌, ℕ, List, [], ◌∷◌, ◌++◌, Option, Some, None, Ok}
 use Rattle.pe_core.specs.Exports.{ExportDataView, ExportView}
+use Rattle.pe_core.specs.Imports.{ImportRecordView, ImportView, imports}
+use Rattle.pe_core.specs.Refusals.{◌>>=◌}
+use Rattle.pe_core.specs.declared.import.ImportDirectoryEntry.{ImportDirectoryEntry}
 use Rattle.pe_core.specs.declared.section_table.SectionTable.{SectionTable}
 use Rattle.pe_records.specs.DebugRecords.{DebugFields}
 use Rattle.pe_c.specs.declared.exports.Export.{Export}
 use Rattle.pe_c.specs.declared.exports.Exports.{Exports}
 use Rattle.pe_c.specs.declared.image.Image.{Image}
+use Rattle.pe_c.specs.declared.imports.Import.{Import}
+use Rattle.pe_c.specs.declared.imports.Library.{Library}
 use Rattle.pe_c.specs.declared.ranges.Range.{Range}
 use Rattle.pe_c.specs.Debug.{debug_of, told_of}
 use Rattle.pe_c.specs.Exports.{or_zero, one_if_some}
+use Rattle.pe_c.specs.Imports.{import_step}
 use Rattle.pe_c.specs.Ranges.{IsRange, no_bytes}
+use Rattle.pe_c.specs.Runs.{TellsAll}
 
 -- the range of a part, if there is one
 abbrev pub IsPart : List ℕ → Range → Option (List ℕ) → Type 0
@@ -34,3 +41,33 @@ TellsExport b None None = Unit {0}
 TellsExport b None (Some e) = ⊥
 TellsExport b (Some x) None = ⊥
 TellsExport b (Some x) (Some e) = IsRange b x.name e.name × (x.rva ≡ e.rva) × (x.place ≡ or_zero e.offset) × (x.has_place ≡ one_if_some e.offset)
+
+-- what is told of an import is the import
+pub record TellsImport (b : List ℕ) (x : Import) (i : ImportView) : Type 0 where
+  pub name : IsPart b x.name i.name
+  pub has_name : x.has_name ≡ one_if_some i.name
+  pub ordinal : x.ordinal ≡ i.ordinal
+  pub rva : x.rva ≡ i.rva
+
+-- the numbers of a library's record
+abbrev pub record_of : Library → ImportDirectoryEntry
+record_of x = record {
+  lookup_table_rva = x.lookup_table_rva;
+  time_date_stamp = x.time_date_stamp;
+  forwarder_chain = x.forwarder_chain;
+  name_rva = x.name_rva;
+  address_table_rva = x.address_table_rva;
+}
+
+-- what is told of a record of the import directory is the record, and the steps over its list tell its imports
+pub record TellsLibrary (place : ℕ → Option ℕ) (w : ℕ) (b : List ℕ) (x : Library) (r : ImportRecordView) : Type 0 where
+  pub name : IsRange b x.name r.name
+  pub list : IsRange b x.imports.left r.lookups
+  pub numbers : record_of x ≡ r.import_directory_entry
+  pub in_turn : TellsAll (import_step place w b) (TellsImport b) x.imports (imports place w b (r ∷ []))
+
+-- the imports of records are those of the first, and behind them those of the others
+abbrev pub ImportsInTurn : Type 0
+ImportsInTurn =
+    (place : ℕ → Option ℕ) (w : ℕ) (b : List ℕ) (r : ImportRecordView) (rs : List ImportRecordView) →
+    imports place w b (r ∷ rs) ≡ (imports place w b (r ∷ []) >>= λ first. imports place w b rs >>= λ more. Ok (first ++ more))

@@ -1,5 +1,5 @@
 -- Ranges of the bytes.
-use Rattle.std.specs.Prelude.{◌≡◌, ℕ, ◌+◌, ◌-◌, ◌≤◌, List, length, Result}
+use Rattle.std.specs.Prelude.{◌≡◌, ℕ, ◌+◌, ◌-◌, ◌≤◌, List, length, Option, Some, None, Result}
 use Rattle.pe_core.specs.Bytes.{range, record_at}
 use Rattle.pe_core.specs.Refusals.{Refusal}
 use Rattle.pe_c.specs.declared.ranges.Range.{Range}
@@ -7,6 +7,11 @@ use Rattle.pe_c.specs.declared.ranges.Range.{Range}
 -- the range of no bytes; a walk that is over
 abbrev pub no_bytes : Range
 no_bytes = record { place = 0; length = 0 }
+
+-- n bytes from a place on, or none without a place
+abbrev pub range_from : ℕ → Option ℕ → Range
+range_from n None = no_bytes
+range_from n (Some p) = record { place = p; length = n }
 
 -- a range without its first bytes
 abbrev pub behind : Range → ℕ → Range

@@ -4,14 +4,13 @@ ghost use Rattle.std.specs.Prelude.{◌≡◌, ◌+◌, ◌*◌, ◌/◌, ◌≤
 ghost use Rattle.pe_core.specs.Exports.{export_data_view};
 ghost use Rattle.pe_core.specs.Refusals.{Gives, answer_by};
 ghost use Rattle.pe_c.specs.Answers.{AnswersIf};
-ghost use Rattle.pe_c.specs.Exports.{AnswersExport, FindsNext, StepsExports, place_in, export_table, tables_at, tables_or_short, told_entry, view_of, walk_over};
+ghost use Rattle.pe_c.specs.Exports.{AnswersExport, FindsNext, StepsExports, export_table, tables_at, tables_or_short, told_entry, view_of, walk_over};
+ghost use Rattle.pe_c.specs.Images.{place_in};
 
 use crate::answers::{hand_out_some, options};
-use crate::image::{Image, is_absent};
-use crate::ranges::{NO_BYTES, Range, slice_of};
-use pe_core::{
-    ExportData, ParseOptions, Result, SectionTable, find_offset, number32, text_at, u16_at, u32_at,
-};
+use crate::image::{Image, is_absent, place_of};
+use crate::ranges::{NO_BYTES, Range, range_from, slice_of};
+use pe_core::{ExportData, Result, SectionTable, number32, text_at, u16_at, u32_at};
 
 /// A walk over the exports of an image: the tables of its export directory, and the index of the next name.
 #[repr(C)]
@@ -39,18 +38,6 @@ pub struct Export {
     pub has_place: u32,
 }
 
-/// The place of an address.
-fn place_of(rva: u32, image: &Image, sections: &[SectionTable]) -> Option<usize>
-    ensures { result ≡ place_in image.now sections.now rva }
-{
-    find_offset(
-        rva as usize,
-        sections,
-        image.file_alignment,
-        &ParseOptions::default(),
-    )
-}
-
 /// The range of a table of so many bytes at an address.
 fn export_table(rva: u32, size: u64, image: &Image, sections: &[SectionTable]) -> Range
     ensures { result ≡ export_table (place_in image.now sections.now) rva size }
@@ -58,13 +45,7 @@ fn export_table(rva: u32, size: u64, image: &Image, sections: &[SectionTable]) -
     if size == 0 {
         return NO_BYTES;
     }
-    match place_of(rva, image, sections) {
-        Some(place) => Range {
-            place: place as u64,
-            length: size,
-        },
-        None => NO_BYTES,
-    }
+    range_from(size, place_of(rva, image, sections))
 }
 
 fn walk_over(export_data: &ExportData, image: &Image, sections: &[SectionTable]) -> Exports

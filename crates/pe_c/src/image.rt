@@ -7,7 +7,7 @@ ghost use Rattle.pe_core.specs.Records.{section_table};
 ghost use Rattle.pe_core.specs.Rows.{rows};
 ghost use Rattle.pe_core.specs.SectionMap.{place_of};
 ghost use Rattle.pe_c.specs.Answers.{Answers, AnswersIf};
-ghost use Rattle.pe_c.specs.Images.{or_absent, is_absent, image_of, image_at, PutsSections};
+ghost use Rattle.pe_c.specs.Images.{or_absent, is_absent, image_of, image_at, place_in, PutsSections};
 
 use crate::answers::{DONE, NOTHING, ROOM, hand_out, number_of, options};
 use pe_core::{
@@ -60,6 +60,25 @@ pub fn is_absent(directory: DataDirectory) -> bool
     ensures { result ≡ is_absent directory }
 {
     directory.virtual_address == 0 && directory.size == 0
+}
+
+/// The place in the file of an address.
+fn mapped_by(sections: &[SectionTable], file_alignment: u32, rva: u32) -> Option<usize>
+    ensures { result ≡ place_of true file_alignment sections.now rva }
+{
+    find_offset(
+        rva as usize,
+        sections,
+        file_alignment,
+        &ParseOptions::default(),
+    )
+}
+
+/// The place in the file of an address of an image.
+pub fn place_of(rva: u32, image: &Image, sections: &[SectionTable]) -> Option<usize>
+    ensures { result ≡ place_in image.now sections.now rva }
+{
+    mapped_by(sections, image.file_alignment, rva)
 }
 
 fn image_of(header: &Header) -> Image
@@ -179,12 +198,7 @@ pub extern "C" fn pe_c_place(
 ) -> u32
     ensures { AnswersIf result out.old out.new (Ok (place_of true file_alignment sections.now rva)) }
 {
-    match find_offset(
-        rva as usize,
-        sections,
-        file_alignment,
-        &ParseOptions::default(),
-    ) {
+    match mapped_by(sections, file_alignment, rva) {
         Some(place) => {
             *out = place as u64;
             DONE

@@ -4,16 +4,21 @@ ghost use Rattle.pe_c.specs.Arm64.{flat_info};
 ghost use Rattle.pe_c.specs.Certificates.{StepsList, certificate_told};
 ghost use Rattle.pe_c.specs.Debug.{key_of, pdb20_of, repro_of, pogo_of};
 ghost use Rattle.pe_c.specs.Exports.{told_entry, walk_over, with_tables};
-ghost use Rattle.pe_c.specs.Parts.{HasTables, TellsExport, TellsPart};
+ghost use Rattle.pe_c.specs.Images.{place_in};
+ghost use Rattle.pe_c.specs.Imports.{libraries_at, library_step};
+ghost use Rattle.pe_c.specs.Parts.{HasTables, ImportsInTurn, TellsExport, TellsLibrary, TellsPart};
 ghost use Rattle.pe_c.specs.Plans.{plan_from, StepsPlan, GivesInTurn, IsCycle};
 ghost use Rattle.pe_c.specs.Ranges.{IsRange};
+ghost use Rattle.pe_c.specs.Runs.{TellsAll};
 ghost use Rattle.pe_c.specs.Unwinding.{flat_record};
 ghost use Rattle.pe_c.specs.Versions.{TellsManifest, TellsFixed, TellsValue};
 ghost use Rattle.pe_c.specs.declared.image.Image.{Image};
+ghost use Rattle.pe_c.specs.declared.imports.Libraries.{Libraries};
 ghost use Rattle.pe_c.specs.declared.plan.Plan.{Plan};
 ghost use Rattle.pe_c.specs.declared.unwinding.UnwindRecord.{UnwindRecord};
 ghost use Rattle.pe_core.specs.Bytes.{AreBytes};
 ghost use Rattle.pe_core.specs.Exports.{ExportDataView, export_at, export_data_at};
+ghost use Rattle.pe_core.specs.Imports.{entry_size, import_data_at};
 ghost use Rattle.pe_core.specs.Refusals.{Refusal, FunctionCycle, outcome};
 ghost use Rattle.pe_core.specs.declared.section_table.SectionTable.{SectionTable};
 ghost use Rattle.pe_records.specs.Certificates.{CertificateView, certificate_at};
@@ -22,7 +27,7 @@ ghost use Rattle.pe_unwind.specs.Arm64Record.{Arm64InfoView, info_at};
 ghost use Rattle.pe_unwind.specs.Places.{data_of};
 ghost use Rattle.pe_unwind.specs.UnwindRecord.{UnwindInfoView, unwind_tests, unwind_record};
 ghost use Rattle.std.specs.Option.{option_map};
-ghost use Rattle.std.specs.Prelude.{◌≡◌, ℕ, List, Option, Ok, Err, IfSome, ◌⊎◌, ◌*◌, ◌^◌, ◌<◌, ◌≤◌, length, Some, Result};
+ghost use Rattle.std.specs.Prelude.{◌≡◌, ℕ, List, Option, Ok, Err, IfSome, ◌⊎◌, ◌*◌, ◌==◌, ◌^◌, ◌<◌, ◌≤◌, length, Some, Result};
 
 /// The ranges of an unwind record that is given lie in the bytes, and are its codes and its handler's data.
 pub fn ranges_of_records()
@@ -83,6 +88,18 @@ pub fn walks_tell_the_exports()
     ensures tables { (place : ℕ → Option ℕ) (b : List ℕ) (rva : ℕ) (d : ExportDataView) → export_data_at place b rva ≡ Ok d → HasTables b (walk_over place d) d }
     ensures exports { (place : ℕ → Option ℕ) (b : List ℕ) (d : ExportDataView) (i : ℕ) →
         TellsExport b (told_entry place b (with_tables d.names d.ordinals d.addresses) i) (export_at place b d i) }
+{}
+
+/// The steps over the libraries of an image tell the records of its import directory, and the steps over each library's
+/// imports tell the record's imports; where the directory or the imports are refused, a step is refused so. The imports
+/// of records are those of each record in turn.
+#[tactic(auto, using(crate::proofs::ImportRuns::libraries_told, crate::proofs::ImportRuns::imports_in_turn))]
+pub fn walks_tell_the_imports()
+    ensures libraries { (b : List ℕ) (image : Image) (sections : List SectionTable) (walk : Libraries) →
+        AreBytes b → length b ≤ 2 ^ 63 → libraries_at image sections ≡ Ok (Some walk) →
+        TellsAll (library_step (place_in image sections) (entry_size (image.width == 64)) b) (TellsLibrary (place_in image sections) (entry_size (image.width == 64)) b) walk
+            (import_data_at (place_in image sections) (entry_size (image.width == 64)) b image.imports.virtual_address) }
+    ensures in_turn { ImportsInTurn }
 {}
 
 /// Where the resources of an image are not refused, what is told of their manifest and version information is what they

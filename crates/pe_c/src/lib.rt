@@ -13,6 +13,7 @@ mod debug;
 mod debug_walks;
 mod exports;
 mod image;
+mod imports;
 pub mod laws;
 mod plan;
 mod ranges;

@@ -2,7 +2,7 @@
 
 ghost use Rattle.std.specs.Prelude.{◌≡◌, ◌+◌, ◌≤◌};
 ghost use Rattle.pe_core.specs.Refusals.{Gives};
-ghost use Rattle.pe_c.specs.Ranges.{bytes_at};
+ghost use Rattle.pe_c.specs.Ranges.{bytes_at, range_from};
 
 use pe_core::{Result, slice_at};
 
@@ -25,6 +25,19 @@ pub fn slice_of<'a>(bytes: &'a [u8], range: &Range) -> Result<&'a [u8]>
     ensures { Gives (λ s. s.now) result (bytes_at bytes.entry.now range.now) }
 {
     slice_at(bytes, range.place as usize, range.length as usize)
+}
+
+/// So many bytes from a place on, or none without a place.
+pub fn range_from(length: u64, place: Option<usize>) -> Range
+    ensures { result ≡ range_from length place }
+{
+    match place {
+        Some(place) => Range {
+            place: place as u64,
+            length,
+        },
+        None => NO_BYTES,
+    }
 }
 
 /// The last so many bytes of a total, as a range.

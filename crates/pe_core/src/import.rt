@@ -64,15 +64,23 @@ impl ImportDirectoryEntry {
         }
     }
 
-    /// Whether the record ends the directory.
-    fn is_last(&self) -> bool
+    /// The record at a place, 20 bytes: `Short`.
+    pub fn parse(bytes: &[u8], place: usize) -> Result<ImportDirectoryEntry>
+        ensures { Gives (λ e. e) result (record_at bytes.now place 20 (import_entry bytes.now place)) }
+    {
+        require_bytes(bytes, place, SIZE_OF_IMPORT_ENTRY)?;
+        Ok(ImportDirectoryEntry::at(bytes, place))
+    }
+
+    /// Whether the record ends the directory: its name or its address table has the address 0.
+    pub fn is_last(&self) -> bool
         ensures { result ≡ is_last self.now }
     {
         self.name_rva == 0 || self.address_table_rva == 0
     }
 
-    /// The address of the record's list.
-    fn lookups_rva(&self) -> u32
+    /// The address of the record's list: that of its lookup table, or where that is 0 that of its address table.
+    pub fn lookups_rva(&self) -> u32
         ensures { result ≡ lookups_rva self.now }
     {
         if self.lookup_table_rva == 0 {
@@ -113,15 +121,15 @@ pub struct Import<'a> {
     pub rva: u64,
 }
 
-/// How many bytes an entry of a list has.
-fn entry_size(is_64: bool) -> usize
+/// How many bytes an entry of a list has: 8 in PE32+, which `is_64` says, else 4.
+pub fn lookup_size(is_64: bool) -> usize
     ensures { result ≡ entry_size is_64 }
 {
     if is_64 { 8 } else { 4 }
 }
 
-/// The entry at a place where its bytes are known to be there.
-fn entry_at(bytes: &[u8], place: usize, is_64: bool) -> u64
+/// The entry of a list at a place where its bytes are known to be there.
+pub fn lookup_number(bytes: &[u8], place: usize, is_64: bool) -> u64
     requires { place + entry_size is_64 ≤ length bytes.now }
     ensures { result ≡ le bytes.now place (entry_size is_64) }
 {
@@ -132,17 +140,18 @@ fn entry_at(bytes: &[u8], place: usize, is_64: bool) -> u64
     }
 }
 
-/// The bytes of the list at a place, up to a zero entry.
+/// The entries of the list at a place, without the zero one that ends it: `Short` where none does. They have 8 bytes
+/// in PE32+, which `is_64` says, else 4.
 #[tactic(auto, using(crate::proofs::ImportLists::entries_read))]
-fn lookup_entries(bytes: &[u8], place: usize, is_64: bool) -> Result<&[u8]>
+pub fn lookups_at(bytes: &[u8], place: usize, is_64: bool) -> Result<&[u8]>
     ensures { Gives (λ s. s.now) result (lookups_at (entry_size is_64) bytes.now (Some place)) }
 {
-    let size = entry_size(is_64);
+    let size = lookup_size(is_64);
     let mut count = 0;
     loop {
         let end = place + size * count;
         require_bytes(bytes, end, size)?;
-        if entry_at(bytes, end, is_64) == 0 {
+        if lookup_number(bytes, end, is_64) == 0 {
             return Ok(&bytes[place..end]);
         }
         count += 1;
@@ -159,7 +168,7 @@ fn lookups_of<'a, A: Allocator>(
     ensures { Gives (λ s. s.now) result (lookups_at (entry_size is_64) bytes.entry.now (place_of index.now.resolve index.now.alignment index.now.sections (lookups_rva entry.now))) }
 {
     match index.find(entry.lookups_rva() as usize) {
-        Some(place) => lookup_entries(bytes, place, is_64),
+        Some(place) => lookups_at(bytes, place, is_64),
         None => Ok(&[]),
     }
 }
@@ -382,12 +391,12 @@ fn push_entries<'a, A: Allocator>(
 ) -> std::result::Result<(), AllocError>
     ensures { OnOk result (map entry_view entries.new.items ≡ map entry_view entries.old.items ++ each (entry_at (entry_size is_64) (import_record_view imported.now)) (length imported.now.lookups.now / entry_size is_64)) }
 {
-    let size = entry_size(is_64);
+    let size = lookup_size(is_64);
     let rva = u64::from(imported.import_directory_entry.address_table_rva);
     for k in 0..imported.lookups.len() / size {
         entries.push(Entry {
             dll: imported.name,
-            entry: entry_at(imported.lookups, size * k, is_64),
+            entry: lookup_number(imported.lookups, size * k, is_64),
             rva: rva + (size * k) as u64,
         })?;
     }

@@ -36,7 +36,10 @@ pub use header::{
     CoffHeader, DOS_MAGIC, DosHeader, Header, PE_MAGIC, SIZE_OF_DOS_HEADER, SIZE_OF_TE_HEADER,
     TE_MAGIC, TeHeader,
 };
-pub use import::{Import, ImportData, ImportDirectoryEntry, SyntheticImportDirectoryEntry};
+pub use import::{
+    Import, ImportData, ImportDirectoryEntry, SyntheticImportDirectoryEntry, lookup_number,
+    lookup_size, lookups_at,
+};
 pub use optional_header::{MAGIC_32, MAGIC_64, OptionalHeader, StandardFields, WindowsFields};
 pub use options::{ParseMode, ParseOptions};
 pub use relocation::RelocationData;

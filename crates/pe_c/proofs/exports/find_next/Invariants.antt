@@ -1,5 +1,6 @@
 use Rattle.pe_c.proofs.exports.find_next.Given as goal
-use Rattle.pe_c.specs.Exports.{HaveNone, place_in, told_entry, view_of}
+use Rattle.pe_c.specs.Exports.{HaveNone, told_entry, view_of}
+use Rattle.pe_c.specs.Images.{place_in}
 
 -- no entry before the i-th has an export
 abbrev pub invariant-loop-i : goal.invariant-loop-i

@@ -1,0 +1,397 @@
+-- The walks over libraries and their imports tell what the import directory lists.
+use Rattle.std.proofs.Common.{◌≡◌, ℕ, zero, suc, ◌+◌, ◌-◌, ◌*◌, ◌/◌, ◌%◌, ◌^◌, ◌<◌, ◌≤◌, ◌==◌, Bool, true, false, List, [], ◌∷◌, ◌++◌, map, length, drop, take, Option, Some, None, Result, Ok, Err, refl, sym, ap, subst, ◌∙◌, arith, length-append}
+use Rattle.std.specs.Prelude.{flat_map, nat_le, nat_lt, slice_range, if◌then◌else◌}
+use Rattle.std.specs.Option.{option_map}
+use Rattle.std.proofs.lemmas.Bool.Decides.{nat_tests}
+use Rattle.std.proofs.lemmas.List.{append-nil, map-append, places}
+use Rattle.std.proofs.lemmas.Nat.{column_fits, div-mul-add}
+use Rattle.std.proofs.Math.Nat.{mul-suc}
+use Rattle.pe_core.proofs.TableEntries.{each_front}
+use Rattle.pe_core.specs.Bytes.{AreBytes, holds, le, range, record_at}
+use Rattle.pe_core.specs.Gathered.{all_or_refusal, up_to_none, with_rest}
+use Rattle.pe_core.specs.Imports.{EntryView, ImportRecordView, ImportView, entries, entry_at, entry_size, import_data_at, import_of, import_record, import_record_at, import_records, imports, is_last, lookup_at, lookup_entries, lookups_at, lookups_rva, name_or_refusal, named_import}
+use Rattle.pe_core.specs.Records.{import_entry}
+use Rattle.pe_core.specs.Refusals.{Refusal, Short, ◌>>=◌}
+use Rattle.pe_core.specs.Rows.{each}
+use Rattle.pe_core.specs.SectionMap.{mapped}
+use Rattle.pe_core.specs.Text.{text_at}
+use Rattle.pe_core.specs.declared.import.ImportDirectoryEntry.{ImportDirectoryEntry}
+use Rattle.pe_core.specs.declared.section_table.SectionTable.{SectionTable}
+use Rattle.pe_c.specs.declared.image.Image.{Image}
+use Rattle.pe_c.specs.declared.imports.Import.{Import}
+use Rattle.pe_c.specs.declared.imports.Imports.{Imports}
+use Rattle.pe_c.specs.declared.imports.Libraries.{Libraries}
+use Rattle.pe_c.specs.declared.imports.Library.{Library}
+use Rattle.pe_c.specs.declared.ranges.Range.{Range}
+use Rattle.pe_c.specs.Images.{is_absent, place_in}
+use Rattle.pe_c.specs.Imports.{entry_of, import_at, import_by, import_left, import_step, import_told, libraries_at, libraries_from, library_by, library_step, library_told, no_imports, no_libraries}
+use Rattle.pe_c.specs.Parts.{ImportsInTurn, TellsImport, TellsLibrary}
+use Rattle.pe_c.specs.Ranges.{IsRange, no_bytes, range_from}
+use Rattle.pe_c.specs.Runs.{TellsAll, TellsInTurn}
+use Rattle.pe_c.specs.Walks.{left_entry}
+use Rattle.pe_c.proofs.Addresses.{number_small}
+use Rattle.pe_c.proofs.ExportParts.{given, range_length, same_inside, text_stands}
+
+-- ---- runs
+
+tells_more : {W X Y : Type 0} (step : W → Result (Option X) Refusal × W) (Tells : X → Y → Type 0) (walk next : W) (x : X) (y : Y) (rest : Result (List Y) Refusal) →
+    step walk ≡ (Ok (Some x), next) → Tells x y → TellsAll step Tells next rest → TellsAll step Tells walk (with_rest (y ∷ []) rest)
+tells_more {W} {X} {Y} step Tells walk next x y (Ok ys) is tells more =
+    (x, ap (λ (p : Result (Option X) Refusal × W). p.0) is, tells, subst (λ (w : W). TellsInTurn step Tells w ys (Ok None)) (sym (ap (λ (p : Result (Option X) Refusal × W). p.1) is)) more)
+tells_more {W} {X} {Y} step Tells walk next x y (Err e) is tells more =
+    (y ∷ more.0, (x, ap (λ (p : Result (Option X) Refusal × W). p.0) is, tells, subst (λ (w : W). TellsInTurn step Tells w more.0 (Err e)) (sym (ap (λ (p : Result (Option X) Refusal × W). p.1) is)) more.1))
+
+tells_none : {W X Y : Type 0} (step : W → Result (Option X) Refusal × W) (Tells : X → Y → Type 0) (walk next : W) → step walk ≡ (Ok None, next) → TellsAll step Tells walk (Ok [])
+tells_none {W} {X} {Y} step Tells walk next is = ap (λ (p : Result (Option X) Refusal × W). p.0) is
+
+tells_refused : {W X Y : Type 0} (step : W → Result (Option X) Refusal × W) (Tells : X → Y → Type 0) (walk next : W) (e : Refusal) → step walk ≡ (Err e, next) → TellsAll step Tells walk (Err e)
+tells_refused {W} {X} {Y} step Tells walk next e is = ([], ap (λ (p : Result (Option X) Refusal × W). p.0) is)
+
+each_same : {X : Type 0} (f g : ℕ → X) (n : ℕ) → ((k : ℕ) → k < n → f k ≡ g k) → each f n ≡ each g n
+unfolding each
+each_same f g zero h = refl
+each_same {X} f g (suc n) h =
+    ap (λ (xs : List X). xs ++ f n ∷ []) (each_same f g n (λ k lt. h k (omega (arith, lt)))) ∙ ap (λ (x : X). each g n ++ x ∷ []) (h n (omega arith))
+
+none_of : {X : Type 0} (f : ℕ → X) → each f 0 ≡ []
+unfolding each
+none_of f = refl
+
+-- ---- an import
+
+-- what is told agrees with what an entry imports
+abbrev Agrees : List ℕ → Result ImportView Refusal → Result Import Refusal → Type 0
+Agrees b (Ok i) (Ok x) = TellsImport b x i
+Agrees b (Ok i) (Err e) = ⊥
+Agrees b (Err e) (Ok x) = ⊥
+Agrees b (Err e) (Err f) = e ≡ f
+
+agrees_by_name : (place : ℕ → Option ℕ) (b dll : List ℕ) (entry rva p : ℕ) (name : Option (List ℕ)) → place (entry % 2 ^ 31) ≡ Some p → text_at b (p + 2) ≡ name →
+    Agrees b (name_or_refusal name >>= λ n. Ok (record { name = Some n; dll = dll; ordinal = le b p 2; rva = rva }))
+    ((name_or_refusal name >>= λ n. Ok (record { name = Some n; dll = []; ordinal = le b p 2; rva = rva })) >>= λ i. Ok (import_told place entry i))
+agrees_by_name place b dll entry rva p None at e = refl
+agrees_by_name place b dll entry rva p (Some n) at e = record {
+  name = subst (λ (o : Option ℕ). IsRange b (range_from (length n) (option_map (λ q. q + 2) o)) n) (sym at) (text_stands b (p + 2) n e);
+  has_name = refl;
+  ordinal = refl;
+  rva = refl;
+}
+
+agrees_by_hint : (place : ℕ → Option ℕ) (b dll : List ℕ) (entry rva p : ℕ) (there : Bool) → place (entry % 2 ^ 31) ≡ Some p →
+    Agrees b
+    ((if there then Ok (le b p 2) else Err Short) >>= λ hint. name_or_refusal (text_at b (p + 2)) >>= λ n. Ok (record { name = Some n; dll = dll; ordinal = hint; rva = rva }))
+    (((if there then Ok (le b p 2) else Err Short) >>= λ hint. name_or_refusal (text_at b (p + 2)) >>= λ n. Ok (record { name = Some n; dll = []; ordinal = hint; rva = rva })) >>= λ i. Ok (import_told place entry i))
+agrees_by_hint place b dll entry rva p true at = agrees_by_name place b dll entry rva p (text_at b (p + 2)) at refl
+agrees_by_hint place b dll entry rva p false at = refl
+
+agrees_by_place : (place : ℕ → Option ℕ) (b dll : List ℕ) (entry rva : ℕ) (at : Option ℕ) → place (entry % 2 ^ 31) ≡ at →
+    Agrees b (mapped at >>= named_import b (record { dll = dll; entry = entry; rva = rva })) ((mapped at >>= named_import b (entry_of entry rva)) >>= λ i. Ok (import_told place entry i))
+agrees_by_place place b dll entry rva None at = refl
+agrees_by_place place b dll entry rva (Some p) at = agrees_by_hint place b dll entry rva p (holds b p 2) at
+
+agrees_by_kind : (place : ℕ → Option ℕ) (b dll : List ℕ) (entry rva : ℕ) (ordinal : Bool) →
+    Agrees b
+    (if ordinal then Ok (record { name = None; dll = dll; ordinal = entry % 2 ^ 16; rva = rva }) else (mapped (place (entry % 2 ^ 31)) >>= named_import b (record { dll = dll; entry = entry; rva = rva })))
+    ((if ordinal then Ok (record { name = None; dll = []; ordinal = entry % 2 ^ 16; rva = rva }) else (mapped (place (entry % 2 ^ 31)) >>= named_import b (entry_of entry rva))) >>= λ i. Ok (import_told place entry i))
+agrees_by_kind place b dll entry rva true = record { name = refl; has_name = refl; ordinal = refl; rva = refl }
+agrees_by_kind place b dll entry rva false = agrees_by_place place b dll entry rva (place (entry % 2 ^ 31)) refl
+
+agrees : (place : ℕ → Option ℕ) (w : ℕ) (b dll : List ℕ) (entry rva : ℕ) → Agrees b (import_of place w b (record { dll = dll; entry = entry; rva = rva })) (import_at place w b entry rva)
+unfolding import_of
+agrees place w b dll entry rva = agrees_by_kind place b dll entry rva (nat_le (2 ^ (8 * w - 1)) entry)
+
+-- ---- the imports of a library
+
+-- a walk that has the bytes from q on left
+abbrev over : ℕ → ℕ → ℕ → Imports
+over q n rva = record { left = record { place = q; length = n }; rva = rva }
+
+-- the entries from q on
+abbrev slots : ℕ → List ℕ → List ℕ → ℕ → ℕ → ℕ → EntryView
+slots w b dll q rva k = record { dll = dll; entry = le b (q + w * k) w; rva = rva + w * k }
+
+le_of_range : (b : List ℕ) (q m p n : ℕ) → q + m ≤ length b → p + n ≤ m → le (range b q m) p n ≡ le b (q + p) n
+unfolding le
+le_of_range b q m p zero h i = refl
+le_of_range b q m p (suc n) h i = let fewer : le (range b q m) p n ≡ le b (q + p) n = le_of_range b q m p n h (omega (arith, i)) in grind (arith, places)
+
+entry_left : (w : ℕ) (b : List ℕ) (q m : ℕ) → 0 < w → w ≤ m → q + m ≤ length b → left_entry w b (record { place = q; length = m }) ≡ Ok (Some (range b q m))
+entry_left w b q m some h i = grind (arith, nat_tests)
+
+step_first : (place : ℕ → Option ℕ) (w : ℕ) (b : List ℕ) (q m rva : ℕ) → 0 < w → w ≤ m → q + m ≤ length b → import_step place w b (over q m rva) ≡ import_by w (over q m rva) (import_at place w b (le b q w) rva)
+unfolding import_step
+step_first place w b q m rva some h i =
+    let at_start : q + 0 ≡ q = omega arith in
+    let entry : le (range b q m) 0 w ≡ le b q w = le_of_range b q m 0 w i (omega (arith, h)) ∙ ap (λ (k : ℕ). le b k w) at_start in
+    ap (import_left place w b (over q m rva)) (entry_left w b q m some h i) ∙ ap (λ (e : ℕ). import_by w (over q m rva) (import_at place w b e rva)) entry
+
+step_last : (place : ℕ → Option ℕ) (w : ℕ) (b : List ℕ) (q rva : ℕ) → q ≤ length b → import_step place w b (over q 0 rva) ≡ (Ok None, over q 0 rva)
+unfolding import_step
+step_last place w b q rva h =
+    let left : left_entry w b (record { place = q; length = 0 }) ≡ Ok None = grind (arith, nat_tests) in
+    ap (import_left place w b (over q 0 rva)) left
+
+-- the first import and those behind it
+one : (place : ℕ → Option ℕ) (w : ℕ) (b : List ℕ) (walk next : Imports) (r : Result ImportView Refusal) (x : Result Import Refusal) (rest : List (Result ImportView Refusal)) →
+    Agrees b r x → import_step place w b walk ≡ import_by w walk x → record { left = record { place = walk.left.place + w; length = walk.left.length - w }; rva = (walk.rva + w) % 2 ^ 64 } ≡ next →
+    TellsAll (import_step place w b) (TellsImport b) next (all_or_refusal rest) → TellsAll (import_step place w b) (TellsImport b) walk (all_or_refusal (r ∷ rest))
+one place w b walk next (Ok i) (Ok x) rest agree is behind more =
+    tells_more (import_step place w b) (TellsImport b) walk next x i (all_or_refusal rest) (is ∙ ap (λ (n : Imports). (Ok (Some x), n)) behind) agree more
+one place w b walk next (Ok i) (Err e) rest agree is behind more = absurd agree
+one place w b walk next (Err e) (Ok x) rest agree is behind more = absurd agree
+one place w b walk next (Err e) (Err f) rest agree is behind more =
+    tells_refused (import_step place w b) (TellsImport b) walk (no_imports walk) e (is ∙ ap (λ (r : Refusal). (Err r, no_imports walk)) (sym agree))
+
+slots_front : (w : ℕ) (b dll : List ℕ) (q rva n : ℕ) → each (slots w b dll q rva) (suc n) ≡ record { dll = dll; entry = le b q w; rva = rva } ∷ each (slots w b dll (q + w) (rva + w)) n
+slots_front w b dll q rva n =
+    let first : q + w * 0 ≡ q = omega arith in
+    let slot : rva + w * 0 ≡ rva = omega arith in
+    each_front (slots w b dll q rva) (slots w b dll (q + w) (rva + w)) n
+    (λ k.
+    let place : q + w * suc k ≡ q + w + w * k = omega (arith, mul-suc w k) in
+    let address : rva + w * suc k ≡ rva + w + w * k = omega (arith, mul-suc w k) in
+    rw (place, address) refl)
+    ∙ ap (λ (p : ℕ). record { dll = dll; entry = le b p w; rva = rva + w * 0 } ∷ each (slots w b dll (q + w) (rva + w)) n) first
+    ∙ ap (λ (a : ℕ). record { dll = dll; entry = le b q w; rva = a } ∷ each (slots w b dll (q + w) (rva + w)) n) slot
+
+next_walk : (w q rva n : ℕ) → rva + w * suc n < 2 ^ 64 → record { left = record { place = q + w; length = w * suc n - w }; rva = (rva + w) % 2 ^ 64 } ≡ over (q + w) (w * n) (rva + w)
+next_walk w q rva n small =
+    let fewer : w * suc n - w ≡ w * n = omega (arith, mul-suc w n) in
+    let same : (rva + w) % 2 ^ 64 ≡ rva + w = omega (arith, mul-suc w n, small) in
+    rw (fewer, same) refl
+
+run : (place : ℕ → Option ℕ) (w : ℕ) (b dll : List ℕ) → 0 < w → (n q rva : ℕ) → q + w * n ≤ length b → rva + w * n < 2 ^ 64 →
+    TellsAll (import_step place w b) (TellsImport b) (over q (w * n) rva) (all_or_refusal (map (import_of place w b) (each (slots w b dll q rva) n)))
+run place w b dll some zero q rva inside small =
+    let none : w * 0 ≡ 0 = omega arith in
+    let here : import_step place w b (over q (w * 0) rva) ≡ (Ok None, over q 0 rva) = ap (λ (m : ℕ). import_step place w b (over q m rva)) none ∙ step_last place w b q rva (omega (arith, inside)) in
+    subst (λ (es : List EntryView). TellsAll (import_step place w b) (TellsImport b) (over q (w * 0) rva) (all_or_refusal (map (import_of place w b) es))) (sym (none_of (slots w b dll q rva)))
+    (tells_none (import_step place w b) (TellsImport b) (over q (w * 0) rva) (over q 0 rva) here)
+run place w b dll some (suc n) q rva inside small =
+    let long : w * suc n ≡ w * n + w = mul-suc w n in
+    subst (λ (es : List EntryView). TellsAll (import_step place w b) (TellsImport b) (over q (w * suc n) rva) (all_or_refusal (map (import_of place w b) es))) (sym (slots_front w b dll q rva n))
+    (one place w b (over q (w * suc n) rva) (over (q + w) (w * n) (rva + w)) _ _ _
+    (agrees place w b dll (le b q w) rva)
+    (step_first place w b q (w * suc n) rva some (omega (arith, long)) inside)
+    (next_walk w q rva n small)
+    (run place w b dll some n (q + w) (rva + w) (omega (arith, long, inside)) (omega (arith, long, small))))
+
+-- ---- lists
+
+-- rows of one width from a place on: the first, and those behind it
+rows_front : {X : Type 0} (row : ℕ → X) (w q n : ℕ) → each (λ k. row (q + w * k)) (suc n) ≡ row q ∷ each (λ k. row (q + w + w * k)) n
+rows_front {X} row w q n =
+    let first : q + w * 0 ≡ q = omega arith in
+    each_front (λ k. row (q + w * k)) (λ k. row (q + w + w * k)) n (λ k. ap row (omega (arith, mul-suc w k)))
+    ∙ ap (λ (p : ℕ). row p ∷ each (λ k. row (q + w + w * k)) n) first
+
+behind_first : {X : Type 0} (x : X) (rest : Result (List X) Refusal) (xs : List X) → with_rest (x ∷ []) rest ≡ Ok xs → (ys : List X) × (rest ≡ Ok ys) × (x ∷ ys ≡ xs)
+behind_first x (Ok ys) xs e = (ys, refl, same_inside (x ∷ ys) xs e)
+behind_first x (Err r) xs e = absurd cc
+
+held : {Y : Type 0} (b : List ℕ) (p n : ℕ) (y z : Y) → record_at b p n y ≡ Ok z → p + n ≤ length b
+held b p n y z e = grind (arith, nat_tests)
+
+-- the entries of a list that is given are all there
+inside_by : (w : ℕ) (b : List ℕ) (q : ℕ) (es : List ℕ) (row : Result (Option ℕ) Refusal) (rows : List (Result (Option ℕ) Refusal)) → lookup_at w b q ≡ row → up_to_none (row ∷ rows) ≡ Ok es →
+    ((ys : List ℕ) → up_to_none rows ≡ Ok ys → q + w ≤ length b → q + w + w * length ys ≤ length b) → q + w * length es ≤ length b
+inside_by w b q es (Ok None) rows e given more =
+    subst (λ (xs : List ℕ). q + w * length xs ≤ length b) (same_inside [] es given) (omega (arith, held b q w _ None e))
+inside_by w b q es (Ok (Some x)) rows e given more =
+    let behind = behind_first x (up_to_none rows) es given in
+    subst (λ (xs : List ℕ). q + w * length xs ≤ length b) behind.2 (omega (arith, mul-suc w (length behind.0), more behind.0 behind.1 (held b q w _ (Some x) e)))
+inside_by w b q es (Err r) rows e given more = absurd cc
+
+inside : (w : ℕ) (b : List ℕ) (n q : ℕ) (es : List ℕ) → up_to_none (each (λ k. lookup_at w b (q + w * k)) n) ≡ Ok es → q ≤ length b → q + w * length es ≤ length b
+inside w b zero q es e h =
+    let none : Ok [] ≡ Ok es = ap up_to_none (sym (none_of (λ k. lookup_at w b (q + w * k)))) ∙ e in
+    subst (λ (xs : List ℕ). q + w * length xs ≤ length b) (same_inside [] es none) (omega (arith, h))
+inside w b (suc n) q es e h =
+    inside_by w b q es (lookup_at w b q) (each (λ k. lookup_at w b (q + w + w * k)) n) refl (ap up_to_none (sym (rows_front (lookup_at w b) w q n)) ∙ e) (λ ys f i. inside w b n (q + w) ys f i)
+
+list_inside : (w : ℕ) (b : List ℕ) (q : ℕ) (es : List ℕ) → lookup_entries w b q ≡ Ok es → q + w * length es ≤ length b
+unfolding lookup_entries
+list_inside w b q es e =
+    inside_by w b q es (lookup_at w b q) (each (λ k. lookup_at w b (q + w + w * k)) (length b)) refl (ap up_to_none (sym (rows_front (lookup_at w b) w q (length b))) ∙ e) (λ ys f i. inside w b (length b) (q + w) ys f i)
+
+-- a list stands where its range is, and is of whole entries
+record ListStands (w : ℕ) (b : List ℕ) (r : Range) (list : List ℕ) : Type 0 where
+  count : ℕ
+  long : r.length ≡ w * count
+  within : r.place + w * count ≤ length b
+  same : range b r.place (w * count) ≡ list
+
+list_stands : (w : ℕ) (b : List ℕ) (at : Option ℕ) (list : List ℕ) → lookups_at w b at ≡ Ok list → ListStands w b (range_from (length list) at) list
+list_stands w b None list e =
+    let none : [] ≡ list = same_inside [] list e in
+    let nothing : w * 0 ≡ 0 = omega arith in
+    subst (ListStands w b no_bytes) none (record { count = 0; long = omega arith; within = omega arith; same = rw nothing refl })
+list_stands w b (Some q) list e =
+    let entries = given (lookup_entries w b q) (λ es. Ok (range b q (w * length es))) list e in
+    let same : range b q (w * length entries.0) ≡ list = same_inside (range b q (w * length entries.0)) list entries.2 in
+    let within : q + w * length entries.0 ≤ length b = list_inside w b q entries.0 entries.1 in
+    record { count = length entries.0; long = ap length (sym same) ∙ range_length b q (w * length entries.0) within; within = within; same = same }
+
+is_range : (w : ℕ) (b : List ℕ) (r : Range) (list : List ℕ) → ListStands w b r list → IsRange b r list
+is_range w b r list s = record { inside = omega (arith, s.long, s.within); same = ap (λ (n : ℕ). range b r.place n) s.long ∙ s.same }
+
+-- ---- the imports of a record
+
+its_slots : (w : ℕ) (b : List ℕ) (r : ImportRecordView) (q n : ℕ) → 0 < w → q + w * n ≤ length b → range b q (w * n) ≡ r.lookups →
+    each (entry_at w r) (length r.lookups / w) ≡ each (slots w b r.name q r.import_directory_entry.address_table_rva) n
+its_slots w b r q n some h same =
+    let long : length r.lookups ≡ n * w + 0 = ap length (sym same) ∙ range_length b q (w * n) h ∙ grind arith in
+    let count : length r.lookups / w ≡ n = ap (λ (m : ℕ). m / w) long ∙ div-mul-add n w 0 some in
+    ap (λ (m : ℕ). each (entry_at w r) m) count
+    ∙ each_same (entry_at w r) (slots w b r.name q r.import_directory_entry.address_table_rva) n
+    (λ k lt.
+    ap (λ (e : ℕ). record { dll = r.name; entry = e; rva = r.import_directory_entry.address_table_rva + w * k })
+    (ap (λ (l : List ℕ). le l (w * k) w) (sym same) ∙ le_of_range b q (w * n) (w * k) w h (column_fits w k w n lt (omega arith))))
+
+record_imports : (place : ℕ → Option ℕ) (w : ℕ) (b : List ℕ) (r : ImportRecordView) (left : Range) → 0 < w → length b ≤ 2 ^ 63 → ListStands w b left r.lookups → r.import_directory_entry.address_table_rva < 4294967296 →
+    TellsAll (import_step place w b) (TellsImport b) (record { left = left; rva = r.import_directory_entry.address_table_rva }) (imports place w b (r ∷ []))
+unfolding imports entries
+record_imports place w b r left some small s low =
+    let rva : ℕ = r.import_directory_entry.address_table_rva in
+    let same : entries w (r ∷ []) ≡ each (slots w b r.name left.place rva) s.count = append-nil (each (entry_at w r) (length r.lookups / w)) ∙ its_slots w b r left.place s.count some s.within s.same in
+    subst (λ (m : ℕ). TellsAll (import_step place w b) (TellsImport b) (over left.place m rva) (all_or_refusal (map (import_of place w b) (entries w (r ∷ []))))) (sym s.long)
+    (subst (λ (es : List EntryView). TellsAll (import_step place w b) (TellsImport b) (over left.place (w * s.count) rva) (all_or_refusal (map (import_of place w b) es))) (sym same)
+    (run place w b r.name some s.count left.place rva s.within (omega (arith, s.within, small, low))))
+
+-- ---- a library
+
+some_inside : {X : Type 0} (x y : X) → ◌≡◌ {A = Result (Option X) Refusal} (Ok (Some x)) (Ok (Some y)) → x ≡ y
+some_inside x y e = cc
+
+there_by : {Y : Type 0} (here : Bool) (y z : Y) → if◌then◌else◌ {A = Result Y Refusal} here (Ok y) (Err Short) ≡ Ok z → z ≡ y
+there_by true y z e = sym (same_inside y z e)
+there_by false y z e = absurd cc
+
+there_is : {Y : Type 0} (b : List ℕ) (p : ℕ) (y z : Y) → record_at b p 20 y ≡ Ok z → z ≡ y
+there_is b p y z e = there_by (holds b p 20) y z e
+
+place_of_name : (at : Option ℕ) (p : ℕ) → mapped at ≡ Ok p → at ≡ Some p
+place_of_name None p e = absurd cc
+place_of_name (Some q) p e = ap (λ (x : ℕ). Some x) (same_inside q p e)
+
+name_is : (o : Option (List ℕ)) (name : List ℕ) → name_or_refusal o ≡ Ok name → o ≡ Some name
+name_is None name e = absurd cc
+name_is (Some n) name e = ap (λ (x : List ℕ). Some x) (same_inside n name e)
+
+not_last : (last : Bool) (r : ImportRecordView) (more : Result (Option ImportRecordView) Refusal) → if◌then◌else◌ last (Ok None) more ≡ Ok (Some r) → more ≡ Ok (Some r)
+not_last true r more e = absurd cc
+not_last false r more e = e
+
+low_address : (b : List ℕ) (p : ℕ) → AreBytes b → (import_entry b p).address_table_rva < 4294967296
+unfolding import_entry
+low_address b p small = number_small b (p + 16) small
+
+entry_tells : (place : ℕ → Option ℕ) (w : ℕ) (b : List ℕ) (e : ImportDirectoryEntry) (r : ImportRecordView) → 0 < w → length b ≤ 2 ^ 63 → e.address_table_rva < 4294967296 → import_record place w b e ≡ Ok (Some r) →
+    TellsLibrary place w b (library_told place r) r
+unfolding import_record
+entry_tells place w b e r some small low h =
+    let p = given (mapped (place e.name_rva)) _ (Some r) h in
+    let name = given (name_or_refusal (text_at b p.0)) _ (Some r) p.2 in
+    let list = given (lookups_at w b (place (lookups_rva e))) _ (Some r) name.2 in
+    let made : ImportRecordView = record { import_directory_entry = e; name = name.0; lookups = list.0 } in
+    let stands : ListStands w b (range_from (length list.0) (place (lookups_rva e))) list.0 = list_stands w b (place (lookups_rva e)) list.0 list.1 in
+    subst (λ (x : ImportRecordView). TellsLibrary place w b (library_told place x) x) (some_inside made r list.2) (record {
+      name = subst (λ (o : Option ℕ). IsRange b (range_from (length name.0) o) name.0) (sym (place_of_name (place e.name_rva) p.0 p.1)) (text_stands b p.0 name.0 (name_is (text_at b p.0) name.0 name.1));
+      list = is_range w b (range_from (length list.0) (place (lookups_rva e))) list.0 stands;
+      numbers = refl;
+      in_turn = record_imports place w b made (range_from (length list.0) (place (lookups_rva e))) some small stands low;
+    })
+
+record_tells : (place : ℕ → Option ℕ) (w : ℕ) (b : List ℕ) (p : ℕ) (r : ImportRecordView) → 0 < w → AreBytes b → length b ≤ 2 ^ 63 → import_record_at place w b p ≡ Ok (Some r) →
+    TellsLibrary place w b (library_told place r) r
+unfolding import_record_at
+record_tells place w b p r some bytes small h =
+    let e = given (record_at b p 20 (import_entry b p)) _ (Some r) h in
+    let same : e.0 ≡ import_entry b p = there_is b p (import_entry b p) e.0 e.1 in
+    entry_tells place w b e.0 r some small (subst (λ (x : ImportDirectoryEntry). x.address_table_rva < 4294967296) (sym same) (low_address b p bytes))
+    (not_last (is_last e.0) r (import_record place w b e.0) e.2)
+
+record_there : (place : ℕ → Option ℕ) (w : ℕ) (b : List ℕ) (p : ℕ) (r : ImportRecordView) → import_record_at place w b p ≡ Ok (Some r) → p + 20 ≤ length b
+unfolding import_record_at
+record_there place w b p r h =
+    let e = given (record_at b p 20 (import_entry b p)) _ (Some r) h in
+    held b p 20 (import_entry b p) e.0 e.1
+
+-- ---- the libraries of a directory
+
+abbrev library_of_row : (ℕ → Option ℕ) → ℕ → Result (Option ImportRecordView) Refusal → Result (Option Library) Refusal × Libraries
+library_of_row place p row = library_by (libraries_from p) (row >>= λ r. Ok (option_map (library_told place) r))
+
+first_library : (place : ℕ → Option ℕ) (w : ℕ) (b : List ℕ) (p : ℕ) (row : Result (Option ImportRecordView) Refusal) (rows : List (Result (Option ImportRecordView) Refusal)) → import_record_at place w b p ≡ row →
+    ((r : ImportRecordView) → row ≡ Ok (Some r) → TellsAll (library_step place w b) (TellsLibrary place w b) (libraries_from (p + 20)) (up_to_none rows)) →
+    ((r : ImportRecordView) → row ≡ Ok (Some r) → TellsLibrary place w b (library_told place r) r) →
+    TellsAll (library_step place w b) (TellsLibrary place w b) (libraries_from p) (up_to_none (row ∷ rows))
+unfolding library_step
+first_library place w b p (Ok None) rows e more tells =
+    tells_none (library_step place w b) (TellsLibrary place w b) (libraries_from p) no_libraries (ap (library_of_row place p) e)
+first_library place w b p (Ok (Some r)) rows e more tells =
+    tells_more (library_step place w b) (TellsLibrary place w b) (libraries_from p) (libraries_from (p + 20)) (library_told place r) r (up_to_none rows) (ap (library_of_row place p) e) (tells r refl) (more r refl)
+first_library place w b p (Err refusal) rows e more tells =
+    tells_refused (library_step place w b) (TellsLibrary place w b) (libraries_from p) no_libraries refusal (ap (library_of_row place p) e)
+
+libraries_run : (place : ℕ → Option ℕ) (w : ℕ) (b : List ℕ) → 0 < w → AreBytes b → length b ≤ 2 ^ 63 → (n p : ℕ) → length b < p + 20 * suc n →
+    TellsAll (library_step place w b) (TellsLibrary place w b) (libraries_from p) (up_to_none (each (λ i. import_record_at place w b (p + 20 * i)) (suc n)))
+libraries_run place w b some bytes small zero p enough =
+    subst (λ (rows : List (Result (Option ImportRecordView) Refusal)). TellsAll (library_step place w b) (TellsLibrary place w b) (libraries_from p) (up_to_none rows)) (sym (rows_front (import_record_at place w b) 20 p 0))
+    (first_library place w b p (import_record_at place w b p) _ refl
+    (λ r e. let room : p + 20 ≤ length b = record_there place w b p r e in absurd (omega (arith, room, enough)))
+    (λ r e. record_tells place w b p r some bytes small e))
+libraries_run place w b some bytes small (suc n) p enough =
+    subst (λ (rows : List (Result (Option ImportRecordView) Refusal)). TellsAll (library_step place w b) (TellsLibrary place w b) (libraries_from p) (up_to_none rows)) (sym (rows_front (import_record_at place w b) 20 p (suc n)))
+    (first_library place w b p (import_record_at place w b p) _ refl
+    (λ r e. libraries_run place w b some bytes small n (p + 20) (omega (arith, enough)))
+    (λ r e. record_tells place w b p r some bytes small e))
+
+directory_run : (place : ℕ → Option ℕ) (w : ℕ) (b : List ℕ) (p : ℕ) → 0 < w → AreBytes b → length b ≤ 2 ^ 63 →
+    TellsAll (library_step place w b) (TellsLibrary place w b) (libraries_from p) (import_records place w b p)
+unfolding import_records
+directory_run place w b p some bytes small = libraries_run place w b some bytes small (length b) p (omega arith)
+
+by_directory : (place : ℕ → Option ℕ) (w : ℕ) (b : List ℕ) (walk : Libraries) (absent : Bool) (at : Option ℕ) → 0 < w → AreBytes b → length b ≤ 2 ^ 63 →
+    if◌then◌else◌ {A = Result (Option Libraries) Refusal} absent (Ok None) (mapped at >>= λ p. Ok (Some (libraries_from p))) ≡ Ok (Some walk) →
+    TellsAll (library_step place w b) (TellsLibrary place w b) walk (mapped at >>= import_records place w b)
+by_directory place w b walk true at some bytes small e = absurd cc
+by_directory place w b walk false None some bytes small e = absurd cc
+by_directory place w b walk false (Some p) some bytes small e =
+    subst (λ (x : Libraries). TellsAll (library_step place w b) (TellsLibrary place w b) x (import_records place w b p)) (some_inside (libraries_from p) walk e) (directory_run place w b p some bytes small)
+
+some_bytes : (wide : Bool) → 0 < entry_size wide
+some_bytes true = omega arith
+some_bytes false = omega arith
+
+pub libraries_told : (b : List ℕ) (image : Image) (sections : List SectionTable) (walk : Libraries) → AreBytes b → length b ≤ 2 ^ 63 → libraries_at image sections ≡ Ok (Some walk) →
+    TellsAll (library_step (place_in image sections) (entry_size (image.width == 64)) b) (TellsLibrary (place_in image sections) (entry_size (image.width == 64)) b) walk
+    (import_data_at (place_in image sections) (entry_size (image.width == 64)) b image.imports.virtual_address)
+libraries_told b image sections walk bytes small e =
+    by_directory (place_in image sections) (entry_size (image.width == 64)) b walk (is_absent image.imports) (place_in image sections image.imports.virtual_address) (some_bytes (image.width == 64)) bytes small e
+
+-- ---- records in turn
+
+as_given : {X : Type 0} (r : Result X Refusal) → r ≡ (r >>= λ x. Ok x)
+as_given (Ok x) = refl
+as_given (Err e) = refl
+
+rest_in_turn : {X : Type 0} (x : X) (first more : Result (List X) Refusal) →
+    with_rest (x ∷ []) (first >>= λ xs. more >>= λ ys. Ok (xs ++ ys)) ≡ (with_rest (x ∷ []) first >>= λ xs. more >>= λ ys. Ok (xs ++ ys))
+rest_in_turn x (Ok xs) (Ok ys) = refl
+rest_in_turn x (Ok xs) (Err e) = refl
+rest_in_turn x (Err e) more = refl
+
+all_in_turn : {X : Type 0} (xs ys : List (Result X Refusal)) → all_or_refusal (xs ++ ys) ≡ (all_or_refusal xs >>= λ first. all_or_refusal ys >>= λ more. Ok (first ++ more))
+all_in_turn [] ys = as_given (all_or_refusal ys)
+all_in_turn (Ok x ∷ xs) ys = ap (with_rest (x ∷ [])) (all_in_turn xs ys) ∙ rest_in_turn x (all_or_refusal xs) (all_or_refusal ys)
+all_in_turn (Err e ∷ xs) ys = refl
+
+pub imports_in_turn : ImportsInTurn
+unfolding imports entries
+imports_in_turn place w b r rs =
+    let its : List EntryView = each (entry_at w r) (length r.lookups / w) in
+    let others : List EntryView = entries w rs in
+    ap all_or_refusal (map-append (import_of place w b) its others)
+    ∙ all_in_turn (map (import_of place w b) its) (map (import_of place w b) others)
+    ∙ ap (λ (es : List EntryView). all_or_refusal (map (import_of place w b) es) >>= λ first. all_or_refusal (map (import_of place w b) others) >>= λ more. Ok (first ++ more)) (sym (append-nil its))

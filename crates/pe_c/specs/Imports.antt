@@ -1,0 +1,110 @@
+-- Imports: a walk over the libraries of an import directory, and a walk over the imports of each.
+use Rattle.std.specs.Prelude.{ℕ, ◌+◌, ◌%◌, ◌^◌, ◌==◌, List, [], length, Option, Some, None, Result, Ok, Err, if◌then◌else◌}
+use Rattle.std.specs.Option.{option_map}
+use Rattle.pe_core.specs.Bytes.{le}
+use Rattle.pe_core.specs.Imports.{EntryView, ImportRecordView, ImportView, import_of, import_record, import_record_at, lookups_rva, named_import}
+use Rattle.pe_core.specs.Refusals.{Refusal, ◌>>=◌}
+use Rattle.pe_core.specs.SectionMap.{mapped}
+use Rattle.pe_core.specs.declared.import.ImportDirectoryEntry.{ImportDirectoryEntry}
+use Rattle.pe_core.specs.declared.section_table.SectionTable.{SectionTable}
+use Rattle.pe_c.specs.declared.image.Image.{Image}
+use Rattle.pe_c.specs.declared.imports.Import.{Import}
+use Rattle.pe_c.specs.declared.imports.Imports.{Imports}
+use Rattle.pe_c.specs.declared.imports.Libraries.{Libraries}
+use Rattle.pe_c.specs.declared.imports.Library.{Library}
+use Rattle.pe_c.specs.declared.ranges.Range.{Range}
+use Rattle.pe_c.specs.Exports.{one_if_some}
+use Rattle.pe_c.specs.Images.{is_absent, place_in}
+use Rattle.pe_c.specs.Ranges.{behind, no_bytes, range_from}
+use Rattle.pe_c.specs.Walks.{left_entry}
+
+-- ---- libraries; `place` maps an address to its place in the file, `w` is how many bytes an entry of a list has
+
+-- a walk whose next record stands at p
+abbrev pub libraries_from : ℕ → Libraries
+libraries_from p = record { next = p; is_over = 0; spare = 0 }
+
+-- a walk that is over
+abbrev pub no_libraries : Libraries
+no_libraries = record { next = 0; is_over = 1; spare = 0 }
+
+-- the libraries of an image's import directory, if it has one, unless its address has no place
+abbrev pub libraries_at : Image → List SectionTable → Result (Option Libraries) Refusal
+libraries_at image sections =
+    if is_absent image.imports then Ok None
+    else mapped (place_in image sections image.imports.virtual_address) >>= λ p. Ok (Some (libraries_from p))
+
+-- a library, its name and its list as ranges
+abbrev pub library_told : (ℕ → Option ℕ) → ImportRecordView → Library
+library_told place r =
+    let e = r.import_directory_entry in
+    record {
+      name = range_from (length r.name) (place e.name_rva);
+      imports = record { left = range_from (length r.lookups) (place (lookups_rva e)); rva = e.address_table_rva };
+      lookup_table_rva = e.lookup_table_rva;
+      time_date_stamp = e.time_date_stamp;
+      forwarder_chain = e.forwarder_chain;
+      name_rva = e.name_rva;
+      address_table_rva = e.address_table_rva;
+      spare = 0;
+    }
+
+-- the library of a record
+abbrev pub library_of : (ℕ → Option ℕ) → ℕ → List ℕ → ImportDirectoryEntry → Result (Option Library) Refusal
+library_of place w b e = import_record place w b e >>= λ r. Ok (option_map (library_told place) r)
+
+-- what stands at p: a library, or none at the record that ends the directory
+abbrev pub library_at : (ℕ → Option ℕ) → ℕ → List ℕ → ℕ → Result (Option Library) Refusal
+library_at place w b p = import_record_at place w b p >>= λ r. Ok (option_map (library_told place) r)
+
+-- what a step over it answers, and the walk behind: over at the end and behind a refusal
+abbrev pub library_by : Libraries → Result (Option Library) Refusal → Result (Option Library) Refusal × Libraries
+library_by walk (Ok (Some library)) = (Ok (Some library), libraries_from (walk.next + 20))
+library_by walk (Ok None) = (Ok None, no_libraries)
+library_by walk (Err refusal) = (Err refusal, no_libraries)
+
+-- a step over libraries; one that is over stays as it is
+unfoldable pub library_step : (ℕ → Option ℕ) → ℕ → List ℕ → Libraries → Result (Option Library) Refusal × Libraries
+library_step place w b walk = if walk.is_over == 0 then library_by walk (library_at place w b walk.next) else (Ok None, walk)
+
+-- ---- the imports of a library
+
+-- the range of an import's name, if it has one: behind the hint at this place
+abbrev pub import_name_told : Option ℕ → Option (List ℕ) → Range
+import_name_told hint None = no_bytes
+import_name_told hint (Some name) = range_from (length name) (option_map (λ p. p + 2) hint)
+
+-- what an entry imports, its name as a range
+abbrev pub import_told : (ℕ → Option ℕ) → ℕ → ImportView → Import
+import_told place entry i = record { name = import_name_told (place (entry % 2 ^ 31)) i.name; rva = i.rva; ordinal = i.ordinal; has_name = one_if_some i.name }
+
+-- an entry with its slot; which library it is of makes no difference to what it imports
+abbrev pub entry_of : ℕ → ℕ → EntryView
+entry_of entry rva = record { dll = []; entry = entry; rva = rva }
+
+-- what it imports by its name
+abbrev pub named_told : (ℕ → Option ℕ) → List ℕ → ℕ → ℕ → Result Import Refusal
+named_told place b entry rva = (mapped (place (entry % 2 ^ 31)) >>= named_import b (entry_of entry rva)) >>= λ i. Ok (import_told place entry i)
+
+-- what it imports
+abbrev pub import_at : (ℕ → Option ℕ) → ℕ → List ℕ → ℕ → ℕ → Result Import Refusal
+import_at place w b entry rva = import_of place w b (entry_of entry rva) >>= λ i. Ok (import_told place entry i)
+
+-- a walk that is over
+abbrev pub no_imports : Imports → Imports
+no_imports walk = record walk { left = no_bytes }
+
+-- what a step over an entry answers, and the walk behind: the next slot stands behind this one
+abbrev pub import_by : ℕ → Imports → Result Import Refusal → Result (Option Import) Refusal × Imports
+import_by w walk (Ok import) = (Ok (Some import), record { left = behind walk.left w; rva = (walk.rva + w) % 2 ^ 64 })
+import_by w walk (Err refusal) = (Err refusal, no_imports walk)
+
+-- the same of a walk that has these bytes left, which begin with its next entry
+abbrev pub import_left : (ℕ → Option ℕ) → ℕ → List ℕ → Imports → Result (Option (List ℕ)) Refusal → Result (Option Import) Refusal × Imports
+import_left place w b walk (Ok None) = (Ok None, walk)
+import_left place w b walk (Ok (Some left)) = import_by w walk (import_at place w b (le left 0 w) walk.rva)
+import_left place w b walk (Err refusal) = (Err refusal, no_imports walk)
+
+-- a step over the imports of a library
+unfoldable pub import_step : (ℕ → Option ℕ) → ℕ → List ℕ → Imports → Result (Option Import) Refusal × Imports
+import_step place w b walk = import_left place w b walk (left_entry w b walk.left)

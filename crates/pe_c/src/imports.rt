@@ -1,0 +1,334 @@
+//! Imports: a walk over the libraries of an import directory, and a walk over the imports of each.
+
+ghost use Rattle.std.specs.Prelude.{◌≡◌, ◌==◌, ◌+◌, ◌≤◌, length, Some, IfOk, IfSome};
+ghost use Rattle.pe_core.specs.Imports.{entry_size, lookups_at, name_or_refusal};
+ghost use Rattle.pe_core.specs.Refusals.{Gives, answer_by};
+ghost use Rattle.pe_core.specs.SectionMap.{mapped};
+ghost use Rattle.pe_core.specs.Text.{text_at};
+ghost use Rattle.pe_c.specs.Answers.{AnswersIf};
+ghost use Rattle.pe_c.specs.Images.{place_in};
+ghost use Rattle.pe_c.specs.Imports.{import_at, import_step, libraries_at, library_at, library_of, library_step, named_told};
+
+use crate::answers::hand_out_some;
+use crate::image::{Image, is_absent, place_of};
+use crate::ranges::{NO_BYTES, Range, range_from};
+use crate::walks::next_entry;
+use pe_core::{
+    Error, ImportDirectoryEntry, Reason, Result, SectionTable, lookup_number, lookup_size,
+    lookups_at, text_at, u16_at,
+};
+
+/// The size of a record of the import directory in bytes.
+const SIZE_OF_RECORD: u64 = 20;
+
+/// The size of the hint in front of an import's name in bytes.
+const SIZE_OF_HINT: usize = 2;
+
+/// A walk over the libraries of an import directory.
+#[repr(C)]
+#[derive(Clone, Copy)]
+pub struct Libraries {
+    /// The place of the next record of the directory.
+    pub next: u64,
+    /// 1 behind the last library or a refusal, else 0.
+    pub is_over: u32,
+    pub spare: u32,
+}
+
+/// A walk over the imports of a library.
+#[repr(C)]
+#[derive(Clone, Copy)]
+pub struct Imports {
+    /// The entries of its list that are left, without the zero one that ends it: 8 bytes each in PE32+, else 4.
+    pub left: Range,
+    /// The address of the slot of the next one.
+    pub rva: u64,
+}
+
+/// A library that an image imports from, and the numbers of its record.
+#[repr(C)]
+#[derive(Clone, Copy)]
+pub struct Library {
+    pub name: Range,
+    /// A walk over its imports, at their beginning.
+    pub imports: Imports,
+    /// The address of its lookup table, or 0.
+    pub lookup_table_rva: u32,
+    /// 0, or a mark that the imports are bound.
+    pub time_date_stamp: u32,
+    pub forwarder_chain: u32,
+    pub name_rva: u32,
+    /// The address of its address table, whose slots the loader fills.
+    pub address_table_rva: u32,
+    pub spare: u32,
+}
+
+/// An import.
+#[repr(C)]
+#[derive(Clone, Copy)]
+pub struct Import {
+    /// Empty where `has_name` is 0.
+    pub name: Range,
+    /// The address of the slot that the loader fills.
+    pub rva: u64,
+    /// The ordinal, or the hint for a name.
+    pub ordinal: u32,
+    /// 1 where the import is by its name, else 0.
+    pub has_name: u32,
+}
+
+/// A walk over libraries that is over.
+const NO_LIBRARIES: Libraries = Libraries {
+    next: 0,
+    is_over: 1,
+    spare: 0,
+};
+
+/// The place of an address: `Unmapped` where it has none.
+fn mapped_place(rva: u32, image: &Image, sections: &[SectionTable]) -> Result<usize>
+    ensures { Gives (λ p. p) result (mapped (place_in image.now sections.now rva)) }
+{
+    match place_of(rva, image, sections) {
+        Some(place) => Ok(place),
+        None => Err(Error::Malformed(Reason::Unmapped(u64::from(rva)))),
+    }
+}
+
+/// The name at a place, to which an address leads: `ImportName` where there is no text.
+fn name_at(bytes: &[u8], place: usize, rva: u32) -> Result<&str>
+    ensures { Gives (λ s. s.now) result (name_or_refusal (text_at bytes.now place)) }
+{
+    match text_at(bytes, place) {
+        Some(name) => Ok(name),
+        None => Err(Error::Malformed(Reason::ImportName(rva))),
+    }
+}
+
+fn libraries_at(image: &Image, sections: &[SectionTable]) -> Result<Option<Libraries>>
+    ensures { answer_by (λ x. x) result ≡ libraries_at image.now sections.now }
+{
+    if is_absent(image.imports) {
+        return Ok(None);
+    }
+    let place = mapped_place(image.imports.virtual_address, image, sections)?;
+    Ok(Some(Libraries {
+        next: place as u64,
+        is_over: 0,
+        spare: 0,
+    }))
+}
+
+/// Finds the import directory of an image, a walk over its libraries at its beginning: `NOTHING` where the directory is
+/// absent, `UNMAPPED` where its address has no place. No mode makes a difference.
+#[unsafe(no_mangle)]
+pub extern "C" fn pe_c_import_libraries(
+    _bytes: &[u8],
+    image: &Image,
+    sections: &[SectionTable],
+    _mode: u32,
+    out: &mut Libraries,
+) -> u32
+    ensures { AnswersIf result out.old out.new (libraries_at image.now sections.now) }
+{
+    hand_out_some(libraries_at(image, sections), out)
+}
+
+/// The entries of the list at a place: none without a place, `Short` where no zero entry ends them.
+fn list_at(bytes: &[u8], place: Option<usize>, is_64: bool) -> Result<&[u8]>
+    ensures { Gives (λ s. s.now) result (lookups_at (entry_size is_64) bytes.now place) }
+{
+    match place {
+        Some(place) => lookups_at(bytes, place, is_64),
+        None => Ok(&[]),
+    }
+}
+
+/// The library of a record: `Unmapped` or `ImportName` of its name, then `Short` of its list.
+#[tactic(auto, unfolding(pe_core::specs::Imports::import_record))]
+fn library_of(
+    bytes: &[u8],
+    entry: &ImportDirectoryEntry,
+    image: &Image,
+    sections: &[SectionTable],
+) -> Result<Library>
+    ensures { Gives (λ l. Some l) result (library_of (place_in image.now sections.now) (entry_size (image.now.width == 64)) bytes.now entry.now) }
+{
+    let place = mapped_place(entry.name_rva, image, sections)?;
+    let name = name_at(bytes, place, entry.name_rva)?;
+    let list_place = place_of(entry.lookups_rva(), image, sections);
+    let list = list_at(bytes, list_place, image.width == 64)?;
+    Ok(Library {
+        name: range_from(name.len() as u64, Some(place)),
+        imports: Imports {
+            left: range_from(list.len() as u64, list_place),
+            rva: u64::from(entry.address_table_rva),
+        },
+        lookup_table_rva: entry.lookup_table_rva,
+        time_date_stamp: entry.time_date_stamp,
+        forwarder_chain: entry.forwarder_chain,
+        name_rva: entry.name_rva,
+        address_table_rva: entry.address_table_rva,
+        spare: 0,
+    })
+}
+
+/// What stands at a place: a library, or none at the record that ends the directory.
+#[tactic(auto, unfolding(pe_core::specs::Imports::import_record_at))]
+fn library_at(
+    bytes: &[u8],
+    place: usize,
+    image: &Image,
+    sections: &[SectionTable],
+) -> Result<Option<Library>>
+    ensures gives { Gives (λ x. x) result (library_at (place_in image.now sections.now) (entry_size (image.now.width == 64)) bytes.now place) }
+    ensures inside { IfOk result (λ l. IfSome l (λ _. place + 20 ≤ length bytes.now)) }
+{
+    let entry = ImportDirectoryEntry::parse(bytes, place)?;
+    if entry.is_last() {
+        return Ok(None);
+    }
+    let library = library_of(bytes, &entry, image, sections)?;
+    Ok(Some(library))
+}
+
+/// One step over libraries: what it gives, and the walk behind it.
+#[tactic(auto, unfolding(crate::specs::Imports::library_step))]
+fn library_step(
+    bytes: &[u8],
+    image: &Image,
+    sections: &[SectionTable],
+    walk: Libraries,
+) -> (Result<Option<Library>>, Libraries)
+    ensures { (answer_by (λ x. x) result.0, result.1) ≡ library_step (place_in image.now sections.now) (entry_size (image.now.width == 64)) bytes.now walk }
+{
+    if walk.is_over != 0 {
+        return (Ok(None), walk);
+    }
+    match library_at(bytes, walk.next as usize, image, sections) {
+        Ok(Some(library)) => {
+            let behind = Libraries {
+                next: walk.next + SIZE_OF_RECORD,
+                is_over: 0,
+                spare: 0,
+            };
+            (Ok(Some(library)), behind)
+        }
+        answer => (answer, NO_LIBRARIES),
+    }
+}
+
+/// Reads the next library of an import directory: `NOTHING` behind the last; `SHORT` of its record, which ends the walk
+/// where its name or its address table has the address 0; `UNMAPPED` or `IMPORT_NAME` of its name; `SHORT` of its list.
+/// A list whose address has no place is empty. Behind the last and behind a refusal the walk is over. Each name and
+/// each list is read to its end, so those that overlap are read once each. No mode makes a difference.
+#[unsafe(no_mangle)]
+pub extern "C" fn pe_c_next_library(
+    bytes: &[u8],
+    image: &Image,
+    sections: &[SectionTable],
+    _mode: u32,
+    walk: &mut Libraries,
+    out: &mut Library,
+) -> u32
+    ensures answer { AnswersIf result out.old out.new (library_step (place_in image.now sections.now) (entry_size (image.now.width == 64)) bytes.now walk.old).0 }
+    ensures walk { walk.new ≡ (library_step (place_in image.now sections.now) (entry_size (image.now.width == 64)) bytes.now walk.old).1 }
+{
+    let (told, behind) = library_step(bytes, image, sections, *walk);
+    *walk = behind;
+    hand_out_some(told, out)
+}
+
+/// What an entry imports by its name: `Unmapped`, `Short` of the hint, `ImportName`.
+fn named_import(
+    bytes: &[u8],
+    entry: u64,
+    rva: u64,
+    image: &Image,
+    sections: &[SectionTable],
+) -> Result<Import>
+    ensures { Gives (λ x. x) result (named_told (place_in image.now sections.now) bytes.now entry rva) }
+{
+    let name_rva = (entry % 0x8000_0000) as u32;
+    let place = mapped_place(name_rva, image, sections)?;
+    let hint = u16_at(bytes, place)?;
+    let name = name_at(bytes, place + SIZE_OF_HINT, name_rva)?;
+    Ok(Import {
+        name: range_from(name.len() as u64, Some(place + SIZE_OF_HINT)),
+        rva,
+        ordinal: u32::from(hint),
+        has_name: 1,
+    })
+}
+
+/// What an entry with its slot imports: its highest bit says that its low 16 bits are an ordinal.
+#[tactic(auto, unfolding(pe_core::specs::Imports::import_of))]
+fn import_at(
+    bytes: &[u8],
+    entry: u64,
+    rva: u64,
+    image: &Image,
+    sections: &[SectionTable],
+) -> Result<Import>
+    ensures { Gives (λ x. x) result (import_at (place_in image.now sections.now) (entry_size (image.now.width == 64)) bytes.now entry rva) }
+{
+    let highest = if image.width == 64 {
+        0x8000_0000_0000_0000
+    } else {
+        0x8000_0000
+    };
+    if entry >= highest {
+        return Ok(Import {
+            name: NO_BYTES,
+            rva,
+            ordinal: (entry % 0x1_0000) as u32,
+            has_name: 0,
+        });
+    }
+    named_import(bytes, entry, rva, image, sections)
+}
+
+/// One step over the imports of a library.
+#[tactic(auto, unfolding(crate::specs::Imports::import_step))]
+fn import_step(
+    bytes: &[u8],
+    image: &Image,
+    sections: &[SectionTable],
+    walk: &mut Imports,
+) -> Result<Option<Import>>
+    ensures { (answer_by (λ x. x) result, walk.new) ≡ import_step (place_in image.now sections.now) (entry_size (image.now.width == 64)) bytes.now walk.old }
+{
+    let is_64 = image.width == 64;
+    let size = lookup_size(is_64);
+    let Some(left) = next_entry(bytes, &mut walk.left, size)? else {
+        return Ok(None);
+    };
+    let entry = lookup_number(left, 0, is_64);
+    match import_at(bytes, entry, walk.rva, image, sections) {
+        Ok(import) => {
+            walk.rva = walk.rva.wrapping_add(size as u64);
+            Ok(Some(import))
+        }
+        Err(error) => {
+            walk.left = NO_BYTES;
+            Err(error)
+        }
+    }
+}
+
+/// Reads the next import of a library: `NOTHING` behind the last; `SHORT` where its entry is cut or the bytes have no such
+/// list; `UNMAPPED`, `SHORT` or `IMPORT_NAME` of its hint and its name. Behind a refusal the walk is over. Each name is
+/// read to its end, so names that overlap are read once each. No mode makes a difference.
+#[unsafe(no_mangle)]
+pub extern "C" fn pe_c_next_import(
+    bytes: &[u8],
+    image: &Image,
+    sections: &[SectionTable],
+    _mode: u32,
+    walk: &mut Imports,
+    out: &mut Import,
+) -> u32
+    ensures answer { AnswersIf result out.old out.new (import_step (place_in image.now sections.now) (entry_size (image.now.width == 64)) bytes.now walk.old).0 }
+    ensures walk { walk.new ≡ (import_step (place_in image.now sections.now) (entry_size (image.now.width == 64)) bytes.now walk.old).1 }
+{
+    hand_out_some(import_step(bytes, image, sections, walk), out)
+}
