@@ -25,7 +25,30 @@ copy_with_tests_crate() {
   } >"$folder/crates.txt"
 }
 
-# The same and one more crate, damaged, the program of tools/damaged.
+# Puts tests/pe_c into a copy of the crates, as the module tests of its crate pe_c, which uses pe_images then: a static library
+# is no dependency of another crate, and its modules are private.
+add_tests_of_c() {
+  local folder=$1 test
+  mkdir -p "$folder/crates/pe_c/src/tests"
+  for test in tests/pe_c/*.test; do
+    cp "$test" "$(copy_of_test "$folder" "$test")"
+  done
+  printf '\n#[cfg(test)]\nmod tests;\n' >>"$folder/crates/pe_c/src/lib.rt"
+  sed -i '/^pe_c staticlib:/s/$/ pe_images/' "$folder/crates.txt"
+}
+
+# Where the copy of a file of tests stands.
+copy_of_test() {
+  local folder=$1 test=$2 name
+  name=$(basename "$test" .test)
+  case $test in
+    tests/pe_c/lib.test) echo "$folder/crates/pe_c/src/tests.rt" ;;
+    tests/pe_c/*) echo "$folder/crates/pe_c/src/tests/$name.rt" ;;
+    *) echo "$folder/crates/pe_tests/src/$name.rt" ;;
+  esac
+}
+
+# The crates' sources and one more crate, damaged, the program of tools/damaged.
 copy_with_damaged_crate() {
   local folder=$1 part
   copy_crates "$folder"

@@ -1,6 +1,7 @@
 pub mod Addresses
 pub mod Cycles
 pub mod EndlessPlans
+pub mod EntryRuns
 pub mod ExportParts
 pub mod ImportRuns
 pub mod LastText

@@ -1,6 +1,6 @@
 //! Laws over the definitions. Each is the contract of a function that does nothing.
 
-ghost use Rattle.pe_c.specs.Arm64.{flat_info};
+ghost use Rattle.pe_c.specs.Arm64.{flat_info, flat_scope_at};
 ghost use Rattle.pe_c.specs.Certificates.{StepsList, certificate_told};
 ghost use Rattle.pe_c.specs.Debug.{key_of, pdb20_of, repro_of, pogo_of};
 ghost use Rattle.pe_c.specs.Exports.{told_entry, walk_over, with_tables};
@@ -12,9 +12,11 @@ ghost use Rattle.pe_c.specs.Ranges.{IsRange};
 ghost use Rattle.pe_c.specs.Runs.{TellsAll};
 ghost use Rattle.pe_c.specs.Unwinding.{flat_record};
 ghost use Rattle.pe_c.specs.Versions.{TellsManifest, TellsFixed, TellsValue};
+ghost use Rattle.pe_c.specs.Walks.{GivesItems, StepsEntries, entries_left};
 ghost use Rattle.pe_c.specs.declared.image.Image.{Image};
 ghost use Rattle.pe_c.specs.declared.imports.Libraries.{Libraries};
 ghost use Rattle.pe_c.specs.declared.plan.Plan.{Plan};
+ghost use Rattle.pe_c.specs.declared.ranges.Range.{Range};
 ghost use Rattle.pe_c.specs.declared.unwinding.UnwindRecord.{UnwindRecord};
 ghost use Rattle.pe_core.specs.Bytes.{AreBytes};
 ghost use Rattle.pe_core.specs.Exports.{ExportDataView, export_at, export_data_at};
@@ -22,9 +24,11 @@ ghost use Rattle.pe_core.specs.Imports.{entry_size, import_data_at};
 ghost use Rattle.pe_core.specs.Refusals.{Refusal, FunctionCycle, outcome};
 ghost use Rattle.pe_core.specs.declared.section_table.SectionTable.{SectionTable};
 ghost use Rattle.pe_records.specs.Certificates.{CertificateView, certificate_at};
+ghost use Rattle.pe_records.specs.DebugDirectory.{entry_at};
 ghost use Rattle.pe_records.specs.Parts.{hash_of};
 ghost use Rattle.pe_unwind.specs.Arm64Record.{Arm64InfoView, info_at};
 ghost use Rattle.pe_unwind.specs.Places.{data_of};
+ghost use Rattle.pe_unwind.specs.ScopeTable.{scope_at};
 ghost use Rattle.pe_unwind.specs.UnwindRecord.{UnwindInfoView, unwind_tests, unwind_record};
 ghost use Rattle.std.specs.Option.{option_map};
 ghost use Rattle.std.specs.Prelude.{◌≡◌, ℕ, List, Option, Ok, Err, IfSome, ◌⊎◌, ◌*◌, ◌==◌, ◌^◌, ◌<◌, ◌≤◌, length, Some, Result};
@@ -72,6 +76,16 @@ pub fn ranges_of_debug_data_are_their_parts()
     ensures pdb20 { TellsPart pdb20_of (λ r. r.name) (λ d. option_map (λ r. r.filename) d.pdb20) }
     ensures repro { TellsPart repro_of (λ r. r.hash) (λ d. hash_of d.repro) }
     ensures pogo { TellsPart pogo_of (λ r. r.entries) (λ d. option_map (λ r. r.bytes) d.pogo) }
+{}
+
+/// A walk over entries of one width gives those of its range, one a step and in their order: each whole entry, one fault
+/// where a last one is cut, and then nothing. A range that does not lie in the bytes gives one fault alone. So the walks over
+/// scope tables, over epilog scopes and over debug entries leave nothing out, and end.
+#[tactic(auto, using(crate::proofs::EntryRuns::scopes_in_turn, crate::proofs::EntryRuns::arm64_scopes_in_turn, crate::proofs::EntryRuns::debug_entries_in_turn))]
+pub fn walks_give_their_entries()
+    ensures scopes { (b : List ℕ) (walk : Range) → GivesItems (StepsEntries scope_at 16 b) walk (entries_left scope_at 16 b walk) }
+    ensures arm64_scopes { (b : List ℕ) (walk : Range) → GivesItems (StepsEntries flat_scope_at 4 b) walk (entries_left flat_scope_at 4 b walk) }
+    ensures debug_entries { (b : List ℕ) (walk : Range) → GivesItems (StepsEntries (entry_at 0) 28 b) walk (entries_left (entry_at 0) 28 b walk) }
 {}
 
 /// A walk over certificates gives those that its table lists, and the range of each body is the body.

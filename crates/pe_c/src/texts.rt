@@ -77,17 +77,3 @@ pub extern "C" fn pe_c_text(answer: u32, room: &mut [u8]) -> usize
     room[..count].copy_from_slice(&text[..count]);
     text.len()
 }
-
-#[cfg(test)]
-mod tests {
-    use super::pe_c_text;
-
-    #[test]
-    fn a_text_is_cut_at_the_end_of_its_room(rt: HostRuntime) {
-        let mut room = [b'.'; 6];
-        assert_eq!(rt; pe_c_text(0, &mut room), 4);
-        assert_eq!(rt; &room, b"done..");
-        assert_eq!(rt; pe_c_text(2, &mut room), 23);
-        assert_eq!(rt; &room, b"the by");
-    }
-}
