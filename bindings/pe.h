@@ -51,7 +51,7 @@ enum {
     PE_C_SHORT = 2,                 /* the bytes end too early */
     PE_C_BAD_MAGIC = 3,             /* the bytes begin no image */
     PE_C_HEADER_POINTER = 4,        /* the DOS header points into itself; strict alone */
-    PE_C_IMPORT_NAME = 5,           /* no call answers it */
+    PE_C_IMPORT_NAME = 5,           /* the name of a library or an import has no end, or is not UTF-8 */
     PE_C_STRING_TABLE = 6,          /* no call answers it */
     PE_C_CERTIFICATE_REVISION = 7,
     PE_C_CERTIFICATE_TYPE = 8,
@@ -509,6 +509,61 @@ uint32_t pe_c_export_tables(const uint8_t *bytes, size_t length, const pe_c_imag
 uint32_t pe_c_next_export(const uint8_t *bytes, size_t length, const pe_c_image_info *image,
                           const pe_c_section *sections, size_t count, uint32_t mode, pe_c_exports *walk,
                           pe_c_export *out);
+
+/* ---- imports
+ *
+ * Two walks: one over the libraries of the import directory, and of each library one over its imports, which begins as
+ * library.imports. A program that reads all libraries before the first import meets the refusals in the order in which
+ * `peinfo` does. */
+
+typedef struct {
+    uint64_t next;                  /* the place of the next record of the import directory */
+    uint32_t is_over;               /* 1 behind the last library or a refusal, else 0 */
+    uint32_t spare;
+} pe_c_libraries;
+
+typedef struct {
+    pe_c_range left;                /* the entries of the library's list that are left, of 8 bytes in PE32+, else 4 */
+    uint64_t rva;                   /* where the loader puts the address of the next one */
+} pe_c_imports;
+
+typedef struct {
+    pe_c_range name;                /* UTF-8, without the zero behind it */
+    pe_c_imports imports;           /* a walk over its imports, at their beginning */
+    uint32_t lookup_table_rva;      /* the numbers of its record; this one may be 0 */
+    uint32_t time_date_stamp;       /* 0, or a mark that the imports are bound */
+    uint32_t forwarder_chain;
+    uint32_t name_rva;
+    uint32_t address_table_rva;     /* the slots that the loader fills */
+    uint32_t spare;
+} pe_c_library;
+
+typedef struct {
+    pe_c_range name;                /* UTF-8, without the zero behind it; empty unless has_name */
+    uint64_t rva;                   /* where the loader puts the import's address */
+    uint32_t ordinal;               /* the ordinal, or the hint of the name */
+    uint32_t has_name;              /* 1 or 0 */
+} pe_c_import;
+
+PE_C_SIZE(pe_c_libraries, 16);
+PE_C_SIZE(pe_c_imports, 24);
+PE_C_SIZE(pe_c_library, 64);
+PE_C_SIZE(pe_c_import, 32);
+
+/* Gives a walk over the libraries of the import directory. PE_C_NOTHING without one; PE_C_UNMAPPED. */
+uint32_t pe_c_import_libraries(const uint8_t *bytes, size_t length, const pe_c_image_info *image,
+                               const pe_c_section *sections, size_t count, uint32_t mode, pe_c_libraries *out);
+
+/* Gives the next library. PE_C_SHORT where its record, or the zero entry that ends its list, is not there;
+ * PE_C_UNMAPPED, PE_C_IMPORT_NAME of its name. A list whose address has no place is empty. */
+uint32_t pe_c_next_library(const uint8_t *bytes, size_t length, const pe_c_image_info *image,
+                           const pe_c_section *sections, size_t count, uint32_t mode, pe_c_libraries *walk,
+                           pe_c_library *out);
+
+/* Gives the next import of a library. PE_C_UNMAPPED, PE_C_SHORT, PE_C_IMPORT_NAME of its name. */
+uint32_t pe_c_next_import(const uint8_t *bytes, size_t length, const pe_c_image_info *image,
+                          const pe_c_section *sections, size_t count, uint32_t mode, pe_c_imports *walk,
+                          pe_c_import *out);
 
 /* ---- version and manifest
  *

@@ -6,9 +6,9 @@
  *     pe_list unwind FILE HEXRVA          how the frame of the x64 function that covers an address is unwound, record
  *                                         by record up to the root of its chain
  *
- * The file is mapped, and nothing of it is copied. `list` refuses an image as `peinfo list` does, but for the imports
- * and the base relocations, which no call reads: where these alone are damaged the image is listed. The status is 0, 1
- * for an image that is refused, 2 for misused words, 3 for a fault of a file or of standard output. */
+ * The file is mapped, and nothing of it is copied. `list` refuses an image as `peinfo list` does, but for the base
+ * relocations, which no call reads: where these alone are damaged the image is listed. The status is 0, 1 for an image
+ * that is refused, 2 for misused words, 3 for a fault of a file or of standard output. */
 #define _POSIX_C_SOURCE 200809L
 #include "pe.h"
 
@@ -118,6 +118,43 @@ static uint32_t ended(uint32_t answer)
     return answer;
 }
 
+/* Every library is read. */
+static uint32_t try_libraries(const image *it)
+{
+    pe_c_libraries walk = PE_C_EMPTY;
+    pe_c_library library = PE_C_EMPTY;
+    uint32_t answer = pe_c_import_libraries(IMAGE(it), &walk);
+    while (answer == PE_C_DONE)
+        answer = pe_c_next_library(IMAGE(it), &walk, &library);
+    return ended(answer);
+}
+
+/* Every import of a library is read. */
+static uint32_t try_imports_of(const image *it, pe_c_imports walk)
+{
+    pe_c_import item = PE_C_EMPTY;
+    uint32_t answer = PE_C_DONE;
+    while (answer == PE_C_DONE)
+        answer = pe_c_next_import(IMAGE(it), &walk, &item);
+    return ended(answer);
+}
+
+/* All libraries, and then all imports: one that is refused refuses the image in both modes. */
+static uint32_t try_imports(const image *it)
+{
+    pe_c_libraries walk = PE_C_EMPTY;
+    pe_c_library library = PE_C_EMPTY;
+    uint32_t answer = try_libraries(it);
+    if (answer == PE_C_DONE)
+        answer = pe_c_import_libraries(IMAGE(it), &walk);
+    while (answer == PE_C_DONE) {
+        answer = pe_c_next_library(IMAGE(it), &walk, &library);
+        if (answer == PE_C_DONE)
+            answer = try_imports_of(it, library.imports);
+    }
+    return ended(answer);
+}
+
 /* The debug directory, where none of the records is refused. */
 static uint32_t try_debug(const image *it, pe_c_range *out)
 {
@@ -157,7 +194,9 @@ static uint32_t try_resources(const image *it)
 static uint32_t read_directories(const image *it, directories *out)
 {
     int has_resources = 0;
-    uint32_t answer = keep(it, try_debug(it, &out->debug), &out->has_debug);
+    uint32_t answer = try_imports(it);
+    if (answer == PE_C_DONE)
+        answer = keep(it, try_debug(it, &out->debug), &out->has_debug);
     if (answer == PE_C_DONE)
         answer = keep(it, pe_c_function_table(IMAGE(it), &out->functions), &out->has_functions);
     if (answer == PE_C_DONE)

@@ -240,6 +240,10 @@ fn read_by_lies(bytes: &[u8], random: &mut Random, seen: &mut Seen) {
     let tables = call_of_image!(pe_c_export_tables(), Exports);
     walk_of_image!(pe_c_next_export(tables), Export);
     walk_of_image!(pe_c_next_export(sys::Exports { names: range, next: index, ..tables }), Export);
+    let libraries = call_of_image!(pe_c_import_libraries(), Libraries);
+    walk_of_image!(pe_c_next_library(libraries), Library);
+    walk_of_image!(pe_c_next_library(sys::Libraries { next: range.place, ..libraries }), Library);
+    walk_of_image!(pe_c_next_import(sys::Imports { left: range, rva: index }), Import);
     let saved = if few & 8 == 0 { directory.virtual_address } else { few };
     let plan = sys::Plan {
         unwind: directory.virtual_address,

@@ -1,13 +1,13 @@
-//! Shows what the calls read of an image, a fact a line: `show unwind|debug|resources|exports FILE`. The lines are
-//! those of the programs tools/show_*.txt, so that the two can be compared, and tools/compare_unwind, compare_debug and
+//! Shows what the calls read of an image, a fact a line: `show unwind|debug|resources|tables FILE`. The lines are those
+//! of the programs tools/show_*.txt, so that the two can be compared, and tools/compare_unwind, compare_debug and
 //! compare_resources take it by a script of the program's name. What no call tells is read from the bytes: three fields
-//! of an ARM64 record, and the first resource entries; of the lines of show_tables.txt only those of exports are there.
-//! A first line `strict` says that the image is refused in strict mode; what follows is then what permissive mode
-//! gives.
+//! of an ARM64 record, and the first resource entries; of the lines of show_tables.txt only those of each export, record
+//! and import are there. A first line `strict` says that the image is refused in strict mode; what follows is then what
+//! permissive mode gives.
 
 use pe_c::{
-    Arm64Code, Arm64Operation, Arm64Record, Arm64Unwinding, Code, CustomStack, Error, Function, Handler, Image, Mode,
-    Offset, Operation, RegisterKind, Repro, Text, UnwindRecord, VersionName,
+    Arm64Code, Arm64Operation, Arm64Record, Arm64Unwinding, Code, CustomStack, Error, Function, Handler, Image, Import,
+    Mode, Offset, Operation, RegisterKind, Repro, Text, UnwindRecord, VersionName,
 };
 
 /// What a directory gives: nothing where it is refused, which permissive mode leaves out.
@@ -336,7 +336,7 @@ fn show_resources(image: &Image) {
     }
 }
 
-fn show_exports(image: &Image) {
+fn show_tables(image: &Image) {
     println!("image {}", image.info().machine);
     for export in there(image.exports()).into_iter().flatten() {
         match export {
@@ -344,10 +344,25 @@ fn show_exports(image: &Image) {
             Err(error) => println!("refused {error:?}"),
         }
     }
+    for library in there(image.libraries()).into_iter().flatten().flatten() {
+        println!("record {:?}", String::from_utf8_lossy(library.name));
+    }
+    for (library, it) in imports(image).unwrap_or_default() {
+        let (library, name) = (String::from_utf8_lossy(library), it.name.map(String::from_utf8_lossy));
+        println!("import {} {} {library:?} {name:?}", it.rva, it.ordinal);
+    }
+}
+
+/// Every library is read, and then every import, in the order of the readers of directory and list.
+fn imports<'i, 'a>(image: &'i Image<'a>) -> Result<Vec<(&'a [u8], Import<'a>)>, Error> {
+    let libraries: Vec<_> = image.libraries()?.into_iter().flatten().collect::<Result<_, _>>()?;
+    let each = libraries.iter().flat_map(|it| it.imports().map(|import| import.map(|import| (it.name, import))));
+    each.collect()
 }
 
 /// The first refusal of an image's directories.
 fn refusal(image: &Image) -> Result<(), Error> {
+    imports(image)?;
     image.symbol_key()?;
     image.functions()?;
     image.arm64_functions()?;
@@ -362,21 +377,23 @@ fn read(bytes: &[u8]) -> Result<Image<'_>, Error> {
     let strict = Image::parse(bytes, Mode::Strict).and_then(|image| refusal(&image).map(|()| image));
     strict.or_else(|error| {
         println!("strict {error:?}");
-        Image::parse(bytes, Mode::Permissive)
+        let image = Image::parse(bytes, Mode::Permissive)?;
+        imports(&image)?;
+        Ok(image)
     })
 }
 
 fn main() {
     let words: Vec<String> = std::env::args().skip(1).collect();
     let [what, file] = words.as_slice() else {
-        eprintln!("usage: show unwind|debug|resources|exports FILE");
+        eprintln!("usage: show unwind|debug|resources|tables FILE");
         std::process::exit(2);
     };
     let show = match what.as_str() {
         "unwind" => show_unwind,
         "debug" => show_debug,
         "resources" => show_resources,
-        _ => show_exports,
+        _ => show_tables,
     };
     let bytes = match std::fs::read(file) {
         Ok(bytes) => bytes,

@@ -62,6 +62,8 @@ errors! {
     BAD_MAGIC = 3;
     /// The DOS header points into itself.
     HEADER_POINTER = 4;
+    /// The name of a library or an import has no end, or is not UTF-8.
+    IMPORT_NAME = 5;
     /// The revision of a certificate is none.
     CERTIFICATE_REVISION = 7;
     /// The type of a certificate is none.

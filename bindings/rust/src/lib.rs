@@ -1,5 +1,5 @@
 //! Reading Windows executables by a proved library: headers, debug data, certificates, x64 and ARM64 unwind data,
-//! exports, version information and manifest.
+//! exports, imports, version information and manifest.
 //!
 //! [`Image`] borrows the bytes that it was read from, and names, bodies and texts are slices of these bytes: they
 //! outlive the `Image`. Every walk is an iterator. No byte string makes a call panic or run for ever, and no call but
@@ -33,6 +33,7 @@ mod certificates;
 mod debug;
 mod exports;
 mod image;
+mod imports;
 #[allow(missing_docs)]
 pub mod sys;
 mod version;
@@ -47,6 +48,7 @@ pub use certificates::{Certificate, Certificates};
 pub use debug::{DebugEntries, Pdb20, Pogo, PogoEntries, PogoEntry, Repro, SymbolKey};
 pub use exports::{Export, Exports};
 pub use image::{Error, Image, Mode};
+pub use imports::{Import, Imports, Libraries, Library};
 pub use sys::{
     Arm64Function, Arm64Packed, Arm64Scope, DebugEntry, Directory, Function, ImageInfo, Scope, Section, VcFeatures,
 };

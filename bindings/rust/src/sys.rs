@@ -183,6 +183,27 @@ record!(
     /// An export.
     Export, 32 { name: Range, place: u64, rva: u32, has_place: u32 });
 record!(
+    /// A walk over the libraries of an import directory.
+    Libraries, 16 { next: u64, is_over: u32, spare: u32 });
+record!(
+    /// A walk over the imports of a library.
+    Imports, 24 { left: Range, rva: u64 });
+record!(
+/// A library that an image imports from.
+Library, 64 {
+    name: Range,
+    imports: Imports,
+    lookup_table_rva: u32,
+    time_date_stamp: u32,
+    forwarder_chain: u32,
+    name_rva: u32,
+    address_table_rva: u32,
+    spare: u32,
+});
+record!(
+    /// An import.
+    Import, 32 { name: Range, rva: u64, ordinal: u32, has_name: u32 });
+record!(
 /// The fixed file information.
 Version, 52 {
     signature: u32,
@@ -274,6 +295,9 @@ calls_of_an_image! {
     pe_c_arm64_unwind_record(function: *const Arm64Function) -> Arm64Record;
     pe_c_export_tables() -> Exports;
     pe_c_next_export(walk: *mut Exports) -> Export;
+    pe_c_import_libraries() -> Libraries;
+    pe_c_next_library(walk: *mut Libraries) -> Library;
+    pe_c_next_import(walk: *mut Imports) -> Import;
     pe_c_fixed_version() -> Version;
     pe_c_version_text(name: u32) -> Range;
     pe_c_manifest() -> Range;

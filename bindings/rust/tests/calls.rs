@@ -401,6 +401,47 @@ fn exports_are_listed() {
 }
 
 #[test]
+fn imports_are_listed_by_library() {
+    let bytes = with_imports();
+    let image = strict(&bytes);
+    let libraries: Vec<_> = image.libraries().unwrap().unwrap().map(Result::unwrap).collect();
+    let [first, second] = libraries.as_slice() else { panic!("two libraries") };
+    assert_eq!((first.name, second.name), (b"KERNEL32.dll".as_slice(), b"a.dll".as_slice()));
+    let imports: Vec<_> = first.imports().map(Result::unwrap).map(|it| (it.name, it.ordinal, it.rva)).collect();
+    assert_eq!(imports, [(Some(b"Sleep".as_slice()), 42, 0x8000), (None, 17, 0x8008)]);
+    let record = second.raw();
+    let slots = u64::from(record.address_table_rva);
+    let imports: Vec<_> = second.imports().map(Result::unwrap).map(|it| (it.name, it.ordinal, it.rva)).collect();
+    assert_eq!(imports, [(Some(b"f".as_slice()), 0, slots)]);
+    assert_eq!((record.lookup_table_rva, record.time_date_stamp, record.forwarder_chain), (0, 5, 6));
+    assert!(strict(SMALL).libraries().unwrap().is_none());
+}
+
+/// What refuses the libraries of an image with these bytes at an address, and what its imports, if they can be read.
+fn import_refusals(address: u32, part: &[u8]) -> (Option<Error>, Option<Error>) {
+    let mut bytes = with_imports();
+    let at = place(address) as usize;
+    bytes[at..at + part.len()].copy_from_slice(part);
+    let image = strict(&bytes);
+    let libraries = image.libraries().unwrap().unwrap();
+    let refused = libraries.clone().find_map(Result::err);
+    let imports = libraries.flatten().flat_map(|it| it.imports().collect::<Vec<_>>());
+    (refused, imports.into_iter().find_map(Result::err))
+}
+
+#[test]
+fn imports_are_refused_where_they_are_read() {
+    // the addresses of the parts, as they are put: names of 13 and 6 bytes, hints and names of 8 and 4, three entries
+    let (first, sleep, lookups) = (ADDRESS, ADDRESS + 24, ADDRESS + 36);
+    let directory = lookups + 24 + 16;
+    assert_eq!(import_refusals(first, b"K"), (None, None));
+    assert_eq!(import_refusals(first, b"\xFF"), (Some(Error::IMPORT_NAME), None));
+    assert_eq!(import_refusals(sleep + 2, b"\xFF"), (None, Some(Error::IMPORT_NAME)));
+    assert_eq!(import_refusals(lookups, &0x7000u32.to_le_bytes()), (None, Some(Error::UNMAPPED)));
+    assert_eq!(import_refusals(directory + 20 + 12, &0x7000u32.to_le_bytes()), (Some(Error::UNMAPPED), None));
+}
+
+#[test]
 fn versions_and_manifests_are_read() {
     let bytes = with_resources();
     let image = strict(&bytes);

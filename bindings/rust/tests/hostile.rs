@@ -4,7 +4,7 @@ mod made;
 mod reading;
 
 use made::*;
-use pe_c::{sys, Mode};
+use pe_c::{sys, Image, Mode};
 use reading::read_all;
 
 const MODES: [Mode; 2] = [Mode::Strict, Mode::Permissive];
@@ -42,25 +42,22 @@ fn lies(length: u64) -> Vec<u64> {
     vec![0, 1, 4, length - 1, length, length + 1, 1 << 31, u32::MAX.into(), 1 << 32, 1 << 63, u64::MAX - 3, u64::MAX]
 }
 
-/// A walk by a range: `SHORT` and then nothing where the range lies; else it ends.
-fn walk<W: Clone, T: Default + PartialEq + std::fmt::Debug>(
-    bytes: &[u8],
-    there: bool,
+/// Steps a walk to its end, which comes within so many steps more; gives its first answer.
+fn first_of_all<W, T: Default + PartialEq + std::fmt::Debug>(
+    most: usize,
     start: W,
-    call: unsafe extern "C" fn(*const u8, usize, *mut W, *mut T) -> u32,
-) {
+    call: impl Fn(&mut W, &mut T) -> u32,
+) -> u32 {
     let mut walk = start;
     let mut step = || {
         let mut out = T::default();
-        // SAFETY: the pointer and the length are those of one slice, and both records are lent for the call.
-        let answer = unsafe { call(bytes.as_ptr(), bytes.len(), &mut walk, &mut out) };
+        let answer = call(&mut walk, &mut out);
         assert!(answer == 0 || out == T::default());
         answer
     };
     let first = step();
-    assert!(there || first == 2);
     let mut last = first;
-    for _ in 0..bytes.len() {
+    for _ in 0..most {
         if last != 0 {
             break;
         }
@@ -68,6 +65,19 @@ fn walk<W: Clone, T: Default + PartialEq + std::fmt::Debug>(
     }
     assert!(last != 0, "it ends");
     assert_eq!((step(), step()), (100, 100), "it stays over");
+    first
+}
+
+/// A walk by a range: `SHORT` and then nothing where the range lies; else it ends.
+fn walk<W, T: Default + PartialEq + std::fmt::Debug>(
+    bytes: &[u8],
+    there: bool,
+    start: W,
+    call: unsafe extern "C" fn(*const u8, usize, *mut W, *mut T) -> u32,
+) {
+    // SAFETY: the pointer and the length are those of one slice, and both records are lent for the call.
+    let first = first_of_all(bytes.len(), start, |walk, out| unsafe { call(bytes.as_ptr(), bytes.len(), walk, out) });
+    assert!(there || first == 2);
 }
 
 #[test]
@@ -104,6 +114,35 @@ fn ranges_that_lie_are_refused() {
                 assert!(there || answer == 2);
                 walk(&bytes, there, sys::Arm64Walk { left: range, offset }, sys::pe_c_next_arm64_code);
             }
+        }
+    }
+}
+
+#[test]
+fn walks_over_imports_that_lie_end() {
+    let bytes = with_imports();
+    let length = bytes.len();
+    let image = Image::parse(&bytes, Mode::Strict).unwrap();
+    let (info, sections) = (image.info(), image.sections());
+    for place in lies(length as u64) {
+        for is_over in [0, 1, u32::MAX] {
+            let start = sys::Libraries { next: place, is_over, spare: 9 };
+            // SAFETY: the pointers and lengths are those of slices, and the records are lent for the call.
+            let first = first_of_all(length, start, |walk, out| unsafe {
+                let (bytes, sections, count) = (bytes.as_ptr(), sections.as_ptr(), sections.len());
+                sys::pe_c_next_library(bytes, length, info, sections, count, 0, walk, out)
+            });
+            assert!(is_over == 0 || first == 100);
+            assert!(is_over != 0 || place < length as u64 || first == 2);
+        }
+        for (size, rva) in lies(length as u64).into_iter().flat_map(|it| [(it, 0), (it, u64::MAX)]) {
+            let left = sys::Range { place, length: size };
+            // SAFETY: as above.
+            let first = first_of_all(length, sys::Imports { left, rva }, |walk, out| unsafe {
+                let (bytes, sections, count) = (bytes.as_ptr(), sections.as_ptr(), sections.len());
+                sys::pe_c_next_import(bytes, length, info, sections, count, 0, walk, out)
+            });
+            assert!(left.of(&bytes).is_some() || first == 2);
         }
     }
 }

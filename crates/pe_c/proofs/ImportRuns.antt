@@ -1,6 +1,6 @@
 -- The walks over libraries and their imports tell what the import directory lists.
-use Rattle.std.proofs.Common.{◌≡◌, ℕ, zero, suc, ◌+◌, ◌-◌, ◌*◌, ◌/◌, ◌%◌, ◌^◌, ◌<◌, ◌≤◌, ◌==◌, Bool, true, false, List, [], ◌∷◌, ◌++◌, map, length, drop, take, Option, Some, None, Result, Ok, Err, refl, sym, ap, subst, ◌∙◌, arith, length-append}
-use Rattle.std.specs.Prelude.{flat_map, nat_le, nat_lt, slice_range, if◌then◌else◌}
+use Rattle.std.proofs.Common.{◌≡◌, ℕ, zero, suc, ◌+◌, ◌-◌, ◌*◌, ◌/◌, ◌%◌, ◌^◌, ◌<◌, ◌≤◌, ◌==◌, Bool, true, false, List, [], ◌∷◌, ◌++◌, map, length, Option, Some, None, Result, Ok, Err, refl, sym, ap, subst, ◌∙◌, arith}
+use Rattle.std.specs.Prelude.{nat_le, if◌then◌else◌}
 use Rattle.std.specs.Option.{option_map}
 use Rattle.std.proofs.lemmas.Bool.Decides.{nat_tests}
 use Rattle.std.proofs.lemmas.List.{append-nil, map-append, places}
@@ -24,7 +24,7 @@ use Rattle.pe_c.specs.declared.imports.Libraries.{Libraries}
 use Rattle.pe_c.specs.declared.imports.Library.{Library}
 use Rattle.pe_c.specs.declared.ranges.Range.{Range}
 use Rattle.pe_c.specs.Images.{is_absent, place_in}
-use Rattle.pe_c.specs.Imports.{entry_of, import_at, import_by, import_left, import_step, import_told, libraries_at, libraries_from, library_by, library_step, library_told, no_imports, no_libraries}
+use Rattle.pe_c.specs.Imports.{slot_entry, import_at, import_by, import_left, import_step, import_told, libraries_at, libraries_from, library_by, library_step, library_told, no_imports, no_libraries}
 use Rattle.pe_c.specs.Parts.{ImportsInTurn, TellsImport, TellsLibrary}
 use Rattle.pe_c.specs.Ranges.{IsRange, no_bytes, range_from}
 use Rattle.pe_c.specs.Runs.{TellsAll, TellsInTurn}
@@ -85,14 +85,14 @@ agrees_by_hint place b dll entry rva p true at = agrees_by_name place b dll entr
 agrees_by_hint place b dll entry rva p false at = refl
 
 agrees_by_place : (place : ℕ → Option ℕ) (b dll : List ℕ) (entry rva : ℕ) (at : Option ℕ) → place (entry % 2 ^ 31) ≡ at →
-    Agrees b (mapped at >>= named_import b (record { dll = dll; entry = entry; rva = rva })) ((mapped at >>= named_import b (entry_of entry rva)) >>= λ i. Ok (import_told place entry i))
+    Agrees b (mapped at >>= named_import b (record { dll = dll; entry = entry; rva = rva })) ((mapped at >>= named_import b (slot_entry entry rva)) >>= λ i. Ok (import_told place entry i))
 agrees_by_place place b dll entry rva None at = refl
 agrees_by_place place b dll entry rva (Some p) at = agrees_by_hint place b dll entry rva p (holds b p 2) at
 
 agrees_by_kind : (place : ℕ → Option ℕ) (b dll : List ℕ) (entry rva : ℕ) (ordinal : Bool) →
     Agrees b
     (if ordinal then Ok (record { name = None; dll = dll; ordinal = entry % 2 ^ 16; rva = rva }) else (mapped (place (entry % 2 ^ 31)) >>= named_import b (record { dll = dll; entry = entry; rva = rva })))
-    ((if ordinal then Ok (record { name = None; dll = []; ordinal = entry % 2 ^ 16; rva = rva }) else (mapped (place (entry % 2 ^ 31)) >>= named_import b (entry_of entry rva))) >>= λ i. Ok (import_told place entry i))
+    ((if ordinal then Ok (record { name = None; dll = []; ordinal = entry % 2 ^ 16; rva = rva }) else (mapped (place (entry % 2 ^ 31)) >>= named_import b (slot_entry entry rva))) >>= λ i. Ok (import_told place entry i))
 agrees_by_kind place b dll entry rva true = record { name = refl; has_name = refl; ordinal = refl; rva = refl }
 agrees_by_kind place b dll entry rva false = agrees_by_place place b dll entry rva (place (entry % 2 ^ 31)) refl
 

@@ -79,16 +79,16 @@ abbrev pub import_told : (ℕ → Option ℕ) → ℕ → ImportView → Import
 import_told place entry i = record { name = import_name_told (place (entry % 2 ^ 31)) i.name; rva = i.rva; ordinal = i.ordinal; has_name = one_if_some i.name }
 
 -- an entry with its slot; which library it is of makes no difference to what it imports
-abbrev pub entry_of : ℕ → ℕ → EntryView
-entry_of entry rva = record { dll = []; entry = entry; rva = rva }
+abbrev pub slot_entry : ℕ → ℕ → EntryView
+slot_entry entry rva = record { dll = []; entry = entry; rva = rva }
 
 -- what it imports by its name
 abbrev pub named_told : (ℕ → Option ℕ) → List ℕ → ℕ → ℕ → Result Import Refusal
-named_told place b entry rva = (mapped (place (entry % 2 ^ 31)) >>= named_import b (entry_of entry rva)) >>= λ i. Ok (import_told place entry i)
+named_told place b entry rva = (mapped (place (entry % 2 ^ 31)) >>= named_import b (slot_entry entry rva)) >>= λ i. Ok (import_told place entry i)
 
 -- what it imports
 abbrev pub import_at : (ℕ → Option ℕ) → ℕ → List ℕ → ℕ → ℕ → Result Import Refusal
-import_at place w b entry rva = import_of place w b (entry_of entry rva) >>= λ i. Ok (import_told place entry i)
+import_at place w b entry rva = import_of place w b (slot_entry entry rva) >>= λ i. Ok (import_told place entry i)
 
 -- a walk that is over
 abbrev pub no_imports : Imports → Imports

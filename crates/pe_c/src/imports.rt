@@ -332,3 +332,135 @@ pub extern "C" fn pe_c_next_import(
 {
     hand_out_some(import_step(bytes, image, sections, walk), out)
 }
+
+#[cfg(test)]
+mod tests {
+    use super::{
+        Import, Imports, Libraries, Library, pe_c_import_libraries, pe_c_next_import,
+        pe_c_next_library,
+    };
+    use crate::answers::{DONE, NOTHING};
+    use crate::image::Image;
+    use crate::ranges::NO_BYTES;
+    use pe_core::{DataDirectory, SectionTable};
+
+    const ABSENT: DataDirectory = DataDirectory {
+        virtual_address: 0,
+        size: 0,
+    };
+
+    /// An image of 32 bits whose import directory stands at the address 0x1000.
+    const IMAGE: Image = Image {
+        base: 0,
+        sections_place: 0,
+        entry: 0,
+        file_alignment: 512,
+        exports: ABSENT,
+        imports: DataDirectory {
+            virtual_address: 0x1000,
+            size: 40,
+        },
+        resources: ABSENT,
+        exceptions: ABSENT,
+        certificates: ABSENT,
+        debug: ABSENT,
+        machine: 0x14C,
+        width: 32,
+        number_of_sections: 1,
+        spare: 0,
+    };
+
+    /// The addresses from 0x1000 on stand at the beginning of the file.
+    const SECTIONS: [SectionTable; 1] = [SectionTable {
+        name: *b".idata\0\0",
+        virtual_size: 0x200,
+        virtual_address: 0x1000,
+        size_of_raw_data: 0x200,
+        pointer_to_raw_data: 0,
+        pointer_to_relocations: 0,
+        pointer_to_linenumbers: 0,
+        number_of_relocations: 0,
+        number_of_linenumbers: 0,
+        characteristics: 0,
+    }];
+
+    const NO_WALK: Libraries = Libraries {
+        next: 0,
+        is_over: 0,
+        spare: 0,
+    };
+
+    const NO_LIBRARY: Library = Library {
+        name: NO_BYTES,
+        imports: Imports {
+            left: NO_BYTES,
+            rva: 0,
+        },
+        lookup_table_rva: 0,
+        time_date_stamp: 0,
+        forwarder_chain: 0,
+        name_rva: 0,
+        address_table_rva: 0,
+        spare: 0,
+    };
+
+    /// The library `a` with two imports, one by the name `f` with the hint 7 and one by the ordinal 5.
+    const BYTES: [u8; 76] = *b"\x40\x10\0\0\0\0\0\0\0\0\0\0\x30\x10\0\0\x50\x10\0\0\
+        \0\0\0\0\0\0\0\0\0\0\0\0\0\0\0\0\0\0\0\0\0\0\0\0\0\0\0\0\
+        a\0\0\0\0\0\0\0\x07\0f\0\0\0\0\0\
+        \x38\x10\0\0\x05\0\0\x80\0\0\0\0";
+
+    #[test]
+    fn a_library_with_a_name_and_an_ordinal(rt: HostRuntime) {
+        let mut walk = NO_WALK;
+        let number = pe_c_import_libraries(&BYTES, &IMAGE, &SECTIONS, 0, &mut walk);
+        assert_eq!(rt; (number, walk.next), (DONE, 0));
+        let mut library = NO_LIBRARY;
+        let number = pe_c_next_library(&BYTES, &IMAGE, &SECTIONS, 0, &mut walk, &mut library);
+        assert_eq!(rt;
+            (number, library.name.place, library.name.length),
+            (DONE, 0x30, 1)
+        );
+        let mut imports = library.imports;
+        assert_eq!(rt; (imports.left.place, imports.left.length), (0x40, 8));
+        let mut import = Import {
+            name: NO_BYTES,
+            rva: 0,
+            ordinal: 0,
+            has_name: 0,
+        };
+        let number = pe_c_next_import(&BYTES, &IMAGE, &SECTIONS, 0, &mut imports, &mut import);
+        assert_eq!(rt;
+            (number, import.name.place, import.name.length),
+            (DONE, 0x3A, 1)
+        );
+        assert_eq!(rt;
+            (import.rva, import.ordinal, import.has_name),
+            (0x1050, 7, 1)
+        );
+        let number = pe_c_next_import(&BYTES, &IMAGE, &SECTIONS, 0, &mut imports, &mut import);
+        assert_eq!(rt;
+            (number, import.name.place, import.name.length),
+            (DONE, 0, 0)
+        );
+        assert_eq!(rt;
+            (import.rva, import.ordinal, import.has_name),
+            (0x1054, 5, 0)
+        );
+        let number = pe_c_next_import(&BYTES, &IMAGE, &SECTIONS, 0, &mut imports, &mut import);
+        assert_eq!(rt; number, NOTHING);
+        let number = pe_c_next_library(&BYTES, &IMAGE, &SECTIONS, 0, &mut walk, &mut library);
+        assert_eq!(rt; (number, walk.is_over), (NOTHING, 1));
+    }
+
+    #[test]
+    fn over_behind_a_refused_name(rt: HostRuntime) {
+        let mut bytes = BYTES;
+        bytes[0x30] = 0xFF;
+        let (mut walk, mut library) = (NO_WALK, NO_LIBRARY);
+        let number = pe_c_next_library(&bytes, &IMAGE, &SECTIONS, 0, &mut walk, &mut library);
+        assert_eq!(rt; (number, library.name_rva, walk.is_over), (5, 0, 1));
+        let number = pe_c_next_library(&bytes, &IMAGE, &SECTIONS, 0, &mut walk, &mut library);
+        assert_eq!(rt; number, NOTHING);
+    }
+}

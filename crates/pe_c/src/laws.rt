@@ -112,7 +112,7 @@ pub fn walks_tell_the_imports()
     ensures libraries { (b : List ℕ) (image : Image) (sections : List SectionTable) (walk : Libraries) →
         AreBytes b → length b ≤ 2 ^ 63 → libraries_at image sections ≡ Ok (Some walk) →
         TellsAll (library_step (place_in image sections) (entry_size (image.width == 64)) b) (TellsLibrary (place_in image sections) (entry_size (image.width == 64)) b) walk
-            (import_data_at (place_in image sections) (entry_size (image.width == 64)) b image.imports.virtual_address) }
+        (import_data_at (place_in image sections) (entry_size (image.width == 64)) b image.imports.virtual_address) }
     ensures in_turn { ImportsInTurn }
 {}
 

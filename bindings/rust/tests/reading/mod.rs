@@ -183,6 +183,23 @@ fn read_exports(image: &Image, seen: &mut Seen) {
     }
 }
 
+fn read_imports(image: &Image, seen: &mut Seen) {
+    let Some(libraries) = seen.keep(image.libraries()) else {
+        return;
+    };
+    for library in libraries.take(seen.most) {
+        let Some(library) = seen.item(library) else {
+            continue;
+        };
+        seen.touch(library.name);
+        for import in library.imports().take(seen.most) {
+            if let Some(import) = seen.item(import) {
+                seen.touch(import.name.unwrap_or_default());
+            }
+        }
+    }
+}
+
 fn read_version(image: &Image, seen: &mut Seen) {
     seen.keep(image.version());
     for name in VersionName::ALL.into_iter().take(seen.most) {
@@ -213,6 +230,7 @@ pub fn read_all(bytes: &[u8], mode: Mode, most: usize) -> Seen {
     read_functions(&image, &mut seen);
     read_arm64_functions(&image, &mut seen);
     read_exports(&image, &mut seen);
+    read_imports(&image, &mut seen);
     read_version(&image, &mut seen);
     seen
 }
