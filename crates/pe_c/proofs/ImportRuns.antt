@@ -24,7 +24,7 @@ use Rattle.pe_c.specs.declared.imports.Libraries.{Libraries}
 use Rattle.pe_c.specs.declared.imports.Library.{Library}
 use Rattle.pe_c.specs.declared.ranges.Range.{Range}
 use Rattle.pe_c.specs.Images.{is_absent, place_in}
-use Rattle.pe_c.specs.Imports.{slot_entry, import_at, import_by, import_left, import_step, import_told, libraries_at, libraries_from, library_by, library_step, library_told, no_imports, no_libraries}
+use Rattle.pe_c.specs.Imports.{import_at, import_by, import_left, import_step, import_told, libraries_at, libraries_from, library_by, library_step, library_told, no_imports, no_libraries, slot_entry}
 use Rattle.pe_c.specs.Parts.{ImportsInTurn, TellsImport, TellsLibrary}
 use Rattle.pe_c.specs.Ranges.{IsRange, no_bytes, range_from}
 use Rattle.pe_c.specs.Runs.{TellsAll, TellsInTurn}
