@@ -3,6 +3,7 @@ pub mod Cycles
 pub mod EndlessPlans
 pub mod EntryRuns
 pub mod ExportParts
+pub mod ExportRuns
 pub mod LastText
 pub mod Listings
 pub mod Parts

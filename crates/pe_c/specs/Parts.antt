@@ -1,5 +1,5 @@
 -- The ranges that are told of records are their parts.
-use Rattle.std.specs.Prelude.{◌≡◌, ℕ, List, Option, Some, None, Ok}
+use Rattle.std.specs.Prelude.{◌≡◌, ℕ, List, [], ◌∷◌, Option, Some, None, Ok}
 use Rattle.pe_core.specs.Exports.{ExportDataView, ExportView}
 use Rattle.pe_core.specs.declared.section_table.SectionTable.{SectionTable}
 use Rattle.pe_records.specs.DebugRecords.{DebugFields}
@@ -34,3 +34,10 @@ TellsExport b None None = Unit {0}
 TellsExport b None (Some e) = ⊥
 TellsExport b (Some x) None = ⊥
 TellsExport b (Some x) (Some e) = IsRange b x.name e.name × (x.rva ≡ e.rva) × (x.place ≡ or_zero e.offset) × (x.has_place ≡ one_if_some e.offset)
+
+-- what is told of exports, one after the other, is these
+abbrev pub TellsExports : List ℕ → List Export → List ExportView → Type 0
+TellsExports b [] [] = Unit {0}
+TellsExports b [] (e ∷ es) = ⊥
+TellsExports b (x ∷ xs) [] = ⊥
+TellsExports b (x ∷ xs) (e ∷ es) = TellsExport b (Some x) (Some e) × TellsExports b xs es

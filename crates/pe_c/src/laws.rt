@@ -3,19 +3,21 @@
 ghost use Rattle.pe_c.specs.Arm64.{flat_info, flat_scope_at};
 ghost use Rattle.pe_c.specs.Certificates.{StepsList, certificate_told};
 ghost use Rattle.pe_c.specs.Debug.{key_of, pdb20_of, repro_of, pogo_of};
-ghost use Rattle.pe_c.specs.Exports.{told_entry, walk_over, with_tables};
-ghost use Rattle.pe_c.specs.Parts.{HasTables, TellsExport, TellsPart};
+ghost use Rattle.pe_c.specs.Exports.{StepsExports, count_of, tables_or_short, told_entry, told_from, walk_over, with_tables};
+ghost use Rattle.pe_c.specs.Parts.{HasTables, TellsExport, TellsExports, TellsPart};
 ghost use Rattle.pe_c.specs.Plans.{plan_from, StepsPlan, GivesInTurn, IsCycle};
 ghost use Rattle.pe_c.specs.Ranges.{IsRange};
 ghost use Rattle.pe_c.specs.Unwinding.{flat_record};
 ghost use Rattle.pe_c.specs.Versions.{TellsManifest, TellsFixed, TellsValue};
 ghost use Rattle.pe_c.specs.Walks.{GivesItems, StepsEntries, entries_left};
+ghost use Rattle.pe_c.specs.declared.exports.Export.{Export};
+ghost use Rattle.pe_c.specs.declared.exports.Exports.{Exports};
 ghost use Rattle.pe_c.specs.declared.image.Image.{Image};
 ghost use Rattle.pe_c.specs.declared.plan.Plan.{Plan};
 ghost use Rattle.pe_c.specs.declared.ranges.Range.{Range};
 ghost use Rattle.pe_c.specs.declared.unwinding.UnwindRecord.{UnwindRecord};
 ghost use Rattle.pe_core.specs.Bytes.{AreBytes};
-ghost use Rattle.pe_core.specs.Exports.{ExportDataView, export_at, export_data_at};
+ghost use Rattle.pe_core.specs.Exports.{ExportDataView, export_at, export_data_at, exports};
 ghost use Rattle.pe_core.specs.Refusals.{Refusal, FunctionCycle, outcome};
 ghost use Rattle.pe_core.specs.declared.section_table.SectionTable.{SectionTable};
 ghost use Rattle.pe_records.specs.Certificates.{CertificateView, certificate_at};
@@ -26,7 +28,7 @@ ghost use Rattle.pe_unwind.specs.Places.{data_of};
 ghost use Rattle.pe_unwind.specs.ScopeTable.{scope_at};
 ghost use Rattle.pe_unwind.specs.UnwindRecord.{UnwindInfoView, unwind_tests, unwind_record};
 ghost use Rattle.std.specs.Option.{option_map};
-ghost use Rattle.std.specs.Prelude.{◌≡◌, ℕ, List, Option, Ok, Err, IfSome, ◌⊎◌, ◌*◌, ◌^◌, ◌<◌, ◌≤◌, length, Some, Result};
+ghost use Rattle.std.specs.Prelude.{◌≡◌, ℕ, List, Option, Ok, Err, IfSome, ◌⊎◌, ◌*◌, ◌^◌, ◌<◌, ◌≤◌, length, map, Some, Result};
 
 /// The ranges of an unwind record that is given lie in the bytes, and are its codes and its handler's data.
 pub fn ranges_of_records()
@@ -97,6 +99,16 @@ pub fn walks_tell_the_exports()
     ensures tables { (place : ℕ → Option ℕ) (b : List ℕ) (rva : ℕ) (d : ExportDataView) → export_data_at place b rva ≡ Ok d → HasTables b (walk_over place d) d }
     ensures exports { (place : ℕ → Option ℕ) (b : List ℕ) (d : ExportDataView) (i : ℕ) →
         TellsExport b (told_entry place b (with_tables d.names d.ordinals d.addresses) i) (export_at place b d i) }
+{}
+
+/// A walk over exports gives, one a step and in their order, the exports that the entries of its name table have from its next
+/// index on, and then nothing. So the walk over an export directory gives exactly the exports that the directory lists.
+#[tactic(auto, using(crate::proofs::ExportRuns::exports_in_turn, crate::proofs::ExportRuns::directory_in_turn))]
+pub fn walks_give_the_exports()
+    ensures entries { (place : ℕ → Option ℕ) (b : List ℕ) (walk : Exports) (d : ExportDataView) → tables_or_short b walk ≡ Ok d →
+        GivesItems (StepsExports place b) walk (map (λ x. Ok x) (told_from (told_entry place b d) walk.next (count_of walk))) }
+    ensures directory { (place : ℕ → Option ℕ) (b : List ℕ) (rva : ℕ) (d : ExportDataView) → export_data_at place b rva ≡ Ok d →
+        (told : List Export) × GivesItems (StepsExports place b) (walk_over place d) (map (λ x. Ok x) told) × TellsExports b told (exports place b d) }
 {}
 
 /// Where the resources of an image are not refused, what is told of their manifest and version information is what they
