@@ -18,10 +18,10 @@ use Rattle.pe_c.specs.declared.ranges.Range.{Range}
 -- ---- one step
 
 -- what is left behind n bytes of a range
-rest_of_range : (b : List ℕ) (p n k : ℕ) → p + n ≤ length b → k ≤ n → range b (p + k) (n - k) ≡ drop k (range b p n)
+pub rest_of_range : (b : List ℕ) (p n k : ℕ) → p + n ≤ length b → k ≤ n → range b (p + k) (n - k) ≡ drop k (range b p n)
 rest_of_range b p n k h i = same_lists _ _ (grind (arith, places)) (λ j d lt. grind (arith, places))
 
-long : (b : List ℕ) (p n : ℕ) → p + n ≤ length b → length (range b p n) ≡ n
+pub long : (b : List ℕ) (p n : ℕ) → p + n ≤ length b → length (range b p n) ≡ n
 long b p n h = grind (arith, places)
 
 outside : (width : ℕ) (b : List ℕ) (r : Range) → holds b r.place r.length ≡ false → left_entry width b r ≡ Err Short

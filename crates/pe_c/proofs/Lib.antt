@@ -1,4 +1,5 @@
 pub mod Addresses
+pub mod CodeRuns
 pub mod Cycles
 pub mod EndlessPlans
 pub mod EntryRuns

@@ -6,8 +6,8 @@ ghost use Rattle.pe_c.specs.Debug.{key_of, pdb20_of, repro_of, pogo_of};
 ghost use Rattle.pe_c.specs.Exports.{StepsExports, count_of, tables_or_short, told_entry, told_from, walk_over, with_tables};
 ghost use Rattle.pe_c.specs.Parts.{HasTables, TellsExport, TellsExports, TellsPart};
 ghost use Rattle.pe_c.specs.Plans.{plan_from, StepsPlan, GivesInTurn, IsCycle};
-ghost use Rattle.pe_c.specs.Ranges.{IsRange};
-ghost use Rattle.pe_c.specs.Unwinding.{flat_record};
+ghost use Rattle.pe_c.specs.Ranges.{IsRange, bytes_at};
+ghost use Rattle.pe_c.specs.Unwinding.{StepsCodes, flat_item, flat_record, stream_at};
 ghost use Rattle.pe_c.specs.Versions.{TellsManifest, TellsFixed, TellsValue};
 ghost use Rattle.pe_c.specs.Walks.{GivesItems, StepsEntries, entries_left};
 ghost use Rattle.pe_c.specs.declared.exports.Export.{Export};
@@ -15,20 +15,24 @@ ghost use Rattle.pe_c.specs.declared.exports.Exports.{Exports};
 ghost use Rattle.pe_c.specs.declared.image.Image.{Image};
 ghost use Rattle.pe_c.specs.declared.plan.Plan.{Plan};
 ghost use Rattle.pe_c.specs.declared.ranges.Range.{Range};
+ghost use Rattle.pe_c.specs.declared.unwinding.CodeWalk.{CodeWalk};
 ghost use Rattle.pe_c.specs.declared.unwinding.UnwindRecord.{UnwindRecord};
 ghost use Rattle.pe_core.specs.Bytes.{AreBytes};
 ghost use Rattle.pe_core.specs.Exports.{ExportDataView, export_at, export_data_at, exports};
 ghost use Rattle.pe_core.specs.Refusals.{Refusal, FunctionCycle, outcome};
+ghost use Rattle.pe_core.specs.declared.error.Error.{Error};
 ghost use Rattle.pe_core.specs.declared.section_table.SectionTable.{SectionTable};
 ghost use Rattle.pe_records.specs.Certificates.{CertificateView, certificate_at};
 ghost use Rattle.pe_records.specs.DebugDirectory.{entry_at};
 ghost use Rattle.pe_records.specs.Parts.{hash_of};
 ghost use Rattle.pe_unwind.specs.Arm64Record.{Arm64InfoView, info_at};
+ghost use Rattle.pe_unwind.specs.CodeStream.{AreItems};
 ghost use Rattle.pe_unwind.specs.Places.{data_of};
 ghost use Rattle.pe_unwind.specs.ScopeTable.{scope_at};
 ghost use Rattle.pe_unwind.specs.UnwindRecord.{UnwindInfoView, unwind_tests, unwind_record};
+ghost use Rattle.pe_unwind.specs.declared.unwind_code.UnwindCode.{UnwindCode};
 ghost use Rattle.std.specs.Option.{option_map};
-ghost use Rattle.std.specs.Prelude.{◌≡◌, ℕ, List, Option, Ok, Err, IfSome, ◌⊎◌, ◌*◌, ◌^◌, ◌<◌, ◌≤◌, length, map, Some, Result};
+ghost use Rattle.std.specs.Prelude.{◌≡◌, ℕ, List, Option, Ok, Err, [], ◌∷◌, IfSome, ◌⊎◌, ◌*◌, ◌^◌, ◌<◌, ◌≤◌, length, map, Some, Result};
 
 /// The ranges of an unwind record that is given lie in the bytes, and are its codes and its handler's data.
 pub fn ranges_of_records()
@@ -83,6 +87,15 @@ pub fn walks_give_their_entries()
     ensures scopes { (b : List ℕ) (walk : Range) → GivesItems (StepsEntries scope_at 16 b) walk (entries_left scope_at 16 b walk) }
     ensures arm64_scopes { (b : List ℕ) (walk : Range) → GivesItems (StepsEntries flat_scope_at 4 b) walk (entries_left flat_scope_at 4 b walk) }
     ensures debug_entries { (b : List ℕ) (walk : Range) → GivesItems (StepsEntries (entry_at 0) 28 b) walk (entries_left (entry_at 0) 28 b walk) }
+{}
+
+/// A walk over unwind codes gives, one a step, the items of the stream of its bytes, and then nothing: the codes that follow
+/// one another, and one fault where no code begins what is left. A range that does not lie in the bytes gives one fault alone.
+#[tactic(auto, using(crate::proofs::CodeRuns::codes_in_turn, crate::proofs::CodeRuns::lies_once))]
+pub fn walks_give_the_codes()
+    ensures items { (b : List ℕ) (walk : CodeWalk) (bytes : List ℕ) (items : List (Result UnwindCode Error)) → bytes_at b walk.left ≡ Ok bytes → AreItems (stream_at bytes walk) items →
+        GivesItems (StepsCodes b) walk (map flat_item items) }
+    ensures outside { (b : List ℕ) (walk : CodeWalk) (refusal : Refusal) → bytes_at b walk.left ≡ Err refusal → GivesItems (StepsCodes b) walk (Err refusal ∷ []) }
 {}
 
 /// A walk over certificates gives those that its table lists, and the range of each body is the body.
