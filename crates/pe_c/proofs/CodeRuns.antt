@@ -20,15 +20,15 @@ use Rattle.pe_c.specs.declared.unwinding.CodeWalk.{CodeWalk}
 
 -- ---- the bytes that a walk has left
 
-there : (b : List ℕ) (r : Range) (bytes : List ℕ) (inside : Bool) → holds b r.place r.length ≡ inside → bytes_at b r ≡ Ok bytes → (r.place + r.length ≤ length b) × (bytes ≡ range b r.place r.length)
+pub there : (b : List ℕ) (r : Range) (bytes : List ℕ) (inside : Bool) → holds b r.place r.length ≡ inside → bytes_at b r ≡ Ok bytes → (r.place + r.length ≤ length b) × (bytes ≡ range b r.place r.length)
 there b r bytes true h e = (grind (arith, nat_tests), (let same : ◌≡◌ {A = Result (List ℕ) Refusal} (Ok (range b r.place r.length)) (Ok bytes) = sym (rw h refl) ∙ e in cc))
 there b r bytes false h e = absurd (let same : ◌≡◌ {A = Result (List ℕ) Refusal} (Err Short) (Ok bytes) = sym (rw h refl) ∙ e in cc)
 
-bytes_there : (b : List ℕ) (r : Range) → r.place + r.length ≤ length b → bytes_at b r ≡ Ok (range b r.place r.length)
+pub bytes_there : (b : List ℕ) (r : Range) → r.place + r.length ≤ length b → bytes_at b r ≡ Ok (range b r.place r.length)
 bytes_there b r h = let inside : holds b r.place r.length ≡ true = grind (arith, nat_tests) in rw inside refl
 
 -- behind a step a walk has left what the step says
-left_behind : (b : List ℕ) (w v : Range) (bytes : List ℕ) → bytes_at b w ≡ Ok bytes → v.length ≤ w.length → v.place + v.length ≡ w.place + w.length → bytes_at b v ≡ Ok (drop (length bytes - v.length) bytes)
+pub left_behind : (b : List ℕ) (w v : Range) (bytes : List ℕ) → bytes_at b w ≡ Ok bytes → v.length ≤ w.length → v.place + v.length ≡ w.place + w.length → bytes_at b v ≡ Ok (drop (length bytes - v.length) bytes)
 left_behind b w v bytes e shorter same =
     let in_b = there b w bytes (holds b w.place w.length) refl e in
     let size : length bytes ≡ w.length = ap length in_b.1 ∙ long b w.place w.length in_b.0 in
@@ -41,7 +41,7 @@ left_behind b w v bytes e shorter same =
     bytes_there b v (omega (arith, in_b.0, same))
     ∙ ap (λ (x : List ℕ). Ok x) (rest ∙ ap (λ (x : List ℕ). drop (w.length - v.length) x) (sym in_b.1) ∙ ap (λ (n : ℕ). drop (n - v.length) bytes) (sym size))
 
-size_of : (b : List ℕ) (r : Range) (bytes : List ℕ) → bytes_at b r ≡ Ok bytes → length bytes ≡ r.length
+pub size_of : (b : List ℕ) (r : Range) (bytes : List ℕ) → bytes_at b r ≡ Ok bytes → length bytes ≡ r.length
 size_of b r bytes e = let in_b = there b r bytes (holds b r.place r.length) refl e in ap length in_b.1 ∙ long b r.place r.length in_b.0
 
 -- ---- one step
@@ -51,7 +51,7 @@ no_code v f [] code zero e h = h.1
 no_code v f [] code (suc n) e h = h.1
 no_code v f (x ∷ b) code n e h = absurd cc
 
-same_range : (r s : Range) → r.place ≡ s.place → r.length ≡ s.length → r ≡ s
+pub same_range : (r s : Range) → r.place ≡ s.place → r.length ≡ s.length → r ≡ s
 same_range r s place size = ap (λ (p : ℕ). record { place = p; length = r.length }) place ∙ ap (λ (n : ℕ). record { place = s.place; length = n }) size
 
 -- a step over no bytes gives nothing, and changes nothing
@@ -149,7 +149,7 @@ refused b w v r None s = absurd s
 refused b w v r (Some (Ok code)) s = absurd s
 refused b w v r (Some (Err e)) s = (ap (λ (x : Refusal). Err x) s.0, ap (λ (u : CodeWalk). u.left) s.1)
 
-nothing_there : (b : List ℕ) → range b 0 0 ≡ []
+pub nothing_there : (b : List ℕ) → range b 0 0 ≡ []
 nothing_there b = grind (arith, places)
 
 pub lies_once : (b : List ℕ) (w : CodeWalk) (r : Refusal) → bytes_at b w.left ≡ Err r → GivesItems (StepsCodes b) w (Err r ∷ [])

@@ -1,4 +1,5 @@
 pub mod Addresses
+pub mod Arm64CodeRuns
 pub mod CodeRuns
 pub mod Cycles
 pub mod EndlessPlans

@@ -1,6 +1,6 @@
 //! Laws over the definitions. Each is the contract of a function that does nothing.
 
-ghost use Rattle.pe_c.specs.Arm64.{flat_info, flat_scope_at};
+ghost use Rattle.pe_c.specs.Arm64.{StepsArm64Codes, arm64_walk_at, flat_arm64_item, flat_info, flat_scope_at, left_of_stream};
 ghost use Rattle.pe_c.specs.Certificates.{StepsList, certificate_told};
 ghost use Rattle.pe_c.specs.Debug.{key_of, pdb20_of, repro_of, pogo_of};
 ghost use Rattle.pe_c.specs.Exports.{StepsExports, count_of, tables_or_short, told_entry, told_from, walk_over, with_tables};
@@ -10,6 +10,7 @@ ghost use Rattle.pe_c.specs.Ranges.{IsRange, bytes_at};
 ghost use Rattle.pe_c.specs.Unwinding.{StepsCodes, flat_item, flat_record, stream_at};
 ghost use Rattle.pe_c.specs.Versions.{TellsManifest, TellsFixed, TellsValue};
 ghost use Rattle.pe_c.specs.Walks.{GivesItems, StepsEntries, entries_left};
+ghost use Rattle.pe_c.specs.declared.arm64.Arm64CodeWalk.{Arm64CodeWalk};
 ghost use Rattle.pe_c.specs.declared.exports.Export.{Export};
 ghost use Rattle.pe_c.specs.declared.exports.Exports.{Exports};
 ghost use Rattle.pe_c.specs.declared.image.Image.{Image};
@@ -26,10 +27,12 @@ ghost use Rattle.pe_records.specs.Certificates.{CertificateView, certificate_at}
 ghost use Rattle.pe_records.specs.DebugDirectory.{entry_at};
 ghost use Rattle.pe_records.specs.Parts.{hash_of};
 ghost use Rattle.pe_unwind.specs.Arm64Record.{Arm64InfoView, info_at};
+ghost use Rattle.pe_unwind.specs.Arm64Tiling.{Tiles};
 ghost use Rattle.pe_unwind.specs.CodeStream.{AreItems};
 ghost use Rattle.pe_unwind.specs.Places.{data_of};
 ghost use Rattle.pe_unwind.specs.ScopeTable.{scope_at};
 ghost use Rattle.pe_unwind.specs.UnwindRecord.{UnwindInfoView, unwind_tests, unwind_record};
+ghost use Rattle.pe_unwind.specs.declared.arm64.codes.Arm64UnwindCodeData.{Arm64UnwindCodeData};
 ghost use Rattle.pe_unwind.specs.declared.unwind_code.UnwindCode.{UnwindCode};
 ghost use Rattle.std.specs.Option.{option_map};
 ghost use Rattle.std.specs.Prelude.{◌≡◌, ℕ, List, Option, Ok, Err, [], ◌∷◌, IfSome, ◌⊎◌, ◌*◌, ◌^◌, ◌<◌, ◌≤◌, length, map, Some, Result};
@@ -96,6 +99,15 @@ pub fn walks_give_the_codes()
     ensures items { (b : List ℕ) (walk : CodeWalk) (bytes : List ℕ) (items : List (Result UnwindCode Error)) → bytes_at b walk.left ≡ Ok bytes → AreItems (stream_at bytes walk) items →
         GivesItems (StepsCodes b) walk (map flat_item items) }
     ensures outside { (b : List ℕ) (walk : CodeWalk) (refusal : Refusal) → bytes_at b walk.left ≡ Err refusal → GivesItems (StepsCodes b) walk (Err refusal ∷ []) }
+{}
+
+/// A walk over ARM64 unwind codes gives, one a step, the items that tile its stream from its start on, and then nothing. Bytes
+/// that are no stream's give one fault alone.
+#[tactic(auto, using(crate::proofs::Arm64CodeRuns::codes_in_turn))]
+pub fn walks_give_the_arm64_codes()
+    ensures items { (b : List ℕ) (codes : Range) (start : ℕ) (stream : List ℕ) (walk : Arm64CodeWalk) (items : List (Result Arm64UnwindCodeData Error)) →
+        bytes_at b codes ≡ Ok stream → arm64_walk_at b codes start ≡ Ok walk → Tiles stream start items → GivesItems (StepsArm64Codes b) walk (map flat_arm64_item items) }
+    ensures outside { (b : List ℕ) (walk : Arm64CodeWalk) (refusal : Refusal) → left_of_stream b walk ≡ Err refusal → GivesItems (StepsArm64Codes b) walk (Err refusal ∷ []) }
 {}
 
 /// A walk over certificates gives those that its table lists, and the range of each body is the body.
