@@ -11,6 +11,7 @@ pub mod Listings
 pub mod Parts
 pub mod PlanEnds
 pub mod PlanSteps
+pub mod PogoRuns
 pub mod RecordRanges
 pub mod Rings
 pub mod Rooms

@@ -3,6 +3,7 @@
 ghost use Rattle.pe_c.specs.Arm64.{StepsArm64Codes, arm64_walk_at, flat_arm64_item, flat_info, flat_scope_at, left_of_stream};
 ghost use Rattle.pe_c.specs.Certificates.{StepsList, certificate_told};
 ghost use Rattle.pe_c.specs.Debug.{key_of, pdb20_of, repro_of, pogo_of};
+ghost use Rattle.pe_c.specs.DebugWalks.{StepsPogoEntries, entries_told};
 ghost use Rattle.pe_c.specs.Exports.{StepsExports, count_of, tables_or_short, told_entry, told_from, walk_over, with_tables};
 ghost use Rattle.pe_c.specs.Parts.{HasTables, TellsExport, TellsExports, TellsPart};
 ghost use Rattle.pe_c.specs.Plans.{plan_from, StepsPlan, GivesInTurn, IsCycle};
@@ -26,6 +27,7 @@ ghost use Rattle.pe_core.specs.declared.section_table.SectionTable.{SectionTable
 ghost use Rattle.pe_records.specs.Certificates.{CertificateView, certificate_at};
 ghost use Rattle.pe_records.specs.DebugDirectory.{entry_at};
 ghost use Rattle.pe_records.specs.Parts.{hash_of};
+ghost use Rattle.pe_records.specs.Pogo.{Entry, Entries};
 ghost use Rattle.pe_unwind.specs.Arm64Record.{Arm64InfoView, info_at};
 ghost use Rattle.pe_unwind.specs.Arm64Tiling.{Tiles};
 ghost use Rattle.pe_unwind.specs.CodeStream.{AreItems};
@@ -108,6 +110,15 @@ pub fn walks_give_the_arm64_codes()
     ensures items { (b : List ℕ) (codes : Range) (start : ℕ) (stream : List ℕ) (walk : Arm64CodeWalk) (items : List (Result Arm64UnwindCodeData Error)) →
         bytes_at b codes ≡ Ok stream → arm64_walk_at b codes start ≡ Ok walk → Tiles stream start items → GivesItems (StepsArm64Codes b) walk (map flat_arm64_item items) }
     ensures outside { (b : List ℕ) (walk : Arm64CodeWalk) (refusal : Refusal) → left_of_stream b walk ≡ Err refusal → GivesItems (StepsArm64Codes b) walk (Err refusal ∷ []) }
+{}
+
+/// A walk over the entries of a POGO record gives, one a step, the entries of the stream of its bytes, and then nothing; the
+/// range of each name stands behind the entry's two numbers. A range that does not lie in the bytes gives one fault alone.
+#[tactic(auto, using(crate::proofs::PogoRuns::entries_in_turn, crate::proofs::PogoRuns::lies_once))]
+pub fn walks_give_the_pogo_entries()
+    ensures items { (b : List ℕ) (walk : Range) (bytes : List ℕ) (items : List (Result Entry Refusal)) → bytes_at b walk ≡ Ok bytes → Entries bytes items →
+        GivesItems (StepsPogoEntries b) walk (entries_told walk items) }
+    ensures outside { (b : List ℕ) (walk : Range) (refusal : Refusal) → bytes_at b walk ≡ Err refusal → GivesItems (StepsPogoEntries b) walk (Err refusal ∷ []) }
 {}
 
 /// A walk over certificates gives those that its table lists, and the range of each body is the body.
