@@ -7,13 +7,15 @@ use Rattle.pe_core.specs.Bytes.{holds, range}
 use Rattle.pe_core.specs.Refusals.{Refusal, Arm64Cut, Arm64Stream, kind_of, ◌>>=◌}
 use Rattle.pe_core.specs.declared.error.Error.{Error}
 use Rattle.pe_unwind.specs.Arm64Encoding.{encoding, BeginsWithArm64Code, BeginsWithNoArm64Code}
+use Rattle.pe_unwind.specs.Arm64Record.{Arm64InfoView, info_at}
 use Rattle.pe_unwind.specs.Arm64Tiling.{CodePlace, Tiles, Joins, stream_at}
 use Rattle.pe_unwind.specs.declared.arm64.codes.Arm64UnwindCode.{Arm64UnwindCode}
 use Rattle.pe_unwind.specs.declared.arm64.codes.Arm64UnwindCodeData.{Arm64UnwindCodeData}
 use Rattle.pe_unwind.proofs.Arm64OneCode.{begins_once}
 use Rattle.pe_unwind.proofs.Arm64Streams.{joined}
-use Rattle.pe_c.proofs.CodeRuns.{bytes_there, left_behind, nothing_there, same_range, size_of}
-use Rattle.pe_c.specs.Arm64.{StepsArm64Codes, StepsOverArm64, WalksInArm64, arm64_walk_at, flat_arm64, flat_arm64_item, left_of_stream, moved, over_arm64}
+use Rattle.pe_c.proofs.LeftBytes.{bytes_of_range, bytes_there, left_behind, long, nothing_there, same_range, size_of, there}
+use Rattle.pe_c.proofs.RecordRanges.{codes_of_info}
+use Rattle.pe_c.specs.Arm64.{StepsArm64Codes, StepsOverArm64, WalksInArm64, arm64_walk_at, flat_arm64, flat_arm64_item, flat_info, left_of_stream, moved, over_arm64}
 use Rattle.pe_c.specs.Ranges.{behind, bytes_at, no_bytes}
 use Rattle.pe_c.specs.Walks.{GivesItems, IsOver}
 use Rattle.pe_c.specs.declared.arm64.Arm64Code.{Arm64Code}
@@ -154,3 +156,8 @@ pub codes_in_turn : (b : List ℕ) (codes : Range) (start : ℕ) (d : List ℕ) 
 codes_in_turn b codes start d w items e k tiles =
     let begun = begun_by b codes start d w (length d % 4 == 0) (nat_le start (length d)) (nat_le (length d) 4294967292) e refl refl refl k in
     subst (λ (u : Arm64CodeWalk). GivesItems (StepsArm64Codes b) u (map flat_arm64_item items)) (sym begun.0) (in_turn b codes d items start begun.1 begun.2 tiles)
+
+pub codes_of_info_in_turn : (b : List ℕ) (p : ℕ) (i : Arm64InfoView) (start : ℕ) (w : Arm64CodeWalk) (items : List (Result Arm64UnwindCodeData Error)) → info_at b p ≡ Ok i →
+    arm64_walk_at b (flat_info b p i).codes start ≡ Ok w → Tiles i.codes start items → GivesItems (StepsArm64Codes b) w (map flat_arm64_item items)
+codes_of_info_in_turn b p i start w items e k tiles =
+    codes_in_turn b (flat_info b p i).codes start i.codes w items (bytes_of_range b (flat_info b p i).codes i.codes (codes_of_info b p i e)) k tiles

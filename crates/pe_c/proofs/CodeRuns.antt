@@ -3,46 +3,22 @@ use Rattle.std.proofs.Common.{◌≡◌, ℕ, zero, suc, ◌+◌, ◌-◌, ◌<�
 use Rattle.std.proofs.lemmas.Bool.Decides.{nat_tests}
 use Rattle.std.proofs.lemmas.List.{places}
 use Rattle.pe_core.specs.Bytes.{holds, range, record_at}
-use Rattle.pe_core.specs.Refusals.{Refusal, Short, kind_of}
+use Rattle.pe_core.specs.Refusals.{Refusal, kind_of, outcome}
 use Rattle.pe_core.specs.declared.error.Error.{Error}
 use Rattle.pe_unwind.specs.CodeStream.{AreItems, CodeStream, GivesCode, with_left}
 use Rattle.pe_unwind.specs.FunctionTable.{answer_of}
 use Rattle.pe_unwind.specs.UnwindCodes.{BeginsWithCode}
+use Rattle.pe_unwind.specs.UnwindRecord.{UnwindInfoView, unwind_tests, unwind_record}
 use Rattle.pe_unwind.specs.declared.unwind_code.UnwindCode.{UnwindCode}
 use Rattle.pe_unwind.proofs.Streams.{one_code, one_reading}
-use Rattle.pe_c.proofs.EntryRuns.{rest_of_range, long}
+use Rattle.pe_c.proofs.LeftBytes.{bytes_of_range, bytes_there, left_behind, nothing_there, same_range, size_of}
+use Rattle.pe_c.proofs.RecordRanges.{codes_of_record}
 use Rattle.pe_c.specs.Ranges.{bytes_at, no_bytes}
-use Rattle.pe_c.specs.Unwinding.{StepsCodes, StepsOver, WalksIn, flat, flat_answer, flat_item, left_of, stream_at}
+use Rattle.pe_c.specs.Unwinding.{StepsCodes, StepsOver, WalksIn, flat, flat_answer, flat_item, flat_record, left_of, stream_at}
 use Rattle.pe_c.specs.Walks.{GivesItems, IsOver}
 use Rattle.pe_c.specs.declared.ranges.Range.{Range}
 use Rattle.pe_c.specs.declared.unwinding.Code.{Code}
 use Rattle.pe_c.specs.declared.unwinding.CodeWalk.{CodeWalk}
-
--- ---- the bytes that a walk has left
-
-pub there : (b : List ℕ) (r : Range) (bytes : List ℕ) (inside : Bool) → holds b r.place r.length ≡ inside → bytes_at b r ≡ Ok bytes → (r.place + r.length ≤ length b) × (bytes ≡ range b r.place r.length)
-there b r bytes true h e = (grind (arith, nat_tests), (let same : ◌≡◌ {A = Result (List ℕ) Refusal} (Ok (range b r.place r.length)) (Ok bytes) = sym (rw h refl) ∙ e in cc))
-there b r bytes false h e = absurd (let same : ◌≡◌ {A = Result (List ℕ) Refusal} (Err Short) (Ok bytes) = sym (rw h refl) ∙ e in cc)
-
-pub bytes_there : (b : List ℕ) (r : Range) → r.place + r.length ≤ length b → bytes_at b r ≡ Ok (range b r.place r.length)
-bytes_there b r h = let inside : holds b r.place r.length ≡ true = grind (arith, nat_tests) in rw inside refl
-
--- behind a step a walk has left what the step says
-pub left_behind : (b : List ℕ) (w v : Range) (bytes : List ℕ) → bytes_at b w ≡ Ok bytes → v.length ≤ w.length → v.place + v.length ≡ w.place + w.length → bytes_at b v ≡ Ok (drop (length bytes - v.length) bytes)
-left_behind b w v bytes e shorter same =
-    let in_b = there b w bytes (holds b w.place w.length) refl e in
-    let size : length bytes ≡ w.length = ap length in_b.1 ∙ long b w.place w.length in_b.0 in
-    let place : v.place ≡ w.place + (w.length - v.length) = omega (arith, shorter, same) in
-    let count : v.length ≡ w.length - (w.length - v.length) = omega (arith, shorter) in
-    let rest : range b v.place v.length ≡ drop (w.length - v.length) (range b w.place w.length) =
-    ap (λ (p : ℕ). range b p v.length) place
-    ∙ ap (λ (n : ℕ). range b (w.place + (w.length - v.length)) n) count
-    ∙ rest_of_range b w.place w.length (w.length - v.length) in_b.0 (omega arith) in
-    bytes_there b v (omega (arith, in_b.0, same))
-    ∙ ap (λ (x : List ℕ). Ok x) (rest ∙ ap (λ (x : List ℕ). drop (w.length - v.length) x) (sym in_b.1) ∙ ap (λ (n : ℕ). drop (n - v.length) bytes) (sym size))
-
-pub size_of : (b : List ℕ) (r : Range) (bytes : List ℕ) → bytes_at b r ≡ Ok bytes → length bytes ≡ r.length
-size_of b r bytes e = let in_b = there b r bytes (holds b r.place r.length) refl e in ap length in_b.1 ∙ long b r.place r.length in_b.0
 
 -- ---- one step
 
@@ -50,9 +26,6 @@ no_code : (v f : ℕ) (b : List ℕ) (code : UnwindCode) (n : ℕ) → b ≡ [] 
 no_code v f [] code zero e h = h.1
 no_code v f [] code (suc n) e h = h.1
 no_code v f (x ∷ b) code n e h = absurd cc
-
-pub same_range : (r s : Range) → r.place ≡ s.place → r.length ≡ s.length → r ≡ s
-same_range r s place size = ap (λ (p : ℕ). record { place = p; length = r.length }) place ∙ ap (λ (n : ℕ). record { place = s.place; length = n }) size
 
 -- a step over no bytes gives nothing, and changes nothing
 over_nothing : (w v : CodeWalk) (bytes : List ℕ) (given : Option (Result UnwindCode Error)) → bytes ≡ [] → length bytes ≡ w.left.length → StepsOver bytes w given v → (flat_answer given ≡ Ok None) × (v ≡ w)
@@ -149,9 +122,6 @@ refused b w v r None s = absurd s
 refused b w v r (Some (Ok code)) s = absurd s
 refused b w v r (Some (Err e)) s = (ap (λ (x : Refusal). Err x) s.0, ap (λ (u : CodeWalk). u.left) s.1)
 
-pub nothing_there : (b : List ℕ) → range b 0 0 ≡ []
-nothing_there b = grind (arith, places)
-
 pub lies_once : (b : List ℕ) (w : CodeWalk) (r : Refusal) → bytes_at b w.left ≡ Err r → GivesItems (StepsCodes b) w (Err r ∷ [])
 lies_once b w r e = (
   refl,
@@ -163,3 +133,10 @@ lies_once b w r e = (
     is_over b v (range b 0 0) (ap (λ (x : Range). bytes_at b x) given.1 ∙ bytes_there b no_bytes (omega arith)) (nothing_there b),
   ),
 )
+
+-- ---- the codes of a record
+
+pub codes_of_record_in_turn : (b : List ℕ) (p : ℕ) (i : UnwindInfoView) (items : List (Result UnwindCode Error)) → outcome (unwind_tests b p) (unwind_record b p) ≡ Ok i →
+    AreItems (stream_at i.codes (flat_record b p i).codes) items → GivesItems (StepsCodes b) (flat_record b p i).codes (map flat_item items)
+codes_of_record_in_turn b p i items e h =
+    codes_in_turn b (flat_record b p i).codes i.codes items (bytes_of_range b (flat_record b p i).codes.left i.codes (codes_of_record b p i e)) h

@@ -12,6 +12,7 @@ use Rattle.pe_core.specs.Exports.{ExportDataView, ExportView, export_at, export_
 use Rattle.pe_core.specs.Refusals.{Refusal}
 use Rattle.pe_core.specs.Rows.{each}
 use Rattle.pe_c.proofs.ExportParts.{tells, tables_stand}
+use Rattle.pe_c.proofs.LeftBytes.{bytes_of_range, length_of_range}
 use Rattle.pe_c.specs.Exports.{FindsNext, StepsExports, StepsExportsIf, StepsOverExports, count_of, exports_behind, tables_or_short, told_entry, told_from, walk_over, with_tables}
 use Rattle.pe_c.specs.Parts.{HasTables, TellsExport, TellsExports}
 use Rattle.pe_c.specs.Ranges.{IsRange, bytes_at}
@@ -158,14 +159,8 @@ tells_exports place b d =
     (each-as_map (export_at place b d) n)
     (tells_all place b d (range_with_len 0 n)))
 
-bytes_of_range : (b : List ℕ) (r : Range) (t : List ℕ) → IsRange b r t → bytes_at b r ≡ Ok t
-bytes_of_range b r t is = let there : holds b r.place r.length ≡ true = (let inside : r.place + r.length ≤ length b = is.inside in grind (arith, nat_tests)) in rw there (ap (λ (x : List ℕ). Ok x) is.same)
-
 tables_of : (b : List ℕ) (w : Exports) (d : ExportDataView) → HasTables b w d → tables_or_short b w ≡ Ok (with_tables d.names d.ordinals d.addresses)
 tables_of b w d h = rw (bytes_of_range b w.names d.names h.names) (rw (bytes_of_range b w.ordinals d.ordinals h.ordinals) (rw (bytes_of_range b w.addresses d.addresses h.addresses) refl))
-
-length_of_range : (b : List ℕ) (r : Range) (t : List ℕ) → IsRange b r t → length t ≡ r.length
-length_of_range b r t is = let inside : r.place + r.length ≤ length b = is.inside in let all : length (range b r.place r.length) ≡ r.length = grind (arith, places) in ap length (sym is.same) ∙ all
 
 pub directory_in_turn : (place : ℕ → Option ℕ) (b : List ℕ) (rva : ℕ) (d : ExportDataView) → export_data_at place b rva ≡ Ok d →
     (told : List Export) × GivesItems (StepsExports place b) (walk_over place d) (map (λ x. Ok x) told) × TellsExports b told (exports place b d)

@@ -7,6 +7,7 @@ pub mod EntryRuns
 pub mod ExportParts
 pub mod ExportRuns
 pub mod LastText
+pub mod LeftBytes
 pub mod Listings
 pub mod Parts
 pub mod PlanEnds

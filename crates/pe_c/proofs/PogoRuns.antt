@@ -7,7 +7,7 @@ use Rattle.pe_core.specs.declared.error.Error.{Error}
 use Rattle.pe_records.proofs.PogoNames.{begins_once}
 use Rattle.pe_records.specs.Pogo.{BeginsWith, BeginsWithNone, Entries, Entry, GivesPogoEntry, entry_of, fault}
 use Rattle.pe_records.specs.declared.debug.pogo.POGOInfoEntry.{POGOInfoEntry}
-use Rattle.pe_c.proofs.CodeRuns.{bytes_there, left_behind, nothing_there, size_of}
+use Rattle.pe_c.proofs.LeftBytes.{bytes_there, left_behind, nothing_there, size_of, there}
 use Rattle.pe_c.specs.DebugWalks.{StepsOverPogo, StepsPogoEntries, entries_told, pogo_behind, told}
 use Rattle.pe_c.specs.Ranges.{behind, bytes_at, no_bytes}
 use Rattle.pe_c.specs.Walks.{GivesItems, IsOver}

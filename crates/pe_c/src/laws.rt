@@ -95,20 +95,25 @@ pub fn walks_give_their_entries()
 {}
 
 /// A walk over unwind codes gives, one a step, the items of the stream of its bytes, and then nothing: the codes that follow
-/// one another, and one fault where no code begins what is left. A range that does not lie in the bytes gives one fault alone.
-#[tactic(auto, using(crate::proofs::CodeRuns::codes_in_turn, crate::proofs::CodeRuns::lies_once))]
+/// one another, and one fault where no code begins what is left. So the walk of an unwind record gives the codes of the
+/// record. A range that does not lie in the bytes gives one fault alone.
+#[tactic(auto, using(crate::proofs::CodeRuns::codes_in_turn, crate::proofs::CodeRuns::codes_of_record_in_turn, crate::proofs::CodeRuns::lies_once))]
 pub fn walks_give_the_codes()
     ensures items { (b : List ℕ) (walk : CodeWalk) (bytes : List ℕ) (items : List (Result UnwindCode Error)) → bytes_at b walk.left ≡ Ok bytes → AreItems (stream_at bytes walk) items →
         GivesItems (StepsCodes b) walk (map flat_item items) }
+    ensures of_records { (b : List ℕ) (p : ℕ) (i : UnwindInfoView) (items : List (Result UnwindCode Error)) → outcome (unwind_tests b p) (unwind_record b p) ≡ Ok i →
+        AreItems (stream_at i.codes (flat_record b p i).codes) items → GivesItems (StepsCodes b) (flat_record b p i).codes (map flat_item items) }
     ensures outside { (b : List ℕ) (walk : CodeWalk) (refusal : Refusal) → bytes_at b walk.left ≡ Err refusal → GivesItems (StepsCodes b) walk (Err refusal ∷ []) }
 {}
 
-/// A walk over ARM64 unwind codes gives, one a step, the items that tile its stream from its start on, and then nothing. Bytes
-/// that are no stream's give one fault alone.
-#[tactic(auto, using(crate::proofs::Arm64CodeRuns::codes_in_turn))]
+/// A walk over ARM64 unwind codes gives, one a step, the items that tile its stream from its start on, and then nothing. So
+/// the walk over the codes of an unwind record gives those of the record. Bytes that are no stream's give one fault alone.
+#[tactic(auto, using(crate::proofs::Arm64CodeRuns::codes_in_turn, crate::proofs::Arm64CodeRuns::codes_of_info_in_turn))]
 pub fn walks_give_the_arm64_codes()
     ensures items { (b : List ℕ) (codes : Range) (start : ℕ) (stream : List ℕ) (walk : Arm64CodeWalk) (items : List (Result Arm64UnwindCodeData Error)) →
         bytes_at b codes ≡ Ok stream → arm64_walk_at b codes start ≡ Ok walk → Tiles stream start items → GivesItems (StepsArm64Codes b) walk (map flat_arm64_item items) }
+    ensures of_records { (b : List ℕ) (p : ℕ) (i : Arm64InfoView) (start : ℕ) (walk : Arm64CodeWalk) (items : List (Result Arm64UnwindCodeData Error)) → info_at b p ≡ Ok i →
+        arm64_walk_at b (flat_info b p i).codes start ≡ Ok walk → Tiles i.codes start items → GivesItems (StepsArm64Codes b) walk (map flat_arm64_item items) }
     ensures outside { (b : List ℕ) (walk : Arm64CodeWalk) (refusal : Refusal) → left_of_stream b walk ≡ Err refusal → GivesItems (StepsArm64Codes b) walk (Err refusal ∷ []) }
 {}
 
