@@ -1,19 +1,19 @@
 -- A walk over ARM64 unwind codes gives all items of its stream.
-use Rattle.std.proofs.Common.{◌≡◌, ℕ, zero, suc, ◌+◌, ◌-◌, ◌%◌, ◌<◌, ◌≤◌, Bool, true, false, List, [], ◌∷◌, ◌++◌, length, map, drop, Option, Some, None, Result, Ok, Err, refl, sym, ap, subst, ◌∙◌, arith, length-append, length-drop}
+use Rattle.std.proofs.Common.{◌≡◌, ℕ, ◌+◌, ◌-◌, ◌%◌, ◌<◌, ◌≤◌, Bool, true, false, List, [], ◌∷◌, length, map, drop, Option, Some, None, Result, Ok, Err, refl, sym, ap, subst, ◌∙◌, arith, length-append, length-drop}
 use Rattle.std.specs.Prelude.{◌==◌, nat_le}
 use Rattle.std.proofs.lemmas.Bool.Decides.{nat_tests}
 use Rattle.std.proofs.lemmas.List.{drop_all}
-use Rattle.pe_core.specs.Bytes.{holds, range}
-use Rattle.pe_core.specs.Refusals.{Refusal, Arm64Cut, Arm64Stream, kind_of, ◌>>=◌}
+use Rattle.pe_core.specs.Bytes.{range}
+use Rattle.pe_core.specs.Refusals.{Refusal, Arm64Cut, Arm64Stream}
 use Rattle.pe_core.specs.declared.error.Error.{Error}
 use Rattle.pe_unwind.specs.Arm64Encoding.{encoding, BeginsWithArm64Code, BeginsWithNoArm64Code}
 use Rattle.pe_unwind.specs.Arm64Record.{Arm64InfoView, info_at}
-use Rattle.pe_unwind.specs.Arm64Tiling.{CodePlace, Tiles, Joins, stream_at}
+use Rattle.pe_unwind.specs.Arm64Tiling.{Tiles, Joins}
 use Rattle.pe_unwind.specs.declared.arm64.codes.Arm64UnwindCode.{Arm64UnwindCode}
 use Rattle.pe_unwind.specs.declared.arm64.codes.Arm64UnwindCodeData.{Arm64UnwindCodeData}
 use Rattle.pe_unwind.proofs.Arm64OneCode.{begins_once}
 use Rattle.pe_unwind.proofs.Arm64Streams.{joined}
-use Rattle.pe_c.proofs.LeftBytes.{bytes_of_range, bytes_there, left_behind, long, nothing_there, same_range, size_of, there}
+use Rattle.pe_c.proofs.LeftBytes.{bytes_of_range, bytes_there, left_behind, nothing_there, same_range, size_of}
 use Rattle.pe_c.proofs.RecordRanges.{codes_of_info}
 use Rattle.pe_c.specs.Arm64.{StepsArm64Codes, StepsOverArm64, WalksInArm64, arm64_walk_at, flat_arm64, flat_arm64_item, flat_info, left_of_stream, moved, over_arm64}
 use Rattle.pe_c.specs.Ranges.{behind, bytes_at, no_bytes}
@@ -60,8 +60,8 @@ pub lies_once : (b : List ℕ) (w : Arm64CodeWalk) (r : Refusal) → left_of_str
 lies_once b w r e = (
   refl,
   λ answer v s.
-  let given = refused w v r answer (subst (λ (x : Result (List ℕ) Refusal). WalksInArm64 x w answer v) e s) in
-  (given.0, subst (λ (u : Arm64CodeWalk). IsOver (StepsArm64Codes b) u) (sym given.1) (at_end b)),
+      let given = refused w v r answer (subst (λ (x : Result (List ℕ) Refusal). WalksInArm64 x w answer v) e s) in
+      (given.0, subst (λ (u : Arm64CodeWalk). IsOver (StepsArm64Codes b) u) (sym given.1) (at_end b)),
 )
 
 -- ---- all steps
@@ -102,8 +102,7 @@ gives_code : (codes : Range) (d : List ℕ) (at : ℕ) (item : Arm64UnwindCodeDa
     (answer ≡ Ok (Some (flat_arm64 item.offset item.code))) × (v ≡ walk_at codes (at + item.len))
 gives_code codes d at item v (Ok None) h begins offset len s = absurd (some_left d at h s.0)
 gives_code codes d at item v (Ok (Some code)) h begins offset len s =
-    let same : s.0 ≡ item.code = begins_once (drop at d) s.0 item.code s.1 begins in
-    (
+    let same : s.0 ≡ item.code = begins_once (drop at d) s.0 item.code s.1 begins in (
       ap (λ (x : Arm64Code). Ok (Some x)) (s.2 ∙ ap (λ (c : Arm64UnwindCode). flat_arm64 at c) same ∙ ap (λ (n : ℕ). flat_arm64 n item.code) (sym offset)),
       s.3 ∙ ap (λ (c : Arm64UnwindCode). moved (walk_at codes at) (length (encoding c))) same ∙ moved_on codes at (length (encoding item.code))
           ∙ ap (λ (n : ℕ). walk_at codes (at + n)) (sym len),
@@ -130,11 +129,10 @@ in_turn b codes d (Ok item ∷ items) at is le h = λ answer v s.
 in_turn b codes d (Err e ∷ items) at is le h = (
   ap (map flat_arm64_item) h.2,
   λ answer v s.
-  let given = gives_cut codes d at v answer h.0 h.1.0 (stepped b (walk_at codes at) v (drop at d) answer (left_at b codes d at is le) s) in
-  (
-    given.0 ∙ ap (λ (x : Refusal). Err x) (sym h.1.1),
-    subst (λ (u : Arm64CodeWalk). IsOver (StepsArm64Codes b) u) (sym given.1) (at_end b),
-  ),
+      let given = gives_cut codes d at v answer h.0 h.1.0 (stepped b (walk_at codes at) v (drop at d) answer (left_at b codes d at is le) s) in (
+        given.0 ∙ ap (λ (x : Refusal). Err x) (sym h.1.1),
+        subst (λ (u : Arm64CodeWalk). IsOver (StepsArm64Codes b) u) (sym given.1) (at_end b),
+      ),
 )
 
 -- ---- from where a walk begins

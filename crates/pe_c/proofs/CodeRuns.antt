@@ -1,8 +1,6 @@
 -- A walk over unwind codes gives all items of its stream.
-use Rattle.std.proofs.Common.{◌≡◌, ℕ, zero, suc, ◌+◌, ◌-◌, ◌<◌, ◌≤◌, Bool, true, false, List, [], ◌∷◌, length, map, take, drop, Option, Some, None, Result, Ok, Err, refl, sym, ap, subst, ◌∙◌, arith}
-use Rattle.std.proofs.lemmas.Bool.Decides.{nat_tests}
-use Rattle.std.proofs.lemmas.List.{places}
-use Rattle.pe_core.specs.Bytes.{holds, range, record_at}
+use Rattle.std.proofs.Common.{◌≡◌, ℕ, zero, suc, ◌+◌, ◌≤◌, List, [], ◌∷◌, length, map, drop, Option, Some, None, Result, Ok, Err, refl, sym, ap, subst, ◌∙◌, arith}
+use Rattle.pe_core.specs.Bytes.{range}
 use Rattle.pe_core.specs.Refusals.{Refusal, kind_of, outcome}
 use Rattle.pe_core.specs.declared.error.Error.{Error}
 use Rattle.pe_unwind.specs.CodeStream.{AreItems, CodeStream, GivesCode, with_left}
@@ -67,8 +65,7 @@ gives_code b w v bytes code n None begins s =
     absurd (no_code w.version w.frame_register bytes code n g.0 begins)
 gives_code b w v bytes code n (Some (Ok c)) begins s =
     let g : GivesCode (stream_at bytes w) (Some (Ok c)) (stream_at (left_of bytes w v) v) = s.code in
-    let same = one_code w.version w.frame_register bytes c code g.0 n g.1 begins in
-    (
+    let same = one_code w.version w.frame_register bytes c code g.0 n g.1 begins in (
       ap (λ (x : UnwindCode). Ok (Some (flat x))) same.0,
       g.3 ∙ ap (λ (k : ℕ). with_left (stream_at bytes w) (drop k bytes)) same.1,
     )
@@ -98,17 +95,16 @@ in_turn b [] w bytes e h = λ answer v s.
     (over.0, subst (λ (u : CodeWalk). IsOver (StepsCodes b) u) (sym over.1) (is_over b w bytes e h))
 in_turn b (Ok code ∷ items) w bytes e h = λ answer v s.
     let over = stepped b w v bytes answer e s in
-    let given = gives_code b w v bytes code h.0 over.0 h.1 over.1 in
-    (
+    let given = gives_code b w v bytes code h.0 over.0 h.1 over.1 in (
       over.2 ∙ given.0,
       in_turn b items v (left_of bytes w v) (behind_code b w v bytes over.0 e over.1) (subst (λ (t : CodeStream). AreItems t items) (sym given.1) h.2),
     )
 in_turn b (Err x ∷ items) w bytes e h = (
   ap (map flat_item) h.3,
   λ answer v s.
-  let over = stepped b w v bytes answer e s in
-  let given = gives_fault b w v bytes x over.0 (h.0, h.1, h.2, refl) over.1 in
-  (over.2 ∙ given.0, is_over b v (left_of bytes w v) (behind_code b w v bytes over.0 e over.1) given.1),
+      let over = stepped b w v bytes answer e s in
+      let given = gives_fault b w v bytes x over.0 (h.0, h.1, h.2, refl) over.1 in
+      (over.2 ∙ given.0, is_over b v (left_of bytes w v) (behind_code b w v bytes over.0 e over.1) given.1),
 )
 
 pub codes_in_turn : (b : List ℕ) (w : CodeWalk) (bytes : List ℕ) (items : List (Result UnwindCode Error)) → bytes_at b w.left ≡ Ok bytes → AreItems (stream_at bytes w) items →
@@ -126,12 +122,11 @@ pub lies_once : (b : List ℕ) (w : CodeWalk) (r : Refusal) → bytes_at b w.lef
 lies_once b w r e = (
   refl,
   λ answer v s.
-  let walks : WalksIn (Err r) w s.0 v = subst (λ (x : Result (List ℕ) Refusal). WalksIn x w s.0 v) e s.1 in
-  let given = refused b w v r s.0 walks in
-  (
-    s.2 ∙ given.0,
-    is_over b v (range b 0 0) (ap (λ (x : Range). bytes_at b x) given.1 ∙ bytes_there b no_bytes (omega arith)) (nothing_there b),
-  ),
+      let walks : WalksIn (Err r) w s.0 v = subst (λ (x : Result (List ℕ) Refusal). WalksIn x w s.0 v) e s.1 in
+      let given = refused b w v r s.0 walks in (
+        s.2 ∙ given.0,
+        is_over b v (range b 0 0) (ap (λ (x : Range). bytes_at b x) given.1 ∙ bytes_there b no_bytes (omega arith)) (nothing_there b),
+      ),
 )
 
 -- ---- the codes of a record

@@ -1,19 +1,17 @@
 -- A walk over entries of one width gives all of them.
-use Rattle.std.proofs.Common.{◌≡◌, ℕ, zero, suc, ◌+◌, ◌-◌, ◌<◌, ◌≤◌, Bool, true, false, List, [], ◌∷◌, length, drop, Option, Some, None, Result, Ok, Err, refl, sym, ap, subst, ◌∙◌, arith}
-use Rattle.std.specs.Prelude.{◌==◌, nat_le, nat_lt, if◌then◌else◌}
-use Rattle.std.proofs.lemmas.Bool.{cases_Bool}
+use Rattle.std.proofs.Common.{◌≡◌, ℕ, zero, suc, ◌+◌, ◌-◌, ◌<◌, ◌≤◌, Bool, true, false, List, [], ◌∷◌, length, Some, None, Result, Ok, Err, refl, sym, ap, subst, ◌∙◌, arith}
+use Rattle.std.specs.Prelude.{◌==◌, nat_lt, if◌then◌else◌}
 use Rattle.std.proofs.lemmas.Bool.Decides.{nat_tests}
-use Rattle.std.proofs.lemmas.List.{places, same_lists}
 use Rattle.pe_core.proofs.TableEntries.{ReadsBehind, le_behind, entry_items-more, entry_items-none, entry_items-cut}
 use Rattle.pe_core.specs.Bytes.{holds, range}
 use Rattle.pe_core.specs.Refusals.{Refusal, Short}
 use Rattle.pe_core.specs.Rows.{entry_items}
 use Rattle.pe_records.specs.DebugDirectory.{entry_at}
 use Rattle.pe_unwind.specs.ScopeTable.{scope_at}
-use Rattle.pe_c.proofs.LeftBytes.{long, rest_of_range, there}
+use Rattle.pe_c.proofs.LeftBytes.{long, rest_of_range}
 use Rattle.pe_c.specs.Arm64.{flat_scope_at}
 use Rattle.pe_c.specs.Ranges.{no_bytes, behind}
-use Rattle.pe_c.specs.Walks.{GivesItems, IsOver, StepsEntries, entries_left, left_entry, next_of, walk_of}
+use Rattle.pe_c.specs.Walks.{GivesItems, IsOver, StepsEntries, entries_left, left_entry}
 use Rattle.pe_c.specs.declared.ranges.Range.{Range}
 
 -- ---- one step

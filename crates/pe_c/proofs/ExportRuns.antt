@@ -5,9 +5,7 @@ use Rattle.std.specs.List.{cons_option, filter_map, range_with_len}
 use Rattle.std.specs.Option.{option_map}
 use Rattle.std.proofs.lemmas.Bool.{cases_lt}
 use Rattle.std.proofs.lemmas.Bool.Decides.{nat_tests}
-use Rattle.std.proofs.lemmas.List.{places}
 use Rattle.pe_core.proofs.TableEntries.{each-as_map}
-use Rattle.pe_core.specs.Bytes.{holds, range}
 use Rattle.pe_core.specs.Exports.{ExportDataView, ExportView, export_at, export_data_at, exports}
 use Rattle.pe_core.specs.Refusals.{Refusal}
 use Rattle.pe_core.specs.Rows.{each}
@@ -15,11 +13,9 @@ use Rattle.pe_c.proofs.ExportParts.{tells, tables_stand}
 use Rattle.pe_c.proofs.LeftBytes.{bytes_of_range, length_of_range}
 use Rattle.pe_c.specs.Exports.{FindsNext, StepsExports, StepsExportsIf, StepsOverExports, count_of, exports_behind, tables_or_short, told_entry, told_from, walk_over, with_tables}
 use Rattle.pe_c.specs.Parts.{HasTables, TellsExport, TellsExports}
-use Rattle.pe_c.specs.Ranges.{IsRange, bytes_at}
 use Rattle.pe_c.specs.Walks.{GivesItems, IsOver}
 use Rattle.pe_c.specs.declared.exports.Export.{Export}
 use Rattle.pe_c.specs.declared.exports.Exports.{Exports}
-use Rattle.pe_c.specs.declared.ranges.Range.{Range}
 
 -- ---- one step
 
@@ -166,8 +162,7 @@ pub directory_in_turn : (place : ℕ → Option ℕ) (b : List ℕ) (rva : ℕ) 
     (told : List Export) × GivesItems (StepsExports place b) (walk_over place d) (map (λ x. Ok x) told) × TellsExports b told (exports place b d)
 directory_in_turn place b rva d e =
     let has : HasTables b (walk_over place d) d = tables_stand place b rva d e in
-    let count : length d.names / 4 ≡ count_of (walk_over place d) = ap (λ (n : ℕ). n / 4) (length_of_range b (walk_over place d).names d.names has.names) in
-    (
+    let count : length d.names / 4 ≡ count_of (walk_over place d) = ap (λ (n : ℕ). n / 4) (length_of_range b (walk_over place d).names d.names has.names) in (
       told_from (told_entry place b (with_tables d.names d.ordinals d.addresses)) 0 (count_of (walk_over place d)),
       exports_in_turn place b (walk_over place d) (with_tables d.names d.ordinals d.addresses) (tables_of b (walk_over place d) d has),
       subst (λ (n : ℕ). TellsExports b (told_from (told_entry place b (with_tables d.names d.ordinals d.addresses)) 0 n) (exports place b d)) count (tells_exports place b d),

@@ -1,5 +1,6 @@
 pub mod Addresses
 pub mod Arm64CodeRuns
+pub mod CertificateRuns
 pub mod CodeRuns
 pub mod Cycles
 pub mod EndlessPlans

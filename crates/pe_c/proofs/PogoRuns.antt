@@ -1,14 +1,13 @@
 -- A walk over the entries of a POGO record gives all of them.
 use Rattle.std.proofs.Common.{◌≡◌, ◌≢◌, ℕ, ◌+◌, ◌-◌, ◌≤◌, List, [], ◌∷◌, length, length-drop, drop, Option, Some, None, Result, Ok, Err, refl, sym, ap, subst, ◌∙◌, arith}
 use Rattle.pe_core.specs.Bytes.{range}
-use Rattle.pe_core.specs.Refusals.{Refusal, kind_of}
-use Rattle.pe_core.specs.SectionMap.{rounded_up}
+use Rattle.pe_core.specs.Refusals.{Refusal}
 use Rattle.pe_core.specs.declared.error.Error.{Error}
 use Rattle.pe_records.proofs.PogoNames.{begins_once}
-use Rattle.pe_records.specs.Pogo.{BeginsWith, BeginsWithNone, Entries, Entry, GivesPogoEntry, entry_of, fault}
+use Rattle.pe_records.specs.Pogo.{BeginsWith, BeginsWithNone, Entries, Entry, entry_of, fault}
 use Rattle.pe_records.specs.declared.debug.pogo.POGOInfoEntry.{POGOInfoEntry}
-use Rattle.pe_c.proofs.LeftBytes.{bytes_there, left_behind, nothing_there, size_of, there}
-use Rattle.pe_c.specs.DebugWalks.{StepsOverPogo, StepsPogoEntries, entries_told, pogo_behind, told}
+use Rattle.pe_c.proofs.LeftBytes.{bytes_there, left_behind, nothing_there, size_of}
+use Rattle.pe_c.specs.DebugWalks.{StepsOverPogo, StepsPogoEntries, entries_told, told}
 use Rattle.pe_c.specs.Ranges.{behind, bytes_at, no_bytes}
 use Rattle.pe_c.specs.Walks.{GivesItems, IsOver}
 use Rattle.pe_c.specs.declared.debug_walks.PogoEntry.{PogoEntry}
@@ -44,8 +43,8 @@ pub lies_once : (b : List ℕ) (w : Range) (r : Refusal) → bytes_at b w ≡ Er
 lies_once b w r e = (
   refl,
   λ answer v s.
-  let given = refused w v r s.0 (subst (λ (x : Result (List ℕ) Refusal). StepsOverPogo x w s.0 v) e s.1) in
-  (s.2 ∙ given.0, subst (λ (u : Range). IsOver (StepsPogoEntries b) u) (sym given.1) (at_end b)),
+      let given = refused w v r s.0 (subst (λ (x : Result (List ℕ) Refusal). StepsOverPogo x w s.0 v) e s.1) in
+      (s.2 ∙ given.0, subst (λ (u : Range). IsOver (StepsPogoEntries b) u) (sym given.1) (at_end b)),
 )
 
 -- ---- all steps
@@ -89,8 +88,7 @@ in_turn b (Ok x ∷ items) w bytes e h = λ answer v s.
     let begins : BeginsWith bytes x h.1 = h.2 in
     let whole : h.1 ≤ length bytes = begins.whole in
     let given = gives_entry bytes w v x h.1 over.0 h.0 begins over.1 in
-    let more : GivesItems (StepsPogoEntries b) (behind w h.1) (entries_told (behind w h.1) items) = in_turn b items (behind w h.1) (drop h.1 bytes) (rest_there b w bytes h.1 e whole) h.3 in
-    (
+    let more : GivesItems (StepsPogoEntries b) (behind w h.1) (entries_told (behind w h.1) items) = in_turn b items (behind w h.1) (drop h.1 bytes) (rest_there b w bytes h.1 e whole) h.3 in (
       over.2 ∙ given.0,
       subst (λ (n : ℕ). GivesItems (StepsPogoEntries b) v (entries_told (behind w n) items)) begins.padded
           (subst (λ (u : Range). GivesItems (StepsPogoEntries b) u (entries_told (behind w h.1) items)) (sym given.1) more),
@@ -98,9 +96,9 @@ in_turn b (Ok x ∷ items) w bytes e h = λ answer v s.
 in_turn b (Err r ∷ items) w bytes e h = (
   ap (entries_told w) h.3,
   λ answer v s.
-  let over = stepped b w v bytes answer e s in
-  let given = gives_fault bytes w v over.0 h.0 h.1 over.1 in
-  (over.2 ∙ given.0 ∙ ap (λ (x : Refusal). Err x) (sym h.2), subst (λ (u : Range). IsOver (StepsPogoEntries b) u) (sym given.1) (at_end b)),
+      let over = stepped b w v bytes answer e s in
+      let given = gives_fault bytes w v over.0 h.0 h.1 over.1 in
+      (over.2 ∙ given.0 ∙ ap (λ (x : Refusal). Err x) (sym h.2), subst (λ (u : Range). IsOver (StepsPogoEntries b) u) (sym given.1) (at_end b)),
 )
 
 pub entries_in_turn : (b : List ℕ) (w : Range) (bytes : List ℕ) (items : List (Result Entry Refusal)) → bytes_at b w ≡ Ok bytes → Entries bytes items →

@@ -1,7 +1,7 @@
 //! Laws over the definitions. Each is the contract of a function that does nothing.
 
 ghost use Rattle.pe_c.specs.Arm64.{StepsArm64Codes, arm64_walk_at, flat_arm64_item, flat_info, flat_scope_at, left_of_stream};
-ghost use Rattle.pe_c.specs.Certificates.{StepsList, certificate_told};
+ghost use Rattle.pe_c.specs.Certificates.{StepsCertificates, StepsList, TellsCertificates, certificate_told, listed};
 ghost use Rattle.pe_c.specs.Debug.{key_of, pdb20_of, repro_of, pogo_of};
 ghost use Rattle.pe_c.specs.DebugWalks.{StepsPogoEntries, entries_told};
 ghost use Rattle.pe_c.specs.Exports.{StepsExports, count_of, tables_or_short, told_entry, told_from, walk_over, with_tables};
@@ -12,6 +12,7 @@ ghost use Rattle.pe_c.specs.Unwinding.{StepsCodes, flat_item, flat_record, strea
 ghost use Rattle.pe_c.specs.Versions.{TellsManifest, TellsFixed, TellsValue};
 ghost use Rattle.pe_c.specs.Walks.{GivesItems, StepsEntries, entries_left};
 ghost use Rattle.pe_c.specs.declared.arm64.Arm64CodeWalk.{Arm64CodeWalk};
+ghost use Rattle.pe_c.specs.declared.certificates.Certificate.{Certificate};
 ghost use Rattle.pe_c.specs.declared.exports.Export.{Export};
 ghost use Rattle.pe_c.specs.declared.exports.Exports.{Exports};
 ghost use Rattle.pe_c.specs.declared.image.Image.{Image};
@@ -19,9 +20,9 @@ ghost use Rattle.pe_c.specs.declared.plan.Plan.{Plan};
 ghost use Rattle.pe_c.specs.declared.ranges.Range.{Range};
 ghost use Rattle.pe_c.specs.declared.unwinding.CodeWalk.{CodeWalk};
 ghost use Rattle.pe_c.specs.declared.unwinding.UnwindRecord.{UnwindRecord};
-ghost use Rattle.pe_core.specs.Bytes.{AreBytes};
+ghost use Rattle.pe_core.specs.Bytes.{AreBytes, holds};
 ghost use Rattle.pe_core.specs.Exports.{ExportDataView, export_at, export_data_at, exports};
-ghost use Rattle.pe_core.specs.Refusals.{Refusal, FunctionCycle, outcome};
+ghost use Rattle.pe_core.specs.Refusals.{Refusal, CertificateTable, FunctionCycle, outcome};
 ghost use Rattle.pe_core.specs.declared.error.Error.{Error};
 ghost use Rattle.pe_core.specs.declared.section_table.SectionTable.{SectionTable};
 ghost use Rattle.pe_records.specs.Certificates.{CertificateView, certificate_at};
@@ -37,7 +38,7 @@ ghost use Rattle.pe_unwind.specs.UnwindRecord.{UnwindInfoView, unwind_tests, unw
 ghost use Rattle.pe_unwind.specs.declared.arm64.codes.Arm64UnwindCodeData.{Arm64UnwindCodeData};
 ghost use Rattle.pe_unwind.specs.declared.unwind_code.UnwindCode.{UnwindCode};
 ghost use Rattle.std.specs.Option.{option_map};
-ghost use Rattle.std.specs.Prelude.{◌≡◌, ℕ, List, Option, Ok, Err, [], ◌∷◌, IfSome, ◌⊎◌, ◌*◌, ◌^◌, ◌<◌, ◌≤◌, length, map, Some, Result};
+ghost use Rattle.std.specs.Prelude.{◌≡◌, ℕ, List, Option, Ok, Err, true, false, [], ◌∷◌, ◌++◌, ◌≢◌, IfSome, ◌⊎◌, ◌*◌, ◌^◌, ◌<◌, ◌≤◌, length, map, Some, Result};
 
 /// The ranges of an unwind record that is given lie in the bytes, and are its codes and its handler's data.
 pub fn ranges_of_records()
@@ -131,6 +132,18 @@ pub fn walks_give_the_pogo_entries()
 pub fn walks_list_the_certificates()
     ensures listing { StepsList }
     ensures body { (b : List ℕ) (p : ℕ) (c : CertificateView) (next : ℕ) → certificate_at b p ≡ Ok (c, next) → IsRange b (certificate_told p c).body c.body }
+{}
+
+/// A walk over certificates gives, one a step and in their order, exactly the certificates that its table lists, and then
+/// nothing; where the table is refused it gives certificates and then this refusal. A range that does not lie in the bytes
+/// gives one fault alone.
+#[tactic(auto, using(crate::proofs::CertificateRuns::certificates_in_turn, crate::proofs::CertificateRuns::refused_in_turn, crate::proofs::CertificateRuns::lies_once))]
+pub fn walks_give_the_certificates()
+    ensures certificates { (b : List ℕ) (walk : Range) (cs : List CertificateView) → holds b walk.place walk.length ≡ true → listed b walk ≡ Ok cs →
+        (told : List Certificate) × GivesItems (StepsCertificates b) walk (map (λ x. Ok x) told) × TellsCertificates b told cs }
+    ensures refused { (b : List ℕ) (walk : Range) (refusal : Refusal) → holds b walk.place walk.length ≡ true → listed b walk ≡ Err refusal →
+        (told : List Certificate) × GivesItems (StepsCertificates b) walk (map (λ x. Ok x) told ++ Err refusal ∷ []) }
+    ensures outside { (b : List ℕ) (walk : Range) → walk.length ≢ 0 → holds b walk.place walk.length ≡ false → GivesItems (StepsCertificates b) walk (Err CertificateTable ∷ []) }
 {}
 
 /// The ranges of a walk over exports are the tables of the export data, and what the walk tells of an entry of the name
