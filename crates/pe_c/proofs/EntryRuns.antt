@@ -1,28 +1,20 @@
 -- A walk over entries of one width gives all of them.
-use Rattle.std.proofs.Common.{◌≡◌, ℕ, zero, suc, ◌+◌, ◌-◌, ◌<◌, ◌≤◌, Bool, true, false, List, [], ◌∷◌, length, drop, Option, Some, None, Result, Ok, Err, refl, sym, ap, subst, ◌∙◌, arith}
-use Rattle.std.specs.Prelude.{◌==◌, nat_le, nat_lt, if◌then◌else◌}
-use Rattle.std.proofs.lemmas.Bool.{cases_Bool}
+use Rattle.std.proofs.Common.{◌≡◌, ℕ, zero, suc, ◌+◌, ◌-◌, ◌<◌, ◌≤◌, Bool, true, false, List, [], ◌∷◌, length, Some, None, Result, Ok, Err, refl, sym, ap, subst, ◌∙◌, arith}
+use Rattle.std.specs.Prelude.{◌==◌, nat_lt, if◌then◌else◌}
 use Rattle.std.proofs.lemmas.Bool.Decides.{nat_tests}
-use Rattle.std.proofs.lemmas.List.{places, same_lists}
 use Rattle.pe_core.proofs.TableEntries.{ReadsBehind, le_behind, entry_items-more, entry_items-none, entry_items-cut}
 use Rattle.pe_core.specs.Bytes.{holds, range}
 use Rattle.pe_core.specs.Refusals.{Refusal, Short}
 use Rattle.pe_core.specs.Rows.{entry_items}
 use Rattle.pe_records.specs.DebugDirectory.{entry_at}
 use Rattle.pe_unwind.specs.ScopeTable.{scope_at}
+use Rattle.pe_c.proofs.LeftBytes.{long, rest_of_range}
 use Rattle.pe_c.specs.Arm64.{flat_scope_at}
 use Rattle.pe_c.specs.Ranges.{no_bytes, behind}
-use Rattle.pe_c.specs.Walks.{GivesItems, IsOver, StepsEntries, entries_left, left_entry, next_of, walk_of}
+use Rattle.pe_c.specs.Walks.{GivesItems, IsOver, StepsEntries, entries_left, left_entry}
 use Rattle.pe_c.specs.declared.ranges.Range.{Range}
 
 -- ---- one step
-
--- what is left behind n bytes of a range
-rest_of_range : (b : List ℕ) (p n k : ℕ) → p + n ≤ length b → k ≤ n → range b (p + k) (n - k) ≡ drop k (range b p n)
-rest_of_range b p n k h i = same_lists _ _ (grind (arith, places)) (λ j d lt. grind (arith, places))
-
-long : (b : List ℕ) (p n : ℕ) → p + n ≤ length b → length (range b p n) ≡ n
-long b p n h = grind (arith, places)
 
 outside : (width : ℕ) (b : List ℕ) (r : Range) → holds b r.place r.length ≡ false → left_entry width b r ≡ Err Short
 outside width b r h = rw h refl

@@ -26,7 +26,7 @@ same_more : (f g : ℕ → Result (List CertificateView) Refusal) (x : Result (C
 same_more f g (Ok c) h = ap (λ (r : Result (List CertificateView) Refusal). r >>= λ cs. Ok (c.0 ∷ cs)) (h c.0 c.1 refl)
 same_more f g (Err r) h = refl
 
-none_from : (b : List ℕ) (end n p : ℕ) → end ≤ p → certificates_from b end n p ≡ Ok []
+pub none_from : (b : List ℕ) (end n p : ℕ) → end ≤ p → certificates_from b end n p ≡ Ok []
 unfolding certificates_from
 none_from b end zero p h = refl
 none_from b end (suc n) p h = rw (no p end h) refl
@@ -47,7 +47,7 @@ enough b end (suc n) (suc m) p true e h k =
     (λ c next given. let further : p < next = next_above b p c next given in enough b end n m next (nat_lt next end) refl (omega arith) (omega arith))
     ∙ sym (some_from b end m p before)
 
-at_range : (b : List ℕ) (p n : ℕ) → p + n ≤ length b → certificates_at b p n ≡ certificates_from b (p + n) n p
+pub at_range : (b : List ℕ) (p n : ℕ) → p + n ≤ length b → certificates_at b p n ≡ certificates_from b (p + n) n p
 unfolding certificates_at
 at_range b p n h = rw (inside (p + n) (length b) h) refl
 

@@ -1,7 +1,8 @@
 -- The functions of ARM64 images, and how their frames are unwound.
 use Rattle.std.specs.Prelude.{◌≡◌, ℕ, ◌+◌, ◌*◌, ◌%◌, ◌<◌, ◌==◌, nat_le, List, [], ◌∷◌, length, Option, Some, None, Result, Ok, Err, if◌then◌else◌}
 use Rattle.pe_core.specs.Bytes.{le}
-use Rattle.pe_core.specs.Refusals.{Refusal, Arm64Stream, Arm64Cut, outcome, ◌>>=◌}
+use Rattle.pe_core.specs.Refusals.{Refusal, Arm64Stream, Arm64Cut, kind_of, outcome, ◌>>=◌}
+use Rattle.pe_core.specs.declared.error.Error.{Error}
 use Rattle.pe_core.specs.declared.section_table.SectionTable.{SectionTable}
 use Rattle.pe_unwind.specs.Arm64Encoding.{bit, encoding, BeginsWithArm64Code, BeginsWithNoArm64Code}
 use Rattle.pe_unwind.specs.Arm64Functions.{is_packed, arm64_function_of}
@@ -14,6 +15,7 @@ use Rattle.pe_unwind.specs.declared.arm64.codes.Arm64CustomStackCase.{Arm64Custo
 use Rattle.pe_unwind.specs.declared.arm64.codes.Arm64CustomStackCase.TheVariants.{TrapFrame, MachineFrame, Context, EcContext, ClearUnwoundToCall}
 use Rattle.pe_unwind.specs.declared.arm64.codes.Arm64UnwindCode.{Arm64UnwindCode}
 use Rattle.pe_unwind.specs.declared.arm64.codes.Arm64UnwindCode.TheVariants.{AllocSmall, SaveR19R20Preindexed, SaveFpLr, SaveFpLrPreindexed, AllocMedium, SaveRegPair, SaveRegPairPreindexed, SaveReg, SaveRegPreindexed, SaveLrPair, SaveFRegPair, SaveFRegPairPreindexed, SaveFReg, SaveFRegPreindexed, AllocZ, AllocLarge, SetFp, AddFp, Nop, End, EndC, SaveNext, SaveAnyReg, SaveZReg, SavePReg, CustomStack, PacSignLr, Reserved}
+use Rattle.pe_unwind.specs.declared.arm64.codes.Arm64UnwindCodeData.{Arm64UnwindCodeData}
 use Rattle.pe_unwind.specs.declared.arm64.function.Arm64RuntimeFunction.{Arm64RuntimeFunction}
 use Rattle.pe_c.specs.Answers.{AnswersIf}
 use Rattle.pe_c.specs.Modes.{options_of}
@@ -183,6 +185,15 @@ StepsOverArm64 bytes old (Err refusal) new = (refusal ≡ Arm64Cut) × (0 < leng
 abbrev pub WalksInArm64 : Result (List ℕ) Refusal → Arm64CodeWalk → Result (Option Arm64Code) Refusal → Arm64CodeWalk → Type 0
 WalksInArm64 (Ok bytes) old answer new = StepsOverArm64 bytes old answer new
 WalksInArm64 (Err refusal) old answer new = (answer ≡ Err refusal) × (new ≡ over_arm64)
+
+-- a step of a walk
+abbrev pub StepsArm64Codes : List ℕ → Arm64CodeWalk → Result (Option Arm64Code) Refusal → Arm64CodeWalk → Type 0
+StepsArm64Codes b old answer new = WalksInArm64 (left_of_stream b old) old answer new
+
+-- an item of a stream of codes, as it is told
+abbrev pub flat_arm64_item : Result Arm64UnwindCodeData Error → Result Arm64Code Refusal
+flat_arm64_item (Ok item) = Ok (flat_arm64 item.offset item.code)
+flat_arm64_item (Err e) = Err (kind_of e)
 
 abbrev pub AnswersArm64Code : List ℕ → Arm64CodeWalk → Arm64CodeWalk → ℕ → Arm64Code → Arm64Code → Type 0
 AnswersArm64Code b old_walk new_walk number old new =

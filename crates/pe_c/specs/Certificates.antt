@@ -1,11 +1,11 @@
 -- A walk over the certificates of a table.
-use Rattle.std.specs.Prelude.{◌≡◌, ◌≢◌, ℕ, ◌+◌, ◌-◌, ◌==◌, List, ◌∷◌, length, nat_lt, true, Option, Some, None, Result, Ok, Err, if◌then◌else◌}
+use Rattle.std.specs.Prelude.{◌≡◌, ◌≢◌, ℕ, ◌+◌, ◌-◌, ◌==◌, List, [], ◌∷◌, length, nat_lt, true, Option, Some, None, Result, Ok, Err, if◌then◌else◌}
 use Rattle.pe_core.specs.Bytes.{holds}
 use Rattle.pe_core.specs.Refusals.{Refusal, CertificateTable, ◌>>=◌}
 use Rattle.pe_records.specs.Certificates.{CertificateView, certificate_at, certificates_at, revision_number, type_number}
 use Rattle.pe_c.specs.declared.certificates.Certificate.{Certificate}
 use Rattle.pe_c.specs.declared.ranges.Range.{Range}
-use Rattle.pe_c.specs.Ranges.{no_bytes}
+use Rattle.pe_c.specs.Ranges.{IsRange, no_bytes}
 
 -- the certificate at p: its body stands behind the eight bytes of its header
 abbrev pub certificate_told : ℕ → CertificateView → Certificate
@@ -39,3 +39,14 @@ abbrev pub StepsList : Type 0
 StepsList =
     (b : List ℕ) (w : Range) → w.length ≢ 0 → holds b w.place w.length ≡ true →
     listed b w ≡ (certificate_at b w.place >>= λ c. listed b (walk_from w c.1) >>= λ cs. Ok (c.0 ∷ cs))
+
+-- a step of a walk
+abbrev pub StepsCertificates : List ℕ → Range → Result (Option Certificate) Refusal → Range → Type 0
+StepsCertificates b old answer new = (answer ≡ (step b old).0) × (new ≡ (step b old).1)
+
+-- what is told of certificates, one after the other, is these, and the range of each body is the body
+abbrev pub TellsCertificates : List ℕ → List Certificate → List CertificateView → Type 0
+TellsCertificates b [] [] = Unit {0}
+TellsCertificates b [] (c ∷ cs) = ⊥
+TellsCertificates b (x ∷ xs) [] = ⊥
+TellsCertificates b (x ∷ xs) (c ∷ cs) = ((p : ℕ) × (x ≡ certificate_told p c)) × IsRange b x.body c.body × TellsCertificates b xs cs

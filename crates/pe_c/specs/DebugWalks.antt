@@ -1,8 +1,9 @@
 -- Walks over the entries of a POGO record.
-use Rattle.std.specs.Prelude.{◌≡◌, ℕ, ◌+◌, ◌-◌, List, length, Option, Some, None, Result, Ok, Err}
+use Rattle.std.specs.Prelude.{◌≡◌, ℕ, ◌+◌, ◌-◌, List, [], ◌∷◌, length, Option, Some, None, Result, Ok, Err}
 use Rattle.pe_core.specs.Refusals.{Refusal, kind_of}
 use Rattle.pe_core.specs.declared.error.Error.{Error}
-use Rattle.pe_records.specs.Pogo.{GivesPogoEntry}
+use Rattle.pe_core.specs.SectionMap.{rounded_up}
+use Rattle.pe_records.specs.Pogo.{Entry, GivesPogoEntry}
 use Rattle.pe_records.specs.declared.debug.pogo.POGOInfoEntry.{POGOInfoEntry}
 use Rattle.pe_c.specs.declared.debug_walks.PogoEntry.{PogoEntry}
 use Rattle.pe_c.specs.declared.ranges.Range.{Range}
@@ -41,6 +42,18 @@ abbrev pub told : Range → Option (Result POGOInfoEntry Error) → Result (Opti
 told w None = Ok None
 told w (Some (Ok e)) = Ok (Some (pogo_entry w e))
 told w (Some (Err e)) = Err (kind_of e)
+
+-- a step of a walk, by what it tells of an entry
+abbrev pub StepsPogoEntries : List ℕ → Range → Result (Option PogoEntry) Refusal → Range → Type 0
+StepsPogoEntries b w answer new = (given : Option (Result POGOInfoEntry Error)) × StepsPogo b w given new × (answer ≡ told w given)
+
+-- the entries of a stream that a walk over it tells, one behind the other: each takes its two numbers and its name, filled up to
+-- a multiple of four
+abbrev pub entries_told : Range → List (Result Entry Refusal) → List (Result PogoEntry Refusal)
+entries_told w [] = []
+entries_told w (Ok e ∷ items) =
+    Ok (record { name = record { place = w.place + 8; length = length e.name }; rva = e.rva; size = e.size }) ∷ entries_told (behind w (rounded_up (8 + length e.name) 4)) items
+entries_told w (Err refusal ∷ items) = Err refusal ∷ entries_told w items
 
 -- what a call answers for a step
 abbrev pub AnswersPogoEntry : List ℕ → Range → Range → ℕ → PogoEntry → PogoEntry → Type 0

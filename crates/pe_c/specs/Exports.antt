@@ -1,5 +1,6 @@
 -- Exports: where their tables stand, and a walk over those that have a name.
-use Rattle.std.specs.Prelude.{◌≡◌, ℕ, ◌+◌, ◌*◌, ◌/◌, ◌<◌, ◌≤◌, ◌==◌, Bool, true, false, List, length, nat_le, Option, Some, None, Result, Ok, Err, if◌then◌else◌}
+use Rattle.std.specs.Prelude.{◌≡◌, ℕ, ◌+◌, ◌*◌, ◌/◌, ◌-◌, ◌<◌, ◌≤◌, ◌==◌, Bool, true, false, List, length, nat_le, Option, Some, None, Result, Ok, Err, if◌then◌else◌}
+use Rattle.std.specs.List.{filter_map, range_with_len}
 use Rattle.std.specs.Option.{option_map, option_and_then}
 use Rattle.pe_core.specs.Bytes.{le}
 use Rattle.pe_core.specs.Exports.{ExportDataView, ExportView, export_data_at, named_export}
@@ -87,6 +88,10 @@ export_told p e = record { name = record { place = p; length = length e.name }; 
 -- the export of entry i of the name table, if its name has a place and is text, and it has an address
 abbrev pub told_entry : (ℕ → Option ℕ) → List ℕ → ExportDataView → ℕ → Option Export
 told_entry place b d i = option_and_then (λ p. option_map (export_told p) (option_and_then (named_export place d i) (text_at b p))) (place (le d.names (4 * i) 4))
+
+-- the exports of the entries from one on up to another that have one, in their order
+abbrev pub told_from : (ℕ → Option Export) → ℕ → ℕ → List Export
+told_from told from end = filter_map told (range_with_len from (end - from))
 
 -- none of the entries from one on up to another has an export
 abbrev pub HaveNone : (ℕ → Option Export) → ℕ → ℕ → Type 0

@@ -71,3 +71,10 @@ abbrev pub ImportsInTurn : Type 0
 ImportsInTurn =
     (place : ℕ → Option ℕ) (w : ℕ) (b : List ℕ) (r : ImportRecordView) (rs : List ImportRecordView) →
     imports place w b (r ∷ rs) ≡ (imports place w b (r ∷ []) >>= λ first. imports place w b rs >>= λ more. Ok (first ++ more))
+
+-- what is told of exports, one after the other, is these
+abbrev pub TellsExports : List ℕ → List Export → List ExportView → Type 0
+TellsExports b [] [] = Unit {0}
+TellsExports b [] (e ∷ es) = ⊥
+TellsExports b (x ∷ xs) [] = ⊥
+TellsExports b (x ∷ xs) (e ∷ es) = TellsExport b (Some x) (Some e) × TellsExports b xs es

@@ -182,6 +182,15 @@ flat_answer None = Ok None
 flat_answer (Some (Ok code)) = Ok (Some (flat code))
 flat_answer (Some (Err e)) = Err (kind_of e)
 
+-- a step of a walk, by what it tells of a code
+abbrev pub StepsCodes : List ℕ → CodeWalk → Result (Option Code) Refusal → CodeWalk → Type 0
+StepsCodes b old answer new = (given : Option (Result UnwindCode Error)) × WalksIn (bytes_at b old.left) old given new × (answer ≡ flat_answer given)
+
+-- an item of a stream of codes, as it is told
+abbrev pub flat_item : Result UnwindCode Error → Result Code Refusal
+flat_item (Ok code) = Ok (flat code)
+flat_item (Err e) = Err (kind_of e)
+
 abbrev pub AnswersCode : List ℕ → CodeWalk → CodeWalk → ℕ → Code → Code → Type 0
 AnswersCode b old_walk new_walk number old new =
     (answer : Option (Result UnwindCode Error)) × WalksIn (bytes_at b old_walk.left) old_walk answer new_walk × AnswersIf number old new (flat_answer answer)

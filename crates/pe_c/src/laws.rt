@@ -1,37 +1,49 @@
 //! Laws over the definitions. Each is the contract of a function that does nothing.
 
-ghost use Rattle.pe_c.specs.Arm64.{flat_info, flat_scope_at};
-ghost use Rattle.pe_c.specs.Certificates.{StepsList, certificate_told};
-ghost use Rattle.pe_c.specs.Debug.{key_of, pdb20_of, repro_of, pogo_of};
-ghost use Rattle.pe_c.specs.Exports.{told_entry, walk_over, with_tables};
+ghost use Rattle.pe_c.specs.Arm64.{StepsArm64Codes, arm64_walk_at, flat_arm64_item, flat_info, flat_scope_at, left_of_stream};
+ghost use Rattle.pe_c.specs.Certificates.{StepsCertificates, StepsList, TellsCertificates, certificate_told, listed};
+ghost use Rattle.pe_c.specs.Debug.{key_of, pdb20_of, pogo_of, repro_of};
+ghost use Rattle.pe_c.specs.DebugWalks.{StepsPogoEntries, entries_told};
+ghost use Rattle.pe_c.specs.Exports.{StepsExports, count_of, tables_or_short, told_entry, told_from, walk_over, with_tables};
 ghost use Rattle.pe_c.specs.Images.{place_in};
 ghost use Rattle.pe_c.specs.Imports.{libraries_at, library_step};
-ghost use Rattle.pe_c.specs.Parts.{HasTables, ImportsInTurn, TellsExport, TellsLibrary, TellsPart};
-ghost use Rattle.pe_c.specs.Plans.{plan_from, StepsPlan, GivesInTurn, IsCycle};
-ghost use Rattle.pe_c.specs.Ranges.{IsRange};
+ghost use Rattle.pe_c.specs.Parts.{HasTables, ImportsInTurn, TellsExport, TellsExports, TellsLibrary, TellsPart};
+ghost use Rattle.pe_c.specs.Plans.{GivesInTurn, IsCycle, StepsPlan, plan_from};
+ghost use Rattle.pe_c.specs.Ranges.{IsRange, bytes_at};
 ghost use Rattle.pe_c.specs.Runs.{TellsAll};
-ghost use Rattle.pe_c.specs.Unwinding.{flat_record};
-ghost use Rattle.pe_c.specs.Versions.{TellsManifest, TellsFixed, TellsValue};
+ghost use Rattle.pe_c.specs.Unwinding.{StepsCodes, flat_item, flat_record, stream_at};
+ghost use Rattle.pe_c.specs.Versions.{TellsFixed, TellsManifest, TellsValue};
 ghost use Rattle.pe_c.specs.Walks.{GivesItems, StepsEntries, entries_left};
+ghost use Rattle.pe_c.specs.declared.arm64.Arm64CodeWalk.{Arm64CodeWalk};
+ghost use Rattle.pe_c.specs.declared.certificates.Certificate.{Certificate};
+ghost use Rattle.pe_c.specs.declared.exports.Export.{Export};
+ghost use Rattle.pe_c.specs.declared.exports.Exports.{Exports};
 ghost use Rattle.pe_c.specs.declared.image.Image.{Image};
 ghost use Rattle.pe_c.specs.declared.imports.Libraries.{Libraries};
 ghost use Rattle.pe_c.specs.declared.plan.Plan.{Plan};
 ghost use Rattle.pe_c.specs.declared.ranges.Range.{Range};
+ghost use Rattle.pe_c.specs.declared.unwinding.CodeWalk.{CodeWalk};
 ghost use Rattle.pe_c.specs.declared.unwinding.UnwindRecord.{UnwindRecord};
-ghost use Rattle.pe_core.specs.Bytes.{AreBytes};
-ghost use Rattle.pe_core.specs.Exports.{ExportDataView, export_at, export_data_at};
+ghost use Rattle.pe_core.specs.Bytes.{AreBytes, holds};
+ghost use Rattle.pe_core.specs.Exports.{ExportDataView, export_at, export_data_at, exports};
 ghost use Rattle.pe_core.specs.Imports.{entry_size, import_data_at};
-ghost use Rattle.pe_core.specs.Refusals.{Refusal, FunctionCycle, outcome};
+ghost use Rattle.pe_core.specs.Refusals.{CertificateTable, FunctionCycle, Refusal, outcome};
+ghost use Rattle.pe_core.specs.declared.error.Error.{Error};
 ghost use Rattle.pe_core.specs.declared.section_table.SectionTable.{SectionTable};
 ghost use Rattle.pe_records.specs.Certificates.{CertificateView, certificate_at};
 ghost use Rattle.pe_records.specs.DebugDirectory.{entry_at};
 ghost use Rattle.pe_records.specs.Parts.{hash_of};
+ghost use Rattle.pe_records.specs.Pogo.{Entries, Entry};
 ghost use Rattle.pe_unwind.specs.Arm64Record.{Arm64InfoView, info_at};
+ghost use Rattle.pe_unwind.specs.Arm64Tiling.{Tiles};
+ghost use Rattle.pe_unwind.specs.CodeStream.{AreItems};
 ghost use Rattle.pe_unwind.specs.Places.{data_of};
 ghost use Rattle.pe_unwind.specs.ScopeTable.{scope_at};
-ghost use Rattle.pe_unwind.specs.UnwindRecord.{UnwindInfoView, unwind_tests, unwind_record};
+ghost use Rattle.pe_unwind.specs.UnwindRecord.{UnwindInfoView, unwind_record, unwind_tests};
+ghost use Rattle.pe_unwind.specs.declared.arm64.codes.Arm64UnwindCodeData.{Arm64UnwindCodeData};
+ghost use Rattle.pe_unwind.specs.declared.unwind_code.UnwindCode.{UnwindCode};
 ghost use Rattle.std.specs.Option.{option_map};
-ghost use Rattle.std.specs.Prelude.{◌≡◌, ℕ, List, Option, Ok, Err, IfSome, ◌⊎◌, ◌*◌, ◌==◌, ◌^◌, ◌<◌, ◌≤◌, length, Some, Result};
+ghost use Rattle.std.specs.Prelude.{◌≡◌, ℕ, List, Option, Ok, Err, IfSome, ◌⊎◌, ◌*◌, ◌==◌, ◌^◌, ◌<◌, ◌≤◌, length, Some, Result, true, false, [], ◌∷◌, ◌++◌, ◌≢◌, map};
 
 /// The ranges of an unwind record that is given lie in the bytes, and are its codes and its handler's data.
 pub fn ranges_of_records()
@@ -88,11 +100,55 @@ pub fn walks_give_their_entries()
     ensures debug_entries { (b : List ℕ) (walk : Range) → GivesItems (StepsEntries (entry_at 0) 28 b) walk (entries_left (entry_at 0) 28 b walk) }
 {}
 
+/// A walk over unwind codes gives, one a step, the items of the stream of its bytes, and then nothing: the codes that follow
+/// one another, and one fault where no code begins what is left. So the walk of an unwind record gives the codes of the
+/// record. A range that does not lie in the bytes gives one fault alone.
+#[tactic(auto, using(crate::proofs::CodeRuns::codes_in_turn, crate::proofs::CodeRuns::codes_of_record_in_turn, crate::proofs::CodeRuns::lies_once))]
+pub fn walks_give_the_codes()
+    ensures items { (b : List ℕ) (walk : CodeWalk) (bytes : List ℕ) (items : List (Result UnwindCode Error)) → bytes_at b walk.left ≡ Ok bytes → AreItems (stream_at bytes walk) items →
+        GivesItems (StepsCodes b) walk (map flat_item items) }
+    ensures of_records { (b : List ℕ) (p : ℕ) (i : UnwindInfoView) (items : List (Result UnwindCode Error)) → outcome (unwind_tests b p) (unwind_record b p) ≡ Ok i →
+        AreItems (stream_at i.codes (flat_record b p i).codes) items → GivesItems (StepsCodes b) (flat_record b p i).codes (map flat_item items) }
+    ensures outside { (b : List ℕ) (walk : CodeWalk) (refusal : Refusal) → bytes_at b walk.left ≡ Err refusal → GivesItems (StepsCodes b) walk (Err refusal ∷ []) }
+{}
+
+/// A walk over ARM64 unwind codes gives, one a step, the items that tile its stream from its start on, and then nothing. So
+/// the walk over the codes of an unwind record gives those of the record. Bytes that are no stream's give one fault alone.
+#[tactic(auto, using(crate::proofs::Arm64CodeRuns::codes_in_turn, crate::proofs::Arm64CodeRuns::codes_of_info_in_turn))]
+pub fn walks_give_the_arm64_codes()
+    ensures items { (b : List ℕ) (codes : Range) (start : ℕ) (stream : List ℕ) (walk : Arm64CodeWalk) (items : List (Result Arm64UnwindCodeData Error)) →
+        bytes_at b codes ≡ Ok stream → arm64_walk_at b codes start ≡ Ok walk → Tiles stream start items → GivesItems (StepsArm64Codes b) walk (map flat_arm64_item items) }
+    ensures of_records { (b : List ℕ) (p : ℕ) (i : Arm64InfoView) (start : ℕ) (walk : Arm64CodeWalk) (items : List (Result Arm64UnwindCodeData Error)) → info_at b p ≡ Ok i →
+        arm64_walk_at b (flat_info b p i).codes start ≡ Ok walk → Tiles i.codes start items → GivesItems (StepsArm64Codes b) walk (map flat_arm64_item items) }
+    ensures outside { (b : List ℕ) (walk : Arm64CodeWalk) (refusal : Refusal) → left_of_stream b walk ≡ Err refusal → GivesItems (StepsArm64Codes b) walk (Err refusal ∷ []) }
+{}
+
+/// A walk over the entries of a POGO record gives, one a step, the entries of the stream of its bytes, and then nothing; the
+/// range of each name stands behind the entry's two numbers. A range that does not lie in the bytes gives one fault alone.
+#[tactic(auto, using(crate::proofs::PogoRuns::entries_in_turn, crate::proofs::PogoRuns::lies_once))]
+pub fn walks_give_the_pogo_entries()
+    ensures items { (b : List ℕ) (walk : Range) (bytes : List ℕ) (items : List (Result Entry Refusal)) → bytes_at b walk ≡ Ok bytes → Entries bytes items →
+        GivesItems (StepsPogoEntries b) walk (entries_told walk items) }
+    ensures outside { (b : List ℕ) (walk : Range) (refusal : Refusal) → bytes_at b walk ≡ Err refusal → GivesItems (StepsPogoEntries b) walk (Err refusal ∷ []) }
+{}
+
 /// A walk over certificates gives those that its table lists, and the range of each body is the body.
 #[tactic(auto, using(crate::proofs::Listings::steps_list, crate::proofs::Parts::body_is_told))]
 pub fn walks_list_the_certificates()
     ensures listing { StepsList }
     ensures body { (b : List ℕ) (p : ℕ) (c : CertificateView) (next : ℕ) → certificate_at b p ≡ Ok (c, next) → IsRange b (certificate_told p c).body c.body }
+{}
+
+/// A walk over certificates gives, one a step and in their order, exactly the certificates that its table lists, and then
+/// nothing; where the table is refused it gives certificates and then this refusal. A range that does not lie in the bytes
+/// gives one fault alone.
+#[tactic(auto, using(crate::proofs::CertificateRuns::certificates_in_turn, crate::proofs::CertificateRuns::refused_in_turn, crate::proofs::CertificateRuns::lies_once))]
+pub fn walks_give_the_certificates()
+    ensures certificates { (b : List ℕ) (walk : Range) (cs : List CertificateView) → holds b walk.place walk.length ≡ true → listed b walk ≡ Ok cs →
+        (told : List Certificate) × GivesItems (StepsCertificates b) walk (map (λ x. Ok x) told) × TellsCertificates b told cs }
+    ensures refused { (b : List ℕ) (walk : Range) (refusal : Refusal) → holds b walk.place walk.length ≡ true → listed b walk ≡ Err refusal →
+        (told : List Certificate) × GivesItems (StepsCertificates b) walk (map (λ x. Ok x) told ++ Err refusal ∷ []) }
+    ensures outside { (b : List ℕ) (walk : Range) → walk.length ≢ 0 → holds b walk.place walk.length ≡ false → GivesItems (StepsCertificates b) walk (Err CertificateTable ∷ []) }
 {}
 
 /// The ranges of a walk over exports are the tables of the export data, and what the walk tells of an entry of the name
@@ -114,6 +170,16 @@ pub fn walks_tell_the_imports()
         TellsAll (library_step (place_in image sections) (entry_size (image.width == 64)) b) (TellsLibrary (place_in image sections) (entry_size (image.width == 64)) b) walk
         (import_data_at (place_in image sections) (entry_size (image.width == 64)) b image.imports.virtual_address) }
     ensures in_turn { ImportsInTurn }
+{}
+
+/// A walk over exports gives, one a step and in their order, the exports that the entries of its name table have from its next
+/// index on, and then nothing. So the walk over an export directory gives exactly the exports that the directory lists.
+#[tactic(auto, using(crate::proofs::ExportRuns::exports_in_turn, crate::proofs::ExportRuns::directory_in_turn))]
+pub fn walks_give_the_exports()
+    ensures entries { (place : ℕ → Option ℕ) (b : List ℕ) (walk : Exports) (d : ExportDataView) → tables_or_short b walk ≡ Ok d →
+        GivesItems (StepsExports place b) walk (map (λ x. Ok x) (told_from (told_entry place b d) walk.next (count_of walk))) }
+    ensures directory { (place : ℕ → Option ℕ) (b : List ℕ) (rva : ℕ) (d : ExportDataView) → export_data_at place b rva ≡ Ok d →
+        (told : List Export) × GivesItems (StepsExports place b) (walk_over place d) (map (λ x. Ok x) told) × TellsExports b told (exports place b d) }
 {}
 
 /// Where the resources of an image are not refused, what is told of their manifest and version information is what they

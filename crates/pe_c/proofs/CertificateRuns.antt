@@ -1,0 +1,120 @@
+-- A walk over certificates gives all that its table lists, and then what refuses the table.
+use Rattle.std.proofs.Common.{◌≡◌, ◌≢◌, ℕ, zero, suc, ◌+◌, ◌-◌, ◌<◌, ◌≤◌, ◌==◌, Bool, true, false, List, [], ◌∷◌, ◌++◌, length, map, Option, Some, None, Result, Ok, Err, refl, sym, ap, subst, ◌∙◌, arith}
+use Rattle.std.specs.Prelude.{nat_lt, if◌then◌else◌}
+use Rattle.std.proofs.lemmas.Bool.Decides.{nat_tests}
+use Rattle.pe_core.specs.Bytes.{holds}
+use Rattle.pe_core.specs.Refusals.{Refusal, CertificateTable, ◌>>=◌}
+use Rattle.pe_records.proofs.CertificateListings.{next_above}
+use Rattle.pe_records.specs.Certificates.{CertificateView, certificate_at}
+use Rattle.pe_c.proofs.Listings.{at_range, none_from, steps_list}
+use Rattle.pe_c.proofs.Parts.{body_is_told}
+use Rattle.pe_c.specs.Certificates.{StepsCertificates, TellsCertificates, certificate_told, listed, step, step_by, walk_from}
+use Rattle.pe_c.specs.Ranges.{no_bytes}
+use Rattle.pe_c.specs.Walks.{GivesItems, IsOver}
+use Rattle.pe_c.specs.declared.certificates.Certificate.{Certificate}
+use Rattle.pe_c.specs.declared.ranges.Range.{Range}
+
+-- ---- one step
+
+abbrev Step : Type 0
+Step = Result (Option Certificate) Refusal × Range
+
+step_at_end : (b : List ℕ) (w : Range) → (w.length == 0) ≡ true → step b w ≡ (Ok None, w)
+unfolding step
+step_at_end b w e = rw e refl
+
+step_outside : (b : List ℕ) (w : Range) → (w.length == 0) ≡ false → holds b w.place w.length ≡ false → step b w ≡ (Err CertificateTable, no_bytes)
+unfolding step
+step_outside b w e h = rw e (rw h refl)
+
+step_inside : (b : List ℕ) (w : Range) → (w.length == 0) ≡ false → holds b w.place w.length ≡ true → step b w ≡ step_by w (certificate_at b w.place)
+unfolding step
+step_inside b w e h = rw e (rw h refl)
+
+is_over : (b : List ℕ) (w : Range) → (w.length == 0) ≡ true → IsOver (StepsCertificates b) w
+is_over b w e answer v s = (s.0 ∙ ap (λ (x : Step). x.0) (step_at_end b w e), s.1 ∙ ap (λ (x : Step). x.1) (step_at_end b w e))
+
+at_end : (b : List ℕ) (w : Range) → (w.length == 0) ≡ true → GivesItems (StepsCertificates b) w []
+at_end b w e = λ answer v s. let over = is_over b w e answer v s in (over.0, subst (λ (u : Range). IsOver (StepsCertificates b) u) (sym over.1) (is_over b w e))
+
+-- a step that is refused, behind which the walk is over
+fault : (b : List ℕ) (w : Range) (r : Refusal) → step b w ≡ (Err r, no_bytes) → GivesItems (StepsCertificates b) w (Err r ∷ [])
+fault b w r e = (
+  refl,
+  λ answer v s. (
+    s.0 ∙ ap (λ (x : Step). x.0) e,
+    subst (λ (u : Range). IsOver (StepsCertificates b) u) (sym (s.1 ∙ ap (λ (x : Step). x.1) e)) (is_over b no_bytes refl),
+  ),
+)
+
+-- a step that gives a certificate
+gives_more : (b : List ℕ) (w : Range) (c : CertificateView) (next : ℕ) (items : List (Result Certificate Refusal)) → step b w ≡ (Ok (Some (certificate_told w.place c)), walk_from w next) →
+    GivesItems (StepsCertificates b) (walk_from w next) items → GivesItems (StepsCertificates b) w (Ok (certificate_told w.place c) ∷ items)
+gives_more b w c next items e more = λ answer v s. (
+  s.0 ∙ ap (λ (x : Step). x.0) e,
+  subst (λ (u : Range). GivesItems (StepsCertificates b) u items) (sym (s.1 ∙ ap (λ (x : Step). x.1) e)) more,
+)
+
+pub lies_once : (b : List ℕ) (w : Range) → w.length ≢ 0 → holds b w.place w.length ≡ false → GivesItems (StepsCertificates b) w (Err CertificateTable ∷ [])
+lies_once b w some h = fault b w CertificateTable (step_outside b w (grind (arith, nat_tests, some)) h)
+
+-- ---- all steps
+
+-- what a walk gives whose table is listed so
+abbrev Gives : List ℕ → Range → Result (List CertificateView) Refusal → Type 0
+Gives b w (Ok cs) = (told : List Certificate) × GivesItems (StepsCertificates b) w (map (λ x. Ok x) told) × TellsCertificates b told cs
+Gives b w (Err r) = (told : List Certificate) × GivesItems (StepsCertificates b) w (map (λ x. Ok x) told ++ Err r ∷ [])
+
+by_rest : (b : List ℕ) (w : Range) (c : CertificateView) (next : ℕ) (rest : Result (List CertificateView) Refusal) → certificate_at b w.place ≡ Ok (c, next) →
+    step b w ≡ (Ok (Some (certificate_told w.place c)), walk_from w next) → Gives b (walk_from w next) rest → Gives b w (rest >>= λ cs. Ok (c ∷ cs))
+by_rest b w c next (Ok cs) given e more = (
+  certificate_told w.place c ∷ more.0,
+  gives_more b w c next (map (λ x. Ok x) more.0) e more.1,
+  ((w.place, refl), body_is_told b w.place c next given, more.2),
+)
+by_rest b w c next (Err r) given e more = (certificate_told w.place c ∷ more.0, gives_more b w c next (map (λ x. Ok x) more.0 ++ Err r ∷ []) e more.1)
+
+by_first : (b : List ℕ) (w : Range) (first : Result (CertificateView × ℕ) Refusal) → certificate_at b w.place ≡ first → step b w ≡ step_by w first →
+    ((c : CertificateView) (next : ℕ) → certificate_at b w.place ≡ Ok (c, next) → Gives b (walk_from w next) (listed b (walk_from w next))) →
+    Gives b w (first >>= λ c. listed b (walk_from w c.1) >>= λ cs. Ok (c.0 ∷ cs))
+by_first b w (Ok c) given e more = by_rest b w c.0 c.1 (listed b (walk_from w c.1)) given e (more c.0 c.1 given)
+by_first b w (Err r) given e more = ([], fault b w r e)
+
+-- the walk behind a certificate is shorter, and lies in the bytes
+further : (b : List ℕ) (w : Range) (next n : ℕ) (before : Bool) → nat_lt next (w.place + w.length) ≡ before → w.place < next → w.length ≤ suc n → w.place + w.length ≤ length b →
+    ((v : Range) → v.length ≤ n → v.place + v.length ≤ length b → Gives b v (listed b v)) →
+    Gives b (if before then record { place = next; length = w.place + w.length - next } else no_bytes) (listed b (if before then record { place = next; length = w.place + w.length - next } else no_bytes))
+further b w next n true e above le h more =
+    let less : next < w.place + w.length = grind (arith, nat_tests) in
+    more (record { place = next; length = w.place + w.length - next }) (omega arith) (omega arith)
+further b w next n false e above le h more = more no_bytes (omega arith) (omega arith)
+
+of_none : (b : List ℕ) (w : Range) → w.length ≡ 0 → w.place + w.length ≤ length b → Gives b w (listed b w)
+of_none b w none h =
+    let nothing : listed b w ≡ Ok [] = at_range b w.place w.length h ∙ none_from b (w.place + w.length) w.length w.place (omega (arith, none)) in
+    subst (λ (r : Result (List CertificateView) Refusal). Gives b w r) (sym nothing) ([], at_end b w (grind (arith, nat_tests, none)), tt)
+
+of_some : (b : List ℕ) (w : Range) (n : ℕ) → (w.length == 0) ≡ false → w.length ≢ 0 → w.length ≤ suc n → w.place + w.length ≤ length b →
+    ((v : Range) → v.length ≤ n → v.place + v.length ≤ length b → Gives b v (listed b v)) → Gives b w (listed b w)
+of_some b w n e some le h more =
+    let there : holds b w.place w.length ≡ true = grind (arith, nat_tests) in
+    subst (λ (r : Result (List CertificateView) Refusal). Gives b w r) (sym (steps_list b w some there))
+    (by_first b w (certificate_at b w.place) refl (step_inside b w e there)
+    (λ c next given. further b w next n (nat_lt next (w.place + w.length)) refl (next_above b w.place c next given) le h more))
+
+by_length : (b : List ℕ) (w : Range) (n k : ℕ) → w.length ≡ k → w.length ≤ suc n → w.place + w.length ≤ length b →
+    ((v : Range) → v.length ≤ n → v.place + v.length ≤ length b → Gives b v (listed b v)) → Gives b w (listed b w)
+by_length b w n zero e le h more = of_none b w e h
+by_length b w n (suc k) e le h more = of_some b w n (grind (arith, nat_tests, e)) (λ none. absurd (omega (arith, e, none))) le h more
+
+all : (b : List ℕ) (n : ℕ) (w : Range) → w.length ≤ n → w.place + w.length ≤ length b → Gives b w (listed b w)
+all b zero w le h = of_none b w (omega (arith, le)) h
+all b (suc n) w le h = by_length b w n w.length refl le h (λ v shorter inside. all b n v shorter inside)
+
+pub certificates_in_turn : (b : List ℕ) (w : Range) (cs : List CertificateView) → holds b w.place w.length ≡ true → listed b w ≡ Ok cs →
+    (told : List Certificate) × GivesItems (StepsCertificates b) w (map (λ x. Ok x) told) × TellsCertificates b told cs
+certificates_in_turn b w cs h e = subst (λ (r : Result (List CertificateView) Refusal). Gives b w r) e (all b w.length w (omega arith) (grind (arith, nat_tests)))
+
+pub refused_in_turn : (b : List ℕ) (w : Range) (r : Refusal) → holds b w.place w.length ≡ true → listed b w ≡ Err r →
+    (told : List Certificate) × GivesItems (StepsCertificates b) w (map (λ x. Ok x) told ++ Err r ∷ [])
+refused_in_turn b w r h e = subst (λ (x : Result (List CertificateView) Refusal). Gives b w x) e (all b w.length w (omega arith) (grind (arith, nat_tests)))
