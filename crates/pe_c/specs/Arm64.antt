@@ -197,4 +197,4 @@ flat_arm64_item (Err e) = Err (kind_of e)
 
 abbrev pub AnswersArm64Code : List ℕ → Arm64CodeWalk → Arm64CodeWalk → ℕ → Arm64Code → Arm64Code → Type 0
 AnswersArm64Code b old_walk new_walk number old new =
-    (answer : Result (Option Arm64Code) Refusal) × WalksInArm64 (left_of_stream b old_walk) old_walk answer new_walk × AnswersIf number old new answer
+    (answer : Result (Option Arm64Code) Refusal) × StepsArm64Codes b old_walk answer new_walk × AnswersIf number old new answer
