@@ -17,8 +17,9 @@
  * item that is refused it is over. A walk that is over answers PE_C_NOTHING and stays where it is.
  *
  * `mode` is PE_C_STRICT or PE_C_PERMISSIVE; any value but 0 is permissive. Permissive headers may overlap the DOS
- * header; a permissive debug directory may pass the end of the bytes, and is cut there; a debug record that is too
- * small for what it is, and resource data that are too short for a directory, count as absent.
+ * header; a permissive debug directory may pass the end of the bytes, and is cut there; a CodeView record that is too
+ * small for what it is, resource data that are too short for a directory, and resource entries that are not all in
+ * the data count as absent.
  *
  * The calls of an image take what two calls gave, pe_c_image and pe_c_sections, and the mode:
  *
@@ -62,7 +63,7 @@ enum {
     PE_C_DEBUG_SIZE = 13,           /* a debug record is too small for what it is; strict alone */
     PE_C_DEBUG_DATA = 14,           /* the bytes end before a debug record does */
     PE_C_POGO_SIZE = 15,            /* a POGO record has no room for entries */
-    PE_C_POGO_NAME = 16,            /* the name of a POGO entry has no end */
+    PE_C_POGO_NAME = 16,            /* the name of a POGO entry has no end, or its padding is cut */
     PE_C_EXCEPTION_SIZE = 17,       /* the exception directory is no whole number of entries */
     PE_C_EXCEPTION_OFFSET = 18,     /* its place is no multiple of four */
     PE_C_EXCEPTION_BOUNDS = 19,     /* the bytes end before it does */
@@ -232,7 +233,7 @@ uint32_t pe_c_debug_pogo(const uint8_t *bytes, size_t length, const pe_c_image_i
                          const pe_c_section *sections, size_t count, uint32_t mode, pe_c_pogo *out);
 
 /* Gives the next entry of a POGO record. PE_C_SHORT for less than eight bytes, PE_C_POGO_NAME for a name without an
- * end. */
+ * end, or whose padding up to a multiple of four bytes is cut. */
 uint32_t pe_c_next_pogo_entry(const uint8_t *bytes, size_t length, pe_c_range *walk, pe_c_pogo_entry *out);
 
 /* ---- certificates */
@@ -352,8 +353,8 @@ uint32_t pe_c_scope_table(const uint8_t *bytes, size_t length, const pe_c_range 
 uint32_t pe_c_next_scope(const uint8_t *bytes, size_t length, pe_c_range *walk, pe_c_scope *out);
 
 /* Gives the next record of a plan: that of the function, then that of the function which it is chained to, and so on.
- * PE_C_NOTHING behind the root. PE_C_FUNCTION_CYCLE exactly if the chain never ends; else what pe_c_unwind_record
- * answers of the next record. A plan that is refused is over. */
+ * PE_C_NOTHING behind the root. PE_C_FUNCTION_CYCLE exactly if the chain of a plan that pe_c_plan_from made never ends;
+ * else what pe_c_unwind_record answers of the next record. A plan that is refused is over. */
 uint32_t pe_c_next_record(const uint8_t *bytes, size_t length, const pe_c_image_info *image,
                           const pe_c_section *sections, size_t count, uint32_t mode, pe_c_plan *plan,
                           pe_c_record *out);
@@ -465,7 +466,7 @@ uint32_t pe_c_arm64_function_at(const uint8_t *bytes, size_t length, const pe_c_
 /* Gives the fields of unwind data that are packed into an entry. It is never refused. */
 uint32_t pe_c_arm64_packed_fields(const pe_c_arm64_function *function, pe_c_arm64_packed *out);
 
-/* Gives the unwind record of a function. PE_C_NOTHING where its unwind data are packed; the refusals of the table;
+/* Gives the unwind record of a function. The refusals of the table; then PE_C_NOTHING where its unwind data are packed;
  * PE_C_UNMAPPED, PE_C_SHORT, PE_C_ARM64_VERSION. */
 uint32_t pe_c_arm64_unwind_record(const uint8_t *bytes, size_t length, const pe_c_image_info *image,
                                   const pe_c_section *sections, size_t count, uint32_t mode,

@@ -9,8 +9,9 @@ use core::fmt;
 pub enum Mode {
     /// It is refused.
     Strict,
-    /// Headers may overlap the DOS header; a debug directory may pass the end of the bytes, and is cut there; a debug
-    /// record that is too small, and resource data that are too short for a directory, count as absent.
+    /// Headers may overlap the DOS header; a debug directory may pass the end of the bytes, and is cut there; a CodeView
+    /// record that is too small, resource data that are too short for a directory, and resource entries that are not all
+    /// in the data count as absent.
     Permissive,
 }
 

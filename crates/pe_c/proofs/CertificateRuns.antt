@@ -5,7 +5,7 @@ use Rattle.std.proofs.lemmas.Bool.Decides.{nat_tests}
 use Rattle.pe_core.specs.Bytes.{holds}
 use Rattle.pe_core.specs.Refusals.{Refusal, CertificateTable, ◌>>=◌}
 use Rattle.pe_records.proofs.CertificateListings.{next_above}
-use Rattle.pe_records.specs.Certificates.{CertificateView, certificate_at}
+use Rattle.pe_records.specs.Certificates.{CertificateView, certificate_at, certificates_at}
 use Rattle.pe_c.proofs.Listings.{at_range, none_from, steps_list}
 use Rattle.pe_c.proofs.Parts.{body_is_told}
 use Rattle.pe_c.specs.Certificates.{StepsCertificates, TellsCertificates, certificate_told, listed, step, step_by, walk_from}
@@ -19,23 +19,26 @@ use Rattle.pe_c.specs.declared.ranges.Range.{Range}
 abbrev Step : Type 0
 Step = Result (Option Certificate) Refusal × Range
 
-step_at_end : (b : List ℕ) (w : Range) → (w.length == 0) ≡ true → step b w ≡ (Ok None, w)
+step_at_end : (b : List ℕ) (w : Range) → holds b w.place w.length ≡ true → (w.length == 0) ≡ true → step b w ≡ (Ok None, w)
 unfolding step
-step_at_end b w e = rw e refl
+step_at_end b w h e = rw h (rw e refl)
 
-step_outside : (b : List ℕ) (w : Range) → (w.length == 0) ≡ false → holds b w.place w.length ≡ false → step b w ≡ (Err CertificateTable, no_bytes)
+step_outside : (b : List ℕ) (w : Range) → holds b w.place w.length ≡ false → step b w ≡ (Err CertificateTable, no_bytes)
 unfolding step
-step_outside b w e h = rw e (rw h refl)
+step_outside b w h = rw h refl
 
-step_inside : (b : List ℕ) (w : Range) → (w.length == 0) ≡ false → holds b w.place w.length ≡ true → step b w ≡ step_by w (certificate_at b w.place)
+step_inside : (b : List ℕ) (w : Range) → holds b w.place w.length ≡ true → (w.length == 0) ≡ false → step b w ≡ step_by w (certificate_at b w.place)
 unfolding step
-step_inside b w e h = rw e (rw h refl)
+step_inside b w h e = rw h (rw e refl)
 
-is_over : (b : List ℕ) (w : Range) → (w.length == 0) ≡ true → IsOver (StepsCertificates b) w
-is_over b w e answer v s = (s.0 ∙ ap (λ (x : Step). x.0) (step_at_end b w e), s.1 ∙ ap (λ (x : Step). x.1) (step_at_end b w e))
+is_over : (b : List ℕ) (w : Range) → holds b w.place w.length ≡ true → (w.length == 0) ≡ true → IsOver (StepsCertificates b) w
+is_over b w h e answer v s = (s.0 ∙ ap (λ (x : Step). x.0) (step_at_end b w h e), s.1 ∙ ap (λ (x : Step). x.1) (step_at_end b w h e))
 
-at_end : (b : List ℕ) (w : Range) → (w.length == 0) ≡ true → GivesItems (StepsCertificates b) w []
-at_end b w e = λ answer v s. let over = is_over b w e answer v s in (over.0, subst (λ (u : Range). IsOver (StepsCertificates b) u) (sym over.1) (is_over b w e))
+none_is_over : (b : List ℕ) → IsOver (StepsCertificates b) no_bytes
+none_is_over b = is_over b no_bytes (grind (arith, nat_tests)) refl
+
+at_end : (b : List ℕ) (w : Range) → holds b w.place w.length ≡ true → (w.length == 0) ≡ true → GivesItems (StepsCertificates b) w []
+at_end b w h e = λ answer v s. let over = is_over b w h e answer v s in (over.0, subst (λ (u : Range). IsOver (StepsCertificates b) u) (sym over.1) (is_over b w h e))
 
 -- a step that is refused, behind which the walk is over
 fault : (b : List ℕ) (w : Range) (r : Refusal) → step b w ≡ (Err r, no_bytes) → GivesItems (StepsCertificates b) w (Err r ∷ [])
@@ -43,7 +46,7 @@ fault b w r e = (
   refl,
   λ answer v s. (
     s.0 ∙ ap (λ (x : Step). x.0) e,
-    subst (λ (u : Range). IsOver (StepsCertificates b) u) (sym (s.1 ∙ ap (λ (x : Step). x.1) e)) (is_over b no_bytes refl),
+    subst (λ (u : Range). IsOver (StepsCertificates b) u) (sym (s.1 ∙ ap (λ (x : Step). x.1) e)) (none_is_over b),
   ),
 )
 
@@ -55,8 +58,12 @@ gives_more b w c next items e more = λ answer v s. (
   subst (λ (u : Range). GivesItems (StepsCertificates b) u items) (sym (s.1 ∙ ap (λ (x : Step). x.1) e)) more,
 )
 
-pub lies_once : (b : List ℕ) (w : Range) → w.length ≢ 0 → holds b w.place w.length ≡ false → GivesItems (StepsCertificates b) w (Err CertificateTable ∷ [])
-lies_once b w some h = fault b w CertificateTable (step_outside b w (grind (arith, nat_tests, some)) h)
+lies_once : (b : List ℕ) (w : Range) → holds b w.place w.length ≡ false → GivesItems (StepsCertificates b) w (Err CertificateTable ∷ [])
+lies_once b w h = fault b w CertificateTable (step_outside b w h)
+
+refused_outside : (b : List ℕ) (w : Range) → holds b w.place w.length ≡ false → listed b w ≡ Err CertificateTable
+unfolding certificates_at
+refused_outside b w h = rw h refl
 
 -- ---- all steps
 
@@ -92,14 +99,14 @@ further b w next n false e above le h more = more no_bytes (omega arith) (omega 
 of_none : (b : List ℕ) (w : Range) → w.length ≡ 0 → w.place + w.length ≤ length b → Gives b w (listed b w)
 of_none b w none h =
     let nothing : listed b w ≡ Ok [] = at_range b w.place w.length h ∙ none_from b (w.place + w.length) w.length w.place (omega (arith, none)) in
-    subst (λ (r : Result (List CertificateView) Refusal). Gives b w r) (sym nothing) ([], at_end b w (grind (arith, nat_tests, none)), tt)
+    subst (λ (r : Result (List CertificateView) Refusal). Gives b w r) (sym nothing) ([], at_end b w (grind (arith, nat_tests)) (grind (arith, nat_tests, none)), tt)
 
 of_some : (b : List ℕ) (w : Range) (n : ℕ) → (w.length == 0) ≡ false → w.length ≢ 0 → w.length ≤ suc n → w.place + w.length ≤ length b →
     ((v : Range) → v.length ≤ n → v.place + v.length ≤ length b → Gives b v (listed b v)) → Gives b w (listed b w)
 of_some b w n e some le h more =
     let there : holds b w.place w.length ≡ true = grind (arith, nat_tests) in
     subst (λ (r : Result (List CertificateView) Refusal). Gives b w r) (sym (steps_list b w some there))
-    (by_first b w (certificate_at b w.place) refl (step_inside b w e there)
+    (by_first b w (certificate_at b w.place) refl (step_inside b w there e)
     (λ c next given. further b w next n (nat_lt next (w.place + w.length)) refl (next_above b w.place c next given) le h more))
 
 by_length : (b : List ℕ) (w : Range) (n k : ℕ) → w.length ≡ k → w.length ≤ suc n → w.place + w.length ≤ length b →
@@ -111,10 +118,13 @@ all : (b : List ℕ) (n : ℕ) (w : Range) → w.length ≤ n → w.place + w.le
 all b zero w le h = of_none b w (omega (arith, le)) h
 all b (suc n) w le h = by_length b w n w.length refl le h (λ v shorter inside. all b n v shorter inside)
 
-pub certificates_in_turn : (b : List ℕ) (w : Range) (cs : List CertificateView) → holds b w.place w.length ≡ true → listed b w ≡ Ok cs →
-    (told : List Certificate) × GivesItems (StepsCertificates b) w (map (λ x. Ok x) told) × TellsCertificates b told cs
-certificates_in_turn b w cs h e = subst (λ (r : Result (List CertificateView) Refusal). Gives b w r) e (all b w.length w (omega arith) (grind (arith, nat_tests)))
+whole : (b : List ℕ) (w : Range) (inside : Bool) → holds b w.place w.length ≡ inside → Gives b w (listed b w)
+whole b w true h = all b w.length w (omega arith) (grind (arith, nat_tests))
+whole b w false h = subst (λ (r : Result (List CertificateView) Refusal). Gives b w r) (sym (refused_outside b w h)) ([], lies_once b w h)
 
-pub refused_in_turn : (b : List ℕ) (w : Range) (r : Refusal) → holds b w.place w.length ≡ true → listed b w ≡ Err r →
-    (told : List Certificate) × GivesItems (StepsCertificates b) w (map (λ x. Ok x) told ++ Err r ∷ [])
-refused_in_turn b w r h e = subst (λ (x : Result (List CertificateView) Refusal). Gives b w x) e (all b w.length w (omega arith) (grind (arith, nat_tests)))
+pub certificates_in_turn : (b : List ℕ) (w : Range) (cs : List CertificateView) → listed b w ≡ Ok cs →
+    (told : List Certificate) × GivesItems (StepsCertificates b) w (map (λ x. Ok x) told) × TellsCertificates b told cs
+certificates_in_turn b w cs e = subst (λ (r : Result (List CertificateView) Refusal). Gives b w r) e (whole b w (holds b w.place w.length) refl)
+
+pub refused_in_turn : (b : List ℕ) (w : Range) (r : Refusal) → listed b w ≡ Err r → (told : List Certificate) × GivesItems (StepsCertificates b) w (map (λ x. Ok x) told ++ Err r ∷ [])
+refused_in_turn b w r e = subst (λ (x : Result (List CertificateView) Refusal). Gives b w x) e (whole b w (holds b w.place w.length) refl)

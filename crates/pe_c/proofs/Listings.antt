@@ -1,12 +1,13 @@
 -- A walk over certificates lists what their table lists.
-use Rattle.std.proofs.Common.{◌≡◌, ℕ, zero, suc, ◌+◌, ◌-◌, ◌<◌, ◌≤◌, Bool, true, false, cond, List, [], ◌∷◌, length, Result, Ok, Err, refl, sym, ap, ◌∙◌, arith}
+use Rattle.std.proofs.Common.{◌≡◌, ◌≢◌, ℕ, zero, suc, ◌+◌, ◌-◌, ◌<◌, ◌≤◌, Bool, true, false, cond, List, [], ◌∷◌, length, Result, Ok, Err, refl, sym, ap, ◌∙◌, arith}
 use Rattle.std.specs.Prelude.{nat_lt, nat_le}
 use Rattle.std.proofs.lemmas.Bool.Decides.{nat_tests}
+use Rattle.pe_core.specs.Bytes.{holds}
 use Rattle.pe_core.specs.Refusals.{Refusal, ◌>>=◌}
 use Rattle.pe_records.proofs.CertificateListings.{next_above}
 use Rattle.pe_records.specs.Certificates.{CertificateView, certificate_at, certificates_from, certificates_at}
 use Rattle.pe_c.specs.declared.ranges.Range.{Range}
-use Rattle.pe_c.specs.Certificates.{listed, walk_from, StepsList}
+use Rattle.pe_c.specs.Certificates.{listed, walk_from}
 use Rattle.pe_c.specs.Ranges.{no_bytes}
 
 yes : (m n : ℕ) → m < n → nat_lt m n ≡ true
@@ -70,5 +71,6 @@ first_listed b w n e h =
     ∙ same_more (certificates_from b (w.place + w.length) n) (λ next. listed b (walk_from w next)) (certificate_at b w.place)
     (λ c next given. let further : w.place < next = next_above b w.place c next given in behind b w n next (nat_lt next (w.place + w.length)) refl h (omega arith))
 
-pub steps_list : StepsList
+-- a walk that is not at its end lists the certificate at its place, and then what it lists from the next place on
+pub steps_list : (b : List ℕ) (w : Range) → w.length ≢ 0 → holds b w.place w.length ≡ true → listed b w ≡ first_and (λ next. listed b (walk_from w next)) (certificate_at b w.place)
 steps_list b w some h = first_listed b w (w.length - 1) (omega arith) (grind (arith, nat_tests))

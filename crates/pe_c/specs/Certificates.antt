@@ -24,21 +24,16 @@ abbrev pub step_by : Range → Result (CertificateView × ℕ) Refusal → Resul
 step_by w (Ok c) = (Ok (Some (certificate_told w.place c.0)), walk_from w c.1)
 step_by w (Err refusal) = (Err refusal, no_bytes)
 
--- what a step answers, and the walk behind it: the certificate at its place, and behind it from the next place on
+-- what a step answers, and the walk behind it: the certificate at its place, and behind it from the next place on; nothing
+-- at the end; `CertificateTable` where the range does not lie in the bytes
 unfoldable pub step : List ℕ → Range → Result (Option Certificate) Refusal × Range
 step b w =
-    if w.length == 0 then (Ok None, w)
-    else (if holds b w.place w.length then step_by w (certificate_at b w.place) else (Err CertificateTable, no_bytes))
+    if holds b w.place w.length then (if w.length == 0 then (Ok None, w) else step_by w (certificate_at b w.place))
+    else (Err CertificateTable, no_bytes)
 
 -- the certificates of the table at a walk
 abbrev pub listed : List ℕ → Range → Result (List CertificateView) Refusal
 listed b w = certificates_at b w.place w.length
-
--- a walk that is not over lists the certificate at its place, and then what it lists from the next place on
-abbrev pub StepsList : Type 0
-StepsList =
-    (b : List ℕ) (w : Range) → w.length ≢ 0 → holds b w.place w.length ≡ true →
-    listed b w ≡ (certificate_at b w.place >>= λ c. listed b (walk_from w c.1) >>= λ cs. Ok (c.0 ∷ cs))
 
 -- a step of a walk
 abbrev pub StepsCertificates : List ℕ → Range → Result (Option Certificate) Refusal → Range → Type 0

@@ -61,15 +61,15 @@ fn walk_from(walk: Range, next: u64) -> Range
 fn step(bytes: &[u8], walk: Range) -> (Result<Option<Certificate>>, Range)
     ensures { (answer_by (λ x. x) result.0, result.1) ≡ step bytes.now walk }
 {
-    if walk.length == 0 {
-        return (Ok(None), walk);
-    }
     if slice_of(bytes, &walk).is_err() {
         let end = walk.place.saturating_add(walk.length);
         return (
             Err(Error::Malformed(Reason::CertificateTable(end))),
             NO_BYTES,
         );
+    }
+    if walk.length == 0 {
+        return (Ok(None), walk);
     }
     let mut offset = walk.place as usize;
     match AttributeCertificate::parse(bytes, &mut offset) {

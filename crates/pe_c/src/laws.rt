@@ -1,7 +1,7 @@
 //! Laws over the definitions. Each is the contract of a function that does nothing.
 
 ghost use Rattle.pe_c.specs.Arm64.{StepsArm64Codes, arm64_walk_at, flat_arm64_item, flat_info, flat_scope_at, left_of_stream};
-ghost use Rattle.pe_c.specs.Certificates.{StepsCertificates, StepsList, TellsCertificates, certificate_told, listed};
+ghost use Rattle.pe_c.specs.Certificates.{StepsCertificates, TellsCertificates, listed};
 ghost use Rattle.pe_c.specs.Debug.{key_of, pdb20_of, pogo_of, repro_of};
 ghost use Rattle.pe_c.specs.DebugWalks.{StepsPogoEntries, entries_told};
 ghost use Rattle.pe_c.specs.Exports.{StepsExports, count_of, tables_or_short, told_entry, told_from, walk_over, with_tables};
@@ -132,23 +132,14 @@ pub fn walks_give_the_pogo_entries()
     ensures outside { (b : List ℕ) (walk : Range) (refusal : Refusal) → bytes_at b walk ≡ Err refusal → GivesItems (StepsPogoEntries b) walk (Err refusal ∷ []) }
 {}
 
-/// A walk over certificates gives those that its table lists, and the range of each body is the body.
-#[tactic(auto, using(crate::proofs::Listings::steps_list, crate::proofs::Parts::body_is_told))]
-pub fn walks_list_the_certificates()
-    ensures listing { StepsList }
-    ensures body { (b : List ℕ) (p : ℕ) (c : CertificateView) (next : ℕ) → certificate_at b p ≡ Ok (c, next) → IsRange b (certificate_told p c).body c.body }
-{}
-
-/// A walk over certificates gives, one a step and in their order, exactly the certificates that its table lists, and then
-/// nothing; where the table is refused it gives certificates and then this refusal. A range that does not lie in the bytes
-/// gives one fault alone.
-#[tactic(auto, using(crate::proofs::CertificateRuns::certificates_in_turn, crate::proofs::CertificateRuns::refused_in_turn, crate::proofs::CertificateRuns::lies_once))]
+/// A walk over certificates gives, one a step and in their order, exactly the certificates that its table lists, each with
+/// the range of its body, and then nothing; where the table is refused it gives certificates and then this refusal.
+#[tactic(auto, using(crate::proofs::CertificateRuns::certificates_in_turn, crate::proofs::CertificateRuns::refused_in_turn))]
 pub fn walks_give_the_certificates()
-    ensures certificates { (b : List ℕ) (walk : Range) (cs : List CertificateView) → holds b walk.place walk.length ≡ true → listed b walk ≡ Ok cs →
+    ensures certificates { (b : List ℕ) (walk : Range) (cs : List CertificateView) → listed b walk ≡ Ok cs →
         (told : List Certificate) × GivesItems (StepsCertificates b) walk (map (λ x. Ok x) told) × TellsCertificates b told cs }
-    ensures refused { (b : List ℕ) (walk : Range) (refusal : Refusal) → holds b walk.place walk.length ≡ true → listed b walk ≡ Err refusal →
+    ensures refused { (b : List ℕ) (walk : Range) (refusal : Refusal) → listed b walk ≡ Err refusal →
         (told : List Certificate) × GivesItems (StepsCertificates b) walk (map (λ x. Ok x) told ++ Err refusal ∷ []) }
-    ensures outside { (b : List ℕ) (walk : Range) → walk.length ≢ 0 → holds b walk.place walk.length ≡ false → GivesItems (StepsCertificates b) walk (Err CertificateTable ∷ []) }
 {}
 
 /// The ranges of a walk over exports are the tables of the export data, and what the walk tells of an entry of the name

@@ -137,7 +137,7 @@ fn find(bytes: &[u8], table: &Range, rva: u32) -> Result<Option<RuntimeFunction>
 }
 
 /// Finds the function that covers an address, in the function table at this range: `NOTHING` where none does, `SHORT` where
-/// the bytes have no such range. It reads at most as many entries as their number has binary digits.
+/// the bytes have no such range. It is one `search` of pe_unwind.
 #[unsafe(no_mangle)]
 pub extern "C" fn pe_c_find_function(
     bytes: &[u8],
