@@ -18,6 +18,7 @@ use Rattle.pe_unwind.specs.declared.unwind_code.StackFrameOffset.TheVariants.{RS
 use Rattle.pe_unwind.specs.declared.unwind_code.UnwindCode.{UnwindCode}
 use Rattle.pe_unwind.specs.declared.unwind_code.UnwindOperation.{UnwindOperation}
 use Rattle.pe_unwind.specs.declared.unwind_code.UnwindOperation.TheVariants.{PushNonVolatile, Alloc, SetFPRegister, SaveNonVolatile, SaveXMM, Epilog, SaveXMM128, PushMachineFrame, Noop}
+use Rattle.pe_c.specs.Images.{is_absent}
 use Rattle.pe_c.specs.Answers.{Answers, AnswersIf}
 use Rattle.pe_c.specs.Modes.{options_of}
 use Rattle.pe_c.specs.Ranges.{no_bytes, last_range, bytes_at}
@@ -37,7 +38,7 @@ table_range v = record { place = v.start; length = v.size }
 unfoldable pub table_at : ℕ → ℕ → List ℕ → Image → List SectionTable → ℕ → Result (Option Range) Refusal
 table_at machine width b image sections mode =
     if image.machine == machine
-    then (if image.exceptions.virtual_address == 0 && image.exceptions.size == 0 then Ok None
+    then (if is_absent image.exceptions then Ok None
     else exception_at width b image.exceptions sections image.file_alignment (options_of mode) >>= λ v. Ok (Some (table_range v)))
     else Ok None
 

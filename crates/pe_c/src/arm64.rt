@@ -11,7 +11,7 @@ ghost use Rattle.pe_c.specs.Unwinding.{table_at};
 ghost use Rattle.pe_c.specs.Walks.{next_of, walk_of};
 
 use crate::answers::{DONE, hand_out, hand_out_some, options};
-use crate::image::Image;
+use crate::image::{Image, is_absent};
 use crate::ranges::{NO_BYTES, Range, last_range, slice_of};
 use crate::unwinding::table_range;
 use crate::walks::next_entry;
@@ -126,7 +126,7 @@ fn table_of(
     ensures { answer_by (λ x. x) result ≡ table_at 0xAA64 8 bytes.now image.now sections.now mode }
 {
     let directory = image.exceptions;
-    if image.machine != MACHINE_ARM64 || (directory.virtual_address == 0 && directory.size == 0) {
+    if image.machine != MACHINE_ARM64 || is_absent(directory) {
         return Ok(None);
     }
     let alignment = image.file_alignment;

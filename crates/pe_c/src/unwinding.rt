@@ -12,7 +12,7 @@ ghost use Rattle.pe_c.specs.Unwinding.{table_range, table_at, LocatesIn, Answers
 ghost use Rattle.pe_c.specs.Walks.{next_of, walk_of};
 
 use crate::answers::{DONE, NOTHING, hand_out, hand_out_some, number_of, options};
-use crate::image::Image;
+use crate::image::{Image, is_absent};
 use crate::ranges::{NO_BYTES, Range, last_range, slice_of};
 use crate::walks::next_entry;
 use pe_core::{CountedTable, Result, SectionTable};
@@ -100,7 +100,7 @@ fn table_of(
     ensures { answer_by (λ x. x) result ≡ table_at 0x8664 12 bytes.now image.now sections.now mode }
 {
     let directory = image.exceptions;
-    if image.machine != MACHINE_X64 || (directory.virtual_address == 0 && directory.size == 0) {
+    if image.machine != MACHINE_X64 || is_absent(directory) {
         return Ok(None);
     }
     let alignment = image.file_alignment;
