@@ -1,7 +1,7 @@
 -- The ranges that are told of records are their parts.
 use Rattle.std.proofs.Common.{◌≡◌, ℕ, ◌+◌, Bool, true, false, List, length, Option, Some, None, Result, Ok, Err, refl, sym, subst, ap, ◌∙◌}
 use Rattle.std.specs.Prelude.{if◌then◌else◌}
-use Rattle.std.specs.Option.{option_map, option_and_then}
+use Rattle.std.specs.Option.{IsSome, option_map, option_and_then}
 use Rattle.pe_core.specs.Refusals.{Refusal, ◌>>=◌}
 use Rattle.pe_core.specs.declared.section_table.SectionTable.{SectionTable}
 use Rattle.pe_records.proofs.PartsInPlace.{parts_stand, body_stands}
@@ -19,7 +19,7 @@ use Rattle.pe_c.specs.Debug.{debug_of, key_of, pdb20_of, repro_by, repro_of, pog
 use Rattle.pe_c.specs.Images.{is_absent}
 use Rattle.pe_c.specs.Modes.{options_of}
 use Rattle.pe_c.proofs.RecordRanges.{of_place}
-use Rattle.pe_c.specs.Parts.{IsPart, TellsPart}
+use Rattle.pe_c.specs.Parts.{IsPart, TellsPart, TellsRecord}
 use Rattle.pe_c.specs.Ranges.{IsRange, no_bytes}
 
 -- ---- certificates
@@ -89,3 +89,33 @@ hash_by b mode d (Some (Buffer count bytes)) y s e =
 
 pub repro_tells : TellsPart repro_of (λ r. r.hash) (λ d. hash_of d.repro)
 repro_tells = tells repro_of (λ r. r.hash) (λ d. hash_of d.repro) (λ b mode d y s e. hash_by b mode d d.repro y s.repro e)
+
+-- ---- debug data that are there are told
+
+made_there : {X Y : Type 0} (b : List ℕ) (mode n : ℕ) (part : X → List ℕ) (make : X → Range → Y) (x : Option X) (e : Option ImageDebugDirectory) →
+    StandsBehind (options_of mode) b n e (option_map part x) → IsSome x →
+    IsSome (option_and_then (λ v. option_map (make v) (option_map (λ entry. record { place = record_place true entry + n; length = length (part v) }) e)) x)
+made_there b mode n part make None e s some = some
+made_there b mode n part make (Some v) None s some = absurd s
+made_there b mode n part make (Some v) (Some e) s some = refl
+
+pub key_is_told : TellsRecord key_of (λ d. d.pdb70)
+key_is_told b image s mode d e some =
+    made_there b mode 24 (λ r. r.filename) (λ r name. record { guid = r.signature; age = r.age; spare = 0; name = name }) d.pdb70 (first_of_type d.fixup 2 d.table) (parts_of b image s mode d e).pdb70 some
+
+pub pdb20_is_told : TellsRecord pdb20_of (λ d. d.pdb20)
+pdb20_is_told b image s mode d e some =
+    made_there b mode 16 (λ r. r.filename) (λ r name. record { name = name; offset = r.codeview_offset; signature = r.signature; age = r.age; spare = 0 }) d.pdb20 (first_of_type d.fixup 2 d.table) (parts_of b image s mode d e).pdb20 some
+
+pub pogo_is_told : TellsRecord pogo_of (λ d. d.pogo)
+pogo_is_told b image s mode d e some =
+    made_there b mode 4 (λ r. r.bytes) (λ r entries. record { entries = entries; signature = r.signature; spare = 0 }) d.pogo (first_of_type d.fixup 13 d.table) (parts_of b image s mode d e).pogo some
+
+hash_there : (b : List ℕ) (mode : ℕ) (d : DebugFields) (r : Option records.Repro) → StandsBehind (options_of mode) b 4 (first_of_type d.fixup 16 d.table) (hash_of r) → IsSome r → IsSome (option_and_then (repro_by d) r)
+hash_there b mode d None s some = some
+hash_there b mode d (Some (Stamp stamp)) s some = refl
+hash_there b mode d (Some (Buffer count bytes)) s some =
+    made_there b mode 4 (λ (x : List ℕ). x) (λ x hash. record { hash = hash; has_hash = 1; spare = 0 }) (Some bytes) (first_of_type d.fixup 16 d.table) s refl
+
+pub repro_is_told : TellsRecord repro_of (λ d. d.repro)
+repro_is_told b image s mode d e some = hash_there b mode d d.repro (parts_of b image s mode d e).repro some

@@ -1,5 +1,6 @@
 -- The ranges that are told of records are their parts.
 use Rattle.std.specs.Prelude.{◌≡◌, ℕ, List, [], ◌∷◌, ◌++◌, Option, Some, None, Ok}
+use Rattle.std.specs.Option.{IsSome}
 use Rattle.pe_core.specs.Exports.{ExportDataView, ExportView}
 use Rattle.pe_core.specs.Imports.{ImportRecordView, ImportView, imports}
 use Rattle.pe_core.specs.Refusals.{◌>>=◌}
@@ -28,6 +29,11 @@ abbrev pub TellsPart : {Y : Type 0} → (DebugFields → Option Y) → (Y → Ra
 TellsPart {Y} told range_of part_of =
     (b : List ℕ) (image : Image) (sections : List SectionTable) (mode : ℕ) (y : Y) → told_of told b image sections mode ≡ Ok (Some y) →
     (d : DebugFields) × (debug_of b image sections mode ≡ Ok (Some d)) × (told d ≡ Some y) × IsPart b (range_of y) (part_of d)
+
+-- where debug data have a record, it is told
+abbrev pub TellsRecord : {X Y : Type 0} → (DebugFields → Option Y) → (DebugFields → Option X) → Type 0
+TellsRecord told record_of =
+    (b : List ℕ) (image : Image) (sections : List SectionTable) (mode : ℕ) (d : DebugFields) → debug_of b image sections mode ≡ Ok (Some d) → IsSome (record_of d) → IsSome (told d)
 
 -- a walk at its beginning has the tables of these export data
 pub record HasTables (b : List ℕ) (w : Exports) (d : ExportDataView) : Type 0 where

@@ -7,7 +7,7 @@ ghost use Rattle.pe_c.specs.DebugWalks.{StepsPogoEntries, entries_told};
 ghost use Rattle.pe_c.specs.Exports.{StepsExports, count_of, tables_or_short, told_entry, told_from, walk_over, with_tables};
 ghost use Rattle.pe_c.specs.Images.{place_in};
 ghost use Rattle.pe_c.specs.Imports.{libraries_at, library_step};
-ghost use Rattle.pe_c.specs.Parts.{HasTables, ImportsInTurn, TellsExport, TellsExports, TellsLibrary, TellsPart};
+ghost use Rattle.pe_c.specs.Parts.{HasTables, ImportsInTurn, TellsExport, TellsExports, TellsLibrary, TellsPart, TellsRecord};
 ghost use Rattle.pe_c.specs.Plans.{GivesInTurn, IsCycle, StepsPlan, plan_from};
 ghost use Rattle.pe_c.specs.Ranges.{IsRange, bytes_at};
 ghost use Rattle.pe_c.specs.Runs.{TellsAll};
@@ -88,6 +88,15 @@ pub fn ranges_of_debug_data_are_their_parts()
     ensures pdb20 { TellsPart pdb20_of (λ r. r.name) (λ d. option_map (λ r. r.filename) d.pdb20) }
     ensures repro { TellsPart repro_of (λ r. r.hash) (λ d. hash_of d.repro) }
     ensures pogo { TellsPart pogo_of (λ r. r.entries) (λ d. option_map (λ r. r.bytes) d.pogo) }
+{}
+
+/// Each record that the debug data have is told.
+#[tactic(auto, using(crate::proofs::Parts::key_is_told, crate::proofs::Parts::pdb20_is_told, crate::proofs::Parts::repro_is_told, crate::proofs::Parts::pogo_is_told))]
+pub fn records_of_debug_data_are_told()
+    ensures key { TellsRecord key_of (λ d. d.pdb70) }
+    ensures pdb20 { TellsRecord pdb20_of (λ d. d.pdb20) }
+    ensures repro { TellsRecord repro_of (λ d. d.repro) }
+    ensures pogo { TellsRecord pogo_of (λ d. d.pogo) }
 {}
 
 /// A walk over entries of one width gives those of its range, one a step and in their order: each whole entry, one fault
