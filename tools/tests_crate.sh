@@ -66,7 +66,7 @@ copy_of_test() {
   esac
 }
 
-# The same and one more crate, damaged, the program of tools/damaged.
+# The crates' sources and one more crate, damaged, the program of tools/damaged.
 copy_with_damaged_crate() {
   local folder=$1 part
   copy_crates "$folder"
