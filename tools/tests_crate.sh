@@ -25,25 +25,43 @@ copy_with_tests_crate() {
   } >"$folder/crates.txt"
 }
 
-# Puts tests/pe_c into a copy of the crates, as the module tests of its crate pe_c, which uses pe_images then: a static library
-# is no dependency of another crate, and its modules are private.
-add_tests_of_c() {
-  local folder=$1 test
-  mkdir -p "$folder/crates/pe_c/src/tests"
-  for test in tests/pe_c/*.test; do
+# The crates that have tests of their own here, tests/CRATE/*.test.
+crates_with_tests() {
+  local root
+  for root in tests/*/lib.test; do
+    basename "$(dirname "$root")"
+  done
+}
+
+# Puts tests/CRATE into a copy of the crates, as the module tests of that crate, in place of its own one if it has one.
+# Beside its own files lib.test may name those of that one, and tests/refusing.test. The crate uses pe_images then.
+add_tests_of() {
+  local folder=$1 crate=$2 test sources
+  sources=$folder/crates/$crate/src
+  mkdir -p "$sources/tests"
+  cp tests/refusing.test "$sources/tests/refusing.rt"
+  for test in tests/"$crate"/*.test; do
     cp "$test" "$(copy_of_test "$folder" "$test")"
   done
-  printf '\n#[cfg(test)]\nmod tests;\n' >>"$folder/crates/pe_c/src/lib.rt"
-  sed -i '/^pe_c staticlib:/s/$/ pe_images/' "$folder/crates.txt"
+  for test in "$sources"/tests/*.rt; do
+    if ! grep -qx "mod $(basename "$test" .rt);" "$sources/tests.rt"; then
+      rm "$test"
+    fi
+  done
+  if ! grep -qx 'mod tests;' "$sources"/{lib,main}.rt 2>/dev/null; then
+    printf '\n#[cfg(test)]\nmod tests;\n' >>"$sources/lib.rt"
+  fi
+  sed -i -E "/^$crate( staticlib)?:/{/ pe_images( |\$)/!s/\$/ pe_images/}" "$folder/crates.txt"
 }
 
 # Where the copy of a file of tests stands.
 copy_of_test() {
-  local folder=$1 test=$2 name
+  local folder=$1 test=$2 name crate
   name=$(basename "$test" .test)
+  crate=$(basename "$(dirname "$test")")
   case $test in
-    tests/pe_c/lib.test) echo "$folder/crates/pe_c/src/tests.rt" ;;
-    tests/pe_c/*) echo "$folder/crates/pe_c/src/tests/$name.rt" ;;
+    tests/*/lib.test) echo "$folder/crates/$crate/src/tests.rt" ;;
+    tests/*/*) echo "$folder/crates/$crate/src/tests/$name.rt" ;;
     *) echo "$folder/crates/pe_tests/src/$name.rt" ;;
   esac
 }
@@ -60,6 +78,6 @@ copy_with_damaged_crate() {
   {
     cat crates.txt
     echo
-    echo "damaged: pe_core pe_records pe_unwind pe_resource pe_image pe_images"
+    echo "damaged: pe_core pe_records pe_unwind pe_plan pe_resource pe_image pe_images"
   } >"$folder/crates.txt"
 }

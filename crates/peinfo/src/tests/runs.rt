@@ -1,9 +1,8 @@
 //! Runs of the program on a system in memory.
 
 use super::fake::{ENDLESS, FOLDER, FakeSystem, IMAGE};
-use crate::input::{ReadError, read_all};
+use super::lines::{CUT_LINES, DEBUG_LINES, FUNCTION_LINES, HEADERS_LINE, ZERO_LINE};
 use crate::run;
-use linked_list_allocator::LocalHeap;
 use pe_images::{headers_alone, pointer_below_64, put, with_debug, with_functions};
 use std::alloc::{AllocError, Global};
 use std::cell::RefCell;
@@ -53,15 +52,15 @@ fn shows_images(rt: HostRuntime) -> Result<(), Fail> {
     let strict = ["list", IMAGE].as_slice();
     let permissive = ["list", IMAGE, "--permissive"].as_slice();
     let headers = headers_alone(alloc)?;
-    assert!(rt; shows(alloc, &headers, strict, super::HEADERS_LINE)?);
+    assert!(rt; shows(alloc, &headers, strict, HEADERS_LINE)?);
     let functions = with_functions(alloc)?;
-    assert!(rt; shows(alloc, &functions, strict, super::FUNCTION_LINES)?);
+    assert!(rt; shows(alloc, &functions, strict, FUNCTION_LINES)?);
     let mut debug = with_debug(alloc)?;
-    assert!(rt; shows(alloc, &debug, strict, super::DEBUG_LINES)?);
+    assert!(rt; shows(alloc, &debug, strict, DEBUG_LINES)?);
     put(&mut debug, &[(0xFC, &[0, 0, 1, 0])]);
-    assert!(rt; shows(alloc, &debug, permissive, super::CUT_LINES)?);
+    assert!(rt; shows(alloc, &debug, permissive, CUT_LINES)?);
     let low = pointer_below_64(alloc)?;
-    assert!(rt; shows(alloc, &low, permissive, super::ZERO_LINE)?);
+    assert!(rt; shows(alloc, &low, permissive, ZERO_LINE)?);
     Ok(())
 }
 
@@ -230,21 +229,5 @@ fn names_faults_of_rewriting(rt: HostRuntime) -> Result<(), Fail> {
         assert!(rt; holds(&system.printed, b""));
         assert!(rt; is_line(&system.complaints, begin), "{path}");
     }
-    Ok(())
-}
-
-#[test]
-fn reads_with_little_memory(rt: HostRuntime) -> Result<(), Fail> {
-    let image = headers_alone(rt.alloc())?;
-    let heap = LocalHeap::new(rt.alloc(), 65_000)?;
-    assert!(rt;
-        matches!(
-            read_all(&heap, &mut image.as_slice()),
-            Err(ReadError::Memory)
-        )
-    );
-    let heap = LocalHeap::new(rt.alloc(), 200_000)?;
-    let bytes = read_all(&heap, &mut image.as_slice())?;
-    assert!(rt; bytes.as_slice() == image.as_slice());
     Ok(())
 }

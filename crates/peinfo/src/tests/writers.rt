@@ -1,5 +1,6 @@
 //! Writers that take little, or fail.
 
+use super::lines::{DEBUG_LINES, FUNCTION_LINES};
 use crate::counted_out::CountedOut;
 use crate::engine::ReportError;
 use crate::find::find;
@@ -65,7 +66,7 @@ fn reports_to_slow_writers(rt: HostRuntime) -> Result<(), Fail> {
     for (way, want, writes, failures) in [
         (Way::Fails, begin, 3, 1),
         (Way::TakesNothing, begin, 3, 1),
-        (Way::TakesOne, super::DEBUG_LINES, 57, 0),
+        (Way::TakesOne, DEBUG_LINES, 57, 0),
     ] {
         let written = Vec::new(rt.alloc());
         let mut out = CountedOut::new(Slow {
@@ -151,7 +152,7 @@ fn stops_at_each_write(rt: HostRuntime) -> Result<(), Fail> {
     let bytes = with_functions(alloc)?;
     let line = b"function 00001020 00001040 00001001\n".as_slice();
     for (asked, text) in [
-        (Asked::Listing, super::FUNCTION_LINES),
+        (Asked::Listing, FUNCTION_LINES),
         (Asked::FunctionAt(0x1025), line),
         (Asked::Rewriting, bytes.as_slice()),
     ] {
