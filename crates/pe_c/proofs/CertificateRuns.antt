@@ -1,6 +1,7 @@
 -- A walk over certificates gives all that its table lists, and then what refuses the table.
 use Rattle.std.proofs.Common.{◌≡◌, ◌≢◌, ℕ, zero, suc, ◌+◌, ◌-◌, ◌<◌, ◌≤◌, ◌==◌, Bool, true, false, List, [], ◌∷◌, ◌++◌, length, map, Option, Some, None, Result, Ok, Err, refl, sym, ap, subst, ◌∙◌, arith}
 use Rattle.std.specs.Prelude.{nat_lt, if◌then◌else◌}
+use Rattle.std.specs.List.{AllZip}
 use Rattle.std.proofs.lemmas.Bool.Decides.{nat_tests}
 use Rattle.pe_core.specs.Bytes.{holds}
 use Rattle.pe_core.specs.Refusals.{Refusal, CertificateTable, ◌>>=◌}
@@ -8,9 +9,9 @@ use Rattle.pe_records.proofs.CertificateListings.{next_above}
 use Rattle.pe_records.specs.Certificates.{CertificateView, certificate_at, certificates_at}
 use Rattle.pe_c.proofs.Listings.{at_range, none_from, steps_list}
 use Rattle.pe_c.proofs.Parts.{body_is_told}
-use Rattle.pe_c.specs.Certificates.{StepsCertificates, TellsCertificates, certificate_told, listed, step, step_by, walk_from}
+use Rattle.pe_c.specs.Certificates.{StepsCertificates, TellsCertificate, certificate_told, listed, step, step_by, walk_from}
 use Rattle.pe_c.specs.Ranges.{no_bytes}
-use Rattle.pe_c.specs.Walks.{GivesItems, IsOver}
+use Rattle.pe_c.specs.Runs.{GivesItems, IsOver}
 use Rattle.pe_c.specs.declared.certificates.Certificate.{Certificate}
 use Rattle.pe_c.specs.declared.ranges.Range.{Range}
 
@@ -69,7 +70,7 @@ refused_outside b w h = rw h refl
 
 -- what a walk gives whose table is listed so
 abbrev Gives : List ℕ → Range → Result (List CertificateView) Refusal → Type 0
-Gives b w (Ok cs) = (told : List Certificate) × GivesItems (StepsCertificates b) w (map (λ x. Ok x) told) × TellsCertificates b told cs
+Gives b w (Ok cs) = (told : List Certificate) × GivesItems (StepsCertificates b) w (map (λ x. Ok x) told) × AllZip (TellsCertificate b) told cs
 Gives b w (Err r) = (told : List Certificate) × GivesItems (StepsCertificates b) w (map (λ x. Ok x) told ++ Err r ∷ [])
 
 by_rest : (b : List ℕ) (w : Range) (c : CertificateView) (next : ℕ) (rest : Result (List CertificateView) Refusal) → certificate_at b w.place ≡ Ok (c, next) →
@@ -77,7 +78,7 @@ by_rest : (b : List ℕ) (w : Range) (c : CertificateView) (next : ℕ) (rest : 
 by_rest b w c next (Ok cs) given e more = (
   certificate_told w.place c ∷ more.0,
   gives_more b w c next (map (λ x. Ok x) more.0) e more.1,
-  ((w.place, refl), body_is_told b w.place c next given, more.2),
+  (((w.place, refl), body_is_told b w.place c next given), more.2),
 )
 by_rest b w c next (Err r) given e more = (certificate_told w.place c ∷ more.0, gives_more b w c next (map (λ x. Ok x) more.0 ++ Err r ∷ []) e more.1)
 
@@ -123,7 +124,7 @@ whole b w true h = all b w.length w (omega arith) (grind (arith, nat_tests))
 whole b w false h = subst (λ (r : Result (List CertificateView) Refusal). Gives b w r) (sym (refused_outside b w h)) ([], lies_once b w h)
 
 pub certificates_in_turn : (b : List ℕ) (w : Range) (cs : List CertificateView) → listed b w ≡ Ok cs →
-    (told : List Certificate) × GivesItems (StepsCertificates b) w (map (λ x. Ok x) told) × TellsCertificates b told cs
+    (told : List Certificate) × GivesItems (StepsCertificates b) w (map (λ x. Ok x) told) × AllZip (TellsCertificate b) told cs
 certificates_in_turn b w cs e = subst (λ (r : Result (List CertificateView) Refusal). Gives b w r) e (whole b w (holds b w.place w.length) refl)
 
 pub refused_in_turn : (b : List ℕ) (w : Range) (r : Refusal) → listed b w ≡ Err r → (told : List Certificate) × GivesItems (StepsCertificates b) w (map (λ x. Ok x) told ++ Err r ∷ [])

@@ -13,7 +13,7 @@ use Rattle.pe_c.proofs.LeftBytes.{bytes_of_range, bytes_there, left_behind, noth
 use Rattle.pe_c.proofs.RecordRanges.{codes_of_record}
 use Rattle.pe_c.specs.Ranges.{bytes_at, no_bytes}
 use Rattle.pe_c.specs.Unwinding.{StepsCodes, StepsOver, WalksIn, flat, flat_answer, flat_item, flat_record, left_of, stream_at}
-use Rattle.pe_c.specs.Walks.{GivesItems, IsOver}
+use Rattle.pe_c.specs.Runs.{GivesItems, IsOver}
 use Rattle.pe_c.specs.declared.ranges.Range.{Range}
 use Rattle.pe_c.specs.declared.unwinding.Code.{Code}
 use Rattle.pe_c.specs.declared.unwinding.CodeWalk.{CodeWalk}

@@ -11,7 +11,8 @@ use Rattle.pe_unwind.specs.ScopeTable.{scope_at}
 use Rattle.pe_c.proofs.LeftBytes.{long, rest_of_range}
 use Rattle.pe_c.specs.Arm64.{flat_scope_at}
 use Rattle.pe_c.specs.Ranges.{no_bytes, behind}
-use Rattle.pe_c.specs.Walks.{GivesItems, IsOver, StepsEntries, entries_left, left_entry}
+use Rattle.pe_c.specs.Runs.{GivesItems, IsOver}
+use Rattle.pe_c.specs.Walks.{StepsEntries, entries_left, left_entry}
 use Rattle.pe_c.specs.declared.ranges.Range.{Range}
 
 -- ---- one step

@@ -1,7 +1,7 @@
 -- A walk over exports gives all of them.
 use Rattle.std.proofs.Common.{◌≡◌, ℕ, zero, suc, ◌+◌, ◌-◌, ◌/◌, ◌<◌, ◌≤◌, Bool, true, false, List, [], ◌∷◌, length, map, Option, Some, None, Result, Ok, Err, refl, sym, ap, subst, ◌∙◌, arith, ⊎_elim}
 use Rattle.std.specs.Prelude.{nat_le}
-use Rattle.std.specs.List.{cons_option, filter_map, range_with_len}
+use Rattle.std.specs.List.{AllZip, cons_option, filter_map, range_with_len}
 use Rattle.std.specs.Option.{option_map}
 use Rattle.std.proofs.lemmas.Bool.{cases_lt}
 use Rattle.std.proofs.lemmas.Bool.Decides.{nat_tests}
@@ -12,8 +12,8 @@ use Rattle.pe_core.specs.Rows.{each}
 use Rattle.pe_c.proofs.ExportParts.{tells, tables_stand}
 use Rattle.pe_c.proofs.LeftBytes.{bytes_of_range, length_of_range}
 use Rattle.pe_c.specs.Exports.{FindsNext, StepsExports, StepsExportsIf, StepsOverExports, count_of, exports_behind, tables_or_short, told_entry, told_from, walk_over, with_tables}
-use Rattle.pe_c.specs.Parts.{HasTables, TellsExport, TellsExports}
-use Rattle.pe_c.specs.Walks.{GivesItems, IsOver}
+use Rattle.pe_c.specs.Parts.{HasTables, TellsExport}
+use Rattle.pe_c.specs.Runs.{GivesItems, IsOver}
 use Rattle.pe_c.specs.declared.exports.Export.{Export}
 use Rattle.pe_c.specs.declared.exports.Exports.{Exports}
 
@@ -128,6 +128,10 @@ pub exports_in_turn : (place : ℕ → Option ℕ) (b : List ℕ) (w : Exports) 
 exports_in_turn place b w d t = by_next place b d w (count_of w - w.next) refl t
 
 -- ---- the exports of a directory
+
+-- what is told of exports, one after the other, is these
+abbrev TellsExports : List ℕ → List Export → List ExportView → Type 0
+TellsExports b = AllZip (λ x e. TellsExport b (Some x) (Some e))
 
 tells_more : (b : List ℕ) (o : Option Export) (p : Option ExportView) (xs : List Export) (es : List ExportView) → TellsExport b o p → TellsExports b xs es →
     TellsExports b (cons_option o xs) (cons_option p es)

@@ -9,7 +9,7 @@ use Rattle.pe_records.specs.declared.debug.pogo.POGOInfoEntry.{POGOInfoEntry}
 use Rattle.pe_c.proofs.LeftBytes.{bytes_there, left_behind, nothing_there, size_of}
 use Rattle.pe_c.specs.DebugWalks.{StepsOverPogo, StepsPogoEntries, entries_told, told}
 use Rattle.pe_c.specs.Ranges.{behind, bytes_at, no_bytes}
-use Rattle.pe_c.specs.Walks.{GivesItems, IsOver}
+use Rattle.pe_c.specs.Runs.{GivesItems, IsOver}
 use Rattle.pe_c.specs.declared.debug_walks.PogoEntry.{PogoEntry}
 use Rattle.pe_c.specs.declared.ranges.Range.{Range}
 

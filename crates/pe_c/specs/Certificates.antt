@@ -1,7 +1,7 @@
 -- A walk over the certificates of a table.
-use Rattle.std.specs.Prelude.{◌≡◌, ◌≢◌, ℕ, ◌+◌, ◌-◌, ◌==◌, List, [], ◌∷◌, length, nat_lt, true, Option, Some, None, Result, Ok, Err, if◌then◌else◌}
+use Rattle.std.specs.Prelude.{◌≡◌, ℕ, ◌+◌, ◌-◌, ◌==◌, List, length, nat_lt, Option, Some, None, Result, Ok, Err, if◌then◌else◌}
 use Rattle.pe_core.specs.Bytes.{holds}
-use Rattle.pe_core.specs.Refusals.{Refusal, CertificateTable, ◌>>=◌}
+use Rattle.pe_core.specs.Refusals.{Refusal, CertificateTable}
 use Rattle.pe_records.specs.Certificates.{CertificateView, certificate_at, certificates_at, revision_number, type_number}
 use Rattle.pe_c.specs.declared.certificates.Certificate.{Certificate}
 use Rattle.pe_c.specs.declared.ranges.Range.{Range}
@@ -39,9 +39,6 @@ listed b w = certificates_at b w.place w.length
 abbrev pub StepsCertificates : List ℕ → Range → Result (Option Certificate) Refusal → Range → Type 0
 StepsCertificates b old answer new = (answer ≡ (step b old).0) × (new ≡ (step b old).1)
 
--- what is told of certificates, one after the other, is these, and the range of each body is the body
-abbrev pub TellsCertificates : List ℕ → List Certificate → List CertificateView → Type 0
-TellsCertificates b [] [] = Unit {0}
-TellsCertificates b [] (c ∷ cs) = ⊥
-TellsCertificates b (x ∷ xs) [] = ⊥
-TellsCertificates b (x ∷ xs) (c ∷ cs) = ((p : ℕ) × (x ≡ certificate_told p c)) × IsRange b x.body c.body × TellsCertificates b xs cs
+-- what is told of a certificate is the certificate, and the range of its body is the body
+abbrev pub TellsCertificate : List ℕ → Certificate → CertificateView → Type 0
+TellsCertificate b x c = ((p : ℕ) × (x ≡ certificate_told p c)) × IsRange b x.body c.body

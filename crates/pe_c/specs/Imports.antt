@@ -1,5 +1,5 @@
 -- Imports: a walk over the libraries of an import directory, and a walk over the imports of each.
-use Rattle.std.specs.Prelude.{ℕ, ◌+◌, ◌%◌, ◌^◌, ◌==◌, List, [], length, Option, Some, None, Result, Ok, Err, if◌then◌else◌}
+use Rattle.std.specs.Prelude.{◌≡◌, ℕ, ◌+◌, ◌%◌, ◌^◌, ◌==◌, List, [], length, Option, Some, None, Result, Ok, Err, if◌then◌else◌}
 use Rattle.std.specs.Option.{option_map}
 use Rattle.pe_core.specs.Bytes.{le}
 use Rattle.pe_core.specs.Imports.{EntryView, ImportRecordView, ImportView, import_of, import_record, import_record_at, lookups_rva, named_import}
@@ -67,6 +67,10 @@ library_by walk (Err refusal) = (Err refusal, no_libraries)
 unfoldable pub library_step : (ℕ → Option ℕ) → ℕ → List ℕ → Libraries → Result (Option Library) Refusal × Libraries
 library_step place w b walk = if walk.is_over == 0 then library_by walk (library_at place w b walk.next) else (Ok None, walk)
 
+-- a step by what it answers, and the walk behind it
+abbrev pub StepsLibraries : (ℕ → Option ℕ) → ℕ → List ℕ → Libraries → Result (Option Library) Refusal → Libraries → Type 0
+StepsLibraries place w b old answer new = (answer, new) ≡ library_step place w b old
+
 -- ---- the imports of a library
 
 -- the range of an import's name, if it has one: behind the hint at this place
@@ -108,3 +112,7 @@ import_left place w b walk (Err refusal) = (Err refusal, no_imports walk)
 -- a step over the imports of a library
 unfoldable pub import_step : (ℕ → Option ℕ) → ℕ → List ℕ → Imports → Result (Option Import) Refusal × Imports
 import_step place w b walk = import_left place w b walk (left_entry w b walk.left)
+
+-- a step by what it answers, and the walk behind it
+abbrev pub StepsImports : (ℕ → Option ℕ) → ℕ → List ℕ → Imports → Result (Option Import) Refusal → Imports → Type 0
+StepsImports place w b old answer new = (answer, new) ≡ import_step place w b old

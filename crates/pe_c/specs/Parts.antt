@@ -1,9 +1,10 @@
 -- The ranges that are told of records are their parts.
-use Rattle.std.specs.Prelude.{◌≡◌, ℕ, List, [], ◌∷◌, ◌++◌, Option, Some, None, Ok}
+use Rattle.std.specs.Prelude.{◌≡◌, ℕ, List, [], ◌∷◌, ◌++◌, map, Option, Some, None, Ok, Err}
+use Rattle.std.specs.List.{AllZip}
 use Rattle.std.specs.Option.{IsSome}
 use Rattle.pe_core.specs.Exports.{ExportDataView, ExportView}
 use Rattle.pe_core.specs.Imports.{ImportRecordView, ImportView, imports}
-use Rattle.pe_core.specs.Refusals.{◌>>=◌}
+use Rattle.pe_core.specs.Refusals.{Refusal, ◌>>=◌}
 use Rattle.pe_core.specs.declared.import.ImportDirectoryEntry.{ImportDirectoryEntry}
 use Rattle.pe_core.specs.declared.section_table.SectionTable.{SectionTable}
 use Rattle.pe_records.specs.DebugRecords.{DebugFields}
@@ -15,9 +16,9 @@ use Rattle.pe_c.specs.declared.imports.Library.{Library}
 use Rattle.pe_c.specs.declared.ranges.Range.{Range}
 use Rattle.pe_c.specs.Debug.{debug_of, told_of}
 use Rattle.pe_c.specs.Exports.{or_zero, one_if_some}
-use Rattle.pe_c.specs.Imports.{import_step}
+use Rattle.pe_c.specs.Imports.{StepsImports}
 use Rattle.pe_c.specs.Ranges.{IsRange, no_bytes}
-use Rattle.pe_c.specs.Runs.{TellsAll}
+use Rattle.pe_c.specs.Runs.{GivesItems}
 
 -- the range of a part, if there is one
 abbrev pub IsPart : List ℕ → Range → Option (List ℕ) → Type 0
@@ -65,22 +66,19 @@ record_of x = record {
   address_table_rva = x.address_table_rva;
 }
 
--- what is told of a record of the import directory is the record, and the steps over its list tell its imports
+-- what is told of a record of the import directory is the record, and the walk over its list gives the record's imports, one a
+-- step, and then nothing; where they are refused it gives imports and then this refusal
 pub record TellsLibrary (place : ℕ → Option ℕ) (w : ℕ) (b : List ℕ) (x : Library) (r : ImportRecordView) : Type 0 where
   pub name : IsRange b x.name r.name
   pub list : IsRange b x.imports.left r.lookups
   pub numbers : record_of x ≡ r.import_directory_entry
-  pub in_turn : TellsAll (import_step place w b) (TellsImport b) x.imports (imports place w b (r ∷ []))
+  pub given : (is : List ImportView) → imports place w b (r ∷ []) ≡ Ok is →
+      (told : List Import) × GivesItems (StepsImports place w b) x.imports (map (λ y. Ok y) told) × AllZip (TellsImport b) told is
+  pub refused : (refusal : Refusal) → imports place w b (r ∷ []) ≡ Err refusal →
+      (told : List Import) × (is : List ImportView) × GivesItems (StepsImports place w b) x.imports (map (λ y. Ok y) told ++ Err refusal ∷ []) × AllZip (TellsImport b) told is
 
 -- the imports of records are those of the first, and behind them those of the others
 abbrev pub ImportsInTurn : Type 0
 ImportsInTurn =
     (place : ℕ → Option ℕ) (w : ℕ) (b : List ℕ) (r : ImportRecordView) (rs : List ImportRecordView) →
     imports place w b (r ∷ rs) ≡ (imports place w b (r ∷ []) >>= λ first. imports place w b rs >>= λ more. Ok (first ++ more))
-
--- what is told of exports, one after the other, is these
-abbrev pub TellsExports : List ℕ → List Export → List ExportView → Type 0
-TellsExports b [] [] = Unit {0}
-TellsExports b [] (e ∷ es) = ⊥
-TellsExports b (x ∷ xs) [] = ⊥
-TellsExports b (x ∷ xs) (e ∷ es) = TellsExport b (Some x) (Some e) × TellsExports b xs es

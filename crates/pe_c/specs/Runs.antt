@@ -1,13 +1,14 @@
--- Whole runs of a walk: what its steps give one after the other.
+-- Whole runs of any walk, by what relates a walk, what a step of it answers, and the walk behind that.
 use Rattle.std.specs.Prelude.{◌≡◌, List, [], ◌∷◌, Option, Some, None, Result, Ok, Err}
 use Rattle.pe_core.specs.Refusals.{Refusal}
 
--- the steps from a walk on tell these one after the other, and the step behind them answers this
-abbrev pub TellsInTurn : {W X Y : Type 0} → (W → Result (Option X) Refusal × W) → (X → Y → Type 0) → W → List Y → Result (Option X) Refusal → Type 0
-TellsInTurn step Tells walk [] answer = (step walk).0 ≡ answer
-TellsInTurn {X = X} step Tells walk (y ∷ ys) answer = (x : X) × ((step walk).0 ≡ Ok (Some x)) × Tells x y × TellsInTurn step Tells (step walk).1 ys answer
+-- a walk that is over: a step gives nothing, and the walk stays as it is
+abbrev pub IsOver : {W X : Type 0} → (W → Result (Option X) Refusal → W → Type 0) → W → Type 0
+IsOver {W} {X} Steps w = (answer : Result (Option X) Refusal) (next : W) → Steps w answer next → (answer ≡ Ok None) × (next ≡ w)
 
--- the steps from a walk on tell the elements of a list and then nothing; where the list is refused, a step is refused so
-abbrev pub TellsAll : {W X Y : Type 0} → (W → Result (Option X) Refusal × W) → (X → Y → Type 0) → W → Result (List Y) Refusal → Type 0
-TellsAll step Tells walk (Ok ys) = TellsInTurn step Tells walk ys (Ok None)
-TellsAll {Y = Y} step Tells walk (Err refusal) = (ys : List Y) × TellsInTurn step Tells walk ys (Err refusal)
+-- a walk gives these items, one a step, and then nothing: it is over behind them, and behind a fault, which is the last
+abbrev pub GivesItems : {W X : Type 0} → (W → Result (Option X) Refusal → W → Type 0) → W → List (Result X Refusal) → Type 0
+GivesItems {W} {X} Steps w [] = (answer : Result (Option X) Refusal) (next : W) → Steps w answer next → (answer ≡ Ok None) × IsOver Steps next
+GivesItems {W} {X} Steps w (Ok x ∷ items) = (answer : Result (Option X) Refusal) (next : W) → Steps w answer next → (answer ≡ Ok (Some x)) × GivesItems Steps next items
+GivesItems {W} {X} Steps w (Err refusal ∷ items) =
+    (items ≡ []) × ((answer : Result (Option X) Refusal) (next : W) → Steps w answer next → (answer ≡ Err refusal) × IsOver Steps next)

@@ -32,19 +32,6 @@ walk_of width b r = walk_behind width (left_entry width b r) r
 abbrev pub StepsEntries : {X : Type 0} → (List ℕ → ℕ → X) → ℕ → List ℕ → Range → Result (Option X) Refusal → Range → Type 0
 StepsEntries entry_at width b old answer new = (answer ≡ next_of entry_at width b old) × (new ≡ walk_of width b old)
 
--- ---- whole runs of any walk, by what relates a walk, what a step of it answers, and the walk behind that
-
--- a walk that is over: a step gives nothing, and the walk stays as it is
-abbrev pub IsOver : {W X : Type 0} → (W → Result (Option X) Refusal → W → Type 0) → W → Type 0
-IsOver {W} {X} Steps w = (answer : Result (Option X) Refusal) (next : W) → Steps w answer next → (answer ≡ Ok None) × (next ≡ w)
-
--- a walk gives these items, one a step, and then nothing: it is over behind them, and behind a fault, which is the last
-abbrev pub GivesItems : {W X : Type 0} → (W → Result (Option X) Refusal → W → Type 0) → W → List (Result X Refusal) → Type 0
-GivesItems {W} {X} Steps w [] = (answer : Result (Option X) Refusal) (next : W) → Steps w answer next → (answer ≡ Ok None) × IsOver Steps next
-GivesItems {W} {X} Steps w (Ok x ∷ items) = (answer : Result (Option X) Refusal) (next : W) → Steps w answer next → (answer ≡ Ok (Some x)) × GivesItems Steps next items
-GivesItems {W} {X} Steps w (Err refusal ∷ items) =
-    (items ≡ []) × ((answer : Result (Option X) Refusal) (next : W) → Steps w answer next → (answer ≡ Err refusal) × IsOver Steps next)
-
 -- the entries that a walk has left, and one fault where a last one is cut; or one where its range does not lie in the bytes
 abbrev pub entries_left : {X : Type 0} → (List ℕ → ℕ → X) → ℕ → List ℕ → Range → List (Result X Refusal)
 entries_left entry_at width b w = if holds b w.place w.length then entry_items entry_at width (range b w.place w.length) else Err Short ∷ []

@@ -1,32 +1,33 @@
 //! Laws over the definitions. Each is the contract of a function that does nothing.
 
 ghost use Rattle.pe_c.specs.Arm64.{StepsArm64Codes, arm64_walk_at, flat_arm64_item, flat_info, flat_scope_at, left_of_stream};
-ghost use Rattle.pe_c.specs.Certificates.{StepsCertificates, TellsCertificates, listed};
+ghost use Rattle.pe_c.specs.Certificates.{StepsCertificates, TellsCertificate, listed};
 ghost use Rattle.pe_c.specs.Debug.{key_of, pdb20_of, pogo_of, repro_of};
 ghost use Rattle.pe_c.specs.DebugWalks.{StepsPogoEntries, entries_told};
 ghost use Rattle.pe_c.specs.Exports.{StepsExports, count_of, tables_or_short, told_entry, told_from, walk_over, with_tables};
 ghost use Rattle.pe_c.specs.Images.{place_in};
-ghost use Rattle.pe_c.specs.Imports.{libraries_at, library_step};
-ghost use Rattle.pe_c.specs.Parts.{HasTables, ImportsInTurn, TellsExport, TellsExports, TellsLibrary, TellsPart, TellsRecord};
+ghost use Rattle.pe_c.specs.Imports.{StepsLibraries, libraries_at};
+ghost use Rattle.pe_c.specs.Parts.{HasTables, ImportsInTurn, TellsExport, TellsLibrary, TellsPart, TellsRecord};
 ghost use Rattle.pe_c.specs.Plans.{GivesInTurn, IsCycle, StepsPlan, plan_from};
 ghost use Rattle.pe_c.specs.Ranges.{IsRange, bytes_at};
-ghost use Rattle.pe_c.specs.Runs.{TellsAll};
+ghost use Rattle.pe_c.specs.Runs.{GivesItems};
 ghost use Rattle.pe_c.specs.Unwinding.{StepsCodes, flat_item, flat_record, stream_at};
 ghost use Rattle.pe_c.specs.Versions.{TellsFixed, TellsManifest, TellsValue};
-ghost use Rattle.pe_c.specs.Walks.{GivesItems, StepsEntries, entries_left};
+ghost use Rattle.pe_c.specs.Walks.{StepsEntries, entries_left};
 ghost use Rattle.pe_c.specs.declared.arm64.Arm64CodeWalk.{Arm64CodeWalk};
 ghost use Rattle.pe_c.specs.declared.certificates.Certificate.{Certificate};
 ghost use Rattle.pe_c.specs.declared.exports.Export.{Export};
 ghost use Rattle.pe_c.specs.declared.exports.Exports.{Exports};
 ghost use Rattle.pe_c.specs.declared.image.Image.{Image};
 ghost use Rattle.pe_c.specs.declared.imports.Libraries.{Libraries};
+ghost use Rattle.pe_c.specs.declared.imports.Library.{Library};
 ghost use Rattle.pe_c.specs.declared.plan.Plan.{Plan};
 ghost use Rattle.pe_c.specs.declared.ranges.Range.{Range};
 ghost use Rattle.pe_c.specs.declared.unwinding.CodeWalk.{CodeWalk};
 ghost use Rattle.pe_c.specs.declared.unwinding.UnwindRecord.{UnwindRecord};
 ghost use Rattle.pe_core.specs.Bytes.{AreBytes, holds};
 ghost use Rattle.pe_core.specs.Exports.{ExportDataView, export_at, export_data_at, exports};
-ghost use Rattle.pe_core.specs.Imports.{entry_size, import_data_at};
+ghost use Rattle.pe_core.specs.Imports.{ImportRecordView, entry_size, import_data_at};
 ghost use Rattle.pe_core.specs.Refusals.{CertificateTable, FunctionCycle, Refusal, outcome};
 ghost use Rattle.pe_core.specs.declared.error.Error.{Error};
 ghost use Rattle.pe_core.specs.declared.section_table.SectionTable.{SectionTable};
@@ -42,6 +43,7 @@ ghost use Rattle.pe_unwind.specs.ScopeTable.{scope_at};
 ghost use Rattle.pe_unwind.specs.UnwindRecord.{UnwindInfoView, unwind_record, unwind_tests};
 ghost use Rattle.pe_unwind.specs.declared.arm64.codes.Arm64UnwindCodeData.{Arm64UnwindCodeData};
 ghost use Rattle.pe_unwind.specs.declared.unwind_code.UnwindCode.{UnwindCode};
+ghost use Rattle.std.specs.List.{AllZip};
 ghost use Rattle.std.specs.Option.{option_map};
 ghost use Rattle.std.specs.Prelude.{◌≡◌, ℕ, List, Option, Ok, Err, IfSome, ◌⊎◌, ◌*◌, ◌==◌, ◌^◌, ◌<◌, ◌≤◌, length, Some, Result, true, false, [], ◌∷◌, ◌++◌, ◌≢◌, map};
 
@@ -146,7 +148,7 @@ pub fn walks_give_the_pogo_entries()
 #[tactic(auto, using(crate::proofs::CertificateRuns::certificates_in_turn, crate::proofs::CertificateRuns::refused_in_turn))]
 pub fn walks_give_the_certificates()
     ensures certificates { (b : List ℕ) (walk : Range) (cs : List CertificateView) → listed b walk ≡ Ok cs →
-        (told : List Certificate) × GivesItems (StepsCertificates b) walk (map (λ x. Ok x) told) × TellsCertificates b told cs }
+        (told : List Certificate) × GivesItems (StepsCertificates b) walk (map (λ x. Ok x) told) × AllZip (TellsCertificate b) told cs }
     ensures refused { (b : List ℕ) (walk : Range) (refusal : Refusal) → listed b walk ≡ Err refusal →
         (told : List Certificate) × GivesItems (StepsCertificates b) walk (map (λ x. Ok x) told ++ Err refusal ∷ []) }
 {}
@@ -160,15 +162,22 @@ pub fn walks_tell_the_exports()
         TellsExport b (told_entry place b (with_tables d.names d.ordinals d.addresses) i) (export_at place b d i) }
 {}
 
-/// The steps over the libraries of an image tell the records of its import directory, and the steps over each library's
-/// imports tell the record's imports; where the directory or the imports are refused, a step is refused so. The imports
-/// of records are those of each record in turn.
-#[tactic(auto, using(crate::proofs::ImportRuns::libraries_told, crate::proofs::ImportRuns::imports_in_turn))]
+/// A walk over the libraries of an image gives, one a step and in their order, the records of its import directory, and then
+/// nothing; where the directory is refused it gives libraries and then this refusal. The walk over each library's imports
+/// gives the record's imports so. The imports of records are those of each record in turn.
+#[tactic(auto, using(crate::proofs::ImportRuns::libraries_in_turn, crate::proofs::ImportRuns::refused_in_turn, crate::proofs::ImportRuns::imports_in_turn))]
 pub fn walks_tell_the_imports()
-    ensures libraries { (b : List ℕ) (image : Image) (sections : List SectionTable) (walk : Libraries) →
+    ensures libraries { (b : List ℕ) (image : Image) (sections : List SectionTable) (walk : Libraries) (rs : List ImportRecordView) →
         AreBytes b → length b ≤ 2 ^ 63 → libraries_at image sections ≡ Ok (Some walk) →
-        TellsAll (library_step (place_in image sections) (entry_size (image.width == 64)) b) (TellsLibrary (place_in image sections) (entry_size (image.width == 64)) b) walk
-        (import_data_at (place_in image sections) (entry_size (image.width == 64)) b image.imports.virtual_address) }
+        import_data_at (place_in image sections) (entry_size (image.width == 64)) b image.imports.virtual_address ≡ Ok rs →
+        (told : List Library) × GivesItems (StepsLibraries (place_in image sections) (entry_size (image.width == 64)) b) walk (map (λ x. Ok x) told) ×
+        AllZip (TellsLibrary (place_in image sections) (entry_size (image.width == 64)) b) told rs }
+    ensures refused { (b : List ℕ) (image : Image) (sections : List SectionTable) (walk : Libraries) (refusal : Refusal) →
+        AreBytes b → length b ≤ 2 ^ 63 → libraries_at image sections ≡ Ok (Some walk) →
+        import_data_at (place_in image sections) (entry_size (image.width == 64)) b image.imports.virtual_address ≡ Err refusal →
+        (told : List Library) × (rs : List ImportRecordView) ×
+        GivesItems (StepsLibraries (place_in image sections) (entry_size (image.width == 64)) b) walk (map (λ x. Ok x) told ++ Err refusal ∷ []) ×
+        AllZip (TellsLibrary (place_in image sections) (entry_size (image.width == 64)) b) told rs }
     ensures in_turn { ImportsInTurn }
 {}
 
@@ -179,7 +188,7 @@ pub fn walks_give_the_exports()
     ensures entries { (place : ℕ → Option ℕ) (b : List ℕ) (walk : Exports) (d : ExportDataView) → tables_or_short b walk ≡ Ok d →
         GivesItems (StepsExports place b) walk (map (λ x. Ok x) (told_from (told_entry place b d) walk.next (count_of walk))) }
     ensures directory { (place : ℕ → Option ℕ) (b : List ℕ) (rva : ℕ) (d : ExportDataView) → export_data_at place b rva ≡ Ok d →
-        (told : List Export) × GivesItems (StepsExports place b) (walk_over place d) (map (λ x. Ok x) told) × TellsExports b told (exports place b d) }
+        (told : List Export) × GivesItems (StepsExports place b) (walk_over place d) (map (λ x. Ok x) told) × AllZip (λ x e. TellsExport b (Some x) (Some e)) told (exports place b d) }
 {}
 
 /// Where the resources of an image are not refused, what is told of their manifest and version information is what they
