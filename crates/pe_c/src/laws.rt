@@ -156,13 +156,16 @@ pub fn walks_tell_the_exports()
 {}
 
 /// A walk over exports gives, one a step and in their order, the exports that the entries of its name table have from its next
-/// index on, and then nothing. So the walk over an export directory gives exactly the exports that the directory lists.
-#[tactic(auto, using(crate::proofs::ExportRuns::exports_in_turn, crate::proofs::ExportRuns::directory_in_turn))]
+/// index on, and then nothing. So the walk over an export directory gives exactly the exports that the directory lists. Where
+/// entries are left of tables that do not lie in the bytes it gives one fault alone.
+#[tactic(auto, using(crate::proofs::ExportRuns::exports_in_turn, crate::proofs::ExportRuns::directory_in_turn, crate::proofs::ExportRuns::lies_once))]
 pub fn walks_give_the_exports()
     ensures entries { (place : ℕ → Option ℕ) (b : List ℕ) (walk : Exports) (d : ExportDataView) → tables_or_short b walk ≡ Ok d →
         GivesItems (StepsExports place b) walk (map (λ x. Ok x) (told_from (told_entry place b d) walk.next (count_of walk))) }
     ensures directory { (place : ℕ → Option ℕ) (b : List ℕ) (rva : ℕ) (d : ExportDataView) → export_data_at place b rva ≡ Ok d →
         (told : List Export) × GivesItems (StepsExports place b) (walk_over place d) (map (λ x. Ok x) told) × TellsExports b told (exports place b d) }
+    ensures outside { (place : ℕ → Option ℕ) (b : List ℕ) (walk : Exports) (refusal : Refusal) → walk.next < count_of walk → tables_or_short b walk ≡ Err refusal →
+        GivesItems (StepsExports place b) walk (Err refusal ∷ []) }
 {}
 
 /// Where the resources of an image are not refused, what is told of their manifest and version information is what they
