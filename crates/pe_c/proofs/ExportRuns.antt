@@ -181,6 +181,6 @@ pub lies_once : (place : ℕ → Option ℕ) (b : List ℕ) (w : Exports) (r : R
 lies_once place b w r h t = (
   refl,
   λ answer v s.
-  let given = refused place b w v r answer h t s in
-  (given.0, subst (λ (u : Exports). IsOver (StepsExports place b) u) (sym given.1) (behind_all place b (record w { names = no_bytes }) (omega arith))),
+      let given = refused place b w v r answer h t s in
+      (given.0, subst (λ (u : Exports). IsOver (StepsExports place b) u) (sym given.1) (behind_all place b (record w { names = no_bytes }) (omega arith))),
 )

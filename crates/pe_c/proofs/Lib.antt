@@ -7,6 +7,7 @@ pub mod EndlessPlans
 pub mod EntryRuns
 pub mod ExportParts
 pub mod ExportRuns
+pub mod Indices
 pub mod LastText
 pub mod LeftBytes
 pub mod Listings

@@ -1,6 +1,6 @@
 //! Laws over the definitions. Each is the contract of a function that does nothing.
 
-ghost use Rattle.pe_c.specs.Arm64.{StepsArm64Codes, arm64_walk_at, flat_arm64_item, flat_info, flat_scope_at, left_of_stream};
+ghost use Rattle.pe_c.specs.Arm64.{StepsArm64Codes, arm64_function_in, arm64_walk_at, flat_arm64_item, flat_info, flat_scope_at, left_of_stream};
 ghost use Rattle.pe_c.specs.Certificates.{StepsCertificates, StepsList, TellsCertificates, certificate_told, listed};
 ghost use Rattle.pe_c.specs.Debug.{key_of, pdb20_of, repro_of, pogo_of};
 ghost use Rattle.pe_c.specs.DebugWalks.{StepsPogoEntries, entries_told};
@@ -8,9 +8,9 @@ ghost use Rattle.pe_c.specs.Exports.{StepsExports, count_of, tables_or_short, to
 ghost use Rattle.pe_c.specs.Parts.{HasTables, TellsExport, TellsExports, TellsPart};
 ghost use Rattle.pe_c.specs.Plans.{plan_from, StepsPlan, GivesInTurn, IsCycle};
 ghost use Rattle.pe_c.specs.Ranges.{IsRange, bytes_at};
-ghost use Rattle.pe_c.specs.Unwinding.{StepsCodes, flat_item, flat_record, stream_at};
+ghost use Rattle.pe_c.specs.Unwinding.{StepsCodes, flat_item, flat_record, function_in, stream_at};
 ghost use Rattle.pe_c.specs.Versions.{TellsManifest, TellsFixed, TellsValue};
-ghost use Rattle.pe_c.specs.Walks.{GivesItems, StepsEntries, entries_left};
+ghost use Rattle.pe_c.specs.Walks.{GivesItems, StepsEntries, entries_left, indexed};
 ghost use Rattle.pe_c.specs.declared.arm64.Arm64CodeWalk.{Arm64CodeWalk};
 ghost use Rattle.pe_c.specs.declared.certificates.Certificate.{Certificate};
 ghost use Rattle.pe_c.specs.declared.exports.Export.{Export};
@@ -29,9 +29,11 @@ ghost use Rattle.pe_records.specs.Certificates.{CertificateView, certificate_at}
 ghost use Rattle.pe_records.specs.DebugDirectory.{entry_at};
 ghost use Rattle.pe_records.specs.Parts.{hash_of};
 ghost use Rattle.pe_records.specs.Pogo.{Entry, Entries};
+ghost use Rattle.pe_unwind.specs.Arm64Functions.{arm64_functions};
 ghost use Rattle.pe_unwind.specs.Arm64Record.{Arm64InfoView, info_at};
 ghost use Rattle.pe_unwind.specs.Arm64Tiling.{Tiles};
 ghost use Rattle.pe_unwind.specs.CodeStream.{AreItems};
+ghost use Rattle.pe_unwind.specs.FunctionTable.{functions};
 ghost use Rattle.pe_unwind.specs.Places.{data_of};
 ghost use Rattle.pe_unwind.specs.ScopeTable.{scope_at};
 ghost use Rattle.pe_unwind.specs.UnwindRecord.{UnwindInfoView, unwind_tests, unwind_record};
@@ -83,6 +85,13 @@ pub fn ranges_of_debug_data_are_their_parts()
     ensures pdb20 { TellsPart pdb20_of (λ r. r.name) (λ d. option_map (λ r. r.filename) d.pdb20) }
     ensures repro { TellsPart repro_of (λ r. r.hash) (λ d. hash_of d.repro) }
     ensures pogo { TellsPart pogo_of (λ r. r.entries) (λ d. option_map (λ r. r.bytes) d.pogo) }
+{}
+
+/// The functions of a table by their indices, from 0 on, are its whole entries in their order, and there are no others.
+#[tactic(auto, using(crate::proofs::Indices::functions_by_index, crate::proofs::Indices::arm64_functions_by_index))]
+pub fn indices_give_the_functions()
+    ensures x64 { (b : List ℕ) (table : Range) (bytes : List ℕ) (i : ℕ) → bytes_at b table ≡ Ok bytes → function_in b table i ≡ indexed (functions bytes) i }
+    ensures arm64 { (b : List ℕ) (table : Range) (bytes : List ℕ) (i : ℕ) → bytes_at b table ≡ Ok bytes → arm64_function_in b table i ≡ indexed (arm64_functions bytes) i }
 {}
 
 /// A walk over entries of one width gives those of its range, one a step and in their order: each whole entry, one fault
