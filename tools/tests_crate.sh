@@ -25,8 +25,8 @@ copy_with_tests_crate() {
   } >"$folder/crates.txt"
 }
 
-# Puts tests/pe_c into a copy of the crates, as the module tests of its crate pe_c, which uses pe_images then: a static library
-# is no dependency of another crate, and its modules are private.
+# Puts tests/pe_c into a copy of the crates, as the module tests of its crate pe_c, which uses pe_images then: a static
+# library is no dependency of another crate, and its modules are private.
 add_tests_of_c() {
   local folder=$1 test
   mkdir -p "$folder/crates/pe_c/src/tests"
