@@ -13,6 +13,7 @@ use Rattle.pe_c.proofs.ExportParts.{tells, tables_stand}
 use Rattle.pe_c.proofs.LeftBytes.{bytes_of_range, length_of_range}
 use Rattle.pe_c.specs.Exports.{FindsNext, StepsExports, StepsExportsIf, StepsOverExports, count_of, exports_behind, tables_or_short, told_entry, told_from, walk_over, with_tables}
 use Rattle.pe_c.specs.Parts.{HasTables, TellsExport}
+use Rattle.pe_c.specs.Ranges.{no_bytes}
 use Rattle.pe_c.specs.Runs.{GivesItems, IsOver}
 use Rattle.pe_c.specs.declared.exports.Export.{Export}
 use Rattle.pe_c.specs.declared.exports.Exports.{Exports}
@@ -171,3 +172,19 @@ directory_in_turn place b rva d e =
       exports_in_turn place b (walk_over place d) (with_tables d.names d.ordinals d.addresses) (tables_of b (walk_over place d) d has),
       subst (λ (n : ℕ). TellsExports b (told_from (told_entry place b (with_tables d.names d.ordinals d.addresses)) 0 n) (exports place b d)) count (tells_exports place b d),
     )
+
+-- ---- tables that are not there
+
+refused : (place : ℕ → Option ℕ) (b : List ℕ) (w v : Exports) (r : Refusal) (answer : Result (Option Export) Refusal) → w.next < count_of w → tables_or_short b w ≡ Err r →
+    StepsExports place b w answer v → (answer ≡ Err r) × (v ≡ record w { names = no_bytes })
+refused place b w v r answer h t s =
+    subst (λ (x : Result ExportDataView Refusal). StepsOverExports place b x w answer v) t
+    (step_if place b w v answer (nat_le (count_of w) w.next) (grind (arith, nat_tests)) s)
+
+pub lies_once : (place : ℕ → Option ℕ) (b : List ℕ) (w : Exports) (r : Refusal) → w.next < count_of w → tables_or_short b w ≡ Err r → GivesItems (StepsExports place b) w (Err r ∷ [])
+lies_once place b w r h t = (
+  refl,
+  λ answer v s.
+      let given = refused place b w v r answer h t s in
+      (given.0, subst (λ (u : Exports). IsOver (StepsExports place b) u) (sym given.1) (behind_all place b (record w { names = no_bytes }) (omega arith))),
+)

@@ -8,6 +8,7 @@ pub mod EntryRuns
 pub mod ExportParts
 pub mod ExportRuns
 pub mod ImportRuns
+pub mod Indices
 pub mod LastText
 pub mod LeftBytes
 pub mod Listings

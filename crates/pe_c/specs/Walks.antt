@@ -1,8 +1,8 @@
 -- Walks over entries of one width: a range of what is left, which each step makes shorter.
-use Rattle.std.specs.Prelude.{◌≡◌, ℕ, ◌==◌, nat_lt, List, [], ◌∷◌, Option, Some, None, Result, Ok, Err, if◌then◌else◌}
+use Rattle.std.specs.Prelude.{◌≡◌, ℕ, ◌==◌, nat_lt, List, [], ◌∷◌, slice_get, Option, Some, None, Result, Ok, Err, if◌then◌else◌}
 use Rattle.std.specs.Option.{option_map}
 use Rattle.pe_core.specs.Bytes.{holds, range}
-use Rattle.pe_core.specs.Refusals.{Refusal, Short, ◌>>=◌}
+use Rattle.pe_core.specs.Refusals.{Refusal, Short, FunctionIndex, ◌>>=◌}
 use Rattle.pe_core.specs.Rows.{entry_items}
 use Rattle.pe_c.specs.Ranges.{no_bytes, behind}
 use Rattle.pe_c.specs.declared.ranges.Range.{Range}
@@ -35,3 +35,13 @@ StepsEntries entry_at width b old answer new = (answer ≡ next_of entry_at widt
 -- the entries that a walk has left, and one fault where a last one is cut; or one where its range does not lie in the bytes
 abbrev pub entries_left : {X : Type 0} → (List ℕ → ℕ → X) → ℕ → List ℕ → Range → List (Result X Refusal)
 entries_left entry_at width b w = if holds b w.place w.length then entry_items entry_at width (range b w.place w.length) else Err Short ∷ []
+
+-- ---- tables that are read by index
+
+abbrev pub or_no_index : {X : Type 0} → Option X → Result X Refusal
+or_no_index None = Err FunctionIndex
+or_no_index (Some x) = Ok x
+
+-- the entry of a table with this index, or `FunctionIndex` where there is none
+abbrev pub indexed : {X : Type 0} → List X → ℕ → Result X Refusal
+indexed entries i = or_no_index (slice_get entries i)

@@ -1,6 +1,6 @@
 //! Laws over the definitions. Each is the contract of a function that does nothing.
 
-ghost use Rattle.pe_c.specs.Arm64.{StepsArm64Codes, arm64_walk_at, flat_arm64_item, flat_info, flat_scope_at, left_of_stream};
+ghost use Rattle.pe_c.specs.Arm64.{StepsArm64Codes, arm64_function_in, arm64_walk_at, flat_arm64_item, flat_info, flat_scope_at, left_of_stream};
 ghost use Rattle.pe_c.specs.Certificates.{StepsCertificates, TellsCertificate, listed};
 ghost use Rattle.pe_c.specs.Debug.{key_of, pdb20_of, pogo_of, repro_of};
 ghost use Rattle.pe_c.specs.DebugWalks.{StepsPogoEntries, entries_told};
@@ -11,9 +11,9 @@ ghost use Rattle.pe_c.specs.Parts.{HasTables, ImportsInTurn, TellsExport, TellsL
 ghost use Rattle.pe_c.specs.Plans.{GivesInTurn, IsCycle, StepsPlan, plan_from};
 ghost use Rattle.pe_c.specs.Ranges.{IsRange, bytes_at};
 ghost use Rattle.pe_c.specs.Runs.{GivesItems};
-ghost use Rattle.pe_c.specs.Unwinding.{StepsCodes, flat_item, flat_record, stream_at};
+ghost use Rattle.pe_c.specs.Unwinding.{StepsCodes, flat_item, flat_record, function_in, stream_at};
 ghost use Rattle.pe_c.specs.Versions.{TellsFixed, TellsManifest, TellsValue};
-ghost use Rattle.pe_c.specs.Walks.{StepsEntries, entries_left};
+ghost use Rattle.pe_c.specs.Walks.{StepsEntries, entries_left, indexed};
 ghost use Rattle.pe_c.specs.declared.arm64.Arm64CodeWalk.{Arm64CodeWalk};
 ghost use Rattle.pe_c.specs.declared.certificates.Certificate.{Certificate};
 ghost use Rattle.pe_c.specs.declared.exports.Export.{Export};
@@ -35,9 +35,11 @@ ghost use Rattle.pe_records.specs.Certificates.{CertificateView, certificate_at}
 ghost use Rattle.pe_records.specs.DebugDirectory.{entry_at};
 ghost use Rattle.pe_records.specs.Parts.{hash_of};
 ghost use Rattle.pe_records.specs.Pogo.{Entries, Entry};
+ghost use Rattle.pe_unwind.specs.Arm64Functions.{arm64_functions};
 ghost use Rattle.pe_unwind.specs.Arm64Record.{Arm64InfoView, info_at};
 ghost use Rattle.pe_unwind.specs.Arm64Tiling.{Tiles};
 ghost use Rattle.pe_unwind.specs.CodeStream.{AreItems};
+ghost use Rattle.pe_unwind.specs.FunctionTable.{functions};
 ghost use Rattle.pe_unwind.specs.Places.{data_of};
 ghost use Rattle.pe_unwind.specs.ScopeTable.{scope_at};
 ghost use Rattle.pe_unwind.specs.UnwindRecord.{UnwindInfoView, unwind_record, unwind_tests};
@@ -99,6 +101,13 @@ pub fn records_of_debug_data_are_told()
     ensures pdb20 { TellsRecord pdb20_of (λ d. d.pdb20) }
     ensures repro { TellsRecord repro_of (λ d. d.repro) }
     ensures pogo { TellsRecord pogo_of (λ d. d.pogo) }
+{}
+
+/// The functions of a table by their indices, from 0 on, are its whole entries in their order, and there are no others.
+#[tactic(auto, using(crate::proofs::Indices::functions_by_index, crate::proofs::Indices::arm64_functions_by_index))]
+pub fn indices_give_the_functions()
+    ensures x64 { (b : List ℕ) (table : Range) (bytes : List ℕ) (i : ℕ) → bytes_at b table ≡ Ok bytes → function_in b table i ≡ indexed (functions bytes) i }
+    ensures arm64 { (b : List ℕ) (table : Range) (bytes : List ℕ) (i : ℕ) → bytes_at b table ≡ Ok bytes → arm64_function_in b table i ≡ indexed (arm64_functions bytes) i }
 {}
 
 /// A walk over entries of one width gives those of its range, one a step and in their order: each whole entry, one fault
@@ -182,13 +191,16 @@ pub fn walks_tell_the_imports()
 {}
 
 /// A walk over exports gives, one a step and in their order, the exports that the entries of its name table have from its next
-/// index on, and then nothing. So the walk over an export directory gives exactly the exports that the directory lists.
-#[tactic(auto, using(crate::proofs::ExportRuns::exports_in_turn, crate::proofs::ExportRuns::directory_in_turn))]
+/// index on, and then nothing. So the walk over an export directory gives exactly the exports that the directory lists. Where
+/// entries are left of tables that do not lie in the bytes it gives one fault alone.
+#[tactic(auto, using(crate::proofs::ExportRuns::exports_in_turn, crate::proofs::ExportRuns::directory_in_turn, crate::proofs::ExportRuns::lies_once))]
 pub fn walks_give_the_exports()
     ensures entries { (place : ℕ → Option ℕ) (b : List ℕ) (walk : Exports) (d : ExportDataView) → tables_or_short b walk ≡ Ok d →
         GivesItems (StepsExports place b) walk (map (λ x. Ok x) (told_from (told_entry place b d) walk.next (count_of walk))) }
     ensures directory { (place : ℕ → Option ℕ) (b : List ℕ) (rva : ℕ) (d : ExportDataView) → export_data_at place b rva ≡ Ok d →
         (told : List Export) × GivesItems (StepsExports place b) (walk_over place d) (map (λ x. Ok x) told) × AllZip (λ x e. TellsExport b (Some x) (Some e)) told (exports place b d) }
+    ensures outside { (place : ℕ → Option ℕ) (b : List ℕ) (walk : Exports) (refusal : Refusal) → walk.next < count_of walk → tables_or_short b walk ≡ Err refusal →
+        GivesItems (StepsExports place b) walk (Err refusal ∷ []) }
 {}
 
 /// Where the resources of an image are not refused, what is told of their manifest and version information is what they

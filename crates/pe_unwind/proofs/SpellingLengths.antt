@@ -82,7 +82,7 @@ three_at_most : (v op info k : ℕ) → slots_at v op info ≡ Some k → k ≤ 
 three_at_most v op info k h = grind (arith, nat_tests)
 
 -- an operation that these operands spell
-abbrev Spelled : ℕ → ℕ → ℕ → ℕ → ℕ → List ℕ → Type 0
+abbrev pub Spelled : ℕ → ℕ → ℕ → ℕ → ℕ → List ℕ → Type 0
 Spelled v f place op info more = (o : UnwindOperation) × SpellsOperation v f place op info more o
 
 one_spelled : (v f place op info : ℕ) → HasOneSlot v op info → Spelled v f place op info []
@@ -109,7 +109,7 @@ three_spelled v f place op info a b c d (inr (inr (inr (inl h)))) = (Noop, inr (
 three_spelled v f place op info a b c d (inr (inr (inr (inr h)))) = (SaveXMM128 (xmm info) (offset f (a + 256 * b + 65536 * c + 16777216 * d)), inr (inr (inr (inr (h, refl)))))
 
 -- operands of the right length spell some operation
-all_spelled : (v f place op info k : ℕ) (more : List ℕ) → slots_at v op info ≡ Some k → 2 + length more ≡ 2 * k → Spelled v f place op info more
+pub all_spelled : (v f place op info k : ℕ) (more : List ℕ) → slots_at v op info ≡ Some k → 2 + length more ≡ 2 * k → Spelled v f place op info more
 all_spelled v f place op info k [] is n =
     let one : k ≡ 1 = omega arith in
     one_spelled v f place op info (lines_of_one v op info (rw one at is))

@@ -1,15 +1,21 @@
 -- The items of a stream of unwind codes, and that there is one reading of it.
-use Rattle.std.proofs.Common.{◌≡◌, ℕ, zero, suc, ◌%◌, ◌/◌, ◌<◌, List, [], ◌∷◌, length, drop, take, map, Option, Some, None, Result, Ok, Err, refl, ap, sym, ◌∙◌, subst, arith}
+use Rattle.std.proofs.Common.{◌≡◌, ℕ, zero, suc, ◌+◌, ◌-◌, ◌*◌, ◌%◌, ◌/◌, ◌<◌, ◌≤◌, ◌⊎◌, inl, inr, ⊎_elim, Bool, true, false, List, [], ◌∷◌, length, drop, take, map, Option, Some, None, Result, Ok, Err, refl, ap, sym, ◌∙◌, subst, arith}
+use Rattle.std.specs.Prelude.{nat_lt}
 use Rattle.std.specs.Iterator.{Yields}
+use Rattle.std.proofs.lemmas.Bool.Decides.{nat_tests}
+use Rattle.std.proofs.lemmas.List.{length-drop, length-take-le}
 use Rattle.pe_core.specs.Refusals.{Refusal, Short, UnwindCode as BadCode, kind_of}
 use Rattle.pe_core.specs.declared.error.Error.{Error}
+use Rattle.pe_core.specs.declared.error.Error.TheVariants.{Malformed, Short as TooShort}
+use Rattle.pe_core.specs.declared.error.Reason.TheVariants as reasons
 use Rattle.pe_unwind.specs.declared.unwind_code.UnwindCode.{UnwindCode}
 use Rattle.pe_unwind.specs.declared.unwind_code.UnwindCodeIterator.{UnwindCodeIterator}
 use Rattle.pe_unwind.specs.declared.unwind_code.UnwindOperation.{UnwindOperation}
 use Rattle.pe_unwind.specs.CodeStream.{CodeStream, AreItems, GivesCode, stream_of, with_left}
 use Rattle.pe_unwind.specs.FunctionTable.{answer_of}
-use Rattle.pe_unwind.specs.UnwindCodes.{SpellsOperation, Spells, BeginsWithCode, IsFault}
-use Rattle.pe_unwind.proofs.SpellingLengths.{begins_slots}
+use Rattle.pe_unwind.specs.CodeSlots.{slots_at}
+use Rattle.pe_unwind.specs.UnwindCodes.{SpellsOperation, Spells, BeginsWithCode, BeginsWithNoCode, IsFault}
+use Rattle.pe_unwind.proofs.SpellingLengths.{all_spelled, begins_slots, cut_one, cut_slots, no_slots-not_cut, none-cut, none-no_slots}
 
 abbrev pub Next : UnwindCodeIterator → Option (Result UnwindCode Error) → UnwindCodeIterator → Type 0
 Next s r t = GivesCode (stream_of s) r (stream_of t)
@@ -95,3 +101,60 @@ one_reading s (Err e ∷ xs) (Ok d ∷ ys) h k = absurd (h.1 d k.0 k.1)
 one_reading s (Err e ∷ xs) (Err x ∷ ys) h k =
     ap (λ (r : Refusal). Err r ∷ map answer_of xs) (one_fault s.version s.frame s.content (kind_of e) (kind_of x) h.2 k.2)
     ∙ ap (λ (zs : List (Result UnwindCode Error)). Err (kind_of x) ∷ map answer_of zs) (h.3 ∙ sym k.3)
+
+-- ---- a stream has a list of items
+
+-- a code that the bytes begin with, or that they begin with none, and what refuses them
+abbrev FirstItem : ℕ → ℕ → List ℕ → Type 0
+FirstItem v f b =
+    ((code : UnwindCode) × (n : ℕ) × BeginsWithCode v f b code n × (0 < n)) ⊎ (BeginsWithNoCode v f b × (e : Error) × IsFault v f b (kind_of e))
+
+none_in_one : (v f a : ℕ) (code : UnwindCode) (n : ℕ) → BeginsWithCode v f (a ∷ []) code n → ⊥
+none_in_one v f a code zero h = h.1
+none_in_one v f a code (suc zero) h = h.1
+none_in_one v f a code (suc (suc n)) h = omega (arith, h.0)
+
+one_at_least : (v op info k : ℕ) → slots_at v op info ≡ Some k → 1 ≤ k
+one_at_least v op info k h = grind (arith, nat_tests)
+
+by_room : (v f a b : ℕ) (more : List ℕ) (k : ℕ) (short : Bool) → slots_at v (b % 16) (b / 16) ≡ Some k → nat_lt (2 + length more) (2 * k) ≡ short → FirstItem v f (a ∷ b ∷ more)
+by_room v f a b more k true is e =
+    let less : 2 + length more < 2 * k = grind (arith, nat_tests) in
+    inr (λ code n h. none-cut v f (a ∷ b ∷ more) code n k is (omega (arith, less)) h, TooShort 0 0, cut_slots v f (a ∷ b ∷ more) k (omega arith) is (omega (arith, less)))
+by_room v f a b more k false is e =
+    let enough : 2 * k ≤ 2 + length more = grind (arith, nat_tests) in
+    let some : 1 ≤ k = one_at_least v (b % 16) (b / 16) k is in
+    let m : ℕ = 2 * k - 2 in
+    let size : length (take m more) ≡ m = length-take-le m more (omega (arith, enough)) in
+    let spelled = all_spelled v f a (b % 16) (b / 16) k (take m more) is (omega (arith, size, some)) in
+    inl (record { code_offset = a; operation = spelled.0 }, suc (suc m), (omega (arith, enough, some), (refl, spelled.1)), omega arith)
+
+by_slots : (v f a b : ℕ) (more : List ℕ) (slots : Option ℕ) → slots_at v (b % 16) (b / 16) ≡ slots → FirstItem v f (a ∷ b ∷ more)
+by_slots v f a b more None is =
+    inr (λ code n h. none-no_slots v f (a ∷ b ∷ more) code n is h, Malformed (reasons.UnwindCode b), λ cut. no_slots-not_cut v f (a ∷ b ∷ more) (omega arith) is cut)
+by_slots v f a b more (Some k) is = by_room v f a b more k (nat_lt (2 + length more) (2 * k)) is refl
+
+first_item : (v f : ℕ) (b : List ℕ) → 0 < length b → FirstItem v f b
+first_item v f [] some = absurd (omega (arith, some))
+first_item v f (a ∷ []) some = inr (λ code n h. none_in_one v f a code n h, TooShort 0 0, cut_one v f (a ∷ []) (omega arith) (omega arith))
+first_item v f (a ∷ b ∷ more) some = by_slots v f a b more (slots_at v (b % 16) (b / 16)) refl
+
+abbrev HasItems : ℕ → ℕ → List ℕ → Type 0
+HasItems v f b = (xs : List (Result UnwindCode Error)) × AreItems (record { content = b; version = v; frame = f }) xs
+
+items_by : (v f k : ℕ) (b : List ℕ) → length b ≤ suc k → ((d : List ℕ) → length d ≤ k → HasItems v f d) → 0 < length b → HasItems v f b
+items_by v f k b le more some =
+    ⊎_elim
+    (λ (found : (code : UnwindCode) × (n : ℕ) × BeginsWithCode v f b code n × (0 < n)).
+    let rest : HasItems v f (drop found.1 b) = more (drop found.1 b) (omega (arith, le, found.3, found.2.0, length-drop found.1 b)) in
+    (Ok found.0 ∷ rest.0, (found.1, found.2, rest.1)))
+    (λ (none : BeginsWithNoCode v f b × (e : Error) × IsFault v f b (kind_of e)). (Err none.1 ∷ [], (some, none.0, none.2, refl)))
+    (first_item v f b some)
+
+has_items : (v f k : ℕ) (b : List ℕ) → length b ≤ k → HasItems v f b
+has_items v f k [] le = ([], refl)
+has_items v f zero (x ∷ b) le = absurd (omega (arith, le))
+has_items v f (suc k) (x ∷ b) le = items_by v f k (x ∷ b) le (λ d short. has_items v f k d short) (omega arith)
+
+pub some_items : (s : CodeStream) → (xs : List (Result UnwindCode Error)) × AreItems s xs
+some_items s = has_items s.version s.frame (length s.content) s.content (omega arith)

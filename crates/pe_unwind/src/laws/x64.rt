@@ -47,13 +47,14 @@ pub fn equal_scopes_hash_alike()
         ⟦<ScopeTableEntry as Hash>⟧.hash_input x ≡ ⟦<ScopeTableEntry as Hash>⟧.hash_input y }
 {}
 
-/// The items that an iterator of unwind codes gives are the items of its stream. Bytes begin with one code at most, so a
-/// stream has one list of items, up to the numbers in a refusal.
-#[tactic(auto, using(crate::proofs::Streams::one_code, crate::proofs::Streams::one_reading))]
+/// The items that an iterator of unwind codes gives are the items of its stream. Each stream has a list of items. Bytes begin
+/// with one code at most, so it is one list, up to the numbers in a refusal.
+#[tactic(auto, using(crate::proofs::Streams::one_code, crate::proofs::Streams::one_reading, crate::proofs::Streams::some_items))]
 pub fn one_stream_of_codes()
     ensures whole { (s : UnwindCodeIterator) (xs : List (Result UnwindCode Error)) →
         Drains ⟦<UnwindCodeIterator<'static> as Iterator>⟧.next_gives s xs → AreItems (stream_of s) xs }
     ensures code { (v f : ℕ) (b : List ℕ) (c d : UnwindCode) (m n : ℕ) → BeginsWithCode v f b c m → BeginsWithCode v f b d n → (c ≡ d) × (m ≡ n) }
+    ensures exists { (s : CodeStream) → (xs : List (Result UnwindCode Error)) × AreItems s xs }
     ensures items { (s : CodeStream) (xs ys : List (Result UnwindCode Error)) → AreItems s xs → AreItems s ys → map answer_of xs ≡ map answer_of ys }
 {}
 
