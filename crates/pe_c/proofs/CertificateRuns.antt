@@ -71,7 +71,8 @@ refused_outside b w h = rw h refl
 -- what a walk gives whose table is listed so
 abbrev Gives : List ℕ → Range → Result (List CertificateView) Refusal → Type 0
 Gives b w (Ok cs) = (told : List Certificate) × GivesItems (StepsCertificates b) w (map (λ x. Ok x) told) × AllZip (TellsCertificate b) told cs
-Gives b w (Err r) = (told : List Certificate) × GivesItems (StepsCertificates b) w (map (λ x. Ok x) told ++ Err r ∷ [])
+Gives b w (Err r) =
+    (told : List Certificate) × (cs : List CertificateView) × GivesItems (StepsCertificates b) w (map (λ x. Ok x) told ++ Err r ∷ []) × AllZip (TellsCertificate b) told cs
 
 by_rest : (b : List ℕ) (w : Range) (c : CertificateView) (next : ℕ) (rest : Result (List CertificateView) Refusal) → certificate_at b w.place ≡ Ok (c, next) →
     step b w ≡ (Ok (Some (certificate_told w.place c)), walk_from w next) → Gives b (walk_from w next) rest → Gives b w (rest >>= λ cs. Ok (c ∷ cs))
@@ -80,13 +81,18 @@ by_rest b w c next (Ok cs) given e more = (
   gives_more b w c next (map (λ x. Ok x) more.0) e more.1,
   (((w.place, refl), body_is_told b w.place c next given), more.2),
 )
-by_rest b w c next (Err r) given e more = (certificate_told w.place c ∷ more.0, gives_more b w c next (map (λ x. Ok x) more.0 ++ Err r ∷ []) e more.1)
+by_rest b w c next (Err r) given e more = (
+  certificate_told w.place c ∷ more.0,
+  c ∷ more.1,
+  gives_more b w c next (map (λ x. Ok x) more.0 ++ Err r ∷ []) e more.2,
+  (((w.place, refl), body_is_told b w.place c next given), more.3),
+)
 
 by_first : (b : List ℕ) (w : Range) (first : Result (CertificateView × ℕ) Refusal) → certificate_at b w.place ≡ first → step b w ≡ step_by w first →
     ((c : CertificateView) (next : ℕ) → certificate_at b w.place ≡ Ok (c, next) → Gives b (walk_from w next) (listed b (walk_from w next))) →
     Gives b w (first >>= λ c. listed b (walk_from w c.1) >>= λ cs. Ok (c.0 ∷ cs))
 by_first b w (Ok c) given e more = by_rest b w c.0 c.1 (listed b (walk_from w c.1)) given e (more c.0 c.1 given)
-by_first b w (Err r) given e more = ([], fault b w r e)
+by_first b w (Err r) given e more = ([], [], fault b w r e, tt)
 
 -- the walk behind a certificate is shorter, and lies in the bytes
 further : (b : List ℕ) (w : Range) (next n : ℕ) (before : Bool) → nat_lt next (w.place + w.length) ≡ before → w.place < next → w.length ≤ suc n → w.place + w.length ≤ length b →
@@ -121,11 +127,12 @@ all b (suc n) w le h = by_length b w n w.length refl le h (λ v shorter inside. 
 
 whole : (b : List ℕ) (w : Range) (inside : Bool) → holds b w.place w.length ≡ inside → Gives b w (listed b w)
 whole b w true h = all b w.length w (omega arith) (grind (arith, nat_tests))
-whole b w false h = subst (λ (r : Result (List CertificateView) Refusal). Gives b w r) (sym (refused_outside b w h)) ([], lies_once b w h)
+whole b w false h = subst (λ (r : Result (List CertificateView) Refusal). Gives b w r) (sym (refused_outside b w h)) ([], [], lies_once b w h, tt)
 
 pub certificates_in_turn : (b : List ℕ) (w : Range) (cs : List CertificateView) → listed b w ≡ Ok cs →
     (told : List Certificate) × GivesItems (StepsCertificates b) w (map (λ x. Ok x) told) × AllZip (TellsCertificate b) told cs
 certificates_in_turn b w cs e = subst (λ (r : Result (List CertificateView) Refusal). Gives b w r) e (whole b w (holds b w.place w.length) refl)
 
-pub refused_in_turn : (b : List ℕ) (w : Range) (r : Refusal) → listed b w ≡ Err r → (told : List Certificate) × GivesItems (StepsCertificates b) w (map (λ x. Ok x) told ++ Err r ∷ [])
+pub refused_in_turn : (b : List ℕ) (w : Range) (r : Refusal) → listed b w ≡ Err r →
+    (told : List Certificate) × (cs : List CertificateView) × GivesItems (StepsCertificates b) w (map (λ x. Ok x) told ++ Err r ∷ []) × AllZip (TellsCertificate b) told cs
 refused_in_turn b w r e = subst (λ (x : Result (List CertificateView) Refusal). Gives b w x) e (whole b w (holds b w.place w.length) refl)

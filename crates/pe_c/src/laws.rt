@@ -159,7 +159,8 @@ pub fn walks_give_the_certificates()
     ensures certificates { (b : List ℕ) (walk : Range) (cs : List CertificateView) → listed b walk ≡ Ok cs →
         (told : List Certificate) × GivesItems (StepsCertificates b) walk (map (λ x. Ok x) told) × AllZip (TellsCertificate b) told cs }
     ensures refused { (b : List ℕ) (walk : Range) (refusal : Refusal) → listed b walk ≡ Err refusal →
-        (told : List Certificate) × GivesItems (StepsCertificates b) walk (map (λ x. Ok x) told ++ Err refusal ∷ []) }
+        (told : List Certificate) × (cs : List CertificateView) × GivesItems (StepsCertificates b) walk (map (λ x. Ok x) told ++ Err refusal ∷ []) ×
+        AllZip (TellsCertificate b) told cs }
 {}
 
 /// The ranges of a walk over exports are the tables of the export data, and what the walk tells of an entry of the name
