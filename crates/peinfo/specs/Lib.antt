@@ -6,6 +6,7 @@ pub mod DebugEntries
 pub mod CertificateLines
 pub mod FunctionLines
 pub mod Report
+pub mod Advice
 pub mod Command
 pub mod Reading
 pub mod Find

@@ -1,6 +1,7 @@
 -- A writer that counts its failures.
 use Rattle.std.specs.Prelude.{◌≡◌, ℕ, ◌+◌, ◌-◌, ◌^◌, ◌<◌, ◌⊎◌, min, List, length, take, Option}
 use Rattle.std.specs.Io.KnownBytes.{Appends}
+use Rattle.std.specs.declared.io.Error.{Error}
 use Rattle.peinfo.specs.declared.counted_out.CountedOut.{CountedOut}
 
 abbrev pub writer_of : {W : Type 0} → CountedOut W → W
@@ -8,6 +9,10 @@ writer_of out = out.writer
 
 abbrev pub failures_of : {W : Type 0} → CountedOut W → ℕ
 failures_of out = out.failures
+
+-- why the last of the failures failed, if it was not that nothing was taken
+abbrev pub cause_of : {W : Type 0} → CountedOut W → Option Error
+cause_of out = out.cause
 
 -- the greatest value of the counter
 abbrev pub MOST : ℕ

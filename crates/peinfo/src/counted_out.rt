@@ -1,6 +1,7 @@
 //! A writer that counts its failures.
 
-ghost use Rattle.std.specs.Prelude.{◌≡◌, ◌<◌, ◌≤◌, [], length, take, IfSome, IfNone, Some};
+ghost use Rattle.std.specs.Prelude.{◌≡◌, ◌<◌, ◌≤◌, [], length, take, IfSome, IfNone, Some, None};
+ghost use Rattle.std.specs.Option.{option_copied};
 ghost use Rattle.std.specs.Bool.{OnTrue, OnFalse};
 ghost use Rattle.std.specs.Io.KnownBytes.{Appends, Keeps};
 
@@ -16,12 +17,13 @@ pub struct CountedOut<W> {
 }
 
 impl<W: Write> CountedOut<W> {
-    ghost use Rattle.peinfo.specs.Output.{writer_of, failures_of, one_more};
+    ghost use Rattle.peinfo.specs.Output.{writer_of, failures_of, cause_of, one_more};
 
     /// A writer without failures so far.
     pub fn new(writer: W) -> CountedOut<W>
         ensures writer { writer_of result ≡ writer }
         ensures failures { failures_of result ≡ 0 }
+        ensures cause { cause_of result ≡ None }
     {
         CountedOut {
             writer,
@@ -50,7 +52,9 @@ impl<W: Write> CountedOut<W> {
     }
 
     /// Why the last failure failed. `None` where it took nothing, and without a failure.
-    pub fn cause(&self) -> Option<&io::Error> {
+    pub fn cause(&self) -> Option<&io::Error>
+        ensures { option_copied result ≡ cause_of self.now }
+    {
         self.cause.as_ref()
     }
 
@@ -62,6 +66,7 @@ impl<W: Write> CountedOut<W> {
         ensures taken { IfSome result (λ n. Appends (W.contents (writer_of self.old))
             (W.contents (writer_of self.new)) (take n piece.now)) }
         ensures same { IfSome result (λ _. failures_of self.new ≡ failures_of self.old) }
+        ensures same_cause { IfSome result (λ _. cause_of self.new ≡ cause_of self.old) }
         ensures none { IfNone result (Keeps (W.contents (writer_of self.old))
             (W.contents (writer_of self.new))) }
         ensures counted { IfNone result (failures_of self.new ≡ one_more (failures_of self.old)) }

@@ -18,6 +18,7 @@ mod rewrite;
 
 ghost use Rattle.std.specs.Prelude.{◌≡◌, ◌↔◌, ◌≤◌, ◌≢◌, map, IsNone, IfErr};
 ghost use Rattle.std.specs.String.{string_bytes};
+ghost use Rattle.peinfo.specs.Advice.{IsAdvice};
 ghost use Rattle.peinfo.specs.Command.{asked_of};
 ghost use Rattle.peinfo.specs.Outcome.{outcome_of};
 ghost use Rattle.peinfo.specs.declared.outcome.Outcome.TheVariants.{Misused, Fault};
@@ -120,7 +121,9 @@ fn outcome_of<R: Eprint, W: io::Write>(
 }
 
 /// What is said behind the refusal of an image in this mode: where strict mode alone refuses it, the word that helps.
-fn advice_on<A: Allocator + Copy + Drop>(alloc: A, bytes: &[u8], mode: ParseMode) -> &'static str {
+fn advice_on<A: Allocator + Copy + Drop>(alloc: A, bytes: &[u8], mode: ParseMode) -> &'static str
+    ensures { IsAdvice bytes.now mode result.now }
+{
     match mode {
         ParseMode::Permissive => "",
         ParseMode::Strict => {
