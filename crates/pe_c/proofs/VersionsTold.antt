@@ -1,12 +1,13 @@
 -- What is told of versions is what the resources hold.
 use Rattle.std.proofs.Common.{◌≡◌, ℕ, Bool, false, List, Option, Some, None, Result, Ok, Err, refl, ap, sym, ◌∙◌, subst}
 use Rattle.std.specs.Option.{option_map}
+use Rattle.pe_core.specs.Places.{bytes_in, IsWithin}
 use Rattle.pe_core.specs.Refusals.{Refusal, ◌>>=◌}
+use Rattle.pe_core.specs.declared.byte_range.ByteRange.{ByteRange}
 use Rattle.pe_core.specs.declared.section_table.SectionTable.{SectionTable}
-use Rattle.pe_resource.specs.Contents.{bytes_in, IsWithin, IsThere, inner, version_of_content}
+use Rattle.pe_resource.specs.Contents.{IsThere, inner, version_of_content}
 use Rattle.pe_resource.specs.Resources.{ResourceView, IsResourceRange}
 use Rattle.pe_resource.specs.VersionFields.{VersionView, value_named, version_in}
-use Rattle.pe_resource.specs.declared.byte_range.ByteRange.{ByteRange}
 use Rattle.pe_resource.specs.declared.version.VersionName.{VersionName}
 use Rattle.pe_resource.specs.declared.version.VsFixedFileInfo.{VsFixedFileInfo}
 use Rattle.pe_resource.proofs.ContentRanges.{manifest_in, version_in_range, version_fixed, version_named}
@@ -14,8 +15,8 @@ use Rattle.pe_resource.proofs.ValueRanges.{inner_bytes}
 use Rattle.pe_c.specs.Answers.{AnswersIf}
 use Rattle.pe_c.specs.Images.{is_absent}
 use Rattle.pe_c.specs.Modes.{options_of}
-use Rattle.pe_c.specs.Ranges.{IsRange}
-use Rattle.pe_c.specs.Versions.{IsContentBy, IsContentOf, range_of, AnswersManifest, fixed_at, AnswersFixed, value_at, AnswersText, AreResourcesOf, TellsRange, fixed_of, value_of}
+use Rattle.pe_c.specs.Ranges.{range_of, IsRange}
+use Rattle.pe_c.specs.Versions.{IsContentBy, IsContentOf, AnswersManifest, fixed_at, AnswersFixed, value_at, AnswersText, AreResourcesOf, TellsRange, fixed_of, value_of}
 use Rattle.pe_c.specs.declared.image.Image.{Image}
 use Rattle.pe_c.specs.declared.ranges.Range.{Range}
 

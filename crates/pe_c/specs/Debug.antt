@@ -14,13 +14,13 @@ use Rattle.pe_c.specs.declared.image.Image.{Image}
 use Rattle.pe_c.specs.declared.ranges.Range.{Range}
 use Rattle.pe_c.specs.Images.{is_absent}
 use Rattle.pe_c.specs.Modes.{options_of}
-use Rattle.pe_c.specs.Ranges.{no_bytes}
+use Rattle.pe_c.specs.Ranges.{no_bytes, range_of}
 
 -- where the entries of the debug directory stand, if an image has one; or what refuses their table
 unfoldable pub entries_at : List ℕ → Image → List SectionTable → ℕ → Result (Option Range) Refusal
 entries_at b image sections mode =
     if is_absent image.debug then Ok None
-    else directory_range (options_of mode) b image.debug sections image.file_alignment >>= λ r. Ok (Some (record { place = r.0; length = r.1 }))
+    else directory_range (options_of mode) b image.debug sections image.file_alignment >>= λ r. Ok (Some (range_of r))
 
 -- the debug data of an image, if it has any; or what refuses them
 unfoldable pub debug_of : List ℕ → Image → List SectionTable → ℕ → Result (Option DebugFields) Refusal

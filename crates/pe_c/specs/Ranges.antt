@@ -2,11 +2,16 @@
 use Rattle.std.specs.Prelude.{◌≡◌, ℕ, ◌+◌, ◌-◌, ◌≤◌, List, length, Option, Some, None, Result}
 use Rattle.pe_core.specs.Bytes.{range, record_at}
 use Rattle.pe_core.specs.Refusals.{Refusal}
+use Rattle.pe_core.specs.declared.byte_range.ByteRange.{ByteRange}
 use Rattle.pe_c.specs.declared.ranges.Range.{Range}
 
 -- the range of no bytes; a walk that is over
 abbrev pub no_bytes : Range
 no_bytes = record { place = 0; length = 0 }
+
+-- a range as it goes out
+abbrev pub range_of : ByteRange → Range
+range_of r = record { place = r.place; length = r.length }
 
 -- n bytes from a place on, or none without a place
 abbrev pub range_from : ℕ → Option ℕ → Range

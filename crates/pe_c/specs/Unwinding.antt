@@ -5,7 +5,7 @@ use Rattle.pe_core.specs.Refusals.{Refusal, kind_of, outcome, ◌>>=◌}
 use Rattle.pe_core.specs.declared.error.Error.{Error}
 use Rattle.pe_core.specs.declared.section_table.SectionTable.{SectionTable}
 use Rattle.pe_unwind.specs.CodeStream.{CodeStream, GivesCode}
-use Rattle.pe_unwind.specs.ExceptionTable.{ExceptionView, exception_at, function_of}
+use Rattle.pe_unwind.specs.ExceptionTable.{ExceptionView, exception_at, table_range, function_of}
 use Rattle.pe_unwind.specs.FunctionTable.{functions, Finds}
 use Rattle.pe_unwind.specs.Links.{links_of}
 use Rattle.pe_unwind.specs.Places.{data_of}
@@ -21,7 +21,7 @@ use Rattle.pe_unwind.specs.declared.unwind_code.UnwindOperation.TheVariants.{Pus
 use Rattle.pe_c.specs.Images.{is_absent}
 use Rattle.pe_c.specs.Answers.{Answers, AnswersIf}
 use Rattle.pe_c.specs.Modes.{options_of}
-use Rattle.pe_c.specs.Ranges.{no_bytes, last_range, bytes_at}
+use Rattle.pe_c.specs.Ranges.{no_bytes, range_of, last_range, bytes_at}
 use Rattle.pe_c.specs.declared.image.Image.{Image}
 use Rattle.pe_c.specs.declared.ranges.Range.{Range}
 use Rattle.pe_c.specs.declared.unwinding.Code.{Code}
@@ -30,16 +30,12 @@ use Rattle.pe_c.specs.declared.unwinding.UnwindRecord.{UnwindRecord}
 
 -- ---- function tables
 
--- where a function table stands
-abbrev pub table_range : ExceptionView → Range
-table_range v = record { place = v.start; length = v.size }
-
 -- where the function table of an image for this machine stands, of entries of this width, if it has one; or what refuses it
 unfoldable pub table_at : ℕ → ℕ → List ℕ → Image → List SectionTable → ℕ → Result (Option Range) Refusal
 table_at machine width b image sections mode =
     if image.machine == machine
     then (if is_absent image.exceptions then Ok None
-    else exception_at width b image.exceptions sections image.file_alignment (options_of mode) >>= λ v. Ok (Some (table_range v)))
+    else exception_at width b image.exceptions sections image.file_alignment (options_of mode) >>= λ v. Ok (Some (range_of (table_range v))))
     else Ok None
 
 -- what lookup of an address in these entries answers, or in a table that is refused

@@ -1,13 +1,14 @@
 -- The version information of an image, and its manifest.
 use Rattle.std.specs.Prelude.{◌≡◌, ℕ, ◌==◌, Bool, true, false, List, Option, Some, None, Result, Ok, if◌then◌else◌}
 use Rattle.std.specs.Option.{option_map}
+use Rattle.pe_core.specs.Places.{bytes_in}
 use Rattle.pe_core.specs.Refusals.{Refusal, ◌>>=◌}
+use Rattle.pe_core.specs.declared.byte_range.ByteRange.{ByteRange}
 use Rattle.pe_core.specs.declared.options.ParseOptions.{ParseOptions}
 use Rattle.pe_core.specs.declared.section_table.SectionTable.{SectionTable}
-use Rattle.pe_resource.specs.Contents.{bytes_in, inner}
+use Rattle.pe_resource.specs.Contents.{inner}
 use Rattle.pe_resource.specs.Resources.{ResourceView, IsResource, IsResourceRange}
 use Rattle.pe_resource.specs.VersionFields.{VersionView, fixed_info_of, value_named, value_range_in}
-use Rattle.pe_resource.specs.declared.byte_range.ByteRange.{ByteRange}
 use Rattle.pe_resource.specs.declared.version.VersionName.{VersionName}
 use Rattle.pe_resource.specs.declared.version.VersionName.TheVariants as names
 use Rattle.pe_resource.specs.declared.version.VsFixedFileInfo.{VsFixedFileInfo}
@@ -16,7 +17,7 @@ use Rattle.pe_c.specs.declared.ranges.Range.{Range}
 use Rattle.pe_c.specs.Answers.{AnswersIf}
 use Rattle.pe_c.specs.Images.{is_absent}
 use Rattle.pe_c.specs.Modes.{options_of}
-use Rattle.pe_c.specs.Ranges.{IsRange}
+use Rattle.pe_c.specs.Ranges.{range_of, IsRange}
 
 -- where the content of the first resource with an id lies, or what refuses it; an image without a resource directory has none
 abbrev pub IsContentBy : Bool → ParseOptions → List ℕ → Image → List SectionTable → ℕ → Result (Option ByteRange) Refusal → Type 0
@@ -25,10 +26,6 @@ IsContentBy false o b image sections id r = IsResourceRange o b image.resources 
 
 abbrev pub IsContentOf : List ℕ → Image → List SectionTable → ℕ → ℕ → Result (Option ByteRange) Refusal → Type 0
 IsContentOf b image sections mode id r = IsContentBy (is_absent image.resources) (options_of mode) b image sections id r
-
--- a range as it goes out
-abbrev pub range_of : ByteRange → Range
-range_of r = record { place = r.place; length = r.length }
 
 -- what is told of a manifest: the content of the resource with the id 24
 abbrev pub AnswersManifest : List ℕ → Image → List SectionTable → ℕ → ℕ → Range → Range → Type 0

@@ -12,8 +12,7 @@ ghost use Rattle.pe_c.specs.Walks.{next_of, walk_of};
 
 use crate::answers::{DONE, hand_out, hand_out_some, options};
 use crate::image::{Image, is_absent};
-use crate::ranges::{NO_BYTES, Range, last_range, slice_of};
-use crate::unwinding::table_range;
+use crate::ranges::{NO_BYTES, Range, last_range, range_of, slice_of};
 use crate::walks::next_entry;
 use pe_core::{Error, Reason, Result, SectionTable, u32_at};
 use pe_unwind::{
@@ -134,7 +133,7 @@ fn table_of(
     let exceptions = ExceptionData::parse_arm64_with_opts(
         bytes, directory, sections, alignment, &opts,
     )?;
-    Ok(Some(table_range(&exceptions)))
+    Ok(Some(range_of(exceptions.table_range())))
 }
 
 /// Finds the function table of an ARM64 image: `NOTHING` where it has none, or is for another machine. Else what refuses the

@@ -9,7 +9,7 @@ ghost use Rattle.pe_c.specs.Debug.{entries_at, debug_of, told_of, part_behind, k
 
 use crate::answers::{DONE, NOTHING, hand_out_some, number_of, options};
 use crate::image::{Image, is_absent};
-use crate::ranges::{NO_BYTES, Range};
+use crate::ranges::{NO_BYTES, Range, range_of};
 use pe_core::{ParseOptions, Result, SectionTable};
 use pe_records::{
     DebugData, IMAGE_DEBUG_TYPE_CODEVIEW, IMAGE_DEBUG_TYPE_POGO, IMAGE_DEBUG_TYPE_REPRO, ReproInfo,
@@ -84,11 +84,8 @@ fn table_of(
     }
     let alignment = image.file_alignment;
     let opts = options(mode);
-    let (place, length) = DebugData::table_range(bytes, directory, sections, alignment, &opts)?;
-    Ok(Some(Range {
-        place: place as u64,
-        length: length as u64,
-    }))
+    let range = DebugData::table_range(bytes, directory, sections, alignment, &opts)?;
+    Ok(Some(range_of(range)))
 }
 
 /// Finds the debug directory's entries, a walk for `pe_c_next_debug_entry`: `NOTHING` where the directory is absent;

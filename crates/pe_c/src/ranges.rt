@@ -2,9 +2,9 @@
 
 ghost use Rattle.std.specs.Prelude.{◌≡◌, ◌+◌, ◌≤◌};
 ghost use Rattle.pe_core.specs.Refusals.{Gives};
-ghost use Rattle.pe_c.specs.Ranges.{bytes_at, range_from};
+ghost use Rattle.pe_c.specs.Ranges.{bytes_at, range_of, range_from};
 
-use pe_core::{Result, slice_at};
+use pe_core::{ByteRange, Result, slice_at};
 
 /// So many bytes from a place on.
 #[repr(C)]
@@ -25,6 +25,16 @@ pub fn slice_of<'a>(bytes: &'a [u8], range: &Range) -> Result<&'a [u8]>
     ensures { Gives (λ s. s.now) result (bytes_at bytes.entry.now range.now) }
 {
     slice_at(bytes, range.place as usize, range.length as usize)
+}
+
+/// A range as it goes out.
+pub fn range_of(range: ByteRange) -> Range
+    ensures { result ≡ range_of range }
+{
+    Range {
+        place: range.place as u64,
+        length: range.length as u64,
+    }
 }
 
 /// So many bytes from a place on, or none without a place.

@@ -8,12 +8,12 @@ ghost use Rattle.pe_unwind.specs.ScopeTable.{scope_at};
 ghost use Rattle.pe_unwind.specs.UnwindRecord.{unwind_view};
 ghost use Rattle.pe_c.specs.Answers.{Answers, AnswersIf};
 ghost use Rattle.pe_c.specs.Ranges.{bytes_at};
-ghost use Rattle.pe_c.specs.Unwinding.{table_range, table_at, LocatesIn, AnswersFound, function_in, is_some_number, or_no_function, handler_kind, handler_address, handler_range, flat_record, flat_record_at, FindsPlace, FollowsToRecord, AnswersRecord, from_frame, bytes_from, saving, plain, flat, StepsOver, WalksIn, AnswersCode, scopes_at};
+ghost use Rattle.pe_c.specs.Unwinding.{table_at, LocatesIn, AnswersFound, function_in, is_some_number, or_no_function, handler_kind, handler_address, handler_range, flat_record, flat_record_at, FindsPlace, FollowsToRecord, AnswersRecord, from_frame, bytes_from, saving, plain, flat, StepsOver, WalksIn, AnswersCode, scopes_at};
 ghost use Rattle.pe_c.specs.Walks.{next_of, walk_of};
 
 use crate::answers::{DONE, NOTHING, hand_out, hand_out_some, number_of, options};
 use crate::image::{Image, is_absent};
-use crate::ranges::{NO_BYTES, Range, last_range, slice_of};
+use crate::ranges::{NO_BYTES, Range, last_range, range_of, slice_of};
 use crate::walks::next_entry;
 use pe_core::{CountedTable, Result, SectionTable};
 use pe_unwind::{
@@ -79,17 +79,6 @@ pub struct Code {
     pub value: u32,
 }
 
-/// Where the function table of exception data stands.
-pub fn table_range(exceptions: &ExceptionData) -> Range
-    ensures { result ≡ table_range exceptions.now }
-{
-    let places = exceptions.places();
-    Range {
-        place: places.start as u64,
-        length: (places.end - places.start) as u64,
-    }
-}
-
 #[tactic(auto, unfolding(crate::specs::Unwinding::table_at))]
 fn table_of(
     bytes: &[u8],
@@ -111,7 +100,7 @@ fn table_of(
         alignment,
         &options(mode),
     )?;
-    Ok(Some(table_range(&exceptions)))
+    Ok(Some(range_of(exceptions.table_range())))
 }
 
 /// Finds the function table of an x64 image: `NOTHING` where it has none, or is for another machine. Else what refuses the

@@ -2,15 +2,16 @@
 
 ghost use Rattle.std.specs.Prelude.{◌≡◌, IfOk, IfSome};
 ghost use Rattle.std.specs.Option.{option_map};
+ghost use Rattle.pe_core.specs.Places.{IsWithin};
 ghost use Rattle.pe_core.specs.Refusals.{answer_by};
-ghost use Rattle.pe_resource.specs.Contents.{IsWithin, inner};
-ghost use Rattle.pe_c.specs.Versions.{IsContentOf, range_of, AnswersManifest, fixed_at, AnswersFixed, value_at, name_at, AnswersText};
+ghost use Rattle.pe_resource.specs.Contents.{inner};
+ghost use Rattle.pe_c.specs.Versions.{IsContentOf, AnswersManifest, fixed_at, AnswersFixed, value_at, name_at, AnswersText};
 
 use crate::answers::{NOTHING, hand_out_some, number_of, options};
 use crate::image::{Image, is_absent};
-use crate::ranges::Range;
-use pe_core::{Result, SectionTable};
-use pe_resource::{ByteRange, RT_MANIFEST, RT_VERSION, ResourceData, VersionName, VsFixedFileInfo};
+use crate::ranges::{Range, range_of};
+use pe_core::{ByteRange, Result, SectionTable};
+use pe_resource::{RT_MANIFEST, RT_VERSION, ResourceData, VersionName, VsFixedFileInfo};
 
 /// Where the content of the first resource with an id lies, if the image has resources.
 fn content_of(
@@ -29,15 +30,6 @@ fn content_of(
     }
     let alignment = image.file_alignment;
     ResourceData::content_range(bytes, directory, id, sections, alignment, &options(mode))
-}
-
-fn range_of(range: ByteRange) -> Range
-    ensures { result ≡ range_of range }
-{
-    Range {
-        place: range.place as u64,
-        length: range.length as u64,
-    }
 }
 
 /// Tells where the manifest lies: `NOTHING` without one. What the version information says doesn't matter.
@@ -64,9 +56,7 @@ fn fixed_at(bytes: &[u8], content: Option<ByteRange>) -> Result<Option<VsFixedFi
 {
     match content {
         None => Ok(None),
-        Some(ByteRange { place, length }) => {
-            VsFixedFileInfo::of_strings(&bytes[place..place + length])
-        }
+        Some(content) => VsFixedFileInfo::of_strings(content.of(bytes)),
     }
 }
 
@@ -94,15 +84,13 @@ fn value_at(bytes: &[u8], name: VersionName, content: Option<ByteRange>) -> Resu
 {
     match content {
         None => Ok(None),
-        Some(ByteRange { place, length }) => {
-            match name.value_range(&bytes[place..place + length])? {
-                None => Ok(None),
-                Some(value) => Ok(Some(Range {
-                    place: place as u64 + value.place as u64,
-                    length: value.length as u64,
-                })),
-            }
-        }
+        Some(content) => match name.value_range(content.of(bytes))? {
+            None => Ok(None),
+            Some(value) => Ok(Some(Range {
+                place: content.place as u64 + value.place as u64,
+                length: value.length as u64,
+            })),
+        },
     }
 }
 

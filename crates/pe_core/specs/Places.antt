@@ -1,6 +1,14 @@
 -- Where bytes stand.
 use Rattle.std.specs.Prelude.{◌≡◌, ℕ, ◌+◌, ◌≤◌, List, length}
 use Rattle.pe_core.specs.Bytes.{range}
+use Rattle.pe_core.specs.declared.byte_range.ByteRange.{ByteRange}
+
+-- the bytes of a range, and that they are there
+abbrev pub bytes_in : List ℕ → ByteRange → List ℕ
+bytes_in b r = range b r.place r.length
+
+abbrev pub IsWithin : List ℕ → ByteRange → Type 0
+IsWithin b r = r.place + r.length ≤ length b
 
 -- these bytes stand at p
 pub record StandAt (b : List ℕ) (p : ℕ) (part : List ℕ) : Type 0 where

@@ -4,6 +4,7 @@
 //! Microsoft's PE format.
 #![tactic(auto)]
 
+mod byte_range;
 mod bytes;
 mod counted_table;
 mod data_directories;
@@ -24,6 +25,7 @@ mod strtab;
 mod symbol;
 mod text;
 
+pub use byte_range::ByteRange;
 pub use bytes::{
     data_at, number8, number16, number32, number64, put_slice, put_u8, put_u16, put_u32, put_u64,
     require_bytes, require_room, slice_at, split_entry, u8_at, u16_at, u32_at, u64_at,

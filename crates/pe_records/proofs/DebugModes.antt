@@ -4,6 +4,7 @@ use Rattle.std.specs.Prelude.{◌-◌, length, min, nat_lt, if◌then◌else◌}
 use Rattle.pe_core.specs.Bytes.{holds}
 use Rattle.pe_core.specs.Refusals.{Refusal, DebugSize, DebugBounds, ◌>>=◌}
 use Rattle.pe_core.specs.SectionMap.{place_of}
+use Rattle.pe_core.specs.declared.byte_range.ByteRange.{ByteRange}
 use Rattle.pe_core.specs.declared.data_directories.DataDirectory.{DataDirectory}
 use Rattle.pe_core.specs.declared.options.ParseMode.{ParseMode}
 use Rattle.pe_core.specs.declared.options.ParseMode.TheVariants.{Strict, Permissive}
@@ -26,15 +27,15 @@ sized : {X : Type 0} (small : Bool) (there : Result (Option X) Refusal) (x : Opt
 sized true there x e = absurd cc
 sized false there x e = e
 
-bounded : (inside : Bool) (x y z : ℕ × ℕ) → (if inside then Ok x else Err DebugBounds) ≡ Ok z → if◌then◌else◌ {A = Result (ℕ × ℕ) Refusal} inside (Ok x) (Ok y) ≡ Ok z
+bounded : (inside : Bool) (x y z : ByteRange) → (if inside then Ok x else Err DebugBounds) ≡ Ok z → if◌then◌else◌ {A = Result ByteRange Refusal} inside (Ok x) (Ok y) ≡ Ok z
 bounded true x y z e = e
 bounded false x y z e = absurd cc
 
-strict_range_at : (b : List ℕ) (size : ℕ) (place : Option ℕ) (r : ℕ × ℕ) → range_at b Strict size place ≡ Ok r → range_at b Permissive size place ≡ Ok r
+strict_range_at : (b : List ℕ) (size : ℕ) (place : Option ℕ) (r : ByteRange) → range_at b Strict size place ≡ Ok r → range_at b Permissive size place ≡ Ok r
 strict_range_at b size None r e = e
-strict_range_at b size (Some place) r e = bounded (holds b place size) (place, size) (min place (length b), length b - place) r e
+strict_range_at b size (Some place) r e = bounded (holds b place size) (record { place = place; length = size }) (record { place = min place (length b); length = length b - place }) r e
 
-strict_range : (o : ParseOptions) (b : List ℕ) (d : DataDirectory) (sections : List SectionTable) (alignment : ℕ) (r : ℕ × ℕ) → directory_range (in_mode Strict o) b d sections alignment ≡ Ok r → directory_range (in_mode Permissive o) b d sections alignment ≡ Ok r
+strict_range : (o : ParseOptions) (b : List ℕ) (d : DataDirectory) (sections : List SectionTable) (alignment : ℕ) (r : ByteRange) → directory_range (in_mode Strict o) b d sections alignment ≡ Ok r → directory_range (in_mode Permissive o) b d sections alignment ≡ Ok r
 unfolding directory_range
 strict_range o b d sections alignment r e = strict_range_at b d.size (place_of o.resolve_rva alignment sections d.virtual_address) r e
 

@@ -2,12 +2,14 @@
 -- (PE format: debug directory; the bounds by mode and the fixup are this project's profile.)
 use Rattle.std.specs.Prelude.{◌≡◌, ℕ, ◌+◌, ◌-◌, ◌/◌, ◌==◌, List, [], ◌∷◌, length, min, Option, Some, None, Result, Ok, Err, if◌then◌else◌}
 use Rattle.std.specs.List.{find}
-use Rattle.pe_core.specs.Bytes.{le, holds, range}
+use Rattle.pe_core.specs.Bytes.{le, holds}
 use Rattle.pe_core.specs.Options.{is_permissive}
+use Rattle.pe_core.specs.Places.{bytes_in}
 use Rattle.pe_core.specs.Refusals.{Refusal, Unmapped, DebugBounds, kind_of, ◌>>=◌}
 use Rattle.pe_core.specs.Rows as Rows
 use Rattle.pe_core.specs.SectionMap.{place_of}
 use Rattle.pe_core.specs.TerseHeader.{reduced}
+use Rattle.pe_core.specs.declared.byte_range.ByteRange.{ByteRange}
 use Rattle.pe_core.specs.declared.data_directories.DataDirectory.{DataDirectory}
 use Rattle.pe_core.specs.declared.error.Error.{Error}
 use Rattle.pe_core.specs.declared.options.ParseMode.{ParseMode}
@@ -18,20 +20,20 @@ use Rattle.pe_records.specs.declared.debug.ImageDebugDirectoryIterator.{ImageDeb
 
 -- ---- the table
 
--- the place and length of a table of this size at this place: past the end of the file it is refused, or cut at the end
-abbrev pub range_at : List ℕ → ParseMode → ℕ → Option ℕ → Result (ℕ × ℕ) Refusal
+-- the range of a table of this size at this place: past the end of the file it is refused, or cut at the end
+abbrev pub range_at : List ℕ → ParseMode → ℕ → Option ℕ → Result ByteRange Refusal
 range_at b mode size None = Err Unmapped
 range_at b mode size (Some place) =
-    if holds b place size then Ok (place, size)
-    else (if is_permissive mode then Ok (min place (length b), length b - place) else Err DebugBounds)
+    if holds b place size then Ok (record { place = place; length = size })
+    else (if is_permissive mode then Ok (record { place = min place (length b); length = length b - place }) else Err DebugBounds)
 
 -- where the table of a directory stands
-unfoldable pub directory_range : ParseOptions → List ℕ → DataDirectory → List SectionTable → ℕ → Result (ℕ × ℕ) Refusal
+unfoldable pub directory_range : ParseOptions → List ℕ → DataDirectory → List SectionTable → ℕ → Result ByteRange Refusal
 directory_range o b d sections alignment = range_at b o.parse_mode d.size (place_of o.resolve_rva alignment sections d.virtual_address)
 
 -- the bytes of the table of a directory
 unfoldable pub directory_table : ParseOptions → List ℕ → DataDirectory → List SectionTable → ℕ → Result (List ℕ) Refusal
-directory_table o b d sections alignment = directory_range o b d sections alignment >>= λ r. Ok (range b r.0 r.1)
+directory_table o b d sections alignment = directory_range o b d sections alignment >>= λ r. Ok (bytes_in b r)
 
 -- ---- its entries
 

@@ -13,6 +13,7 @@ ghost use Rattle.std.specs.Iterator.SizeHint.{IsWithinCount};
 ghost use Rattle.std.specs.Option.{option_map};
 ghost use Rattle.pe_core.specs.Refusals.{Gives};
 ghost use Rattle.pe_core.specs.Options.{default_options};
+ghost use Rattle.pe_core.specs.Places.{IsWithin};
 ghost use Rattle.pe_core.specs.TerseHeader.{reduced};
 ghost use Rattle.pe_records.specs.DebugDirectory.{entry_at, directory_range, directory_table, GivesEntry, rest_of, fixup_of, count, first_of_type};
 ghost use Rattle.pe_records.specs.DebugRecords.{debug_data, debug_view, record_place, records, table_of, fixup_of_data, of_entry, some_of_entry, pdb70_view, pdb70_of, pdb20_view, pdb20_of, features_of, characteristics_of, repro_view, repro_of, pogo_view, pogo_of};
@@ -38,8 +39,8 @@ pub use constants::{
 };
 use first_entries::FirstEntries;
 use pe_core::{
-    DataDirectory, Error, ParseMode, ParseOptions, Reason, Result, SectionTable, find_offset,
-    number16, number32, require_bytes, split_entry,
+    ByteRange, DataDirectory, Error, ParseMode, ParseOptions, Reason, Result, SectionTable,
+    find_offset, number16, number32, require_bytes, split_entry,
 };
 pub use pogo::{POGOEntryIterator, POGOInfo, POGOInfoEntry};
 pub use records::{ExDllCharacteristicsInfo, ReproInfo, VCFeatureInfo};
@@ -185,8 +186,8 @@ fn table<'a>(
     ensures { Gives (λ s. s.now) result
         (directory_table opts.now bytes.entry.now dd sections.now file_alignment) }
 {
-    let (place, length) = DebugData::table_range(bytes, dd, sections, file_alignment, opts)?;
-    Ok(&bytes[place..place + length])
+    let range = DebugData::table_range(bytes, dd, sections, file_alignment, opts)?;
+    Ok(range.of(bytes))
 }
 
 /// The debug data of an image.
@@ -232,8 +233,8 @@ impl<'a> DebugData<'a> {
         })
     }
 
-    /// The place and the length of a directory's table of entries. Refusals: `Unmapped`; `DebugBounds` for a table past
-    /// the end of the file, which is cut there in permissive mode.
+    /// The range of a directory's table of entries. Refusals: `Unmapped`; `DebugBounds` for a table past the end of the
+    /// file, which is cut there in permissive mode.
     #[tactic(auto, unfolding(crate::specs::DebugDirectory::directory_range))]
     pub fn table_range(
         bytes: &[u8],
@@ -241,10 +242,10 @@ impl<'a> DebugData<'a> {
         sections: &[SectionTable],
         file_alignment: u32,
         opts: &ParseOptions,
-    ) -> Result<(usize, usize)>
+    ) -> Result<ByteRange>
         ensures range { Gives (λ r. r) result
             (directory_range opts.now bytes.now dd sections.now file_alignment) }
-        ensures within { IfOk result (λ r. r.0 + r.1 ≤ length bytes.now) }
+        ensures within { IfOk result (IsWithin bytes.now) }
     {
         let address = dd.virtual_address as usize;
         let size = dd.size as usize;
@@ -252,14 +253,20 @@ impl<'a> DebugData<'a> {
             return Err(Error::Malformed(Reason::Unmapped(address as u64)));
         };
         match (require_bytes(bytes, place, size), opts.parse_mode) {
-            (Ok(()), _) => Ok((place, size)),
+            (Ok(()), _) => Ok(ByteRange {
+                place,
+                length: size,
+            }),
             (Err(_), ParseMode::Strict) => {
                 let end = place.saturating_add(size) as u64;
                 Err(Error::Malformed(Reason::DebugBounds(end)))
             }
             (Err(_), ParseMode::Permissive) => {
                 let start = place.min(bytes.len());
-                Ok((start, bytes.len() - start))
+                Ok(ByteRange {
+                    place: start,
+                    length: bytes.len() - start,
+                })
             }
         }
     }

@@ -2,19 +2,20 @@
 use Rattle.std.proofs.Common.{◌≡◌, ℕ, ◌+◌, ◌≤◌, Bool, true, false, List, [], ◌∷◌, length, Option, Some, None, Result, Ok, Err, refl, ap, sym, ◌∙◌, subst, arith}
 use Rattle.std.proofs.lemmas.Bool.Decides.{nat_tests}
 use Rattle.pe_core.specs.Bytes.{holds}
+use Rattle.pe_core.specs.Places.{IsWithin}
 use Rattle.pe_core.specs.Refusals.{Refusal, Short, ResourceBounds, outcome, ◌>>=◌}
+use Rattle.pe_core.specs.declared.byte_range.ByteRange.{ByteRange}
 use Rattle.pe_core.specs.declared.data_directories.DataDirectory.{DataDirectory}
 use Rattle.pe_core.specs.declared.options.ParseMode.{ParseMode}
 use Rattle.pe_core.specs.declared.options.ParseOptions.{ParseOptions}
 use Rattle.pe_core.specs.declared.section_table.SectionTable.{SectionTable}
-use Rattle.pe_resource.specs.declared.byte_range.ByteRange.{ByteRange}
 use Rattle.pe_resource.specs.declared.content.ResourceDataEntry.{ResourceDataEntry}
 use Rattle.pe_resource.specs.declared.directory.ImageResourceDirectory.{ImageResourceDirectory}
 use Rattle.pe_resource.specs.declared.entry.ResourceEntry.{ResourceEntry}
 use Rattle.pe_resource.specs.declared.version.VersionName.{VersionName}
 use Rattle.pe_resource.specs.declared.version.VersionName.TheVariants as names
 use Rattle.pe_resource.specs.declared.version.VsFixedFileInfo.{VsFixedFileInfo}
-use Rattle.pe_resource.specs.Contents.{map_of, IsWithin, IsThere, data_entry_at, file_range, named_range, range_in, IsContentRange, content_of, IsContent, version_of_content, IsVersion}
+use Rattle.pe_resource.specs.Contents.{map_of, IsThere, data_entry_at, file_range, named_range, range_in, IsContentRange, content_of, IsContent, version_of_content, IsVersion}
 use Rattle.pe_resource.specs.ResourceEntries.{entries}
 use Rattle.pe_resource.specs.Resources.{ResourceView, no_resources, first_entries_in, directory_and_data, IsWithManifest, IsBehindEntries, IsBehindDirectory, IsResource, IsRangeBehindEntries, IsRangeBehindDirectory, IsResourceRange, IsManifestIn, IsVersionIn}
 use Rattle.pe_resource.specs.VersionFields.{VersionView, file_strings, fixed_info_of, name_of, value_named, version_in, value_range_in}

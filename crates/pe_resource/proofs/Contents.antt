@@ -1,8 +1,8 @@
 -- What lies behind entries, put together.
 use Rattle.std.proofs.Common.{◌≡◌, ℕ, List, Option, Some, None, Result, Ok, Err, refl, ap, sym, ◌∙◌, subst}
 use Rattle.pe_core.specs.Refusals.{Refusal, Gives, ◌>>=◌, answer_by}
+use Rattle.pe_core.specs.declared.byte_range.ByteRange.{ByteRange}
 use Rattle.pe_core.specs.declared.error.Error.{Error}
-use Rattle.pe_resource.specs.declared.byte_range.ByteRange.{ByteRange}
 use Rattle.pe_resource.specs.declared.directory.ImageResourceDirectory.{ImageResourceDirectory}
 use Rattle.pe_resource.specs.declared.entry.ResourceEntry.{ResourceEntry}
 use Rattle.pe_resource.specs.Contents.{IsLeaf, named_range, range_in, IsContentRange, content_of, IsContent, version_of_content, IsVersion}

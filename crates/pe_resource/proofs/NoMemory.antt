@@ -3,17 +3,18 @@ use Rattle.std.proofs.Common.{◌≡◌, ◌≢◌, ℕ, zero, suc, ◌==◌, �
 use Rattle.std.specs.Prelude.{nat_le, codes}
 use Rattle.pe_core.specs.Bytes.{holds, le, range, record_at}
 use Rattle.pe_core.specs.Options.{is_permissive}
+use Rattle.pe_core.specs.Places.{bytes_in}
 use Rattle.pe_core.specs.Refusals.{Refusal, Memory, Short, Unmapped, ResourceBounds, ResourceCycle, outcome, ◌>>=◌}
 use Rattle.pe_core.specs.Refusals as refusals
 use Rattle.pe_core.specs.SectionMap.{place_of}
+use Rattle.pe_core.specs.declared.byte_range.ByteRange.{ByteRange}
 use Rattle.pe_core.specs.declared.data_directories.DataDirectory.{DataDirectory}
 use Rattle.pe_core.specs.declared.options.ParseMode.{ParseMode}
 use Rattle.pe_core.specs.declared.options.ParseOptions.{ParseOptions}
 use Rattle.pe_core.specs.declared.section_table.SectionTable.{SectionTable}
-use Rattle.pe_resource.specs.declared.byte_range.ByteRange.{ByteRange}
 use Rattle.pe_resource.specs.declared.directory.ImageResourceDirectory.{ImageResourceDirectory}
 use Rattle.pe_resource.specs.declared.entry.ResourceEntry.{ResourceEntry}
-use Rattle.pe_resource.specs.Contents.{map_of, IsLeaf, bytes_in, file_range, file_bytes, named_range, data_entry_at, range_in, IsContentRange, content_of, IsContent, version_of_content, IsVersion}
+use Rattle.pe_resource.specs.Contents.{map_of, IsLeaf, file_range, file_bytes, named_range, data_entry_at, range_in, IsContentRange, content_of, IsContent, version_of_content, IsVersion}
 use Rattle.pe_resource.specs.Directories.{directory_at, directory_at_place, directory_of, count}
 use Rattle.pe_resource.specs.ResourceEntries.{with_id, is_directory, data_place, entries}
 use Rattle.pe_resource.specs.ResourceWalk.{Walks}

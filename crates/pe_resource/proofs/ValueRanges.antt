@@ -5,11 +5,12 @@ use Rattle.std.proofs.lemmas.List.{places, same_lists}
 use Rattle.std.specs.Option.{option_map}
 use Rattle.std.specs.Prelude.{nat_le}
 use Rattle.pe_core.specs.Bytes.{range, holds}
+use Rattle.pe_core.specs.Places.{bytes_in, IsWithin}
 use Rattle.pe_core.specs.Refusals.{Refusal}
+use Rattle.pe_core.specs.declared.byte_range.ByteRange.{ByteRange}
 use Rattle.pe_core.specs.declared.error.Error.{Error}
-use Rattle.pe_resource.specs.declared.byte_range.ByteRange.{ByteRange}
 use Rattle.pe_resource.specs.declared.string.ResourceString.{ResourceString}
-use Rattle.pe_resource.specs.Contents.{bytes_in, IsWithin, IsThere, inner, content_of}
+use Rattle.pe_resource.specs.Contents.{IsThere, inner, content_of}
 use Rattle.pe_resource.specs.VersionStrings.{VersionString, string_view, string_at, string_and_next, key_length, value_bytes, value_place, value_begin, value_range, lengthened, up_to_four, GivesString, then_more, strings, read, value_of, is_name, text}
 use Rattle.pe_resource.proofs.StringLists.{string_read, further, strings_begin, strings_empty, strings_more, strings_fault, strings_none}
 

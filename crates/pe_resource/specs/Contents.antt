@@ -1,13 +1,14 @@
 -- What lies behind an entry of the first directory: a leaf, its data entry, and the bytes of the file that this names.
 -- (PE format: resource data entries; the rest by this project's profile.)
-use Rattle.std.specs.Prelude.{◌≡◌, ℕ, ◌+◌, ◌≤◌, List, [], ◌∷◌, length, Option, Some, None, Result, Ok, Err}
+use Rattle.std.specs.Prelude.{◌≡◌, ℕ, ◌+◌, List, [], ◌∷◌, Option, Some, None, Result, Ok, Err}
 use Rattle.std.specs.Option.{option_map}
-use Rattle.pe_core.specs.Bytes.{le, range, holds, record_at}
+use Rattle.pe_core.specs.Bytes.{le, holds, record_at}
+use Rattle.pe_core.specs.Places.{bytes_in, IsWithin}
 use Rattle.pe_core.specs.Refusals.{Refusal, Unmapped, ResourceBounds, outcome, ◌>>=◌}
 use Rattle.pe_core.specs.SectionMap.{place_of}
+use Rattle.pe_core.specs.declared.byte_range.ByteRange.{ByteRange}
 use Rattle.pe_core.specs.declared.options.ParseOptions.{ParseOptions}
 use Rattle.pe_core.specs.declared.section_table.SectionTable.{SectionTable}
-use Rattle.pe_resource.specs.declared.byte_range.ByteRange.{ByteRange}
 use Rattle.pe_resource.specs.declared.content.ResourceDataEntry.{ResourceDataEntry}
 use Rattle.pe_resource.specs.declared.entry.ResourceEntry.{ResourceEntry}
 use Rattle.pe_resource.specs.ResourceEntries.{with_id, is_directory, data_place}
@@ -32,13 +33,6 @@ data_entry_at b p = record {
   code_page = le b (p + 8) 4;
   reserved = le b (p + 12) 4;
 }
-
--- the bytes of a range, and that they are there
-abbrev pub bytes_in : List ℕ → ByteRange → List ℕ
-bytes_in f r = range f r.place r.length
-
-abbrev pub IsWithin : List ℕ → ByteRange → Type 0
-IsWithin f r = r.place + r.length ≤ length f
 
 -- no range and nothing, or a range that is there and its bytes
 abbrev pub IsThere : List ℕ → Option ByteRange → Option (List ℕ) → Type 0

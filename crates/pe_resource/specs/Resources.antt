@@ -4,11 +4,11 @@ use Rattle.std.specs.Option.{option_map}
 use Rattle.pe_core.specs.Bytes.{range, holds}
 use Rattle.pe_core.specs.Options.{is_permissive}
 use Rattle.pe_core.specs.Refusals.{Refusal, ResourceBounds, ◌>>=◌}
+use Rattle.pe_core.specs.declared.byte_range.ByteRange.{ByteRange}
 use Rattle.pe_core.specs.declared.data_directories.DataDirectory.{DataDirectory}
 use Rattle.pe_core.specs.declared.options.ParseMode.{ParseMode}
 use Rattle.pe_core.specs.declared.options.ParseOptions.{ParseOptions}
 use Rattle.pe_core.specs.declared.section_table.SectionTable.{SectionTable}
-use Rattle.pe_resource.specs.declared.byte_range.ByteRange.{ByteRange}
 use Rattle.pe_resource.specs.declared.directory.ImageResourceDirectory.{ImageResourceDirectory}
 use Rattle.pe_resource.specs.declared.entry.ResourceEntry.{ResourceEntry}
 use Rattle.pe_resource.specs.declared.manifest.ManifestData.{ManifestData}

@@ -4,8 +4,8 @@ use Rattle.std.specs.Fmt.{decimal}
 use Rattle.std.specs.Option.{option_map}
 use Rattle.pe_core.specs.Bytes.{le, record_at}
 use Rattle.pe_core.specs.Refusals.{Refusal, ◌>>=◌}
+use Rattle.pe_core.specs.declared.byte_range.ByteRange.{ByteRange}
 use Rattle.pe_resource.specs.VersionStrings.{VersionString, strings, read, all_read, value_of, value_range, text}
-use Rattle.pe_resource.specs.declared.byte_range.ByteRange.{ByteRange}
 use Rattle.pe_resource.specs.declared.version.StringFileInfo.{StringFileInfo}
 use Rattle.pe_resource.specs.declared.version.VersionField.{VersionField}
 use Rattle.pe_resource.specs.declared.version.VersionInfo.{VersionInfo}

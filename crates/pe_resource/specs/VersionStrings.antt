@@ -7,8 +7,8 @@ use Rattle.std.specs.Str.{encode_utf8_all, bytes_eq}
 use Rattle.pe_core.specs.Bytes.{le, holds, range}
 use Rattle.pe_core.specs.Refusals.{Refusal, Short, outcome, kind_of}
 use Rattle.pe_core.specs.Refusals as refusals
+use Rattle.pe_core.specs.declared.byte_range.ByteRange.{ByteRange}
 use Rattle.pe_core.specs.declared.error.Error.{Error}
-use Rattle.pe_resource.specs.declared.byte_range.ByteRange.{ByteRange}
 use Rattle.pe_resource.specs.declared.string.ResourceString.{ResourceString}
 use Rattle.pe_resource.specs.declared.string.ResourceStringIterator.{ResourceStringIterator}
 

@@ -2,15 +2,16 @@
 
 ghost use Rattle.std.specs.Prelude.{◌≡◌, ◌+◌, ◌≤◌, length, IfOk, IfSome};
 ghost use Rattle.std.specs.Option.{option_map};
+ghost use Rattle.pe_core.specs.Places.{IsWithin};
 ghost use Rattle.pe_core.specs.Refusals.{Gives, answer_by};
-ghost use Rattle.pe_resource.specs.Contents.{map_of, IsLeaf, data_entry_at, IsWithin, file_range, file_bytes, named_range, range_in, IsContentRange, IsContent};
+ghost use Rattle.pe_resource.specs.Contents.{map_of, IsLeaf, data_entry_at, file_range, file_bytes, named_range, range_in, IsContentRange, IsContent};
 ghost use Rattle.pe_resource.specs.ResourceEntries.{entries_left, with_id};
 
-use crate::byte_range::ByteRange;
 use crate::directory::ResourceEntryIterator;
 use crate::entry::walk;
 use pe_core::{
-    Error, ParseOptions, Reason, Result, SectionTable, find_offset, number32, require_bytes,
+    ByteRange, Error, ParseOptions, Reason, Result, SectionTable, find_offset, number32,
+    require_bytes,
 };
 
 /// The bytes of a data entry.

@@ -5,7 +5,6 @@
 //! profile.
 #![tactic(auto)]
 
-mod byte_range;
 mod constants;
 mod content;
 mod directory;
@@ -16,7 +15,6 @@ mod resource;
 mod string;
 mod version;
 
-pub use byte_range::ByteRange;
 pub use constants::{
     IMAGE_RESOURCE_DATA_IS_DIRECTORY, IMAGE_RESOURCE_MASK, IMAGE_RESOURCE_NAME_IS_STRING,
     RESOURCE_ENTRY_SIZE, RESOURCE_STRING_FIELD_ALIGNMENT, RT_ACCELERATOR, RT_ANICURSOR, RT_ANIICON,
@@ -37,6 +35,7 @@ pub use content::ResourceDataEntry;
 pub use directory::{ImageResourceDirectory, ResourceEntryIterator};
 pub use entry::ResourceEntry;
 pub use manifest::ManifestData;
+pub use pe_core::ByteRange;
 pub use resource::ResourceData;
 pub use string::{ResourceString, ResourceStringIterator};
 pub use version::{StringFileInfo, VersionField, VersionInfo, VersionName, VsFixedFileInfo};

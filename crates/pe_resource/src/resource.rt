@@ -3,19 +3,20 @@
 ghost use Rattle.std.specs.Prelude.{◌≡◌, ◌≢◌, ◌+◌, ◌≤◌, length, Err, Ok, IfOk, IfSome};
 ghost use Rattle.std.specs.Option.{option_map};
 ghost use Rattle.pe_core.specs.Options.{default_options};
+ghost use Rattle.pe_core.specs.Places.{IsWithin};
 ghost use Rattle.pe_core.specs.Refusals.{Gives, Memory, answer_by};
-ghost use Rattle.pe_resource.specs.Contents.{map_of, IsWithin};
+ghost use Rattle.pe_resource.specs.Contents.{map_of};
 ghost use Rattle.pe_resource.specs.Directories.{count};
 ghost use Rattle.pe_resource.specs.ResourceEntries.{entries, entries_left};
 ghost use Rattle.pe_resource.specs.Resources.{resource_view, first_entries_in, directory_and_data, IsBehindEntries, IsResource, IsRangeBehindEntries, IsResourceRange};
 
-use crate::byte_range::ByteRange;
 use crate::content::{content_range, file_bytes};
 use crate::directory::{ImageResourceDirectory, ResourceEntryIterator, SIZE_OF_DIRECTORY};
 use crate::manifest::ManifestData;
 use crate::version::VersionInfo;
 use pe_core::{
-    DataDirectory, Error, ParseMode, ParseOptions, Reason, Result, SectionTable, slice_at,
+    ByteRange, DataDirectory, Error, ParseMode, ParseOptions, Reason, Result, SectionTable,
+    slice_at,
 };
 use std::alloc::Allocator;
 

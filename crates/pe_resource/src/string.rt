@@ -4,13 +4,12 @@ ghost use Rattle.std.specs.Prelude.{◌≡◌, ◌+◌, ◌-◌, ◌*◌, ◌/�
 ghost use Rattle.std.specs.Iterator.{at_most};
 ghost use Rattle.std.specs.Option.{option_map};
 ghost use Rattle.pe_core.specs.Bytes.{le};
+ghost use Rattle.pe_core.specs.Places.{IsWithin};
 ghost use Rattle.pe_core.specs.Refusals.{Gives};
 ghost use Rattle.pe_resource.specs.VersionStrings.{Parses, GivesString, VersionString, string_view, key_length, value_place, up_to_four, units, before_zero, text, is_name, IsPlain, rest_of, strings, read, all_read, value_of, value_range};
-ghost use Rattle.pe_resource.specs.Contents.{IsWithin};
 
-use crate::byte_range::ByteRange;
 use crate::constants::RESOURCE_STRING_FIELD_ALIGNMENT;
-use pe_core::{Error, Reason, Result, number16, require_bytes};
+use pe_core::{ByteRange, Error, Reason, Result, number16, require_bytes};
 use std::alloc::{AllocError, Allocator};
 
 /// The type of a string whose value is bytes.

@@ -2,18 +2,18 @@
 
 ghost use Rattle.std.specs.Prelude.{◌≡◌, ◌≢◌, ◌+◌, ◌==◌, ◌≤◌, length, Err, IfOk, IfSome, string_bytes};
 ghost use Rattle.std.specs.Option.{option_map};
+ghost use Rattle.pe_core.specs.Places.{IsWithin};
 ghost use Rattle.pe_core.specs.Refusals.{Gives, Memory, answer_by};
-ghost use Rattle.pe_resource.specs.Contents.{IsWithin, map_of, version_of_content, IsVersion};
+ghost use Rattle.pe_resource.specs.Contents.{map_of, version_of_content, IsVersion};
 ghost use Rattle.pe_resource.specs.ResourceEntries.{entries_left};
 ghost use Rattle.pe_resource.specs.VersionFields.{version_of_halves, high_half, low_half, version_text, fixed_info_at, fixed_info_in, fixed_info_of, name_of, file_strings, file_strings_view, text_in, version_view, version_in, value_range_in};
 ghost use Rattle.pe_resource.specs.VersionStrings.{strings, read, value_of, IsPlain};
 
-use crate::byte_range::ByteRange;
 use crate::constants::{RT_VERSION, VS_FFI_SIGNATURE, VS_VERSION_INFO_KEY};
 use crate::content::content;
 use crate::directory::ResourceEntryIterator;
 use crate::string::{first_value, require_strings, text_of, value_range};
-use pe_core::{ParseOptions, Result, SectionTable, number32, require_bytes};
+use pe_core::{ByteRange, ParseOptions, Result, SectionTable, number32, require_bytes};
 use std::alloc::{AllocError, Allocator};
 
 /// The bytes of fixed file information.

@@ -3,6 +3,7 @@ use Rattle.std.specs.Prelude.{ℕ, ◌*◌, ◌/◌, ◌%◌, ◌==◌, List, []
 use Rattle.pe_core.specs.Bytes.{holds, range}
 use Rattle.pe_core.specs.Refusals.{Refusal, Unmapped, ExceptionSize, ExceptionOffset, ExceptionBounds, FunctionIndex, outcome}
 use Rattle.pe_core.specs.SectionMap.{place_of}
+use Rattle.pe_core.specs.declared.byte_range.ByteRange.{ByteRange}
 use Rattle.pe_core.specs.declared.data_directories.DataDirectory.{DataDirectory}
 use Rattle.pe_core.specs.declared.options.ParseOptions.{ParseOptions}
 use Rattle.pe_core.specs.declared.section_table.SectionTable.{SectionTable}
@@ -16,7 +17,10 @@ pub record ExceptionView : Type 0 where
   pub size : ℕ
   pub alignment : ℕ
 
--- the bytes of the function table
+-- where the function table stands, and its bytes
+abbrev pub table_range : ExceptionView → ByteRange
+table_range v = record { place = v.start; length = v.size }
+
 abbrev pub table_of : ExceptionView → List ℕ
 table_of v = range v.content v.start v.size
 

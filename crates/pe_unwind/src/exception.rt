@@ -8,11 +8,11 @@ use crate::function_table::{RuntimeFunction, RuntimeFunctionIterator, SIZE_OF_FU
 use crate::links::Links;
 use crate::unwind_info::UnwindInfo;
 use pe_core::{
-    CountedTable, DataDirectory, Error, ParseOptions, Reason, Result, SectionTable, find_offset,
+    ByteRange, CountedTable, DataDirectory, Error, ParseOptions, Reason, Result, SectionTable,
+    find_offset,
 };
 use std::fmt;
 use std::marker::Model;
-use std::ops::Range;
 
 /// The exception directory of an image: its function table, and the bytes in which its records stand.
 #[derive(Drop)]
@@ -49,8 +49,9 @@ impl<'a> ExceptionData<'a> {
     ghost use Rattle.std.specs.Prelude.{◌≡◌, ◌+◌, ◌<◌, ◌==◌, ◌↔◌, length, Err, IsOkAnd};
     ghost use Rattle.std.specs.Option.{option_map};
     ghost use Rattle.pe_core.specs.Options.{default_options};
+    ghost use Rattle.pe_core.specs.Places.{IsWithin};
     ghost use Rattle.pe_core.specs.Refusals.{Gives, FunctionCycle, answer_by};
-    ghost use Rattle.pe_unwind.specs.ExceptionTable.{exception_at, table_of, function_of};
+    ghost use Rattle.pe_unwind.specs.ExceptionTable.{exception_at, table_range, table_of, function_of};
     ghost use Rattle.pe_unwind.specs.Arm64Functions.{arm64_functions, arm64_function_items, items_of_arm64_functions, arm64_function_of};
     ghost use Rattle.pe_unwind.specs.Arm64Record.{info_view};
     ghost use Rattle.pe_unwind.specs.Arm64Unwinding.{place_of_function, info_of_function};
@@ -146,11 +147,15 @@ impl<'a> ExceptionData<'a> {
         })
     }
 
-    /// The places of the function table in the file.
-    pub fn places(&self) -> Range<usize>
-        ensures { result ≡ record { start = self.now.start; end = self.now.start + self.now.size } }
+    /// Where the function table stands in the file.
+    pub fn table_range(&self) -> ByteRange
+        ensures range { result ≡ table_range self.now }
+        ensures within { IsWithin self.now.content result }
     {
-        self.offset..self.offset + self.size
+        ByteRange {
+            place: self.offset,
+            length: self.size,
+        }
     }
 
     /// The bytes of the function table.
@@ -158,8 +163,7 @@ impl<'a> ExceptionData<'a> {
         ensures bytes { result.now ≡ table_of self.now }
         ensures size { length result.now ≡ self.now.size }
     {
-        let bytes = self.bytes;
-        &bytes[self.places()]
+        self.table_range().of(self.bytes)
     }
 
     /// How many whole entries for x64 the table has.

@@ -1,6 +1,8 @@
-//! What `==` and `clone` mean: two values are equal if all their fields are, and a clone is its original.
+//! What `==`, `clone` and `default` mean: two values are equal if all their fields are, a clone is its original, and a
+//! default has zeros.
 
 ghost use Rattle.std.specs.Prelude.{ℕ, ◌≡◌};
+ghost use Rattle.pe_core.specs.declared.byte_range.ByteRange.{ByteRange};
 ghost use Rattle.pe_core.specs.declared.options.ParseMode.{ParseMode};
 ghost use Rattle.pe_core.specs.declared.options.ParseOptions.{ParseOptions};
 ghost use Rattle.pe_core.specs.declared.data_directories.DataDirectory.{DataDirectory};
@@ -25,6 +27,7 @@ ghost use Rattle.pe_core.specs.declared.optional_header.OptionalHeader.{Optional
 ghost use Rattle.pe_core.specs.Header.{optional_header_view, header_view};
 ghost use Rattle.pe_core.specs.Traits.{TellsApart, IsEquality, ComparesBy, Copies};
 
+use crate::byte_range::ByteRange;
 use crate::data_directories::{DataDirectories, DataDirectory};
 use crate::error::Reason;
 use crate::export::ExportDirectoryTable;
@@ -39,6 +42,7 @@ use crate::symbol::{Symbol, SymbolIterator, SymbolTable};
 
 /// Values of plain numbers are equal if they are the same.
 pub fn equal_records_are_the_same()
+    ensures byte_range { IsEquality ⟦<ByteRange as PartialEq>⟧.eq }
     ensures parse_mode { IsEquality ⟦<ParseMode as PartialEq>⟧.eq }
     ensures data_directory { IsEquality ⟦<DataDirectory as PartialEq>⟧.eq }
     ensures dos_header { IsEquality ⟦<DosHeader as PartialEq>⟧.eq }
@@ -136,8 +140,14 @@ pub fn equal_ranges_have_equal_bytes()
     ensures relocation_data { ComparesBy (λ d. d.bytes.now) ⟦<RelocationData<'static> as PartialEq>⟧.eq }
 {}
 
+/// A default has zeros.
+pub fn defaults_are_zeros()
+    ensures { (x : ByteRange) → ⟦<ByteRange as Default>⟧.is_default x → x ≡ record { place = 0; length = 0 } }
+{}
+
 /// A clone is its original.
 pub fn clones_of_records_are_the_same()
+    ensures byte_range { Copies ⟦<ByteRange as Clone>⟧.is_clone }
     ensures parse_mode { Copies ⟦<ParseMode as Clone>⟧.is_clone }
     ensures parse_options { Copies ⟦<ParseOptions as Clone>⟧.is_clone }
     ensures data_directory { Copies ⟦<DataDirectory as Clone>⟧.is_clone }

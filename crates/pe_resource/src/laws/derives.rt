@@ -2,7 +2,6 @@
 //! its original.
 
 ghost use Rattle.std.specs.Prelude.{◌≡◌, ◌↔◌, IsTrue, Ok};
-ghost use Rattle.pe_resource.specs.declared.byte_range.ByteRange.{ByteRange};
 ghost use Rattle.pe_resource.specs.declared.version.VersionName.{VersionName};
 ghost use Rattle.pe_resource.specs.declared.directory.ImageResourceDirectory.{ImageResourceDirectory};
 ghost use Rattle.pe_resource.specs.declared.content.ResourceDataEntry.{ResourceDataEntry};
@@ -20,7 +19,6 @@ ghost use Rattle.pe_resource.specs.Resources.{resource_view, no_resources, manif
 ghost use Rattle.pe_resource.specs.VersionStrings.{string_view};
 ghost use Rattle.std.specs.Prelude.{[]};
 
-use crate::byte_range::ByteRange;
 use crate::content::ResourceDataEntry;
 use crate::directory::{ImageResourceDirectory, ResourceEntryIterator};
 use crate::entry::ResourceEntry;
@@ -36,7 +34,6 @@ pub fn equal_records_have_equal_fields()
     ensures resource_entry { (x y : ResourceEntry) → IsTrue (⟦<ResourceEntry as PartialEq>⟧.eq x y) ↔ (x ≡ y) }
     ensures vs_fixed_file_info { (x y : VsFixedFileInfo) → IsTrue (⟦<VsFixedFileInfo as PartialEq>⟧.eq x y) ↔ (x ≡ y) }
     ensures version_field { (x y : VersionField) → IsTrue (⟦<VersionField as PartialEq>⟧.eq x y) ↔ (x ≡ y) }
-    ensures byte_range { (x y : ByteRange) → IsTrue (⟦<ByteRange as PartialEq>⟧.eq x y) ↔ (x ≡ y) }
     ensures version_name { (x y : VersionName) → IsTrue (⟦<VersionName as PartialEq>⟧.eq x y) ↔ (x ≡ y) }
     ensures resource_string { (x y : ResourceString) → IsTrue (⟦<ResourceString<'static> as PartialEq>⟧.eq x y) ↔ (string_view x ≡ string_view y) }
 {}
@@ -48,7 +45,6 @@ pub fn defaults_are_empty()
     ensures resource_entry { (x : ResourceEntry) → ⟦<ResourceEntry as Default>⟧.is_default x → x ≡ record { name_or_id = 0; offset_to_data_or_directory = 0 } }
     ensures vs_fixed_file_info { (x : VsFixedFileInfo) → ⟦<VsFixedFileInfo as Default>⟧.is_default x → x ≡ record { signature = 0; struct_version = 0; file_version_ms = 0; file_version_ls = 0; product_version_ms = 0; product_version_ls = 0; file_flags_mask = 0; file_flags = 0; file_os = 0; file_type = 0; file_subtype = 0; file_date_ms = 0; file_date_ls = 0 } }
     ensures version_field { (x : VersionField) → ⟦<VersionField as Default>⟧.is_default x → x ≡ record { major = 0; minor = 0; build = 0; revision = 0 } }
-    ensures byte_range { (x : ByteRange) → ⟦<ByteRange as Default>⟧.is_default x → x ≡ record { place = 0; length = 0 } }
     ensures manifest_data { (x : ManifestData) → ⟦<ManifestData<'static> as Default>⟧.is_default x → manifest_view x ≡ [] }
     ensures resource_data { (x : ResourceData) → ⟦<ResourceData<'static> as Default>⟧.is_default x → resource_view x ≡ no_resources }
 {}
@@ -60,7 +56,6 @@ pub fn clones_are_their_originals()
     ensures resource_entry { (x y : ResourceEntry) → ⟦<ResourceEntry as Clone>⟧.is_clone x y → y ≡ x }
     ensures vs_fixed_file_info { (x y : VsFixedFileInfo) → ⟦<VsFixedFileInfo as Clone>⟧.is_clone x y → y ≡ x }
     ensures version_field { (x y : VersionField) → ⟦<VersionField as Clone>⟧.is_clone x y → y ≡ x }
-    ensures byte_range { (x y : ByteRange) → ⟦<ByteRange as Clone>⟧.is_clone x y → y ≡ x }
     ensures version_name { (x y : VersionName) → ⟦<VersionName as Clone>⟧.is_clone x y → y ≡ x }
     ensures resource_entry_iterator { (x y : ResourceEntryIterator) → ⟦<ResourceEntryIterator<'static> as Clone>⟧.is_clone x y → y ≡ x }
     ensures manifest_data { (x y : ManifestData) → ⟦<ManifestData<'static> as Clone>⟧.is_clone x y → y ≡ x }

@@ -1,7 +1,7 @@
 //! Ranges of bytes.
 
 ghost use Rattle.std.specs.Prelude.{◌≡◌};
-ghost use Rattle.pe_resource.specs.Contents.{bytes_in, IsWithin};
+ghost use Rattle.pe_core.specs.Places.{bytes_in, IsWithin};
 
 /// Some of the bytes that were handed in.
 #[derive(Clone, Copy, Debug, Default, PartialEq)]
@@ -14,7 +14,7 @@ pub struct ByteRange {
 
 impl ByteRange {
     /// The bytes of a range that is known to be there.
-    pub(crate) fn of<'a>(self, bytes: &'a [u8]) -> &'a [u8]
+    pub fn of<'a>(self, bytes: &'a [u8]) -> &'a [u8]
         requires { IsWithin bytes.now self }
         ensures { result.now ≡ bytes_in bytes.entry.now self }
     {
