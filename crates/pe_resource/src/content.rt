@@ -51,10 +51,10 @@ fn leaf(bytes: &[u8], it: ResourceEntryIterator, id: u16) -> Result<Option<u32>>
 {
     match it.first_with_id(id) {
         None => Ok(None),
-        Some(entry) => match walk(entry, bytes, |next| next.data_is_directory()) {
-            Ok(last) => Ok(last.offset_to_data()),
-            Err(error) => Err(error),
-        },
+        Some(entry) => {
+            let last = walk(entry, bytes, |next| next.data_is_directory())?;
+            Ok(last.offset_to_data())
+        }
     }
 }
 
@@ -136,10 +136,7 @@ fn range_at(
 {
     match place {
         None => Ok(None),
-        Some(place) => match named_range(pe, bytes, place, sections, file_alignment, opts) {
-            Ok(range) => Ok(Some(range)),
-            Err(error) => Err(error),
-        },
+        Some(place) => Ok(Some(named_range(pe, bytes, place, sections, file_alignment, opts)?)),
     }
 }
 
@@ -156,10 +153,8 @@ pub(crate) fn content_range(
     ensures range { IsContentRange (map_of opts.now sections.now file_alignment) pe.now bytes.now (entries_left it.entry) id (answer_by (λ r. r) result) }
     ensures within { IfOk result (λ r. IfSome r (IsWithin pe.now)) }
 {
-    match leaf(bytes, it, id) {
-        Ok(place) => range_at(pe, bytes, place, sections, file_alignment, opts),
-        Err(error) => Err(error),
-    }
+    let place = leaf(bytes, it, id)?;
+    range_at(pe, bytes, place, sections, file_alignment, opts)
 }
 
 /// The content of the first of the entries that has this id.
@@ -174,9 +169,8 @@ pub(crate) fn content<'a>(
 ) -> Result<Option<&'a [u8]>>
     ensures { IsContent (map_of opts.now sections.now file_alignment) pe.entry.now bytes.now (entries_left it.entry) id (answer_by (option_map (λ s. s.now)) result) }
 {
-    match content_range(pe, bytes, it, id, sections, file_alignment, opts) {
-        Ok(Some(range)) => Ok(Some(range.of(pe))),
-        Ok(None) => Ok(None),
-        Err(error) => Err(error),
+    match content_range(pe, bytes, it, id, sections, file_alignment, opts)? {
+        None => Ok(None),
+        Some(range) => Ok(Some(range.of(pe))),
     }
 }
