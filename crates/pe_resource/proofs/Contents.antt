@@ -24,12 +24,6 @@ leaf_given b o e v p is walks place = subst (λ (x : Option ResourceEntry). IsLe
 pub leaf_fault : (b : List ℕ) (o : Option ResourceEntry) (e : ResourceEntry) (f : Refusal) → Some e ≡ o → Walks b is_directory e (Err f) → IsLeaf b o (Err f)
 leaf_fault b o e f is walks = subst (λ (x : Option ResourceEntry). IsLeaf b x (Err f)) is (Err f, walks, refl)
 
-pub range_fault : (map : ℕ → Option ℕ) (f b : List ℕ) (es : List ResourceEntry) (id : ℕ) (e : Refusal) → IsLeaf b (with_id id es) (Err e) → IsContentRange map f b es id (Err e)
-range_fault map f b es id e h = (Err e, h, refl)
-
-pub range_given : (map : ℕ → Option ℕ) (f b : List ℕ) (es : List ResourceEntry) (id : ℕ) (p : Option ℕ) (r : Result (Option ByteRange) Refusal) → IsLeaf b (with_id id es) (Ok p) → r ≡ range_in map f b p → IsContentRange map f b es id r
-range_given map f b es id p r h is = (Ok p, h, is)
-
 pub content_fault : (map : ℕ → Option ℕ) (f b : List ℕ) (es : List ResourceEntry) (id : ℕ) (e : Refusal) → IsContentRange map f b es id (Err e) → IsContent map f b es id (Err e)
 content_fault map f b es id e h = (Err e, h, refl)
 
@@ -64,7 +58,3 @@ resources_given map f d body table es v m is h k = (
   subst (λ (xs : List ResourceEntry). IsVersion map f body xs (Ok v)) is h,
   (Ok m, subst (λ (xs : List ResourceEntry). IsContent map f body xs 24 (Ok m)) is k, refl),
 )
-
-pub resources_default : (map : ℕ → Option ℕ) (f : List ℕ) (d : ImageResourceDirectory) (body : List ℕ) (t : Result (Option (List ℕ)) Refusal) (r : ResourceView) → t ≡ Ok None → r ≡ no_resources → IsBehindEntries map f d body t (Ok r)
-resources_default map f d body t r is none =
-    subst (λ (s : Result (Option (List ℕ)) Refusal). IsBehindEntries map f d body s (Ok r)) (sym is) (ap (λ (x : ResourceView). Ok x) none)
