@@ -115,11 +115,7 @@ pub fn write_table(
 ) -> Result<usize>
     ensures { GivesWritten result (certificates_over directory (map certificate_view certificates.now) buffer.old) buffer.old buffer.new }
 {
-    match require_table(buffer, directory, certificates) {
-        Err(error) => Err(error),
-        Ok(end) => {
-            set_table(buffer, directory, certificates);
-            Ok(end)
-        }
-    }
+    let end = require_table(buffer, directory, certificates)?;
+    set_table(buffer, directory, certificates);
+    Ok(end)
 }

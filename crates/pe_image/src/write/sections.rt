@@ -140,12 +140,8 @@ impl<'a> SectionWriter<'a> {
     pub fn write(&self, buffer: &mut [u8], start: usize) -> Result<usize>
         ensures { GivesWritten result (sections_written self.now.source.now self.now.sections.now self.now.unit start buffer.old) buffer.old buffer.new }
     {
-        match self.require_all(buffer, start) {
-            Err(error) => Err(error),
-            Ok(end) => {
-                self.set(buffer, start);
-                Ok(end)
-            }
-        }
+        let end = self.require_all(buffer, start)?;
+        self.set(buffer, start);
+        Ok(end)
     }
 }

@@ -1,4 +1,5 @@
 use Rattle.std.proofs.Common.{ℕ, Bool, List, ◌∙◌, length, map, refl}
+use Rattle.std.proofs.lemmas.Result.{err_from_is_err_and}
 use Rattle.pe_core.specs.Header.{HeaderView, OptionalHeaderView, header_view, optional_header_view}
 use Rattle.pe_core.specs.Refusals.{Refusal, kind_of}
 use Rattle.pe_core.specs.declared.section_table.SectionTable.{SectionTable}
@@ -10,8 +11,9 @@ use Rattle.pe_image.proofs.Overlays.{overlay_in_turn}
 use Rattle.pe_image.proofs.Rows.{refused_too, written_too}
 use Rattle.pe_image.proofs.pe.PE.write_with.Goals as goal
 
-pub returns-in-Err : goal.returns-in-Err
-returns-in-Err g c =
+pub returns-in_err-end : goal.returns-in_err-end
+returns-in_err-end g c =
+    let p = err_from_is_err_and c.from_residual.result c.from_residual.ensures.1 in
     let old : List ℕ = c.args.buffer.now in
     let b : List ℕ = source_of c.args.self.now in
     let h : HeaderView = header_view c.args.self.now.header in
@@ -20,10 +22,10 @@ returns-in-Err g c =
     let cs : List CertificateView = map certificate_view c.args.self.now.certificates.items in
     let pieces : List Piece = image_pieces b h o sections cs in
     let tests : List (Bool × Refusal) = image_tests b h o sections (length old) pieces in
-    (refused_too {Y = ℕ × List ℕ} tests (image_end h o sections cs) (image_end h o sections cs, overlay old pieces) (kind_of c.in-Err.error) c.in-Err.ensures.answer, refl)
+    rw (p.1, p.2) (refused_too {Y = ℕ × List ℕ} tests (image_end h o sections cs) (image_end h o sections cs, overlay old pieces) (kind_of c.in_err-end.field-0.0) c.in_err-end.ensures.answer, refl)
 
-pub returns-in-Ok : goal.returns-in-Ok
-returns-in-Ok g c =
+pub returns : goal.returns
+returns g c =
     let old : List ℕ = c.args.buffer.now in
     let b : List ℕ = source_of c.args.self.now in
     let h : HeaderView = header_view c.args.self.now.header in
@@ -32,4 +34,4 @@ returns-in-Ok g c =
     let cs : List CertificateView = map certificate_view c.args.self.now.certificates.items in
     let pieces : List Piece = image_pieces b h o sections cs in
     let tests : List (Bool × Refusal) = image_tests b h o sections (length old) pieces in
-    written_too tests (image_end h o sections cs) _ (overlay old pieces) _ c.in-Ok.ensures.answer (c.set_pieces.ensures ∙ overlay_in_turn pieces old c.in-Ok.ensures.fit)
+    written_too tests (image_end h o sections cs) _ (overlay old pieces) _ c.in_ok-end.ensures.answer (c.set_pieces.ensures ∙ overlay_in_turn pieces old c.in_ok-end.ensures.fit)
