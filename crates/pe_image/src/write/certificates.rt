@@ -107,7 +107,6 @@ pub fn set_table(
 
 /// Writes the certificates from the directory's address on; answers where they end. Refuses as `WriteFit` where they don't
 /// all fit, and then changes nothing.
-#[tactic(auto, using(crate::proofs::Rows::refused_too))]
 pub fn write_table(
     buffer: &mut [u8],
     directory: Option<DataDirectory>,
