@@ -134,6 +134,7 @@ impl<'a, A: Allocator + Copy + Drop> PE<'a, A> {
     }
 
     /// Writes the image with this optional header.
+    #[tactic(auto, unfolding(crate::specs::Writing::image_tests))]
     fn write_with(&self, buffer: &mut [u8], optional: &OptionalHeader) -> Result<usize>
         ensures { GivesWritten result (image_by (Some (optional_header_view optional.now)) (source_of self.now) (header_view self.now.header) self.now.sections.items (map certificate_view self.now.certificates.items) buffer.old) buffer.old buffer.new }
     {
