@@ -1,22 +1,19 @@
 -- What lies behind entries, put together.
-use Rattle.std.proofs.Common.{◌≡◌, ℕ, List, Option, Some, None, Result, Ok, Err, refl, ap, sym, ◌∙◌, subst}
+use Rattle.std.proofs.Common.{◌≡◌, ℕ, List, Option, Some, Result, Ok, Err, refl, ap, sym, ◌∙◌, subst}
 use Rattle.pe_core.specs.Refusals.{Refusal, Gives, ◌>>=◌, answer_by}
 use Rattle.pe_core.specs.declared.error.Error.{Error}
 use Rattle.pe_resource.specs.declared.byte_range.ByteRange.{ByteRange}
 use Rattle.pe_resource.specs.declared.directory.ImageResourceDirectory.{ImageResourceDirectory}
 use Rattle.pe_resource.specs.declared.entry.ResourceEntry.{ResourceEntry}
 use Rattle.pe_resource.specs.Contents.{IsLeaf, named_range, range_in, IsContentRange, content_of, IsContent, version_of_content, IsVersion}
-use Rattle.pe_resource.specs.ResourceEntries.{with_id, is_directory, data_place, entries}
+use Rattle.pe_resource.specs.ResourceEntries.{is_directory, data_place, entries}
 use Rattle.pe_resource.specs.ResourceWalk.{Walks}
-use Rattle.pe_resource.specs.Resources.{ResourceView, no_resources, IsBehindEntries}
+use Rattle.pe_resource.specs.Resources.{IsBehindEntries}
 use Rattle.pe_resource.specs.VersionFields.{VersionView}
 
 pub given_answer : {X Y : Type 0} (view : X → Y) (r : Result X Error) (d : Result Y Refusal) → Gives view r d → answer_by view r ≡ d
 given_answer view (Ok x) d h = sym h
 given_answer view (Err e) d h = sym h
-
-pub leaf_none : (b : List ℕ) (o : Option ResourceEntry) → None ≡ o → IsLeaf b o (Ok None)
-leaf_none b o is = subst (λ (x : Option ResourceEntry). IsLeaf b x (Ok None)) is refl
 
 pub leaf_given : (b : List ℕ) (o : Option ResourceEntry) (e v : ResourceEntry) (p : Option ℕ) → Some e ≡ o → Walks b is_directory e (Ok v) → p ≡ data_place v → IsLeaf b o (Ok p)
 leaf_given b o e v p is walks place = subst (λ (x : Option ResourceEntry). IsLeaf b x (Ok p)) is (Ok v, walks, ap (λ (q : Option ℕ). Ok q) place)

@@ -122,24 +122,6 @@ fn named_range(
     )
 }
 
-/// The range that the data entry at a leaf names, if there is a leaf.
-fn range_at(
-    pe: &[u8],
-    bytes: &[u8],
-    place: Option<u32>,
-    sections: &[SectionTable],
-    file_alignment: u32,
-    opts: &ParseOptions,
-) -> Result<Option<ByteRange>>
-    ensures range { Gives (λ r. r) result (range_in (map_of opts.now sections.now file_alignment) pe.now bytes.now place) }
-    ensures within { IfOk result (λ r. IfSome r (IsWithin pe.now)) }
-{
-    match place {
-        None => Ok(None),
-        Some(place) => Ok(Some(named_range(pe, bytes, place, sections, file_alignment, opts)?)),
-    }
-}
-
 /// The range of the content of the first of the entries that has this id.
 pub(crate) fn content_range(
     pe: &[u8],
@@ -153,8 +135,10 @@ pub(crate) fn content_range(
     ensures range { IsContentRange (map_of opts.now sections.now file_alignment) pe.now bytes.now (entries_left it.entry) id (answer_by (λ r. r) result) }
     ensures within { IfOk result (λ r. IfSome r (IsWithin pe.now)) }
 {
-    let place = leaf(bytes, it, id)?;
-    range_at(pe, bytes, place, sections, file_alignment, opts)
+    match leaf(bytes, it, id)? {
+        None => Ok(None),
+        Some(place) => Ok(Some(named_range(pe, bytes, place, sections, file_alignment, opts)?)),
+    }
 }
 
 /// The content of the first of the entries that has this id.

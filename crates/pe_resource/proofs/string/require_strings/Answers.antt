@@ -1,5 +1,4 @@
 use Rattle.std.proofs.lemmas.Result.{err_from_is_err_and}
-use Rattle.pe_core.specs.Refusals.{kind_of}
 use Rattle.pe_resource.proofs.StringLists.{reads_on, reads_fault, reads_all}
 use Rattle.pe_resource.proofs.string.require_strings.Goals as goal
 
