@@ -134,17 +134,13 @@ impl<'a, A: Allocator + Copy + Drop> PE<'a, A> {
     }
 
     /// Writes the image with this optional header.
-    #[tactic(auto, using(crate::proofs::Rows::refused_too))]
+    #[tactic(auto, unfolding(crate::specs::Writing::image_tests))]
     fn write_with(&self, buffer: &mut [u8], optional: &OptionalHeader) -> Result<usize>
         ensures { GivesWritten result (image_by (Some (optional_header_view optional.now)) (source_of self.now) (header_view self.now.header) self.now.sections.items (map certificate_view self.now.certificates.items) buffer.old) buffer.old buffer.new }
     {
-        match self.require_image(buffer, optional) {
-            Err(error) => Err(error),
-            Ok(end) => {
-                self.set_pieces(buffer, optional);
-                Ok(end)
-            }
-        }
+        let end = self.require_image(buffer, optional)?;
+        self.set_pieces(buffer, optional);
+        Ok(end)
     }
 
     /// Writes the image by its fields as they are now: the DOS header at 0, the stub at 64, the PE signature at the place

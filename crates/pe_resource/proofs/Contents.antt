@@ -1,34 +1,25 @@
 -- What lies behind entries, put together.
-use Rattle.std.proofs.Common.{◌≡◌, ℕ, List, Option, Some, None, Result, Ok, Err, refl, ap, sym, ◌∙◌, subst}
+use Rattle.std.proofs.Common.{◌≡◌, ℕ, List, Option, Some, Result, Ok, Err, refl, ap, sym, ◌∙◌, subst}
 use Rattle.pe_core.specs.Refusals.{Refusal, Gives, ◌>>=◌, answer_by}
 use Rattle.pe_core.specs.declared.byte_range.ByteRange.{ByteRange}
 use Rattle.pe_core.specs.declared.error.Error.{Error}
 use Rattle.pe_resource.specs.declared.directory.ImageResourceDirectory.{ImageResourceDirectory}
 use Rattle.pe_resource.specs.declared.entry.ResourceEntry.{ResourceEntry}
 use Rattle.pe_resource.specs.Contents.{IsLeaf, named_range, range_in, IsContentRange, content_of, IsContent, version_of_content, IsVersion}
-use Rattle.pe_resource.specs.ResourceEntries.{with_id, is_directory, data_place, entries}
+use Rattle.pe_resource.specs.ResourceEntries.{is_directory, data_place, entries}
 use Rattle.pe_resource.specs.ResourceWalk.{Walks}
-use Rattle.pe_resource.specs.Resources.{ResourceView, no_resources, IsBehindEntries}
+use Rattle.pe_resource.specs.Resources.{IsBehindEntries}
 use Rattle.pe_resource.specs.VersionFields.{VersionView}
 
 pub given_answer : {X Y : Type 0} (view : X → Y) (r : Result X Error) (d : Result Y Refusal) → Gives view r d → answer_by view r ≡ d
 given_answer view (Ok x) d h = sym h
 given_answer view (Err e) d h = sym h
 
-pub leaf_none : (b : List ℕ) (o : Option ResourceEntry) → None ≡ o → IsLeaf b o (Ok None)
-leaf_none b o is = subst (λ (x : Option ResourceEntry). IsLeaf b x (Ok None)) is refl
-
 pub leaf_given : (b : List ℕ) (o : Option ResourceEntry) (e v : ResourceEntry) (p : Option ℕ) → Some e ≡ o → Walks b is_directory e (Ok v) → p ≡ data_place v → IsLeaf b o (Ok p)
 leaf_given b o e v p is walks place = subst (λ (x : Option ResourceEntry). IsLeaf b x (Ok p)) is (Ok v, walks, ap (λ (q : Option ℕ). Ok q) place)
 
 pub leaf_fault : (b : List ℕ) (o : Option ResourceEntry) (e : ResourceEntry) (f : Refusal) → Some e ≡ o → Walks b is_directory e (Err f) → IsLeaf b o (Err f)
 leaf_fault b o e f is walks = subst (λ (x : Option ResourceEntry). IsLeaf b x (Err f)) is (Err f, walks, refl)
-
-pub range_fault : (map : ℕ → Option ℕ) (f b : List ℕ) (es : List ResourceEntry) (id : ℕ) (e : Refusal) → IsLeaf b (with_id id es) (Err e) → IsContentRange map f b es id (Err e)
-range_fault map f b es id e h = (Err e, h, refl)
-
-pub range_given : (map : ℕ → Option ℕ) (f b : List ℕ) (es : List ResourceEntry) (id : ℕ) (p : Option ℕ) (r : Result (Option ByteRange) Refusal) → IsLeaf b (with_id id es) (Ok p) → r ≡ range_in map f b p → IsContentRange map f b es id r
-range_given map f b es id p r h is = (Ok p, h, is)
 
 pub content_fault : (map : ℕ → Option ℕ) (f b : List ℕ) (es : List ResourceEntry) (id : ℕ) (e : Refusal) → IsContentRange map f b es id (Err e) → IsContent map f b es id (Err e)
 content_fault map f b es id e h = (Err e, h, refl)
@@ -64,7 +55,3 @@ resources_given map f d body table es v m is h k = (
   subst (λ (xs : List ResourceEntry). IsVersion map f body xs (Ok v)) is h,
   (Ok m, subst (λ (xs : List ResourceEntry). IsContent map f body xs 24 (Ok m)) is k, refl),
 )
-
-pub resources_default : (map : ℕ → Option ℕ) (f : List ℕ) (d : ImageResourceDirectory) (body : List ℕ) (t : Result (Option (List ℕ)) Refusal) (r : ResourceView) → t ≡ Ok None → r ≡ no_resources → IsBehindEntries map f d body t (Ok r)
-resources_default map f d body t r is none =
-    subst (λ (s : Result (Option (List ℕ)) Refusal). IsBehindEntries map f d body s (Ok r)) (sym is) (ap (λ (x : ResourceView). Ok x) none)

@@ -52,10 +52,10 @@ fn leaf(bytes: &[u8], it: ResourceEntryIterator, id: u16) -> Result<Option<u32>>
 {
     match it.first_with_id(id) {
         None => Ok(None),
-        Some(entry) => match walk(entry, bytes, |next| next.data_is_directory()) {
-            Ok(last) => Ok(last.offset_to_data()),
-            Err(error) => Err(error),
-        },
+        Some(entry) => {
+            let last = walk(entry, bytes, |next| next.data_is_directory())?;
+            Ok(last.offset_to_data())
+        }
     }
 }
 
@@ -123,27 +123,6 @@ fn named_range(
     )
 }
 
-/// The range that the data entry at a leaf names, if there is a leaf.
-fn range_at(
-    pe: &[u8],
-    bytes: &[u8],
-    place: Option<u32>,
-    sections: &[SectionTable],
-    file_alignment: u32,
-    opts: &ParseOptions,
-) -> Result<Option<ByteRange>>
-    ensures range { Gives (λ r. r) result (range_in (map_of opts.now sections.now file_alignment) pe.now bytes.now place) }
-    ensures within { IfOk result (λ r. IfSome r (IsWithin pe.now)) }
-{
-    match place {
-        None => Ok(None),
-        Some(place) => match named_range(pe, bytes, place, sections, file_alignment, opts) {
-            Ok(range) => Ok(Some(range)),
-            Err(error) => Err(error),
-        },
-    }
-}
-
 /// The range of the content of the first of the entries that has this id.
 pub(crate) fn content_range(
     pe: &[u8],
@@ -157,9 +136,9 @@ pub(crate) fn content_range(
     ensures range { IsContentRange (map_of opts.now sections.now file_alignment) pe.now bytes.now (entries_left it.entry) id (answer_by (λ r. r) result) }
     ensures within { IfOk result (λ r. IfSome r (IsWithin pe.now)) }
 {
-    match leaf(bytes, it, id) {
-        Ok(place) => range_at(pe, bytes, place, sections, file_alignment, opts),
-        Err(error) => Err(error),
+    match leaf(bytes, it, id)? {
+        None => Ok(None),
+        Some(place) => Ok(Some(named_range(pe, bytes, place, sections, file_alignment, opts)?)),
     }
 }
 
@@ -175,9 +154,8 @@ pub(crate) fn content<'a>(
 ) -> Result<Option<&'a [u8]>>
     ensures { IsContent (map_of opts.now sections.now file_alignment) pe.entry.now bytes.now (entries_left it.entry) id (answer_by (option_map (λ s. s.now)) result) }
 {
-    match content_range(pe, bytes, it, id, sections, file_alignment, opts) {
-        Ok(Some(range)) => Ok(Some(range.of(pe))),
-        Ok(None) => Ok(None),
-        Err(error) => Err(error),
+    match content_range(pe, bytes, it, id, sections, file_alignment, opts)? {
+        None => Ok(None),
+        Some(range) => Ok(Some(range.of(pe))),
     }
 }

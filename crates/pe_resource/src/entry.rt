@@ -138,10 +138,7 @@ impl ResourceEntry {
         ensures entry { IfOk result (λ e. IsSome e) }
         ensures no_memory { answer_by (λ e. e) result ≢ Err Memory }
     {
-        match walk(*self, bytes, predicate) {
-            Ok(entry) => Ok(Some(entry)),
-            Err(error) => Err(error),
-        }
+        Ok(Some(walk(*self, bytes, predicate)?))
     }
 }
 
@@ -182,10 +179,8 @@ pub(crate) fn walk<P: Fn(&ResourceEntry) -> bool>(
     let mut saved = start.offset_to_directory();
     let mut power: usize = 1;
     for steps in 0..bytes.len() + 1 {
-        let entry = match current.next_depth(bytes) {
-            Err(error) => return Err(error),
-            Ok(None) => return Ok(current),
-            Ok(Some(entry)) => entry,
+        let Some(entry) = current.next_depth(bytes)? else {
+            return Ok(current);
         };
         if !is_passed(&predicate, &entry) {
             return Ok(entry);

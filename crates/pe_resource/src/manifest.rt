@@ -31,11 +31,8 @@ impl<'a> ManifestData<'a> {
     ) -> Result<Option<ManifestData<'a>>>
         ensures { IsContent (map_of opts.now sections.now file_alignment) pe.entry.now bytes.now (entries_left it.entry) 24 (answer_by (option_map manifest_view) result) }
     {
-        match content(pe, bytes, it, RT_MANIFEST, sections, file_alignment, opts) {
-            Ok(Some(bytes)) => Ok(Some(ManifestData { bytes })),
-            Ok(None) => Ok(None),
-            Err(error) => Err(error),
-        }
+        let content = content(pe, bytes, it, RT_MANIFEST, sections, file_alignment, opts)?;
+        Ok(content.map(|bytes| ManifestData { bytes }))
     }
 
     /// The manifest behind the first of the entries that has the id 24. `pe` is the file, `bytes` the resource directory's

@@ -86,10 +86,9 @@ fn range_in_data(
         (first_entries_in opts.now.parse_mode data.now directory.now) (answer_by (λ r. r) result) }
     ensures within { IfOk result (λ r. IfSome r (IsWithin bytes.now)) }
 {
-    match first_entries(data, directory, opts.parse_mode) {
-        Err(error) => Err(error),
-        Ok(None) => Ok(None),
-        Ok(Some(table)) => {
+    match first_entries(data, directory, opts.parse_mode)? {
+        None => Ok(None),
+        Some(table) => {
             let it = ResourceEntryIterator::new(table);
             content_range(bytes, data, it, id, sections, file_alignment, opts)
         }
@@ -172,12 +171,8 @@ impl<'a> ResourceData<'a> {
         ensures range { IsResourceRange opts.now bytes.now dd id sections.now file_alignment (answer_by (λ r. r) result) }
         ensures within { IfOk result (λ r. IfSome r (IsWithin bytes.now)) }
     {
-        match directory_and_data(bytes, dd, sections, file_alignment, opts) {
-            Err(error) => Err(error),
-            Ok((directory, data)) => {
-                range_in_data(bytes, data, &directory, id, sections, file_alignment, opts)
-            }
-        }
+        let (directory, data) = directory_and_data(bytes, dd, sections, file_alignment, opts)?;
+        range_in_data(bytes, data, &directory, id, sections, file_alignment, opts)
     }
 
     /// The resources that a data directory leads to.
@@ -190,12 +185,8 @@ impl<'a> ResourceData<'a> {
     ) -> Result<ResourceData<'a>>
         ensures { IsResource opts.now bytes.entry.now dd sections.now file_alignment (answer_by resource_view result) }
     {
-        match directory_and_data(bytes, dd, sections, file_alignment, opts) {
-            Err(error) => Err(error),
-            Ok((directory, data)) => {
-                ResourceData::of_data(bytes, directory, data, sections, file_alignment, opts)
-            }
-        }
+        let (directory, data) = directory_and_data(bytes, dd, sections, file_alignment, opts)?;
+        ResourceData::of_data(bytes, directory, data, sections, file_alignment, opts)
     }
 
     /// The resources of a directory and its data.
@@ -210,10 +201,9 @@ impl<'a> ResourceData<'a> {
         ensures { IsBehindEntries (map_of opts.now sections.now file_alignment) bytes.entry.now directory data.entry.now
             (first_entries_in opts.now.parse_mode data.entry.now directory) (answer_by resource_view result) }
     {
-        match first_entries(data, &directory, opts.parse_mode) {
-            Err(error) => Err(error),
-            Ok(None) => Ok(ResourceData::default()),
-            Ok(Some(table)) => {
+        match first_entries(data, &directory, opts.parse_mode)? {
+            None => Ok(ResourceData::default()),
+            Some(table) => {
                 let parts = (directory, table);
                 ResourceData::of_entries(bytes, data, parts, sections, file_alignment, opts)
             }
@@ -234,20 +224,14 @@ impl<'a> ResourceData<'a> {
     {
         let (directory, table) = parts;
         let it = ResourceEntryIterator::new(table);
-        match VersionInfo::of_entries(bytes, data, it, sections, file_alignment, opts) {
-            Err(error) => Err(error),
-            Ok(version_info) => {
-                match ManifestData::of_entries(bytes, data, it, sections, file_alignment, opts) {
-                    Err(error) => Err(error),
-                    Ok(manifest_data) => Ok(ResourceData {
-                        image_resource_directory: directory,
-                        version_info,
-                        manifest_data,
-                        table,
-                    }),
-                }
-            }
-        }
+        let version = VersionInfo::of_entries(bytes, data, it, sections, file_alignment, opts)?;
+        let manifest = ManifestData::of_entries(bytes, data, it, sections, file_alignment, opts)?;
+        Ok(ResourceData {
+            image_resource_directory: directory,
+            version_info: version,
+            manifest_data: manifest,
+            table,
+        })
     }
 
     /// How many entries the first directory says that it has.

@@ -278,10 +278,7 @@ pub(crate) fn require_strings(data: &[u8]) -> Result<()>
 {
     let mut left = ResourceStringIterator::new(data);
     while let Some(item) = left.next() {
-        match item {
-            Ok(_) => {}
-            Err(error) => return Err(error),
-        }
+        item?;
     }
     Ok(())
 }

@@ -475,10 +475,8 @@ impl<'a> VersionInfo<'a> {
     ) -> Result<Option<VersionInfo<'a>>>
         ensures { IsVersion (map_of opts.now sections.now file_alignment) pe.entry.now bytes.now (entries_left it.entry) (answer_by (option_map version_view) result) }
     {
-        match content(pe, bytes, it, RT_VERSION, sections, file_alignment, opts) {
-            Ok(content) => VersionInfo::of_content(content),
-            Err(error) => Err(error),
-        }
+        let content = content(pe, bytes, it, RT_VERSION, sections, file_alignment, opts)?;
+        VersionInfo::of_content(content)
     }
 
     /// The version information behind the first of the entries that has the id 16. `pe` is the file, `bytes` the resource

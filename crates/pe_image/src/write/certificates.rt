@@ -107,7 +107,6 @@ pub fn set_table(
 
 /// Writes the certificates from the directory's address on; answers where they end. Refuses as `WriteFit` where they don't
 /// all fit, and then changes nothing.
-#[tactic(auto, using(crate::proofs::Rows::refused_too))]
 pub fn write_table(
     buffer: &mut [u8],
     directory: Option<DataDirectory>,
@@ -115,11 +114,7 @@ pub fn write_table(
 ) -> Result<usize>
     ensures { GivesWritten result (certificates_over directory (map certificate_view certificates.now) buffer.old) buffer.old buffer.new }
 {
-    match require_table(buffer, directory, certificates) {
-        Err(error) => Err(error),
-        Ok(end) => {
-            set_table(buffer, directory, certificates);
-            Ok(end)
-        }
-    }
+    let end = require_table(buffer, directory, certificates)?;
+    set_table(buffer, directory, certificates);
+    Ok(end)
 }

@@ -136,16 +136,11 @@ impl<'a> SectionWriter<'a> {
 
     /// Writes the sections, their headers from the start on; answers the place behind the headers. Refuses as `require_all`
     /// does, and then changes nothing.
-    #[tactic(auto, using(crate::proofs::Rows::refused_too))]
     pub fn write(&self, buffer: &mut [u8], start: usize) -> Result<usize>
         ensures { GivesWritten result (sections_written self.now.source.now self.now.sections.now self.now.unit start buffer.old) buffer.old buffer.new }
     {
-        match self.require_all(buffer, start) {
-            Err(error) => Err(error),
-            Ok(end) => {
-                self.set(buffer, start);
-                Ok(end)
-            }
-        }
+        let end = self.require_all(buffer, start)?;
+        self.set(buffer, start);
+        Ok(end)
     }
 }

@@ -1,15 +1,22 @@
 use Rattle.std.proofs.Common.{Some, ap, sym, ◌∙◌}
+use Rattle.std.proofs.lemmas.Result.{err_from_is_err_and}
+use Rattle.pe_core.specs.Refusals.{kind_of}
 use Rattle.pe_resource.specs.Contents.{content_of}
 use Rattle.pe_resource.specs.ResourceEntries.{entries_left}
-use Rattle.pe_resource.proofs.Contents.{content_given}
+use Rattle.pe_resource.proofs.Contents.{content_given, content_fault}
 use Rattle.pe_resource.proofs.content.content.Goals as goal
 
-pub returns-in-Ok-Some : goal.returns-in-Ok-Some
-returns-in-Ok-Some c =
-    content_given _ _ _ (entries_left c.args.it) c.args.id c.in-Ok-Some.field-0 _ c.in-Ok-Some.ensures.range
-    (ap (λ b. Some b) c.of.ensures ∙ ap (content_of c.args.pe.now) (sym c.in-Ok-Some.field-0-is))
+pub returns-in_err-content_range : goal.returns-in_err-content_range
+returns-in_err-content_range c =
+    let p = err_from_is_err_and c.from_residual.result c.from_residual.ensures.1 in
+    rw (p.1, p.2) (content_fault _ _ _ (entries_left c.args.it) c.args.id (kind_of c.in_err-content_range.field-0.0) c.in_err-content_range.ensures.range)
 
-pub returns-in-Ok-None : goal.returns-in-Ok-None
-returns-in-Ok-None c =
-    content_given _ _ _ (entries_left c.args.it) c.args.id c.in-Ok-None.field-0 _ c.in-Ok-None.ensures.range
-    (ap (content_of c.args.pe.now) (sym c.in-Ok-None.field-0-is))
+pub returns-in-None : goal.returns-in-None
+returns-in-None c =
+    content_given _ _ _ (entries_left c.args.it) c.args.id c.in_ok-content_range.field-0 _ c.in_ok-content_range.ensures.range
+    (ap (content_of c.args.pe.now) (sym c.in-None.is))
+
+pub returns-in-Some : goal.returns-in-Some
+returns-in-Some c =
+    content_given _ _ _ (entries_left c.args.it) c.args.id c.in_ok-content_range.field-0 _ c.in_ok-content_range.ensures.range
+    (ap (λ b. Some b) c.of.ensures ∙ ap (content_of c.args.pe.now) (sym c.in-Some.is))

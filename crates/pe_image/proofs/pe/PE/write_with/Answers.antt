@@ -1,17 +1,17 @@
-use Rattle.std.proofs.Common.{ℕ, Bool, List, ◌∙◌, length, map, refl}
+use Rattle.std.proofs.Common.{ℕ, Bool, List, ◌∙◌, length, map}
 use Rattle.pe_core.specs.Header.{HeaderView, OptionalHeaderView, header_view, optional_header_view}
-use Rattle.pe_core.specs.Refusals.{Refusal, kind_of}
+use Rattle.pe_core.specs.Refusals.{Refusal}
 use Rattle.pe_core.specs.declared.section_table.SectionTable.{SectionTable}
 use Rattle.pe_records.specs.Certificates.{CertificateView, certificate_view}
 use Rattle.pe_image.specs.Image.{source_of}
 use Rattle.pe_image.specs.Overlay.{Piece, overlay}
 use Rattle.pe_image.specs.Writing.{image_end, image_pieces, image_tests}
 use Rattle.pe_image.proofs.Overlays.{overlay_in_turn}
-use Rattle.pe_image.proofs.Rows.{refused_too, written_too}
+use Rattle.pe_image.proofs.Rows.{written_too}
 use Rattle.pe_image.proofs.pe.PE.write_with.Goals as goal
 
-pub returns-in-Err : goal.returns-in-Err
-returns-in-Err g c =
+pub returns : goal.returns
+returns g c =
     let old : List ℕ = c.args.buffer.now in
     let b : List ℕ = source_of c.args.self.now in
     let h : HeaderView = header_view c.args.self.now.header in
@@ -20,16 +20,4 @@ returns-in-Err g c =
     let cs : List CertificateView = map certificate_view c.args.self.now.certificates.items in
     let pieces : List Piece = image_pieces b h o sections cs in
     let tests : List (Bool × Refusal) = image_tests b h o sections (length old) pieces in
-    (refused_too {Y = ℕ × List ℕ} tests (image_end h o sections cs) (image_end h o sections cs, overlay old pieces) (kind_of c.in-Err.error) c.in-Err.ensures.answer, refl)
-
-pub returns-in-Ok : goal.returns-in-Ok
-returns-in-Ok g c =
-    let old : List ℕ = c.args.buffer.now in
-    let b : List ℕ = source_of c.args.self.now in
-    let h : HeaderView = header_view c.args.self.now.header in
-    let o : OptionalHeaderView = optional_header_view c.args.optional.now in
-    let sections : List SectionTable = c.args.self.now.sections.items in
-    let cs : List CertificateView = map certificate_view c.args.self.now.certificates.items in
-    let pieces : List Piece = image_pieces b h o sections cs in
-    let tests : List (Bool × Refusal) = image_tests b h o sections (length old) pieces in
-    written_too tests (image_end h o sections cs) _ (overlay old pieces) _ c.in-Ok.ensures.answer (c.set_pieces.ensures ∙ overlay_in_turn pieces old c.in-Ok.ensures.fit)
+    written_too tests (image_end h o sections cs) _ (overlay old pieces) _ c.in_ok-end.ensures.answer (c.set_pieces.ensures ∙ overlay_in_turn pieces old c.in_ok-end.ensures.fit)

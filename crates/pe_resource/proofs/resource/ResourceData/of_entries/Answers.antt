@@ -1,12 +1,18 @@
+use Rattle.std.proofs.lemmas.Result.{err_from_is_err_and}
+use Rattle.pe_core.specs.Refusals.{kind_of}
 use Rattle.pe_resource.specs.ResourceEntries.{entries_left}
 use Rattle.pe_resource.proofs.Contents.{resources_without_version, resources_without_manifest, resources_given}
 use Rattle.pe_resource.proofs.resource.ResourceData.of_entries.Goals as goal
 
-pub returns-in-Err : goal.returns-in-Err
-returns-in-Err c = resources_without_version _ _ _ _ _ (entries_left c.new-it.result) _ c.new-it.ensures c.in-Err.ensures
+pub returns-in_err-version : goal.returns-in_err-version
+returns-in_err-version c =
+    let p = err_from_is_err_and c.from_residual.result c.from_residual.ensures.1 in
+    rw (p.1, p.2) (resources_without_version _ _ _ _ _ (entries_left c.new-it.result) (kind_of c.in_err-version.field-0.0) c.new-it.ensures c.in_err-version.ensures)
 
-pub returns-in-Err-of_entries : goal.returns-in-Err-of_entries
-returns-in-Err-of_entries c = resources_without_manifest _ _ _ _ _ (entries_left c.new-it.result) _ _ c.new-it.ensures c.in-Ok.ensures c.in-Err-of_entries.ensures
+pub returns-in_err-manifest : goal.returns-in_err-manifest
+returns-in_err-manifest c =
+    let p = err_from_is_err_and c.from_residual-in_err-manifest.result c.from_residual-in_err-manifest.ensures.1 in
+    rw (p.1, p.2) (resources_without_manifest _ _ _ _ _ (entries_left c.new-it.result) _ (kind_of c.in_err-manifest.field-0.0) c.new-it.ensures c.in_ok-version.ensures c.in_err-manifest.ensures)
 
-pub returns-in-Ok-of_entries : goal.returns-in-Ok-of_entries
-returns-in-Ok-of_entries c = resources_given _ _ _ _ _ (entries_left c.new-it.result) _ _ c.new-it.ensures c.in-Ok.ensures c.in-Ok-of_entries.ensures
+pub returns : goal.returns
+returns c = resources_given _ _ _ _ _ (entries_left c.new-it.result) _ _ c.new-it.ensures c.in_ok-version.ensures c.in_ok-manifest.ensures
