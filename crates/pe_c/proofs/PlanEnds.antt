@@ -11,13 +11,14 @@ use Rattle.pe_unwind.proofs.OneChain.{one_answer}
 use Rattle.pe_unwind.specs.ExceptionTable.{ExceptionView, exception_at}
 use Rattle.pe_unwind.specs.Links.{links_of}
 use Rattle.pe_c.specs.Modes.{options_of}
-use Rattle.pe_c.specs.Plans.{plan_from, ended, goes_on, leaves, StepsIf, GoesTo, LeadsIn, GivesInTurn}
+use Rattle.pe_c.specs.Plans.{plan_from, ended, goes_on, leaves, StepsIf, GivesInTurn}
 use Rattle.pe_c.specs.Unwinding.{FindsPlaceIn, FollowsToRecord, flat_record_at}
 use Rattle.pe_c.specs.declared.image.Image.{Image}
 use Rattle.pe_c.specs.declared.plan.Plan.{Plan}
 use Rattle.pe_c.specs.declared.unwinding.UnwindRecord.{UnwindRecord}
 use Rattle.pe_c.proofs.Addresses.{goes_below}
-use Rattle.pe_c.proofs.Cycles.{as_many, joined, one_more, over_gives}
+use Rattle.pe_c.proofs.PlanSteps.{over_gives}
+use Rattle.pe_c.proofs.Ways.{GoesTo, LeadsIn, as_many, joined, one_more}
 use Rattle.pe_c.proofs.Rings.{HasOneEnd, EndsBelow, same_end, split, Ring, ring_within, comes_again}
 
 -- ---- an address has one record
