@@ -18,6 +18,7 @@ pub mod PogoRuns
 pub mod RecordRanges
 pub mod Rings
 pub mod Rooms
+pub mod Runs
 pub mod Steps
 pub mod VersionsTold
 pub mod Ways
