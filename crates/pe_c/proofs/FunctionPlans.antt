@@ -8,7 +8,8 @@ use Rattle.std.proofs.lemmas.List.{append_assoc, append-nil}
 use Rattle.pe_core.specs.Refusals.{Refusal, Memory, FunctionCycle, outcome, ◌>>=◌}
 use Rattle.pe_core.specs.SectionMap.{mapped}
 use Rattle.pe_core.specs.declared.section_table.SectionTable.{SectionTable}
-use Rattle.pe_unwind.specs.ExceptionTable.{ExceptionView, exception_at}
+use Rattle.pe_unwind.proofs.ExceptionBytes.{in_directory}
+use Rattle.pe_unwind.specs.ExceptionTable.{ExceptionView}
 use Rattle.pe_unwind.specs.Links.{Table, links_of}
 use Rattle.pe_unwind.specs.UnwindRecord.{UnwindInfoView, unwind_tests, unwind_record}
 use Rattle.pe_unwind.specs.Unwinding.{FindsRecord, Unwinds, record_at_place, record_at_address}
@@ -20,7 +21,7 @@ use Rattle.pe_plan.proofs.OnePlan.{one_plan}
 use Rattle.pe_plan.proofs.Walks.{counted}
 use Rattle.pe_c.specs.Modes.{options_of}
 use Rattle.pe_c.specs.Plans.{AnswersBehind, GivesInTurn, StepsIf, StepsPlan, TellsUnwindRecord, ended, ending_of, gives, goes_on, leaves, plan_from}
-use Rattle.pe_c.specs.Unwinding.{FindsPlaceIn, FollowsToRecord, flat_record, flat_record_at, is_some_number, or_no_function}
+use Rattle.pe_c.specs.Unwinding.{FindsPlaceIn, FollowsToRecord, exceptions_of, flat_record, flat_record_at, is_some_number, or_no_function}
 use Rattle.pe_c.specs.declared.image.Image.{Image}
 use Rattle.pe_c.specs.declared.plan.Plan.{Plan}
 use Rattle.pe_c.specs.declared.unwinding.UnwindRecord.{UnwindRecord}
@@ -63,7 +64,7 @@ found_at t b u place next f is = record {
 -- the image has this table, with these links
 record Has (t : Table) (b : List ℕ) (image : Image) (s : List SectionTable) (mode : ℕ) : Type 0 where
   view : ExceptionView
-  there : exception_at 12 b image.exceptions s image.file_alignment (options_of mode) ≡ Ok view
+  there : exceptions_of b image s mode ≡ Ok view
   links : links_of view s (options_of mode) ≡ t
 
 found : (t : Table) (b : List ℕ) (image : Image) (s : List SectionTable) (mode u : ℕ) (next : Result UnwindRecord Refusal) → Has t b image s mode → FollowsToRecord b image s mode u next → Found t b u next
@@ -204,26 +205,34 @@ whole t b image s mode f given answer h a =
 
 -- ---- what the steps answer
 
-there : (b : List ℕ) (image : Image) (s : List SectionTable) (mode : ℕ) (v : ExceptionView) → exception_at 12 b image.exceptions s image.file_alignment (options_of mode) ≡ Ok v → Has (links_of v s (options_of mode)) b image s mode
+there : (b : List ℕ) (image : Image) (s : List SectionTable) (mode : ℕ) (v : ExceptionView) → exceptions_of b image s mode ≡ Ok v → Has (links_of v s (options_of mode)) b image s mode
 there b image s mode v e = record { view = v; there = e; links = refl }
 
+-- plans are of the bytes that the exception data are of
+of_bytes : (b : List ℕ) (image : Image) (s : List SectionTable) (mode : ℕ) (v : ExceptionView) → exceptions_of b image s mode ≡ Ok v → v.content ≡ b
+of_bytes b image s mode v e = (in_directory 12 b image.exceptions s image.file_alignment (options_of mode) v e).0
+
+content_is : (b : List ℕ) (image : Image) (s : List SectionTable) (mode : ℕ) (v : ExceptionView) (f : RuntimeFunction) (x : Result (List UnwindInfoView) Refusal) → exceptions_of b image s mode ≡ Ok v →
+    PlansFrom (links_of v s (options_of mode)) b f x → PlansFrom (links_of v s (options_of mode)) v.content f x
+content_is b image s mode v f x e p = subst (λ (c : List ℕ). PlansFrom (links_of v s (options_of mode)) c f x) (sym (of_bytes b image s mode v e)) p
+
 pub records_are_told : (b : List ℕ) (image : Image) (s : List SectionTable) (mode : ℕ) (v : ExceptionView) (f : RuntimeFunction) (given : List UnwindRecord) →
-    exception_at 12 b image.exceptions s image.file_alignment (options_of mode) ≡ Ok v → AnswersBehind b image s mode f.unwind_info_address given (Ok None) →
-    (is : List UnwindInfoView) × PlansFrom (links_of v s (options_of mode)) b f (Ok is) × AllZip (TellsUnwindRecord b) given is
+    exceptions_of b image s mode ≡ Ok v → AnswersBehind b image s mode f.unwind_info_address given (Ok None) →
+    (is : List UnwindInfoView) × PlansFrom (links_of v s (options_of mode)) v.content f (Ok is) × AllZip (TellsUnwindRecord b) given is
 records_are_told b image s mode v f given e a =
     let all : Told (links_of v s (options_of mode)) b f given = whole (links_of v s (options_of mode)) b image s mode f given (Ok None) (there b image s mode v e) a in
-    (all.records, all.chain, all.tells)
+    (all.records, content_is b image s mode v f (Ok all.records) e all.chain, all.tells)
 
 no_memory : (t : Table) (b : List ℕ) (f : RuntimeFunction) (k : Refusal) → Counts t b f (Err k) → k ≢ Memory
 no_memory t b f k c e = absurd (subst (λ (x : Refusal). Counts t b f (Err x)) e c)
 
 pub refusals_are_of_plans : (b : List ℕ) (image : Image) (s : List SectionTable) (mode : ℕ) (v : ExceptionView) (f : RuntimeFunction) (given : List UnwindRecord) (refusal : Refusal) →
-    exception_at 12 b image.exceptions s image.file_alignment (options_of mode) ≡ Ok v → AnswersBehind b image s mode f.unwind_info_address given (Err refusal) →
-    (refusal ≢ Memory) × PlansFrom (links_of v s (options_of mode)) b f (Err refusal)
+    exceptions_of b image s mode ≡ Ok v → AnswersBehind b image s mode f.unwind_info_address given (Err refusal) →
+    (refusal ≢ Memory) × PlansFrom (links_of v s (options_of mode)) v.content f (Err refusal)
 refusals_are_of_plans b image s mode v f given refusal e a =
     let t = links_of v s (options_of mode) in
     let c : Counts t b f (Err refusal) = whole t b image s mode f given (Err refusal) (there b image s mode v e) a in
-    (no_memory t b f refusal c, counted t b f refusal c)
+    (no_memory t b f refusal c, content_is b image s mode v f (Err refusal) e (counted t b f refusal c))
 
 ends_so : (t : Table) (b : List ℕ) (f : RuntimeFunction) (given : List UnwindRecord) (q : Plan) (plan : Result (List UnwindInfoView) Refusal) (answer : Result (Option UnwindRecord) Refusal) →
     PlansFrom t b f plan → plan ≢ Err Memory → Steps t b f given answer q → (answer ≡ ending_of plan) ⊎ ((r : UnwindRecord) × (answer ≡ Ok (Some r)))
@@ -233,16 +242,16 @@ ends_so t b f given q plan (Err k) p known c =
     inl (ap ending_of (one_plan t b f (Err k) plan (counted t b f k c) p (λ e. no_memory t b f k c (let same : k ≡ Memory = cc in same)) known))
 
 pub plans_end_so : (b : List ℕ) (image : Image) (s : List SectionTable) (mode : ℕ) (v : ExceptionView) (f : RuntimeFunction) (plan : Result (List UnwindInfoView) Refusal) (given : List UnwindRecord) (answer : Result (Option UnwindRecord) Refusal) →
-    exception_at 12 b image.exceptions s image.file_alignment (options_of mode) ≡ Ok v → PlansFrom (links_of v s (options_of mode)) b f plan → plan ≢ Err Memory →
+    exceptions_of b image s mode ≡ Ok v → PlansFrom (links_of v s (options_of mode)) v.content f plan → plan ≢ Err Memory →
     AnswersBehind b image s mode f.unwind_info_address given answer → (answer ≡ ending_of plan) ⊎ ((r : UnwindRecord) × (answer ≡ Ok (Some r)))
 plans_end_so b image s mode v f plan given answer e p known a =
     let t = links_of v s (options_of mode) in
-    ends_so t b f given a.1 plan answer p known (whole t b image s mode f given answer (there b image s mode v e) a)
+    ends_so t b f given a.1 plan answer (subst (λ (c : List ℕ). PlansFrom t c f plan) (of_bytes b image s mode v e) p) known (whole t b image s mode f given answer (there b image s mode v e) a)
 
 -- ---- exception data that are refused
 
 first_refused : (b : List ℕ) (image : Image) (s : List SectionTable) (mode u : ℕ) (refusal : Refusal) (q : Plan) (answer : Result (Option UnwindRecord) Refusal) →
-    exception_at 12 b image.exceptions s image.file_alignment (options_of mode) ≡ Err refusal → StepsPlan b image s mode (plan_from u) answer q → answer ≡ Err refusal
+    exceptions_of b image s mode ≡ Err refusal → StepsPlan b image s mode (plan_from u) answer q → answer ≡ Err refusal
 first_refused b image s mode u refusal q answer e step =
     let follows = step.1 in
     let place : follows.0 ≡ Err refusal = subst (λ (x : Result ExceptionView Refusal). FindsPlaceIn x s mode u follows.0) e follows.1 in
@@ -250,7 +259,7 @@ first_refused b image s mode u refusal q answer e step =
     step.2 ∙ ap (λ (x : Result UnwindRecord Refusal). gives (plan_from u) x) next
 
 pub tables_are_refused : (b : List ℕ) (image : Image) (s : List SectionTable) (mode u : ℕ) (refusal : Refusal) (given : List UnwindRecord) (answer : Result (Option UnwindRecord) Refusal) →
-    exception_at 12 b image.exceptions s image.file_alignment (options_of mode) ≡ Err refusal → AnswersBehind b image s mode u given answer → (given ≡ []) × (answer ≡ Err refusal)
+    exceptions_of b image s mode ≡ Err refusal → AnswersBehind b image s mode u given answer → (given ≡ []) × (answer ≡ Err refusal)
 tables_are_refused b image s mode u refusal [] answer e a =
     (refl, first_refused b image s mode u refusal a.1 answer e (subst (λ (x : Plan). StepsPlan b image s mode x answer a.1) (sym a.2) a.3))
 tables_are_refused b image s mode u refusal (r ∷ rs) answer e a =
