@@ -9,7 +9,7 @@ use Rattle.pe_unwind.proofs.Places.{given}
 use Rattle.pe_unwind.specs.FunctionTable.{function_at}
 use Rattle.pe_unwind.specs.UnwindRecord.{Exception, Termination, UnwindInfoView, Ending, ending_at, unwind_tests, unwind_record, behind_codes, flags_at, is_chained, handles_exceptions, handles_termination}
 use Rattle.pe_unwind.specs.declared.function_table.RuntimeFunction.{RuntimeFunction}
-use Rattle.pe_c.specs.Plans.{GoesTo}
+use Rattle.pe_c.proofs.Ways.{GoesTo}
 use Rattle.pe_c.specs.Unwinding.{or_no_function, flat_record, flat_record_at}
 use Rattle.pe_c.specs.declared.image.Image.{Image}
 use Rattle.pe_c.specs.declared.unwinding.UnwindRecord.{UnwindRecord}

@@ -4,11 +4,13 @@ use Rattle.std.specs.Prelude.{nat_lt, if◌then◌else◌}
 use Rattle.std.specs.List.{AllZip}
 use Rattle.std.proofs.lemmas.Bool.Decides.{nat_tests}
 use Rattle.pe_core.specs.Bytes.{holds}
+use Rattle.pe_core.specs.Gathered.{with_rest}
 use Rattle.pe_core.specs.Refusals.{Refusal, CertificateTable, ◌>>=◌}
 use Rattle.pe_records.proofs.CertificateListings.{next_above}
 use Rattle.pe_records.specs.Certificates.{CertificateView, certificate_at, certificates_at}
 use Rattle.pe_c.proofs.Listings.{at_range, none_from, steps_list}
 use Rattle.pe_c.proofs.Parts.{body_is_told}
+use Rattle.pe_c.proofs.Runs.{GivesTold, Makes, tells_more, tells_none, tells_refused}
 use Rattle.pe_c.specs.Certificates.{StepsCertificates, TellsCertificate, certificate_told, listed, step, step_by, walk_from}
 use Rattle.pe_c.specs.Ranges.{no_bytes}
 use Rattle.pe_c.specs.Runs.{GivesItems, IsOver}
@@ -32,35 +34,11 @@ step_inside : (b : List ℕ) (w : Range) → holds b w.place w.length ≡ true �
 unfolding step
 step_inside b w h e = rw h (rw e refl)
 
-is_over : (b : List ℕ) (w : Range) → holds b w.place w.length ≡ true → (w.length == 0) ≡ true → IsOver (StepsCertificates b) w
-is_over b w h e answer v s = (s.0 ∙ ap (λ (x : Step). x.0) (step_at_end b w h e), s.1 ∙ ap (λ (x : Step). x.1) (step_at_end b w h e))
+makes : (b : List ℕ) (w v : Range) (given : Result (Option Certificate) Refusal) → step b w ≡ (given, v) → Makes (StepsCertificates b) w given v
+makes b w v given e answer u s = (s.0 ∙ ap (λ (x : Step). x.0) e, s.1 ∙ ap (λ (x : Step). x.1) e)
 
 none_is_over : (b : List ℕ) → IsOver (StepsCertificates b) no_bytes
-none_is_over b = is_over b no_bytes (grind (arith, nat_tests)) refl
-
-at_end : (b : List ℕ) (w : Range) → holds b w.place w.length ≡ true → (w.length == 0) ≡ true → GivesItems (StepsCertificates b) w []
-at_end b w h e = λ answer v s. let over = is_over b w h e answer v s in (over.0, subst (λ (u : Range). IsOver (StepsCertificates b) u) (sym over.1) (is_over b w h e))
-
--- a step that is refused, behind which the walk is over
-fault : (b : List ℕ) (w : Range) (r : Refusal) → step b w ≡ (Err r, no_bytes) → GivesItems (StepsCertificates b) w (Err r ∷ [])
-fault b w r e = (
-  refl,
-  λ answer v s. (
-    s.0 ∙ ap (λ (x : Step). x.0) e,
-    subst (λ (u : Range). IsOver (StepsCertificates b) u) (sym (s.1 ∙ ap (λ (x : Step). x.1) e)) (none_is_over b),
-  ),
-)
-
--- a step that gives a certificate
-gives_more : (b : List ℕ) (w : Range) (c : CertificateView) (next : ℕ) (items : List (Result Certificate Refusal)) → step b w ≡ (Ok (Some (certificate_told w.place c)), walk_from w next) →
-    GivesItems (StepsCertificates b) (walk_from w next) items → GivesItems (StepsCertificates b) w (Ok (certificate_told w.place c) ∷ items)
-gives_more b w c next items e more = λ answer v s. (
-  s.0 ∙ ap (λ (x : Step). x.0) e,
-  subst (λ (u : Range). GivesItems (StepsCertificates b) u items) (sym (s.1 ∙ ap (λ (x : Step). x.1) e)) more,
-)
-
-lies_once : (b : List ℕ) (w : Range) → holds b w.place w.length ≡ false → GivesItems (StepsCertificates b) w (Err CertificateTable ∷ [])
-lies_once b w h = fault b w CertificateTable (step_outside b w h)
+none_is_over b = makes b no_bytes no_bytes (Ok None) (step_at_end b no_bytes (grind (arith, nat_tests)) refl)
 
 refused_outside : (b : List ℕ) (w : Range) → holds b w.place w.length ≡ false → listed b w ≡ Err CertificateTable
 unfolding certificates_at
@@ -70,29 +48,28 @@ refused_outside b w h = rw h refl
 
 -- what a walk gives whose table is listed so
 abbrev Gives : List ℕ → Range → Result (List CertificateView) Refusal → Type 0
-Gives b w (Ok cs) = (told : List Certificate) × GivesItems (StepsCertificates b) w (map (λ x. Ok x) told) × AllZip (TellsCertificate b) told cs
-Gives b w (Err r) =
-    (told : List Certificate) × (cs : List CertificateView) × GivesItems (StepsCertificates b) w (map (λ x. Ok x) told ++ Err r ∷ []) × AllZip (TellsCertificate b) told cs
+Gives b = GivesTold (StepsCertificates b) (TellsCertificate b)
+
+refused_with : (b : List ℕ) (w : Range) (r : Refusal) → step b w ≡ (Err r, no_bytes) → Gives b w (Err r)
+refused_with b w r e = tells_refused (StepsCertificates b) (TellsCertificate b) w no_bytes r (makes b w no_bytes (Err r) e) (none_is_over b)
+
+-- the certificates behind the first are put behind it
+in_front : (c : CertificateView) (rest : Result (List CertificateView) Refusal) → with_rest (c ∷ []) rest ≡ (rest >>= λ cs. Ok (c ∷ cs))
+in_front c (Ok cs) = refl
+in_front c (Err r) = refl
 
 by_rest : (b : List ℕ) (w : Range) (c : CertificateView) (next : ℕ) (rest : Result (List CertificateView) Refusal) → certificate_at b w.place ≡ Ok (c, next) →
     step b w ≡ (Ok (Some (certificate_told w.place c)), walk_from w next) → Gives b (walk_from w next) rest → Gives b w (rest >>= λ cs. Ok (c ∷ cs))
-by_rest b w c next (Ok cs) given e more = (
-  certificate_told w.place c ∷ more.0,
-  gives_more b w c next (map (λ x. Ok x) more.0) e more.1,
-  (((w.place, refl), body_is_told b w.place c next given), more.2),
-)
-by_rest b w c next (Err r) given e more = (
-  certificate_told w.place c ∷ more.0,
-  c ∷ more.1,
-  gives_more b w c next (map (λ x. Ok x) more.0 ++ Err r ∷ []) e more.2,
-  (((w.place, refl), body_is_told b w.place c next given), more.3),
-)
+by_rest b w c next rest given e more =
+    subst (λ (r : Result (List CertificateView) Refusal). Gives b w r) (in_front c rest)
+    (tells_more (StepsCertificates b) (TellsCertificate b) w (walk_from w next) (certificate_told w.place c) c rest
+    (makes b w (walk_from w next) (Ok (Some (certificate_told w.place c))) e) ((w.place, refl), body_is_told b w.place c next given) more)
 
 by_first : (b : List ℕ) (w : Range) (first : Result (CertificateView × ℕ) Refusal) → certificate_at b w.place ≡ first → step b w ≡ step_by w first →
     ((c : CertificateView) (next : ℕ) → certificate_at b w.place ≡ Ok (c, next) → Gives b (walk_from w next) (listed b (walk_from w next))) →
     Gives b w (first >>= λ c. listed b (walk_from w c.1) >>= λ cs. Ok (c.0 ∷ cs))
 by_first b w (Ok c) given e more = by_rest b w c.0 c.1 (listed b (walk_from w c.1)) given e (more c.0 c.1 given)
-by_first b w (Err r) given e more = ([], [], fault b w r e, tt)
+by_first b w (Err r) given e more = refused_with b w r e
 
 -- the walk behind a certificate is shorter, and lies in the bytes
 further : (b : List ℕ) (w : Range) (next n : ℕ) (before : Bool) → nat_lt next (w.place + w.length) ≡ before → w.place < next → w.length ≤ suc n → w.place + w.length ≤ length b →
@@ -106,7 +83,8 @@ further b w next n false e above le h more = more no_bytes (omega arith) (omega 
 of_none : (b : List ℕ) (w : Range) → w.length ≡ 0 → w.place + w.length ≤ length b → Gives b w (listed b w)
 of_none b w none h =
     let nothing : listed b w ≡ Ok [] = at_range b w.place w.length h ∙ none_from b (w.place + w.length) w.length w.place (omega (arith, none)) in
-    subst (λ (r : Result (List CertificateView) Refusal). Gives b w r) (sym nothing) ([], at_end b w (grind (arith, nat_tests)) (grind (arith, nat_tests, none)), tt)
+    let over : IsOver (StepsCertificates b) w = makes b w w (Ok None) (step_at_end b w (grind (arith, nat_tests)) (grind (arith, nat_tests, none))) in
+    subst (λ (r : Result (List CertificateView) Refusal). Gives b w r) (sym nothing) (tells_none (StepsCertificates b) (TellsCertificate b) w w over over)
 
 of_some : (b : List ℕ) (w : Range) (n : ℕ) → (w.length == 0) ≡ false → w.length ≢ 0 → w.length ≤ suc n → w.place + w.length ≤ length b →
     ((v : Range) → v.length ≤ n → v.place + v.length ≤ length b → Gives b v (listed b v)) → Gives b w (listed b w)
@@ -127,7 +105,7 @@ all b (suc n) w le h = by_length b w n w.length refl le h (λ v shorter inside. 
 
 whole : (b : List ℕ) (w : Range) (inside : Bool) → holds b w.place w.length ≡ inside → Gives b w (listed b w)
 whole b w true h = all b w.length w (omega arith) (grind (arith, nat_tests))
-whole b w false h = subst (λ (r : Result (List CertificateView) Refusal). Gives b w r) (sym (refused_outside b w h)) ([], [], lies_once b w h, tt)
+whole b w false h = subst (λ (r : Result (List CertificateView) Refusal). Gives b w r) (sym (refused_outside b w h)) (refused_with b w CertificateTable (step_outside b w h))
 
 pub certificates_in_turn : (b : List ℕ) (w : Range) (cs : List CertificateView) → listed b w ≡ Ok cs →
     (told : List Certificate) × GivesItems (StepsCertificates b) w (map (λ x. Ok x) told) × AllZip (TellsCertificate b) told cs

@@ -25,64 +25,16 @@ use Rattle.pe_c.specs.declared.imports.Libraries.{Libraries}
 use Rattle.pe_c.specs.declared.imports.Library.{Library}
 use Rattle.pe_c.specs.declared.ranges.Range.{Range}
 use Rattle.pe_c.specs.Images.{is_absent, place_in}
-use Rattle.pe_c.specs.Imports.{import_at, import_by, import_left, import_step, import_told, StepsLibraries, libraries_at, libraries_from, library_by, library_step, library_told, no_imports, no_libraries, slot_entry}
+use Rattle.pe_c.specs.Imports.{import_at, import_by, import_left, import_step, import_told, StepsImports, StepsLibraries, libraries_at, libraries_from, library_by, library_step, library_told, no_imports, no_libraries, slot_entry}
 use Rattle.pe_c.specs.Parts.{ImportsInTurn, TellsImport, TellsLibrary}
 use Rattle.pe_c.specs.Ranges.{IsRange, no_bytes, range_from}
 use Rattle.pe_c.specs.Runs.{GivesItems, IsOver}
 use Rattle.pe_c.specs.Walks.{left_entry}
+use Rattle.pe_c.proofs.Runs.{GivesTold, makes_by, tells_more, tells_none, tells_refused}
 use Rattle.pe_c.proofs.Addresses.{number_small}
 use Rattle.pe_c.proofs.ExportParts.{given, range_length, same_inside, text_stands}
 
--- ---- runs
-
--- a step that a function makes
-abbrev StepsBy : {W X : Type 0} → (W → Result (Option X) Refusal × W) → W → Result (Option X) Refusal → W → Type 0
-StepsBy step old answer new = (answer, new) ≡ step old
-
--- a walk gives what tells the elements of a list; where the list is refused, what tells some elements, and then the refusal
-abbrev GivesTold : {W X Y : Type 0} → (W → Result (Option X) Refusal × W) → (X → Y → Type 0) → W → Result (List Y) Refusal → Type 0
-GivesTold {X = X} step Tells walk (Ok ys) = (told : List X) × GivesItems (StepsBy step) walk (map (λ x. Ok x) told) × AllZip Tells told ys
-GivesTold {X = X} {Y = Y} step Tells walk (Err e) = (told : List X) × (ys : List Y) × GivesItems (StepsBy step) walk (map (λ x. Ok x) told ++ Err e ∷ []) × AllZip Tells told ys
-
-by_step : {W X : Type 0} (step : W → Result (Option X) Refusal × W) (walk next v : W) (given answer : Result (Option X) Refusal) → step walk ≡ (given, next) → StepsBy step walk answer v → (answer ≡ given) × (v ≡ next)
-by_step {W} {X} step walk next v given answer is s = (ap (λ (p : Result (Option X) Refusal × W). p.0) (s ∙ is), ap (λ (p : Result (Option X) Refusal × W). p.1) (s ∙ is))
-
--- a walk that stays where it is, and gives nothing
-stays : {W X : Type 0} (step : W → Result (Option X) Refusal × W) (walk : W) → step walk ≡ (Ok None, walk) → IsOver (StepsBy step) walk
-stays step walk is = λ answer v s. by_step step walk walk v (Ok None) answer is s
-
-gives_first : {W X : Type 0} (step : W → Result (Option X) Refusal × W) (walk next : W) (x : X) (items : List (Result X Refusal)) → step walk ≡ (Ok (Some x), next) →
-    GivesItems (StepsBy step) next items → GivesItems (StepsBy step) walk (Ok x ∷ items)
-gives_first {W} step walk next x items is more = λ answer v s.
-    let given = by_step step walk next v (Ok (Some x)) answer is s in
-    (given.0, subst (λ (u : W). GivesItems (StepsBy step) u items) (sym given.1) more)
-
-tells_more : {W X Y : Type 0} (step : W → Result (Option X) Refusal × W) (Tells : X → Y → Type 0) (walk next : W) (x : X) (y : Y) (rest : Result (List Y) Refusal) →
-    step walk ≡ (Ok (Some x), next) → Tells x y → GivesTold step Tells next rest → GivesTold step Tells walk (with_rest (y ∷ []) rest)
-tells_more {W} {X} {Y} step Tells walk next x y (Ok ys) is tells more = (x ∷ more.0, gives_first step walk next x (map (λ z. Ok z) more.0) is more.1, (tells, more.2))
-tells_more {W} {X} {Y} step Tells walk next x y (Err e) is tells more = (x ∷ more.0, y ∷ more.1, gives_first step walk next x (map (λ z. Ok z) more.0 ++ Err e ∷ []) is more.2, (tells, more.3))
-
-tells_none : {W X Y : Type 0} (step : W → Result (Option X) Refusal × W) (Tells : X → Y → Type 0) (walk next : W) → step walk ≡ (Ok None, next) → step next ≡ (Ok None, next) → GivesTold step Tells walk (Ok [])
-tells_none {W} {X} {Y} step Tells walk next is over = (
-  [],
-  (λ answer v s.
-      let given = by_step step walk next v (Ok None) answer is s in
-      (given.0, subst (λ (u : W). IsOver (StepsBy step) u) (sym given.1) (stays step next over))),
-  tt,
-)
-
-tells_refused : {W X Y : Type 0} (step : W → Result (Option X) Refusal × W) (Tells : X → Y → Type 0) (walk next : W) (e : Refusal) → step walk ≡ (Err e, next) → step next ≡ (Ok None, next) → GivesTold step Tells walk (Err e)
-tells_refused {W} {X} {Y} step Tells walk next e is over = (
-  [],
-  [],
-  (
-    refl,
-    λ answer v s.
-        let given = by_step step walk next v (Err e) answer is s in
-        (given.0, subst (λ (u : W). IsOver (StepsBy step) u) (sym given.1) (stays step next over)),
-  ),
-  tt,
-)
+-- ---- lists
 
 each_same : {X : Type 0} (f g : ℕ → X) (n : ℕ) → ((k : ℕ) → k < n → f k ≡ g k) → each f n ≡ each g n
 unfolding each
@@ -171,13 +123,14 @@ step_last place w b q rva h =
 -- the first import and those behind it
 one : (place : ℕ → Option ℕ) (w : ℕ) (b : List ℕ) (walk next : Imports) (r : Result ImportView Refusal) (x : Result Import Refusal) (rest : List (Result ImportView Refusal)) →
     Agrees b r x → import_step place w b walk ≡ import_by w walk x → record { left = record { place = walk.left.place + w; length = walk.left.length - w }; rva = (walk.rva + w) % 2 ^ 64 } ≡ next →
-    GivesTold (import_step place w b) (TellsImport b) next (all_or_refusal rest) → GivesTold (import_step place w b) (TellsImport b) walk (all_or_refusal (r ∷ rest))
+    GivesTold (StepsImports place w b) (TellsImport b) next (all_or_refusal rest) → GivesTold (StepsImports place w b) (TellsImport b) walk (all_or_refusal (r ∷ rest))
 one place w b walk next (Ok i) (Ok x) rest agree is behind more =
-    tells_more (import_step place w b) (TellsImport b) walk next x i (all_or_refusal rest) (is ∙ ap (λ (n : Imports). (Ok (Some x), n)) behind) agree more
+    tells_more (StepsImports place w b) (TellsImport b) walk next x i (all_or_refusal rest) (makes_by (import_step place w b) walk next (Ok (Some x)) (is ∙ ap (λ (n : Imports). (Ok (Some x), n)) behind)) agree more
 one place w b walk next (Ok i) (Err e) rest agree is behind more = absurd agree
 one place w b walk next (Err e) (Ok x) rest agree is behind more = absurd agree
 one place w b walk next (Err e) (Err f) rest agree is behind more =
-    tells_refused (import_step place w b) (TellsImport b) walk (no_imports walk) e (is ∙ ap (λ (r : Refusal). (Err r, no_imports walk)) (sym agree)) (step_last place w b 0 walk.rva (omega arith))
+    tells_refused (StepsImports place w b) (TellsImport b) walk (no_imports walk) e (makes_by (import_step place w b) walk (no_imports walk) (Err e) (is ∙ ap (λ (r : Refusal). (Err r, no_imports walk)) (sym agree)))
+    (makes_by (import_step place w b) (no_imports walk) (no_imports walk) (Ok None) (step_last place w b 0 walk.rva (omega arith)))
 
 slots_front : (w : ℕ) (b dll : List ℕ) (q rva n : ℕ) → each (slots w b dll q rva) (suc n) ≡ record { dll = dll; entry = le b q w; rva = rva } ∷ each (slots w b dll (q + w) (rva + w)) n
 slots_front w b dll q rva n =
@@ -198,15 +151,16 @@ next_walk w q rva n small =
     rw (fewer, same) refl
 
 run : (place : ℕ → Option ℕ) (w : ℕ) (b dll : List ℕ) → 0 < w → (n q rva : ℕ) → q + w * n ≤ length b → rva + w * n < 2 ^ 64 →
-    GivesTold (import_step place w b) (TellsImport b) (over q (w * n) rva) (all_or_refusal (map (import_of place w b) (each (slots w b dll q rva) n)))
+    GivesTold (StepsImports place w b) (TellsImport b) (over q (w * n) rva) (all_or_refusal (map (import_of place w b) (each (slots w b dll q rva) n)))
 run place w b dll some zero q rva inside small =
     let none : w * 0 ≡ 0 = omega arith in
     let here : import_step place w b (over q (w * 0) rva) ≡ (Ok None, over q 0 rva) = ap (λ (m : ℕ). import_step place w b (over q m rva)) none ∙ step_last place w b q rva (omega (arith, inside)) in
-    subst (λ (es : List EntryView). GivesTold (import_step place w b) (TellsImport b) (over q (w * 0) rva) (all_or_refusal (map (import_of place w b) es))) (sym (none_of (slots w b dll q rva)))
-    (tells_none (import_step place w b) (TellsImport b) (over q (w * 0) rva) (over q 0 rva) here (step_last place w b q rva (omega (arith, inside))))
+    subst (λ (es : List EntryView). GivesTold (StepsImports place w b) (TellsImport b) (over q (w * 0) rva) (all_or_refusal (map (import_of place w b) es))) (sym (none_of (slots w b dll q rva)))
+    (tells_none (StepsImports place w b) (TellsImport b) (over q (w * 0) rva) (over q 0 rva) (makes_by (import_step place w b) (over q (w * 0) rva) (over q 0 rva) (Ok None) here)
+    (makes_by (import_step place w b) (over q 0 rva) (over q 0 rva) (Ok None) (step_last place w b q rva (omega (arith, inside)))))
 run place w b dll some (suc n) q rva inside small =
     let long : w * suc n ≡ w * n + w = mul-suc w n in
-    subst (λ (es : List EntryView). GivesTold (import_step place w b) (TellsImport b) (over q (w * suc n) rva) (all_or_refusal (map (import_of place w b) es))) (sym (slots_front w b dll q rva n))
+    subst (λ (es : List EntryView). GivesTold (StepsImports place w b) (TellsImport b) (over q (w * suc n) rva) (all_or_refusal (map (import_of place w b) es))) (sym (slots_front w b dll q rva n))
     (one place w b (over q (w * suc n) rva) (over (q + w) (w * n) (rva + w)) _ _ _
     (agrees place w b dll (le b q w) rva)
     (step_first place w b q (w * suc n) rva some (omega (arith, long)) inside)
@@ -286,13 +240,13 @@ its_slots w b r q n some h same =
     (ap (λ (l : List ℕ). le l (w * k) w) (sym same) ∙ le_of_range b q (w * n) (w * k) w h (column_fits w k w n lt (omega arith))))
 
 record_imports : (place : ℕ → Option ℕ) (w : ℕ) (b : List ℕ) (r : ImportRecordView) (left : Range) → 0 < w → length b ≤ 2 ^ 63 → ListStands w b left r.lookups → r.import_directory_entry.address_table_rva < 4294967296 →
-    GivesTold (import_step place w b) (TellsImport b) (record { left = left; rva = r.import_directory_entry.address_table_rva }) (imports place w b (r ∷ []))
+    GivesTold (StepsImports place w b) (TellsImport b) (record { left = left; rva = r.import_directory_entry.address_table_rva }) (imports place w b (r ∷ []))
 unfolding imports entries
 record_imports place w b r left some small s low =
     let rva : ℕ = r.import_directory_entry.address_table_rva in
     let same : entries w (r ∷ []) ≡ each (slots w b r.name left.place rva) s.count = append-nil (each (entry_at w r) (length r.lookups / w)) ∙ its_slots w b r left.place s.count some s.within s.same in
-    subst (λ (m : ℕ). GivesTold (import_step place w b) (TellsImport b) (over left.place m rva) (all_or_refusal (map (import_of place w b) (entries w (r ∷ []))))) (sym s.long)
-    (subst (λ (es : List EntryView). GivesTold (import_step place w b) (TellsImport b) (over left.place (w * s.count) rva) (all_or_refusal (map (import_of place w b) es))) (sym same)
+    subst (λ (m : ℕ). GivesTold (StepsImports place w b) (TellsImport b) (over left.place m rva) (all_or_refusal (map (import_of place w b) (entries w (r ∷ []))))) (sym s.long)
+    (subst (λ (es : List EntryView). GivesTold (StepsImports place w b) (TellsImport b) (over left.place (w * s.count) rva) (all_or_refusal (map (import_of place w b) es))) (sym same)
     (run place w b r.name some s.count left.place rva s.within (omega (arith, s.within, small, low))))
 
 -- ---- a library
@@ -333,13 +287,13 @@ entry_tells place w b e r some small low h =
     let made : ImportRecordView = record { import_directory_entry = e; name = name.0; lookups = list.0 } in
     let left : Range = range_from (length list.0) (place (lookups_rva e)) in
     let stands : ListStands w b left list.0 = list_stands w b (place (lookups_rva e)) list.0 list.1 in
-    let run : GivesTold (import_step place w b) (TellsImport b) (record { left = left; rva = e.address_table_rva }) (imports place w b (made ∷ [])) = record_imports place w b made left some small stands low in
+    let run : GivesTold (StepsImports place w b) (TellsImport b) (record { left = left; rva = e.address_table_rva }) (imports place w b (made ∷ [])) = record_imports place w b made left some small stands low in
     subst (λ (x : ImportRecordView). TellsLibrary place w b (library_told place x) x) (some_inside made r list.2) (record {
       name = subst (λ (o : Option ℕ). IsRange b (range_from (length name.0) o) name.0) (sym (place_of_name (place e.name_rva) p.0 p.1)) (text_stands b p.0 name.0 (name_is (text_at b p.0) name.0 name.1));
       list = is_range w b left list.0 stands;
       numbers = refl;
-      given = λ is whole. subst (GivesTold (import_step place w b) (TellsImport b) (record { left = left; rva = e.address_table_rva })) whole run;
-      refused = λ refusal fault. subst (GivesTold (import_step place w b) (TellsImport b) (record { left = left; rva = e.address_table_rva })) fault run;
+      given = λ is whole. subst (GivesTold (StepsImports place w b) (TellsImport b) (record { left = left; rva = e.address_table_rva })) whole run;
+      refused = λ refusal fault. subst (GivesTold (StepsImports place w b) (TellsImport b) (record { left = left; rva = e.address_table_rva })) fault run;
     })
 
 record_tells : (place : ℕ → Option ℕ) (w : ℕ) (b : List ℕ) (p : ℕ) (r : ImportRecordView) → 0 < w → AreBytes b → length b ≤ 2 ^ 63 → import_record_at place w b p ≡ Ok (Some r) →
@@ -362,54 +316,57 @@ record_there place w b p r h =
 abbrev library_of_row : (ℕ → Option ℕ) → ℕ → Result (Option ImportRecordView) Refusal → Result (Option Library) Refusal × Libraries
 library_of_row place p row = library_by (libraries_from p) (row >>= λ r. Ok (option_map (library_told place) r))
 
-step_over : (place : ℕ → Option ℕ) (w : ℕ) (b : List ℕ) → library_step place w b no_libraries ≡ (Ok None, no_libraries)
+is_over : (place : ℕ → Option ℕ) (w : ℕ) (b : List ℕ) → IsOver (StepsLibraries place w b) no_libraries
 unfolding library_step
-step_over place w b = refl
+is_over place w b = makes_by (library_step place w b) no_libraries no_libraries (Ok None) refl
 
 first_library : (place : ℕ → Option ℕ) (w : ℕ) (b : List ℕ) (p : ℕ) (row : Result (Option ImportRecordView) Refusal) (rows : List (Result (Option ImportRecordView) Refusal)) → import_record_at place w b p ≡ row →
-    ((r : ImportRecordView) → row ≡ Ok (Some r) → GivesTold (library_step place w b) (TellsLibrary place w b) (libraries_from (p + 20)) (up_to_none rows)) →
+    ((r : ImportRecordView) → row ≡ Ok (Some r) → GivesTold (StepsLibraries place w b) (TellsLibrary place w b) (libraries_from (p + 20)) (up_to_none rows)) →
     ((r : ImportRecordView) → row ≡ Ok (Some r) → TellsLibrary place w b (library_told place r) r) →
-    GivesTold (library_step place w b) (TellsLibrary place w b) (libraries_from p) (up_to_none (row ∷ rows))
+    GivesTold (StepsLibraries place w b) (TellsLibrary place w b) (libraries_from p) (up_to_none (row ∷ rows))
 unfolding library_step
 first_library place w b p (Ok None) rows e more tells =
-    tells_none (library_step place w b) (TellsLibrary place w b) (libraries_from p) no_libraries (ap (library_of_row place p) e) (step_over place w b)
+    tells_none (StepsLibraries place w b) (TellsLibrary place w b) (libraries_from p) no_libraries (makes_by (library_step place w b) (libraries_from p) no_libraries (Ok None) (ap (library_of_row place p) e))
+    (is_over place w b)
 first_library place w b p (Ok (Some r)) rows e more tells =
-    tells_more (library_step place w b) (TellsLibrary place w b) (libraries_from p) (libraries_from (p + 20)) (library_told place r) r (up_to_none rows) (ap (library_of_row place p) e) (tells r refl) (more r refl)
+    tells_more (StepsLibraries place w b) (TellsLibrary place w b) (libraries_from p) (libraries_from (p + 20)) (library_told place r) r (up_to_none rows)
+    (makes_by (library_step place w b) (libraries_from p) (libraries_from (p + 20)) (Ok (Some (library_told place r))) (ap (library_of_row place p) e)) (tells r refl) (more r refl)
 first_library place w b p (Err refusal) rows e more tells =
-    tells_refused (library_step place w b) (TellsLibrary place w b) (libraries_from p) no_libraries refusal (ap (library_of_row place p) e) (step_over place w b)
+    tells_refused (StepsLibraries place w b) (TellsLibrary place w b) (libraries_from p) no_libraries refusal (makes_by (library_step place w b) (libraries_from p) no_libraries (Err refusal) (ap (library_of_row place p) e))
+    (is_over place w b)
 
 libraries_run : (place : ℕ → Option ℕ) (w : ℕ) (b : List ℕ) → 0 < w → AreBytes b → length b ≤ 2 ^ 63 → (n p : ℕ) → length b < p + 20 * suc n →
-    GivesTold (library_step place w b) (TellsLibrary place w b) (libraries_from p) (up_to_none (each (λ i. import_record_at place w b (p + 20 * i)) (suc n)))
+    GivesTold (StepsLibraries place w b) (TellsLibrary place w b) (libraries_from p) (up_to_none (each (λ i. import_record_at place w b (p + 20 * i)) (suc n)))
 libraries_run place w b some bytes small zero p enough =
-    subst (λ (rows : List (Result (Option ImportRecordView) Refusal)). GivesTold (library_step place w b) (TellsLibrary place w b) (libraries_from p) (up_to_none rows)) (sym (rows_front (import_record_at place w b) 20 p 0))
+    subst (λ (rows : List (Result (Option ImportRecordView) Refusal)). GivesTold (StepsLibraries place w b) (TellsLibrary place w b) (libraries_from p) (up_to_none rows)) (sym (rows_front (import_record_at place w b) 20 p 0))
     (first_library place w b p (import_record_at place w b p) _ refl
     (λ r e. let room : p + 20 ≤ length b = record_there place w b p r e in absurd (omega (arith, room, enough)))
     (λ r e. record_tells place w b p r some bytes small e))
 libraries_run place w b some bytes small (suc n) p enough =
-    subst (λ (rows : List (Result (Option ImportRecordView) Refusal)). GivesTold (library_step place w b) (TellsLibrary place w b) (libraries_from p) (up_to_none rows)) (sym (rows_front (import_record_at place w b) 20 p (suc n)))
+    subst (λ (rows : List (Result (Option ImportRecordView) Refusal)). GivesTold (StepsLibraries place w b) (TellsLibrary place w b) (libraries_from p) (up_to_none rows)) (sym (rows_front (import_record_at place w b) 20 p (suc n)))
     (first_library place w b p (import_record_at place w b p) _ refl
     (λ r e. libraries_run place w b some bytes small n (p + 20) (omega (arith, enough)))
     (λ r e. record_tells place w b p r some bytes small e))
 
 directory_run : (place : ℕ → Option ℕ) (w : ℕ) (b : List ℕ) (p : ℕ) → 0 < w → AreBytes b → length b ≤ 2 ^ 63 →
-    GivesTold (library_step place w b) (TellsLibrary place w b) (libraries_from p) (import_records place w b p)
+    GivesTold (StepsLibraries place w b) (TellsLibrary place w b) (libraries_from p) (import_records place w b p)
 unfolding import_records
 directory_run place w b p some bytes small = libraries_run place w b some bytes small (length b) p (omega arith)
 
 by_directory : (place : ℕ → Option ℕ) (w : ℕ) (b : List ℕ) (walk : Libraries) (absent : Bool) (at : Option ℕ) → 0 < w → AreBytes b → length b ≤ 2 ^ 63 →
     if◌then◌else◌ {A = Result (Option Libraries) Refusal} absent (Ok None) (mapped at >>= λ p. Ok (Some (libraries_from p))) ≡ Ok (Some walk) →
-    GivesTold (library_step place w b) (TellsLibrary place w b) walk (mapped at >>= import_records place w b)
+    GivesTold (StepsLibraries place w b) (TellsLibrary place w b) walk (mapped at >>= import_records place w b)
 by_directory place w b walk true at some bytes small e = absurd cc
 by_directory place w b walk false None some bytes small e = absurd cc
 by_directory place w b walk false (Some p) some bytes small e =
-    subst (λ (x : Libraries). GivesTold (library_step place w b) (TellsLibrary place w b) x (import_records place w b p)) (some_inside (libraries_from p) walk e) (directory_run place w b p some bytes small)
+    subst (λ (x : Libraries). GivesTold (StepsLibraries place w b) (TellsLibrary place w b) x (import_records place w b p)) (some_inside (libraries_from p) walk e) (directory_run place w b p some bytes small)
 
 some_bytes : (wide : Bool) → 0 < entry_size wide
 some_bytes true = omega arith
 some_bytes false = omega arith
 
 told_of_image : (b : List ℕ) (image : Image) (sections : List SectionTable) (walk : Libraries) → AreBytes b → length b ≤ 2 ^ 63 → libraries_at image sections ≡ Ok (Some walk) →
-    GivesTold (library_step (place_in image sections) (entry_size (image.width == 64)) b) (TellsLibrary (place_in image sections) (entry_size (image.width == 64)) b) walk
+    GivesTold (StepsLibraries (place_in image sections) (entry_size (image.width == 64)) b) (TellsLibrary (place_in image sections) (entry_size (image.width == 64)) b) walk
     (import_data_at (place_in image sections) (entry_size (image.width == 64)) b image.imports.virtual_address)
 told_of_image b image sections walk bytes small e =
     by_directory (place_in image sections) (entry_size (image.width == 64)) b walk (is_absent image.imports) (place_in image sections image.imports.virtual_address) (some_bytes (image.width == 64)) bytes small e
@@ -419,7 +376,7 @@ pub libraries_in_turn : (b : List ℕ) (image : Image) (sections : List SectionT
     (told : List Library) × GivesItems (StepsLibraries (place_in image sections) (entry_size (image.width == 64)) b) walk (map (λ x. Ok x) told) ×
     AllZip (TellsLibrary (place_in image sections) (entry_size (image.width == 64)) b) told rs
 libraries_in_turn b image sections walk rs bytes small e whole =
-    subst (GivesTold (library_step (place_in image sections) (entry_size (image.width == 64)) b) (TellsLibrary (place_in image sections) (entry_size (image.width == 64)) b) walk) whole
+    subst (GivesTold (StepsLibraries (place_in image sections) (entry_size (image.width == 64)) b) (TellsLibrary (place_in image sections) (entry_size (image.width == 64)) b) walk) whole
     (told_of_image b image sections walk bytes small e)
 
 pub refused_in_turn : (b : List ℕ) (image : Image) (sections : List SectionTable) (walk : Libraries) (refusal : Refusal) → AreBytes b → length b ≤ 2 ^ 63 → libraries_at image sections ≡ Ok (Some walk) →
@@ -428,7 +385,7 @@ pub refused_in_turn : (b : List ℕ) (image : Image) (sections : List SectionTab
     GivesItems (StepsLibraries (place_in image sections) (entry_size (image.width == 64)) b) walk (map (λ x. Ok x) told ++ Err refusal ∷ []) ×
     AllZip (TellsLibrary (place_in image sections) (entry_size (image.width == 64)) b) told rs
 refused_in_turn b image sections walk refusal bytes small e fault =
-    subst (GivesTold (library_step (place_in image sections) (entry_size (image.width == 64)) b) (TellsLibrary (place_in image sections) (entry_size (image.width == 64)) b) walk) fault
+    subst (GivesTold (StepsLibraries (place_in image sections) (entry_size (image.width == 64)) b) (TellsLibrary (place_in image sections) (entry_size (image.width == 64)) b) walk) fault
     (told_of_image b image sections walk bytes small e)
 
 -- ---- records in turn

@@ -2,11 +2,10 @@ pub mod Addresses
 pub mod Arm64CodeRuns
 pub mod CertificateRuns
 pub mod CodeRuns
-pub mod Cycles
-pub mod EndlessPlans
 pub mod EntryRuns
 pub mod ExportParts
 pub mod ExportRuns
+pub mod FunctionPlans
 pub mod ImportRuns
 pub mod Indices
 pub mod LastText
@@ -19,5 +18,7 @@ pub mod PogoRuns
 pub mod RecordRanges
 pub mod Rings
 pub mod Rooms
+pub mod Runs
 pub mod Steps
 pub mod VersionsTold
+pub mod Ways

@@ -1,5 +1,5 @@
--- A step of a plan that is not over.
-use Rattle.std.proofs.Common.{◌≡◌, ℕ, Bool, true, false, List, Option, Result, arith}
+-- Steps of a plan: of one that is over, and of one that is not.
+use Rattle.std.proofs.Common.{◌≡◌, ℕ, Bool, true, false, List, Option, None, Result, Ok, arith}
 use Rattle.std.specs.Prelude.{◌==◌}
 use Rattle.std.proofs.lemmas.Bool.Decides.{nat_tests}
 use Rattle.pe_core.specs.Refusals.{Refusal}
@@ -9,6 +9,10 @@ use Rattle.pe_c.specs.Unwinding.{FollowsToRecord}
 use Rattle.pe_c.specs.declared.image.Image.{Image}
 use Rattle.pe_c.specs.declared.plan.Plan.{Plan}
 use Rattle.pe_c.specs.declared.unwinding.UnwindRecord.{UnwindRecord}
+
+-- a plan that is over gives nothing
+pub over_gives : (b : List ℕ) (image : Image) (s : List SectionTable) (mode : ℕ) (p q : Plan) (answer : Result (Option UnwindRecord) Refusal) → p.is_over ≡ 1 → StepsPlan b image s mode p answer q → answer ≡ Ok None
+over_gives b image s mode p q answer e step = (rw e at step).0
 
 by_test : (test : Bool) (b : List ℕ) (image : Image) (s : List SectionTable) (mode : ℕ) (old new : Plan) (answer : Result (Option UnwindRecord) Refusal) (next : Result UnwindRecord Refusal) →
     test ≡ true → FollowsToRecord b image s mode old.unwind next → answer ≡ gives old next → new ≡ leaves old next → StepsIf test b image s mode old answer new

@@ -5,8 +5,7 @@ use Rattle.std.proofs.lemmas.Bool.{cases_Bool, cases_eq, false≢true}
 use Rattle.std.proofs.lemmas.Bool.Decides.{nat_tests}
 use Rattle.std.proofs.lemmas.Map.Keys.{IsDistinct-cons}
 use Rattle.std.proofs.lemmas.Map.Steps.{length-le_from_distinct_below}
-use Rattle.pe_c.specs.Plans.{LeadsIn}
-use Rattle.pe_c.proofs.Cycles.{as_many, joined}
+use Rattle.pe_c.proofs.Ways.{LeadsIn, as_many, joined}
 
 -- a step has one end
 abbrev pub HasOneEnd : (ℕ → ℕ → Type 0) → Type 0

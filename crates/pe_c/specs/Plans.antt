@@ -1,9 +1,10 @@
 -- The records of a function up to the root of its chain, one a step.
-use Rattle.std.specs.Prelude.{◌≡◌, ◌⊎◌, ℕ, zero, suc, ◌+◌, ◌*◌, ◌==◌, min, nat_le, Bool, true, false, List, [], ◌∷◌, Option, Some, None, Result, Ok, Err, if◌then◌else◌}
-use Rattle.pe_core.specs.Refusals.{Refusal, FunctionCycle}
+use Rattle.std.specs.Prelude.{◌≡◌, ℕ, ◌+◌, ◌*◌, ◌==◌, min, nat_le, Bool, true, false, List, [], ◌∷◌, Option, Some, None, Result, Ok, Err, if◌then◌else◌}
+use Rattle.pe_core.specs.Refusals.{Refusal, FunctionCycle, outcome}
 use Rattle.pe_core.specs.declared.section_table.SectionTable.{SectionTable}
+use Rattle.pe_unwind.specs.UnwindRecord.{UnwindInfoView, unwind_tests, unwind_record}
 use Rattle.pe_c.specs.Answers.{AnswersIf}
-use Rattle.pe_c.specs.Unwinding.{FollowsToRecord}
+use Rattle.pe_c.specs.Unwinding.{FollowsToRecord, flat_record}
 use Rattle.pe_c.specs.declared.image.Image.{Image}
 use Rattle.pe_c.specs.declared.plan.Plan.{Plan}
 use Rattle.pe_c.specs.declared.unwinding.UnwindRecord.{UnwindRecord}
@@ -53,29 +54,23 @@ abbrev pub AnswersPlan : List ℕ → Image → List SectionTable → ℕ → Pl
 AnswersPlan b image sections mode old_plan new_plan number old new =
     (answer : Result (Option UnwindRecord) Refusal) × StepsPlan b image sections mode old_plan answer new_plan × AnswersIf number old new answer
 
--- ---- chains of records
-
--- the record of an address goes on at another
-abbrev pub GoesTo : List ℕ → Image → List SectionTable → ℕ → ℕ → ℕ → Type 0
-GoesTo b image sections mode address next =
-    (r : UnwindRecord) × FollowsToRecord b image sections mode address (Ok r) × (r.is_chained == 0 ≡ false) × (r.chained.unwind_info_address ≡ next)
-
--- so many steps lead from one to the other
-abbrev pub LeadsIn : (ℕ → ℕ → Type 0) → ℕ → ℕ → ℕ → Type 0
-LeadsIn goes zero from to = from ≡ to
-LeadsIn goes (suc n) from to = (next : ℕ) × goes from next × LeadsIn goes n next to
-
--- any number of steps can be made
-abbrev pub NeverEnds : (ℕ → ℕ → Type 0) → ℕ → Type 0
-NeverEnds goes from = (n : ℕ) → (to : ℕ) × LeadsIn goes n from to
+-- ---- whole plans
 
 -- a plan gives these records one after the other, and then stands here
 abbrev pub GivesInTurn : List ℕ → Image → List SectionTable → ℕ → Plan → List UnwindRecord → Plan → Type 0
 GivesInTurn b image sections mode p [] q = p ≡ q
 GivesInTurn b image sections mode p (r ∷ rs) q = (next : Plan) × StepsPlan b image sections mode p (Ok (Some r)) next × GivesInTurn b image sections mode next rs q
 
--- why a plan is refused as a cycle: its chain of records never ends, or the links of one of its functions
-abbrev pub IsCycle : List ℕ → Image → List SectionTable → ℕ → ℕ → Type 0
-IsCycle b image sections mode unwind =
-    NeverEnds (GoesTo b image sections mode) unwind
-    ⊎ ((n : ℕ) × (address : ℕ) × LeadsIn (GoesTo b image sections mode) n unwind address × FollowsToRecord b image sections mode address (Err FunctionCycle))
+-- the step of a plan behind all that it gave since it began at an unwind address answers so
+abbrev pub AnswersBehind : List ℕ → Image → List SectionTable → ℕ → ℕ → List UnwindRecord → Result (Option UnwindRecord) Refusal → Type 0
+AnswersBehind b image sections mode unwind given answer =
+    (p : Plan) × (q : Plan) × GivesInTurn b image sections mode (plan_from unwind) given p × StepsPlan b image sections mode p answer q
+
+-- what is told of a record that stands somewhere in the bytes
+abbrev pub TellsUnwindRecord : List ℕ → UnwindRecord → UnwindInfoView → Type 0
+TellsUnwindRecord b r i = (place : ℕ) × (outcome (unwind_tests b place) (unwind_record b place) ≡ Ok i) × (r ≡ flat_record b place i)
+
+-- how the steps of a plan end: nothing behind the records, or the refusal
+abbrev pub ending_of : Result (List UnwindInfoView) Refusal → Result (Option UnwindRecord) Refusal
+ending_of (Ok records) = Ok None
+ending_of (Err refusal) = Err refusal

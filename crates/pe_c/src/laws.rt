@@ -8,10 +8,11 @@ ghost use Rattle.pe_c.specs.Exports.{StepsExports, count_of, tables_or_short, to
 ghost use Rattle.pe_c.specs.Images.{place_in};
 ghost use Rattle.pe_c.specs.Imports.{StepsLibraries, libraries_at};
 ghost use Rattle.pe_c.specs.Parts.{HasTables, ImportsInTurn, TellsExport, TellsLibrary, TellsPart, TellsRecord};
-ghost use Rattle.pe_c.specs.Plans.{GivesInTurn, IsCycle, StepsPlan, plan_from};
+ghost use Rattle.pe_c.specs.Modes.{options_of};
+ghost use Rattle.pe_c.specs.Plans.{AnswersBehind, GivesInTurn, TellsUnwindRecord, ending_of, plan_from};
 ghost use Rattle.pe_c.specs.Ranges.{IsRange, bytes_at};
 ghost use Rattle.pe_c.specs.Runs.{GivesItems};
-ghost use Rattle.pe_c.specs.Unwinding.{StepsCodes, flat_item, flat_record, function_in, stream_at};
+ghost use Rattle.pe_c.specs.Unwinding.{StepsCodes, exceptions_of, flat_item, flat_record, function_in, stream_at};
 ghost use Rattle.pe_c.specs.Versions.{TellsFixed, TellsManifest, TellsValue};
 ghost use Rattle.pe_c.specs.Walks.{StepsEntries, entries_left, indexed};
 ghost use Rattle.pe_c.specs.declared.arm64.Arm64CodeWalk.{Arm64CodeWalk};
@@ -28,9 +29,10 @@ ghost use Rattle.pe_c.specs.declared.unwinding.UnwindRecord.{UnwindRecord};
 ghost use Rattle.pe_core.specs.Bytes.{AreBytes, holds};
 ghost use Rattle.pe_core.specs.Exports.{ExportDataView, export_at, export_data_at, exports};
 ghost use Rattle.pe_core.specs.Imports.{ImportRecordView, entry_size, import_data_at};
-ghost use Rattle.pe_core.specs.Refusals.{CertificateTable, FunctionCycle, Refusal, outcome};
+ghost use Rattle.pe_core.specs.Refusals.{CertificateTable, Memory, Refusal, outcome};
 ghost use Rattle.pe_core.specs.declared.error.Error.{Error};
 ghost use Rattle.pe_core.specs.declared.section_table.SectionTable.{SectionTable};
+ghost use Rattle.pe_plan.specs.Plans.{PlansFrom};
 ghost use Rattle.pe_records.specs.Certificates.{CertificateView, certificate_at};
 ghost use Rattle.pe_records.specs.DebugDirectory.{entry_at};
 ghost use Rattle.pe_records.specs.Parts.{hash_of};
@@ -39,11 +41,14 @@ ghost use Rattle.pe_unwind.specs.Arm64Functions.{arm64_functions};
 ghost use Rattle.pe_unwind.specs.Arm64Record.{Arm64InfoView, info_at};
 ghost use Rattle.pe_unwind.specs.Arm64Tiling.{Tiles};
 ghost use Rattle.pe_unwind.specs.CodeStream.{AreItems};
+ghost use Rattle.pe_unwind.specs.ExceptionTable.{ExceptionView};
 ghost use Rattle.pe_unwind.specs.FunctionTable.{functions};
+ghost use Rattle.pe_unwind.specs.Links.{links_of};
 ghost use Rattle.pe_unwind.specs.Places.{data_of};
 ghost use Rattle.pe_unwind.specs.ScopeTable.{scope_at};
 ghost use Rattle.pe_unwind.specs.UnwindRecord.{UnwindInfoView, unwind_record, unwind_tests};
 ghost use Rattle.pe_unwind.specs.declared.arm64.codes.Arm64UnwindCodeData.{Arm64UnwindCodeData};
+ghost use Rattle.pe_unwind.specs.declared.function_table.RuntimeFunction.{RuntimeFunction};
 ghost use Rattle.pe_unwind.specs.declared.unwind_code.UnwindCode.{UnwindCode};
 ghost use Rattle.std.specs.List.{AllZip};
 ghost use Rattle.std.specs.Option.{option_map};
@@ -66,15 +71,23 @@ pub fn ranges_of_arm64_records()
         IfSome i.handler (λ h. IsRange b (flat_info b p i).handler_data h.bytes) }
 {}
 
-/// A plan that began at an unwind address is refused as a cycle only where its chain never ends: in records, or in the
-/// links of one of its functions. And where it never ends each step gives a record or is refused so.
-pub fn plans_are_cycles_where_chains_never_end()
-    ensures endless { (b : List ℕ) (image : Image) (sections : List SectionTable) (mode unwind : ℕ) (given : List UnwindRecord) (p q : Plan) →
-        GivesInTurn b image sections mode (plan_from unwind) given p → StepsPlan b image sections mode p (Err FunctionCycle) q →
-        IsCycle b image sections mode unwind }
-    ensures refused { (b : List ℕ) (image : Image) (sections : List SectionTable) (mode unwind : ℕ) (given : List UnwindRecord) (p q : Plan) (answer : Result (Option UnwindRecord) Refusal) →
-        IsCycle b image sections mode unwind → GivesInTurn b image sections mode (plan_from unwind) given p → StepsPlan b image sections mode p answer q →
-        (answer ≡ Err FunctionCycle) ⊎ ((r : UnwindRecord) × (answer ≡ Ok (Some r))) }
+/// The plan of a function, one record a step, is that of pe_plan: where a step gives nothing, the records before it tell
+/// those of the function's plan, one for one; what refuses a step refuses the plan, so it is a cycle only where the
+/// function's chain never ends. And each step gives a record, or ends as the plan of pe_plan does. Where the exception data
+/// are refused, the first step is refused so.
+pub fn plans_are_those_of_functions()
+    ensures records { (b : List ℕ) (image : Image) (sections : List SectionTable) (mode : ℕ) (v : ExceptionView) (f : RuntimeFunction) (given : List UnwindRecord) →
+        exceptions_of b image sections mode ≡ Ok v → AnswersBehind b image sections mode f.unwind_info_address given (Ok None) →
+        (is : List UnwindInfoView) × PlansFrom (links_of v sections (options_of mode)) v.content f (Ok is) × AllZip (TellsUnwindRecord b) given is }
+    ensures refused { (b : List ℕ) (image : Image) (sections : List SectionTable) (mode : ℕ) (v : ExceptionView) (f : RuntimeFunction) (given : List UnwindRecord) (refusal : Refusal) →
+        exceptions_of b image sections mode ≡ Ok v → AnswersBehind b image sections mode f.unwind_info_address given (Err refusal) →
+        (refusal ≢ Memory) × PlansFrom (links_of v sections (options_of mode)) v.content f (Err refusal) }
+    ensures endings { (b : List ℕ) (image : Image) (sections : List SectionTable) (mode : ℕ) (v : ExceptionView) (f : RuntimeFunction) (plan : Result (List UnwindInfoView) Refusal) (given : List UnwindRecord) (answer : Result (Option UnwindRecord) Refusal) →
+        exceptions_of b image sections mode ≡ Ok v → PlansFrom (links_of v sections (options_of mode)) v.content f plan → plan ≢ Err Memory →
+        AnswersBehind b image sections mode f.unwind_info_address given answer → (answer ≡ ending_of plan) ⊎ ((r : UnwindRecord) × (answer ≡ Ok (Some r))) }
+    ensures without_table { (b : List ℕ) (image : Image) (sections : List SectionTable) (mode unwind : ℕ) (refusal : Refusal) (given : List UnwindRecord) (answer : Result (Option UnwindRecord) Refusal) →
+        exceptions_of b image sections mode ≡ Err refusal → AnswersBehind b image sections mode unwind given answer →
+        (given ≡ []) × (answer ≡ Err refusal) }
 {}
 
 /// A plan that began at an unwind address gives at most three times as many records as there are addresses: so it comes to

@@ -1,5 +1,6 @@
 pub mod Chains
 pub mod Rings
+pub mod Marks
 pub mod Endings
 pub mod OnePlan
 pub mod Walks

@@ -1,5 +1,5 @@
 -- The two walks over a chain: to count its records, and to take them.
-use Rattle.std.proofs.Common.{◌≡◌, ℕ, suc, ◌+◌, ◌^◌, ◌<◌, ◌≤◌, List, [], ◌∷◌, ◌++◌, length, Option, Some, None, Result, Ok, Err, IfSome, map, inl, inr, refl, sym, ◌∙◌, subst, arith, length-append}
+use Rattle.std.proofs.Common.{◌≡◌, ℕ, suc, ◌+◌, ◌^◌, ◌<◌, ◌≤◌, List, [], ◌∷◌, ◌++◌, length, Option, Some, None, Result, Ok, Err, IfSome, map, inl, refl, sym, subst, arith, length-append}
 use Rattle.std.proofs.lemmas.List.{length-map, map_push}
 use Rattle.pe_core.specs.Refusals.{Refusal, Memory, FunctionCycle}
 use Rattle.pe_unwind.specs.declared.function_table.RuntimeFunction.{RuntimeFunction}
@@ -7,40 +7,23 @@ use Rattle.pe_unwind.specs.Links.{Table}
 use Rattle.pe_unwind.specs.UnwindRecord.{UnwindInfoView, unwind_view}
 use Rattle.pe_unwind.specs.declared.unwind_info.UnwindInfo.{UnwindInfo}
 use Rattle.pe_unwind.specs.Unwinding.{Unwinds}
-use Rattle.pe_unwind.proofs.LinkChains.{unwinds_cycle, unwinds_no_memory}
 use Rattle.pe_unwind.proofs.OneChain.{one_record}
 use Rattle.pe_plan.specs.Plans.{IsChain, NeverEnds, PlansFrom}
 use Rattle.pe_plan.specs.PlanSteps.{HasLength, Counts, Takes}
 use Rattle.pe_plan.proofs.Chains.{one_more}
-use Rattle.pe_plan.proofs.Rings.{AreBelow, below_more, ring_goes_on, many_go_on}
+use Rattle.pe_plan.proofs.Marks.{Marked, starts, keeps, moves, comes_to_root}
+use Rattle.pe_plan.proofs.Rings.{AreBelow, below_more, many_go_on}
 use Rattle.pe_plan.proofs.Endings.{same_record}
 
--- so many chained records were counted, up to the current function; the saved address is that of a function on the way
+-- so many chained records were counted, up to the current function
 pub record CountedTo (t : Table) (b : List ℕ) (f : RuntimeFunction) (chained : ℕ) (current : RuntimeFunction) (saved : ℕ) : Type 0 where
   pub records : List UnwindInfoView
   pub many : length records ≡ chained
-  pub chain : IsChain t b (Some f) records (Some current)
   pub small : AreBelow (2 ^ 32) (Some f) records
-  pub marked : RuntimeFunction
-  pub front : List UnwindInfoView
-  pub around : List UnwindInfoView
-  pub to_marked : IsChain t b (Some f) front (Some marked)
-  pub from_marked : IsChain t b (Some marked) around (Some current)
-  pub is_saved : marked.unwind_info_address ≡ saved
+  pub way : Marked t b f records current saved
 
 pub count_starts : (t : Table) (b : List ℕ) (f : RuntimeFunction) → f.unwind_info_address < 2 ^ 32 → CountedTo t b f 0 f f.unwind_info_address
-count_starts t b f small = record {
-  records = [];
-  many = refl;
-  chain = refl;
-  small = small;
-  marked = f;
-  front = [];
-  around = [];
-  to_marked = refl;
-  from_marked = refl;
-  is_saved = refl;
-}
+count_starts t b f small = record { records = []; many = refl; small = small; way = starts t b f }
 
 -- the record of a function, which is chained to another
 pub record IsChained (t : Table) (b : List ℕ) (current next : RuntimeFunction) : Type 0 where
@@ -49,75 +32,42 @@ pub record IsChained (t : Table) (b : List ℕ) (current next : RuntimeFunction)
   pub chained : info.chained_info ≡ Some next
   pub small : next.unwind_info_address < 2 ^ 32
 
-chain_more : (t : Table) (b : List ℕ) (start : Option RuntimeFunction) (current next : RuntimeFunction) (is : List UnwindInfoView) (i : UnwindInfoView) → IsChain t b start is (Some current) → Unwinds t b current.unwind_info_address (Ok i) → i.chained_info ≡ Some next → IsChain t b start (is ++ i ∷ []) (Some next)
-chain_more t b start current next is i p u to = subst (λ (o : Option RuntimeFunction). IsChain t b start (is ++ i ∷ []) o) to (one_more t b start current is i p u)
-
 small_more : (t : Table) (b : List ℕ) (f current next : RuntimeFunction) (is : List UnwindInfoView) (i : UnwindInfoView) → IsChain t b (Some f) is (Some current) → AreBelow (2 ^ 32) (Some f) is → i.chained_info ≡ Some next → next.unwind_info_address < 2 ^ 32 → AreBelow (2 ^ 32) (Some f) (is ++ i ∷ [])
 small_more t b f current next is i p small to last =
     below_more t b (2 ^ 32) (Some f) current is i p small (subst (λ (o : Option RuntimeFunction). AreBelow (2 ^ 32) o []) (sym to) last)
 
--- one record more, by which the saved address stays
-pub keeps_saved : (t : Table) (b : List ℕ) (f current next : RuntimeFunction) (n saved same : ℕ) → CountedTo t b f n current saved → IsChained t b current next → same ≡ saved → CountedTo t b f (n + 1) next same
-keeps_saved t b f current next n saved same c to is = record {
+counted_more : (t : Table) (b : List ℕ) (f current next : RuntimeFunction) (n saved later : ℕ) (c : CountedTo t b f n current saved) (to : IsChained t b current next) → Marked t b f (c.records ++ to.info ∷ []) next later → CountedTo t b f (n + 1) next later
+counted_more t b f current next n saved later c to way = record {
   records = c.records ++ to.info ∷ [];
   many = omega (arith, c.many, length-append c.records (to.info ∷ []));
-  chain = chain_more t b (Some f) current next c.records to.info c.chain to.unwinds to.chained;
-  small = small_more t b f current next c.records to.info c.chain c.small to.chained to.small;
-  marked = c.marked;
-  front = c.front;
-  around = c.around ++ to.info ∷ [];
-  to_marked = c.to_marked;
-  from_marked = chain_more t b (Some c.marked) current next c.around to.info c.from_marked to.unwinds to.chained;
-  is_saved = c.is_saved ∙ sym is;
+  small = small_more t b f current next c.records to.info c.way.chain c.small to.chained to.small;
+  way = way;
 }
+
+-- one record more, by which the saved address stays
+pub keeps_saved : (t : Table) (b : List ℕ) (f current next : RuntimeFunction) (n saved same : ℕ) → CountedTo t b f n current saved → IsChained t b current next → same ≡ saved → CountedTo t b f (n + 1) next same
+keeps_saved t b f current next n saved same c to is =
+    subst (λ (u : ℕ). CountedTo t b f (n + 1) next u) (sym is)
+    (counted_more t b f current next n saved saved c to (keeps t b f current next c.records to.info saved c.way to.unwinds to.chained))
 
 -- and one by which it moves
 pub moves_saved : (t : Table) (b : List ℕ) (f current next : RuntimeFunction) (n saved moved : ℕ) → CountedTo t b f n current saved → IsChained t b current next → moved ≡ next.unwind_info_address → CountedTo t b f (n + 1) next moved
-moves_saved t b f current next n saved moved c to is = record {
-  records = c.records ++ to.info ∷ [];
-  many = omega (arith, c.many, length-append c.records (to.info ∷ []));
-  chain = chain_more t b (Some f) current next c.records to.info c.chain to.unwinds to.chained;
-  small = small_more t b f current next c.records to.info c.chain c.small to.chained to.small;
-  marked = next;
-  front = c.records ++ to.info ∷ [];
-  around = [];
-  to_marked = chain_more t b (Some f) current next c.records to.info c.chain to.unwinds to.chained;
-  from_marked = refl;
-  is_saved = sym is;
-}
-
--- the saved address comes again
-pub comes_again : (t : Table) (b : List ℕ) (f current next : RuntimeFunction) (n saved : ℕ) → CountedTo t b f n current saved → IsChained t b current next → next.unwind_info_address ≡ saved → NeverEnds t b f
-comes_again t b f current next n saved c to same = inl (ring_goes_on t b (Some f) (record {
-  first = c.marked;
-  again = next;
-  front = c.front;
-  around = c.around ++ to.info ∷ [];
-  some = omega (arith, length-append c.around (to.info ∷ []));
-  to_first = c.to_marked;
-  to_again = chain_more t b (Some c.marked) current next c.around to.info c.from_marked to.unwinds to.chained;
-  same = same ∙ sym c.is_saved;
-}))
+moves_saved t b f current next n saved moved c to is =
+    subst (λ (u : ℕ). CountedTo t b f (n + 1) next u) (sym is)
+    (counted_more t b f current next n saved next.unwind_info_address c to (moves t b f current next c.records to.info saved c.way to.unwinds to.chained))
 
 -- as many chained records as there are addresses
 pub too_many : (t : Table) (b : List ℕ) (f current : RuntimeFunction) (n saved : ℕ) → CountedTo t b f n current saved → 2 ^ 32 ≤ n → NeverEnds t b f
 too_many t b f current n saved c many =
-    inl (many_go_on t b (2 ^ 32) (Some f) current c.records c.chain c.small (omega (arith, many, c.many)))
+    inl (many_go_on t b (2 ^ 32) (Some f) current c.records c.way.chain c.small (omega (arith, many, c.many)))
 
 -- the root
-pub comes_to_root : (t : Table) (b : List ℕ) (f current : RuntimeFunction) (n saved : ℕ) (i : UnwindInfoView) → CountedTo t b f n current saved → Unwinds t b current.unwind_info_address (Ok i) → i.chained_info ≡ None → HasLength t b f (n + 1)
-comes_to_root t b f current n saved i c u root = (
+pub counted_to_root : (t : Table) (b : List ℕ) (f current : RuntimeFunction) (n saved : ℕ) (i : UnwindInfoView) → CountedTo t b f n current saved → Unwinds t b current.unwind_info_address (Ok i) → i.chained_info ≡ None → HasLength t b f (n + 1)
+counted_to_root t b f current n saved i c u root = (
   c.records ++ i ∷ [],
   omega (arith, c.many, length-append c.records (i ∷ [])),
-  subst (λ (o : Option RuntimeFunction). IsChain t b (Some f) (c.records ++ i ∷ []) o) root (one_more t b (Some f) current c.records i c.chain u),
+  comes_to_root t b f current c.records i saved c.way u root,
 )
-
--- a record that is refused
-pub comes_to_fault : (t : Table) (b : List ℕ) (f current : RuntimeFunction) (n saved : ℕ) (k : Refusal) → CountedTo t b f n current saved → Unwinds t b current.unwind_info_address (Err k) → Counts t b f (Err k)
-comes_to_fault t b f current n saved Memory c u = unwinds_no_memory t b current.unwind_info_address u
-comes_to_fault t b f current n saved FunctionCycle c u =
-    inr (current, (c.records, c.chain), (unwinds_cycle t b current.unwind_info_address (Err FunctionCycle) u).0 refl)
-comes_to_fault t b f current n saved fault c u = (current, (c.records, c.chain), u)
 
 -- these records of the chain were taken, and those up to the root are left, from the current function on
 pub record TakenTo (t : Table) (b : List ℕ) (f : RuntimeFunction) (count : ℕ) (records : List UnwindInfoView) (current : RuntimeFunction) : Type 0 where

@@ -16,3 +16,4 @@ pub mod Arm64Lengths
 pub mod Arm64OneCode
 pub mod Arm64Whole
 pub mod Arm64Streams
+pub mod ExceptionBytes

@@ -1,0 +1,33 @@
+-- Exception data are of the bytes that they were read of.
+use Rattle.std.proofs.Common.{◌≡◌, ℕ, ◌%◌, Bool, true, false, List, [], ◌∷◌, Option, None, Some, Ok, Err, sym, ap}
+use Rattle.std.specs.Prelude.{◌==◌, if◌then◌else◌}
+use Rattle.pe_core.specs.Bytes.{holds}
+use Rattle.pe_core.specs.Refusals.{Refusal, ExceptionSize, ExceptionOffset, ExceptionBounds, outcome}
+use Rattle.pe_core.specs.SectionMap.{place_of}
+use Rattle.pe_core.specs.declared.data_directories.DataDirectory.{DataDirectory}
+use Rattle.pe_core.specs.declared.options.ParseOptions.{ParseOptions}
+use Rattle.pe_core.specs.declared.section_table.SectionTable.{SectionTable}
+use Rattle.pe_unwind.specs.ExceptionTable.{ExceptionView, exception_at, exception_at_place}
+
+-- the bytes, and the alignment by which addresses are mapped
+abbrev pub IsOf : List ℕ → ℕ → ExceptionView → Type 0
+IsOf b unit v = (v.content ≡ b) × (v.alignment ≡ unit)
+
+tested : (tests : List (Bool × Refusal)) (x v : ExceptionView) → outcome tests x ≡ Ok v → x ≡ v
+tested [] x v h = cc
+tested ((true, refusal) ∷ tests) x v h = tested tests x v h
+tested ((false, refusal) ∷ tests) x v h = absurd cc
+
+at_place : (b : List ℕ) (size unit : ℕ) (place : Option ℕ) (v : ExceptionView) → exception_at_place b size unit place ≡ Ok v → IsOf b unit v
+at_place b size unit None v h = absurd cc
+at_place b size unit (Some p) v h =
+    let same : record { content = b; start = p; size = size; alignment = unit } ≡ v = tested ((p % 4 == 0, ExceptionOffset) ∷ (holds b p size, ExceptionBounds) ∷ []) (record { content = b; start = p; size = size; alignment = unit }) v h in
+    (ap (λ (v : ExceptionView). v.content) (sym same), ap (λ (v : ExceptionView). v.alignment) (sym same))
+
+if_whole : (whole : Bool) (b : List ℕ) (size unit : ℕ) (place : Option ℕ) (v : ExceptionView) → (if whole then exception_at_place b size unit place else Err ExceptionSize) ≡ Ok v → IsOf b unit v
+if_whole true b size unit place v h = at_place b size unit place v h
+if_whole false b size unit place v h = absurd cc
+
+pub in_directory : (width : ℕ) (b : List ℕ) (d : DataDirectory) (sections : List SectionTable) (unit : ℕ) (o : ParseOptions) (v : ExceptionView) → exception_at width b d sections unit o ≡ Ok v → IsOf b unit v
+unfolding exception_at
+in_directory width b d sections unit o v h = if_whole (d.size % width == 0) b d.size unit (place_of o.resolve_rva unit sections d.virtual_address) v h
