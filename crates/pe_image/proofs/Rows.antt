@@ -110,11 +110,16 @@ refused_if true u x z r h e = absurd cc
 refused_if false true x z r h e = absurd cc
 refused_if false false x z r h e = let same : WriteFit ≡ r = cc in ap (λ k. Err k) same
 
--- the same tests give another value where they give one
+-- the same tests give another value where they give one, and refuse it where they refuse
 pub accepted_too : {X Y : Type 0} (tests : List (Bool × Refusal)) (x z : X) (y : Y) → outcome tests x ≡ Ok z → outcome tests y ≡ Ok y
 accepted_too [] x z y h = refl
 accepted_too ((true, k) ∷ tests) x z y h = accepted_too tests x z y h
 accepted_too ((false, k) ∷ tests) x z y h = absurd cc
+
+pub refused_too : {X Y : Type 0} (tests : List (Bool × Refusal)) (x : X) (y : Y) (k : Refusal) → outcome tests x ≡ Err k → outcome tests y ≡ Err k
+refused_too [] x y k h = absurd cc
+refused_too ((true, j) ∷ tests) x y k h = refused_too tests x y k h
+refused_too ((false, j) ∷ tests) x y k h = let e : j ≡ k = cc in ap (λ r. Err r) e
 
 -- the answer with the bytes that are left
 pub written_too : (tests : List (Bool × Refusal)) (x z : ℕ) (s t : List ℕ) → outcome tests x ≡ Ok z → t ≡ s → outcome {Y = ℕ × List ℕ} tests (x, s) ≡ Ok (z, t)
