@@ -33,24 +33,23 @@ crates_with_tests() {
   done
 }
 
-# Puts tests/CRATE into a copy of the crates, as the module tests of that crate, in place of its own one if it has one.
-# Beside its own files lib.test may name those of that one, and tests/refusing.test. The crate uses pe_images then.
+# Puts tests/CRATE into a copy of the crates, as the module tests of that crate. Beside its own files lib.test may name
+# tests/refusing.test. The crate uses pe_images then.
 add_tests_of() {
-  local folder=$1 crate=$2 test sources
+  local folder=$1 crate=$2 test sources root
   sources=$folder/crates/$crate/src
   mkdir -p "$sources/tests"
-  cp tests/refusing.test "$sources/tests/refusing.rt"
+  if grep -qx 'mod refusing;' "tests/$crate/lib.test"; then
+    cp tests/refusing.test "$sources/tests/refusing.rt"
+  fi
   for test in tests/"$crate"/*.test; do
     cp "$test" "$(copy_of_test "$folder" "$test")"
   done
-  for test in "$sources"/tests/*.rt; do
-    if ! grep -qx "mod $(basename "$test" .rt);" "$sources/tests.rt"; then
-      rm "$test"
+  for root in "$sources"/{lib,main}.rt; do
+    if [ -f "$root" ]; then
+      printf '\n#[cfg(test)]\nmod tests;\n' >>"$root"
     fi
   done
-  if ! grep -qx 'mod tests;' "$sources"/{lib,main}.rt 2>/dev/null; then
-    printf '\n#[cfg(test)]\nmod tests;\n' >>"$sources/lib.rt"
-  fi
   sed -i -E "/^$crate( staticlib)?:/{/ pe_images( |\$)/!s/\$/ pe_images/}" "$folder/crates.txt"
 }
 

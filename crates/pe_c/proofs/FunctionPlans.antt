@@ -21,7 +21,7 @@ use Rattle.pe_plan.proofs.OnePlan.{one_plan}
 use Rattle.pe_plan.proofs.Walks.{counted}
 use Rattle.pe_c.specs.Modes.{options_of}
 use Rattle.pe_c.specs.Plans.{AnswersBehind, GivesInTurn, StepsIf, StepsPlan, TellsUnwindRecord, ended, ending_of, gives, goes_on, leaves, plan_from}
-use Rattle.pe_c.specs.Unwinding.{FindsPlaceIn, FollowsToRecord, exceptions_of, flat_record, flat_record_at, is_some_number, or_no_function}
+use Rattle.pe_c.specs.Unwinding.{FindsPlaceIn, FollowsToRecord, image_exceptions, flat_record, flat_record_at, is_some_number, or_no_function}
 use Rattle.pe_c.specs.declared.image.Image.{Image}
 use Rattle.pe_c.specs.declared.plan.Plan.{Plan}
 use Rattle.pe_c.specs.declared.unwinding.UnwindRecord.{UnwindRecord}
@@ -64,7 +64,7 @@ found_at t b u place next f is = record {
 -- the image has this table, with these links
 record Has (t : Table) (b : List ℕ) (image : Image) (s : List SectionTable) (mode : ℕ) : Type 0 where
   view : ExceptionView
-  there : exceptions_of b image s mode ≡ Ok view
+  there : image_exceptions b image s mode ≡ Ok view
   links : links_of view s (options_of mode) ≡ t
 
 found : (t : Table) (b : List ℕ) (image : Image) (s : List SectionTable) (mode u : ℕ) (next : Result UnwindRecord Refusal) → Has t b image s mode → FollowsToRecord b image s mode u next → Found t b u next
@@ -205,19 +205,19 @@ whole t b image s mode f given answer h a =
 
 -- ---- what the steps answer
 
-there : (b : List ℕ) (image : Image) (s : List SectionTable) (mode : ℕ) (v : ExceptionView) → exceptions_of b image s mode ≡ Ok v → Has (links_of v s (options_of mode)) b image s mode
+there : (b : List ℕ) (image : Image) (s : List SectionTable) (mode : ℕ) (v : ExceptionView) → image_exceptions b image s mode ≡ Ok v → Has (links_of v s (options_of mode)) b image s mode
 there b image s mode v e = record { view = v; there = e; links = refl }
 
 -- plans are of the bytes that the exception data are of
-of_bytes : (b : List ℕ) (image : Image) (s : List SectionTable) (mode : ℕ) (v : ExceptionView) → exceptions_of b image s mode ≡ Ok v → v.content ≡ b
+of_bytes : (b : List ℕ) (image : Image) (s : List SectionTable) (mode : ℕ) (v : ExceptionView) → image_exceptions b image s mode ≡ Ok v → v.content ≡ b
 of_bytes b image s mode v e = (in_directory 12 b image.exceptions s image.file_alignment (options_of mode) v e).0
 
-content_is : (b : List ℕ) (image : Image) (s : List SectionTable) (mode : ℕ) (v : ExceptionView) (f : RuntimeFunction) (x : Result (List UnwindInfoView) Refusal) → exceptions_of b image s mode ≡ Ok v →
+content_is : (b : List ℕ) (image : Image) (s : List SectionTable) (mode : ℕ) (v : ExceptionView) (f : RuntimeFunction) (x : Result (List UnwindInfoView) Refusal) → image_exceptions b image s mode ≡ Ok v →
     PlansFrom (links_of v s (options_of mode)) b f x → PlansFrom (links_of v s (options_of mode)) v.content f x
 content_is b image s mode v f x e p = subst (λ (c : List ℕ). PlansFrom (links_of v s (options_of mode)) c f x) (sym (of_bytes b image s mode v e)) p
 
 pub records_are_told : (b : List ℕ) (image : Image) (s : List SectionTable) (mode : ℕ) (v : ExceptionView) (f : RuntimeFunction) (given : List UnwindRecord) →
-    exceptions_of b image s mode ≡ Ok v → AnswersBehind b image s mode f.unwind_info_address given (Ok None) →
+    image_exceptions b image s mode ≡ Ok v → AnswersBehind b image s mode f.unwind_info_address given (Ok None) →
     (is : List UnwindInfoView) × PlansFrom (links_of v s (options_of mode)) v.content f (Ok is) × AllZip (TellsUnwindRecord b) given is
 records_are_told b image s mode v f given e a =
     let all : Told (links_of v s (options_of mode)) b f given = whole (links_of v s (options_of mode)) b image s mode f given (Ok None) (there b image s mode v e) a in
@@ -227,7 +227,7 @@ no_memory : (t : Table) (b : List ℕ) (f : RuntimeFunction) (k : Refusal) → C
 no_memory t b f k c e = absurd (subst (λ (x : Refusal). Counts t b f (Err x)) e c)
 
 pub refusals_are_of_plans : (b : List ℕ) (image : Image) (s : List SectionTable) (mode : ℕ) (v : ExceptionView) (f : RuntimeFunction) (given : List UnwindRecord) (refusal : Refusal) →
-    exceptions_of b image s mode ≡ Ok v → AnswersBehind b image s mode f.unwind_info_address given (Err refusal) →
+    image_exceptions b image s mode ≡ Ok v → AnswersBehind b image s mode f.unwind_info_address given (Err refusal) →
     (refusal ≢ Memory) × PlansFrom (links_of v s (options_of mode)) v.content f (Err refusal)
 refusals_are_of_plans b image s mode v f given refusal e a =
     let t = links_of v s (options_of mode) in
@@ -242,7 +242,7 @@ ends_so t b f given q plan (Err k) p known c =
     inl (ap ending_of (one_plan t b f (Err k) plan (counted t b f k c) p (λ e. no_memory t b f k c (let same : k ≡ Memory = cc in same)) known))
 
 pub plans_end_so : (b : List ℕ) (image : Image) (s : List SectionTable) (mode : ℕ) (v : ExceptionView) (f : RuntimeFunction) (plan : Result (List UnwindInfoView) Refusal) (given : List UnwindRecord) (answer : Result (Option UnwindRecord) Refusal) →
-    exceptions_of b image s mode ≡ Ok v → PlansFrom (links_of v s (options_of mode)) v.content f plan → plan ≢ Err Memory →
+    image_exceptions b image s mode ≡ Ok v → PlansFrom (links_of v s (options_of mode)) v.content f plan → plan ≢ Err Memory →
     AnswersBehind b image s mode f.unwind_info_address given answer → (answer ≡ ending_of plan) ⊎ ((r : UnwindRecord) × (answer ≡ Ok (Some r)))
 plans_end_so b image s mode v f plan given answer e p known a =
     let t = links_of v s (options_of mode) in
@@ -251,7 +251,7 @@ plans_end_so b image s mode v f plan given answer e p known a =
 -- ---- exception data that are refused
 
 first_refused : (b : List ℕ) (image : Image) (s : List SectionTable) (mode u : ℕ) (refusal : Refusal) (q : Plan) (answer : Result (Option UnwindRecord) Refusal) →
-    exceptions_of b image s mode ≡ Err refusal → StepsPlan b image s mode (plan_from u) answer q → answer ≡ Err refusal
+    image_exceptions b image s mode ≡ Err refusal → StepsPlan b image s mode (plan_from u) answer q → answer ≡ Err refusal
 first_refused b image s mode u refusal q answer e step =
     let follows = step.1 in
     let place : follows.0 ≡ Err refusal = subst (λ (x : Result ExceptionView Refusal). FindsPlaceIn x s mode u follows.0) e follows.1 in
@@ -259,7 +259,7 @@ first_refused b image s mode u refusal q answer e step =
     step.2 ∙ ap (λ (x : Result UnwindRecord Refusal). gives (plan_from u) x) next
 
 pub tables_are_refused : (b : List ℕ) (image : Image) (s : List SectionTable) (mode u : ℕ) (refusal : Refusal) (given : List UnwindRecord) (answer : Result (Option UnwindRecord) Refusal) →
-    exceptions_of b image s mode ≡ Err refusal → AnswersBehind b image s mode u given answer → (given ≡ []) × (answer ≡ Err refusal)
+    image_exceptions b image s mode ≡ Err refusal → AnswersBehind b image s mode u given answer → (given ≡ []) × (answer ≡ Err refusal)
 tables_are_refused b image s mode u refusal [] answer e a =
     (refl, first_refused b image s mode u refusal a.1 answer e (subst (λ (x : Plan). StepsPlan b image s mode x answer a.1) (sym a.2) a.3))
 tables_are_refused b image s mode u refusal (r ∷ rs) answer e a =

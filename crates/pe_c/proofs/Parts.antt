@@ -15,7 +15,7 @@ use Rattle.pe_c.specs.declared.debug.Repro.{Repro}
 use Rattle.pe_c.specs.declared.image.Image.{Image}
 use Rattle.pe_c.specs.declared.ranges.Range.{Range}
 use Rattle.pe_c.specs.Certificates.{certificate_told}
-use Rattle.pe_c.specs.Debug.{debug_of, key_of, pdb20_of, repro_by, repro_of, pogo_of}
+use Rattle.pe_c.specs.Debug.{image_debug, key_of, pdb20_of, repro_by, repro_of, pogo_of}
 use Rattle.pe_c.specs.Images.{is_absent}
 use Rattle.pe_c.specs.Modes.{options_of}
 use Rattle.pe_c.proofs.RecordRanges.{of_place}
@@ -40,8 +40,8 @@ data_by true r d e = absurd cc
 data_by false (Ok x) d e = cc
 data_by false (Err x) d e = absurd cc
 
-parts_of : (b : List ℕ) (image : Image) (s : List SectionTable) (mode : ℕ) (d : DebugFields) → debug_of b image s mode ≡ Ok (Some d) → DebugPartsStand (options_of mode) b d
-unfolding debug_of
+parts_of : (b : List ℕ) (image : Image) (s : List SectionTable) (mode : ℕ) (d : DebugFields) → image_debug b image s mode ≡ Ok (Some d) → DebugPartsStand (options_of mode) b d
+unfolding image_debug
 parts_of b image s mode d e =
     parts_stand (options_of mode) b image.debug s image.file_alignment 0 d
     (data_by (is_absent image.debug) (debug_data (options_of mode) b image.debug s image.file_alignment 0) d e)
@@ -50,7 +50,7 @@ parts_of b image s mode d e =
 tells : {Y : Type 0} (told : DebugFields → Option Y) (range_of : Y → Range) (part_of : DebugFields → Option (List ℕ)) →
     ((b : List ℕ) (mode : ℕ) (d : DebugFields) (y : Y) → DebugPartsStand (options_of mode) b d → told d ≡ Some y → IsPart b (range_of y) (part_of d)) → TellsPart told range_of part_of
 tells told range_of part_of h b image s mode y e =
-    let given = told_by told (debug_of b image s mode) y e in
+    let given = told_by told (image_debug b image s mode) y e in
     (given.0, given.1, given.2, h b mode given.0 y (parts_of b image s mode given.0 given.1) given.2)
 
 -- a value that is made of a record and the range of its part

@@ -12,7 +12,7 @@ use Rattle.pe_unwind.specs.ExceptionTable.{ExceptionView}
 use Rattle.pe_unwind.specs.Links.{links_of}
 use Rattle.pe_c.specs.Modes.{options_of}
 use Rattle.pe_c.specs.Plans.{plan_from, ended, goes_on, leaves, StepsIf, GivesInTurn}
-use Rattle.pe_c.specs.Unwinding.{FindsPlaceIn, FollowsToRecord, exceptions_of, flat_record_at}
+use Rattle.pe_c.specs.Unwinding.{FindsPlaceIn, FollowsToRecord, image_exceptions, flat_record_at}
 use Rattle.pe_c.specs.declared.image.Image.{Image}
 use Rattle.pe_c.specs.declared.plan.Plan.{Plan}
 use Rattle.pe_c.specs.declared.unwinding.UnwindRecord.{UnwindRecord}
@@ -32,7 +32,7 @@ one_place (Ok v) s mode u x y f g =
 
 pub one_record : (b : List ℕ) (image : Image) (s : List SectionTable) (mode u : ℕ) (x y : Result UnwindRecord Refusal) → FollowsToRecord b image s mode u x → FollowsToRecord b image s mode u y → x ≡ y
 one_record b image s mode u x y f g =
-    let same : f.0 ≡ g.0 = one_place (exceptions_of b image s mode) s mode u f.0 g.0 f.1 g.1 in
+    let same : f.0 ≡ g.0 = one_place (image_exceptions b image s mode) s mode u f.0 g.0 f.1 g.1 in
     f.2 ∙ ap (λ (place : Result ℕ Refusal). place >>= flat_record_at b) same ∙ sym g.2
 
 same_inside : (x y : UnwindRecord) → ◌≡◌ {A = Result UnwindRecord Refusal} (Ok x) (Ok y) → x ≡ y

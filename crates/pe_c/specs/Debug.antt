@@ -23,14 +23,14 @@ entries_at b image sections mode =
     else directory_range (options_of mode) b image.debug sections image.file_alignment >>= λ r. Ok (Some (range_of r))
 
 -- the debug data of an image, if it has any; or what refuses them
-unfoldable pub debug_of : List ℕ → Image → List SectionTable → ℕ → Result (Option DebugFields) Refusal
-debug_of b image sections mode =
+unfoldable pub image_debug : List ℕ → Image → List SectionTable → ℕ → Result (Option DebugFields) Refusal
+image_debug b image sections mode =
     if is_absent image.debug then Ok None
     else debug_data (options_of mode) b image.debug sections image.file_alignment 0 >>= λ d. Ok (Some d)
 
 -- what is told of debug data, if there are any and they have it
 abbrev pub told_of : {Y : Type 0} → (DebugFields → Option Y) → List ℕ → Image → List SectionTable → ℕ → Result (Option Y) Refusal
-told_of told b image sections mode = debug_of b image sections mode >>= λ d. Ok (option_and_then told d)
+told_of told b image sections mode = image_debug b image sections mode >>= λ d. Ok (option_and_then told d)
 
 -- the range of a part that stands n bytes behind the place where the first entry of this type leads
 abbrev pub part_behind : DebugFields → ℕ → ℕ → List ℕ → Option Range

@@ -14,7 +14,7 @@ use Rattle.pe_c.specs.declared.image.Image.{Image}
 use Rattle.pe_c.specs.declared.imports.Import.{Import}
 use Rattle.pe_c.specs.declared.imports.Library.{Library}
 use Rattle.pe_c.specs.declared.ranges.Range.{Range}
-use Rattle.pe_c.specs.Debug.{debug_of, told_of}
+use Rattle.pe_c.specs.Debug.{image_debug, told_of}
 use Rattle.pe_c.specs.Exports.{or_zero, one_if_some}
 use Rattle.pe_c.specs.Imports.{StepsImports}
 use Rattle.pe_c.specs.Ranges.{IsRange, no_bytes}
@@ -29,12 +29,12 @@ IsPart b r (Some part) = IsRange b r part
 abbrev pub TellsPart : {Y : Type 0} → (DebugFields → Option Y) → (Y → Range) → (DebugFields → Option (List ℕ)) → Type 0
 TellsPart {Y} told range_of part_of =
     (b : List ℕ) (image : Image) (sections : List SectionTable) (mode : ℕ) (y : Y) → told_of told b image sections mode ≡ Ok (Some y) →
-    (d : DebugFields) × (debug_of b image sections mode ≡ Ok (Some d)) × (told d ≡ Some y) × IsPart b (range_of y) (part_of d)
+    (d : DebugFields) × (image_debug b image sections mode ≡ Ok (Some d)) × (told d ≡ Some y) × IsPart b (range_of y) (part_of d)
 
 -- where debug data have a record, it is told
 abbrev pub TellsRecord : {X Y : Type 0} → (DebugFields → Option Y) → (DebugFields → Option X) → Type 0
 TellsRecord told record_of =
-    (b : List ℕ) (image : Image) (sections : List SectionTable) (mode : ℕ) (d : DebugFields) → debug_of b image sections mode ≡ Ok (Some d) → IsSome (record_of d) → IsSome (told d)
+    (b : List ℕ) (image : Image) (sections : List SectionTable) (mode : ℕ) (d : DebugFields) → image_debug b image sections mode ≡ Ok (Some d) → IsSome (record_of d) → IsSome (told d)
 
 -- a walk at its beginning has the tables of these export data
 pub record HasTables (b : List ℕ) (w : Exports) (d : ExportDataView) : Type 0 where

@@ -103,8 +103,8 @@ abbrev pub flat_record_at : List ℕ → ℕ → Result UnwindRecord Refusal
 flat_record_at b p = outcome (unwind_tests b p) (unwind_record b p) >>= λ i. Ok (flat_record b p i)
 
 -- the exception data of an image, with entries of 12 bytes, or what refuses them
-abbrev pub exceptions_of : List ℕ → Image → List SectionTable → ℕ → Result ExceptionView Refusal
-exceptions_of b image sections mode = exception_at 12 b image.exceptions sections image.file_alignment (options_of mode)
+abbrev pub image_exceptions : List ℕ → Image → List SectionTable → ℕ → Result ExceptionView Refusal
+image_exceptions b image sections mode = exception_at 12 b image.exceptions sections image.file_alignment (options_of mode)
 
 -- the place of the record of an unwind address, in a table that is given; or what refuses the table
 abbrev pub FindsPlaceIn : Result ExceptionView Refusal → List SectionTable → ℕ → ℕ → Result ℕ Refusal → Type 0
@@ -112,7 +112,7 @@ FindsPlaceIn (Err refusal) sections mode address answer = answer ≡ Err refusal
 FindsPlaceIn (Ok v) sections mode address answer = FindsRecord (links_of v sections (options_of mode)) address answer
 
 abbrev pub FindsPlace : List ℕ → Image → List SectionTable → ℕ → ℕ → Result ℕ Refusal → Type 0
-FindsPlace b image sections mode address answer = FindsPlaceIn (exceptions_of b image sections mode) sections mode address answer
+FindsPlace b image sections mode address answer = FindsPlaceIn (image_exceptions b image sections mode) sections mode address answer
 
 -- what asking for the record of an unwind address answers: the record at its place
 abbrev pub FollowsToRecord : List ℕ → Image → List SectionTable → ℕ → ℕ → Result UnwindRecord Refusal → Type 0

@@ -5,7 +5,7 @@ ghost use Rattle.std.specs.Option.{option_map};
 ghost use Rattle.pe_core.specs.Refusals.{answer_by};
 ghost use Rattle.pe_records.specs.DebugRecords.{debug_view};
 ghost use Rattle.pe_c.specs.Answers.{AnswersIf};
-ghost use Rattle.pe_c.specs.Debug.{entries_at, debug_of, told_of, part_behind, key_of, pdb20_of, characteristics_of, repro_of, pogo_of};
+ghost use Rattle.pe_c.specs.Debug.{entries_at, image_debug, told_of, part_behind, key_of, pdb20_of, characteristics_of, repro_of, pogo_of};
 
 use crate::answers::{DONE, NOTHING, hand_out_some, number_of, options};
 use crate::image::{Image, is_absent};
@@ -104,14 +104,14 @@ pub extern "C" fn pe_c_debug_entries(
     hand_out_some(table_of(bytes, image, sections, mode), out)
 }
 
-#[tactic(auto, unfolding(crate::specs::Debug::debug_of))]
+#[tactic(auto, unfolding(crate::specs::Debug::image_debug))]
 fn read_debug<'a>(
     bytes: &'a [u8],
     image: &Image,
     sections: &[SectionTable],
     mode: u32,
 ) -> Result<Option<DebugData<'a>>>
-    ensures { answer_by (option_map debug_view) result ≡ debug_of bytes.entry.now image.now sections.now mode }
+    ensures { answer_by (option_map debug_view) result ≡ image_debug bytes.entry.now image.now sections.now mode }
 {
     let directory = image.debug;
     if is_absent(directory) {

@@ -12,7 +12,7 @@ ghost use Rattle.pe_c.specs.Modes.{options_of};
 ghost use Rattle.pe_c.specs.Plans.{AnswersBehind, GivesInTurn, TellsUnwindRecord, ending_of, plan_from};
 ghost use Rattle.pe_c.specs.Ranges.{IsRange, bytes_at};
 ghost use Rattle.pe_c.specs.Runs.{GivesItems};
-ghost use Rattle.pe_c.specs.Unwinding.{StepsCodes, exceptions_of, flat_item, flat_record, function_in, stream_at};
+ghost use Rattle.pe_c.specs.Unwinding.{StepsCodes, image_exceptions, flat_item, flat_record, function_in, stream_at};
 ghost use Rattle.pe_c.specs.Versions.{TellsFixed, TellsManifest, TellsValue};
 ghost use Rattle.pe_c.specs.Walks.{StepsEntries, entries_left, indexed};
 ghost use Rattle.pe_c.specs.declared.arm64.Arm64CodeWalk.{Arm64CodeWalk};
@@ -77,16 +77,16 @@ pub fn ranges_of_arm64_records()
 /// are refused, the first step is refused so.
 pub fn plans_are_those_of_functions()
     ensures records { (b : List ℕ) (image : Image) (sections : List SectionTable) (mode : ℕ) (v : ExceptionView) (f : RuntimeFunction) (given : List UnwindRecord) →
-        exceptions_of b image sections mode ≡ Ok v → AnswersBehind b image sections mode f.unwind_info_address given (Ok None) →
+        image_exceptions b image sections mode ≡ Ok v → AnswersBehind b image sections mode f.unwind_info_address given (Ok None) →
         (is : List UnwindInfoView) × PlansFrom (links_of v sections (options_of mode)) v.content f (Ok is) × AllZip (TellsUnwindRecord b) given is }
     ensures refused { (b : List ℕ) (image : Image) (sections : List SectionTable) (mode : ℕ) (v : ExceptionView) (f : RuntimeFunction) (given : List UnwindRecord) (refusal : Refusal) →
-        exceptions_of b image sections mode ≡ Ok v → AnswersBehind b image sections mode f.unwind_info_address given (Err refusal) →
+        image_exceptions b image sections mode ≡ Ok v → AnswersBehind b image sections mode f.unwind_info_address given (Err refusal) →
         (refusal ≢ Memory) × PlansFrom (links_of v sections (options_of mode)) v.content f (Err refusal) }
     ensures endings { (b : List ℕ) (image : Image) (sections : List SectionTable) (mode : ℕ) (v : ExceptionView) (f : RuntimeFunction) (plan : Result (List UnwindInfoView) Refusal) (given : List UnwindRecord) (answer : Result (Option UnwindRecord) Refusal) →
-        exceptions_of b image sections mode ≡ Ok v → PlansFrom (links_of v sections (options_of mode)) v.content f plan → plan ≢ Err Memory →
+        image_exceptions b image sections mode ≡ Ok v → PlansFrom (links_of v sections (options_of mode)) v.content f plan → plan ≢ Err Memory →
         AnswersBehind b image sections mode f.unwind_info_address given answer → (answer ≡ ending_of plan) ⊎ ((r : UnwindRecord) × (answer ≡ Ok (Some r))) }
     ensures without_table { (b : List ℕ) (image : Image) (sections : List SectionTable) (mode unwind : ℕ) (refusal : Refusal) (given : List UnwindRecord) (answer : Result (Option UnwindRecord) Refusal) →
-        exceptions_of b image sections mode ≡ Err refusal → AnswersBehind b image sections mode unwind given answer →
+        image_exceptions b image sections mode ≡ Err refusal → AnswersBehind b image sections mode unwind given answer →
         (given ≡ []) × (answer ≡ Err refusal) }
 {}
 

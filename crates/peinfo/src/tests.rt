@@ -1,6 +1,0 @@
-mod fake;
-mod lines;
-mod readers;
-mod rewrites;
-mod runs;
-mod writers;
