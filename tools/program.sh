@@ -63,68 +63,70 @@ find_crates() {
   done
 }
 
-# Sets `folders` to those of the crates' sources in a copy of the crates, or in the repository.
-find_folders() {
-  local crate part
-  folders=()
+# Sets `places` to where the crates' sources are or could be, from the top of the repository.
+find_places() {
+  local crate
+  places=()
   for crate in "${crates[@]}"; do
-    for part in src specs proofs; do
-      if [ -d "$1/crates/$crate/$part" ]; then
-        folders+=("crates/$crate/$part")
-      fi
-    done
+    places+=("crates/$crate/src" "crates/$crate/specs" "crates/$crate/proofs")
   done
 }
 
 # Prints the sign of the sources in a folder: a checksum of their names and contents and of the crates' lines.
 sign_of() {
-  local sum
-  find_folders "$1"
+  local sum place
+  local -a there=()
+  find_places
+  for place in "${places[@]}"; do
+    if [ -d "$1/$place" ]; then
+      there+=("$place")
+    fi
+  done
   sum=$(
     CDPATH='' cd -- "$1" &&
-      { printf '%s' "$lines" && find -L "${folders[@]}" -type f -print0 | LC_ALL=C sort -z | xargs -0 sha256sum --; } | sha256sum
+      { printf '%s' "$lines" && find -L "${there[@]}" -type f -print0 | LC_ALL=C sort -z | xargs -0 sha256sum --; } | sha256sum
   ) || return
   echo "${sum:0:40}"
 }
 
-# Prints what a use can compare at little cost, for files and folders of the repository: a number of the file, its size,
-# and when it was last written and last changed in any way. No command sets the last of these back, so that an older
-# file in place of another is told too. A folder's are those of its list of names.
+# Prints, on one line, what can be compared at little cost: of crates.txt and of each file and folder below the places
+# its number, its size and when it was last changed in any way. No command sets that time back, so an older file in place
+# of another is told too; a folder's is that of its list of names. A single find is the fastest way to tell.
 times_of() (
-  CDPATH='' cd -- "$root" && exec stat -L -c '%i %s %.9Y %.9Z' -- "$@" 2>/dev/null
+  CDPATH='' cd -- "$root" && exec find -L crates.txt "$@" -printf '%i %s %C@ ' 2>/dev/null
 )
 
 # Sets `sign` by the file `seen`, if nothing was touched since that was written.
 recall_sign() {
-  local -a seen
-  local count IFS=$'\n'
+  local its_sign its_times
+  local -a places
   [ -r "$kept/seen" ] || return
-  mapfile -t seen <"$kept/seen"
-  [[ ${seen[0]-} =~ ^[0-9a-f]{40}\ [0-9]+$ ]] || return
-  count=${seen[0]##* }
-  [ "$(times_of "${seen[@]:1:count}")" = "${seen[*]:count+1}" ] || return
-  sign=${seen[0]% *}
+  { IFS= read -r its_sign && read -r -a places && IFS= read -r its_times; } <"$kept/seen" || return
+  [ "$(times_of "${places[@]}")" = "$its_times" ] || return
+  sign=$its_sign
 }
 
-# Sets `sign` to that of the sources. What a later use can compare goes into the file `seen`, as a line with the sign and
-# the number of names, the names, and the times of each; but not while a file is so new that one more change could
-# leave it with the same time.
+# Sets `sign` to that of the sources. What a later use can compare goes into the file `seen`: a line with the sign, one with
+# the places and one with the times; but not while a file is so new that one more change could leave it with the same time.
 find_sign() {
   local before=$((EPOCHSECONDS - 2)) times
-  local -a names
-  if recall_sign 2>/dev/null; then
+  if recall_sign; then
     return
   fi
   find_crates
-  find_folders "$root"
-  mapfile -t names < <(CDPATH='' cd -- "$root" && exec find -L "${folders[@]}")
-  names+=(crates.txt "${crates[@]/#/crates\/}")
-  times=$(times_of "${names[@]}") || :
+  find_places
+  times=$(times_of "${places[@]}") || :
   sign=$(sign_of "$root") || stop "the sources can't be read"
-  if [ -d "$kept" ] && [ -w "$kept" ] &&
-    [ -z "$(CDPATH='' cd -- "$root" && find -L crates.txt "${folders[@]}" -newerct "@$before" -print -quit)" ]; then
-    { printf '%s\n' "$sign ${#names[@]}" "${names[@]}" "$times" >"$kept/seen.$$" && mv -f -- "$kept/seen.$$" "$kept/seen"; } 2>/dev/null || :
+  if [ -d "$kept" ] && [ -w "$kept" ] && ! is_touched_after "$before"; then
+    { printf '%s\n' "$sign" "${places[*]}" "$times" >"$kept/seen.$$" && mv -f -- "$kept/seen.$$" "$kept/seen"; } 2>/dev/null || :
   fi
+}
+
+# Whether the list of crates, a source or a folder of theirs was changed after a time in seconds.
+is_touched_after() {
+  local touched
+  touched=$(CDPATH='' cd -- "$root" && find -L crates.txt "${places[@]}" -newerct "@$1" -print -quit 2>/dev/null) || :
+  [ -n "$touched" ]
 }
 
 # Sets `program` to the one that was built from the sources as they are, a proved one before another.
