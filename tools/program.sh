@@ -6,7 +6,7 @@
 # the copy that was built. So it can't be started for other sources, whenever they change, and is right again once they
 # are what they were.
 
-# Says why there is no program, and ends. Where standard error takes nothing, the status alone has to tell it.
+# Says why there is no program, and ends. Where standard error takes nothing, the status alone says it.
 stop() {
   echo "${me:?}: $1" >&2 || :
   exit 70
@@ -33,14 +33,14 @@ esac
 
 # Prints, on one line, what can be compared at little cost: of crates.txt and of each file and folder below the places
 # its number, its size and when it was last changed in any way. No command sets that time back, so an older file in place
-# of another is told too; a folder's is that of its list of names. A single find is the fastest way to tell. Call it in a
-# subshell alone, which it becomes the end of.
+# of another is noticed too; a folder's is that of its list of names. A single find is the fastest way. Call it in a subshell
+# alone, which it replaces.
 times_of() {
   CDPATH='' cd -- "$root" && exec find -L crates.txt "$@" -printf '%i %s %C@ ' 2>/dev/null
 }
 
 # Sets `sign` by the file `seen`, if nothing was touched since that was written. That has the sign and the places on one line
-# and the times on the next. It is read again as a whole, so another in its place is told.
+# and the times on the next. It is read again as a whole, so another file in its place is noticed.
 recall_sign() {
   local -a first
   [ -r "$kept/seen" ] || return

@@ -1,14 +1,15 @@
 # shellcheck shell=bash
 # Sourced by the commands that build a program without a proof. tools/kit.sh has to set RT first.
 
-# Builds the program of the crate in the current folder at LLVM's -O2, into ROOM/program, and runs it once with the WORDS:
+# Builds the program of the crate in the current folder at LLVM's -O2, into ROOM/program, and runs it once with the ARGUMENTS:
 #
-#     build_unproved ROOM with|without WORD..    with or without LLVM's address sanitizer
+#     build_unproved ROOM with|without ARGUMENT..    with or without LLVM's address sanitizer
 #
 # It stops at a number that overflows and at an index out of range, as under `rt try`, which compiles it at -O0. `rt try`
 # builds this one too, in a folder of links to the kit in which clang and the linker are scripts: they change the level of
 # optimisation, may leave out the sanitizer, and keep the program. ROOM is a new folder with an absolute name. What the
-# kit says is printed. The status is 1 where it made no program by these scripts, whatever status the WORDS end with.
+# kit says is printed. The status is 1 where it made no program by these scripts, and 0 where it did, whatever status the
+# program ends with.
 build_unproved() {
   local room=$1 sanitizer=$2 own=$1/kit kit part
   shift 2
