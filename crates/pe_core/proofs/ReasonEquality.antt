@@ -1,45 +1,23 @@
 -- Equality of reasons.
-use Rattle.std.proofs.Common.{◌≡◌, ℕ, ◌==◌, Bool, true, false, refl, ap, ◌∙◌, arith}
-use Rattle.std.specs.Prelude.{◌↔◌, ◌&&◌, IsTrue}
-use Rattle.std.proofs.lemmas.Bool.Decides.{nat_tests}
+use Rattle.std.proofs.Common.{◌≡◌, ◌↔◌, ℕ, Bool, false, nat_eq, IsTrue}
 use denote.Enum.Compared.{Each, by}
 use Rattle.pe_core.specs.contracts.error.Reason.{enum}
 use Rattle.pe_core.specs.declared.error.Reason.{Reason}
-use Rattle.pe_core.proofs.Equality.{and_true, both}
-use Rattle.pe_core.proofs.VariantEquality.{EachDecides, variants_equal}
+use Rattle.pe_core.specs.Traits.{IsEquality}
+use Rattle.pe_core.proofs.VariantEquality.{EachDecides, variants_equal, none_equal, last_equal, next_equal, none, last, next, number}
 
 -- the fields of a reason: none, one number or two
-abbrev none_equal : Unit {0} → Unit {0} → Bool
-none_equal x y = true
-
 abbrev one_equal : ℕ × Unit {0} → ℕ × Unit {0} → Bool
-one_equal x y = x.0 == y.0
+one_equal = last_equal nat_eq
 
 abbrev two_equal : ℕ × (ℕ × Unit {0}) → ℕ × (ℕ × Unit {0}) → Bool
-two_equal x y = x.0 == y.0 && x.1.0 == y.1.0
+two_equal = next_equal nat_eq one_equal
 
-number : (a b : ℕ) → IsTrue (a == b) → a ≡ b
-number a b t = grind (arith, nat_tests)
+one : IsEquality one_equal
+one = last nat_eq number
 
-itself : (a b : ℕ) → a ≡ b → IsTrue (a == b)
-itself a b e = grind (arith, nat_tests)
-
-none : (x y : Unit {0}) → IsTrue (none_equal x y) ↔ (x ≡ y)
-none x y = (λ t. refl, λ e. refl)
-
-one : (x y : ℕ × Unit {0}) → IsTrue (one_equal x y) ↔ (x ≡ y)
-one x y = (
-  λ t. ap (λ (n : ℕ). (n, tt)) (number x.0 y.0 t),
-  λ e. itself x.0 y.0 (ap (λ (z : ℕ × Unit {0}). z.0) e),
-)
-
-two : (x y : ℕ × (ℕ × Unit {0})) → IsTrue (two_equal x y) ↔ (x ≡ y)
-two x y = (
-  λ t.
-      let h = both (x.0 == y.0) (x.1.0 == y.1.0) t in
-      ap (λ (n : ℕ). (n, x.1)) (number x.0 y.0 h.0) ∙ ap (λ (n : ℕ). (y.0, (n, tt))) (number x.1.0 y.1.0 h.1),
-  λ e. and_true _ _ (itself x.0 y.0 (ap (λ (z : ℕ × (ℕ × Unit {0})). z.0) e)) (itself x.1.0 y.1.0 (ap (λ (z : ℕ × (ℕ × Unit {0})). z.1.0) e)),
-)
+two : IsEquality two_equal
+two = next nat_eq one_equal number one
 
 -- the test of each kind's fields, in the order of the kinds
 abbrev each : Each Bool enum.parts
