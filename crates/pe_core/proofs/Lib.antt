@@ -20,5 +20,6 @@ pub mod Gathering
 pub mod ImportLists
 pub mod Libraries
 pub mod Equality
+pub mod VariantEquality
 pub mod ReasonEquality
 pub mod FieldEquality

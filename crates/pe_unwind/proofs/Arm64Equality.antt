@@ -1,73 +1,67 @@
--- Equality of ARM64 codes, code by code.
+-- Equality of ARM64 codes.
 use Rattle.std.proofs.Common.{◌≡◌, ◌↔◌, ℕ, Bool, true, false, IsTrue, nat_eq, ◌&&◌, refl, ap, ◌∙◌, arith}
+use Rattle.std.specs.Bool.{beq}
 use Rattle.std.proofs.lemmas.Bool.{false≢true}
 use Rattle.std.proofs.lemmas.Bool.Decides.{nat_tests}
+use denote.Enum.Bare.{sameb, same_true, true_same}
+use denote.Enum.Compared.{Each, by}
+use Rattle.pe_core.proofs.VariantEquality.{EachDecides, variants_equal, none_equal, last_equal, next_equal, none, last, next, number}
+use Rattle.pe_core.specs.Traits.{IsEquality}
+use Rattle.pe_unwind.specs.contracts.arm64.codes.Arm64CustomStackCase.{the_type}
+use Rattle.pe_unwind.specs.contracts.arm64.codes.Arm64UnwindCode.{enum}
 use Rattle.pe_unwind.specs.declared.arm64.codes.Arm64CustomStackCase.{Arm64CustomStackCase}
 use Rattle.pe_unwind.specs.declared.arm64.codes.Arm64UnwindCode.{Arm64UnwindCode}
-use Rattle.pe_unwind.specs.declared.arm64.codes.Arm64UnwindCode.TheVariants.{AllocSmall, SaveR19R20Preindexed, SaveFpLr, SaveFpLrPreindexed, AllocMedium, SaveRegPair, SaveRegPairPreindexed, SaveReg, SaveRegPreindexed, SaveLrPair, SaveFRegPair, SaveFRegPairPreindexed, SaveFReg, SaveFRegPreindexed, AllocZ, AllocLarge, SetFp, AddFp, Nop, End, EndC, SaveNext, SaveAnyReg, SaveZReg, SavePReg, CustomStack, PacSignLr, Reserved}
 use Rattle.pe_unwind.specs.declared.arm64.codes.Arm64UnwindCodeData.{Arm64UnwindCodeData}
-use Rattle.pe_core.specs.Traits.{TellsApart, IsEquality}
 
--- the test tells each code apart
-pub record TellsCodes (eq : Arm64UnwindCode → Arm64UnwindCode → Bool) : Type 0 where
-  pub alloc_small : (n : ℕ) → TellsApart eq (AllocSmall n)
-  pub save_r19_r20_preindexed : (o : ℕ) → TellsApart eq (SaveR19R20Preindexed o)
-  pub save_fp_lr : (o : ℕ) → TellsApart eq (SaveFpLr o)
-  pub save_fp_lr_preindexed : (o : ℕ) → TellsApart eq (SaveFpLrPreindexed o)
-  pub alloc_medium : (n : ℕ) → TellsApart eq (AllocMedium n)
-  pub save_reg_pair : (r : ℕ) (o : ℕ) → TellsApart eq (SaveRegPair r o)
-  pub save_reg_pair_preindexed : (r : ℕ) (o : ℕ) → TellsApart eq (SaveRegPairPreindexed r o)
-  pub save_reg : (r : ℕ) (o : ℕ) → TellsApart eq (SaveReg r o)
-  pub save_reg_preindexed : (r : ℕ) (o : ℕ) → TellsApart eq (SaveRegPreindexed r o)
-  pub save_lr_pair : (r : ℕ) (o : ℕ) → TellsApart eq (SaveLrPair r o)
-  pub save_freg_pair : (r : ℕ) (o : ℕ) → TellsApart eq (SaveFRegPair r o)
-  pub save_freg_pair_preindexed : (r : ℕ) (o : ℕ) → TellsApart eq (SaveFRegPairPreindexed r o)
-  pub save_freg : (r : ℕ) (o : ℕ) → TellsApart eq (SaveFReg r o)
-  pub save_freg_preindexed : (r : ℕ) (o : ℕ) → TellsApart eq (SaveFRegPreindexed r o)
-  pub alloc_z : (n : ℕ) → TellsApart eq (AllocZ n)
-  pub alloc_large : (n : ℕ) → TellsApart eq (AllocLarge n)
-  pub set_fp : TellsApart eq SetFp
-  pub add_fp : (i : ℕ) (o : ℕ) → TellsApart eq (AddFp i o)
-  pub nop : TellsApart eq Nop
-  pub end : TellsApart eq End
-  pub end_c : TellsApart eq EndC
-  pub save_next : TellsApart eq SaveNext
-  pub save_any_reg : (k : ℕ) (p : Bool) (i : Bool) (r : ℕ) (o : ℕ) → TellsApart eq (SaveAnyReg k p i r o)
-  pub save_zreg : (r : ℕ) (o : ℕ) → TellsApart eq (SaveZReg r o)
-  pub save_preg : (r : ℕ) (o : ℕ) → TellsApart eq (SavePReg r o)
-  pub custom_stack : (w : Arm64CustomStackCase) → TellsApart eq (CustomStack w)
-  pub pac_sign_lr : TellsApart eq PacSignLr
-  pub reserved : (b : ℕ) (v : ℕ) (n : ℕ) → TellsApart eq (Reserved b v n)
+flag : IsEquality beq
+flag true true = (λ t. refl, λ e. refl)
+flag true false = (λ t. absurd cc, λ e. absurd cc)
+flag false true = (λ t. absurd cc, λ e. absurd cc)
+flag false false = (λ t. refl, λ e. refl)
 
-pub codes_equal : (eq : Arm64UnwindCode → Arm64UnwindCode → Bool) → TellsCodes eq → IsEquality eq
-codes_equal eq t (AllocSmall n) = t.alloc_small n
-codes_equal eq t (SaveR19R20Preindexed o) = t.save_r19_r20_preindexed o
-codes_equal eq t (SaveFpLr o) = t.save_fp_lr o
-codes_equal eq t (SaveFpLrPreindexed o) = t.save_fp_lr_preindexed o
-codes_equal eq t (AllocMedium n) = t.alloc_medium n
-codes_equal eq t (SaveRegPair r o) = t.save_reg_pair r o
-codes_equal eq t (SaveRegPairPreindexed r o) = t.save_reg_pair_preindexed r o
-codes_equal eq t (SaveReg r o) = t.save_reg r o
-codes_equal eq t (SaveRegPreindexed r o) = t.save_reg_preindexed r o
-codes_equal eq t (SaveLrPair r o) = t.save_lr_pair r o
-codes_equal eq t (SaveFRegPair r o) = t.save_freg_pair r o
-codes_equal eq t (SaveFRegPairPreindexed r o) = t.save_freg_pair_preindexed r o
-codes_equal eq t (SaveFReg r o) = t.save_freg r o
-codes_equal eq t (SaveFRegPreindexed r o) = t.save_freg_preindexed r o
-codes_equal eq t (AllocZ n) = t.alloc_z n
-codes_equal eq t (AllocLarge n) = t.alloc_large n
-codes_equal eq t SetFp = t.set_fp
-codes_equal eq t (AddFp i o) = t.add_fp i o
-codes_equal eq t Nop = t.nop
-codes_equal eq t End = t.end
-codes_equal eq t EndC = t.end_c
-codes_equal eq t SaveNext = t.save_next
-codes_equal eq t (SaveAnyReg k p i r o) = t.save_any_reg k p i r o
-codes_equal eq t (SaveZReg r o) = t.save_zreg r o
-codes_equal eq t (SavePReg r o) = t.save_preg r o
-codes_equal eq t (CustomStack w) = t.custom_stack w
-codes_equal eq t PacSignLr = t.pac_sign_lr
-codes_equal eq t (Reserved b v n) = t.reserved b v n
+-- the fields of a code: none, numbers, those of `SaveAnyReg`, or a case
+abbrev one_equal : ℕ × Unit {0} → ℕ × Unit {0} → Bool
+one_equal = last_equal nat_eq
+
+abbrev two_equal : ℕ × (ℕ × Unit {0}) → ℕ × (ℕ × Unit {0}) → Bool
+two_equal = next_equal nat_eq one_equal
+
+abbrev three_equal : ℕ × (ℕ × (ℕ × Unit {0})) → ℕ × (ℕ × (ℕ × Unit {0})) → Bool
+three_equal = next_equal nat_eq two_equal
+
+abbrev any_equal : ℕ × (Bool × (Bool × (ℕ × (ℕ × Unit {0})))) → ℕ × (Bool × (Bool × (ℕ × (ℕ × Unit {0})))) → Bool
+any_equal = next_equal nat_eq (next_equal beq (next_equal beq two_equal))
+
+abbrev case_equal : Arm64CustomStackCase × Unit {0} → Arm64CustomStackCase × Unit {0} → Bool
+case_equal = last_equal (sameb the_type)
+
+one : IsEquality one_equal
+one = last nat_eq number
+
+two : IsEquality two_equal
+two = next nat_eq one_equal number one
+
+three : IsEquality three_equal
+three = next nat_eq two_equal number two
+
+any : IsEquality any_equal
+any = next nat_eq _ number (next beq _ flag (next beq _ flag two))
+
+case : IsEquality case_equal
+case = last (sameb the_type) (λ x y. (same_true the_type tt x y, true_same the_type x y))
+
+-- the test of each code's fields, in the order of the codes
+abbrev each : Each Bool enum.parts
+each = (one_equal, (one_equal, (one_equal, (one_equal, (one_equal, (two_equal, (two_equal, (two_equal, (two_equal, (two_equal, (two_equal, (two_equal, (two_equal, (two_equal, (one_equal, (one_equal, (none_equal, (two_equal, (none_equal, (none_equal, (none_equal, (none_equal, (any_equal, (two_equal, (two_equal, (case_equal, (none_equal, (three_equal, tt))))))))))))))))))))))))))))
+
+fields : EachDecides enum.parts each
+fields = (one, (one, (one, (one, (one, (two, (two, (two, (two, (two, (two, (two, (two, (two, (one, (one, (none, (two, (none, (none, (none, (none, (any, (two, (two, (case, (none, (three, tt))))))))))))))))))))))))))))
+
+abbrev same_code : Arm64UnwindCode → Arm64UnwindCode → Bool
+same_code x y = by false false enum.parts each (enum.as_values x) (enum.as_values y)
+
+pub codes_equal : (x y : Arm64UnwindCode) → IsTrue (same_code x y) ↔ (x ≡ y)
+codes_equal = variants_equal enum each fields
 
 -- two numbers and one field between them
 between : (m n i j : ℕ) (b : Bool) → IsTrue (nat_eq m n && (b && nat_eq i j)) ↔ ((m ≡ n) × (i ≡ j) × IsTrue b)
@@ -86,9 +80,9 @@ same_fields x y o c l =
     ∙ ap (λ (d : Arm64UnwindCode). record { offset = y.offset; code = d; len = x.len }) c
     ∙ ap (λ (n : ℕ). record { offset = y.offset; code = y.code; len = n }) l
 
-pub data_equal : (eq : Arm64UnwindCode → Arm64UnwindCode → Bool) → TellsCodes eq → (x y : Arm64UnwindCodeData) → IsTrue (nat_eq x.offset y.offset && (eq x.code y.code && nat_eq x.len y.len)) ↔ (x ≡ y)
-data_equal eq t x y =
-    let fields = between x.offset y.offset x.len y.len (eq x.code y.code) in (
-      λ h. let f = fields.0 h in same_fields x y f.0 ((codes_equal eq t x.code y.code).0 f.2) f.1,
-      λ e. fields.1 (ap (λ (d : Arm64UnwindCodeData). d.offset) e, ap (λ (d : Arm64UnwindCodeData). d.len) e, (codes_equal eq t x.code y.code).1 (ap (λ (d : Arm64UnwindCodeData). d.code) e)),
+pub data_equal : (x y : Arm64UnwindCodeData) → IsTrue (nat_eq x.offset y.offset && (same_code x.code y.code && nat_eq x.len y.len)) ↔ (x ≡ y)
+data_equal x y =
+    let fields = between x.offset y.offset x.len y.len (same_code x.code y.code) in (
+      λ h. let f = fields.0 h in same_fields x y f.0 ((codes_equal x.code y.code).0 f.2) f.1,
+      λ e. fields.1 (ap (λ (d : Arm64UnwindCodeData). d.offset) e, ap (λ (d : Arm64UnwindCodeData). d.len) e, (codes_equal x.code y.code).1 (ap (λ (d : Arm64UnwindCodeData). d.code) e)),
     )
