@@ -42,7 +42,8 @@ const UWOP_PUSH_MACHFRAME: u8 = 10;
 pub enum StackFrameOffset {
     /// From the stack pointer.
     RSP(u32),
-    /// From the frame register.
+    /// From the frame register, reduced by the record's `frame_register_offset`, which is 16 * the frame offset in the file:
+    /// there the stack pointer was when `SetFPRegister` ran. Until that has run, from the stack pointer.
     FP(u32),
 }
 
@@ -53,18 +54,19 @@ pub enum UnwindOperation {
     PushNonVolatile(Register),
     /// Made room for so many bytes on the stack.
     Alloc(u32),
-    /// Set the frame register.
+    /// Set the frame register, to the stack pointer plus the record's `frame_register_offset`.
     SetFPRegister,
-    /// Saved an integer register.
+    /// Saved an integer register. Subtract `frame_register_offset` from the frame register before an `FP` offset is added,
+    /// and count from the stack pointer until `SetFPRegister` has run.
     SaveNonVolatile(Register, StackFrameOffset),
-    /// Saved the low half of an XMM register.
+    /// Saved the low half of an XMM register, at an offset that counts as that of `SaveNonVolatile`.
     SaveXMM(Register, StackFrameOffset),
     /// Tells of the function's epilogs: the first of these codes their size and flags, each other the place of one.
     Epilog {
         offset_low_or_size: u8,
         offset_high_or_flags: u8,
     },
-    /// Saved an XMM register.
+    /// Saved an XMM register, at an offset that counts as that of `SaveNonVolatile`.
     SaveXMM128(Register, StackFrameOffset),
     /// Pushed a machine frame, with an error code or without.
     PushMachineFrame(bool),
