@@ -1,4 +1,4 @@
-//! Callers of the libraries, as the README shows them.
+//! Callers of the libraries, as docs/CALLS.md shows them.
 #![tactic(auto)]
 
 mod arm64;
