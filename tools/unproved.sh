@@ -1,32 +1,41 @@
 # shellcheck shell=bash
 # Sourced by the commands that build a program without a proof. tools/kit.sh has to set RT first.
 
+# Makes the kit's folder again, by links, as ROOM/kit, and sets `unproved_rt` to its command: `rt try` as ever, but that it
+# doesn't run the prover beside the build, which it does for a hint on names alone. ROOM is a folder with an absolute name.
+link_kit() {
+  local own=$1/kit part
+  linked_kit=$(dirname "$(dirname "$(readlink -f -- "$RT")")")
+  # rt itself is copied, since it takes the folder that it stands in for the kit.
+  mkdir -p -- "$own/bin" "$own/toolchain/bin"
+  for part in "$linked_kit"/* "$linked_kit"/toolchain/*; do
+    if [ ! -e "$own${part#"$linked_kit"}" ]; then
+      ln -s -- "$part" "$own${part#"$linked_kit"}"
+    fi
+  done
+  ln -s -- "$linked_kit"/bin/* "$own/bin"
+  ln -s -- "$linked_kit"/toolchain/bin/* "$own/toolchain/bin"
+  cp --remove-destination -- "$linked_kit"/bin/rt* "$own/bin"
+  rm -f -- "$own/bin/rattle"
+  printf '#!/bin/sh\n' >"$own/bin/rattle"
+  chmod +x -- "$own/bin/rattle"
+  unproved_rt=$own/bin/rt
+}
+
 # Builds the program of the crate in the current folder at LLVM's -O2, into ROOM/program, and runs it once with the ARGUMENTS:
 #
 #     build_unproved ROOM with|without ARGUMENT..    with or without LLVM's address sanitizer
 #
 # It stops at a number that overflows and at an index out of range, as under `rt try`, which compiles it at -O0. `rt try`
-# builds this one too, in a folder of links to the kit in which clang and the linker are scripts: they change the level of
-# optimisation, may leave out the sanitizer, and keep the program. ROOM is a new folder with an absolute name. What the
-# kit says is printed. The status is 1 where it made no program by these scripts, and 0 where it did, whatever status the
-# program ends with.
+# builds this one too, by a kit in which clang and the linker are scripts: they change the level of optimisation, may leave
+# out the sanitizer, and keep the program. ROOM is a new folder with an absolute name. What the kit says is printed. The
+# status is 1 where it made no program by these scripts, and 0 where it did, whatever status the program ends with.
 build_unproved() {
-  local room=$1 sanitizer=$2 own=$1/kit kit part
+  local room=$1 sanitizer=$2 own=$1/kit
   shift 2
-  kit=$(dirname "$(dirname "$(readlink -f -- "$RT")")")
-
-  # The kit's folder again, by links. rt itself is copied, since it takes the folder that it stands in for the kit.
-  mkdir -p -- "$own/bin" "$own/toolchain/bin"
-  for part in "$kit"/* "$kit"/toolchain/*; do
-    if [ ! -e "$own${part#"$kit"}" ]; then
-      ln -s -- "$part" "$own${part#"$kit"}"
-    fi
-  done
-  ln -s -- "$kit"/bin/* "$own/bin"
-  ln -s -- "$kit"/toolchain/bin/* "$own/toolchain/bin"
-  cp --remove-destination -- "$kit"/bin/rt* "$own/bin"
-  rm -f -- "$own/toolchain/bin/clang" "$own/toolchain/bin/ld.lld" "$own/bin/rattle"
-  ln -s -- "$kit/toolchain/bin" "$room/compilers"
+  link_kit "$room"
+  ln -s -- "$linked_kit/toolchain/bin" "$room/compilers"
+  rm -f -- "$own/toolchain/bin/clang" "$own/toolchain/bin/ld.lld"
   if [ "$sanitizer" = with ]; then
     : >"$room/is_sanitized"
   fi
@@ -67,11 +76,9 @@ done
 "$room/compilers/ld.lld" "$@" && cp "$made" "$room/program.new" && mv "$room/program.new" "$room/program"
 END
 
-  # rt runs the prover beside the build for a hint on names alone, which would keep a second processor busy.
-  printf '#!/bin/sh\n' >"$own/bin/rattle"
-  chmod +x -- "$own/toolchain/bin/clang" "$own/toolchain/bin/ld.lld" "$own/bin/rattle"
+  chmod +x -- "$own/toolchain/bin/clang" "$own/toolchain/bin/ld.lld"
 
   # rt reads the program's standard input whole before it starts it. The interpreter, which it tries first, gets one step.
-  TMPDIR=$room "$own/bin/rt" try --steps 1 -- "$@" 2>&1 </dev/null || :
+  TMPDIR=$room "$unproved_rt" try --steps 1 -- "$@" 2>&1 </dev/null || :
   [ -e "$room/raised" ] && [ -e "$room/met_sanitizer" ] && [ -e "$room/program" ]
 }

@@ -59,13 +59,12 @@ fn first_entries<'a>(
     ensures { Gives (option_map (λ s. s.now)) result (first_entries_in mode data.entry.now directory.now) }
 {
     let fits = SIZE_OF_DIRECTORY <= data.len();
-    match (
-        slice_at(data, SIZE_OF_DIRECTORY, directory.entries_size()),
-        mode,
-    ) {
+    let size = directory.entries_size();
+    match (slice_at(data, SIZE_OF_DIRECTORY, size), mode) {
         (Ok(table), _) => Ok(Some(table)),
         (Err(_), ParseMode::Strict) => {
-            Err(Error::Malformed(Reason::ResourceBounds(SIZE_OF_DIRECTORY as u64)))
+            let end = SIZE_OF_DIRECTORY as u64 + size as u64;
+            Err(Error::Malformed(Reason::ResourceBounds(end)))
         }
         (Err(_), ParseMode::Permissive) if fits => Ok(Some(&[])),
         (Err(_), ParseMode::Permissive) => Ok(None),

@@ -5,7 +5,7 @@ ghost use Rattle.std.specs.Iterator.{at_most};
 ghost use Rattle.std.specs.Option.{option_map};
 ghost use Rattle.pe_core.specs.Bytes.{le};
 ghost use Rattle.pe_core.specs.Places.{IsWithin};
-ghost use Rattle.pe_core.specs.Refusals.{Gives};
+ghost use Rattle.pe_core.specs.Refusals.{Gives, kind_of};
 ghost use Rattle.pe_resource.specs.VersionStrings.{Parses, GivesString, VersionString, string_view, key_length, value_place, up_to_four, units, before_zero, text, is_name, IsPlain, rest_of, strings, read, all_read, value_of, value_range};
 
 use crate::constants::RESOURCE_STRING_FIELD_ALIGNMENT;
@@ -272,13 +272,34 @@ fn place_in_refusal(place: usize) -> u32 {
     u32::try_from(place).unwrap_or(u32::MAX)
 }
 
-/// Refuses as the first string that doesn't read does.
+/// The same refusal, its place counted from so many bytes further in front.
+fn counted_from(start: usize, error: Error) -> Error
+    ensures { kind_of result ≡ kind_of error }
+{
+    match error {
+        Error::Short { at, needed } => Error::Short {
+            at: start.saturating_add(at),
+            needed,
+        },
+        Error::Malformed(Reason::ResourceString(place)) => {
+            let place = place_in_refusal(start.saturating_add(place as usize));
+            Error::Malformed(Reason::ResourceString(place))
+        }
+        other => other,
+    }
+}
+
+/// Refuses as the first string that doesn't read does. Places count from the beginning of the data.
 pub(crate) fn require_strings(data: &[u8]) -> Result<()>
     ensures { Gives (λ u. u) result (all_read (strings data.now)) }
 {
     let mut left = ResourceStringIterator::new(data);
+    let mut start = 0;
     while let Some(item) = left.next() {
-        item?;
+        match item {
+            Ok(_) => start = data.len().saturating_sub(left.bytes.len()),
+            Err(error) => return Err(counted_from(start, error)),
+        }
     }
     Ok(())
 }
