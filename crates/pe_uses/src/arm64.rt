@@ -1,12 +1,13 @@
 //! The unwind codes of ARM64 functions.
 
-use pe_image::{Arm64UnwindCodeData, COFF_MACHINE_ARM64, PE, Result};
+use pe_image::{Arm64UnwindCodeData, COFF_MACHINE_ARM64, PE, ParseMode, ParseOptions, Result};
 use std::alloc::Global;
 
 /// The codes of each function whose unwind data are not packed into its entry: those of its prolog up to `End`, and
-/// those of its epilogs behind. None for an image of another machine.
+/// then those of its epilogs. None for an image of another machine, or if the exception directory is damaged.
 pub fn arm64_codes(alloc: Global, bytes: &[u8]) -> Result<Vec<Arm64UnwindCodeData>> {
-    let image = PE::parse(alloc, bytes)?;
+    let opts = ParseOptions::default().with_parse_mode(ParseMode::Permissive);
+    let image = PE::parse_with_opts(alloc, bytes, &opts)?;
     let mut codes = Vec::new(alloc);
     let Some(exceptions) = &image.exception_data else {
         return Ok(codes);

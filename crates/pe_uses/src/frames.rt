@@ -1,28 +1,55 @@
-//! How the frame of a function is unwound.
+//! What an unwinder undoes in the frame of a function.
 
-use pe_image::{COFF_MACHINE_X86_64, PE, ParseOptions, Result, UnwindOperation};
+use pe_image::{
+    COFF_MACHINE_X86_64, PE, ParseMode, ParseOptions, Register, Result, UnwindCode, UnwindInfo,
+};
 use std::alloc::Global;
 
-/// The operations of the unwind codes of the x64 function that covers an address, in their order. `None` without one.
-pub fn frame_operations(
-    alloc: Global,
-    bytes: &[u8],
-    rva: u32,
-) -> Result<Option<Vec<UnwindOperation>>> {
-    let image = PE::parse(alloc, bytes)?;
+/// What an unwind record says of a frame.
+#[derive(Drop)]
+pub struct Frame {
+    /// The codes to undo, in order. Each has run once `code_offset` bytes of the function have.
+    pub codes: Vec<UnwindCode>,
+    /// The frame register and its offset in bytes, if the record has one. Where `SetFPRegister` is among the codes,
+    /// saves count from the register less its offset, else from rsp.
+    pub frame_register: Option<(Register, u32)>,
+}
+
+/// The codes of a record that have run when `offset` bytes of the function have.
+pub fn frame_of(alloc: Global, record: &UnwindInfo, offset: u32) -> Result<Frame> {
+    let mut codes = Vec::new(alloc);
+    for code in record {
+        let code = code?;
+        if u32::from(code.code_offset) <= offset {
+            codes.push(code)?;
+        }
+    }
+    let frame_register = if record.frame_register == Register(0) {
+        None
+    } else {
+        Some((record.frame_register, record.frame_register_offset))
+    };
+    Ok(Frame {
+        codes,
+        frame_register,
+    })
+}
+
+/// The frame of the x64 function that covers an RVA, as it is at that RVA: inside the prolog only what has run is to be
+/// undone. `None` without such a function, or if the exception directory is damaged.
+pub fn frame_at(alloc: Global, bytes: &[u8], rva: u32) -> Result<Option<Frame>> {
+    let opts = ParseOptions::default().with_parse_mode(ParseMode::Permissive);
+    let image = PE::parse_with_opts(alloc, bytes, &opts)?;
     let Some(exceptions) = &image.exception_data else {
         return Ok(None);
     };
     if image.header.coff_header.machine != COFF_MACHINE_X86_64 {
         return Ok(None);
     }
-    let opts = ParseOptions::default();
-    let Some(info) = exceptions.unwind_at(rva, &image.sections, &opts)? else {
+    let Some(function) = exceptions.find_function(rva)? else {
         return Ok(None);
     };
-    let mut operations = Vec::new(alloc);
-    for code in &info {
-        operations.push(code?.operation)?;
-    }
-    Ok(Some(operations))
+    let record = exceptions.get_unwind_info_with_opts(function, &image.sections, &opts)?;
+    let offset = rva.saturating_sub(function.begin_address);
+    Ok(Some(frame_of(alloc, &record, offset)?))
 }

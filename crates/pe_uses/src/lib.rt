@@ -1,4 +1,4 @@
-//! Callers of the libraries, as docs/CALLS.md shows them.
+//! Callers of the libraries, as README.md and docs/CALLS.md show them.
 #![tactic(auto)]
 
 mod arm64;
@@ -11,10 +11,10 @@ mod versions;
 mod writing;
 
 pub use arm64::arm64_codes;
-pub use frames::frame_operations;
+pub use frames::{Frame, frame_at, frame_of};
 pub use imports::import_names;
 pub use resources::first_data_entry;
 pub use symbols::symbol_key;
-pub use unwinding::unwind_operations;
+pub use unwinding::frames_at;
 pub use versions::file_version;
 pub use writing::without_time_stamp;

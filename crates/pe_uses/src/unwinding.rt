@@ -1,32 +1,31 @@
-//! How a frame is unwound up to the root of its chain of records.
+//! What an unwinder undoes up to the root of a chain of records.
 
-use pe_image::{COFF_MACHINE_X86_64, PE, ParseOptions, Result, UnwindOperation};
+use crate::frames::{Frame, frame_of};
+use pe_image::{COFF_MACHINE_X86_64, PE, ParseMode, ParseOptions, Result};
 use pe_plan::UnwindPlan;
 use std::alloc::Global;
 
-/// The operations that unwind the x64 function which covers an address: those of its own record, and behind them those of
-/// each record to which it is chained, up to the root. `None` without such a function.
-pub fn unwind_operations(
-    alloc: Global,
-    bytes: &[u8],
-    rva: u32,
-) -> Result<Option<Vec<UnwindOperation>>> {
-    let image = PE::parse(alloc, bytes)?;
+/// What to undo at an RVA of an x64 function: its own record, of which only what has run applies inside the prolog, and
+/// then, whole, each record to which it is chained, up to the root. `None` without such a function, or if the exception
+/// directory is damaged.
+pub fn frames_at(alloc: Global, bytes: &[u8], rva: u32) -> Result<Option<Vec<Frame>>> {
+    let opts = ParseOptions::default().with_parse_mode(ParseMode::Permissive);
+    let image = PE::parse_with_opts(alloc, bytes, &opts)?;
     let Some(exceptions) = &image.exception_data else {
         return Ok(None);
     };
     if image.header.coff_header.machine != COFF_MACHINE_X86_64 {
         return Ok(None);
     }
-    let opts = ParseOptions::default();
-    let Some(records) = UnwindPlan::of(alloc, exceptions, rva, &image.sections, &opts)? else {
+    let Some(function) = exceptions.find_function(rva)? else {
         return Ok(None);
     };
-    let mut operations = Vec::new(alloc);
+    let records = UnwindPlan::of_function(alloc, exceptions, function, &image.sections, &opts)?;
+    let mut frames = Vec::new(alloc);
+    let mut offset = rva.saturating_sub(function.begin_address);
     for record in records.iter() {
-        for code in record {
-            operations.push(code?.operation)?;
-        }
+        frames.push(frame_of(alloc, record, offset)?)?;
+        offset = u32::MAX;
     }
-    Ok(Some(operations))
+    Ok(Some(frames))
 }

@@ -1,11 +1,13 @@
 //! The version of a file.
 
-use pe_image::{PE, Result};
+use pe_image::{PE, ParseMode, ParseOptions, Result};
 use std::alloc::Global;
 
-/// The file's version as text, as `3.11.3150.0`. `None` for an image without fixed file information.
+/// The file's version as text, as `3.11.3150.0`. `None` for an image without fixed file information, or if
+/// its resources are damaged.
 pub fn file_version(alloc: Global, bytes: &[u8]) -> Result<Option<String>> {
-    let image = PE::parse(alloc, bytes)?;
+    let opts = ParseOptions::default().with_parse_mode(ParseMode::Permissive);
+    let image = PE::parse_with_opts(alloc, bytes, &opts)?;
     let Some(resources) = image.resource_data else {
         return Ok(None);
     };
