@@ -4,7 +4,8 @@ use pe_c::{Code, Error, Image, Mode, Register};
 pub struct Frame {
     /// The codes to undo, in order. Each has run once `code_offset` bytes of the function have.
     pub codes: Vec<Code>,
-    /// The frame register and its offset in bytes, if the record has one.
+    /// The frame register and its offset in bytes, if the record has one. Once `SetFrame` has run, in this record or in one
+    /// that it is chained to, saves count from the register less its offset; until then from rsp.
     pub frame_register: Option<(Register, u32)>,
 }
 

@@ -64,7 +64,7 @@ fn answers_have_texts() {
         texts.push(String::from_utf8(room[..length].to_vec()).unwrap());
     }
     assert_eq!(Error::SHORT.to_string(), texts[2]);
-    assert!(texts[2].contains("too early"), "{}", texts[2]);
+    assert!(texts[2].contains("truncated"), "{}", texts[2]);
     // those of 1 to 37, and of 100 and 101, differ from each other
     let mut known: Vec<_> = texts[1..38].iter().chain(&texts[41..43]).collect();
     known.sort();

@@ -5,43 +5,43 @@ use Rattle.std.specs.Prelude.{ℕ, ◌==◌, List, [], ◌∷◌, slice_index_or
 abbrev pub texts : List (List ℕ)
 texts =
     codes "done" ∷
-    codes "memory has run out" ∷
-    codes "the bytes end too early" ∷
-    codes "the magic number is none that the record may have" ∷
-    codes "the DOS header points to a PE header inside its own 64 bytes" ∷
-    codes "the name of an import has no end or is not UTF-8" ∷
-    codes "the string table is cut or has no ended text there" ∷
-    codes "the certificate is of no known revision" ∷
-    codes "the certificate is of no known type" ∷
-    codes "the file ends before a certificate does" ∷
-    codes "the certificate table ends past the end of the file" ∷
-    codes "the address has no place in the file" ∷
-    codes "the debug directory ends past the end of the file" ∷
-    codes "the debug record has too few bytes" ∷
-    codes "the file ends before a debug record does" ∷
-    codes "the POGO record holds no entries" ∷
-    codes "a POGO entry has no ended name" ∷
-    codes "the exception directory is no whole number of entries" ∷
-    codes "the exception directory's place is no multiple of four" ∷
-    codes "the exception directory ends past the end of the file" ∷
-    codes "there is no function of this index" ∷
-    codes "a link leads to no function entry" ∷
-    codes "the links from function to function never end" ∷
-    codes "the unwind record is of no known version" ∷
-    codes "the bytes begin no unwind code" ∷
-    codes "the ARM64 unwind record is of no known version" ∷
-    codes "the bytes are no stream of ARM64 unwind codes" ∷
-    codes "an ARM64 unwind code is cut" ∷
-    codes "resource data end past the bytes that hold them" ∷
-    codes "a resource directory leads back to itself" ∷
-    codes "the value of a version string is not there" ∷
-    codes "the stripped size is less than that of the header" ∷
-    codes "the image has no optional header" ∷
-    codes "the alignment can't be that of a written image" ∷
-    codes "an image with COFF symbols can't be written" ∷
-    codes "two sections share bytes of the file" ∷
-    codes "the data of a section are not there" ∷
-    codes "what is written does not fit" ∷
+    codes "out of memory" ∷
+    codes "truncated" ∷
+    codes "invalid magic number" ∷
+    codes "PE header offset lies inside the DOS header" ∷
+    codes "import name not NUL-terminated or not UTF-8" ∷
+    codes "string table truncated, or string not NUL-terminated or not UTF-8" ∷
+    codes "invalid certificate revision" ∷
+    codes "invalid certificate type" ∷
+    codes "certificate truncated" ∷
+    codes "certificate table ends past the end of the file" ∷
+    codes "RVA maps to no file offset" ∷
+    codes "debug directory ends past the end of the file" ∷
+    codes "debug record too small" ∷
+    codes "debug record truncated" ∷
+    codes "POGO record has no entries" ∷
+    codes "POGO entry truncated" ∷
+    codes "exception directory size is not a multiple of the entry size" ∷
+    codes "exception directory is not aligned to 4 bytes" ∷
+    codes "exception directory ends past the end of the file" ∷
+    codes "function index out of range" ∷
+    codes "link leads to no function entry" ∷
+    codes "loop in unwind links or chained records" ∷
+    codes "unknown unwind record version" ∷
+    codes "invalid unwind code" ∷
+    codes "unknown ARM64 unwind record version" ∷
+    codes "invalid ARM64 unwind code stream" ∷
+    codes "ARM64 unwind code truncated" ∷
+    codes "resource data ends past the bytes that hold it" ∷
+    codes "loop in the resource tree" ∷
+    codes "version string value missing, or its length above 32,767" ∷
+    codes "stripped size smaller than the TE header" ∷
+    codes "image has no optional header" ∷
+    codes "alignment cannot be written" ∷
+    codes "images with COFF symbols cannot be written" ∷
+    codes "sections overlap in the file" ∷
+    codes "section data is not in the source bytes" ∷
+    codes "write does not fit the buffer" ∷
     []
 
 -- what 0 or the number of a refusal says

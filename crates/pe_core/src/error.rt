@@ -151,149 +151,145 @@ impl Reason {
     fn text_around_number(&self) -> Option<(&'static str, Number, &'static str)> {
         Some(match self {
             Reason::HeaderPointer(pointer) => (
-                "the DOS header points to a PE header at ",
+                "PE header offset ",
                 Number::Hex(u64::from(*pointer)),
-                ", inside its own 64 bytes",
+                " lies inside the DOS header's 64 bytes",
             ),
             Reason::ImportName(rva) => (
-                "the imported name at address ",
+                "import name at RVA ",
                 Number::Hex(u64::from(*rva)),
-                " has no end or is not UTF-8",
+                " is not NUL-terminated or not UTF-8",
             ),
             Reason::StringTable(place) => (
-                "the string table is cut or has no ended UTF-8 text at ",
+                "string not NUL-terminated, not UTF-8 or truncated (at offset ",
                 Number::Hex(u64::from(*place)),
-                ", counted from its size field",
+                " of the string table, unless it is an inline name)",
             ),
             Reason::CertificateRevision(revision) => (
-                "",
+                "invalid certificate revision ",
                 Number::Hex(u64::from(*revision)),
-                " is no revision of a certificate",
+                "",
             ),
             Reason::CertificateType(kind) => (
-                "",
+                "invalid certificate type ",
                 Number::Hex(u64::from(*kind)),
-                " is no type of a certificate",
+                "",
             ),
             Reason::CertificateSize(length) => (
-                "the file ends before a certificate of ",
+                "certificate truncated: ",
                 Number::Decimal(u64::from(*length)),
-                " bytes does",
+                " bytes needed",
             ),
             Reason::CertificateTable(end) => (
-                "the certificate table ends at ",
+                "certificate table ends at file offset ",
                 Number::Hex(*end),
                 ", past the end of the file",
             ),
             Reason::Unmapped(address) => (
-                "the address ",
+                "RVA ",
                 Number::Hex(*address),
-                " has no place in the file: no section covers it, or the file alignment is no power of two",
+                " maps to no file offset: no section covers it, or the file alignment is not a power of two",
             ),
             Reason::DebugBounds(end) => (
-                "the debug directory ends at ",
+                "debug directory ends at file offset ",
                 Number::Hex(*end),
                 ", past the end of the file",
             ),
             Reason::DebugSize(size) => (
-                "",
+                "debug record of ",
                 Number::Decimal(u64::from(*size)),
-                " bytes are too few for the debug record",
+                " bytes is too small for its type",
             ),
             Reason::DebugData(size) => (
-                "the file ends before the ",
+                "debug record truncated: ",
                 Number::Decimal(u64::from(*size)),
-                " bytes of a debug record do",
+                " bytes needed",
             ),
             Reason::PogoSize(size) => (
-                "a POGO record of ",
+                "POGO record of ",
                 Number::Decimal(u64::from(*size)),
-                " bytes holds no entries",
+                " bytes has no entries",
             ),
             Reason::ExceptionSize(size) => (
-                "the exception directory's ",
+                "exception directory size of ",
                 Number::Decimal(u64::from(*size)),
-                " bytes are no whole number of entries",
+                " bytes is not a multiple of the entry size",
             ),
             Reason::ExceptionOffset(place) => (
-                "the exception directory's place ",
+                "exception directory at file offset ",
                 Number::Hex(*place),
-                " is no multiple of four",
+                " is not aligned to 4 bytes",
             ),
             Reason::ExceptionBounds(end) => (
-                "the exception directory ends at ",
+                "exception directory ends at file offset ",
                 Number::Hex(*end),
                 ", past the end of the file",
             ),
             Reason::FunctionIndex(index) => (
-                "there is no function ",
+                "function index ",
                 Number::Decimal(*index as u64),
-                "",
+                " is out of range",
             ),
             Reason::FunctionLink(address) => (
-                "the link ",
+                "link to RVA ",
                 Number::Hex(u64::from(*address)),
                 " leads to no function entry",
             ),
             Reason::FunctionCycle(links) => (
-                "the links from function to function never end: ",
+                "loop in unwind links or chained records, found after ",
                 Number::Decimal(*links as u64),
-                " were followed",
+                " steps",
             ),
             Reason::UnwindVersion(version) => (
-                "",
+                "unknown unwind record version ",
                 Number::Decimal(u64::from(*version)),
-                " is no known version of an unwind record",
-            ),
-            Reason::UnwindCode(code) => (
                 "",
-                Number::Hex(u64::from(*code)),
-                " begins no unwind code",
             ),
+            Reason::UnwindCode(code) => ("invalid unwind code ", Number::Hex(u64::from(*code)), ""),
             Reason::Arm64Version(version) => (
-                "",
+                "unknown ARM64 unwind record version ",
                 Number::Decimal(u64::from(*version)),
-                " is no known version of an ARM64 unwind record",
+                "",
             ),
             Reason::Arm64Cut(place) => (
-                "the ARM64 unwind code ",
+                "ARM64 unwind code truncated at offset ",
                 Number::Hex(*place as u64),
-                " behind the beginning of its stream is cut",
+                " of its stream",
             ),
             Reason::ResourceBounds(end) => (
-                "resource data end at ",
+                "resource data ends at offset ",
                 Number::Hex(*end),
-                ", past the bytes that are to hold them",
+                ", past the bytes that hold it",
             ),
             Reason::ResourceCycle(place) => (
-                "the resource directory at ",
+                "loop in the resource tree through the directory at offset ",
                 Number::Hex(u64::from(*place)),
-                " leads back to itself",
+                "",
             ),
             Reason::ResourceString(place) => (
-                "the value of the version string at ",
+                "version string at offset ",
                 Number::Hex(u64::from(*place)),
-                " is not there, or its length is above 32,767",
+                ": value missing, or its length above 32,767",
             ),
             Reason::TeSize(size) => (
-                "a stripped size of ",
+                "stripped size of ",
                 Number::Decimal(u64::from(*size)),
-                " bytes is less than the 40 of a TE header",
+                " bytes is smaller than the 40 bytes of a TE header",
             ),
             Reason::WriteAlignment(alignment) => (
-                "",
+                "images with alignment ",
                 Number::Hex(*alignment as u64),
-                " can't be the alignment of a written image",
+                " cannot be written",
             ),
             Reason::WriteSymbols(place) => (
-                "an image with COFF symbols, here at ",
+                "images with COFF symbols cannot be written (symbol table at file offset ",
                 Number::Hex(u64::from(*place)),
-                ", can't be written",
+                ")",
             ),
             Reason::WriteSection(index) => (
-                "the data of section ",
+                "data of section ",
                 Number::Decimal(*index as u64),
-                " are not in the source",
+                " is not in the source bytes",
             ),
             Reason::PogoName { .. }
             | Reason::Arm64Stream { .. }
@@ -314,21 +310,21 @@ impl fmt::Display for Reason {
         match self {
             Reason::PogoName { place, length } => write!(
                 f,
-                "a POGO entry needs {place} bytes up to the end of its name and padding, and {length} are left"
+                "POGO entry truncated: {place} bytes needed up to the end of its padded name, {length} left"
             ),
             Reason::Arm64Stream { length, start } => write!(
                 f,
-                "{length} bytes are no stream of ARM64 unwind codes to be read from {start:#x}"
+                "no ARM64 unwind code stream in {length} bytes from offset {start:#x}"
             ),
             Reason::WriteOverlap(first, second) => write!(
                 f,
-                "sections {first} and {second} differ and share bytes of the file"
+                "sections {first} and {second} overlap in the file and are not equal"
             ),
             Reason::WriteFit { end, length } => write!(
                 f,
-                "what is written ends at {end:#x}, past a buffer of {length} bytes"
+                "write ends at offset {end:#x}, past a buffer of {length} bytes"
             ),
-            _ => write!(f, "the image has no optional header"),
+            _ => write!(f, "image has no optional header"),
         }
     }
 }
@@ -340,14 +336,14 @@ pub enum Error {
     #[error("{0}")]
     Malformed(Reason),
     /// The number where the magic number of a header is to stand.
-    #[error("the magic number {0:#x} is none that the header may have")]
+    #[error("invalid magic number {0:#x}")]
     BadMagic(u64),
     /// The place of a read, counted from the beginning of the bytes that were handed in, and the bytes that it needs.
     /// For an iterator's item these are the bytes that the iterator has left.
-    #[error("the bytes end too early: {needed} bytes are needed {at:#x} behind their beginning")]
+    #[error("truncated: {needed} bytes needed at offset {at:#x}")]
     Short { at: usize, needed: usize },
     /// A request for memory was refused.
-    #[error("memory has run out")]
+    #[error("out of memory")]
     Memory(AllocError),
 }
 

@@ -10,8 +10,8 @@ use std::alloc::Global;
 pub struct Frame {
     /// The codes to undo, in order. Each has run once `code_offset` bytes of the function have.
     pub codes: Vec<UnwindCode>,
-    /// The frame register and its offset in bytes, if the record has one. Where `SetFPRegister` is among the codes,
-    /// saves count from the register less its offset, else from rsp.
+    /// The frame register and its offset in bytes, if the record has one. Once `SetFPRegister` has run, in this record or
+    /// in one that it is chained to, saves count from the register less its offset; until then from rsp.
     pub frame_register: Option<(Register, u32)>,
 }
 
