@@ -4,6 +4,7 @@ pub mod ByMode
 pub mod Images
 pub mod Modes
 pub mod Permissive
+pub mod Headline
 pub mod SectionsFirst
 pub mod ExceptionFields
 pub mod Overlays

@@ -76,10 +76,10 @@ resources_alone b o c x h is =
 
 -- ---- an image that permissive mode refuses
 
-demanded_never : {X : Type 0} (mode : ParseMode) (f : Field X) → mode ≡ Permissive → demanded mode f ≡ Ok tt
+pub demanded_never : {X : Type 0} (mode : ParseMode) (f : Field X) → mode ≡ Permissive → demanded mode f ≡ Ok tt
 demanded_never mode f h = rw h refl
 
-four_never : (b : List ℕ) (o : ParseOptions) (c : CoreView) → o.parse_mode ≡ Permissive → first_four_demanded b o c ≡ Ok tt
+pub four_never : (b : List ℕ) (o : ParseOptions) (c : CoreView) → o.parse_mode ≡ Permissive → first_four_demanded b o c ≡ Ok tt
 four_never b o c h = rw (demanded_never o.parse_mode (debug_of b o c) h, demanded_never o.parse_mode (exceptions_of b o c) h, demanded_never o.parse_mode (relocations_of b o c) h) (demanded_never o.parse_mode (certificates_of b o c) h)
 
 same_kind : {X : Type 0} (k e : Refusal) → ◌≡◌ {A = Result X Refusal} (Err k) (Err e) → k ≡ e

@@ -15,12 +15,23 @@ ghost use Rattle.pe_unwind.specs.ExceptionTable.{ExceptionView};
 ghost use Rattle.pe_image.specs.Core.{CoreView, core_of};
 ghost use Rattle.pe_image.specs.Layout.{alignment};
 ghost use Rattle.pe_image.specs.Fields.{Field, given_value};
+ghost use Rattle.pe_image.specs.Headline.{IsPermissive};
 ghost use Rattle.pe_image.specs.Image.{ImageView, core_part, AreResourcesOf, IsImage, certificates_of, debug_of, exceptions_of, relocations_of};
 ghost use Rattle.pe_image.specs.Overlay.{EndsInZeros, Piece, all_fit, overlay};
 ghost use Rattle.pe_image.specs.Writing.{AreAligned, certificate_directory, certificates_written, clash, image_pieces, image_written};
 ghost use Rattle.pe_image.specs.WritingSteps.{put_in_turn};
 
 use crate::fields::{COFF_MACHINE_ARM64, COFF_MACHINE_X86_64};
+
+/// The whole promise of permissive mode, as one law. Bytes are refused exactly as their core is: headers, section headers,
+/// imports. Otherwise there is an image: its core is that core; its name, kind, entry point and image base are those of
+/// the core; and the field of each directory is what that directory's own definition gives, and empty where that is absent
+/// or refuses. This decides every field, so it defines the image too.
+#[tactic(auto, using(crate::proofs::Headline::headline))]
+pub fn headline()
+    ensures { (b : List ℕ) (o : ParseOptions) (r : Result ImageView Refusal) → o.parse_mode ≡ ParseMode.Permissive →
+        (IsImage b o r ↔ IsPermissive b o (core_of b o) r) }
+{}
 
 /// Permissive parsing refuses an image exactly where its core is refused, and as that.
 #[tactic(auto, using(crate::proofs::Permissive::refused_as_the_core))]
