@@ -17,3 +17,4 @@ pub mod WrittenHeaders
 pub mod WrittenImages
 pub mod ListedAgain
 pub mod RewrittenBytes
+pub mod HeadlineCalls
