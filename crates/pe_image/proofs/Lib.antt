@@ -4,6 +4,7 @@ pub mod ByMode
 pub mod Images
 pub mod Modes
 pub mod Permissive
+pub mod Headline
 pub mod SectionsFirst
 pub mod ExceptionFields
 pub mod Overlays
@@ -16,3 +17,4 @@ pub mod WrittenHeaders
 pub mod WrittenImages
 pub mod ListedAgain
 pub mod RewrittenBytes
+pub mod HeadlineCalls

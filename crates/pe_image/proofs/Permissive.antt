@@ -10,6 +10,7 @@ use Rattle.pe_core.specs.declared.section_table.SectionTable.{SectionTable}
 use Rattle.pe_resource.specs.Resources.{ResourceView, IsResource}
 use Rattle.pe_image.specs.Core.{CoreView, core_of}
 use Rattle.pe_image.specs.Fields.{Field, IsField, given_value, resource_directory}
+use Rattle.pe_image.specs.Headline.{AreDerived}
 use Rattle.pe_image.specs.Image.{ImageView, core_part, with_fields, demanded, first_four_demanded, before_resources, debug_of, exceptions_of, relocations_of, certificates_of, AreResourcesOf, IsBehindCore, IsImage}
 use Rattle.pe_image.specs.Layout.{alignment}
 use Rattle.pe_image.proofs.Steps.{passed_test}
@@ -36,6 +37,13 @@ core_alone b o c f = refl
 
 pub core_of_image : (b : List ℕ) (o : ParseOptions) (c : CoreView) (x : ImageView) → core_of b o ≡ Ok c → IsImage b o (Ok x) → core_part x ≡ c
 core_of_image b o c x h is = let (f, are, same) = whole b o c x h is in ap (λ x. core_part x) same ∙ core_alone b o c f
+
+derived_in : (b : List ℕ) (o : ParseOptions) (c : CoreView) (f : Field ResourceView) → AreDerived c (with_fields b o c f)
+unfolding with_fields
+derived_in b o c f = record { name = refl; library = refl; pe32_plus = refl; entry = refl; base = refl; size = refl }
+
+pub derived_of_core : (b : List ℕ) (o : ParseOptions) (c : CoreView) (x : ImageView) → core_of b o ≡ Ok c → IsImage b o (Ok x) → AreDerived c x
+derived_of_core b o c x h is = let (f, are, same) = whole b o c x h is in rw same (derived_in b o c f)
 
 debug_in : (b : List ℕ) (o : ParseOptions) (c : CoreView) (f : Field ResourceView) → (with_fields b o c f).debug_data ≡ given_value (debug_of b o c)
 unfolding with_fields
@@ -76,10 +84,10 @@ resources_alone b o c x h is =
 
 -- ---- an image that permissive mode refuses
 
-demanded_never : {X : Type 0} (mode : ParseMode) (f : Field X) → mode ≡ Permissive → demanded mode f ≡ Ok tt
+pub demanded_never : {X : Type 0} (mode : ParseMode) (f : Field X) → mode ≡ Permissive → demanded mode f ≡ Ok tt
 demanded_never mode f h = rw h refl
 
-four_never : (b : List ℕ) (o : ParseOptions) (c : CoreView) → o.parse_mode ≡ Permissive → first_four_demanded b o c ≡ Ok tt
+pub four_never : (b : List ℕ) (o : ParseOptions) (c : CoreView) → o.parse_mode ≡ Permissive → first_four_demanded b o c ≡ Ok tt
 four_never b o c h = rw (demanded_never o.parse_mode (debug_of b o c) h, demanded_never o.parse_mode (exceptions_of b o c) h, demanded_never o.parse_mode (relocations_of b o c) h) (demanded_never o.parse_mode (certificates_of b o c) h)
 
 same_kind : {X : Type 0} (k e : Refusal) → ◌≡◌ {A = Result X Refusal} (Err k) (Err e) → k ≡ e

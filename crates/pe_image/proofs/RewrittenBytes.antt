@@ -117,7 +117,7 @@ passed_first : {Y : Type 0} (t : Bool) (k : Refusal) (tests : List (Bool × Refu
 passed_first true k tests v y h = (refl, h)
 passed_first false k tests v y h = absurd cc
 
-value_is : {Y : Type 0} (tests : List (Bool × Refusal)) (v y : Y) → outcome tests v ≡ Ok y → v ≡ y
+pub value_is : {Y : Type 0} (tests : List (Bool × Refusal)) (v y : Y) → outcome tests v ≡ Ok y → v ≡ y
 value_is [] v y h = cc
 value_is ((true, k) ∷ tests) v y h = value_is tests v y h
 value_is ((false, k) ∷ tests) v y h = absurd cc

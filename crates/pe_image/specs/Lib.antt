@@ -2,6 +2,7 @@ pub mod Layout
 pub mod Core
 pub mod Fields
 pub mod Image
+pub mod Headline
 pub mod LayoutParts
 pub mod CoreParts
 pub mod FieldSteps

@@ -1,7 +1,8 @@
 -- Bytes that are written over others, piece by piece. A byte is that of the last piece that covers its place.
-use Rattle.std.specs.Prelude.{◌≡◌, ℕ, ◌+◌, ◌-◌, ◌&&◌, Bool, List, length, filter, replicate, Option, Some, None, nat_le, nat_lt, slice_index}
+use Rattle.std.specs.Prelude.{◌≡◌, ℕ, ◌+◌, ◌-◌, ◌&&◌, Bool, List, length, filter, replicate, Option, Some, None, Result, Ok, Err, nat_le, nat_lt, slice_index}
 use Rattle.std.specs.List.{last_or, list_all}
 use Rattle.pe_core.specs.Rows.{each}
+use Rattle.pe_core.specs.declared.error.Error.{Error}
 
 -- some bytes, and the place where they go
 pub record Piece : Type 0 where
@@ -46,3 +47,8 @@ IsOfZeros x = x.content ≡ replicate (length x.content) 0
 -- the last piece that has a byte for place q is one of zeros
 abbrev pub EndsInZeros : List Piece → ℕ → Type 0
 EndsInZeros pieces q = (x : Piece) × (last_piece pieces q ≡ Some x) × IsOfZeros x
+
+-- an accepted write leaves the overlay of these pieces, and a refused one changes nothing
+abbrev pub LeavesOverlay : List Piece → Result ℕ Error → List ℕ → List ℕ → Type 0
+LeavesOverlay pieces (Ok n) old new = new ≡ overlay old pieces
+LeavesOverlay pieces (Err e) old new = new ≡ old

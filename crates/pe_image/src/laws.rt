@@ -1,26 +1,59 @@
 //! Laws over the definitions. Each is the contract of a function that does nothing.
 
-ghost use Rattle.std.specs.Prelude.{◌≡◌, ◌≢◌, ◌↔◌, ◌+◌, ◌%◌, ◌<◌, ◌≤◌, ◌⊎◌, ℕ, List, [], Ok, Err, Option, Result, Some, length, slice_index, true, unwrap_or};
-ghost use Rattle.pe_core.specs.Bytes.{AreBytes};
+ghost use Rattle.std.specs.Prelude.{◌≡◌, ◌≢◌, ◌↔◌, ◌+◌, ◌/◌, ◌%◌, ◌<◌, ◌≤◌, ◌⊎◌, ℕ, List, [], Ok, Err, Option, Result, Some, length, slice_index, true, unwrap_or};
+ghost use Rattle.pe_core.specs.Bytes.{AreBytes, range};
 ghost use Rattle.pe_core.specs.Header.{OptionalHeaderView};
 ghost use Rattle.pe_core.specs.Refusals.{Refusal};
 ghost use Rattle.pe_core.specs.Sections.{SharesRawByte};
 ghost use Rattle.pe_core.specs.declared.section_table.SectionTable.{SectionTable};
 ghost use Rattle.pe_core.specs.declared.data_directories.DataDirectory.{DataDirectory};
+ghost use Rattle.pe_core.specs.declared.error.Error.{Error};
 ghost use Rattle.pe_core.specs.declared.options.ParseMode.{ParseMode};
 ghost use Rattle.pe_core.specs.declared.options.ParseOptions.{ParseOptions};
 ghost use Rattle.pe_records.specs.Certificates.{IsListing};
 ghost use Rattle.pe_resource.specs.Resources.{ResourceView};
-ghost use Rattle.pe_unwind.specs.ExceptionTable.{ExceptionView};
+ghost use Rattle.pe_unwind.specs.declared.function_table.RuntimeFunction.{RuntimeFunction};
+ghost use Rattle.pe_unwind.specs.ExceptionTable.{ExceptionView, table_of};
+ghost use Rattle.pe_unwind.specs.FunctionTable.{Finds, NeverFalls, functions, scan};
 ghost use Rattle.pe_image.specs.Core.{CoreView, core_of};
 ghost use Rattle.pe_image.specs.Layout.{alignment};
 ghost use Rattle.pe_image.specs.Fields.{Field, given_value};
+ghost use Rattle.pe_image.specs.Headline.{AreDerived, IsPermissive};
 ghost use Rattle.pe_image.specs.Image.{ImageView, core_part, AreResourcesOf, IsImage, certificates_of, debug_of, exceptions_of, relocations_of};
-ghost use Rattle.pe_image.specs.Overlay.{EndsInZeros, Piece, all_fit, overlay};
-ghost use Rattle.pe_image.specs.Writing.{AreAligned, certificate_directory, certificates_written, clash, image_pieces, image_written};
+ghost use Rattle.pe_image.specs.Overlay.{EndsInZeros, LeavesOverlay, Piece, all_fit, overlay};
+ghost use Rattle.pe_image.specs.Pieces.{all_certificate_pieces, all_section_pieces};
+ghost use Rattle.pe_image.specs.Writing.{AreAligned, GivesWritten, certificate_directory, certificates_written, clash, image_pieces, image_written, sections_written};
 ghost use Rattle.pe_image.specs.WritingSteps.{put_in_turn};
 
 use crate::fields::{COFF_MACHINE_ARM64, COFF_MACHINE_X86_64};
+
+/// The whole promise of permissive mode, as one law. Bytes are refused exactly as their core is: headers, section headers,
+/// imports. Otherwise there is an image: its core is that core; its name, kind, entry point and image base are those of
+/// the core; and the field of each directory is what that directory's own definition gives, and empty where that is absent
+/// or refuses. This decides every field, so it defines the image too.
+#[tactic(auto, using(crate::proofs::Headline::headline))]
+pub fn headline()
+    ensures { (b : List ℕ) (o : ParseOptions) (r : Result ImageView Refusal) → o.parse_mode ≡ ParseMode.Permissive →
+        (IsImage b o r ↔ IsPermissive b o (core_of b o) r) }
+{}
+
+/// The promise of the calls on an image. In an exception table that is sorted by start RVA, lookup finds what a linear scan
+/// of the image's bytes finds. The table has a twelfth of its size in entries, and `search` reads at most as many of them as
+/// that number has binary digits. An accepted write leaves the overlay of its pieces, and a refused one changes nothing.
+#[tactic(auto, using(crate::proofs::HeadlineCalls::finds_scanned, crate::proofs::ExceptionFields::entries_of_table, crate::proofs::HeadlineCalls::image_leaves, crate::proofs::HeadlineCalls::sections_leave, crate::proofs::HeadlineCalls::certificates_leave))]
+pub fn headline_calls()
+    ensures lookup { (b : List ℕ) (o : ParseOptions) (c : CoreView) (x : ImageView) (v : ExceptionView) (a : ℕ) (found : Option RuntimeFunction) →
+        core_of b o ≡ Ok c → IsImage b o (Ok x) → x.exception_data ≡ Some v → Finds (functions (table_of v)) a found →
+        NeverFalls (functions (range b v.start v.size)) → found ≡ scan (functions (range b v.start v.size)) a }
+    ensures entries { (b : List ℕ) (o : ParseOptions) (c : CoreView) (x : ImageView) (v : ExceptionView) → core_of b o ≡ Ok c → IsImage b o (Ok x) →
+        x.exception_data ≡ Some v → length (functions (table_of v)) ≡ v.size / 12 }
+    ensures image { (b old new : List ℕ) (x : ImageView) (h : OptionalHeaderView) (r : Result ℕ Error) → x.header.optional_header ≡ Some h →
+        GivesWritten r (image_written b x old) old new → LeavesOverlay (image_pieces b x.header h x.sections x.certificates) r old new }
+    ensures sections { (b old new : List ℕ) (sections : List SectionTable) (unit : Option ℕ) (offset : ℕ) (r : Result ℕ Error) →
+        GivesWritten r (sections_written b sections unit offset old) old new → LeavesOverlay (all_section_pieces b unit offset sections) r old new }
+    ensures certificates { (old new : List ℕ) (x : ImageView) (h : OptionalHeaderView) (r : Result ℕ Error) → x.header.optional_header ≡ Some h →
+        GivesWritten r (certificates_written x old) old new → LeavesOverlay (all_certificate_pieces (certificate_directory h) x.certificates) r old new }
+{}
 
 /// Permissive parsing refuses an image exactly where its core is refused, and as that.
 #[tactic(auto, using(crate::proofs::Permissive::refused_as_the_core))]
@@ -35,6 +68,8 @@ pub fn permissive_images_are_refused_as_their_core()
 pub fn permissive_fields_are_their_own()
     ensures core { (b : List ℕ) (o : ParseOptions) (c : CoreView) (x : ImageView) → core_of b o ≡ Ok c → IsImage b o (Ok x) →
         core_part x ≡ c }
+    ensures derived { (b : List ℕ) (o : ParseOptions) (c : CoreView) (x : ImageView) → core_of b o ≡ Ok c → IsImage b o (Ok x) →
+        AreDerived c x }
     ensures debug { (b : List ℕ) (o : ParseOptions) (c : CoreView) (x : ImageView) → core_of b o ≡ Ok c → IsImage b o (Ok x) →
         x.debug_data ≡ given_value (debug_of b o c) }
     ensures exceptions { (b : List ℕ) (o : ParseOptions) (c : CoreView) (x : ImageView) → core_of b o ≡ Ok c → IsImage b o (Ok x) →

@@ -2,5 +2,6 @@ pub mod Chains
 pub mod Rings
 pub mod Marks
 pub mod Endings
+pub mod Roots
 pub mod OnePlan
 pub mod Walks

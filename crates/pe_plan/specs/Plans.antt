@@ -1,5 +1,5 @@
 -- The unwind records from a function to the root of its chain. (x64 exception handling: chained unwind information.)
-use Rattle.std.specs.Prelude.{◌≡◌, ◌↔◌, ◌⊎◌, ℕ, List, [], ◌∷◌, length, Option, Some, None, Result, Ok, Err, IsSomeAnd}
+use Rattle.std.specs.Prelude.{◌≡◌, ◌↔◌, ◌⊎◌, ℕ, All, List, [], ◌∷◌, ◌++◌, length, Option, Some, None, Result, Ok, Err, IsSome, IsSomeAnd}
 use Rattle.pe_core.specs.Refusals.{Refusal, Memory, FunctionCycle}
 use Rattle.pe_core.specs.declared.options.ParseOptions.{ParseOptions}
 use Rattle.pe_core.specs.declared.section_table.SectionTable.{SectionTable}
@@ -16,6 +16,14 @@ abbrev pub IsChain : Table → List ℕ → Option RuntimeFunction → List Unwi
 IsChain t b start [] end = start ≡ end
 IsChain t b None (i ∷ is) end = ⊥
 IsChain t b (Some f) (i ∷ is) end = Unwinds t b f.unwind_info_address (Ok i) × IsChain t b i.chained_info is end
+
+-- some records that are each chained to another, and at last the root, which is chained to none
+pub record EndsAtRoot (is : List UnwindInfoView) : Type 0 where
+  pub chained : List UnwindInfoView
+  pub root : UnwindInfoView
+  pub records : is ≡ chained ++ root ∷ []
+  pub are_chained : All (λ i. IsSome i.chained_info) chained
+  pub is_root : root.chained_info ≡ None
 
 -- the chain comes to this function
 abbrev pub ComesTo : Table → List ℕ → Option RuntimeFunction → RuntimeFunction → Type 0

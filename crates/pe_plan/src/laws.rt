@@ -1,11 +1,22 @@
 //! Laws over the definition of plans.
 
-ghost use Rattle.std.specs.Prelude.{◌≡◌, ◌≢◌, ◌↔◌, ℕ, List, Result, Err};
+ghost use Rattle.std.specs.Prelude.{◌≡◌, ◌≢◌, ◌↔◌, ℕ, List, Result, Ok, Err, Some};
 ghost use Rattle.pe_core.specs.Refusals.{Refusal, Memory, FunctionCycle};
 ghost use Rattle.pe_unwind.specs.declared.function_table.RuntimeFunction.{RuntimeFunction};
+ghost use Rattle.pe_core.specs.declared.options.ParseOptions.{ParseOptions};
+ghost use Rattle.pe_core.specs.declared.section_table.SectionTable.{SectionTable};
+ghost use Rattle.pe_unwind.specs.ExceptionTable.{ExceptionView};
 ghost use Rattle.pe_unwind.specs.Links.{Table};
 ghost use Rattle.pe_unwind.specs.UnwindRecord.{UnwindInfoView};
-ghost use Rattle.pe_plan.specs.Plans.{NeverEnds, PlansFrom};
+ghost use Rattle.pe_plan.specs.Plans.{EndsAtRoot, NeverEnds, Plans, PlansFrom};
+
+/// A plan that is given is not empty. Its last record is chained to none, and each other to the next function.
+#[tactic(auto, using(crate::proofs::Roots::plan_ends_at_root, crate::proofs::Roots::found_plan_ends_at_root))]
+pub fn plans_end_at_their_root()
+    ensures function { (t : Table) (b : List ℕ) (f : RuntimeFunction) (is : List UnwindInfoView) → PlansFrom t b f (Ok is) → EndsAtRoot is }
+    ensures code { (v : ExceptionView) (sections : List SectionTable) (opts : ParseOptions) (a : ℕ) (is : List UnwindInfoView) →
+        Plans v sections opts a (Ok (Some is)) → EndsAtRoot is }
+{}
 
 /// A function has one plan, want of memory aside, and it is a cycle exactly where the chain goes on for ever.
 pub fn one_plan_of_functions()

@@ -11,6 +11,7 @@ pub mod LinkChains
 pub mod Disjoint
 pub mod Streams
 pub mod OneChain
+pub mod SomeAnswer
 pub mod Arm64Entries
 pub mod Arm64Lengths
 pub mod Arm64OneCode

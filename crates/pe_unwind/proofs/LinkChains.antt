@@ -68,11 +68,11 @@ link_some t u i h =
     let test : eqb (u % 2) 1 ≡ true = found.0 in
     (grind (arith, nat_tests), option_and_then_some (entry_at t) (t.place (u - 1)) i found.1 (λ p _ e. entry_some t p i e))
 
-follows_key : (t : Table) → FollowsKey (next t) (key t)
+pub follows_key : (t : Table) → FollowsKey (next t) (key t)
 follows_key t x y a b same to_a to_b =
     (next_some t x a to_a).1 ∙ ap (address_of t) same ∙ sym (next_some t y b to_b).1
 
-keys_below : (t : Table) → HasKeysBelow (next t) (key t) (count t)
+pub keys_below : (t : Table) → HasKeysBelow (next t) (key t) (count t)
 keys_below t x a to = (link_some t x (key t x) (next_some t x a to).0).1
 
 odd_at : (t : Table) (u : ℕ) (o : Option ℕ) → next t u ≡ o → IsSome o → IsOdd u

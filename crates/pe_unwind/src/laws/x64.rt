@@ -58,15 +58,17 @@ pub fn one_stream_of_codes()
     ensures items { (s : CodeStream) (xs ys : List (Result UnwindCode Error)) → AreItems s xs → AreItems s ys → map answer_of xs ≡ map answer_of ys }
 {}
 
-/// A chain of links has one answer.
-#[tactic(auto, using(crate::proofs::OneChain::one_answer))]
+/// A chain of links has an answer, and one alone.
+#[tactic(auto, using(crate::proofs::OneChain::one_answer, crate::proofs::SomeAnswer::some_answer))]
 pub fn one_answer_of_links()
-    ensures { (t : Table) (u : ℕ) (a b : Result ℕ Refusal) → Follows t u a → Follows t u b → a ≡ b }
+    ensures exists { (t : Table) (u : ℕ) → (a : Result ℕ Refusal) × Follows t u a }
+    ensures one { (t : Table) (u : ℕ) (a b : Result ℕ Refusal) → Follows t u a → Follows t u b → a ≡ b }
 {}
 
-/// An unwind address has one record or one refusal, which is a cycle exactly where its links never end, and never want of
+/// An unwind address has a record or a refusal, and one alone, which is a cycle exactly where its links never end, and never want of
 /// memory.
 pub fn one_record_of_addresses()
+    ensures exists { (t : Table) (b : List ℕ) (u : ℕ) → (x : Result UnwindInfoView Refusal) × Unwinds t b u x }
     ensures one { (t : Table) (b : List ℕ) (u : ℕ) (x y : Result UnwindInfoView Refusal) → Unwinds t b u x → Unwinds t b u y → x ≡ y }
     ensures cycle { (t : Table) (b : List ℕ) (u : ℕ) (x : Result UnwindInfoView Refusal) → Unwinds t b u x → ((x ≡ Err FunctionCycle) ↔ IsEndless t u) }
     ensures no_memory { (t : Table) (b : List ℕ) (u : ℕ) → Unwinds t b u (Err Memory) → ⊥ }

@@ -1,0 +1,42 @@
+-- A chain that ends behind its last record ends at a root.
+use Rattle.std.proofs.Common.{◌≡◌, ℕ, List, [], ◌∷◌, Option, Some, None, Result, Ok, IsSome, refl, ap}
+use Rattle.std.proofs.lemmas.List.Elements.{All-cons, All-nil}
+use Rattle.pe_core.specs.declared.options.ParseOptions.{ParseOptions}
+use Rattle.pe_core.specs.declared.section_table.SectionTable.{SectionTable}
+use Rattle.pe_unwind.specs.declared.function_table.RuntimeFunction.{RuntimeFunction}
+use Rattle.pe_unwind.specs.ExceptionTable.{ExceptionView}
+use Rattle.pe_unwind.specs.Links.{Table, links_of}
+use Rattle.pe_unwind.specs.UnwindRecord.{UnwindInfoView}
+use Rattle.pe_plan.specs.Plans.{EndsAtRoot, IsChain, Plans, PlansFrom, PlansFound}
+
+one_root : (i : UnwindInfoView) → i.chained_info ≡ None → EndsAtRoot (i ∷ [])
+one_root i root = record { chained = []; root = i; records = refl; are_chained = All-nil (λ i. IsSome i.chained_info); is_root = root }
+
+in_front : (i : UnwindInfoView) (is : List UnwindInfoView) → IsSome i.chained_info → EndsAtRoot is → EndsAtRoot (i ∷ is)
+in_front i is some r = record {
+  chained = i ∷ r.chained;
+  root = r.root;
+  records = ap (λ (is : List UnwindInfoView). i ∷ is) r.records;
+  are_chained = All-cons (λ i. IsSome i.chained_info) i r.chained some r.are_chained;
+  is_root = r.is_root;
+}
+
+some_next : (t : Table) (b : List ℕ) (o : Option RuntimeFunction) (i : UnwindInfoView) (is : List UnwindInfoView) → IsChain t b o (i ∷ is) None → IsSome o
+some_next t b None i is p = absurd p
+some_next t b (Some g) i is p = refl
+
+from_first : (t : Table) (b : List ℕ) (o : Option RuntimeFunction) (i : UnwindInfoView) (is : List UnwindInfoView) → IsChain t b o (i ∷ is) None → EndsAtRoot (i ∷ is)
+from_first t b None i is p = absurd p
+from_first t b (Some f) i [] p = one_root i p.1
+from_first t b (Some f) i (j ∷ js) p = in_front i (j ∷ js) (some_next t b i.chained_info j js p.1) (from_first t b i.chained_info j js p.1)
+
+pub plan_ends_at_root : (t : Table) (b : List ℕ) (f : RuntimeFunction) (is : List UnwindInfoView) → PlansFrom t b f (Ok is) → EndsAtRoot is
+plan_ends_at_root t b f [] p = absurd cc
+plan_ends_at_root t b f (i ∷ is) p = from_first t b (Some f) i is p
+
+found : (t : Table) (b : List ℕ) (o : Option RuntimeFunction) (is : List UnwindInfoView) → PlansFound t b o (Ok (Some is)) → EndsAtRoot is
+found t b None is p = absurd (let clash : Path (Result (Option (List UnwindInfoView)) _) (Ok (Some is)) (Ok None) = p in cc)
+found t b (Some f) is p = plan_ends_at_root t b f is p
+
+pub found_plan_ends_at_root : (v : ExceptionView) (sections : List SectionTable) (opts : ParseOptions) (a : ℕ) (is : List UnwindInfoView) → Plans v sections opts a (Ok (Some is)) → EndsAtRoot is
+found_plan_ends_at_root v sections opts a is p = found (links_of v sections opts) v.content p.found is p.plan
