@@ -1,6 +1,7 @@
 //! Laws over the definition of plans.
 
 ghost use Rattle.std.specs.Prelude.{◌≡◌, ◌≢◌, ◌↔◌, ℕ, List, Result, Ok, Err, Some};
+ghost use Rattle.pe_core.specs.Bytes.{AreBytes};
 ghost use Rattle.pe_core.specs.Refusals.{Refusal, Memory, FunctionCycle};
 ghost use Rattle.pe_unwind.specs.declared.function_table.RuntimeFunction.{RuntimeFunction};
 ghost use Rattle.pe_core.specs.declared.options.ParseOptions.{ParseOptions};
@@ -18,8 +19,10 @@ pub fn plans_end_at_their_root()
         Plans v sections opts a (Ok (Some is)) → EndsAtRoot is }
 {}
 
-/// A function has one plan, want of memory aside, and it is a cycle exactly where the chain goes on for ever.
+/// A function has a plan, and one alone, want of memory aside; and it is a cycle exactly where the chain goes on for ever.
 pub fn one_plan_of_functions()
+    ensures exists { (t : Table) (b : List ℕ) (f : RuntimeFunction) → AreBytes b →
+        (x : Result (List UnwindInfoView) Refusal) × PlansFrom t b f x × (x ≢ Err Memory) }
     ensures one { (t : Table) (b : List ℕ) (f : RuntimeFunction) (x y : Result (List UnwindInfoView) Refusal) →
         PlansFrom t b f x → PlansFrom t b f y → x ≢ Err Memory → y ≢ Err Memory → x ≡ y }
     ensures cycle { (t : Table) (b : List ℕ) (f : RuntimeFunction) (x : Result (List UnwindInfoView) Refusal) →
