@@ -1,5 +1,5 @@
 -- A walk has an answer, and so has what stands on it.
-use Rattle.std.proofs.Common.{◌≡◌, ℕ, zero, suc, ◌<◌, Bool, true, false, List, length, Option, Some, None, Result, Ok, Err, IsSome, ◌⊎◌, ⊎_elim, refl, ap, sym, ◌∙◌, subst}
+use Rattle.std.proofs.Common.{◌≡◌, ℕ, zero, suc, ◌<◌, Bool, true, false, List, length, Option, Some, None, Result, Ok, Err, IsSome, ⊎_elim, refl, ap, ◌∙◌}
 use Rattle.pe_core.proofs.Pigeonhole.{StopsAfter, follows_from_decides, goes_or_stops, never_stops}
 use Rattle.pe_core.specs.Chains.{after}
 use Rattle.pe_core.specs.Refusals.{Refusal, Short, ResourceCycle, ◌>>=◌}
@@ -12,7 +12,7 @@ use Rattle.pe_resource.specs.declared.directory.ImageResourceDirectory.{ImageRes
 use Rattle.pe_resource.specs.declared.entry.ResourceEntry.{ResourceEntry}
 use Rattle.pe_resource.specs.Contents.{map_of, IsLeaf, range_in, IsContentRange, content_of, IsContent, version_of_content, IsVersion}
 use Rattle.pe_resource.specs.ResourceEntries.{directory_place, with_id, is_directory, data_place, entries}
-use Rattle.pe_resource.specs.ResourceWalk.{step, decided, passed_on, passes, Decides, Walks}
+use Rattle.pe_resource.specs.ResourceWalk.{step, decided, passed_on, passes, Walks}
 use Rattle.pe_resource.specs.Resources.{ResourceView, first_entries_in, directory_and_data, IsWithManifest, IsBehindEntries, IsBehindDirectory, IsResource, IsRangeBehindEntries, IsRangeBehindDirectory, IsResourceRange}
 use Rattle.pe_resource.specs.VersionFields.{VersionView}
 use Rattle.pe_resource.proofs.Walks.{only_short, place_decides, places_below}
