@@ -129,3 +129,22 @@ one_behind law b o (Ok c) r s (f, are, given) (g, too, shown) =
 
 pub one_image : OneResource → (b : List ℕ) (o : ParseOptions) (r s : Result ImageView Refusal) → IsImage b o r → IsImage b o s → r ≡ s
 one_image law b o r s is also = one_behind law b o (before_resources b o) r s is also
+
+-- ---- some image
+
+-- the law that there are resources, as pe_resource states it
+abbrev SomeResource : Type 0
+SomeResource = (o : ParseOptions) (b : List ℕ) (d : DataDirectory) (sections : List SectionTable) (unit : ℕ) → (r : Result ResourceView Refusal) × IsResource o b d sections unit r
+
+some_field : SomeResource → (b : List ℕ) (o : ParseOptions) (sections : List SectionTable) (unit : ℕ) (d : Option DataDirectory) → (f : Field ResourceView) × IsField (λ d r. IsResource o b d sections unit r) d f
+some_field law b o sections unit None = (None, refl)
+some_field law b o sections unit (Some d) = let (r, is) = law o b d sections unit in (Some r, is)
+
+some_behind : SomeResource → (b : List ℕ) (o : ParseOptions) (q : Result CoreView Refusal) → (r : Result ImageView Refusal) × IsBehindCore b o q r
+some_behind law b o (Err e) = (Err e, refl)
+some_behind law b o (Ok c) =
+    let (f, are) = some_field law b o c.sections (alignment c.header.optional_header) (resource_directory o c.header.optional_header) in
+    (demanded o.parse_mode f >>= λ u. Ok (with_fields b o c f), (f, are, refl))
+
+pub some_image : SomeResource → (b : List ℕ) (o : ParseOptions) → (r : Result ImageView Refusal) × IsImage b o r
+some_image law b o = some_behind law b o (before_resources b o)

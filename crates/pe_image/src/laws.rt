@@ -93,10 +93,12 @@ pub fn strict_images_are_permissive()
     pe_resource::laws::resources::strict_resources_are_permissive();
 }
 
-/// Bytes have one image by their options, or one refusal.
+/// Bytes have an image by their options, or a refusal, and one alone.
 pub fn images_are_one()
-    ensures { (b : List ℕ) (o : ParseOptions) (r s : Result ImageView Refusal) → IsImage b o r → IsImage b o s → r ≡ s }
+    ensures exists { (b : List ℕ) (o : ParseOptions) → (r : Result ImageView Refusal) × IsImage b o r }
+    ensures one { (b : List ℕ) (o : ParseOptions) (r s : Result ImageView Refusal) → IsImage b o r → IsImage b o s → r ≡ s }
 {
+    pe_resource::laws::resources::resources_have_an_answer();
     pe_resource::laws::resources::resources_have_one_answer();
 }
 

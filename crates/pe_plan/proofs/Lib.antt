@@ -5,3 +5,4 @@ pub mod Endings
 pub mod Roots
 pub mod OnePlan
 pub mod Walks
+pub mod SomePlan

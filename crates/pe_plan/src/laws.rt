@@ -1,11 +1,13 @@
 //! Laws over the definition of plans.
 
-ghost use Rattle.std.specs.Prelude.{◌≡◌, ◌≢◌, ◌↔◌, ℕ, List, Result, Ok, Err, Some};
+ghost use Rattle.std.specs.Prelude.{◌≡◌, ◌≢◌, ◌↔◌, ℕ, List, Option, Result, Ok, Err, None, Some};
+ghost use Rattle.pe_core.specs.Bytes.{AreBytes};
 ghost use Rattle.pe_core.specs.Refusals.{Refusal, Memory, FunctionCycle};
 ghost use Rattle.pe_unwind.specs.declared.function_table.RuntimeFunction.{RuntimeFunction};
 ghost use Rattle.pe_core.specs.declared.options.ParseOptions.{ParseOptions};
 ghost use Rattle.pe_core.specs.declared.section_table.SectionTable.{SectionTable};
-ghost use Rattle.pe_unwind.specs.ExceptionTable.{ExceptionView};
+ghost use Rattle.pe_unwind.specs.ExceptionTable.{ExceptionView, table_of};
+ghost use Rattle.pe_unwind.specs.FunctionTable.{NeverFalls, functions, scan};
 ghost use Rattle.pe_unwind.specs.Links.{Table};
 ghost use Rattle.pe_unwind.specs.UnwindRecord.{UnwindInfoView};
 ghost use Rattle.pe_plan.specs.Plans.{EndsAtRoot, NeverEnds, Plans, PlansFrom};
@@ -18,8 +20,18 @@ pub fn plans_end_at_their_root()
         Plans v sections opts a (Ok (Some is)) → EndsAtRoot is }
 {}
 
-/// A function has one plan, want of memory aside, and it is a cycle exactly where the chain goes on for ever.
+/// An address of code has no plan exactly where no function was found: in a table sorted by start RVA, where the scan
+/// finds none.
+#[tactic(auto, using(crate::proofs::Roots::none_scanned))]
+pub fn no_plan_without_a_function()
+    ensures { (v : ExceptionView) (sections : List SectionTable) (opts : ParseOptions) (a : ℕ) (x : Result (Option (List UnwindInfoView)) Refusal) →
+        Plans v sections opts a x → NeverFalls (functions (table_of v)) → ((x ≡ Ok None) ↔ (scan (functions (table_of v)) a ≡ None)) }
+{}
+
+/// A function has a plan, and one alone, want of memory aside; and it is a cycle exactly where the chain goes on for ever.
 pub fn one_plan_of_functions()
+    ensures exists { (t : Table) (b : List ℕ) (f : RuntimeFunction) → AreBytes b →
+        (x : Result (List UnwindInfoView) Refusal) × PlansFrom t b f x × (x ≢ Err Memory) }
     ensures one { (t : Table) (b : List ℕ) (f : RuntimeFunction) (x y : Result (List UnwindInfoView) Refusal) →
         PlansFrom t b f x → PlansFrom t b f y → x ≢ Err Memory → y ≢ Err Memory → x ≡ y }
     ensures cycle { (t : Table) (b : List ℕ) (f : RuntimeFunction) (x : Result (List UnwindInfoView) Refusal) →

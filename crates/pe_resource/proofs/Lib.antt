@@ -10,5 +10,6 @@ pub mod Contents
 pub mod NoMemory
 pub mod Halves
 pub mod OneAnswer
+pub mod SomeResource
 pub mod ContentRanges
 pub mod ResourceModes

@@ -10,7 +10,7 @@ use Rattle.pe_resource.specs.declared.entry.ResourceEntry.{ResourceEntry}
 use Rattle.pe_resource.specs.ResourceEntries.{directory_place}
 use Rattle.pe_resource.specs.ResourceWalk.{first_at, step, decided, passed_on, passes, IsEndless, Decides, Walks}
 
-place_decides : (b : List ℕ) (p : ResourceEntry → Bool) → KeyDecides (passes b p) directory_place
+pub place_decides : (b : List ℕ) (p : ResourceEntry → Bool) → KeyDecides (passes b p) directory_place
 place_decides b p x y same = ap (λ (q : ℕ). passed_on p (first_at b q)) same
 
 past_end : (b : List ℕ) (q : ℕ) → length b < q + 16 → first_at b q ≡ Err Short
@@ -18,7 +18,7 @@ unfolding first_at
 past_end b q h =
     let test : holds b q 16 ≡ false = grind (arith, nat_tests) in rw test refl
 
-places_below : (b : List ℕ) (p : ResourceEntry → Bool) → HasKeysBelow (passes b p) directory_place (length b)
+pub places_below : (b : List ℕ) (p : ResourceEntry → Bool) → HasKeysBelow (passes b p) directory_place (length b)
 places_below b p x a to =
     ⊎_elim
     (λ (past : length b < directory_place x + 16). absurd (let none : passes b p x ≡ None = ap (passed_on p) (past_end b (directory_place x) past) in cc))

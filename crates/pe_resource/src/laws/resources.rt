@@ -85,6 +85,16 @@ pub fn resources_have_one_answer()
         IsResourceRange o f d id sections alignment r → IsResourceRange o f d id sections alignment s → r ≡ s }
 {}
 
+/// A walk has an answer for all bytes, and so have resources, and where the content of one lies.
+#[tactic(auto, using(crate::proofs::SomeResource::some_walk, crate::proofs::SomeResource::some_resource, crate::proofs::SomeResource::some_range))]
+pub fn resources_have_an_answer()
+    ensures walk { (b : List ℕ) (p : ResourceEntry → Bool) (e : ResourceEntry) → (r : Result ResourceEntry Refusal) × Walks b p e r }
+    ensures resource { (o : ParseOptions) (f : List ℕ) (d : DataDirectory) (sections : List SectionTable) (alignment : ℕ) →
+        (r : Result ResourceView Refusal) × IsResource o f d sections alignment r }
+    ensures range { (o : ParseOptions) (f : List ℕ) (d : DataDirectory) (id : ℕ) (sections : List SectionTable) (alignment : ℕ) →
+        (r : Result (Option ByteRange) Refusal) × IsResourceRange o f d id sections alignment r }
+{}
+
 /// The manifest and the version information of resources are what their ranges hold, and so are the parts of version
 /// information; and a range of a range holds the same bytes as a range of all bytes.
 pub fn ranges_hold_what_is_read()
