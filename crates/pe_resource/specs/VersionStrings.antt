@@ -7,6 +7,7 @@ use Rattle.std.specs.Str.{encode_utf8_all, bytes_eq}
 use Rattle.pe_core.specs.Bytes.{le, holds, range}
 use Rattle.pe_core.specs.Refusals.{Refusal, Short, outcome, kind_of}
 use Rattle.pe_core.specs.Refusals as refusals
+use Rattle.pe_core.specs.SectionMap.{rounded_up}
 use Rattle.pe_core.specs.declared.byte_range.ByteRange.{ByteRange}
 use Rattle.pe_core.specs.declared.error.Error.{Error}
 use Rattle.pe_resource.specs.declared.string.ResourceString.{ResourceString}
@@ -55,7 +56,7 @@ abbrev pub key_length : List ℕ → ℕ → ℕ
 key_length b p = 2 * length (before_zero (units (drop p b)))
 
 abbrev pub up_to_four : ℕ → ℕ
-up_to_four n = (n + 3) / 4 * 4
+up_to_four n = rounded_up n 4
 
 -- where the value of the string at p begins: behind the key and its zero unit, at a multiple of four
 unfoldable pub value_place : List ℕ → ℕ → ℕ

@@ -43,6 +43,19 @@ const PRODUCT_VERSION: &str = "ProductVersion";
 
 const SPECIAL_BUILD: &str = "SpecialBuild";
 
+/// Four numbers in decimal digits, joined by dots.
+fn dotted<A: Allocator + Copy + Drop>(
+    alloc: A,
+    major: u16,
+    minor: u16,
+    build: u16,
+    revision: u16,
+) -> std::result::Result<String<A>, AllocError>
+    ensures { IfOk result (λ s. string_bytes s ≡ version_text record { major = major; minor = minor; build = build; revision = revision }) }
+{
+    format!(in alloc; "{major}.{minor}.{build}.{revision}")
+}
+
 /// A version in four parts. Versions are ordered by the first part that differs.
 #[derive(Clone, Copy, Default, PartialEq, Eq, PartialOrd, Ord)]
 pub struct VersionField {
@@ -86,8 +99,7 @@ impl VersionField {
     ) -> std::result::Result<String<A>, AllocError>
         ensures { IfOk result (λ s. string_bytes s ≡ version_text self.now) }
     {
-        let (major, minor, build, revision) = (self.major, self.minor, self.build, self.revision);
-        format!(in alloc; "{major}.{minor}.{build}.{revision}")
+        dotted(alloc, self.major, self.minor, self.build, self.revision)
     }
 }
 
