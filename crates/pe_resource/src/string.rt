@@ -1,11 +1,12 @@
 //! Strings of version information: a key, and a value that is a text or bytes.
 
-ghost use Rattle.std.specs.Prelude.{◌≡◌, ◌+◌, ◌-◌, ◌*◌, ◌/◌, ◌==◌, ◌<◌, ◌≤◌, ◌^◌, ◌↔◌, length, OnOk, IfOk, IfSome, IsTrue, Some, string_bytes, take};
+ghost use Rattle.std.specs.Prelude.{◌≡◌, ◌+◌, ◌-◌, ◌*◌, ◌/◌, ◌==◌, ◌<◌, ◌≤◌, ◌^◌, ◌↔◌, length, OnOk, IfOk, IfSome, IsTrue, Some, take};
 ghost use Rattle.std.specs.Iterator.{at_most};
 ghost use Rattle.std.specs.Option.{option_map};
 ghost use Rattle.pe_core.specs.Bytes.{le};
 ghost use Rattle.pe_core.specs.Places.{IsWithin};
 ghost use Rattle.pe_core.specs.Refusals.{Gives};
+ghost use Rattle.pe_resource.specs.VersionFields.{GivesText};
 ghost use Rattle.pe_resource.specs.VersionStrings.{Parses, GivesString, VersionString, string_view, key_length, value_place, units, before_zero, text, is_name, IsPlain, rest_of, strings, read, all_read, value_of, value_range};
 
 use crate::constants::RESOURCE_STRING_FIELD_ALIGNMENT;
@@ -123,7 +124,7 @@ impl<'a> ResourceString<'a> {
         &self,
         alloc: A,
     ) -> std::result::Result<Option<String<A>>, AllocError>
-        ensures { IfOk result (λ s. option_map string_bytes s ≡ text (string_view self.now).key) }
+        ensures { GivesText result (Some (string_view self.now).key) }
     {
         text_of(alloc, self.key)
     }
@@ -133,7 +134,7 @@ impl<'a> ResourceString<'a> {
         &self,
         alloc: A,
     ) -> std::result::Result<Option<String<A>>, AllocError>
-        ensures { IfOk result (λ s. option_map string_bytes s ≡ text self.now.value.now) }
+        ensures { GivesText result (Some self.now.value.now) }
     {
         text_of(alloc, self.value)
     }
@@ -181,7 +182,7 @@ pub(crate) fn text_of<A: Allocator + Copy + Drop>(
     alloc: A,
     bytes: &[u8],
 ) -> std::result::Result<Option<String<A>>, AllocError>
-    ensures { IfOk result (λ s. option_map string_bytes s ≡ text bytes.now) }
+    ensures { GivesText result (Some bytes.now) }
 {
     if bytes.len() % 2 == 1 {
         return Ok(None);

@@ -6,7 +6,7 @@ ghost use Rattle.pe_core.specs.Places.{IsWithin};
 ghost use Rattle.pe_core.specs.Refusals.{Gives, Memory, answer_by};
 ghost use Rattle.pe_resource.specs.Contents.{map_of, version_of_content, IsVersion};
 ghost use Rattle.pe_resource.specs.ResourceEntries.{entries_left};
-ghost use Rattle.pe_resource.specs.VersionFields.{version_of_halves, high_half, low_half, version_text, fixed_info_at, fixed_info_in, fixed_info_of, name_of, file_strings, file_strings_view, text_in, version_view, version_in, value_range_in};
+ghost use Rattle.pe_resource.specs.VersionFields.{version_of_halves, high_half, low_half, version_text, fixed_info_at, fixed_info_in, fixed_info_of, name_of, file_strings, file_strings_view, GivesText, version_view, version_in, value_range_in};
 ghost use Rattle.pe_resource.specs.VersionStrings.{strings, read, value_of, IsPlain};
 
 use crate::constants::{RT_VERSION, VS_FFI_SIGNATURE, VS_VERSION_INFO_KEY};
@@ -278,7 +278,7 @@ fn text_in<A: Allocator + Copy + Drop>(
     alloc: A,
     value: Option<&[u8]>,
 ) -> std::result::Result<Option<String<A>>, AllocError>
-    ensures { IfOk result (λ s. option_map string_bytes s ≡ text_in (option_map (λ v. v.now) value.entry)) }
+    ensures { GivesText result (option_map (λ v. v.now) value.entry) }
 {
     match value {
         Some(bytes) => text_of(alloc, bytes),
@@ -312,7 +312,7 @@ impl<'a> StringFileInfo<'a> {
         &self,
         alloc: A,
     ) -> std::result::Result<Option<String<A>>, AllocError>
-        ensures { IfOk result (λ s. option_map string_bytes s ≡ text_in (file_strings_view self.now).comments) }
+        ensures { GivesText result (file_strings_view self.now).comments }
     {
         text_in(alloc, self.comments)
     }
@@ -322,7 +322,7 @@ impl<'a> StringFileInfo<'a> {
         &self,
         alloc: A,
     ) -> std::result::Result<Option<String<A>>, AllocError>
-        ensures { IfOk result (λ s. option_map string_bytes s ≡ text_in (file_strings_view self.now).company_name) }
+        ensures { GivesText result (file_strings_view self.now).company_name }
     {
         text_in(alloc, self.company_name)
     }
@@ -332,7 +332,7 @@ impl<'a> StringFileInfo<'a> {
         &self,
         alloc: A,
     ) -> std::result::Result<Option<String<A>>, AllocError>
-        ensures { IfOk result (λ s. option_map string_bytes s ≡ text_in (file_strings_view self.now).file_description) }
+        ensures { GivesText result (file_strings_view self.now).file_description }
     {
         text_in(alloc, self.file_description)
     }
@@ -342,7 +342,7 @@ impl<'a> StringFileInfo<'a> {
         &self,
         alloc: A,
     ) -> std::result::Result<Option<String<A>>, AllocError>
-        ensures { IfOk result (λ s. option_map string_bytes s ≡ text_in (file_strings_view self.now).file_version) }
+        ensures { GivesText result (file_strings_view self.now).file_version }
     {
         text_in(alloc, self.file_version)
     }
@@ -352,7 +352,7 @@ impl<'a> StringFileInfo<'a> {
         &self,
         alloc: A,
     ) -> std::result::Result<Option<String<A>>, AllocError>
-        ensures { IfOk result (λ s. option_map string_bytes s ≡ text_in (file_strings_view self.now).internal_name) }
+        ensures { GivesText result (file_strings_view self.now).internal_name }
     {
         text_in(alloc, self.internal_name)
     }
@@ -362,7 +362,7 @@ impl<'a> StringFileInfo<'a> {
         &self,
         alloc: A,
     ) -> std::result::Result<Option<String<A>>, AllocError>
-        ensures { IfOk result (λ s. option_map string_bytes s ≡ text_in (file_strings_view self.now).legal_copyright) }
+        ensures { GivesText result (file_strings_view self.now).legal_copyright }
     {
         text_in(alloc, self.legal_copyright)
     }
@@ -372,7 +372,7 @@ impl<'a> StringFileInfo<'a> {
         &self,
         alloc: A,
     ) -> std::result::Result<Option<String<A>>, AllocError>
-        ensures { IfOk result (λ s. option_map string_bytes s ≡ text_in (file_strings_view self.now).legal_trademarks) }
+        ensures { GivesText result (file_strings_view self.now).legal_trademarks }
     {
         text_in(alloc, self.legal_trademarks)
     }
@@ -382,7 +382,7 @@ impl<'a> StringFileInfo<'a> {
         &self,
         alloc: A,
     ) -> std::result::Result<Option<String<A>>, AllocError>
-        ensures { IfOk result (λ s. option_map string_bytes s ≡ text_in (file_strings_view self.now).original_filename) }
+        ensures { GivesText result (file_strings_view self.now).original_filename }
     {
         text_in(alloc, self.original_filename)
     }
@@ -392,7 +392,7 @@ impl<'a> StringFileInfo<'a> {
         &self,
         alloc: A,
     ) -> std::result::Result<Option<String<A>>, AllocError>
-        ensures { IfOk result (λ s. option_map string_bytes s ≡ text_in (file_strings_view self.now).private_build) }
+        ensures { GivesText result (file_strings_view self.now).private_build }
     {
         text_in(alloc, self.private_build)
     }
@@ -402,7 +402,7 @@ impl<'a> StringFileInfo<'a> {
         &self,
         alloc: A,
     ) -> std::result::Result<Option<String<A>>, AllocError>
-        ensures { IfOk result (λ s. option_map string_bytes s ≡ text_in (file_strings_view self.now).product_name) }
+        ensures { GivesText result (file_strings_view self.now).product_name }
     {
         text_in(alloc, self.product_name)
     }
@@ -412,7 +412,7 @@ impl<'a> StringFileInfo<'a> {
         &self,
         alloc: A,
     ) -> std::result::Result<Option<String<A>>, AllocError>
-        ensures { IfOk result (λ s. option_map string_bytes s ≡ text_in (file_strings_view self.now).product_version) }
+        ensures { GivesText result (file_strings_view self.now).product_version }
     {
         text_in(alloc, self.product_version)
     }
@@ -422,7 +422,7 @@ impl<'a> StringFileInfo<'a> {
         &self,
         alloc: A,
     ) -> std::result::Result<Option<String<A>>, AllocError>
-        ensures { IfOk result (λ s. option_map string_bytes s ≡ text_in (file_strings_view self.now).special_build) }
+        ensures { GivesText result (file_strings_view self.now).special_build }
     {
         text_in(alloc, self.special_build)
     }
