@@ -8,10 +8,10 @@ ghost use Rattle.pe_core.specs.Imports.{AreLibraries, entries, entry_at, import_
 ghost use Rattle.pe_core.specs.ImportSteps.{AreEntryNames, AreNames, StandInFront, entry_view, name_place};
 ghost use Rattle.pe_core.specs.Options.{default_options};
 ghost use Rattle.pe_core.specs.Records.{import_entry};
-ghost use Rattle.pe_core.specs.Refusals.{Gives, GivesUnlessMemory};
+ghost use Rattle.pe_core.specs.Refusals.{Gives, GivesUnlessMemory, GivesUnlessMemoryAfter};
 ghost use Rattle.pe_core.specs.Rows.{each};
 ghost use Rattle.pe_core.specs.SectionIndex.{place_or_end};
-ghost use Rattle.pe_core.specs.SectionMap.{place_of};
+ghost use Rattle.pe_core.specs.SectionMap.{mapped, place_of};
 ghost use Rattle.pe_core.specs.Text.{text_at, texts_of};
 ghost use Rattle.pe_core.specs.declared.error.Error.TheVariants.{Memory};
 
@@ -305,7 +305,8 @@ impl<'a, A: Allocator + Copy + Drop> ImportData<'a, A> {
         file_alignment: u32,
         is_64: bool,
     ) -> Result<ImportData<'a, A>>
-        ensures { GivesUnlessMemory import_data_view result (import_data_at (place_of default_options.resolve_rva file_alignment sections.now) (entry_size is_64) bytes.entry.now directory.virtual_address) }
+        ensures { GivesUnlessMemoryAfter (mapped (place_of default_options.resolve_rva file_alignment sections.now directory.virtual_address)) import_data_view result
+            (import_data_at (place_of default_options.resolve_rva file_alignment sections.now) (entry_size is_64) bytes.entry.now directory.virtual_address) }
     {
         ImportData::parse_with_opts(
             alloc,
@@ -318,8 +319,8 @@ impl<'a, A: Allocator + Copy + Drop> ImportData<'a, A> {
         )
     }
 
-    /// The import directory: the records from its place (`Unmapped`) on, 20 bytes each (`Short`), up to the one whose
-    /// name or address table has the address 0. Of each in turn the name is read (`Unmapped`, `ImportName`), then the
+    /// The import directory: the records from its place (`Unmapped`, before any request for memory) on, 20 bytes each
+    /// (`Short`), up to the one whose name or address table has the address 0. Of each in turn the name is read (`Unmapped`, `ImportName`), then the
     /// entries of its lookup table, or where that has the address 0 of its address table, up to a zero one: none if the
     /// table has no place, `Short` if no zero entry ends it. The directory's size isn't used.
     pub fn parse_with_opts(
@@ -331,7 +332,8 @@ impl<'a, A: Allocator + Copy + Drop> ImportData<'a, A> {
         opts: &ParseOptions,
         is_64: bool,
     ) -> Result<ImportData<'a, A>>
-        ensures { GivesUnlessMemory import_data_view result (import_data_at (place_of opts.now.resolve_rva file_alignment sections.now) (entry_size is_64) bytes.entry.now directory.virtual_address) }
+        ensures { GivesUnlessMemoryAfter (mapped (place_of opts.now.resolve_rva file_alignment sections.now directory.virtual_address)) import_data_view result
+            (import_data_at (place_of opts.now.resolve_rva file_alignment sections.now) (entry_size is_64) bytes.entry.now directory.virtual_address) }
     {
         let place = mapped_place(directory.virtual_address, sections, file_alignment, opts)?;
         let index = SectionIndex::new(alloc, sections, file_alignment, opts)?;

@@ -63,7 +63,7 @@ fn may_cover(section: &SectionTable, low: u32) -> bool
 }
 
 /// Whether the section covers the address, by all tests. It stands apart so that the search passes a section that fails the
-/// cheap test in eight instructions.
+/// cheap test in nine instructions.
 #[cold]
 #[inline(never)]
 fn covers(section: &SectionTable, alignment: u32, address: usize) -> bool

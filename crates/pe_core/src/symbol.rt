@@ -147,7 +147,8 @@ impl<'a> Iterator for SymbolIterator<'a> {
 impl CoffHeader {
     ghost use Rattle.pe_core.specs.Symbols.{symbols_of, table_view};
 
-    /// The COFF symbols. `None` where their pointer is 0, `Short` where they are not all there.
+    /// The COFF symbols. `None` where their pointer is 0, `Short` where they are not all there. The rows are one read, so
+    /// a pointer past the end of the bytes is `Short` with 0 rows too.
     #[tactic(auto, unfolding(crate::specs::Symbols::symbols_of))]
     pub fn symbols<'a>(&self, bytes: &'a [u8]) -> Result<Option<SymbolTable<'a>>>
         ensures { Gives table_view result (symbols_of bytes.entry.now self.now) }

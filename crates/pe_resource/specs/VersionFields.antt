@@ -1,5 +1,5 @@
 -- Version numbers, fixed file information, and the strings of a file. (This project's profile.)
-use Rattle.std.specs.Prelude.{ℕ, ◌+◌, ◌*◌, ◌/◌, ◌%◌, ◌^◌, ◌<◌, ◌++◌, List, Option, Some, None, Result, Ok, codes}
+use Rattle.std.specs.Prelude.{◌≡◌, ℕ, ◌+◌, ◌*◌, ◌/◌, ◌%◌, ◌^◌, ◌<◌, ◌++◌, List, length, Option, Some, None, Result, Ok, Err, String, string_bytes, codes}
 use Rattle.std.specs.Fmt.{decimal}
 use Rattle.std.specs.Option.{option_map}
 use Rattle.pe_core.specs.Bytes.{le, record_at}
@@ -149,6 +149,16 @@ file_strings_view i = record {
 abbrev pub text_in : Option (List ℕ) → Option (List ℕ)
 text_in None = None
 text_in (Some v) = text v
+
+-- there is a value, of an even number of bytes, so it may be a text
+abbrev pub MayBeText : Option (List ℕ) → Type 0
+MayBeText None = ⊥
+MayBeText (Some v) = length v % 2 ≡ 0
+
+-- what making the text of a value answers, which asks for memory only where the value may be a text
+abbrev pub GivesText : {Y Z : Type 0} → Result (Option (String Z)) Y → Option (List ℕ) → Type 0
+GivesText (Ok s) value = option_map string_bytes s ≡ text_in value
+GivesText (Err e) value = MayBeText value
 
 -- ---- both together
 

@@ -17,7 +17,9 @@ use pe_core::{
 /// The bytes of a data entry.
 const SIZE_OF_DATA_ENTRY: usize = 16;
 
-/// A data entry, 16 bytes: which bytes of the file a resource has.
+/// A data entry, 16 bytes: which bytes of the file a resource has. No call returns one: `ResourceData::content_range`
+/// reads it and returns the range. It is here for callers that walk the directories themselves: its fields are the four
+/// numbers at `offset_to_data` of a leaf.
 #[derive(Clone, Copy, Debug, Default, PartialEq)]
 pub struct ResourceDataEntry {
     /// The relative virtual address of the bytes.

@@ -97,7 +97,8 @@ impl ImageResourceDirectory {
         RESOURCE_ENTRY_SIZE * usize::from(self.count())
     }
 
-    /// Its entries, which stand at the offset: `Short` unless all are there.
+    /// Its entries, which stand at the offset: `Short` unless all are there. They are one read, so an offset past the end
+    /// of the bytes is `Short` for a directory without entries too.
     pub fn next_iter<'a>(&self, offset: usize, bytes: &'a [u8]) -> Result<ResourceEntryIterator<'a>>
         ensures { Gives entries_left result (entries_at bytes.entry.now offset self.now) }
     {

@@ -1,15 +1,16 @@
 //! Strings of version information: a key, and a value that is a text or bytes.
 
-ghost use Rattle.std.specs.Prelude.{◌≡◌, ◌+◌, ◌-◌, ◌*◌, ◌/◌, ◌==◌, ◌<◌, ◌≤◌, ◌^◌, ◌↔◌, length, OnOk, IfOk, IfSome, IsTrue, Some, string_bytes, take};
+ghost use Rattle.std.specs.Prelude.{◌≡◌, ◌+◌, ◌-◌, ◌*◌, ◌/◌, ◌==◌, ◌<◌, ◌≤◌, ◌^◌, ◌↔◌, length, OnOk, IfOk, IfSome, IsTrue, Some, take};
 ghost use Rattle.std.specs.Iterator.{at_most};
 ghost use Rattle.std.specs.Option.{option_map};
 ghost use Rattle.pe_core.specs.Bytes.{le};
 ghost use Rattle.pe_core.specs.Places.{IsWithin};
 ghost use Rattle.pe_core.specs.Refusals.{Gives, kind_of};
-ghost use Rattle.pe_resource.specs.VersionStrings.{Parses, GivesString, VersionString, string_view, key_length, value_place, up_to_four, units, before_zero, text, is_name, IsPlain, rest_of, strings, read, all_read, value_of, value_range};
+ghost use Rattle.pe_resource.specs.VersionFields.{GivesText};
+ghost use Rattle.pe_resource.specs.VersionStrings.{Parses, GivesString, VersionString, string_view, key_length, value_place, units, before_zero, text, is_name, IsPlain, rest_of, strings, read, all_read, value_of, value_range};
 
 use crate::constants::RESOURCE_STRING_FIELD_ALIGNMENT;
-use pe_core::{ByteRange, Error, Reason, Result, number16, require_bytes};
+use pe_core::{ByteRange, Error, Reason, Result, number16, require_bytes, rounded_up};
 use std::alloc::{AllocError, Allocator};
 
 /// The type of a string whose value is bytes.
@@ -56,15 +57,6 @@ fn key_length(bytes: &[u8], place: usize) -> usize
     end - place
 }
 
-fn up_to_four(n: usize) -> usize
-    requires { n < 2 ^ 64 - 3 }
-    ensures up { result ≡ up_to_four n }
-    ensures least { n ≤ result }
-{
-    (n + (RESOURCE_STRING_FIELD_ALIGNMENT - 1)) / RESOURCE_STRING_FIELD_ALIGNMENT
-        * RESOURCE_STRING_FIELD_ALIGNMENT
-}
-
 impl<'a> ResourceString<'a> {
     /// The string at the offset, which then moves to the next one; `None` where the length is 0, 2 bytes further. After a
     /// refusal the offset is unchanged: `Short`; `ResourceString` where a text has more than 32,767 units, or where the
@@ -86,7 +78,8 @@ impl<'a> ResourceString<'a> {
         let value_len = number16(bytes, place + 2);
         let text_type = number16(bytes, place + 4);
         let key = key_length(bytes, place + SIZE_OF_HEAD);
-        let value_place = up_to_four(place + SIZE_OF_HEAD + key + SIZE_OF_UNIT);
+        let key_end = place + SIZE_OF_HEAD + key + SIZE_OF_UNIT;
+        let value_place = rounded_up(key_end, RESOURCE_STRING_FIELD_ALIGNMENT);
         let size = if text_type == TEXT {
             SIZE_OF_UNIT * usize::from(value_len)
         } else {
@@ -96,7 +89,7 @@ impl<'a> ResourceString<'a> {
         if too_long || bytes.len() < size || bytes.len() - size < value_place {
             return Err(Error::Malformed(Reason::ResourceString(place_in_refusal(place))));
         }
-        let longer = up_to_four(size);
+        let longer = rounded_up(size, RESOURCE_STRING_FIELD_ALIGNMENT);
         let size = if longer <= bytes.len() - value_place {
             longer
         } else {
@@ -131,7 +124,7 @@ impl<'a> ResourceString<'a> {
         &self,
         alloc: A,
     ) -> std::result::Result<Option<String<A>>, AllocError>
-        ensures { IfOk result (λ s. option_map string_bytes s ≡ text (string_view self.now).key) }
+        ensures { GivesText result (Some (string_view self.now).key) }
     {
         text_of(alloc, self.key)
     }
@@ -141,7 +134,7 @@ impl<'a> ResourceString<'a> {
         &self,
         alloc: A,
     ) -> std::result::Result<Option<String<A>>, AllocError>
-        ensures { IfOk result (λ s. option_map string_bytes s ≡ text self.now.value.now) }
+        ensures { GivesText result (Some self.now.value.now) }
     {
         text_of(alloc, self.value)
     }
@@ -189,7 +182,7 @@ pub(crate) fn text_of<A: Allocator + Copy + Drop>(
     alloc: A,
     bytes: &[u8],
 ) -> std::result::Result<Option<String<A>>, AllocError>
-    ensures { IfOk result (λ s. option_map string_bytes s ≡ text bytes.now) }
+    ensures { GivesText result (Some bytes.now) }
 {
     if bytes.len() % 2 == 1 {
         return Ok(None);

@@ -6,7 +6,7 @@ ghost use Rattle.pe_core.specs.Places.{IsWithin};
 ghost use Rattle.pe_core.specs.Refusals.{Gives, Memory, answer_by};
 ghost use Rattle.pe_resource.specs.Contents.{map_of, version_of_content, IsVersion};
 ghost use Rattle.pe_resource.specs.ResourceEntries.{entries_left};
-ghost use Rattle.pe_resource.specs.VersionFields.{version_of_halves, high_half, low_half, version_text, fixed_info_at, fixed_info_in, fixed_info_of, name_of, file_strings, file_strings_view, text_in, version_view, version_in, value_range_in};
+ghost use Rattle.pe_resource.specs.VersionFields.{version_of_halves, high_half, low_half, version_text, fixed_info_at, fixed_info_in, fixed_info_of, name_of, file_strings, file_strings_view, GivesText, version_view, version_in, value_range_in};
 ghost use Rattle.pe_resource.specs.VersionStrings.{strings, read, value_of, IsPlain};
 
 use crate::constants::{RT_VERSION, VS_FFI_SIGNATURE, VS_VERSION_INFO_KEY};
@@ -42,6 +42,19 @@ const PRODUCT_NAME: &str = "ProductName";
 const PRODUCT_VERSION: &str = "ProductVersion";
 
 const SPECIAL_BUILD: &str = "SpecialBuild";
+
+/// Four numbers in decimal digits, joined by dots.
+fn dotted<A: Allocator + Copy + Drop>(
+    alloc: A,
+    major: u16,
+    minor: u16,
+    build: u16,
+    revision: u16,
+) -> std::result::Result<String<A>, AllocError>
+    ensures { IfOk result (λ s. string_bytes s ≡ version_text record { major = major; minor = minor; build = build; revision = revision }) }
+{
+    format!(in alloc; "{major}.{minor}.{build}.{revision}")
+}
 
 /// A version in four parts. Versions are ordered by the first part that differs.
 #[derive(Clone, Copy, Default, PartialEq, Eq, PartialOrd, Ord)]
@@ -86,8 +99,7 @@ impl VersionField {
     ) -> std::result::Result<String<A>, AllocError>
         ensures { IfOk result (λ s. string_bytes s ≡ version_text self.now) }
     {
-        let (major, minor, build, revision) = (self.major, self.minor, self.build, self.revision);
-        format!(in alloc; "{major}.{minor}.{build}.{revision}")
+        dotted(alloc, self.major, self.minor, self.build, self.revision)
     }
 }
 
@@ -266,7 +278,7 @@ fn text_in<A: Allocator + Copy + Drop>(
     alloc: A,
     value: Option<&[u8]>,
 ) -> std::result::Result<Option<String<A>>, AllocError>
-    ensures { IfOk result (λ s. option_map string_bytes s ≡ text_in (option_map (λ v. v.now) value.entry)) }
+    ensures { GivesText result (option_map (λ v. v.now) value.entry) }
 {
     match value {
         Some(bytes) => text_of(alloc, bytes),
@@ -300,7 +312,7 @@ impl<'a> StringFileInfo<'a> {
         &self,
         alloc: A,
     ) -> std::result::Result<Option<String<A>>, AllocError>
-        ensures { IfOk result (λ s. option_map string_bytes s ≡ text_in (file_strings_view self.now).comments) }
+        ensures { GivesText result (file_strings_view self.now).comments }
     {
         text_in(alloc, self.comments)
     }
@@ -310,7 +322,7 @@ impl<'a> StringFileInfo<'a> {
         &self,
         alloc: A,
     ) -> std::result::Result<Option<String<A>>, AllocError>
-        ensures { IfOk result (λ s. option_map string_bytes s ≡ text_in (file_strings_view self.now).company_name) }
+        ensures { GivesText result (file_strings_view self.now).company_name }
     {
         text_in(alloc, self.company_name)
     }
@@ -320,7 +332,7 @@ impl<'a> StringFileInfo<'a> {
         &self,
         alloc: A,
     ) -> std::result::Result<Option<String<A>>, AllocError>
-        ensures { IfOk result (λ s. option_map string_bytes s ≡ text_in (file_strings_view self.now).file_description) }
+        ensures { GivesText result (file_strings_view self.now).file_description }
     {
         text_in(alloc, self.file_description)
     }
@@ -330,7 +342,7 @@ impl<'a> StringFileInfo<'a> {
         &self,
         alloc: A,
     ) -> std::result::Result<Option<String<A>>, AllocError>
-        ensures { IfOk result (λ s. option_map string_bytes s ≡ text_in (file_strings_view self.now).file_version) }
+        ensures { GivesText result (file_strings_view self.now).file_version }
     {
         text_in(alloc, self.file_version)
     }
@@ -340,7 +352,7 @@ impl<'a> StringFileInfo<'a> {
         &self,
         alloc: A,
     ) -> std::result::Result<Option<String<A>>, AllocError>
-        ensures { IfOk result (λ s. option_map string_bytes s ≡ text_in (file_strings_view self.now).internal_name) }
+        ensures { GivesText result (file_strings_view self.now).internal_name }
     {
         text_in(alloc, self.internal_name)
     }
@@ -350,7 +362,7 @@ impl<'a> StringFileInfo<'a> {
         &self,
         alloc: A,
     ) -> std::result::Result<Option<String<A>>, AllocError>
-        ensures { IfOk result (λ s. option_map string_bytes s ≡ text_in (file_strings_view self.now).legal_copyright) }
+        ensures { GivesText result (file_strings_view self.now).legal_copyright }
     {
         text_in(alloc, self.legal_copyright)
     }
@@ -360,7 +372,7 @@ impl<'a> StringFileInfo<'a> {
         &self,
         alloc: A,
     ) -> std::result::Result<Option<String<A>>, AllocError>
-        ensures { IfOk result (λ s. option_map string_bytes s ≡ text_in (file_strings_view self.now).legal_trademarks) }
+        ensures { GivesText result (file_strings_view self.now).legal_trademarks }
     {
         text_in(alloc, self.legal_trademarks)
     }
@@ -370,7 +382,7 @@ impl<'a> StringFileInfo<'a> {
         &self,
         alloc: A,
     ) -> std::result::Result<Option<String<A>>, AllocError>
-        ensures { IfOk result (λ s. option_map string_bytes s ≡ text_in (file_strings_view self.now).original_filename) }
+        ensures { GivesText result (file_strings_view self.now).original_filename }
     {
         text_in(alloc, self.original_filename)
     }
@@ -380,7 +392,7 @@ impl<'a> StringFileInfo<'a> {
         &self,
         alloc: A,
     ) -> std::result::Result<Option<String<A>>, AllocError>
-        ensures { IfOk result (λ s. option_map string_bytes s ≡ text_in (file_strings_view self.now).private_build) }
+        ensures { GivesText result (file_strings_view self.now).private_build }
     {
         text_in(alloc, self.private_build)
     }
@@ -390,7 +402,7 @@ impl<'a> StringFileInfo<'a> {
         &self,
         alloc: A,
     ) -> std::result::Result<Option<String<A>>, AllocError>
-        ensures { IfOk result (λ s. option_map string_bytes s ≡ text_in (file_strings_view self.now).product_name) }
+        ensures { GivesText result (file_strings_view self.now).product_name }
     {
         text_in(alloc, self.product_name)
     }
@@ -400,7 +412,7 @@ impl<'a> StringFileInfo<'a> {
         &self,
         alloc: A,
     ) -> std::result::Result<Option<String<A>>, AllocError>
-        ensures { IfOk result (λ s. option_map string_bytes s ≡ text_in (file_strings_view self.now).product_version) }
+        ensures { GivesText result (file_strings_view self.now).product_version }
     {
         text_in(alloc, self.product_version)
     }
@@ -410,7 +422,7 @@ impl<'a> StringFileInfo<'a> {
         &self,
         alloc: A,
     ) -> std::result::Result<Option<String<A>>, AllocError>
-        ensures { IfOk result (λ s. option_map string_bytes s ≡ text_in (file_strings_view self.now).special_build) }
+        ensures { GivesText result (file_strings_view self.now).special_build }
     {
         text_in(alloc, self.special_build)
     }
