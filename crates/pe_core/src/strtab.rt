@@ -133,7 +133,8 @@ impl CoffHeader {
     ghost use Rattle.pe_core.specs.Strings.{strings_of, strings_view};
 
     /// The string table behind the COFF symbols. `None` where the pointer to the symbols is 0, or the file ends behind
-    /// them. `Short` where the symbols are not all there, `StringTable` where the table isn't. A size below 4 is read as 4.
+    /// them. `Short` where the symbols are not all there, as `symbols` is refused, `StringTable` where the table isn't. A size
+    /// below 4 is read as 4.
     #[tactic(auto, unfolding(crate::specs::Strings::strings_of))]
     pub fn strings<'a>(&self, bytes: &'a [u8]) -> Result<Option<Strtab<'a>>>
         ensures { Gives strings_view result (strings_of bytes.entry.now self.now) }
