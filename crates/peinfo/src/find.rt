@@ -14,7 +14,7 @@ use std::alloc::{AllocError, Allocator};
 use std::io;
 
 /// The function that covers the address, if x64 exception data have one.
-#[tactic(auto, using(crate::proofs::FindTexts::nothing_found, crate::proofs::FindTexts::nothing_halved))]
+#[tactic(auto, using(crate::proofs::FindTexts::nothing_found))]
 pub fn found_in(
     machine: u16,
     exceptions: &Option<ExceptionData>,
