@@ -6,7 +6,7 @@ use Rattle.pe_core.specs.declared.options.ParseOptions.{ParseOptions}
 use Rattle.pe_core.specs.declared.section_table.SectionTable.{SectionTable}
 use Rattle.pe_unwind.specs.declared.function_table.RuntimeFunction.{RuntimeFunction}
 use Rattle.pe_unwind.specs.ExceptionTable.{ExceptionView, table_of}
-use Rattle.pe_unwind.specs.FunctionTable.{Finds, NeverFalls, functions, scan}
+use Rattle.pe_unwind.specs.FunctionTable.{NeverFalls, functions, scan}
 use Rattle.pe_unwind.specs.Links.{Table, links_of}
 use Rattle.pe_unwind.specs.UnwindRecord.{UnwindInfoView}
 use Rattle.pe_plan.specs.Plans.{EndsAtRoot, IsChain, Plans, PlansFrom, PlansFound}
@@ -45,20 +45,14 @@ found_plan_ends_at_root v sections opts a is p = found (links_of v sections opts
 
 -- ---- no plan
 
-none_at : (t : Table) (b : List ℕ) (o : Option RuntimeFunction) (x : Result (Option (List UnwindInfoView)) Refusal) → PlansFound t b o x → (x ≡ Ok None) ↔ (o ≡ None)
-none_at t b None x p = (λ e. refl, λ e. p)
-none_at t b (Some f) (Ok None) p = absurd p
-none_at t b (Some f) (Ok (Some is)) p = (λ e. cc, λ e. cc)
-none_at t b (Some f) (Err k) p = (λ e. cc, λ e. cc)
+none_found : (t : Table) (b : List ℕ) (o : Option RuntimeFunction) (x : Result (Option (List UnwindInfoView)) Refusal) → PlansFound t b o x → (x ≡ Ok None) ↔ (o ≡ None)
+none_found t b None x p = (λ e. refl, λ e. p)
+none_found t b (Some f) (Ok None) p = absurd p
+none_found t b (Some f) (Ok (Some is)) p = (λ e. cc, λ e. cc)
+none_found t b (Some f) (Err k) p = (λ e. cc, λ e. cc)
 
 pub none_scanned : (v : ExceptionView) (sections : List SectionTable) (opts : ParseOptions) (a : ℕ) (x : Result (Option (List UnwindInfoView)) Refusal) → Plans v sections opts a x → NeverFalls (functions (table_of v)) → (x ≡ Ok None) ↔ (scan (functions (table_of v)) a ≡ None)
 none_scanned v sections opts a x p sorted =
-    let exact = none_at (links_of v sections opts) v.content p.found x p.plan in
+    let exact = none_found (links_of v sections opts) v.content p.found x p.plan in
     let same : p.found ≡ scan (functions (table_of v)) a = p.finds.scanned sorted in
-    (λ e. sym same ∙ exact.0 e, λ e. exact.1 (same ∙ e))
-
-pub none_found : (v : ExceptionView) (sections : List SectionTable) (opts : ParseOptions) (a : ℕ) (f : Option RuntimeFunction) (x : Result (Option (List UnwindInfoView)) Refusal) → Plans v sections opts a x → Finds (functions (table_of v)) a f → (x ≡ Ok None) ↔ (f ≡ None)
-none_found v sections opts a f x p finds =
-    let exact = none_at (links_of v sections opts) v.content p.found x p.plan in
-    let same : p.found ≡ f = p.finds.halved ∙ sym finds.halved in
     (λ e. sym same ∙ exact.0 e, λ e. exact.1 (same ∙ e))

@@ -7,7 +7,7 @@ ghost use Rattle.pe_unwind.specs.declared.function_table.RuntimeFunction.{Runtim
 ghost use Rattle.pe_core.specs.declared.options.ParseOptions.{ParseOptions};
 ghost use Rattle.pe_core.specs.declared.section_table.SectionTable.{SectionTable};
 ghost use Rattle.pe_unwind.specs.ExceptionTable.{ExceptionView, table_of};
-ghost use Rattle.pe_unwind.specs.FunctionTable.{Finds, NeverFalls, functions, scan};
+ghost use Rattle.pe_unwind.specs.FunctionTable.{NeverFalls, functions, scan};
 ghost use Rattle.pe_unwind.specs.Links.{Table};
 ghost use Rattle.pe_unwind.specs.UnwindRecord.{UnwindInfoView};
 ghost use Rattle.pe_plan.specs.Plans.{EndsAtRoot, NeverEnds, Plans, PlansFrom};
@@ -20,13 +20,11 @@ pub fn plans_end_at_their_root()
         Plans v sections opts a (Ok (Some is)) → EndsAtRoot is }
 {}
 
-/// An address of code has no plan exactly where lookup finds no function: `UnwindPlan::of` is `None` where `find_function` is,
-/// on every table. In a table sorted by start RVA that is where the scan finds none.
-#[tactic(auto, using(crate::proofs::Roots::none_found, crate::proofs::Roots::none_scanned))]
+/// An address of code has no plan exactly where no function was found: in a table sorted by start RVA, where the scan
+/// finds none.
+#[tactic(auto, using(crate::proofs::Roots::none_scanned))]
 pub fn no_plan_without_a_function()
-    ensures found { (v : ExceptionView) (sections : List SectionTable) (opts : ParseOptions) (a : ℕ) (f : Option RuntimeFunction) (x : Result (Option (List UnwindInfoView)) Refusal) →
-        Plans v sections opts a x → Finds (functions (table_of v)) a f → ((x ≡ Ok None) ↔ (f ≡ None)) }
-    ensures scanned { (v : ExceptionView) (sections : List SectionTable) (opts : ParseOptions) (a : ℕ) (x : Result (Option (List UnwindInfoView)) Refusal) →
+    ensures { (v : ExceptionView) (sections : List SectionTable) (opts : ParseOptions) (a : ℕ) (x : Result (Option (List UnwindInfoView)) Refusal) →
         Plans v sections opts a x → NeverFalls (functions (table_of v)) → ((x ≡ Ok None) ↔ (scan (functions (table_of v)) a ≡ None)) }
 {}
 

@@ -1,5 +1,5 @@
 -- What the search by halves keeps.
-use Rattle.std.proofs.Common.{◌≡◌, ℕ, zero, suc, ◌+◌, ◌-◌, ◌*◌, ◌/◌, ◌<◌, ◌≤◌, Bool, true, false, List, [], ◌∷◌, ◌++◌, length, get_or, take, Option, Some, None, filter, refl, ap, sym, ◌∙◌, subst, ⊎_elim, ◌^◌, leb, ltb, arith, IfSome, Contains}
+use Rattle.std.proofs.Common.{◌≡◌, ℕ, zero, suc, ◌+◌, ◌*◌, ◌/◌, ◌<◌, ◌≤◌, Bool, true, false, List, [], ◌∷◌, ◌++◌, length, get_or, take, Option, Some, None, filter, refl, ap, sym, ◌∙◌, subst, ⊎_elim, ◌^◌, leb, arith, IfSome, Contains}
 use Rattle.std.specs.List.{last_or}
 use Rattle.std.specs.Int.Digits.{digits_of}
 use Rattle.std.proofs.lemmas.Int.Digits.{length-digits_of_step, length-digits_of-le, number_lt, number_digits_of, all_below_base_digits_of}
@@ -11,7 +11,7 @@ use Rattle.std.proofs.lemmas.Bool.Decides.{nat_tests}
 use Rattle.pe_core.proofs.TableEntries.{length-whole_entries, get_or-whole_entries}
 use Rattle.pe_core.specs.CountedTable.{one_more}
 use Rattle.pe_unwind.specs.declared.function_table.RuntimeFunction.{RuntimeFunction}
-use Rattle.pe_unwind.specs.FunctionTable.{function_at, functions, NeverFalls, scan, if_before_end, digits, no_entry, halves, search_by_halves, Finds}
+use Rattle.pe_unwind.specs.FunctionTable.{function_at, functions, NeverFalls, scan, if_before_end, digits, Finds}
 
 pub length_functions : (b : List ℕ) → length (functions b) ≡ length b / 12
 unfolding functions
@@ -48,61 +48,6 @@ pub digits-le : (m n : ℕ) → m ≤ n → digits m ≤ digits n
 unfolding digits
 digits-le m n h = length-digits_of-le 2 (digits n) m (omega arith) (omega (arith, lt-digits n))
 
--- ---- a search by halves
-
-halves_over : (fs : List RuntimeFunction) (a n low high : ℕ) (last : Option RuntimeFunction) → high ≤ low → halves fs a n low high last ≡ last
-unfolding halves
-halves_over fs a zero low high last over = refl
-halves_over fs a (suc n) low high last over = let test : ltb low high ≡ false = grind (arith, nat_tests) in rw test refl
-
-halves_up : (fs : List RuntimeFunction) (a n low high : ℕ) (last : Option RuntimeFunction) (m : ℕ) (f : RuntimeFunction) → low < high → m ≡ low + (high - low) / 2 → get_or fs m no_entry ≡ f → f.begin_address ≤ a → halves fs a (suc n) low high last ≡ halves fs a n (m + 1) high (Some f)
-unfolding halves
-halves_up fs a n low high last m f some middle is passes =
-    let test : ltb low high ≡ true = grind (arith, nat_tests) in
-    let at : leb f.begin_address a ≡ true = grind (arith, nat_tests) in
-    rw test (rw (sym middle) (rw is (rw at refl)))
-
-halves_down : (fs : List RuntimeFunction) (a n low high : ℕ) (last : Option RuntimeFunction) (m : ℕ) (f : RuntimeFunction) → low < high → m ≡ low + (high - low) / 2 → get_or fs m no_entry ≡ f → a < f.begin_address → halves fs a (suc n) low high last ≡ halves fs a n low m last
-unfolding halves
-halves_down fs a n low high last m f some middle is behind =
-    let test : ltb low high ≡ true = grind (arith, nat_tests) in
-    let at : leb f.begin_address a ≡ false = grind (arith, nat_tests) in
-    rw test (rw (sym middle) (rw is (rw at refl)))
-
--- the search of all entries goes on from here, and there are steps enough
-pub record Halves (b : List ℕ) (a low high : ℕ) (found : Option RuntimeFunction) : Type 0 where
-  pub steps : ℕ
-  pub enough : high - low ≤ steps
-  pub same : halves (functions b) a steps low high found ≡ halves (functions b) a (length (functions b)) 0 (length (functions b)) None
-
-halves_start : (b : List ℕ) (a : ℕ) → Halves b a 0 (length b / 12) None
-halves_start b a = record {
-  steps = length (functions b);
-  enough = omega (arith, length_functions b);
-  same = ap (λ (n : ℕ). halves (functions b) a (length (functions b)) 0 n None) (sym (length_functions b));
-}
-
-up_by : (b : List ℕ) (a low high : ℕ) (found : Option RuntimeFunction) (m n : ℕ) → high - low ≤ n → halves (functions b) a n low high found ≡ halves (functions b) a (length (functions b)) 0 (length (functions b)) None → low ≤ m → m < high → m < length b / 12 → m ≡ low + (high - low) / 2 → (function_at b (12 * m)).begin_address ≤ a → Halves b a (m + 1) high (Some (function_at b (12 * m)))
-up_by b a low high found m zero enough same from to inside middle passes = absurd (omega arith)
-up_by b a low high found m (suc n) enough same from to inside middle passes = record {
-  steps = n;
-  enough = omega arith;
-  same = sym (halves_up (functions b) a n low high found m (function_at b (12 * m)) (omega arith) middle (get_or-functions b m no_entry inside) passes) ∙ same;
-}
-
-down_by : (b : List ℕ) (a low high : ℕ) (found : Option RuntimeFunction) (m n : ℕ) → high - low ≤ n → halves (functions b) a n low high found ≡ halves (functions b) a (length (functions b)) 0 (length (functions b)) None → low ≤ m → m < high → m < length b / 12 → m ≡ low + (high - low) / 2 → a < (function_at b (12 * m)).begin_address → Halves b a low m found
-down_by b a low high found m zero enough same from to inside middle behind = absurd (omega arith)
-down_by b a low high found m (suc n) enough same from to inside middle behind = record {
-  steps = n;
-  enough = omega arith;
-  same = sym (halves_down (functions b) a n low high found m (function_at b (12 * m)) (omega arith) middle (get_or-functions b m no_entry inside) behind) ∙ same;
-}
-
-halves_end : (b : List ℕ) (a low high : ℕ) (found : Option RuntimeFunction) → Halves b a low high found → high ≤ low → if_before_end a found ≡ search_by_halves (functions b) a
-unfolding search_by_halves
-halves_end b a low high found h over =
-    ap (if_before_end a) (sym (halves_over (functions b) a h.steps low high found over) ∙ h.same)
-
 pub record SearchesAt (b : List ℕ) (a low high : ℕ) (found : Option RuntimeFunction) : Type 0 where
   pub ordered : low ≤ high
   pub within : high ≤ length b / 12
@@ -111,7 +56,6 @@ pub record SearchesAt (b : List ℕ) (a low high : ℕ) (found : Option RuntimeF
   pub member : IfSome found (Contains (functions b))
   pub below : NeverFalls (functions b) → (k : ℕ) → k < low → (function_at b (12 * k)).begin_address ≤ a
   pub above : NeverFalls (functions b) → (k : ℕ) → high ≤ k → k < length b / 12 → a < (function_at b (12 * k)).begin_address
-  pub halving : Halves b a low high found
 
 -- begins never fall, said of the bytes
 pub begins-le : (b : List ℕ) → NeverFalls (functions b) → (i j : ℕ) → i ≤ j → j < length b / 12 → (function_at b (12 * i)).begin_address ≤ (function_at b (12 * j)).begin_address
@@ -133,12 +77,11 @@ starts b a = record {
   member = tt;
   below = λ o k h. absurd (omega arith);
   above = λ o k h l. absurd (omega arith);
-  halving = halves_start b a;
 }
 
 -- the middle begins at or before the address
-pub goes_up : (b : List ℕ) (a low high : ℕ) (found : Option RuntimeFunction) (m : ℕ) → SearchesAt b a low high found → low ≤ m → m < high → m ≡ low + (high - low) / 2 → (function_at b (12 * m)).begin_address ≤ a → SearchesAt b a (m + 1) high (Some (function_at b (12 * m)))
-goes_up b a low high found m s from to middle passes =
+pub goes_up : (b : List ℕ) (a low high : ℕ) (found : Option RuntimeFunction) (m : ℕ) → SearchesAt b a low high found → low ≤ m → m < high → (function_at b (12 * m)).begin_address ≤ a → SearchesAt b a (m + 1) high (Some (function_at b (12 * m)))
+goes_up b a low high found m s from to passes =
     let d : RuntimeFunction = function_at b 0 in
     let inside : m < length b / 12 = omega (arith, s.within) in
     let here : m < length (functions b) = omega (arith, length_functions b) in
@@ -151,12 +94,11 @@ goes_up b a low high found m s from to middle passes =
       member = rw (← at) (Contains-get_or (functions b) m d here);
       below = λ o k h. omega (arith, passes, begins-le b o k m (omega arith) inside);
       above = s.above;
-      halving = up_by b a low high found m s.halving.steps s.halving.enough s.halving.same from to inside middle passes;
     }
 
 -- the middle begins behind the address
-pub goes_down : (b : List ℕ) (a low high : ℕ) (found : Option RuntimeFunction) (m : ℕ) → SearchesAt b a low high found → low ≤ m → m < high → m ≡ low + (high - low) / 2 → a < (function_at b (12 * m)).begin_address → SearchesAt b a low m found
-goes_down b a low high found m s from to middle behind = record {
+pub goes_down : (b : List ℕ) (a low high : ℕ) (found : Option RuntimeFunction) (m : ℕ) → SearchesAt b a low high found → low ≤ m → m < high → a < (function_at b (12 * m)).begin_address → SearchesAt b a low m found
+goes_down b a low high found m s from to behind = record {
   ordered = from;
   within = omega (arith, s.within);
   last = s.last;
@@ -164,7 +106,6 @@ goes_down b a low high found m s from to middle behind = record {
   member = s.member;
   below = s.below;
   above = λ o k h l. omega (arith, behind, begins-le b o m k h l);
-  halving = down_by b a low high found m s.halving.steps s.halving.enough s.halving.same from to (omega (arith, s.within)) middle behind;
 }
 
 pub ends : (b : List ℕ) (a low high : ℕ) (found : Option RuntimeFunction) → SearchesAt b a low high found → high ≤ low → NeverFalls (functions b) → if_before_end a found ≡ scan (functions b) a
@@ -181,15 +122,15 @@ pub digits-halved : (n k : ℕ) → 0 < n → k ≤ n / 2 → digits k + 1 ≤ d
 digits-halved n k h l = omega (arith, digits-half n h, digits-le k (n / 2) l)
 
 -- the function that was read, which begins at or before the address
-pub step_up : (b c : List ℕ) (a low high : ℕ) (found : Option RuntimeFunction) (m : ℕ) (f : RuntimeFunction) → SearchesAt b a low high found → c ≡ b → f ≡ function_at c (12 * m) → low ≤ m → m < high → m ≡ low + (high - low) / 2 → f.begin_address ≤ a → SearchesAt b a (m + 1) high (Some f)
-step_up b c a low high found m f s same is from to middle passes =
+pub step_up : (b c : List ℕ) (a low high : ℕ) (found : Option RuntimeFunction) (m : ℕ) (f : RuntimeFunction) → SearchesAt b a low high found → c ≡ b → f ≡ function_at c (12 * m) → low ≤ m → m < high → f.begin_address ≤ a → SearchesAt b a (m + 1) high (Some f)
+step_up b c a low high found m f s same is from to passes =
     let e : f ≡ function_at b (12 * m) = is ∙ ap (λ (x : List ℕ). function_at x (12 * m)) same in
-    rw e (goes_up b a low high found m s from to middle (rw e at passes))
+    rw e (goes_up b a low high found m s from to (rw e at passes))
 
-pub step_down : (b c : List ℕ) (a low high : ℕ) (found : Option RuntimeFunction) (m : ℕ) (f : RuntimeFunction) → SearchesAt b a low high found → c ≡ b → f ≡ function_at c (12 * m) → low ≤ m → m < high → m ≡ low + (high - low) / 2 → a < f.begin_address → SearchesAt b a low m found
-step_down b c a low high found m f s same is from to middle behind =
+pub step_down : (b c : List ℕ) (a low high : ℕ) (found : Option RuntimeFunction) (m : ℕ) (f : RuntimeFunction) → SearchesAt b a low high found → c ≡ b → f ≡ function_at c (12 * m) → low ≤ m → m < high → a < f.begin_address → SearchesAt b a low m found
+step_down b c a low high found m f s same is from to behind =
     let e : f ≡ function_at b (12 * m) = is ∙ ap (λ (x : List ℕ). function_at x (12 * m)) same in
-    goes_down b a low high found m s from to middle (rw e at behind)
+    goes_down b a low high found m s from to (rw e at behind)
 
 pub le-one_more : (n : ℕ) → n ≤ one_more n
 le-one_more n = grind (arith, nat_tests)
@@ -211,7 +152,6 @@ finds_inside b a low high found f s over is h =
       entry = at_f.member;
       covers = (at_f.begins, h);
       scanned = λ o. sym (before_end-inside a found f is h) ∙ ends b a low high found s over o;
-      halved = sym (before_end-inside a found f is h) ∙ halves_end b a low high found s.halving over;
     }
 
 pub finds_past : (b : List ℕ) (a low high : ℕ) (found : Option RuntimeFunction) (f : RuntimeFunction) → SearchesAt b a low high found → high ≤ low → found ≡ Some f → f.end_address ≤ a → Finds (functions b) a None
@@ -219,7 +159,6 @@ finds_past b a low high found f s over is h = record {
   entry = tt;
   covers = tt;
   scanned = λ o. sym (before_end-past a found f is h) ∙ ends b a low high found s over o;
-  halved = sym (before_end-past a found f is h) ∙ halves_end b a low high found s.halving over;
 }
 
 pub finds_none : (b : List ℕ) (a low high : ℕ) (found : Option RuntimeFunction) → SearchesAt b a low high found → high ≤ low → found ≡ None → Finds (functions b) a None
@@ -227,9 +166,4 @@ finds_none b a low high found s over is = record {
   entry = tt;
   covers = tt;
   scanned = λ o. ap (if_before_end a) (sym is) ∙ ends b a low high found s over o;
-  halved = ap (if_before_end a) (sym is) ∙ halves_end b a low high found s.halving over;
 }
-
--- lookup has one answer
-pub one_lookup : (fs : List RuntimeFunction) (a : ℕ) (x y : Option RuntimeFunction) → Finds fs a x → Finds fs a y → x ≡ y
-one_lookup fs a x y f g = f.halved ∙ sym g.halved

@@ -1,5 +1,5 @@
 -- The function table, and what a lookup in it gives. (x64 exception handling: function table.)
-use Rattle.std.specs.Prelude.{◌≡◌, ℕ, zero, suc, ◌+◌, ◌-◌, ◌/◌, ◌<◌, ◌≤◌, List, Option, Some, None, Result, Ok, Err, if◌then◌else◌, nat_le, nat_lt, filter, get_or, length, AllPairs, Contains, IfSome}
+use Rattle.std.specs.Prelude.{◌≡◌, ℕ, ◌+◌, ◌<◌, ◌≤◌, List, Option, Some, None, Result, Ok, Err, if◌then◌else◌, nat_le, nat_lt, filter, length, AllPairs, Contains, IfSome}
 use Rattle.std.specs.List.{last_or, AllAdjacentBelow}
 use Rattle.std.specs.Int.Digits.{digits_of}
 use Rattle.pe_core.specs.Bytes.{le}
@@ -55,32 +55,11 @@ if_before_end a (Some f) = if nat_lt a f.end_address then Some f else None
 unfoldable pub scan : List RuntimeFunction → ℕ → Option RuntimeFunction
 scan fs a = if_before_end a (last_or None (filter (λ f. nat_le f.begin_address a) fs))
 
--- an entry of zeros, which stands for an entry past the end
-abbrev pub no_entry : RuntimeFunction
-no_entry = record { begin_address = 0; end_address = 0; unwind_info_address = 0 }
-
--- a search by halves of the entries from low up to high, with the last entry so far that begins at or before the address:
--- the middle one decides which half is searched on, n times at most
-unfoldable pub halves : List RuntimeFunction → ℕ → ℕ → ℕ → ℕ → Option RuntimeFunction → Option RuntimeFunction
-halves fs a zero low high last = last
-halves fs a (suc n) low high last =
-    if nat_lt low high then
-    (if nat_le (get_or fs (low + (high - low) / 2) no_entry).begin_address a
-    then halves fs a n (low + (high - low) / 2 + 1) high (Some (get_or fs (low + (high - low) / 2) no_entry))
-    else halves fs a n low (low + (high - low) / 2) last)
-    else last
-
--- what a search by halves of all entries comes to, if the address is before its end
-unfoldable pub search_by_halves : List RuntimeFunction → ℕ → Option RuntimeFunction
-search_by_halves fs a = if_before_end a (halves fs a (length fs) 0 (length fs) None)
-
--- what lookup gives: an entry that covers the address, or none; where begins never fall what the scan gives; on any other
--- table what a search by halves comes to, so that lookup has one answer
+-- what lookup gives: an entry that covers the address, or none; where begins never fall what the scan gives
 pub record Finds (fs : List RuntimeFunction) (a : ℕ) (found : Option RuntimeFunction) : Type 0 where
   pub entry : IfSome found (Contains fs)
   pub covers : IfSome found (Covers a)
   pub scanned : NeverFalls fs → found ≡ scan fs a
-  pub halved : found ≡ search_by_halves fs a
 
 -- how many binary digits a number has; 0 has none
 unfoldable pub digits : ℕ → ℕ

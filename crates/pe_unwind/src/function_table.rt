@@ -118,7 +118,7 @@ fn next_function(table: &mut CountedTable, place: usize) -> RuntimeFunction
 /// The entry that covers an address. It reads at most as many entries as their number has binary digits.
 ///
 /// Where begins never fall it is the last entry that begins at or before the address, if that entry ends behind it. On
-/// any other table it is what a search by halves comes to: some entry that covers the address, or none.
+/// any other table it is some entry that covers the address, or none.
 #[tactic(auto, using(crate::proofs::Searches::length_functions))]
 pub fn search(table: &mut CountedTable, rva: u32) -> Option<RuntimeFunction>
     ensures found { Finds (functions table.old.content) rva result }

@@ -33,12 +33,6 @@ pub fn disjoint_functions()
         NeverFalls fs → NoEndPassesNext fs → Finds fs a found → (IsSome found ↔ Any (Covers a) fs) }
 {}
 
-/// Lookup has one answer on every table, sorted or not.
-#[tactic(auto, using(crate::proofs::Searches::one_lookup))]
-pub fn one_answer_of_lookup()
-    ensures { (fs : List RuntimeFunction) (a : ℕ) (x y : Option RuntimeFunction) → Finds fs a x → Finds fs a y → x ≡ y }
-{}
-
 /// The order of registers is that of their numbers, and its equality is theirs.
 pub fn registers_in_order()
     ensures order { (r s : Register) → ⟦<Register as Ord>⟧.cmp r s ≡ nat_cmp r.0 s.0 }

@@ -1,4 +1,4 @@
-use Rattle.std.proofs.Common.{refl, ℕ, ◌+◌, ◌-◌, ◌/◌, ◌≡◌, ◌∙◌, arith, ap}
+use Rattle.std.proofs.Common.{ℕ, ◌+◌, ◌-◌, ◌/◌, ◌≡◌, ◌∙◌, arith, ap}
 use Rattle.pe_core.specs.CountedTable.{Counted, one_more}
 use Rattle.pe_unwind.proofs.Searches.{step_up, step_down, digits-halved, le-one_more, one_more-le, finds_inside, finds_past, finds_none}
 use Rattle.pe_unwind.proofs.function_table.search.Goals as goal
@@ -10,7 +10,7 @@ loop-low-preserved-then-function-rva c =
     let count : read.new.table.count ≡ one_more c.loop-low.table.count = ap (λ (t : Counted). t.count) read.ensures.counts in
     record {
       kept = ap (λ (t : Counted). t.content) read.ensures.counts ∙ c.loop-low.invariant.kept;
-      searches = step_up _ _ _ _ _ _ m _ c.loop-low.invariant.searches c.loop-low.invariant.kept read.ensures.value (omega arith) (omega arith) refl c.if-function-rva.true;
+      searches = step_up _ _ _ _ _ _ m _ c.loop-low.invariant.searches c.loop-low.invariant.kept read.ensures.value (omega arith) (omega arith) c.if-function-rva.true;
       counted = omega (arith, count, le-one_more c.loop-low.table.count);
       cost = omega (arith, count, one_more-le c.loop-low.table.count, digits-halved (c.loop-low.high - c.loop-low.low) (c.loop-low.high - (m + 1)) (omega arith) (omega arith));
     }
@@ -22,7 +22,7 @@ loop-low-preserved c =
     let count : read.new.table.count ≡ one_more c.loop-low.table.count = ap (λ (t : Counted). t.count) read.ensures.counts in
     record {
       kept = ap (λ (t : Counted). t.content) read.ensures.counts ∙ c.loop-low.invariant.kept;
-      searches = step_down _ _ _ _ _ _ m _ c.loop-low.invariant.searches c.loop-low.invariant.kept read.ensures.value (omega arith) (omega arith) refl c.if-function-rva.false;
+      searches = step_down _ _ _ _ _ _ m _ c.loop-low.invariant.searches c.loop-low.invariant.kept read.ensures.value (omega arith) (omega arith) c.if-function-rva.false;
       counted = omega (arith, count, le-one_more c.loop-low.table.count);
       cost = omega (arith, count, one_more-le c.loop-low.table.count, digits-halved (c.loop-low.high - c.loop-low.low) (m - c.loop-low.low) (omega arith) (omega arith));
     }
