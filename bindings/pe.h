@@ -273,7 +273,7 @@ typedef struct {
     uint32_t handler;               /* an address, or 0 */
     pe_c_function chained;          /* its record goes on with this one */
     uint32_t is_chained;            /* 1 or 0 */
-    uint32_t frame_register_offset; /* how far the frame register is above the stack pointer, in bytes */
+    uint32_t frame_register_offset; /* bytes that the frame register was set above rsp: subtract them from it for saves */
     uint8_t size_of_prolog;         /* bytes */
     uint8_t handler_kind;           /* 0 none, 1 exceptions, 2 termination */
     uint8_t spare[6];
@@ -292,10 +292,11 @@ enum {
 };
 
 typedef struct {
-    uint8_t code_offset;            /* the place behind the instruction, from the start of the prolog */
+    uint8_t code_offset;            /* of the instruction's end, from the start of the prolog: it has run from there on */
     uint8_t operation;              /* PE_C_PUSH .. PE_C_NOOP */
     uint8_t operand;                /* 0 to 15 rax, rcx, rdx, rbx, rsp, rbp, rsi, rdi, r8 ..; 17 on xmm0 .. */
-    uint8_t from_frame;             /* 1 where value counts from the frame register, 0 from the stack pointer */
+    uint8_t from_frame;             /* 1: once PE_C_SET_FRAME has run, value counts from the frame register less
+                                       frame_register_offset; until then, and if this is 0, from rsp */
     uint32_t value;                 /* bytes */
 } pe_c_code;
 

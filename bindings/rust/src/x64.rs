@@ -64,7 +64,7 @@ pub enum Operation {
 /// An unwind code.
 #[derive(Clone, Copy, Debug, PartialEq, Eq, Hash)]
 pub struct Code {
-    /// The place behind the instruction, from the start of the prolog.
+    /// The offset of the instruction's end, in bytes from the start of the prolog: it has run from there on.
     pub code_offset: u8,
     /// What it did.
     pub operation: Operation,
