@@ -26,7 +26,7 @@ impl Register {
 pub enum Offset {
     /// From the stack pointer.
     Stack(u32),
-    /// From the frame register.
+    /// From the frame register less its offset, once [`Operation::SetFrame`] has run; until then from the stack pointer.
     Frame(u32),
 }
 
