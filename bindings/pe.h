@@ -44,47 +44,47 @@ extern "C" {
 
 /* ---- answers
  *
- * They keep their numbers for ever; new ones may come. pe_c_text has their texts. */
+ * They keep their numbers for ever; new ones may come. pe_c_text has their texts. tools/make_errors writes this list. */
 
 enum {
     PE_C_DONE = 0,
-    PE_C_MEMORY = 1,                /* no call answers it */
-    PE_C_SHORT = 2,                 /* the bytes end too early */
-    PE_C_BAD_MAGIC = 3,             /* the bytes begin no image */
-    PE_C_HEADER_POINTER = 4,        /* the DOS header points into itself; strict alone */
-    PE_C_IMPORT_NAME = 5,           /* the name of a library or an import has no end, or is not UTF-8 */
-    PE_C_STRING_TABLE = 6,          /* no call answers it */
-    PE_C_CERTIFICATE_REVISION = 7,
-    PE_C_CERTIFICATE_TYPE = 8,
-    PE_C_CERTIFICATE_SIZE = 9,      /* the bytes end before a certificate does */
-    PE_C_CERTIFICATE_TABLE = 10,    /* the bytes end before the certificate table does */
-    PE_C_UNMAPPED = 11,             /* an address has no place in the file */
-    PE_C_DEBUG_BOUNDS = 12,         /* the bytes end before the debug directory does; strict alone */
-    PE_C_DEBUG_SIZE = 13,           /* a debug record is too small for what it is; strict alone */
-    PE_C_DEBUG_DATA = 14,           /* the bytes end before a debug record does */
-    PE_C_POGO_SIZE = 15,            /* a POGO record has no room for entries */
-    PE_C_POGO_NAME = 16,            /* the name of a POGO entry has no end, or its padding is cut */
-    PE_C_EXCEPTION_SIZE = 17,       /* the exception directory is no whole number of entries */
-    PE_C_EXCEPTION_OFFSET = 18,     /* its place is no multiple of four */
-    PE_C_EXCEPTION_BOUNDS = 19,     /* the bytes end before it does */
-    PE_C_FUNCTION_INDEX = 20,       /* the table has no such entry */
-    PE_C_FUNCTION_LINK = 21,        /* a link leads to no entry of the table */
-    PE_C_FUNCTION_CYCLE = 22,       /* links, or chained records, never end */
-    PE_C_UNWIND_VERSION = 23,       /* an unwind record is of neither version 1 nor 2 */
-    PE_C_UNWIND_CODE = 24,          /* bytes begin with no unwind code */
-    PE_C_ARM64_VERSION = 25,        /* an ARM64 unwind record is not of version 0 */
-    PE_C_ARM64_STREAM = 26,         /* no ARM64 codes can be read from there */
-    PE_C_ARM64_CUT = 27,            /* an ARM64 code is cut */
-    PE_C_RESOURCE_BOUNDS = 28,      /* resource data pass the bytes that are to hold them */
-    PE_C_RESOURCE_CYCLE = 29,       /* a resource directory leads back to itself */
-    PE_C_RESOURCE_STRING = 30,      /* a version string has no value */
-    PE_C_TE_SIZE = 31,              /* no call answers it, nor those behind it up to 37 */
-    PE_C_NO_OPTIONAL_HEADER = 32,
-    PE_C_WRITE_ALIGNMENT = 33,
-    PE_C_WRITE_SYMBOLS = 34,
-    PE_C_WRITE_OVERLAP = 35,
-    PE_C_WRITE_SECTION = 36,
-    PE_C_WRITE_FIT = 37,
+    PE_C_MEMORY = 1,                /* out of memory; never returned */
+    PE_C_SHORT = 2,                 /* truncated */
+    PE_C_BAD_MAGIC = 3,             /* invalid magic number */
+    PE_C_HEADER_POINTER = 4,        /* PE header offset lies inside the DOS header; strict mode only */
+    PE_C_IMPORT_NAME = 5,           /* import name not NUL-terminated or not UTF-8 */
+    PE_C_STRING_TABLE = 6,          /* string table truncated, or string not NUL-terminated or not UTF-8; never returned */
+    PE_C_CERTIFICATE_REVISION = 7,  /* invalid certificate revision */
+    PE_C_CERTIFICATE_TYPE = 8,      /* invalid certificate type */
+    PE_C_CERTIFICATE_SIZE = 9,      /* certificate truncated */
+    PE_C_CERTIFICATE_TABLE = 10,    /* certificate table ends past the end of the file */
+    PE_C_UNMAPPED = 11,             /* RVA maps to no file offset */
+    PE_C_DEBUG_BOUNDS = 12,         /* debug directory ends past the end of the file; strict mode only */
+    PE_C_DEBUG_SIZE = 13,           /* debug record too small; strict mode only */
+    PE_C_DEBUG_DATA = 14,           /* debug record truncated */
+    PE_C_POGO_SIZE = 15,            /* POGO record has no entries */
+    PE_C_POGO_NAME = 16,            /* POGO entry truncated */
+    PE_C_EXCEPTION_SIZE = 17,       /* exception directory size is not a multiple of the entry size */
+    PE_C_EXCEPTION_OFFSET = 18,     /* exception directory is not aligned to 4 bytes */
+    PE_C_EXCEPTION_BOUNDS = 19,     /* exception directory ends past the end of the file */
+    PE_C_FUNCTION_INDEX = 20,       /* function index out of range */
+    PE_C_FUNCTION_LINK = 21,        /* link leads to no function entry */
+    PE_C_FUNCTION_CYCLE = 22,       /* loop in unwind links or chained records */
+    PE_C_UNWIND_VERSION = 23,       /* unknown unwind record version */
+    PE_C_UNWIND_CODE = 24,          /* invalid unwind code */
+    PE_C_ARM64_VERSION = 25,        /* unknown ARM64 unwind record version */
+    PE_C_ARM64_STREAM = 26,         /* invalid ARM64 unwind code stream */
+    PE_C_ARM64_CUT = 27,            /* ARM64 unwind code truncated */
+    PE_C_RESOURCE_BOUNDS = 28,      /* resource data ends past the bytes that hold it */
+    PE_C_RESOURCE_CYCLE = 29,       /* loop in the resource tree */
+    PE_C_RESOURCE_STRING = 30,      /* version string value missing, or its length above 32,767 */
+    PE_C_TE_SIZE = 31,              /* stripped size smaller than the TE header; never returned */
+    PE_C_NO_OPTIONAL_HEADER = 32,   /* image has no optional header; never returned */
+    PE_C_WRITE_ALIGNMENT = 33,      /* alignment cannot be written; never returned */
+    PE_C_WRITE_SYMBOLS = 34,        /* images with COFF symbols cannot be written; never returned */
+    PE_C_WRITE_OVERLAP = 35,        /* sections overlap in the file; never returned */
+    PE_C_WRITE_SECTION = 36,        /* section data is not in the source bytes; never returned */
+    PE_C_WRITE_FIT = 37,            /* write does not fit the buffer; never returned */
     PE_C_NOTHING = 100,             /* there is nothing of the kind, or the walk is at its end */
     PE_C_ROOM = 101                 /* the array is too small */
 };

@@ -54,64 +54,65 @@ macro_rules! errors {
     };
 }
 
+// Written by tools/make_errors.
 errors! {
-    /// Memory was refused: to [`Image::parse`] alone.
+    /// Out of memory. Only [`Image::parse`] returns it.
     MEMORY = 1;
-    /// The bytes end too early.
+    /// Truncated.
     SHORT = 2;
-    /// The bytes begin no image.
+    /// Invalid magic number.
     BAD_MAGIC = 3;
-    /// The DOS header points into itself.
+    /// PE header offset lies inside the DOS header.
     HEADER_POINTER = 4;
-    /// The name of a library or an import has no end, or is not UTF-8.
+    /// Import name not NUL-terminated or not UTF-8.
     IMPORT_NAME = 5;
-    /// The revision of a certificate is none.
+    /// Invalid certificate revision.
     CERTIFICATE_REVISION = 7;
-    /// The type of a certificate is none.
+    /// Invalid certificate type.
     CERTIFICATE_TYPE = 8;
-    /// The bytes end before a certificate does.
+    /// Certificate truncated.
     CERTIFICATE_SIZE = 9;
-    /// The bytes end before the certificate table does.
+    /// Certificate table ends past the end of the file.
     CERTIFICATE_TABLE = 10;
-    /// An address has no place in the file.
+    /// RVA maps to no file offset.
     UNMAPPED = 11;
-    /// The bytes end before the debug directory does.
+    /// Debug directory ends past the end of the file.
     DEBUG_BOUNDS = 12;
-    /// A debug record is too small for what it is.
+    /// Debug record too small.
     DEBUG_SIZE = 13;
-    /// The bytes end before a debug record does.
+    /// Debug record truncated.
     DEBUG_DATA = 14;
-    /// A POGO record has no room for entries.
+    /// POGO record has no entries.
     POGO_SIZE = 15;
-    /// The name of a POGO entry has no end.
+    /// POGO entry truncated.
     POGO_NAME = 16;
-    /// The exception directory is no whole number of entries.
+    /// Exception directory size is not a multiple of the entry size.
     EXCEPTION_SIZE = 17;
-    /// The place of the exception directory is no multiple of four.
+    /// Exception directory is not aligned to 4 bytes.
     EXCEPTION_OFFSET = 18;
-    /// The bytes end before the exception directory does.
+    /// Exception directory ends past the end of the file.
     EXCEPTION_BOUNDS = 19;
-    /// The table has no such entry.
+    /// Function index out of range.
     FUNCTION_INDEX = 20;
-    /// A link leads to no entry of the table.
+    /// Link leads to no function entry.
     FUNCTION_LINK = 21;
-    /// Links, or chained records, never end.
+    /// Loop in unwind links or chained records.
     FUNCTION_CYCLE = 22;
-    /// An unwind record is of no known version.
+    /// Unknown unwind record version.
     UNWIND_VERSION = 23;
-    /// Bytes begin with no unwind code.
+    /// Invalid unwind code.
     UNWIND_CODE = 24;
-    /// An ARM64 unwind record is of no known version.
+    /// Unknown ARM64 unwind record version.
     ARM64_VERSION = 25;
-    /// No ARM64 codes can be read from there.
+    /// Invalid ARM64 unwind code stream.
     ARM64_STREAM = 26;
-    /// An ARM64 code is cut.
+    /// ARM64 unwind code truncated.
     ARM64_CUT = 27;
-    /// Resource data pass the bytes that are to hold them.
+    /// Resource data ends past the bytes that hold it.
     RESOURCE_BOUNDS = 28;
-    /// A resource directory leads back to itself.
+    /// Loop in the resource tree.
     RESOURCE_CYCLE = 29;
-    /// A version string has no value.
+    /// Version string value missing, or its length above 32,767.
     RESOURCE_STRING = 30;
 }
 

@@ -1,4 +1,5 @@
 -- The texts of answers.
+-- Its list of errors is written by tools/make_errors.
 use Rattle.std.specs.Prelude.{ℕ, ◌==◌, List, [], ◌∷◌, slice_index_or, codes, if◌then◌else◌}
 
 -- the texts of 0 and of the refusals, in the order of their numbers

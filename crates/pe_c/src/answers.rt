@@ -16,7 +16,7 @@ pub const NOTHING: u32 = 100;
 /// The room that was handed in is too small.
 pub const ROOM: u32 = 101;
 
-/// The number of a reason.
+/// The number of a reason. `tools/make_errors` writes its arms.
 fn number_of_reason(reason: Reason) -> u32
     ensures { result ≡ number_of (kind_of_reason reason) }
 {

@@ -5,7 +5,7 @@ ghost use Rattle.pe_c.specs.Texts.{refusal_text, text_of};
 
 use crate::answers::{NOTHING, ROOM};
 
-/// What 0 or the number of a refusal says.
+/// What 0 or the number of a refusal says. `tools/make_errors` writes its arms.
 #[tactic(auto, unfolding(crate::specs::Texts::refusal_text))]
 fn refusal_text(number: u32) -> &'static str
     ensures { result.now ≡ refusal_text number }

@@ -1,4 +1,5 @@
 -- Equality of reasons.
+-- Its list of errors is written by tools/make_errors.
 use Rattle.std.proofs.Common.{◌≡◌, ◌↔◌, ℕ, Bool, false, nat_eq, IsTrue}
 use denote.Enum.Compared.{Each, by}
 use Rattle.pe_core.specs.contracts.error.Reason.{enum}

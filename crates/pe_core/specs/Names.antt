@@ -1,4 +1,5 @@
 -- The name of each kind of refusal, for logs and bindings.
+-- Its list of errors is written by tools/make_errors.
 use Rattle.std.specs.Prelude.{ℕ, List, codes}
 use Rattle.pe_core.specs.Refusals.{Refusal, Memory, Short, BadMagic, HeaderPointer, ImportName, StringTable, CertificateRevision, CertificateType, CertificateSize, CertificateTable, Unmapped, DebugBounds, DebugSize, DebugData, PogoSize, PogoName, ExceptionSize, ExceptionOffset, ExceptionBounds, FunctionIndex, FunctionLink, FunctionCycle, UnwindVersion, UnwindCode, Arm64Version, Arm64Stream, Arm64Cut, ResourceBounds, ResourceCycle, ResourceString, TeSize, NoOptionalHeader, WriteAlignment, WriteSymbols, WriteOverlap, WriteSection, WriteFit}
 

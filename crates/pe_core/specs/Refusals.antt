@@ -1,4 +1,5 @@
 -- What a refusal is about: its kind, without the numbers in it and without its text.
+-- Its list of errors is written by tools/make_errors.
 use Rattle.std.specs.Prelude.{◌≡◌, List, [], ◌∷◌, Bool, Result, Ok, Err, if◌then◌else◌}
 use Rattle.std.specs.Result.{IsOk}
 use Rattle.pe_core.specs.declared.error.Error.{Error}
@@ -46,40 +47,40 @@ pub data Refusal : Type 0 where
   WriteFit : Refusal
 
 abbrev pub kind_of_reason : Reason → Refusal
-kind_of_reason (reasons.HeaderPointer n) = HeaderPointer
-kind_of_reason (reasons.ImportName n) = ImportName
-kind_of_reason (reasons.StringTable n) = StringTable
-kind_of_reason (reasons.CertificateRevision n) = CertificateRevision
-kind_of_reason (reasons.CertificateType n) = CertificateType
-kind_of_reason (reasons.CertificateSize n) = CertificateSize
-kind_of_reason (reasons.CertificateTable n) = CertificateTable
-kind_of_reason (reasons.Unmapped n) = Unmapped
-kind_of_reason (reasons.DebugBounds n) = DebugBounds
-kind_of_reason (reasons.DebugSize n) = DebugSize
-kind_of_reason (reasons.DebugData n) = DebugData
-kind_of_reason (reasons.PogoSize n) = PogoSize
-kind_of_reason (reasons.PogoName place rest) = PogoName
-kind_of_reason (reasons.ExceptionSize n) = ExceptionSize
-kind_of_reason (reasons.ExceptionOffset n) = ExceptionOffset
-kind_of_reason (reasons.ExceptionBounds n) = ExceptionBounds
-kind_of_reason (reasons.FunctionIndex n) = FunctionIndex
-kind_of_reason (reasons.FunctionLink n) = FunctionLink
-kind_of_reason (reasons.FunctionCycle n) = FunctionCycle
-kind_of_reason (reasons.UnwindVersion n) = UnwindVersion
-kind_of_reason (reasons.UnwindCode n) = UnwindCode
-kind_of_reason (reasons.Arm64Version n) = Arm64Version
-kind_of_reason (reasons.Arm64Stream count start) = Arm64Stream
-kind_of_reason (reasons.Arm64Cut n) = Arm64Cut
-kind_of_reason (reasons.ResourceBounds n) = ResourceBounds
-kind_of_reason (reasons.ResourceCycle n) = ResourceCycle
-kind_of_reason (reasons.ResourceString n) = ResourceString
-kind_of_reason (reasons.TeSize n) = TeSize
+kind_of_reason (reasons.HeaderPointer pointer) = HeaderPointer
+kind_of_reason (reasons.ImportName rva) = ImportName
+kind_of_reason (reasons.StringTable offset) = StringTable
+kind_of_reason (reasons.CertificateRevision revision) = CertificateRevision
+kind_of_reason (reasons.CertificateType kind) = CertificateType
+kind_of_reason (reasons.CertificateSize length) = CertificateSize
+kind_of_reason (reasons.CertificateTable end) = CertificateTable
+kind_of_reason (reasons.Unmapped rva) = Unmapped
+kind_of_reason (reasons.DebugBounds end) = DebugBounds
+kind_of_reason (reasons.DebugSize size) = DebugSize
+kind_of_reason (reasons.DebugData size) = DebugData
+kind_of_reason (reasons.PogoSize size) = PogoSize
+kind_of_reason (reasons.PogoName place length) = PogoName
+kind_of_reason (reasons.ExceptionSize size) = ExceptionSize
+kind_of_reason (reasons.ExceptionOffset offset) = ExceptionOffset
+kind_of_reason (reasons.ExceptionBounds end) = ExceptionBounds
+kind_of_reason (reasons.FunctionIndex index) = FunctionIndex
+kind_of_reason (reasons.FunctionLink rva) = FunctionLink
+kind_of_reason (reasons.FunctionCycle steps) = FunctionCycle
+kind_of_reason (reasons.UnwindVersion version) = UnwindVersion
+kind_of_reason (reasons.UnwindCode code) = UnwindCode
+kind_of_reason (reasons.Arm64Version version) = Arm64Version
+kind_of_reason (reasons.Arm64Stream length start) = Arm64Stream
+kind_of_reason (reasons.Arm64Cut offset) = Arm64Cut
+kind_of_reason (reasons.ResourceBounds end) = ResourceBounds
+kind_of_reason (reasons.ResourceCycle offset) = ResourceCycle
+kind_of_reason (reasons.ResourceString offset) = ResourceString
+kind_of_reason (reasons.TeSize size) = TeSize
 kind_of_reason reasons.NoOptionalHeader = NoOptionalHeader
-kind_of_reason (reasons.WriteAlignment n) = WriteAlignment
-kind_of_reason (reasons.WriteSymbols n) = WriteSymbols
+kind_of_reason (reasons.WriteAlignment alignment) = WriteAlignment
+kind_of_reason (reasons.WriteSymbols offset) = WriteSymbols
 kind_of_reason (reasons.WriteOverlap first second) = WriteOverlap
-kind_of_reason (reasons.WriteSection n) = WriteSection
-kind_of_reason (reasons.WriteFit end count) = WriteFit
+kind_of_reason (reasons.WriteSection index) = WriteSection
+kind_of_reason (reasons.WriteFit end length) = WriteFit
 
 abbrev pub kind_of : Error → Refusal
 kind_of (errors.Malformed reason) = kind_of_reason reason

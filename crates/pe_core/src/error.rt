@@ -1,4 +1,5 @@
-//! Why bytes are refused.
+//! Why bytes are refused. The variants of `Reason`, their names and their texts are written by `tools/make_errors` from
+//! `tools/errors.toml`, as are all other lists of errors.
 
 ghost use Rattle.std.specs.Prelude.{◌≡◌};
 ghost use Rattle.pe_core.specs.declared.error.Error.TheVariants.{Memory};
@@ -8,14 +9,14 @@ use std::fmt;
 
 /// What is wrong with bytes that are long enough and carry the right magic.
 ///
-/// Places, addresses and magics are what the bytes say; sizes and counts are in bytes or entries.
+/// Offsets, RVAs and magic numbers are as the file has them; sizes and counts are in bytes or entries.
 #[derive(Clone, Copy, Debug, PartialEq)]
 pub enum Reason {
     /// The DOS header's pointer to the PE header, which is below 64.
     HeaderPointer(u32),
-    /// The relative virtual address of the name of a library or of an imported function.
+    /// The RVA of the name of a library or of an imported function.
     ImportName(u32),
-    /// The place in the string table, counted from its size field.
+    /// The offset in the string table, from its size field.
     StringTable(u32),
     /// The revision of a certificate.
     CertificateRevision(u16),
@@ -23,11 +24,11 @@ pub enum Reason {
     CertificateType(u16),
     /// The length that a certificate states.
     CertificateSize(u32),
-    /// The end of the certificate table.
+    /// The file offset at which the certificate table ends.
     CertificateTable(u64),
-    /// A relative virtual address that has no place in the file.
+    /// An RVA that maps to no file offset.
     Unmapped(u64),
-    /// The end of the debug directory.
+    /// The file offset at which the debug directory ends.
     DebugBounds(u64),
     /// The size of a debug record.
     DebugSize(u32),
@@ -39,31 +40,31 @@ pub enum Reason {
     PogoName { place: usize, length: usize },
     /// The size of the exception directory.
     ExceptionSize(u32),
-    /// The place of the exception directory, which is no multiple of four.
+    /// The file offset of the exception directory, which is not a multiple of four.
     ExceptionOffset(u64),
-    /// The end of the exception directory.
+    /// The file offset at which the exception directory ends.
     ExceptionBounds(u64),
     /// The index of a function.
     FunctionIndex(usize),
-    /// The address in a link from one function entry to another.
+    /// The RVA in a link from one function entry to another.
     FunctionLink(u32),
-    /// The links that were followed.
+    /// The links or chained records that were followed.
     FunctionCycle(usize),
     /// The version of an unwind record.
     UnwindVersion(u8),
-    /// The two numbers of four bits that begin an unwind code.
+    /// The byte of an unwind code that holds its operation and its operand, four bits each.
     UnwindCode(u8),
     /// The version of an ARM64 unwind record.
     Arm64Version(u32),
-    /// The bytes of an ARM64 code stream, and the place where reading was to start.
+    /// The length of an ARM64 code stream in bytes, and the offset at which reading was to start.
     Arm64Stream { length: usize, start: usize },
-    /// The place of an ARM64 code that is cut, counted from the beginning of its stream.
+    /// The offset of a truncated ARM64 code in its stream.
     Arm64Cut(usize),
     /// The end of resource data, which is past the bytes that hold them.
     ResourceBounds(u64),
-    /// The place of a resource directory that was reached again.
+    /// The offset of a resource directory that was reached again.
     ResourceCycle(u32),
-    /// The place of a version string.
+    /// The offset of a version string.
     ResourceString(u32),
     /// The stripped size of a TE header.
     TeSize(u16),
@@ -71,13 +72,13 @@ pub enum Reason {
     NoOptionalHeader,
     /// The file alignment.
     WriteAlignment(usize),
-    /// The place of the COFF symbols.
+    /// The file offset of the COFF symbol table.
     WriteSymbols(u32),
     /// The indices of two sections.
     WriteOverlap(usize, usize),
     /// The index of a section.
     WriteSection(usize),
-    /// The end of what was to be written, and the bytes of the buffer.
+    /// The end of what was to be written, and the length of the buffer in bytes.
     WriteFit { end: u64, length: usize },
 }
 
@@ -160,9 +161,9 @@ impl Reason {
                 Number::Hex(u64::from(*rva)),
                 " is not NUL-terminated or not UTF-8",
             ),
-            Reason::StringTable(place) => (
+            Reason::StringTable(offset) => (
                 "string not NUL-terminated, not UTF-8 or truncated (at offset ",
-                Number::Hex(u64::from(*place)),
+                Number::Hex(u64::from(*offset)),
                 " of the string table, unless it is an inline name)",
             ),
             Reason::CertificateRevision(revision) => (
@@ -185,9 +186,9 @@ impl Reason {
                 Number::Hex(*end),
                 ", past the end of the file",
             ),
-            Reason::Unmapped(address) => (
+            Reason::Unmapped(rva) => (
                 "RVA ",
-                Number::Hex(*address),
+                Number::Hex(*rva),
                 " maps to no file offset: no section covers it, or the file alignment is not a power of two",
             ),
             Reason::DebugBounds(end) => (
@@ -215,9 +216,9 @@ impl Reason {
                 Number::Decimal(u64::from(*size)),
                 " bytes is not a multiple of the entry size",
             ),
-            Reason::ExceptionOffset(place) => (
+            Reason::ExceptionOffset(offset) => (
                 "exception directory at file offset ",
-                Number::Hex(*place),
+                Number::Hex(*offset),
                 " is not aligned to 4 bytes",
             ),
             Reason::ExceptionBounds(end) => (
@@ -230,14 +231,14 @@ impl Reason {
                 Number::Decimal(*index as u64),
                 " is out of range",
             ),
-            Reason::FunctionLink(address) => (
+            Reason::FunctionLink(rva) => (
                 "link to RVA ",
-                Number::Hex(u64::from(*address)),
+                Number::Hex(u64::from(*rva)),
                 " leads to no function entry",
             ),
-            Reason::FunctionCycle(links) => (
+            Reason::FunctionCycle(steps) => (
                 "loop in unwind links or chained records, found after ",
-                Number::Decimal(*links as u64),
+                Number::Decimal(*steps as u64),
                 " steps",
             ),
             Reason::UnwindVersion(version) => (
@@ -251,9 +252,9 @@ impl Reason {
                 Number::Decimal(u64::from(*version)),
                 "",
             ),
-            Reason::Arm64Cut(place) => (
+            Reason::Arm64Cut(offset) => (
                 "ARM64 unwind code truncated at offset ",
-                Number::Hex(*place as u64),
+                Number::Hex(*offset as u64),
                 " of its stream",
             ),
             Reason::ResourceBounds(end) => (
@@ -261,14 +262,14 @@ impl Reason {
                 Number::Hex(*end),
                 ", past the bytes that hold it",
             ),
-            Reason::ResourceCycle(place) => (
+            Reason::ResourceCycle(offset) => (
                 "loop in the resource tree through the directory at offset ",
-                Number::Hex(u64::from(*place)),
+                Number::Hex(u64::from(*offset)),
                 "",
             ),
-            Reason::ResourceString(place) => (
+            Reason::ResourceString(offset) => (
                 "version string at offset ",
-                Number::Hex(u64::from(*place)),
+                Number::Hex(u64::from(*offset)),
                 ": value missing, or its length above 32,767",
             ),
             Reason::TeSize(size) => (
@@ -281,9 +282,9 @@ impl Reason {
                 Number::Hex(*alignment as u64),
                 " cannot be written",
             ),
-            Reason::WriteSymbols(place) => (
+            Reason::WriteSymbols(offset) => (
                 "images with COFF symbols cannot be written (symbol table at file offset ",
-                Number::Hex(u64::from(*place)),
+                Number::Hex(u64::from(*offset)),
                 ")",
             ),
             Reason::WriteSection(index) => (

@@ -1,7 +1,7 @@
 //! What `==`, `clone` and `default` mean: two values are equal if all their fields are, a clone is its original, and a
 //! default has zeros.
 
-ghost use Rattle.std.specs.Prelude.{ℕ, ◌≡◌};
+ghost use Rattle.std.specs.Prelude.{◌≡◌};
 ghost use Rattle.pe_core.specs.declared.byte_range.ByteRange.{ByteRange};
 ghost use Rattle.pe_core.specs.declared.options.ParseMode.{ParseMode};
 ghost use Rattle.pe_core.specs.declared.options.ParseOptions.{ParseOptions};
@@ -15,7 +15,6 @@ ghost use Rattle.pe_core.specs.declared.optional_header.StandardFields.{Standard
 ghost use Rattle.pe_core.specs.declared.optional_header.WindowsFields.{WindowsFields};
 ghost use Rattle.pe_core.specs.declared.section_table.SectionTable.{SectionTable};
 ghost use Rattle.pe_core.specs.declared.error.Reason.{Reason};
-ghost use Rattle.pe_core.specs.declared.error.Reason.TheVariants.{HeaderPointer, ImportName, StringTable, CertificateRevision, CertificateType, CertificateSize, CertificateTable, Unmapped, DebugBounds, DebugSize, DebugData, PogoSize, PogoName, ExceptionSize, ExceptionOffset, ExceptionBounds, FunctionIndex, FunctionLink, FunctionCycle, UnwindVersion, UnwindCode, Arm64Version, Arm64Stream, Arm64Cut, ResourceBounds, ResourceCycle, ResourceString, TeSize, NoOptionalHeader, WriteAlignment, WriteSymbols, WriteOverlap, WriteSection, WriteFit};
 ghost use Rattle.pe_core.specs.declared.symbol.Symbol.{Symbol};
 ghost use Rattle.pe_core.specs.declared.symbol.SymbolTable.{SymbolTable};
 ghost use Rattle.pe_core.specs.declared.strtab.Strtab.{Strtab};
@@ -25,7 +24,7 @@ ghost use Rattle.pe_core.specs.declared.export.ExportDirectoryTable.{ExportDirec
 ghost use Rattle.pe_core.specs.declared.header.Header.{Header};
 ghost use Rattle.pe_core.specs.declared.optional_header.OptionalHeader.{OptionalHeader};
 ghost use Rattle.pe_core.specs.Header.{optional_header_view, header_view};
-ghost use Rattle.pe_core.specs.Traits.{TellsApart, IsEquality, ComparesBy, Copies};
+ghost use Rattle.pe_core.specs.Traits.{IsEquality, ComparesBy, Copies};
 
 use crate::byte_range::ByteRange;
 use crate::data_directories::{DataDirectories, DataDirectory};
@@ -60,50 +59,10 @@ pub fn equal_directories_keep_the_same_rows()
     ensures { ComparesBy kept_rows ⟦<DataDirectories as PartialEq>⟧.eq }
 {}
 
-/// `==` tells each kind of reason from all others, a clause for each.
-fn equality_of_each_reason()
-    ensures header_pointer { (n : ℕ) → TellsApart ⟦<Reason as PartialEq>⟧.eq (HeaderPointer n) }
-    ensures import_name { (n : ℕ) → TellsApart ⟦<Reason as PartialEq>⟧.eq (ImportName n) }
-    ensures string_table { (n : ℕ) → TellsApart ⟦<Reason as PartialEq>⟧.eq (StringTable n) }
-    ensures certificate_revision { (n : ℕ) → TellsApart ⟦<Reason as PartialEq>⟧.eq (CertificateRevision n) }
-    ensures certificate_type { (n : ℕ) → TellsApart ⟦<Reason as PartialEq>⟧.eq (CertificateType n) }
-    ensures certificate_size { (n : ℕ) → TellsApart ⟦<Reason as PartialEq>⟧.eq (CertificateSize n) }
-    ensures certificate_table { (n : ℕ) → TellsApart ⟦<Reason as PartialEq>⟧.eq (CertificateTable n) }
-    ensures unmapped { (n : ℕ) → TellsApart ⟦<Reason as PartialEq>⟧.eq (Unmapped n) }
-    ensures debug_bounds { (n : ℕ) → TellsApart ⟦<Reason as PartialEq>⟧.eq (DebugBounds n) }
-    ensures debug_size { (n : ℕ) → TellsApart ⟦<Reason as PartialEq>⟧.eq (DebugSize n) }
-    ensures debug_data { (n : ℕ) → TellsApart ⟦<Reason as PartialEq>⟧.eq (DebugData n) }
-    ensures pogo_size { (n : ℕ) → TellsApart ⟦<Reason as PartialEq>⟧.eq (PogoSize n) }
-    ensures pogo_name { (m n : ℕ) → TellsApart ⟦<Reason as PartialEq>⟧.eq (PogoName m n) }
-    ensures exception_size { (n : ℕ) → TellsApart ⟦<Reason as PartialEq>⟧.eq (ExceptionSize n) }
-    ensures exception_offset { (n : ℕ) → TellsApart ⟦<Reason as PartialEq>⟧.eq (ExceptionOffset n) }
-    ensures exception_bounds { (n : ℕ) → TellsApart ⟦<Reason as PartialEq>⟧.eq (ExceptionBounds n) }
-    ensures function_index { (n : ℕ) → TellsApart ⟦<Reason as PartialEq>⟧.eq (FunctionIndex n) }
-    ensures function_link { (n : ℕ) → TellsApart ⟦<Reason as PartialEq>⟧.eq (FunctionLink n) }
-    ensures function_cycle { (n : ℕ) → TellsApart ⟦<Reason as PartialEq>⟧.eq (FunctionCycle n) }
-    ensures unwind_version { (n : ℕ) → TellsApart ⟦<Reason as PartialEq>⟧.eq (UnwindVersion n) }
-    ensures unwind_code { (n : ℕ) → TellsApart ⟦<Reason as PartialEq>⟧.eq (UnwindCode n) }
-    ensures arm64_version { (n : ℕ) → TellsApart ⟦<Reason as PartialEq>⟧.eq (Arm64Version n) }
-    ensures arm64_stream { (m n : ℕ) → TellsApart ⟦<Reason as PartialEq>⟧.eq (Arm64Stream m n) }
-    ensures arm64_cut { (n : ℕ) → TellsApart ⟦<Reason as PartialEq>⟧.eq (Arm64Cut n) }
-    ensures resource_bounds { (n : ℕ) → TellsApart ⟦<Reason as PartialEq>⟧.eq (ResourceBounds n) }
-    ensures resource_cycle { (n : ℕ) → TellsApart ⟦<Reason as PartialEq>⟧.eq (ResourceCycle n) }
-    ensures resource_string { (n : ℕ) → TellsApart ⟦<Reason as PartialEq>⟧.eq (ResourceString n) }
-    ensures te_size { (n : ℕ) → TellsApart ⟦<Reason as PartialEq>⟧.eq (TeSize n) }
-    ensures no_optional_header { TellsApart ⟦<Reason as PartialEq>⟧.eq NoOptionalHeader }
-    ensures write_alignment { (n : ℕ) → TellsApart ⟦<Reason as PartialEq>⟧.eq (WriteAlignment n) }
-    ensures write_symbols { (n : ℕ) → TellsApart ⟦<Reason as PartialEq>⟧.eq (WriteSymbols n) }
-    ensures write_overlap { (m n : ℕ) → TellsApart ⟦<Reason as PartialEq>⟧.eq (WriteOverlap m n) }
-    ensures write_section { (n : ℕ) → TellsApart ⟦<Reason as PartialEq>⟧.eq (WriteSection n) }
-    ensures write_fit { (m n : ℕ) → TellsApart ⟦<Reason as PartialEq>⟧.eq (WriteFit m n) }
-{}
-
 /// Reasons are equal exactly if they are of one kind and tell the same.
 pub fn reasons_are_equal_if_they_are_the_same()
     ensures { IsEquality ⟦<Reason as PartialEq>⟧.eq }
-{
-    equality_of_each_reason()
-}
+{}
 
 /// Options are equal exactly if all their fields are.
 pub fn equal_options_are_the_same()
