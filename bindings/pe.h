@@ -33,6 +33,9 @@
 #include <stddef.h>
 #include <stdint.h>
 
+/* The version of this header, the archive, the file for pkg-config and the cargo crate. */
+#define PE_C_VERSION "0.1.0"
+
 #ifdef __cplusplus
 extern "C" {
 #define PE_C_SIZE(type, size) static_assert(sizeof(type) == size, #type)
