@@ -21,6 +21,13 @@ asked_by (commands.At file rva) = FunctionAt file.now rva
 asked_by (commands.ChainAt file rva) = RecordsAt file.now rva
 asked_by (commands.Rewrite file out) = RewriteTo file.now out.now
 
+-- the file that a command reads
+abbrev pub file_of : Command → List ℕ
+file_of (commands.List file mode) = file.now
+file_of (commands.At file rva) = file.now
+file_of (commands.ChainAt file rva) = file.now
+file_of (commands.Rewrite file out) = file.now
+
 -- nothing after the file, or `--permissive`
 abbrev pub mode_of : List (List ℕ) → Option ParseMode
 mode_of [] = Some Strict

@@ -8,6 +8,7 @@ pub mod FunctionLines
 pub mod Report
 pub mod Advice
 pub mod Command
+pub mod FileKinds
 pub mod Reading
 pub mod Find
 pub mod Plan

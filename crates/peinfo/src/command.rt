@@ -19,6 +19,22 @@ pub enum Command<'a> {
     Rewrite { file: &'a str, out: &'a str },
 }
 
+impl<'a> Command<'a> {
+    ghost use Rattle.peinfo.specs.Command.{file_of};
+
+    /// The file that the command reads.
+    pub fn file(&self) -> &'a str
+        ensures { result.now ≡ file_of self.now }
+    {
+        match self {
+            Command::List { file, .. } => file,
+            Command::At { file, .. } => file,
+            Command::ChainAt { file, .. } => file,
+            Command::Rewrite { file, .. } => file,
+        }
+    }
+}
+
 ghost use Rattle.peinfo.specs.Command.{mode_of, asked_at, asked_of, asked_by, digit_of, number_behind, rva_of, one_word};
 
 /// The mode that the words after the file ask for.

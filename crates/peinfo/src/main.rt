@@ -19,6 +19,7 @@ mod rewrite;
 ghost use Rattle.std.specs.Prelude.{◌≡◌, ◌↔◌, ◌≤◌, ◌≢◌, map, IsNone, IfErr};
 ghost use Rattle.std.specs.String.{string_bytes};
 ghost use Rattle.peinfo.specs.Advice.{GivesAdvice};
+ghost use Rattle.peinfo.specs.FileKinds.{other_kind, starts_with_a_machine};
 ghost use Rattle.peinfo.specs.Command.{asked_of};
 ghost use Rattle.peinfo.specs.Outcome.{outcome_of};
 ghost use Rattle.peinfo.specs.declared.outcome.Outcome.TheVariants.{Misused, Fault};
@@ -41,7 +42,7 @@ use std::{env, fs, io};
 const USAGE: &str =
     "usage: peinfo list FILE [--permissive] | at FILE HEXRVA [--chain] | rewrite FILE OUT";
 
-/// The bytes of a file, or what comes of its fault.
+/// The bytes of a file, or what comes of a failure to read them.
 fn bytes_of<R: Files + Eprint + AllocGlobal>(rt: &R, path: &str) -> Result<Vec<u8>, Outcome>
     ensures { IfErr result (λ outcome. outcome ≡ Fault) }
 {
@@ -61,13 +62,51 @@ fn bytes_of<R: Files + Eprint + AllocGlobal>(rt: &R, path: &str) -> Result<Vec<u
     }
 }
 
+/// A file that was read.
+#[derive(Clone, Copy)]
+struct Source<'a> {
+    path: &'a str,
+    bytes: &'a [u8],
+}
+
+/// What the first bytes of a file that is no PE image say it is, as the end of a message. Objects have no magic number: they
+/// start with their machine.
+fn other_kind(bytes: &[u8]) -> &'static str
+    ensures { result.now ≡ other_kind bytes.now }
+{
+    if bytes.is_empty() {
+        "; the file is empty"
+    } else if bytes.starts_with(b"\x7fELF") {
+        "; it is an ELF file"
+    } else if bytes.starts_with(b"VZ") {
+        "; it is a TE image"
+    } else if bytes.starts_with(b"!<arch>") {
+        "; it is an archive of objects"
+    } else if starts_with_a_machine(bytes) {
+        "; it looks like a COFF object"
+    } else {
+        ""
+    }
+}
+
+/// Whether the first two bytes are the machine x86, x64 or ARM64.
+fn starts_with_a_machine(bytes: &[u8]) -> bool
+    ensures { result ≡ starts_with_a_machine bytes.now }
+{
+    bytes.starts_with(b"\x4c\x01")
+        || bytes.starts_with(b"\x64\x86")
+        || bytes.starts_with(b"\x64\xaa")
+}
+
 /// Says why an image is refused: the refusal, and what can be done about it.
-fn say_refused<R: Eprint>(rt: &R, path: &str, refusal: &Error, advice: &str) {
+fn say_refused<R: Eprint>(rt: &R, source: Source, refusal: &Error, advice: &str) {
+    let path = source.path;
+    let kind = other_kind(source.bytes);
     let _ = match refusal {
         Error::BadMagic(magic) => eprintln!(rt;
-            "peinfo: {path:?} is refused: no PE image, its magic number is {magic:#x}{advice}"
+            "peinfo: {path:?} is refused: no PE image, its magic number is {magic:#x}{kind}{advice}"
         ),
-        _ => eprintln!(rt; "peinfo: {path:?} is refused: {refusal}{advice}"),
+        _ => eprintln!(rt; "peinfo: {path:?} is refused: {refusal}{kind}{advice}"),
     };
 }
 
@@ -96,10 +135,10 @@ fn say_unwritten<R: Eprint>(rt: &R, path: &str, target: Target, cause: Option<&i
     };
 }
 
-/// What comes of an engine's answer. A failure is one line on standard error.
+/// What comes of an engine's result. A failure is one line on standard error.
 fn outcome_of<R: Eprint, W: io::Write>(
     rt: &R,
-    path: &str,
+    source: Source,
     target: Target,
     answer: Result<(), ReportError>,
     out: &CountedOut<W>,
@@ -110,17 +149,17 @@ fn outcome_of<R: Eprint, W: io::Write>(
     match answer {
         Ok(()) => Outcome::Done,
         Err(ReportError::Parse(refusal)) => {
-            say_refused(rt, path, &refusal, advice);
+            say_refused(rt, source, &refusal, advice);
             Outcome::Refused
         }
         Err(ReportError::Write) => {
-            say_unwritten(rt, path, target, out.cause());
+            say_unwritten(rt, source.path, target, out.cause());
             Outcome::Fault
         }
     }
 }
 
-/// What is said behind the refusal of an image in this mode: where strict mode alone refuses it, the word that helps.
+/// The end of the message that an image is refused in this mode: where permissive mode accepts it, the option that helps.
 fn advice_on<A: Allocator + Copy + Drop>(
     alloc: A,
     bytes: &[u8],
@@ -139,59 +178,43 @@ fn advice_on<A: Allocator + Copy + Drop>(
     }
 }
 
-/// Shows the image in a file.
-fn list<R: Files + Print + Eprint + AllocGlobal>(rt: &R, path: &str, mode: ParseMode) -> Outcome
+/// Lists the image in a file.
+fn list<R: Print + Eprint + AllocGlobal>(rt: &R, source: Source, mode: ParseMode) -> Outcome
     ensures { result ≢ Misused }
 {
-    let bytes = match bytes_of(rt, path) {
-        Ok(bytes) => bytes,
-        Err(outcome) => return outcome,
-    };
     let opts = ParseOptions::default().with_parse_mode(mode);
     let mut out = CountedOut::new(io::writer(rt));
-    let answer = report(rt.alloc(), &bytes, &opts, &mut out);
+    let answer = report(rt.alloc(), source.bytes, &opts, &mut out);
     let advice = match answer {
         Ok(()) | Err(ReportError::Write | ReportError::Parse(Error::Memory(_))) => "",
-        Err(ReportError::Parse(_)) => advice_on(rt.alloc(), &bytes, mode).unwrap_or(""),
+        Err(ReportError::Parse(_)) => advice_on(rt.alloc(), source.bytes, mode).unwrap_or(""),
     };
-    outcome_of(rt, path, Target::Output, answer, &out, advice)
+    outcome_of(rt, source, Target::Output, answer, &out, advice)
 }
 
-/// Shows the function that covers an address of the image in a file.
-fn at<R: Files + Print + Eprint + AllocGlobal>(rt: &R, path: &str, rva: u32) -> Outcome
+/// Shows the function that covers an RVA of the image in a file.
+fn at<R: Print + Eprint + AllocGlobal>(rt: &R, source: Source, rva: u32) -> Outcome
     ensures { result ≢ Misused }
 {
-    let bytes = match bytes_of(rt, path) {
-        Ok(bytes) => bytes,
-        Err(outcome) => return outcome,
-    };
     let mut out = CountedOut::new(io::writer(rt));
-    let answer = find(rt.alloc(), &bytes, rva, &mut out);
-    outcome_of(rt, path, Target::Output, answer, &out, "")
+    let answer = find(rt.alloc(), source.bytes, rva, &mut out);
+    outcome_of(rt, source, Target::Output, answer, &out, "")
 }
 
-/// Shows the function that covers an address of the image in a file, and its records up to the root of their chain.
-fn chain_at<R: Files + Print + Eprint + AllocGlobal>(rt: &R, path: &str, rva: u32) -> Outcome
+/// Shows the function that covers an RVA of the image in a file, and its records up to the root of their chain.
+fn chain_at<R: Print + Eprint + AllocGlobal>(rt: &R, source: Source, rva: u32) -> Outcome
     ensures { result ≢ Misused }
 {
-    let bytes = match bytes_of(rt, path) {
-        Ok(bytes) => bytes,
-        Err(outcome) => return outcome,
-    };
     let mut out = CountedOut::new(io::writer(rt));
-    let answer = plan(rt.alloc(), &bytes, rva, &mut out);
-    outcome_of(rt, path, Target::Output, answer, &out, "")
+    let answer = plan(rt.alloc(), source.bytes, rva, &mut out);
+    outcome_of(rt, source, Target::Output, answer, &out, "")
 }
 
 /// Writes the image in a file anew, to a file that must not exist. It is made once the image's file is read, and stays
 /// empty where the image is refused.
-fn rewrite_to<R: Files + Eprint + AllocGlobal>(rt: &R, path: &str, target: &str) -> Outcome
+fn rewrite_to<R: Files + Eprint + AllocGlobal>(rt: &R, source: Source, target: &str) -> Outcome
     ensures { result ≢ Misused }
 {
-    let bytes = match bytes_of(rt, path) {
-        Ok(bytes) => bytes,
-        Err(outcome) => return outcome,
-    };
     let file = match fs::File::create_new(rt, target) {
         Ok(file) => file,
         Err(error) => {
@@ -200,8 +223,29 @@ fn rewrite_to<R: Files + Eprint + AllocGlobal>(rt: &R, path: &str, target: &str)
         }
     };
     let mut out = CountedOut::new(file);
-    let answer = rewrite(rt.alloc(), &bytes, &mut out);
-    outcome_of(rt, path, Target::File(target), answer, &out, "")
+    let answer = rewrite(rt.alloc(), source.bytes, &mut out);
+    outcome_of(rt, source, Target::File(target), answer, &out, "")
+}
+
+/// Reads the file of a command, and does the command on its bytes.
+fn outcome_of_command<R: Files + Print + Eprint + AllocGlobal>(rt: &R, command: Command) -> Outcome
+    ensures { result ≢ Misused }
+{
+    let path = command.file();
+    let bytes = match bytes_of(rt, path) {
+        Ok(bytes) => bytes,
+        Err(outcome) => return outcome,
+    };
+    let source = Source {
+        path,
+        bytes: &bytes,
+    };
+    match command {
+        Command::List { mode, .. } => list(rt, source, mode),
+        Command::At { rva, .. } => at(rt, source, rva),
+        Command::ChainAt { rva, .. } => chain_at(rt, source, rva),
+        Command::Rewrite { out, .. } => rewrite_to(rt, source, out),
+    }
 }
 
 fn misused<R: Eprint>(rt: &R) -> Outcome
@@ -211,43 +255,43 @@ fn misused<R: Eprint>(rt: &R) -> Outcome
     Outcome::Misused
 }
 
-/// Does what the words ask for.
-fn outcome_of_words<R: Files + Print + Eprint + AllocGlobal>(rt: &R, words: &[String]) -> Outcome
-    ensures { (result ≡ Misused) ↔ IsNone (asked_of (map string_bytes words.now)) }
+/// Does what the arguments ask for.
+fn outcome_of_arguments<R: Files + Print + Eprint + AllocGlobal>(
+    rt: &R,
+    arguments: &[String],
+) -> Outcome
+    ensures { (result ≡ Misused) ↔ IsNone (asked_of (map string_bytes arguments.now)) }
 {
-    match command_of(words) {
-        Some(Command::List { file, mode }) => list(rt, file, mode),
-        Some(Command::At { file, rva }) => at(rt, file, rva),
-        Some(Command::ChainAt { file, rva }) => chain_at(rt, file, rva),
-        Some(Command::Rewrite { file, out }) => rewrite_to(rt, file, out),
+    match command_of(arguments) {
+        Some(command) => outcome_of_command(rt, command),
         None => misused(rt),
     }
 }
 
-/// Does what the words after the program's name ask for, and answers the exit status: 0 done,
-/// 1 refused, 2 misused words, 3 a fault of a file or of standard output.
-pub fn run<R: Files + Print + Eprint + AllocGlobal>(rt: &R, words: &[String]) -> u8
-    ensures misused { (result ≡ 2) ↔ IsNone (asked_of (map string_bytes words.now)) }
+/// Does what the arguments after the program's name ask for, and returns the exit status: 0 done, 1 the image is refused,
+/// 2 the arguments are misused, 3 a file or standard output failed.
+pub fn run<R: Files + Print + Eprint + AllocGlobal>(rt: &R, arguments: &[String]) -> u8
+    ensures misused { (result ≡ 2) ↔ IsNone (asked_of (map string_bytes arguments.now)) }
     ensures known { result ≤ 3 }
 {
-    outcome_of_words(rt, words).status()
+    outcome_of_arguments(rt, arguments).status()
 }
 
-fn words_of(rt: &HostRuntime) -> io::Result<Vec<String>> {
-    let mut words = Vec::new(rt.alloc());
-    for word in env::args(rt)?.skip(1) {
-        words.push(word)?;
+fn arguments_of(rt: &HostRuntime) -> io::Result<Vec<String>> {
+    let mut arguments = Vec::new(rt.alloc());
+    for argument in env::args(rt)?.skip(1) {
+        arguments.push(argument)?;
     }
-    Ok(words)
+    Ok(arguments)
 }
 
 fn main(rt: HostRuntime) -> ExitCode {
-    let status = match words_of(&rt) {
-        Ok(words) => run(&rt, &words),
-        // A word that is no text is as little known as any other.
+    let status = match arguments_of(&rt) {
+        Ok(arguments) => run(&rt, &arguments),
+        // An argument that is not UTF-8 is as unknown as any other.
         Err(error) if error.kind() == io::ErrorKind::InvalidData => misused(&rt).status(),
         Err(error) => {
-            let _ = eprintln!(rt; "peinfo: the words of the command line can't be read: {error}");
+            let _ = eprintln!(rt; "peinfo: the arguments can't be read: {error}");
             Outcome::Fault.status()
         }
     };
