@@ -1,0 +1,4 @@
+pub mod Memory
+pub mod Undoing
+pub mod Steps
+pub mod Survey
