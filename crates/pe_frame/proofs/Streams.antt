@@ -104,10 +104,12 @@ undone_if m base true o os g = refl
 undone_if m base false o os g = refl
 
 -- undoing the first code, and then the others
-pub undone_before : (m : ℕ → Option ℕ) (base : ℕ) (limit : Option ℕ) (c : UnwindCode) (rest : List UnwindCode) (g : Registers) →
+undone_before : (m : ℕ → Option ℕ) (base : ℕ) (limit : Option ℕ) (c : UnwindCode) (rest : List UnwindCode) (g : Registers) →
     undone_all m base (ran limit (c ∷ rest)) g ≡ (undone_code m base limit c g >>= undone_all m base (ran limit rest))
 undone_before m base limit c rest g = undone_if m base (has_run limit c) c.operation (ran limit rest) g
 
-pub undone_first : (m : ℕ → Option ℕ) (base : ℕ) (limit : Option ℕ) (c : UnwindCode) (rest codes : List UnwindCode) (g : Registers) (r : Result Registers FrameError) →
-    codes ≡ c ∷ rest → undone_code m base limit c g ≡ r → undone_all m base (ran limit codes) g ≡ (r >>= undone_all m base (ran limit rest))
-undone_first m base limit c rest codes g r is e = rw is (undone_before m base limit c rest g ∙ ap (λ (x : Result Registers FrameError). x >>= undone_all m base (ran limit rest)) e)
+-- what undoing the others from there gives is what undoing all gives
+pub undone_on : (m : ℕ → Option ℕ) (base : ℕ) (limit : Option ℕ) (c : UnwindCode) (rest codes : List UnwindCode) (g : Registers) (r all : Result Registers FrameError) →
+    codes ≡ c ∷ rest → undone_code m base limit c g ≡ r → undone_all m base (ran limit codes) g ≡ all → (r >>= undone_all m base (ran limit rest)) ≡ all
+undone_on m base limit c rest codes g r all is e h =
+    sym (rw is (undone_before m base limit c rest g ∙ ap (λ (x : Result Registers FrameError). x >>= undone_all m base (ran limit rest)) e)) ∙ h

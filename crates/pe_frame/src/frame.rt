@@ -1,8 +1,10 @@
 //! One step of a stack walk.
 
-ghost use Rattle.std.specs.Prelude.{◌≡◌, ◌-◌, map, false};
+ghost use Rattle.std.specs.Prelude.{◌≡◌, ◌-◌, List, ◌∷◌, map, false, Ok};
 ghost use Rattle.pe_unwind.specs.UnwindRecord.{unwind_view};
 ghost use Rattle.pe_frame.specs.Undoing.{popped};
+ghost use Rattle.pe_frame.specs.declared.registers.Registers.{Registers};
+ghost use Rattle.pe_frame.specs.Frames.{Part, infos, AreFrames, IsCaller};
 ghost use Rattle.pe_frame.specs.Steps.{Steps, Undoes, limit_of};
 
 use crate::error::FrameError;
@@ -45,6 +47,28 @@ fn undo_records<M: Memory>(
     Ok((current, is_interrupted))
 }
 
+/// The registers of the caller, from those at an offset in a function.
+fn caller<M: Memory>(
+    plan: &[UnwindInfo<'_>],
+    offset: u32,
+    registers: Registers,
+    memory: &M,
+) -> Result<Registers, FrameError>
+    ensures { Steps (M.word memory.now) (map unwind_view plan.now) offset registers result }
+{
+    let limit = limit_of(plan, offset);
+    let (entry, is_interrupted) = undo_records(plan, limit, registers, memory)?;
+    if is_interrupted {
+        return Ok(entry);
+    }
+    let caller = pop(entry, memory)?;
+    let pointer = caller.general[RSP];
+    if pointer <= registers.general[RSP] {
+        return Err(FrameError::NotRising(pointer));
+    }
+    Ok(caller)
+}
+
 /// The registers of a function's caller, from those inside the function.
 ///
 /// `plan` has the function's unwind records, as `UnwindPlan::of` of pe_plan returns them; `start` is the RVA at which the
@@ -71,19 +95,12 @@ pub fn step<M: Memory>(
     registers: Registers,
     memory: &M,
 ) -> Result<Registers, FrameError>
-    ensures { Steps (M.word memory.now) (map unwind_view plan.now) (rva - start) registers result }
+    ensures exact { Steps (M.word memory.now) (map unwind_view plan.now) (rva - start) registers result }
+    ensures undoes { (p : Part) (parts : List Part) → map unwind_view plan.now ≡ infos (p ∷ parts) →
+        AreFrames (M.word memory.now) (p ∷ parts) (limit_of (infos (p ∷ parts)) (rva - start)) registers →
+        (u : Registers) × (result ≡ Ok u) × IsCaller (p ∷ parts) (limit_of (infos (p ∷ parts)) (rva - start)) registers u }
 {
-    let limit = limit_of(plan, rva.saturating_sub(start));
-    let (entry, is_interrupted) = undo_records(plan, limit, registers, memory)?;
-    if is_interrupted {
-        return Ok(entry);
-    }
-    let caller = pop(entry, memory)?;
-    let pointer = caller.general[RSP];
-    if pointer <= registers.general[RSP] {
-        return Err(FrameError::NotRising(pointer));
-    }
-    Ok(caller)
+    caller(plan, rva.saturating_sub(start), registers, memory)
 }
 
 /// The registers of the caller of a leaf function: one without unwind data, which changes no nonvolatile register and leaves
