@@ -1,0 +1,10 @@
+pub mod Streams
+pub mod Records
+pub mod OneStep
+pub mod Words
+pub mod Runs
+pub mod Saved
+pub mod Undone
+pub mod Begun
+pub mod Frames
+pub mod Samples

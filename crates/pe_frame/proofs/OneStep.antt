@@ -1,0 +1,81 @@
+-- There is one step, up to the numbers in a refusal of codes.
+use Rattle.std.proofs.Common.{◌≡◌, ℕ, Bool, false, ◌||◌, List, [], ◌∷◌, map, Option, None, Result, Ok, Err, refl, ap, sym, ◌∙◌, subst}
+use Rattle.pe_core.specs.Refusals.{Refusal, kind_of}
+use Rattle.pe_core.specs.declared.error.Error.{Error}
+use Rattle.pe_unwind.specs.declared.unwind_code.UnwindCode.{UnwindCode}
+use Rattle.pe_unwind.specs.FunctionTable.{answer_of}
+use Rattle.pe_unwind.specs.UnwindRecord.{UnwindInfoView, code_stream}
+use Rattle.pe_unwind.proofs.Streams.{one_reading, some_items}
+use Rattle.pe_frame.specs.declared.error.FrameError.{FrameError}
+use Rattle.pe_frame.specs.declared.registers.Registers.{Registers}
+use Rattle.pe_frame.specs.Undoing.{◌>>=◌, entered, pointer}
+use Rattle.pe_frame.specs.Steps.{codes_of, HasCodes, frame_of, limit_of, Enters, Then, Undoes, returned, Steps, OfCodes, error_kind, by_kind}
+
+same_then : {A B : Type 0} (x y : Result A FrameError) (f : A → Result B FrameError) → by_kind x ≡ by_kind y → by_kind (x >>= f) ≡ by_kind (y >>= f)
+same_then (Ok x) (Ok y) f e = let same : x ≡ y = cc in ap (λ z. by_kind (f z)) same
+same_then (Ok x) (Err d) f e = cc
+same_then (Err d) (Ok y) f e = cc
+same_then (Err d) (Err e) f h = let same : error_kind d ≡ error_kind e = cc in ap Err same
+
+one_list : (xs ys : List (Result UnwindCode Error)) → map answer_of xs ≡ map answer_of ys → by_kind (codes_of xs) ≡ by_kind (codes_of ys)
+one_list [] [] e = refl
+one_list [] (y ∷ ys) e = cc
+one_list (x ∷ xs) [] e = cc
+one_list (Ok c ∷ xs) (Ok d ∷ ys) e =
+    let same : c ≡ d = cc in
+    let rest : map answer_of xs ≡ map answer_of ys = cc in
+    ap (λ (z : UnwindCode). by_kind (codes_of xs >>= λ cs. Ok (z ∷ cs))) same ∙ same_then (codes_of xs) (codes_of ys) (λ cs. Ok (d ∷ cs)) (one_list xs ys rest)
+one_list (Ok c ∷ xs) (Err d ∷ ys) e = cc
+one_list (Err c ∷ xs) (Ok d ∷ ys) e = cc
+one_list (Err c ∷ xs) (Err d ∷ ys) e =
+    let same : kind_of c ≡ kind_of d = cc in
+    ap (λ (k : Refusal). Err (OfCodes k)) same
+
+pub one_codes : (i : UnwindInfoView) (x y : Result (List UnwindCode) FrameError) → HasCodes i x → HasCodes i y → by_kind x ≡ by_kind y
+one_codes i x y h k = rw h.2 (rw k.2 (one_list h.0 k.0 (one_reading (code_stream i) h.0 k.0 h.1 k.1)))
+
+one_entry : (m : ℕ → Option ℕ) (limit : Option ℕ) (i : UnwindInfoView) (g : Registers) (x y : Result (Registers × Bool) FrameError) →
+    Enters m limit i g x → Enters m limit i g y → by_kind x ≡ by_kind y
+one_entry m limit i g x y h k = rw h.2 (rw k.2 (same_then h.0 k.0 (λ cs. entered m (frame_of i) limit cs g) (one_codes i h.0 k.0 h.1 k.1)))
+
+abbrev Undone : (ℕ → Option ℕ) → List UnwindInfoView → Bool → (Registers × Bool) → Result (Registers × Bool) FrameError → Type 0
+Undone m is b u answer = Undoes m is None (b || u.1) u.0 answer
+
+one_then : (m : ℕ → Option ℕ) (is : List UnwindInfoView) (b : Bool) (d e x y : Result (Registers × Bool) FrameError) → by_kind d ≡ by_kind e →
+    ((u : Registers × Bool) → Undone m is b u x → Undone m is b u y → by_kind x ≡ by_kind y) →
+    Then d (Undone m is b) x → Then e (Undone m is b) y → by_kind x ≡ by_kind y
+one_then m is b (Ok u) (Ok v) x y h next k l = let same : u ≡ v = cc in next v (subst (λ z. Undone m is b z x) same k) l
+one_then m is b (Ok u) (Err e) x y h next k l = cc
+one_then m is b (Err d) (Ok v) x y h next k l = cc
+one_then m is b (Err d) (Err e) x y h next k l =
+    let same : error_kind d ≡ error_kind e = cc in
+    ap by_kind k ∙ (ap Err same ∙ sym (ap by_kind l))
+
+one_undoing : (m : ℕ → Option ℕ) (is : List UnwindInfoView) (limit : Option ℕ) (b : Bool) (g : Registers) (x y : Result (Registers × Bool) FrameError) →
+    Undoes m is limit b g x → Undoes m is limit b g y → by_kind x ≡ by_kind y
+one_undoing m [] limit b g x y h k = ap by_kind (h ∙ sym k)
+one_undoing m (i ∷ is) limit b g x y h k =
+    one_then m is b h.0 k.0 x y (one_entry m limit i g h.0 k.0 h.1 k.1) (λ u h' k'. one_undoing m is None (b || u.1) u.0 x y h' k') h.2 k.2
+
+pub one_step : (m : ℕ → Option ℕ) (plan : List UnwindInfoView) (offset : ℕ) (g : Registers) (x y : Result Registers FrameError) →
+    Steps m plan offset g x → Steps m plan offset g y → by_kind x ≡ by_kind y
+one_step m plan offset g x y h k =
+    rw h.2 (rw k.2 (same_then h.0 k.0 (returned m (pointer g)) (one_undoing m plan (limit_of plan offset) false g h.0 k.0 h.1 k.1)))
+
+some_then : (m : ℕ → Option ℕ) (is : List UnwindInfoView) (b : Bool) (e : Result (Registers × Bool) FrameError) →
+    ((u : Registers × Bool) → (x : Result (Registers × Bool) FrameError) × Undone m is b u x) → (x : Result (Registers × Bool) FrameError) × Then e (Undone m is b) x
+some_then m is b (Ok u) next = next u
+some_then m is b (Err e) next = (Err e, refl)
+
+some_undoing : (m : ℕ → Option ℕ) (is : List UnwindInfoView) (limit : Option ℕ) (b : Bool) (g : Registers) → (x : Result (Registers × Bool) FrameError) × Undoes m is limit b g x
+some_undoing m [] limit b g = (Ok (g, b), refl)
+some_undoing m (i ∷ is) limit b g =
+    let items = some_items (code_stream i) in
+    let entry = codes_of items.0 >>= λ cs. entered m (frame_of i) limit cs g in
+    let rest = some_then m is b entry (λ u. some_undoing m is None (b || u.1) u.0) in
+    (rest.0, (entry, (codes_of items.0, (items.0, items.1, refl), refl), rest.1))
+
+pub some_step : (m : ℕ → Option ℕ) (plan : List UnwindInfoView) (offset : ℕ) (g : Registers) → (x : Result Registers FrameError) × Steps m plan offset g x
+some_step m plan offset g =
+    let entry = some_undoing m plan (limit_of plan offset) false g in
+    (entry.0 >>= returned m (pointer g), (entry.0, entry.1, refl))

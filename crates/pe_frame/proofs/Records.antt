@@ -1,0 +1,46 @@
+-- A record undone, by what its codes say at once.
+use Rattle.std.proofs.Common.{◌≡◌, ℕ, Bool, List, [], ◌∷◌, map, Option, Result, Ok, Err, refl, ap, sym, ◌∙◌, subst}
+use Rattle.pe_core.specs.declared.error.Error.{Error}
+use Rattle.pe_unwind.specs.declared.unwind_code.UnwindCode.{UnwindCode}
+use Rattle.pe_unwind.specs.CodeStream.{AreItems}
+use Rattle.pe_unwind.specs.UnwindRecord.{UnwindInfoView, code_stream}
+use Rattle.pe_frame.specs.declared.error.FrameError.{FrameError}
+use Rattle.pe_frame.specs.declared.record.Survey.{Survey}
+use Rattle.pe_frame.specs.declared.registers.Registers.{Registers}
+use Rattle.pe_frame.specs.Undoing.{◌>>=◌, ran, undone_all, base_of, entered}
+use Rattle.pe_frame.specs.Steps.{codes_of, frame_of, Enters}
+use Rattle.pe_frame.specs.Survey.{surveyed, Surveys}
+
+all_before : (c : UnwindCode) (items : List (Result UnwindCode Error)) (cs : List UnwindCode) (x : Result (List UnwindCode) FrameError) →
+    ((ds : List UnwindCode) → x ≡ Ok ds → items ≡ map Ok ds) → (x >>= λ ds. Ok (c ∷ ds)) ≡ Ok cs → Ok c ∷ items ≡ map Ok cs
+all_before c items cs (Ok ds) h e =
+    let same : c ∷ ds ≡ cs = cc in
+    ap (λ (xs : List (Result UnwindCode Error)). Ok c ∷ xs) (h ds refl) ∙ ap (λ (xs : List UnwindCode). map Ok xs) same
+all_before c items cs (Err x) h e = cc
+
+-- no item is refused
+pub all_codes : (items : List (Result UnwindCode Error)) (cs : List UnwindCode) → codes_of items ≡ Ok cs → items ≡ map Ok cs
+all_codes [] cs e = let same : [] ≡ cs = cc in ap (λ (xs : List UnwindCode). map Ok xs) same
+all_codes (Ok c ∷ items) cs e = all_before c items cs (codes_of items) (λ ds k. all_codes items ds k) e
+all_codes (Err x ∷ items) cs e = cc
+
+abbrev UndoesCodes : (ℕ → Option ℕ) → ℕ → Option ℕ → UnwindInfoView → Registers → Result Registers FrameError → Type 0
+UndoesCodes m base limit i g r = (codes : List UnwindCode) → AreItems (code_stream i) (map Ok codes) → r ≡ undone_all m base (ran limit codes) g
+
+enters_by : (m : ℕ → Option ℕ) (limit : Option ℕ) (i : UnwindInfoView) (g : Registers) (s : Survey) (base : ℕ) (r : Result Registers FrameError)
+    (items : List (Result UnwindCode Error)) (codes : Result (List UnwindCode) FrameError) → AreItems (code_stream i) items → codes ≡ codes_of items →
+    Ok s ≡ (codes >>= λ cs. Ok (surveyed limit cs)) → base_of (frame_of i) s.sets_frame s.has_set_frame g ≡ Ok base → UndoesCodes m base limit i g r →
+    (r >>= λ u. Ok (u, s.is_interrupted)) ≡ (codes >>= λ cs. entered m (frame_of i) limit cs g)
+enters_by m limit i g s base r items (Err e) are is known at undoes = cc
+enters_by m limit i g s base r items (Ok cs) are is known at undoes =
+    let same : s ≡ surveyed limit cs = cc in
+    let all = all_codes items cs (sym is) in
+    let un = undoes cs (subst (λ (xs : List (Result UnwindCode Error)). AreItems (code_stream i) xs) all are) in
+    let at_base : base_of (frame_of i) (surveyed limit cs).sets_frame (surveyed limit cs).has_set_frame g ≡ Ok base = ap (λ (x : Survey). base_of (frame_of i) x.sets_frame x.has_set_frame g) (sym same) ∙ at in
+    rw at_base (rw (sym un) (ap (λ (b : Bool). r >>= λ u. Ok (u, b)) (ap (λ (x : Survey). x.is_interrupted) same)))
+
+-- a record undone, by its survey, its base and its codes
+pub enters : (m : ℕ → Option ℕ) (limit : Option ℕ) (i : UnwindInfoView) (g : Registers) (s : Survey) (base : ℕ) (r : Result Registers FrameError) →
+    Surveys limit i (Ok s) → base_of (frame_of i) s.sets_frame s.has_set_frame g ≡ Ok base → UndoesCodes m base limit i g r →
+    Enters m limit i g (r >>= λ u. Ok (u, s.is_interrupted))
+enters m limit i g s base r known at undoes = (known.0, known.1, enters_by m limit i g s base r known.1.0 known.0 known.1.1 known.1.2 known.2 at undoes)

@@ -1,0 +1,91 @@
+-- The samples are frames of a running program.
+use Rattle.std.proofs.Common.{inl, inr, Bool, true, false, IsSome, [], ◌∷◌, map, Some, None, Ok, refl, arith, rules}
+use Rattle.pe_unwind.specs.CodeStream.{AreItems}
+use Rattle.pe_unwind.specs.UnwindRecord.{code_stream}
+use Rattle.pe_frame.specs.Undoing.{ran}
+use Rattle.pe_frame.specs.Steps.{frame_of}
+use Rattle.pe_frame.specs.Machine.{IsProlog, IsBody}
+use Rattle.pe_frame.specs.Frames.{Part, left, registers_of, IsRecord, SavesOrKeeps, AreFrames}
+use Rattle.pe_frame.specs.Samples.{all_known, home_part, inner_part, framed_part, interrupt_part}
+
+abbrev HasItems : Part → Type 0
+HasItems p = AreItems (code_stream p.info) (map Ok p.codes)
+
+abbrev RunsProlog : Bool → Part → Type 0
+RunsProlog c p = IsProlog c (frame_of p.info) (ran None p.codes) p.entry
+
+home_items : HasItems home_part
+home_items = (4, (omega arith, (refl, inr (inl (refl, refl)))), (2, (omega arith, (refl, inr (inl (refl, refl)))), (2, (omega arith, (refl, inl (refl, refl))), refl)))
+
+home_prolog : RunsProlog true home_part
+home_prolog = search rules
+
+inner_items : HasItems inner_part
+inner_items = (4, (omega arith, (refl, inr (inl (refl, refl)))), refl)
+
+inner_prolog : RunsProlog false inner_part
+inner_prolog = search rules
+
+framed_items : HasItems framed_part
+framed_items = (
+  4,
+  (omega arith, (refl, inl (refl, refl, refl))),
+  (
+    4,
+    (omega arith, (refl, inr (inr (inr (refl, refl))))),
+    (
+      2,
+      (omega arith, (refl, inr (inr (inl (refl, refl))))),
+      (2, (omega arith, (refl, inr (inl (refl, refl)))), (2, (omega arith, (refl, inl (refl, refl))), (2, (omega arith, (refl, inl (refl, refl))), refl))),
+    ),
+  ),
+)
+
+framed_prolog : RunsProlog true framed_part
+framed_prolog = search rules
+
+interrupt_items : HasItems interrupt_part
+interrupt_items =
+    (4, (omega arith, (refl, inr (inl (refl, refl)))), (2, (omega arith, (refl, inr (inl (refl, refl)))), (2, (omega arith, (refl, inr (inr (inr (inr (refl, omega arith, refl)))))), refl)))
+
+interrupt_prolog : RunsProlog true interrupt_part
+interrupt_prolog = search rules
+
+framed_record : IsRecord true framed_part
+framed_record = record { items = framed_items; prolog = framed_prolog; frame = inr refl }
+
+inner_body : IsBody false (frame_of inner_part.info) (ran None inner_part.codes) inner_part.entry (all_known (left None inner_part)) (registers_of (left None inner_part))
+inner_body = search rules
+
+home_body : IsBody true (frame_of home_part.info) (ran None home_part.codes) home_part.entry (all_known (left None inner_part)) (registers_of (left None home_part))
+home_body = search rules
+
+framed_body : IsBody true (frame_of framed_part.info) (ran None framed_part.codes) framed_part.entry (all_known (left None framed_part)) (registers_of (left None framed_part))
+framed_body = search rules
+
+begun_body : IsBody true (frame_of framed_part.info) (ran (Some 11) framed_part.codes) framed_part.entry (all_known (left (Some 11) framed_part)) (registers_of (left (Some 11) framed_part))
+begun_body = search rules
+
+interrupt_body : IsBody true (frame_of interrupt_part.info) (ran None interrupt_part.codes) interrupt_part.entry (all_known (left None interrupt_part)) (registers_of (left None interrupt_part))
+interrupt_body = search rules
+
+no_frame : IsSome (left None home_part).frame → SavesOrKeeps None inner_part (registers_of (left None inner_part)) 0
+no_frame h = cc
+
+pub chained : AreFrames (all_known (left None inner_part)) (inner_part ∷ home_part ∷ []) None (registers_of (left None inner_part))
+chained = (
+  record { items = inner_items; prolog = inner_prolog; frame = inl refl },
+  refl,
+  record { order = tt; body = inner_body },
+  (no_frame, tt),
+  (record { items = home_items; prolog = home_prolog; frame = inl refl }, omega arith, record { order = tt; body = home_body }),
+)
+
+pub framed : AreFrames (all_known (left None framed_part)) (framed_part ∷ []) None (registers_of (left None framed_part))
+framed = (framed_record, omega arith, record { order = tt; body = framed_body })
+
+pub begun : AreFrames (all_known (left (Some 11) framed_part)) (framed_part ∷ []) (Some 11) (registers_of (left (Some 11) framed_part))
+begun = (framed_record, omega arith, record { order = (22, search rules); body = begun_body })
+
+pub interrupted : AreFrames (all_known (left None interrupt_part)) (interrupt_part ∷ []) None (registers_of (left None interrupt_part))
+interrupted = (record { items = interrupt_items; prolog = interrupt_prolog; frame = inl refl }, omega arith, record { order = tt; body = interrupt_body })

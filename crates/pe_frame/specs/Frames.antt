@@ -1,0 +1,97 @@
+-- Frames as a running program leaves them: a function's prolog ran, its body came to parts with prologs of their own, and
+-- the innermost of these stopped in its prolog or in its body.
+use Rattle.std.specs.Prelude.{◌≡◌, ◌≢◌, ℕ, ◌+◌, ◌^◌, ◌<◌, ◌≤◌, ◌⊎◌, Bool, true, false, IsSome, List, [], ◌∷◌, map, slice_index, Option, Some, None, Ok}
+use Rattle.std.specs.List.{AllByRecursion}
+use Rattle.pe_unwind.specs.declared.unwind_code.UnwindCode.{UnwindCode}
+use Rattle.pe_unwind.specs.declared.unwind_code.UnwindOperation.{UnwindOperation}
+use Rattle.pe_unwind.specs.declared.unwind_code.UnwindOperation.TheVariants.{PushMachineFrame}
+use Rattle.pe_unwind.specs.CodeStream.{AreItems}
+use Rattle.pe_unwind.specs.UnwindRecord.{UnwindInfoView, code_stream}
+use Rattle.pe_frame.specs.declared.registers.Registers.{Registers}
+use Rattle.pe_frame.specs.Undoing.{pointer, error_size, is_framed, is_interrupted, ran}
+use Rattle.pe_frame.specs.Steps.{frame_of}
+use Rattle.pe_frame.specs.Machine.{Machine, top, loaded, run, IsProlog, IsBody, saves, saves_wide, chosen}
+
+-- a record, the codes that it has, and the machine where the code that it describes was entered
+pub record Part : Type 0 where
+  pub info : UnwindInfoView
+  pub codes : List UnwindCode
+  pub entry : Machine
+
+abbrev pub infos : List Part → List UnwindInfoView
+infos parts = map (λ p. p.info) parts
+
+-- the machine once so much of the prolog has run
+abbrev pub left : Option ℕ → Part → Machine
+left limit p = run (frame_of p.info) (ran limit p.codes) p.entry
+
+-- The record has these codes, and they are a prolog of the machine. A record that names a frame register sets it.
+pub record IsRecord (called : Bool) (p : Part) : Type 0 where
+  pub items : AreItems (code_stream p.info) (map Ok p.codes)
+  pub prolog : IsProlog called (frame_of p.info) (ran None p.codes) p.entry
+  pub frame : ((p.info.frame_register).0 ≡ 0) ⊎ (is_framed (ran None p.codes) ≡ true)
+
+-- no offset is above this one, nor above that of a code before it
+abbrev pub FallsFrom : ℕ → List UnwindCode → Type 0
+FallsFrom last [] = Unit {0}
+FallsFrom last (c ∷ cs) = (c.code_offset ≤ last) × FallsFrom c.code_offset cs
+
+-- inside the prolog the codes stand in order, the last one first: so what has run is the first part of the prolog
+abbrev pub IsInOrder : Option ℕ → List UnwindCode → Type 0
+IsInOrder None codes = Unit {0}
+IsInOrder (Some offset) codes = (last : ℕ) × FallsFrom last codes
+
+-- the machine stopped in the body, or in the prolog once so much of it has run
+pub record StopsIn (called : Bool) (limit : Option ℕ) (p : Part) (m : ℕ → Option ℕ) (g : Registers) : Type 0 where
+  pub order : IsInOrder limit p.codes
+  pub body : IsBody called (frame_of p.info) (ran limit p.codes) p.entry m g
+
+-- a register is saved by the part, or is as it was where the part was entered
+abbrev pub SavesOrKeeps : Option ℕ → Part → Registers → ℕ → Type 0
+SavesOrKeeps limit p g r =
+    (saves (ran limit p.codes) r ≡ true) ⊎ (slice_index g.general r ≡ slice_index p.entry.general r)
+
+-- a machine's registers; its instruction pointer plays no part
+abbrev pub registers_of : Machine → Registers
+registers_of s = record { general = s.general; xmm = s.xmm; rip = 0 }
+
+-- Parts of a function from the innermost to the function itself, and the registers in the innermost. The body of each
+-- part that is not the first came to the entry of the one before it, and a part saves a frame register or keeps it. The
+-- known memory m has what each of them stored. The function was called, or an interrupt entered it.
+abbrev pub AreFrames : (ℕ → Option ℕ) → List Part → Option ℕ → Registers → Type 0
+AreFrames m [] limit g = ⊥
+AreFrames m (p ∷ []) limit g = IsRecord true p × (top p.entry + 8 < 2 ^ 64) × StopsIn true limit p m g
+AreFrames m (p ∷ q ∷ parts) limit g =
+    IsRecord false p × (is_interrupted (ran limit p.codes) ≡ false) × StopsIn false limit p m g
+    × AllByRecursion (λ o. IsSome (left None o).frame → SavesOrKeeps limit p g (o.info.frame_register).0) (q ∷ parts)
+    × AreFrames m (q ∷ parts) None (registers_of p.entry)
+
+-- what a register has once all parts are undone: the value at the entry of the outermost part that saved it; else what it has
+abbrev pub restored : List Part → Option ℕ → ℕ → ℕ → ℕ
+restored [] limit r value = value
+restored (p ∷ parts) limit r value =
+    restored parts None r (chosen (saves (ran limit p.codes) r) (slice_index p.entry.general r) value)
+
+abbrev pub restored_wide : List Part → Option ℕ → ℕ → ℕ → ℕ
+restored_wide [] limit r value = value
+restored_wide (p ∷ parts) limit r value =
+    restored_wide parts None r (chosen (saves_wide (ran limit p.codes) r) (slice_index p.entry.xmm r) value)
+
+-- the stack pointer is above the return address, and the instruction pointer at it; or both are as a machine frame has them
+abbrev pub IsAfter : List UnwindOperation → Machine → Registers → Type 0
+IsAfter [] s u = (pointer u ≡ top s + 8) × (u.rip ≡ loaded s.memory (top s))
+IsAfter (PushMachineFrame e ∷ before) s u =
+    (pointer u ≡ loaded s.memory (top s + error_size e + 24)) × (u.rip ≡ loaded s.memory (top s + error_size e))
+IsAfter (other ∷ before) s u = IsAfter before s u
+
+-- the function itself was left for its caller, or for what the interrupt stopped
+abbrev pub Leaves : List Part → Option ℕ → Registers → Type 0
+Leaves [] limit u = ⊥
+Leaves (p ∷ []) limit u = IsAfter (ran limit p.codes) p.entry u
+Leaves (p ∷ q ∷ parts) limit u = Leaves (q ∷ parts) None u
+
+-- the registers of the caller
+pub record IsCaller (parts : List Part) (limit : Option ℕ) (g u : Registers) : Type 0 where
+  pub leaves : Leaves parts limit u
+  pub registers : (r : ℕ) → r ≢ 4 → slice_index u.general r ≡ restored parts limit r (slice_index g.general r)
+  pub wide : (r : ℕ) → slice_index u.xmm r ≡ restored_wide parts limit r (slice_index g.xmm r)

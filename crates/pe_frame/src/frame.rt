@@ -1,0 +1,114 @@
+//! One step of a stack walk.
+
+ghost use Rattle.std.specs.Prelude.{◌≡◌, ◌-◌, List, ◌∷◌, map, false, Ok};
+ghost use Rattle.pe_unwind.specs.UnwindRecord.{unwind_view};
+ghost use Rattle.pe_frame.specs.Undoing.{popped};
+ghost use Rattle.pe_frame.specs.declared.registers.Registers.{Registers};
+ghost use Rattle.pe_frame.specs.Frames.{Part, infos, AreFrames, IsCaller};
+ghost use Rattle.pe_frame.specs.Steps.{Steps, Undoes, limit_of};
+
+use crate::error::FrameError;
+use crate::memory::Memory;
+use crate::record::enter;
+use crate::registers::{RSP, Registers};
+use crate::undo::pop;
+use pe_unwind::UnwindInfo;
+
+/// Up to which offset the codes of the first record have run. `None` after its prolog: all have.
+fn limit_of(plan: &[UnwindInfo<'_>], offset: u32) -> Option<u32>
+    ensures { result ≡ limit_of (map unwind_view plan.now) offset }
+{
+    if plan.is_empty() || u32::from(plan[0].size_of_prolog) <= offset {
+        None
+    } else {
+        Some(offset)
+    }
+}
+
+/// The registers where a function was entered, and whether an interrupt entered it: its records are undone, the first up to
+/// a limit and the others whole.
+fn undo_records<M: Memory>(
+    plan: &[UnwindInfo<'_>],
+    limit: Option<u32>,
+    registers: Registers,
+    memory: &M,
+) -> Result<(Registers, bool), FrameError>
+    ensures { Undoes (M.word memory.now) (map unwind_view plan.now) limit false registers result }
+{
+    let mut current = registers;
+    let mut is_interrupted = false;
+    let mut limit = limit;
+    for info in plan {
+        let (entry, interrupts) = enter(info, limit, current, memory)?;
+        current = entry;
+        is_interrupted = is_interrupted || interrupts;
+        limit = None;
+    }
+    Ok((current, is_interrupted))
+}
+
+/// The registers of the caller, from those at an offset in a function.
+fn caller<M: Memory>(
+    plan: &[UnwindInfo<'_>],
+    offset: u32,
+    registers: Registers,
+    memory: &M,
+) -> Result<Registers, FrameError>
+    ensures { Steps (M.word memory.now) (map unwind_view plan.now) offset registers result }
+{
+    let limit = limit_of(plan, offset);
+    let (entry, is_interrupted) = undo_records(plan, limit, registers, memory)?;
+    if is_interrupted {
+        return Ok(entry);
+    }
+    let caller = pop(entry, memory)?;
+    let pointer = caller.general[RSP];
+    if pointer <= registers.general[RSP] {
+        return Err(FrameError::NotRising(pointer));
+    }
+    Ok(caller)
+}
+
+/// The registers of a function's caller, from those inside the function.
+///
+/// `plan` has the function's unwind records, as `UnwindPlan::of` of pe_plan returns them; `start` is the RVA at which the
+/// function starts, `rva` the instruction pointer less the image base. At or after the end of the prolog all codes of the
+/// first record are undone, inside of it those that end at or before `rva`. The records to which it is chained are undone
+/// whole. Epilogs are not recognized: in one of them the result is wrong.
+///
+/// **A walk.** In the top frame `rva` is the instruction that is about to run: look the function up by it. In each other frame
+/// it is a return address, which may lie after the end of the function if the call is its last instruction: look up by
+/// `rva - 1`, and pass `rva` to this call. After a machine frame, which `PushMachineFrame` of the root record tells, `rva` is
+/// again the instruction that is about to run. Where no function covers the address, call [`leaf`]. The walk ends where the
+/// caller's `rip` is 0 or lies in no image, or where a step is refused. As each step moves the stack pointer up it ends by
+/// itself, except past machine frames, which may lead to another stack: bound the number of frames there.
+///
+/// Refused, in this order: for each record `Codes` if one of its codes is truncated or invalid, `Operation` if
+/// `SetFPRegister` has run and the record has no frame register, `Address` if the frame register lies below its offset;
+/// then for each operation in turn `Operation`, `Address` and `Memory` where they come up. After all records `Memory` and
+/// `Address` for the return address, and last `NotRising`. Nothing is popped, nor is the stack pointer compared, if a machine
+/// frame was undone.
+pub fn step<M: Memory>(
+    plan: &[UnwindInfo<'_>],
+    start: u32,
+    rva: u32,
+    registers: Registers,
+    memory: &M,
+) -> Result<Registers, FrameError>
+    ensures exact { Steps (M.word memory.now) (map unwind_view plan.now) (rva - start) registers result }
+    ensures undoes { (p : Part) (parts : List Part) → map unwind_view plan.now ≡ infos (p ∷ parts) →
+        AreFrames (M.word memory.now) (p ∷ parts) (limit_of (infos (p ∷ parts)) (rva - start)) registers →
+        (u : Registers) × (result ≡ Ok u) × IsCaller (p ∷ parts) (limit_of (infos (p ∷ parts)) (rva - start)) registers u }
+{
+    caller(plan, rva.saturating_sub(start), registers, memory)
+}
+
+/// The registers of the caller of a leaf function: one without unwind data, which changes no nonvolatile register and leaves
+/// the stack pointer at the return address.
+///
+/// `Memory` if the return address is not known, `Address` if it is the last word below 2^64.
+pub fn leaf<M: Memory>(registers: Registers, memory: &M) -> Result<Registers, FrameError>
+    ensures { result ≡ popped (M.word memory.now) registers }
+{
+    pop(registers, memory)
+}

@@ -1,0 +1,49 @@
+//! Laws over the definitions. Each is the contract of a function that does nothing.
+
+ghost use Rattle.std.specs.Prelude.{◌≡◌, ℕ, ◌+◌, ◌-◌, ◌^◌, ◌<◌, ◌≤◌, length, slice_index, List, Option, None, Some, Result, Ok, [], ◌∷◌};
+ghost use Rattle.pe_unwind.specs.UnwindRecord.{UnwindInfoView};
+ghost use Rattle.pe_frame.specs.declared.error.FrameError.{FrameError};
+ghost use Rattle.pe_frame.specs.declared.registers.Registers.{Registers};
+ghost use Rattle.pe_frame.specs.Memory.{word_of};
+ghost use Rattle.pe_frame.specs.Machine.{loaded};
+ghost use Rattle.pe_frame.specs.Frames.{Part, infos, left, registers_of, AreFrames, IsCaller};
+ghost use Rattle.pe_frame.specs.Samples.{all_known, home_part, inner_part, framed_part, interrupt_part};
+ghost use Rattle.pe_frame.specs.Steps.{Steps, by_kind};
+
+/// A step has an answer, and one alone, up to the numbers in a refusal of codes.
+#[tactic(auto, using(crate::proofs::OneStep::some_step))]
+pub fn one_answer_of_steps()
+    ensures exists { (m : ℕ → Option ℕ) (plan : List UnwindInfoView) (offset : ℕ) (g : Registers) →
+        (x : Result Registers FrameError) × Steps m plan offset g x }
+    ensures one { (m : ℕ → Option ℕ) (plan : List UnwindInfoView) (offset : ℕ) (g : Registers) (x y : Result Registers FrameError) →
+        Steps m plan offset g x → Steps m plan offset g y → by_kind x ≡ by_kind y }
+{}
+
+/// A step undoes what the prologs of a function did: where a machine ran them and stopped in the innermost part, after its
+/// prolog (`whole`) or inside of it (`begun`), a step returns the registers of the caller. Each register has the value from
+/// the entry of the outermost part that saved it, or the one that it had if none did. No memory is asked of but the slots
+/// that the prologs stored to, and nothing of what the bodies did to other registers and memory.
+pub fn prologs_are_undone()
+    ensures whole { (m : ℕ → Option ℕ) (p : Part) (parts : List Part) (offset : ℕ) (g : Registers) (x : Result Registers FrameError) →
+        p.info.size_of_prolog ≤ offset → AreFrames m (p ∷ parts) None g → Steps m (infos (p ∷ parts)) offset g x →
+        (u : Registers) × (x ≡ Ok u) × IsCaller (p ∷ parts) None g u }
+    ensures begun { (m : ℕ → Option ℕ) (p : Part) (parts : List Part) (offset : ℕ) (g : Registers) (x : Result Registers FrameError) →
+        offset < p.info.size_of_prolog → AreFrames m (p ∷ parts) (Some offset) g → Steps m (infos (p ∷ parts)) offset g x →
+        (u : Registers) × (x ≡ Ok u) × IsCaller (p ∷ parts) (Some offset) g u }
+{}
+
+/// Bytes of a stack that are those of a machine's memory show what the memory has.
+pub fn stacks_show_memory()
+    ensures { (bytes : List ℕ) (start a : ℕ) (memory : ℕ → ℕ) →
+        start ≤ a → a + 8 ≤ start + length bytes → a + 8 ≤ 2 ^ 64 → ((i : ℕ) → i < 8 → slice_index bytes (a - start + i) ≡ memory (a + i)) →
+        word_of bytes start a ≡ Some (loaded memory a) }
+{}
+
+/// There are such frames: of a part in the body of a function, of one with a frame register, after its prolog and inside of
+/// it, and of an interrupt.
+pub fn prologs_are_there()
+    ensures chained { AreFrames (all_known (left None inner_part)) (inner_part ∷ home_part ∷ []) None (registers_of (left None inner_part)) }
+    ensures framed { AreFrames (all_known (left None framed_part)) (framed_part ∷ []) None (registers_of (left None framed_part)) }
+    ensures begun { AreFrames (all_known (left (Some 11) framed_part)) (framed_part ∷ []) (Some 11) (registers_of (left (Some 11) framed_part)) }
+    ensures interrupted { AreFrames (all_known (left None interrupt_part)) (interrupt_part ∷ []) None (registers_of (left None interrupt_part)) }
+{}

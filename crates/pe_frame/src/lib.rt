@@ -1,0 +1,24 @@
+//! One step of a stack walk on x64: the registers of a function's caller, from its own registers, its unwind records and
+//! the memory of its stack.
+//!
+//! A prolog pushes registers, allocates stack, may set a frame register and saves further registers. Unwind codes tell what
+//! it did, the last step first, so that undoing them in turn leads back to the function's entry, where the stack pointer
+//! points at the return address. [Microsoft's page](https://learn.microsoft.com/cpp/build/exception-handling-x64) has the
+//! codes and the procedure.
+//!
+//! A walk is `UnwindPlan::of` of pe_plan and [`step`] in turn, or [`leaf`] where no function covers the address. What a
+//! caller of `step` looks up, and how a walk ends, is said there.
+#![tactic(auto)]
+
+mod error;
+mod frame;
+pub mod laws;
+mod memory;
+mod record;
+mod registers;
+mod undo;
+
+pub use error::FrameError;
+pub use frame::{leaf, step};
+pub use memory::{Memory, Stack};
+pub use registers::Registers;

@@ -1,0 +1,39 @@
+//! The memory that a step reads: the stack of the thread.
+
+ghost use Rattle.std.specs.Prelude.{◌≡◌, ℕ, Option};
+ghost use Rattle.pe_frame.specs.Memory.{word_of};
+
+use pe_core::u64_at;
+
+/// The bytes of a word, which is what a push stores.
+pub(crate) const SIZE_OF_WORD: u64 = 8;
+
+/// Memory of a thread, by address. A step asks for its stack alone, eight bytes at a time.
+pub trait Memory {
+    // The number of the eight bytes at an address, if they are known.
+    ghost word: { Self → ℕ → Option ℕ };
+
+    /// The little-endian number of the eight bytes at this address. `None` if they are not all known.
+    fn u64_at(&self, address: u64) -> Option<u64>
+        ensures { result ≡ word self.now address };
+}
+
+/// A part of memory as minidumps hold it: bytes, and the address of the first.
+#[derive(Clone, Copy, Debug)]
+pub struct Stack<'a> {
+    /// The address of the first byte.
+    pub start: u64,
+    /// The bytes. Those past address 2^64 - 1 have no address.
+    pub bytes: &'a [u8],
+}
+
+impl<'a> Memory for Stack<'a> {
+    ghost word = { λ s. word_of s.bytes.now s.start };
+
+    fn u64_at(&self, address: u64) -> Option<u64> {
+        if address < self.start || address > u64::MAX - (SIZE_OF_WORD - 1) {
+            return None;
+        }
+        u64_at(self.bytes, (address - self.start) as usize).ok()
+    }
+}

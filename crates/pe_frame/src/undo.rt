@@ -1,0 +1,153 @@
+//! Undoing one operation of a prolog.
+
+ghost use Rattle.std.specs.Prelude.{◌≡◌};
+ghost use Rattle.pe_frame.specs.Undoing.{offset_number, number, above, raised, integer, xmm, wide_number, interrupted_at, undone, popped};
+
+use crate::error::FrameError;
+use crate::memory::{Memory, SIZE_OF_WORD};
+use crate::registers::{RSP, Registers};
+use pe_unwind::{Register, StackFrameOffset, UnwindOperation};
+
+/// How many integer registers there are.
+pub(crate) const INTEGER_REGISTERS: u8 = 16;
+
+/// The numbers of the first XMM register and of the last.
+const XMM0: u8 = 17;
+
+const XMM15: u8 = 32;
+
+/// How far above the instruction pointer a machine frame has the stack pointer: past cs and the flags.
+const RSP_OF_MACHINE_FRAME: u64 = 24;
+
+/// The number of the eight bytes at an address.
+fn number<M: Memory>(memory: &M, address: u64) -> Result<u64, FrameError>
+    ensures { result ≡ number (M.word memory.now) address }
+{
+    match memory.u64_at(address) {
+        Some(value) => Ok(value),
+        None => Err(FrameError::Memory(address)),
+    }
+}
+
+/// The address so many bytes above another.
+fn above(address: u64, offset: u64) -> Result<u64, FrameError>
+    ensures { result ≡ above address offset }
+{
+    match address.checked_add(offset) {
+        Some(sum) => Ok(sum),
+        None => Err(FrameError::Address(address)),
+    }
+}
+
+/// The registers with the stack pointer raised.
+fn raise(by: u64, registers: Registers) -> Result<Registers, FrameError>
+    ensures { result ≡ raised by registers }
+{
+    let mut registers = registers;
+    registers.general[RSP] = above(registers.general[RSP], by)?;
+    Ok(registers)
+}
+
+/// The index of an integer register of an operation.
+fn integer(operation: UnwindOperation, register: Register) -> Result<usize, FrameError>
+    ensures { result ≡ integer operation register.0 }
+{
+    if register.0 < INTEGER_REGISTERS {
+        Ok(usize::from(register.0))
+    } else {
+        Err(FrameError::Operation(operation))
+    }
+}
+
+/// The index of an XMM register of an operation.
+fn xmm(operation: UnwindOperation, register: Register) -> Result<usize, FrameError>
+    ensures { result ≡ xmm operation register.0 }
+{
+    if XMM0 <= register.0 && register.0 <= XMM15 {
+        Ok(usize::from(register.0 - XMM0))
+    } else {
+        Err(FrameError::Operation(operation))
+    }
+}
+
+/// How far above the base of the frame a register is saved.
+fn bytes_above(offset: StackFrameOffset) -> u64
+    ensures { result ≡ offset_number offset }
+{
+    match offset {
+        StackFrameOffset::RSP(bytes) | StackFrameOffset::FP(bytes) => u64::from(bytes),
+    }
+}
+
+/// The number of the 16 bytes at an address.
+fn wide_number<M: Memory>(memory: &M, address: u64) -> Result<u128, FrameError>
+    ensures { result ≡ wide_number (M.word memory.now) address }
+{
+    let low = number(memory, address)?;
+    let high = number(memory, above(address, SIZE_OF_WORD)?)?;
+    Ok(u128::from(low) + u128::from(high) * 0x1_0000_0000_0000_0000)
+}
+
+/// The registers before an interrupt, whose machine frame has the instruction pointer at this address.
+fn interrupted<M: Memory>(
+    address: u64,
+    registers: Registers,
+    memory: &M,
+) -> Result<Registers, FrameError>
+    ensures { result ≡ interrupted_at (M.word memory.now) address registers }
+{
+    let mut registers = registers;
+    registers.rip = number(memory, address)?;
+    registers.general[RSP] = number(memory, above(address, RSP_OF_MACHINE_FRAME)?)?;
+    Ok(registers)
+}
+
+/// The registers before an operation, from those after it. Saved registers lie above the base.
+pub(crate) fn undo<M: Memory>(
+    operation: UnwindOperation,
+    base: u64,
+    registers: Registers,
+    memory: &M,
+) -> Result<Registers, FrameError>
+    ensures { result ≡ undone (M.word memory.now) base operation registers }
+{
+    let mut registers = registers;
+    match operation {
+        UnwindOperation::PushNonVolatile(register) => {
+            let index = integer(operation, register)?;
+            registers.general[index] = number(memory, registers.general[RSP])?;
+            raise(SIZE_OF_WORD, registers)
+        }
+        UnwindOperation::Alloc(size) => raise(u64::from(size), registers),
+        UnwindOperation::SetFPRegister => {
+            registers.general[RSP] = base;
+            Ok(registers)
+        }
+        UnwindOperation::SaveNonVolatile(register, offset) => {
+            let index = integer(operation, register)?;
+            registers.general[index] = number(memory, above(base, bytes_above(offset))?)?;
+            Ok(registers)
+        }
+        UnwindOperation::SaveXMM128(register, offset) => {
+            let index = xmm(operation, register)?;
+            registers.xmm[index] = wide_number(memory, above(base, bytes_above(offset))?)?;
+            Ok(registers)
+        }
+        UnwindOperation::PushMachineFrame(has_error_code) => {
+            let skipped = if has_error_code { SIZE_OF_WORD } else { 0 };
+            interrupted(above(registers.general[RSP], skipped)?, registers, memory)
+        }
+        UnwindOperation::Epilog { .. } | UnwindOperation::Noop => Ok(registers),
+        UnwindOperation::SaveXMM(_, _) => Err(FrameError::Operation(operation)),
+    }
+}
+
+/// The caller's registers, where the stack pointer points at the return address.
+pub(crate) fn pop<M: Memory>(registers: Registers, memory: &M) -> Result<Registers, FrameError>
+    ensures { result ≡ popped (M.word memory.now) registers }
+{
+    let address = number(memory, registers.general[RSP])?;
+    let mut caller = raise(SIZE_OF_WORD, registers)?;
+    caller.rip = address;
+    Ok(caller)
+}

@@ -1,0 +1,51 @@
+//! A stack walk over one image.
+
+use pe_frame::{Registers, Stack, leaf, step};
+use pe_image::{COFF_MACHINE_X86_64, PE, ParseMode, ParseOptions, Result};
+use pe_plan::UnwindPlan;
+use std::alloc::Global;
+
+/// The instruction pointers of a thread's frames in an x64 image that is loaded at `base`, from the innermost frame to the last
+/// one that can be unwound in this image; at most so many.
+pub fn walk_stack(
+    alloc: Global,
+    bytes: &[u8],
+    base: u64,
+    registers: Registers,
+    stack: &Stack<'_>,
+    most: usize,
+) -> Result<Vec<u64>> {
+    let opts = ParseOptions::default().with_parse_mode(ParseMode::Permissive);
+    let image = PE::parse_with_opts(alloc, bytes, &opts)?;
+    let mut frames = Vec::new(alloc);
+    let Some(exceptions) = &image.exception_data else {
+        return Ok(frames);
+    };
+    if image.header.coff_header.machine != COFF_MACHINE_X86_64 {
+        return Ok(frames);
+    }
+    let mut registers = registers;
+    for depth in 0..most {
+        frames.push(registers.rip)?;
+        let Ok(rva) = u32::try_from(registers.rip.wrapping_sub(base)) else {
+            break;
+        };
+        // A return address may be the end of its function: the call before it is inside.
+        let is_return_address = depth > 0;
+        let inside = rva.saturating_sub(u32::from(is_return_address));
+        let caller = match exceptions.find_function(inside)? {
+            Some(function) => {
+                let records =
+                    UnwindPlan::of_function(alloc, exceptions, function, &image.sections, &opts)?;
+                step(&records, function.begin_address, rva, registers, stack)
+            }
+            None if is_return_address => break,
+            None => leaf(registers, stack),
+        };
+        match caller {
+            Ok(caller) => registers = caller,
+            Err(_) => break,
+        }
+    }
+    Ok(frames)
+}
