@@ -8,8 +8,8 @@ ghost use Rattle.pe_core.specs.Exports.{export_data_view, export_data_at, export
 ghost use Rattle.pe_core.specs.Options.{default_options};
 ghost use Rattle.pe_core.specs.Refusals.{Gives, GivesUnlessMemory};
 ghost use Rattle.pe_core.specs.Rows.{each};
-ghost use Rattle.pe_core.specs.SectionIndex.{place_or_end};
-ghost use Rattle.pe_core.specs.SectionMap.{place_of};
+ghost use Rattle.pe_core.specs.SectionIndex.{offset_or_end};
+ghost use Rattle.pe_core.specs.SectionMap.{offset_in, section_map};
 ghost use Rattle.pe_core.specs.Text.{texts_of};
 
 use crate::bytes::{number16, number32, require_bytes, slice_at, u32_at};
@@ -18,7 +18,7 @@ use crate::error::Result;
 use crate::many_texts::texts_at;
 use crate::options::ParseOptions;
 use crate::section_index::SectionIndex;
-use crate::section_map::{find_offset, mapped_place};
+use crate::section_map::{find_offset, mapped_offset};
 use crate::section_table::SectionTable;
 use crate::text::text_at;
 use std::alloc::{AllocError, Allocator};
@@ -84,7 +84,7 @@ fn image_name<'a>(
     file_alignment: u32,
     opts: &ParseOptions,
 ) -> Option<&'a str>
-    ensures { option_map (λ s. s.now) result ≡ image_name (place_of opts.now.resolve_rva file_alignment sections.now) bytes.entry.now rva }
+    ensures { option_map (λ s. s.now) result ≡ image_name (section_map opts.now sections.now file_alignment) bytes.entry.now rva }
 {
     if rva == 0 {
         return None;
@@ -102,12 +102,12 @@ fn table_at<'a>(
     file_alignment: u32,
     opts: &ParseOptions,
 ) -> Result<&'a [u8]>
-    ensures { Gives (λ s. s.now) result (table_at (place_of opts.now.resolve_rva file_alignment sections.now) bytes.entry.now rva size) }
+    ensures { Gives (λ s. s.now) result (table_at (section_map opts.now sections.now file_alignment) bytes.entry.now rva size) }
 {
     if size == 0 {
         return Ok(&[]);
     }
-    let place = mapped_place(rva, sections, file_alignment, opts)?;
+    let place = mapped_offset(rva, sections, file_alignment, opts)?;
     slice_at(bytes, place, size)
 }
 
@@ -133,7 +133,7 @@ impl<'a> ExportData<'a> {
         sections: &[SectionTable],
         file_alignment: u32,
     ) -> Result<ExportData<'a>>
-        ensures { Gives export_data_view result (export_data_at (place_of default_options.resolve_rva file_alignment sections.now) bytes.entry.now directory.virtual_address) }
+        ensures { Gives export_data_view result (export_data_at (section_map default_options sections.now file_alignment) bytes.entry.now directory.virtual_address) }
     {
         ExportData::parse_with_opts(
             bytes,
@@ -154,9 +154,9 @@ impl<'a> ExportData<'a> {
         file_alignment: u32,
         opts: &ParseOptions,
     ) -> Result<ExportData<'a>>
-        ensures { Gives export_data_view result (export_data_at (place_of opts.now.resolve_rva file_alignment sections.now) bytes.entry.now directory.virtual_address) }
+        ensures { Gives export_data_view result (export_data_at (section_map opts.now sections.now file_alignment) bytes.entry.now directory.virtual_address) }
     {
-        let place = mapped_place(directory.virtual_address, sections, file_alignment, opts)?;
+        let place = mapped_offset(directory.virtual_address, sections, file_alignment, opts)?;
         require_bytes(bytes, place, SIZE_OF_EXPORT_DIRECTORY)?;
         let directory = ExportDirectoryTable::at(bytes, place);
         let size = 4 * directory.address_table_entries as usize;
@@ -212,7 +212,7 @@ fn named_export<'a, A: Allocator>(
     export_data: &ExportData<'_>,
     index: &SectionIndex<'_, A>,
 ) -> Option<Export<'a>>
-    ensures { option_map export_view result ≡ option_and_then (named_export (place_of index.now.resolve index.now.alignment index.now.sections) (export_data_view export_data.now) i) (option_map (λ s. s.now) name.entry) }
+    ensures { option_map export_view result ≡ option_and_then (named_export (offset_in index.now) (export_data_view export_data.now) i) (option_map (λ s. s.now) name.entry) }
 {
     let name = name?;
     let ordinal = ordinal_of(export_data.ordinals, i)?;
@@ -231,7 +231,7 @@ fn named_exports<'a, A: Allocator>(
     export_data: &ExportData<'_>,
     index: &SectionIndex<'_, A>,
 ) -> Result<Vec<Export<'a>, A>>
-    ensures { GivesUnlessMemory (λ v. map export_view v.items) result (Ok (exports_from (place_of index.now.resolve index.now.alignment index.now.sections) (export_data_view export_data.now) 0 (texts_of names.now))) }
+    ensures { GivesUnlessMemory (λ v. map export_view v.items) result (Ok (exports_from (offset_in index.now) (export_data_view export_data.now) 0 (texts_of names.now))) }
 {
     let mut exports = Vec::with_capacity(alloc, names.len())?;
     for (i, name) in names.iter().enumerate() {
@@ -249,7 +249,7 @@ fn name_places<A: Allocator>(
     names: &[u8],
     index: &SectionIndex<'_, A>,
 ) -> std::result::Result<Vec<usize, A>, AllocError>
-    ensures { IfOk result (λ v. v.items ≡ each (λ i. place_or_end (place_of index.now.resolve index.now.alignment index.now.sections (le names.now (4 * i) 4))) (length names.now / 4)) }
+    ensures { IfOk result (λ v. v.items ≡ each (λ i. offset_or_end (offset_in index.now (le names.now (4 * i) 4))) (length names.now / 4)) }
 {
     let count = names.len() / 4;
     let mut places = Vec::with_capacity(alloc, count)?;
@@ -267,7 +267,7 @@ fn exports_by_index<'a, A: Allocator + Copy + Drop>(
     export_data: &ExportData<'_>,
     index: &SectionIndex<'_, A>,
 ) -> Result<Vec<Export<'a>, A>>
-    ensures { GivesUnlessMemory (λ v. map export_view v.items) result (Ok (exports (place_of index.now.resolve index.now.alignment index.now.sections) bytes.entry.now (export_data_view export_data.now))) }
+    ensures { GivesUnlessMemory (λ v. map export_view v.items) result (Ok (exports (offset_in index.now) bytes.entry.now (export_data_view export_data.now))) }
 {
     let places = name_places(alloc, export_data.names, index)?;
     let names = texts_at(alloc, bytes, &places)?;
@@ -286,7 +286,7 @@ impl<'a> Export<'a> {
         file_alignment: u32,
         opts: &ParseOptions,
     ) -> Result<Vec<Export<'a>, A>>
-        ensures { GivesUnlessMemory (λ v. map export_view v.items) result (Ok (exports (place_of opts.now.resolve_rva file_alignment sections.now) bytes.entry.now (export_data_view export_data.now))) }
+        ensures { GivesUnlessMemory (λ v. map export_view v.items) result (Ok (exports (section_map opts.now sections.now file_alignment) bytes.entry.now (export_data_view export_data.now))) }
     {
         let index = SectionIndex::new(alloc, sections, file_alignment, opts)?;
         exports_by_index(alloc, bytes, export_data, &index)

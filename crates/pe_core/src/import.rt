@@ -10,8 +10,8 @@ ghost use Rattle.pe_core.specs.Options.{default_options};
 ghost use Rattle.pe_core.specs.Records.{import_entry};
 ghost use Rattle.pe_core.specs.Refusals.{Gives, GivesUnlessMemory, GivesUnlessMemoryAfter};
 ghost use Rattle.pe_core.specs.Rows.{each};
-ghost use Rattle.pe_core.specs.SectionIndex.{place_or_end};
-ghost use Rattle.pe_core.specs.SectionMap.{mapped, place_of};
+ghost use Rattle.pe_core.specs.SectionIndex.{offset_or_end};
+ghost use Rattle.pe_core.specs.SectionMap.{mapped, offset_in, section_map};
 ghost use Rattle.pe_core.specs.Text.{text_at, texts_of};
 ghost use Rattle.pe_core.specs.declared.error.Error.TheVariants.{Memory};
 
@@ -21,7 +21,7 @@ use crate::error::{Error, Reason, Result};
 use crate::many_texts::texts_at;
 use crate::options::ParseOptions;
 use crate::section_index::SectionIndex;
-use crate::section_map::mapped_place;
+use crate::section_map::mapped_offset;
 use crate::section_table::SectionTable;
 use std::alloc::{AllocError, Allocator, Global};
 
@@ -165,7 +165,7 @@ fn lookups_of<'a, A: Allocator>(
     index: &SectionIndex<'_, A>,
     is_64: bool,
 ) -> Result<&'a [u8]>
-    ensures { Gives (λ s. s.now) result (lookups_at (entry_size is_64) bytes.entry.now (place_of index.now.resolve index.now.alignment index.now.sections (lookups_rva entry.now))) }
+    ensures { Gives (λ s. s.now) result (lookups_at (entry_size is_64) bytes.entry.now (offset_in index.now (lookups_rva entry.now))) }
 {
     match index.find(entry.lookups_rva() as usize) {
         Some(place) => lookups_at(bytes, place, is_64),
@@ -182,8 +182,8 @@ fn import_record<'a, A: Allocator>(
     index: &SectionIndex<'_, A>,
     is_64: bool,
 ) -> Result<SyntheticImportDirectoryEntry<'a>>
-    requires { option_map (λ s. s.now) name ≡ option_and_then (text_at bytes.now) (place_of index.now.resolve index.now.alignment index.now.sections entry.name_rva) }
-    ensures { Gives (λ r. Some (import_record_view r)) result (import_record (place_of index.now.resolve index.now.alignment index.now.sections) (entry_size is_64) bytes.entry.now entry) }
+    requires { option_map (λ s. s.now) name ≡ option_and_then (text_at bytes.now) (offset_in index.now entry.name_rva) }
+    ensures { Gives (λ r. Some (import_record_view r)) result (import_record (offset_in index.now) (entry_size is_64) bytes.entry.now entry) }
 {
     let rva = entry.name_rva;
     if index.find(rva as usize).is_none() {
@@ -230,7 +230,7 @@ fn name_places<A: Allocator>(
     index: &SectionIndex<'_, A>,
 ) -> std::result::Result<Vec<usize, A>, AllocError>
     requires { StandInFront bytes.now place count }
-    ensures { IfOk result (λ v. v.items ≡ each (λ i. place_or_end (place_of index.now.resolve index.now.alignment index.now.sections (import_entry bytes.now (place + 20 * i)).name_rva)) count) }
+    ensures { IfOk result (λ v. v.items ≡ each (λ i. offset_or_end (offset_in index.now (import_entry bytes.now (place + 20 * i)).name_rva)) count) }
 {
     let mut places = Vec::with_capacity(alloc, count)?;
     for i in 0..count {
@@ -251,8 +251,8 @@ fn named_records<'a, A: Allocator>(
     is_64: bool,
 ) -> Result<Vec<SyntheticImportDirectoryEntry<'a>, A>>
     requires stand { StandInFront bytes.now place (length names.now) }
-    requires names { AreNames (place_of index.now.resolve index.now.alignment index.now.sections) bytes.now place names.now }
-    ensures { GivesUnlessMemory (λ v. map import_record_view v.items) result (import_records (place_of index.now.resolve index.now.alignment index.now.sections) (entry_size is_64) bytes.entry.now place) }
+    requires names { AreNames (offset_in index.now) bytes.now place names.now }
+    ensures { GivesUnlessMemory (λ v. map import_record_view v.items) result (import_records (offset_in index.now) (entry_size is_64) bytes.entry.now place) }
 {
     let mut records = Vec::with_capacity(alloc, names.len())?;
     for (i, name) in names.iter().enumerate() {
@@ -273,7 +273,7 @@ fn records_by_index<'a, A: Allocator + Copy + Drop>(
     index: &SectionIndex<'_, A>,
     is_64: bool,
 ) -> Result<Vec<SyntheticImportDirectoryEntry<'a>, A>>
-    ensures { GivesUnlessMemory (λ v. map import_record_view v.items) result (import_records (place_of index.now.resolve index.now.alignment index.now.sections) (entry_size is_64) bytes.entry.now place) }
+    ensures { GivesUnlessMemory (λ v. map import_record_view v.items) result (import_records (offset_in index.now) (entry_size is_64) bytes.entry.now place) }
 {
     let count = count_records(bytes, place);
     let places = name_places(alloc, bytes, place, count, index)?;
@@ -305,8 +305,8 @@ impl<'a, A: Allocator + Copy + Drop> ImportData<'a, A> {
         file_alignment: u32,
         is_64: bool,
     ) -> Result<ImportData<'a, A>>
-        ensures { GivesUnlessMemoryAfter (mapped (place_of default_options.resolve_rva file_alignment sections.now directory.virtual_address)) import_data_view result
-            (import_data_at (place_of default_options.resolve_rva file_alignment sections.now) (entry_size is_64) bytes.entry.now directory.virtual_address) }
+        ensures { GivesUnlessMemoryAfter (mapped (section_map default_options sections.now file_alignment directory.virtual_address)) import_data_view result
+            (import_data_at (section_map default_options sections.now file_alignment) (entry_size is_64) bytes.entry.now directory.virtual_address) }
     {
         ImportData::parse_with_opts(
             alloc,
@@ -332,10 +332,10 @@ impl<'a, A: Allocator + Copy + Drop> ImportData<'a, A> {
         opts: &ParseOptions,
         is_64: bool,
     ) -> Result<ImportData<'a, A>>
-        ensures { GivesUnlessMemoryAfter (mapped (place_of opts.now.resolve_rva file_alignment sections.now directory.virtual_address)) import_data_view result
-            (import_data_at (place_of opts.now.resolve_rva file_alignment sections.now) (entry_size is_64) bytes.entry.now directory.virtual_address) }
+        ensures { GivesUnlessMemoryAfter (mapped (section_map opts.now sections.now file_alignment directory.virtual_address)) import_data_view result
+            (import_data_at (section_map opts.now sections.now file_alignment) (entry_size is_64) bytes.entry.now directory.virtual_address) }
     {
-        let place = mapped_place(directory.virtual_address, sections, file_alignment, opts)?;
+        let place = mapped_offset(directory.virtual_address, sections, file_alignment, opts)?;
         let index = SectionIndex::new(alloc, sections, file_alignment, opts)?;
         let import_data = records_by_index(alloc, bytes, place, &index, is_64)?;
         Ok(ImportData { import_data })
@@ -428,7 +428,7 @@ fn entry_places<A: Allocator>(
     index: &SectionIndex<'_, A>,
     is_64: bool,
 ) -> std::result::Result<Vec<usize, A>, AllocError>
-    ensures { IfOk result (λ v. v.items ≡ map (name_place (place_of index.now.resolve index.now.alignment index.now.sections) (entry_size is_64)) (map entry_view entries.now)) }
+    ensures { IfOk result (λ v. v.items ≡ map (name_place (offset_in index.now) (entry_size is_64)) (map entry_view entries.now)) }
 {
     let mut places = Vec::with_capacity(alloc, entries.len())?;
     for entry in entries {
@@ -453,8 +453,8 @@ fn import_of<'a, A: Allocator>(
     index: &SectionIndex<'_, A>,
     is_64: bool,
 ) -> Result<Import<'a>>
-    requires { option_map (λ s. s.now) name ≡ text_at bytes.now (name_place (place_of index.now.resolve index.now.alignment index.now.sections) (entry_size is_64) (entry_view entry.now)) }
-    ensures { Gives import_view result (import_of (place_of index.now.resolve index.now.alignment index.now.sections) (entry_size is_64) bytes.entry.now (entry_view entry.entry.now)) }
+    requires { option_map (λ s. s.now) name ≡ text_at bytes.now (name_place (offset_in index.now) (entry_size is_64) (entry_view entry.now)) }
+    ensures { Gives import_view result (import_of (offset_in index.now) (entry_size is_64) bytes.entry.now (entry_view entry.entry.now)) }
 {
     let Entry { dll, rva, .. } = *entry;
     if entry.is_ordinal(is_64) {
@@ -492,8 +492,8 @@ fn named_imports<'a, A: Allocator>(
     is_64: bool,
 ) -> Result<Vec<Import<'a>, A>>
     requires many { length names.now ≡ length entries.now }
-    requires names { AreEntryNames (place_of index.now.resolve index.now.alignment index.now.sections) (entry_size is_64) bytes.now entries.now names.now }
-    ensures { GivesUnlessMemory (λ v. map import_view v.items) result (all_or_refusal (map (import_of (place_of index.now.resolve index.now.alignment index.now.sections) (entry_size is_64) bytes.entry.now) (map entry_view entries.now))) }
+    requires names { AreEntryNames (offset_in index.now) (entry_size is_64) bytes.now entries.now names.now }
+    ensures { GivesUnlessMemory (λ v. map import_view v.items) result (all_or_refusal (map (import_of (offset_in index.now) (entry_size is_64) bytes.entry.now) (map entry_view entries.now))) }
 {
     let mut imports = Vec::with_capacity(alloc, entries.len())?;
     for (i, entry) in entries.iter().enumerate() {
@@ -511,7 +511,7 @@ fn imports_by_index<'a, A: Allocator + Copy + Drop>(
     index: &SectionIndex<'_, A>,
     is_64: bool,
 ) -> Result<Vec<Import<'a>, A>>
-    ensures { GivesUnlessMemory (λ v. map import_view v.items) result (imports (place_of index.now.resolve index.now.alignment index.now.sections) (entry_size is_64) bytes.entry.now (map import_record_view records.now)) }
+    ensures { GivesUnlessMemory (λ v. map import_view v.items) result (imports (offset_in index.now) (entry_size is_64) bytes.entry.now (map import_record_view records.now)) }
 {
     let entries = entries_of(alloc, records, is_64)?;
     let places = entry_places(alloc, &entries, index, is_64)?;
@@ -532,7 +532,7 @@ impl<'a> Import<'a> {
         opts: &ParseOptions,
         is_64: bool,
     ) -> Result<Vec<Import<'a>, A>>
-        ensures { GivesUnlessMemory (λ v. map import_view v.items) result (imports (place_of opts.now.resolve_rva file_alignment sections.now) (entry_size is_64) bytes.entry.now (import_data_view import_data.now)) }
+        ensures { GivesUnlessMemory (λ v. map import_view v.items) result (imports (section_map opts.now sections.now file_alignment) (entry_size is_64) bytes.entry.now (import_data_view import_data.now)) }
     {
         let index = SectionIndex::new(alloc, sections, file_alignment, opts)?;
         imports_by_index(alloc, bytes, &import_data.import_data, &index, is_64)

@@ -45,7 +45,7 @@ pub use import::{
 pub use optional_header::{MAGIC_32, MAGIC_64, OptionalHeader, StandardFields, WindowsFields};
 pub use options::{ParseMode, ParseOptions};
 pub use relocation::RelocationData;
-pub use section_map::{find_offset, rounded_up};
+pub use section_map::{find_offset, mapped_offset, rounded_up};
 pub use section_table::SectionTable;
 pub use strtab::Strtab;
 pub use symbol::{SIZE_OF_SYMBOL, Symbol, SymbolIterator, SymbolTable};

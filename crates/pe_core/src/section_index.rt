@@ -1,8 +1,8 @@
 //! The index of a list of sections.
 
 ghost use Rattle.std.specs.Prelude.{◌≡◌, ◌+◌, ◌-◌, ◌<◌, ◌≤◌, ◌^◌, IfOk, IfErr};
-ghost use Rattle.pe_core.specs.SectionMap.{place_of};
-ghost use Rattle.pe_core.specs.SectionIndex.{place_or_end};
+ghost use Rattle.pe_core.specs.SectionMap.{offset_in};
+ghost use Rattle.pe_core.specs.SectionIndex.{offset_or_end};
 ghost use Rattle.pe_core.specs.declared.error.Error.TheVariants.{Memory};
 
 use crate::error::Result;
@@ -27,9 +27,10 @@ pub(crate) struct SectionIndex<'a, A: Allocator> {
 
 impl<'a, A: Allocator> Model for SectionIndex<'a, A> {
     ghost use Rattle.std.specs.Prelude.{IfSome};
-    ghost use Rattle.pe_core.specs.SectionIndex.{Indexed, Agrees};
+    ghost use Rattle.pe_core.specs.SectionIndex.{Agrees};
+    ghost use Rattle.pe_core.specs.SectionMap.{SectionMapView};
 
-    ghost Value = { Indexed };
+    ghost Value = { SectionMapView };
 
     ghost view = { λ s. record { resolve = s.opts.resolve_rva; alignment = s.file_alignment; sections = s.sections.now } };
 
@@ -65,9 +66,9 @@ impl<'a, A: Allocator> SectionIndex<'a, A> {
         })
     }
 
-    /// The place in the file of the address, as `find_offset` gives it.
+    /// The file offset of the RVA, as `find_offset` returns it.
     pub(crate) fn find(&self, rva: usize) -> Option<usize>
-        ensures { result ≡ place_of self.now.resolve self.now.alignment self.now.sections rva }
+        ensures { result ≡ offset_in self.now rva }
     {
         match &self.pieces {
             None => find_offset(rva, self.sections, self.file_alignment, &self.opts),
@@ -77,9 +78,10 @@ impl<'a, A: Allocator> SectionIndex<'a, A> {
             }
         }
     }
-    /// The same for readers of texts: an address without a place gets one where no byte stands.
+
+    /// The same for readers of texts: an unmapped RVA gets an offset at which no byte stands.
     pub(crate) fn find_or_end(&self, rva: u32) -> usize
-        ensures { result ≡ place_or_end (place_of self.now.resolve self.now.alignment self.now.sections rva) }
+        ensures { result ≡ offset_or_end (offset_in self.now rva) }
     {
         self.find(rva as usize).unwrap_or(usize::MAX)
     }
