@@ -9,8 +9,8 @@ use Rattle.std.proofs.Math.Seq.{drop-cons}
 use Rattle.std.proofs.lemmas.List.{append-nil, drop_all, get_or-map, length-map, map-append}
 use Rattle.pe_core.specs.declared.error.Error.{Error}
 use Rattle.pe_core.specs.declared.error.Error.TheVariants as errors
-use Rattle.pe_core.specs.declared.import.Entry.{Entry}
-use Rattle.pe_core.specs.declared.import.Import.{Import}
+use Rattle.pe_core.specs.declared.import_list.Entry.{Entry}
+use Rattle.pe_core.specs.declared.import_list.Import.{Import}
 use Rattle.pe_core.specs.declared.import.ImportDirectoryEntry.{ImportDirectoryEntry}
 use Rattle.pe_core.specs.declared.import.SyntheticImportDirectoryEntry.{SyntheticImportDirectoryEntry}
 use Rattle.pe_core.specs.Bytes.{le, holds, range, record_at}

@@ -3,7 +3,7 @@ use Rattle.std.specs.Prelude.{◌≡◌, ℕ, ◌+◌, ◌*◌, ◌-◌, ◌%◌
 use Rattle.std.specs.Borrow.{Bor}
 use Rattle.std.specs.Option.{option_and_then, option_map}
 use Rattle.pe_core.specs.Records.{import_entry}
-use Rattle.pe_core.specs.declared.import.Entry.{Entry}
+use Rattle.pe_core.specs.declared.import_list.Entry.{Entry}
 use Rattle.pe_core.specs.Imports.{EntryView, is_last, is_ordinal}
 use Rattle.pe_core.specs.SectionIndex.{offset_or_end}
 use Rattle.pe_core.specs.Text.{text_at}

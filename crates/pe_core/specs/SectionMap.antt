@@ -50,6 +50,9 @@ pub record SectionMapView : Type 0 where
   pub alignment : ℕ
   pub sections : List SectionTable
 
+abbrev pub map_view : ParseOptions → List SectionTable → ℕ → SectionMapView
+map_view opts sections alignment = record { resolve = opts.resolve_rva; alignment = alignment; sections = sections }
+
 -- the file offset of an RVA by a section map
 abbrev pub offset_in : SectionMapView → ℕ → Option ℕ
 offset_in m = offset_of m.resolve m.alignment m.sections

@@ -8,7 +8,7 @@ use crate::bytes::slice_at;
 use crate::data_directories::DataDirectory;
 use crate::error::Result;
 use crate::options::ParseOptions;
-use crate::section_map::mapped_offset;
+use crate::section_index::mapped_offset;
 use crate::section_table::SectionTable;
 
 /// The base relocations of an image: blocks, which are not read further.

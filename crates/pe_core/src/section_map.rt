@@ -3,10 +3,8 @@
 ghost use Rattle.std.specs.Prelude.{◌≡◌, ℕ, ◌+◌, ◌%◌, ◌<◌, ◌≤◌, ◌^◌, false, IsTrue, OnSome};
 ghost use Rattle.std.specs.Option.{option_copied};
 ghost use Rattle.std.specs.List.{find};
-ghost use Rattle.pe_core.specs.Refusals.{Gives};
-ghost use Rattle.pe_core.specs.SectionMap.{rounded_up, raw_start, reach, covers, mapped, section_map};
+ghost use Rattle.pe_core.specs.SectionMap.{rounded_up, raw_start, reach, covers, section_map};
 
-use crate::error::{Error, Reason, Result};
 use crate::options::ParseOptions;
 use crate::section_table::SectionTable;
 
@@ -114,19 +112,4 @@ pub fn find_offset(
     }
     let section = section_of(sections, file_alignment, rva)?;
     Some(rva - section.virtual_address as usize + raw_start(section))
-}
-
-/// The file offset of an RVA, as `find_offset` returns it, or `Unmapped`.
-pub fn mapped_offset(
-    rva: u32,
-    sections: &[SectionTable],
-    file_alignment: u32,
-    opts: &ParseOptions,
-) -> Result<usize>
-    ensures { Gives (λ p. p) result (mapped (section_map opts.now sections.now file_alignment rva)) }
-{
-    match find_offset(rva as usize, sections, file_alignment, opts) {
-        Some(offset) => Ok(offset),
-        None => Err(Error::Malformed(Reason::Unmapped(u64::from(rva)))),
-    }
 }

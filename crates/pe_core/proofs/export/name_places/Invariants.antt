@@ -6,4 +6,4 @@ use Rattle.pe_core.specs.SectionMap.{offset_in}
 use Rattle.pe_core.proofs.export.name_places.Given as goal
 
 abbrev pub invariant-loop-i : goal.invariant-loop-i
-invariant-loop-i g l = l.places.items ≡ each (λ i. offset_or_end (offset_in l.index (le l.names (4 * i) 4))) l.i
+invariant-loop-i g l = l.places.items ≡ each (λ i. offset_or_end (offset_in l.sections (le l.names (4 * i) 4))) l.i

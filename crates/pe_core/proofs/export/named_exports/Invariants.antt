@@ -8,5 +8,5 @@ use Rattle.pe_core.proofs.export.named_exports.Given as goal
 -- the exports so far, and those of the names that are left
 abbrev pub invariant-loop-i : goal.invariant-loop-i
 invariant-loop-i g l =
-    map export_view l.exports.items ++ exports_from (offset_in l.index) (export_data_view l.export_data) l.i (texts_of (drop l.i l.names))
-    ≡ exports_from (offset_in l.index) (export_data_view l.export_data) 0 (texts_of l.names)
+    map export_view l.exports.items ++ exports_from (offset_in l.sections) (export_data_view l.export_data) l.i (texts_of (drop l.i l.names))
+    ≡ exports_from (offset_in l.sections) (export_data_view l.export_data) 0 (texts_of l.names)

@@ -6,4 +6,4 @@ use Rattle.pe_core.specs.SectionMap.{offset_in}
 use Rattle.pe_core.proofs.import.name_places.Given as goal
 
 abbrev pub invariant-loop-i : goal.invariant-loop-i
-invariant-loop-i g l = l.places.items ≡ each (λ i. offset_or_end (offset_in l.index (import_entry l.bytes (l.place + 20 * i)).name_rva)) l.i
+invariant-loop-i g l = l.places.items ≡ each (λ i. offset_or_end (offset_in l.sections (import_entry l.bytes (l.place + 20 * i)).name_rva)) l.i
