@@ -7,6 +7,7 @@ use Rattle.std.proofs.lemmas.Bool.Decides.{nat_tests}
 use Rattle.std.proofs.lemmas.List.{append-nil, map-append, places}
 use Rattle.std.proofs.lemmas.Nat.{column_fits, div-mul-add}
 use Rattle.std.proofs.Math.Nat.{mul-suc}
+use Rattle.pe_core.proofs.Map.{offset_is}
 use Rattle.pe_core.proofs.TableEntries.{each_front}
 use Rattle.pe_core.specs.Bytes.{AreBytes, holds, le, range, record_at}
 use Rattle.pe_core.specs.Gathered.{all_or_refusal, up_to_none, with_rest}
@@ -24,7 +25,7 @@ use Rattle.pe_c.specs.declared.imports.Imports.{Imports}
 use Rattle.pe_c.specs.declared.imports.Libraries.{Libraries}
 use Rattle.pe_c.specs.declared.imports.Library.{Library}
 use Rattle.pe_c.specs.declared.ranges.Range.{Range}
-use Rattle.pe_c.specs.Images.{is_absent, place_in}
+use Rattle.pe_c.specs.Images.{is_absent, map_of_image}
 use Rattle.pe_c.specs.Imports.{import_at, import_by, import_left, import_step, import_told, StepsImports, StepsLibraries, libraries_at, libraries_from, library_by, library_step, library_told, no_imports, no_libraries, slot_entry}
 use Rattle.pe_c.specs.Parts.{ImportsInTurn, TellsImport, TellsLibrary}
 use Rattle.pe_c.specs.Ranges.{IsRange, no_bytes, range_from}
@@ -261,10 +262,6 @@ there_by false y z e = absurd cc
 there_is : {Y : Type 0} (b : List ℕ) (p : ℕ) (y z : Y) → record_at b p 20 y ≡ Ok z → z ≡ y
 there_is b p y z e = there_by (holds b p 20) y z e
 
-place_of_name : (at : Option ℕ) (p : ℕ) → mapped at ≡ Ok p → at ≡ Some p
-place_of_name None p e = absurd cc
-place_of_name (Some q) p e = ap (λ (x : ℕ). Some x) (same_inside q p e)
-
 name_is : (o : Option (List ℕ)) (name : List ℕ) → name_or_refusal o ≡ Ok name → o ≡ Some name
 name_is None name e = absurd cc
 name_is (Some n) name e = ap (λ (x : List ℕ). Some x) (same_inside n name e)
@@ -289,7 +286,7 @@ entry_tells place w b e r some small low h =
     let stands : ListStands w b left list.0 = list_stands w b (place (lookups_rva e)) list.0 list.1 in
     let run : GivesTold (StepsImports place w b) (TellsImport b) (record { left = left; rva = e.address_table_rva }) (imports place w b (made ∷ [])) = record_imports place w b made left some small stands low in
     subst (λ (x : ImportRecordView). TellsLibrary place w b (library_told place x) x) (some_inside made r list.2) (record {
-      name = subst (λ (o : Option ℕ). IsRange b (range_from (length name.0) o) name.0) (sym (place_of_name (place e.name_rva) p.0 p.1)) (text_stands b p.0 name.0 (name_is (text_at b p.0) name.0 name.1));
+      name = subst (λ (o : Option ℕ). IsRange b (range_from (length name.0) o) name.0) (sym (offset_is (place e.name_rva) p.0 p.1)) (text_stands b p.0 name.0 (name_is (text_at b p.0) name.0 name.1));
       list = is_range w b left list.0 stands;
       numbers = refl;
       given = λ is whole. subst (GivesTold (StepsImports place w b) (TellsImport b) (record { left = left; rva = e.address_table_rva })) whole run;
@@ -366,26 +363,26 @@ some_bytes true = omega arith
 some_bytes false = omega arith
 
 told_of_image : (b : List ℕ) (image : Image) (sections : List SectionTable) (walk : Libraries) → AreBytes b → length b ≤ 2 ^ 63 → libraries_at image sections ≡ Ok (Some walk) →
-    GivesTold (StepsLibraries (place_in image sections) (entry_size (image.width == 64)) b) (TellsLibrary (place_in image sections) (entry_size (image.width == 64)) b) walk
-    (import_data_at (place_in image sections) (entry_size (image.width == 64)) b image.imports.virtual_address)
+    GivesTold (StepsLibraries (map_of_image image sections) (entry_size (image.width == 64)) b) (TellsLibrary (map_of_image image sections) (entry_size (image.width == 64)) b) walk
+    (import_data_at (map_of_image image sections) (entry_size (image.width == 64)) b image.imports.virtual_address)
 told_of_image b image sections walk bytes small e =
-    by_directory (place_in image sections) (entry_size (image.width == 64)) b walk (is_absent image.imports) (place_in image sections image.imports.virtual_address) (some_bytes (image.width == 64)) bytes small e
+    by_directory (map_of_image image sections) (entry_size (image.width == 64)) b walk (is_absent image.imports) (map_of_image image sections image.imports.virtual_address) (some_bytes (image.width == 64)) bytes small e
 
 pub libraries_in_turn : (b : List ℕ) (image : Image) (sections : List SectionTable) (walk : Libraries) (rs : List ImportRecordView) → AreBytes b → length b ≤ 2 ^ 63 → libraries_at image sections ≡ Ok (Some walk) →
-    import_data_at (place_in image sections) (entry_size (image.width == 64)) b image.imports.virtual_address ≡ Ok rs →
-    (told : List Library) × GivesItems (StepsLibraries (place_in image sections) (entry_size (image.width == 64)) b) walk (map (λ x. Ok x) told) ×
-    AllZip (TellsLibrary (place_in image sections) (entry_size (image.width == 64)) b) told rs
+    import_data_at (map_of_image image sections) (entry_size (image.width == 64)) b image.imports.virtual_address ≡ Ok rs →
+    (told : List Library) × GivesItems (StepsLibraries (map_of_image image sections) (entry_size (image.width == 64)) b) walk (map (λ x. Ok x) told) ×
+    AllZip (TellsLibrary (map_of_image image sections) (entry_size (image.width == 64)) b) told rs
 libraries_in_turn b image sections walk rs bytes small e whole =
-    subst (GivesTold (StepsLibraries (place_in image sections) (entry_size (image.width == 64)) b) (TellsLibrary (place_in image sections) (entry_size (image.width == 64)) b) walk) whole
+    subst (GivesTold (StepsLibraries (map_of_image image sections) (entry_size (image.width == 64)) b) (TellsLibrary (map_of_image image sections) (entry_size (image.width == 64)) b) walk) whole
     (told_of_image b image sections walk bytes small e)
 
 pub refused_in_turn : (b : List ℕ) (image : Image) (sections : List SectionTable) (walk : Libraries) (refusal : Refusal) → AreBytes b → length b ≤ 2 ^ 63 → libraries_at image sections ≡ Ok (Some walk) →
-    import_data_at (place_in image sections) (entry_size (image.width == 64)) b image.imports.virtual_address ≡ Err refusal →
+    import_data_at (map_of_image image sections) (entry_size (image.width == 64)) b image.imports.virtual_address ≡ Err refusal →
     (told : List Library) × (rs : List ImportRecordView) ×
-    GivesItems (StepsLibraries (place_in image sections) (entry_size (image.width == 64)) b) walk (map (λ x. Ok x) told ++ Err refusal ∷ []) ×
-    AllZip (TellsLibrary (place_in image sections) (entry_size (image.width == 64)) b) told rs
+    GivesItems (StepsLibraries (map_of_image image sections) (entry_size (image.width == 64)) b) walk (map (λ x. Ok x) told ++ Err refusal ∷ []) ×
+    AllZip (TellsLibrary (map_of_image image sections) (entry_size (image.width == 64)) b) told rs
 refused_in_turn b image sections walk refusal bytes small e fault =
-    subst (GivesTold (StepsLibraries (place_in image sections) (entry_size (image.width == 64)) b) (TellsLibrary (place_in image sections) (entry_size (image.width == 64)) b) walk) fault
+    subst (GivesTold (StepsLibraries (map_of_image image sections) (entry_size (image.width == 64)) b) (TellsLibrary (map_of_image image sections) (entry_size (image.width == 64)) b) walk) fault
     (told_of_image b image sections walk bytes small e)
 
 -- ---- records in turn

@@ -13,7 +13,7 @@ use Rattle.pe_c.specs.declared.exports.Tables.{Tables}
 use Rattle.pe_c.specs.declared.image.Image.{Image}
 use Rattle.pe_c.specs.declared.ranges.Range.{Range}
 use Rattle.pe_c.specs.Answers.{AnswersIf}
-use Rattle.pe_c.specs.Images.{is_absent, place_in}
+use Rattle.pe_c.specs.Images.{is_absent, map_of_image}
 use Rattle.pe_c.specs.Ranges.{bytes_at, no_bytes, range_from}
 
 -- ---- the tables
@@ -35,7 +35,7 @@ walk_over place d = record {
 unfoldable pub tables_at : List ℕ → Image → List SectionTable → Result (Option Exports) Refusal
 tables_at b image sections =
     if is_absent image.exports then Ok None
-    else export_data_at (place_in image sections) b image.exports.virtual_address >>= λ d. Ok (Some (walk_over (place_in image sections) d))
+    else export_data_at (map_of_image image sections) b image.exports.virtual_address >>= λ d. Ok (Some (walk_over (map_of_image image sections) d))
 
 -- ---- the walk
 

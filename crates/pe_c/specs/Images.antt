@@ -2,8 +2,9 @@
 use Rattle.std.specs.Prelude.{◌≡◌, ℕ, ◌==◌, ◌&&◌, List, ◌++◌, drop, length, nat_le, Bool, true, false, Option, Some, None, Result, Ok, Err, if◌then◌else◌}
 use Rattle.pe_core.specs.Directories.{present, absent_directory}
 use Rattle.pe_core.specs.Header.{OptionalHeaderView, HeaderView, header_at}
+use Rattle.pe_core.specs.Options.{default_options}
 use Rattle.pe_core.specs.Refusals.{Refusal, ◌>>=◌}
-use Rattle.pe_core.specs.SectionMap.{place_of}
+use Rattle.pe_core.specs.SectionMap.{section_map}
 use Rattle.pe_core.specs.Sections.{sections_at, sections_place}
 use Rattle.pe_core.specs.declared.data_directories.DataDirectory.{DataDirectory}
 use Rattle.pe_core.specs.declared.section_table.SectionTable.{SectionTable}
@@ -58,9 +59,9 @@ image_by h (Some o) = record {
 abbrev pub image_of : HeaderView → Image
 image_of h = image_by h h.optional_header
 
--- the map from an image's addresses to places in its file
-abbrev pub place_in : Image → List SectionTable → ℕ → Option ℕ
-place_in image sections = place_of true image.file_alignment sections
+-- the section map of an image
+abbrev pub map_of_image : Image → List SectionTable → ℕ → Option ℕ
+map_of_image image sections = section_map default_options sections image.file_alignment
 
 -- the image of these bytes in this mode, or the first refusal of its headers
 abbrev pub image_at : List ℕ → ℕ → Result Image Refusal

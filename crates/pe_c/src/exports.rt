@@ -5,10 +5,10 @@ ghost use Rattle.pe_core.specs.Exports.{export_data_view};
 ghost use Rattle.pe_core.specs.Refusals.{Gives, answer_by};
 ghost use Rattle.pe_c.specs.Answers.{AnswersIf};
 ghost use Rattle.pe_c.specs.Exports.{AnswersExport, FindsNext, StepsExports, export_table, tables_at, tables_or_short, told_entry, view_of, walk_over};
-ghost use Rattle.pe_c.specs.Images.{place_in};
+ghost use Rattle.pe_c.specs.Images.{map_of_image};
 
 use crate::answers::{hand_out_some, options};
-use crate::image::{Image, is_absent, place_of};
+use crate::image::{Image, is_absent, offset_of};
 use crate::ranges::{NO_BYTES, Range, range_from, slice_of};
 use pe_core::{ExportData, Result, SectionTable, number32, text_at, u16_at, u32_at};
 
@@ -40,16 +40,16 @@ pub struct Export {
 
 /// The range of a table of so many bytes at an address.
 fn export_table(rva: u32, size: u64, image: &Image, sections: &[SectionTable]) -> Range
-    ensures { result ≡ export_table (place_in image.now sections.now) rva size }
+    ensures { result ≡ export_table (map_of_image image.now sections.now) rva size }
 {
     if size == 0 {
         return NO_BYTES;
     }
-    range_from(size, place_of(rva, image, sections))
+    range_from(size, offset_of(rva, image, sections))
 }
 
 fn walk_over(export_data: &ExportData, image: &Image, sections: &[SectionTable]) -> Exports
-    ensures { result ≡ walk_over (place_in image.now sections.now) (export_data_view export_data.now) }
+    ensures { result ≡ walk_over (map_of_image image.now sections.now) (export_data_view export_data.now) }
 {
     let directory = &export_data.directory;
     let names = u64::from(directory.number_of_name_pointers);
@@ -113,13 +113,13 @@ fn told_entry(
     sections: &[SectionTable],
 ) -> Option<Export>
     requires { 4 * i + 4 ≤ length tables.now.names.now }
-    ensures { result ≡ told_entry (place_in image.now sections.now) bytes.now (view_of tables.now) i }
+    ensures { result ≡ told_entry (map_of_image image.now sections.now) bytes.now (view_of tables.now) i }
 {
-    let place = place_of(number32(tables.names, 4 * i), image, sections)?;
+    let place = offset_of(number32(tables.names, 4 * i), image, sections)?;
     let name = text_at(bytes, place)?;
     let ordinal = u16_at(tables.ordinals, 2 * i).ok()?;
     let rva = u32_at(tables.addresses, 4 * usize::from(ordinal)).ok()?;
-    let offset = place_of(rva, image, sections);
+    let offset = offset_of(rva, image, sections);
     Some(Export {
         name: Range {
             place: place as u64,
@@ -139,7 +139,7 @@ fn find_next(
     image: &Image,
     sections: &[SectionTable],
 ) -> Option<(Export, u64)>
-    ensures { FindsNext (told_entry (place_in image.now sections.now) bytes.now (view_of tables.now)) from (length tables.now.names.now / 4) result }
+    ensures { FindsNext (told_entry (map_of_image image.now sections.now) bytes.now (view_of tables.now)) from (length tables.now.names.now / 4) result }
 {
     for i in from..tables.names.len() / 4 {
         if let Some(export) = told_entry(bytes, tables, i, image, sections) {
@@ -167,7 +167,7 @@ fn step(
     sections: &[SectionTable],
     walk: &mut Exports,
 ) -> Result<Option<Export>>
-    ensures { StepsExports (place_in image.now sections.now) bytes.now walk.old (answer_by (λ x. x) result) walk.new }
+    ensures { StepsExports (map_of_image image.now sections.now) bytes.now walk.old (answer_by (λ x. x) result) walk.new }
 {
     let count = walk.names.length / 4;
     if count <= walk.next {
@@ -205,7 +205,7 @@ pub extern "C" fn pe_c_next_export(
     walk: &mut Exports,
     out: &mut Export,
 ) -> u32
-    ensures { AnswersExport (place_in image.now sections.now) bytes.now walk.old walk.new result out.old out.new }
+    ensures { AnswersExport (map_of_image image.now sections.now) bytes.now walk.old walk.new result out.old out.new }
 {
     hand_out_some(step(bytes, image, sections, walk), out)
 }

@@ -2,12 +2,13 @@
 
 ghost use Rattle.std.specs.Prelude.{◌≡◌, ◌+◌, ◌*◌, ◌≤◌, ◌++◌, drop, length, true, Ok};
 ghost use Rattle.pe_core.specs.Header.{header_view};
+ghost use Rattle.pe_core.specs.Options.{default_options};
 ghost use Rattle.pe_core.specs.Refusals.{answer_by};
 ghost use Rattle.pe_core.specs.Records.{section_table};
 ghost use Rattle.pe_core.specs.Rows.{rows};
-ghost use Rattle.pe_core.specs.SectionMap.{place_of};
+ghost use Rattle.pe_core.specs.SectionMap.{section_map};
 ghost use Rattle.pe_c.specs.Answers.{Answers, AnswersIf};
-ghost use Rattle.pe_c.specs.Images.{or_absent, is_absent, image_of, image_at, place_in, PutsSections};
+ghost use Rattle.pe_c.specs.Images.{or_absent, is_absent, image_of, image_at, map_of_image, PutsSections};
 
 use crate::answers::{DONE, NOTHING, ROOM, hand_out, number_of, options};
 use pe_core::{
@@ -62,9 +63,9 @@ pub fn is_absent(directory: DataDirectory) -> bool
     directory.virtual_address == 0 && directory.size == 0
 }
 
-/// The place in the file of an address.
+/// The file offset of an RVA.
 fn mapped_by(sections: &[SectionTable], file_alignment: u32, rva: u32) -> Option<usize>
-    ensures { result ≡ place_of true file_alignment sections.now rva }
+    ensures { result ≡ section_map default_options sections.now file_alignment rva }
 {
     find_offset(
         rva as usize,
@@ -74,9 +75,9 @@ fn mapped_by(sections: &[SectionTable], file_alignment: u32, rva: u32) -> Option
     )
 }
 
-/// The place in the file of an address of an image.
-pub fn place_of(rva: u32, image: &Image, sections: &[SectionTable]) -> Option<usize>
-    ensures { result ≡ place_in image.now sections.now rva }
+/// The file offset of an RVA of an image.
+pub fn offset_of(rva: u32, image: &Image, sections: &[SectionTable]) -> Option<usize>
+    ensures { result ≡ map_of_image image.now sections.now rva }
 {
     mapped_by(sections, image.file_alignment, rva)
 }
@@ -196,7 +197,7 @@ pub extern "C" fn pe_c_place(
     rva: u32,
     out: &mut u64,
 ) -> u32
-    ensures { AnswersIf result out.old out.new (Ok (place_of true file_alignment sections.now rva)) }
+    ensures { AnswersIf result out.old out.new (Ok (section_map default_options sections.now file_alignment rva)) }
 {
     match mapped_by(sections, file_alignment, rva) {
         Some(place) => {

@@ -6,16 +6,16 @@ ghost use Rattle.pe_core.specs.Refusals.{Gives, answer_by};
 ghost use Rattle.pe_core.specs.SectionMap.{mapped};
 ghost use Rattle.pe_core.specs.Text.{text_at};
 ghost use Rattle.pe_c.specs.Answers.{AnswersIf};
-ghost use Rattle.pe_c.specs.Images.{place_in};
+ghost use Rattle.pe_c.specs.Images.{map_of_image};
 ghost use Rattle.pe_c.specs.Imports.{import_at, import_step, libraries_at, library_at, library_of, library_step, named_told};
 
 use crate::answers::hand_out_some;
-use crate::image::{Image, is_absent, place_of};
+use crate::image::{Image, is_absent, offset_of};
 use crate::ranges::{NO_BYTES, Range, range_from};
 use crate::walks::next_entry;
 use pe_core::{
-    Error, ImportDirectoryEntry, Reason, Result, SectionTable, lookup_number, lookup_size,
-    lookups_at, text_at, u16_at,
+    Error, ImportDirectoryEntry, ParseOptions, Reason, Result, SectionTable, lookup_number,
+    lookup_size, lookups_at, mapped_offset, text_at, u16_at,
 };
 
 /// The size of a record of the import directory in bytes.
@@ -84,14 +84,11 @@ const NO_LIBRARIES: Libraries = Libraries {
     spare: 0,
 };
 
-/// The place of an address: `Unmapped` where it has none.
-fn mapped_place(rva: u32, image: &Image, sections: &[SectionTable]) -> Result<usize>
-    ensures { Gives (λ p. p) result (mapped (place_in image.now sections.now rva)) }
+/// The file offset of an RVA of an image, or `Unmapped`.
+fn require_offset(rva: u32, image: &Image, sections: &[SectionTable]) -> Result<usize>
+    ensures { Gives (λ p. p) result (mapped (map_of_image image.now sections.now rva)) }
 {
-    match place_of(rva, image, sections) {
-        Some(place) => Ok(place),
-        None => Err(Error::Malformed(Reason::Unmapped(u64::from(rva)))),
-    }
+    mapped_offset(rva, sections, image.file_alignment, &ParseOptions::default())
 }
 
 /// The name at a place, to which an address leads: `ImportName` where there is no text.
@@ -110,7 +107,7 @@ fn libraries_at(image: &Image, sections: &[SectionTable]) -> Result<Option<Libra
     if is_absent(image.imports) {
         return Ok(None);
     }
-    let place = mapped_place(image.imports.virtual_address, image, sections)?;
+    let place = require_offset(image.imports.virtual_address, image, sections)?;
     Ok(Some(Libraries {
         next: place as u64,
         is_over: 0,
@@ -151,11 +148,11 @@ fn library_of(
     image: &Image,
     sections: &[SectionTable],
 ) -> Result<Library>
-    ensures { Gives (λ l. Some l) result (library_of (place_in image.now sections.now) (entry_size (image.now.width == 64)) bytes.now entry.now) }
+    ensures { Gives (λ l. Some l) result (library_of (map_of_image image.now sections.now) (entry_size (image.now.width == 64)) bytes.now entry.now) }
 {
-    let place = mapped_place(entry.name_rva, image, sections)?;
+    let place = require_offset(entry.name_rva, image, sections)?;
     let name = name_at(bytes, place, entry.name_rva)?;
-    let list_place = place_of(entry.lookups_rva(), image, sections);
+    let list_place = offset_of(entry.lookups_rva(), image, sections);
     let list = list_at(bytes, list_place, image.width == 64)?;
     Ok(Library {
         name: range_from(name.len() as u64, Some(place)),
@@ -180,7 +177,7 @@ fn library_at(
     image: &Image,
     sections: &[SectionTable],
 ) -> Result<Option<Library>>
-    ensures gives { Gives (λ x. x) result (library_at (place_in image.now sections.now) (entry_size (image.now.width == 64)) bytes.now place) }
+    ensures gives { Gives (λ x. x) result (library_at (map_of_image image.now sections.now) (entry_size (image.now.width == 64)) bytes.now place) }
     ensures inside { IfOk result (λ l. IfSome l (λ _. place + 20 ≤ length bytes.now)) }
 {
     let entry = ImportDirectoryEntry::parse(bytes, place)?;
@@ -199,7 +196,7 @@ fn library_step(
     sections: &[SectionTable],
     walk: Libraries,
 ) -> (Result<Option<Library>>, Libraries)
-    ensures { (answer_by (λ x. x) result.0, result.1) ≡ library_step (place_in image.now sections.now) (entry_size (image.now.width == 64)) bytes.now walk }
+    ensures { (answer_by (λ x. x) result.0, result.1) ≡ library_step (map_of_image image.now sections.now) (entry_size (image.now.width == 64)) bytes.now walk }
 {
     if walk.is_over != 0 {
         return (Ok(None), walk);
@@ -230,8 +227,8 @@ pub extern "C" fn pe_c_next_library(
     walk: &mut Libraries,
     out: &mut Library,
 ) -> u32
-    ensures answer { AnswersIf result out.old out.new (library_step (place_in image.now sections.now) (entry_size (image.now.width == 64)) bytes.now walk.old).0 }
-    ensures walk { walk.new ≡ (library_step (place_in image.now sections.now) (entry_size (image.now.width == 64)) bytes.now walk.old).1 }
+    ensures answer { AnswersIf result out.old out.new (library_step (map_of_image image.now sections.now) (entry_size (image.now.width == 64)) bytes.now walk.old).0 }
+    ensures walk { walk.new ≡ (library_step (map_of_image image.now sections.now) (entry_size (image.now.width == 64)) bytes.now walk.old).1 }
 {
     let (told, behind) = library_step(bytes, image, sections, *walk);
     *walk = behind;
@@ -246,10 +243,10 @@ fn named_import(
     image: &Image,
     sections: &[SectionTable],
 ) -> Result<Import>
-    ensures { Gives (λ x. x) result (named_told (place_in image.now sections.now) bytes.now entry rva) }
+    ensures { Gives (λ x. x) result (named_told (map_of_image image.now sections.now) bytes.now entry rva) }
 {
     let name_rva = (entry % 0x8000_0000) as u32;
-    let place = mapped_place(name_rva, image, sections)?;
+    let place = require_offset(name_rva, image, sections)?;
     let hint = u16_at(bytes, place)?;
     let name = name_at(bytes, place + SIZE_OF_HINT, name_rva)?;
     Ok(Import {
@@ -269,7 +266,7 @@ fn import_at(
     image: &Image,
     sections: &[SectionTable],
 ) -> Result<Import>
-    ensures { Gives (λ x. x) result (import_at (place_in image.now sections.now) (entry_size (image.now.width == 64)) bytes.now entry rva) }
+    ensures { Gives (λ x. x) result (import_at (map_of_image image.now sections.now) (entry_size (image.now.width == 64)) bytes.now entry rva) }
 {
     let highest = if image.width == 64 {
         0x8000_0000_0000_0000
@@ -295,7 +292,7 @@ fn import_step(
     sections: &[SectionTable],
     walk: &mut Imports,
 ) -> Result<Option<Import>>
-    ensures { (answer_by (λ x. x) result, walk.new) ≡ import_step (place_in image.now sections.now) (entry_size (image.now.width == 64)) bytes.now walk.old }
+    ensures { (answer_by (λ x. x) result, walk.new) ≡ import_step (map_of_image image.now sections.now) (entry_size (image.now.width == 64)) bytes.now walk.old }
 {
     let is_64 = image.width == 64;
     let size = lookup_size(is_64);
@@ -327,8 +324,8 @@ pub extern "C" fn pe_c_next_import(
     walk: &mut Imports,
     out: &mut Import,
 ) -> u32
-    ensures answer { AnswersIf result out.old out.new (import_step (place_in image.now sections.now) (entry_size (image.now.width == 64)) bytes.now walk.old).0 }
-    ensures walk { walk.new ≡ (import_step (place_in image.now sections.now) (entry_size (image.now.width == 64)) bytes.now walk.old).1 }
+    ensures answer { AnswersIf result out.old out.new (import_step (map_of_image image.now sections.now) (entry_size (image.now.width == 64)) bytes.now walk.old).0 }
+    ensures walk { walk.new ≡ (import_step (map_of_image image.now sections.now) (entry_size (image.now.width == 64)) bytes.now walk.old).1 }
 {
     hand_out_some(import_step(bytes, image, sections, walk), out)
 }

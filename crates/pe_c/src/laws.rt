@@ -5,7 +5,7 @@ ghost use Rattle.pe_c.specs.Certificates.{StepsCertificates, TellsCertificate, l
 ghost use Rattle.pe_c.specs.Debug.{key_of, pdb20_of, pogo_of, repro_of};
 ghost use Rattle.pe_c.specs.DebugWalks.{StepsPogoEntries, entries_told};
 ghost use Rattle.pe_c.specs.Exports.{StepsExports, count_of, tables_or_short, told_entry, told_from, walk_over, with_tables};
-ghost use Rattle.pe_c.specs.Images.{place_in};
+ghost use Rattle.pe_c.specs.Images.{map_of_image};
 ghost use Rattle.pe_c.specs.Imports.{StepsLibraries, libraries_at};
 ghost use Rattle.pe_c.specs.Parts.{HasTables, ImportsInTurn, TellsExport, TellsLibrary, TellsPart, TellsRecord};
 ghost use Rattle.pe_c.specs.Modes.{options_of};
@@ -192,15 +192,15 @@ pub fn walks_tell_the_exports()
 pub fn walks_tell_the_imports()
     ensures libraries { (b : List ℕ) (image : Image) (sections : List SectionTable) (walk : Libraries) (rs : List ImportRecordView) →
         AreBytes b → length b ≤ 2 ^ 63 → libraries_at image sections ≡ Ok (Some walk) →
-        import_data_at (place_in image sections) (entry_size (image.width == 64)) b image.imports.virtual_address ≡ Ok rs →
-        (told : List Library) × GivesItems (StepsLibraries (place_in image sections) (entry_size (image.width == 64)) b) walk (map (λ x. Ok x) told) ×
-        AllZip (TellsLibrary (place_in image sections) (entry_size (image.width == 64)) b) told rs }
+        import_data_at (map_of_image image sections) (entry_size (image.width == 64)) b image.imports.virtual_address ≡ Ok rs →
+        (told : List Library) × GivesItems (StepsLibraries (map_of_image image sections) (entry_size (image.width == 64)) b) walk (map (λ x. Ok x) told) ×
+        AllZip (TellsLibrary (map_of_image image sections) (entry_size (image.width == 64)) b) told rs }
     ensures refused { (b : List ℕ) (image : Image) (sections : List SectionTable) (walk : Libraries) (refusal : Refusal) →
         AreBytes b → length b ≤ 2 ^ 63 → libraries_at image sections ≡ Ok (Some walk) →
-        import_data_at (place_in image sections) (entry_size (image.width == 64)) b image.imports.virtual_address ≡ Err refusal →
+        import_data_at (map_of_image image sections) (entry_size (image.width == 64)) b image.imports.virtual_address ≡ Err refusal →
         (told : List Library) × (rs : List ImportRecordView) ×
-        GivesItems (StepsLibraries (place_in image sections) (entry_size (image.width == 64)) b) walk (map (λ x. Ok x) told ++ Err refusal ∷ []) ×
-        AllZip (TellsLibrary (place_in image sections) (entry_size (image.width == 64)) b) told rs }
+        GivesItems (StepsLibraries (map_of_image image sections) (entry_size (image.width == 64)) b) walk (map (λ x. Ok x) told ++ Err refusal ∷ []) ×
+        AllZip (TellsLibrary (map_of_image image sections) (entry_size (image.width == 64)) b) told rs }
     ensures in_turn { ImportsInTurn }
 {}
 

@@ -6,7 +6,7 @@ use Rattle.std.proofs.lemmas.List.{drop_all, length-map, map-append}
 use Rattle.std.proofs.lemmas.List.Elements.{filter_map-append}
 use Rattle.pe_core.specs.Bytes.{le}
 use Rattle.pe_core.specs.Rows.{each}
-use Rattle.pe_core.specs.SectionIndex.{place_or_end}
+use Rattle.pe_core.specs.SectionIndex.{offset_or_end}
 use Rattle.pe_core.specs.Text.{text_at, text_to_zero}
 use Rattle.pe_core.specs.ExportSteps.{exports_from}
 use Rattle.pe_core.specs.Exports.{ExportDataView, ExportView, named_export, export_at, exports, text_at_address}
@@ -17,7 +17,7 @@ pub no_text : (b : List ℕ) (p : ℕ) → length b ≤ p → text_at b p ≡ No
 no_text b p le = ap text_to_zero (drop_all p b le) ∙ zero_missing [] refl
 
 -- where an address without a place gets one behind the end, it still has no text
-pub text_or_end : (b : List ℕ) (place : Option ℕ) → length b < 2 ^ 64 → text_at b (place_or_end place) ≡ option_and_then (text_at b) place
+pub text_or_end : (b : List ℕ) (place : Option ℕ) → length b < 2 ^ 64 → text_at b (offset_or_end place) ≡ option_and_then (text_at b) place
 text_or_end b None lt = no_text b (2 ^ 64 - 1) (omega arith)
 text_or_end b (Some p) lt = refl
 
@@ -39,11 +39,11 @@ exports_from-append place d k (x ∷ xs) ys =
 
 -- the exports of the texts at the places of the name table
 from_table : (place : ℕ → Option ℕ) (b : List ℕ) (d : ExportDataView) (n : ℕ) → length b < 2 ^ 64
-    → exports_from place d 0 (map (text_at b) (each (λ i. place_or_end (place (le d.names (4 * i) 4))) n)) ≡ filter_map (λ (e : Option ExportView). e) (each (export_at place b d) n)
+    → exports_from place d 0 (map (text_at b) (each (λ i. offset_or_end (place (le d.names (4 * i) 4))) n)) ≡ filter_map (λ (e : Option ExportView). e) (each (export_at place b d) n)
 unfolding each
 from_table place b d zero lt = refl
 from_table place b d (suc n) lt =
-    let places : ℕ → ℕ = λ i. place_or_end (place (le d.names (4 * i) 4)) in
+    let places : ℕ → ℕ = λ i. offset_or_end (place (le d.names (4 * i) 4)) in
     let texts : List (Option (List ℕ)) = map (text_at b) (each places n) in
     let many : 0 + length texts ≡ n = omega (arith, length-map (each places n) (text_at b), each-length places n) in
     let text : text_at b (places n) ≡ text_at_address place b (le d.names (4 * n) 4) = text_or_end b (place (le d.names (4 * n) 4)) lt in
@@ -55,7 +55,7 @@ from_table place b d (suc n) lt =
     ∙ sym (filter_map-append (λ (e : Option ExportView). e) (each (export_at place b d) n) (export_at place b d n ∷ []))
 
 pub listed : (place : ℕ → Option ℕ) (b : List ℕ) (d : ExportDataView) (places : List ℕ) (names : List (Option (List ℕ))) → length b < 2 ^ 64
-    → places ≡ each (λ i. place_or_end (place (le d.names (4 * i) 4))) (length d.names / 4) → names ≡ map (text_at b) places → exports_from place d 0 names ≡ exports place b d
+    → places ≡ each (λ i. offset_or_end (place (le d.names (4 * i) 4))) (length d.names / 4) → names ≡ map (text_at b) places → exports_from place d 0 names ≡ exports place b d
 unfolding exports
 listed place b d places names lt are texts =
     ap (exports_from place d 0) (texts ∙ ap (map (text_at b)) are) ∙ from_table place b d (length d.names / 4) lt

@@ -9,8 +9,8 @@ use Rattle.std.proofs.Math.Seq.{drop-cons}
 use Rattle.std.proofs.lemmas.List.{append-nil, drop_all, get_or-map, length-map, map-append}
 use Rattle.pe_core.specs.declared.error.Error.{Error}
 use Rattle.pe_core.specs.declared.error.Error.TheVariants as errors
-use Rattle.pe_core.specs.declared.import.Entry.{Entry}
-use Rattle.pe_core.specs.declared.import.Import.{Import}
+use Rattle.pe_core.specs.declared.import_list.Entry.{Entry}
+use Rattle.pe_core.specs.declared.import_list.Import.{Import}
 use Rattle.pe_core.specs.declared.import.ImportDirectoryEntry.{ImportDirectoryEntry}
 use Rattle.pe_core.specs.declared.import.SyntheticImportDirectoryEntry.{SyntheticImportDirectoryEntry}
 use Rattle.pe_core.specs.Bytes.{le, holds, range, record_at}
@@ -20,7 +20,7 @@ use Rattle.pe_core.specs.Imports.{EntryView, ImportRecordView, ImportView, impor
 use Rattle.pe_core.specs.Records.{import_entry}
 use Rattle.pe_core.specs.Refusals.{Refusal, Short, UnlessMemory, kind_of, ◌>>=◌}
 use Rattle.pe_core.specs.Rows.{each}
-use Rattle.pe_core.specs.SectionIndex.{place_or_end}
+use Rattle.pe_core.specs.SectionIndex.{offset_or_end}
 use Rattle.pe_core.specs.Text.{text_at, texts_of}
 use Rattle.pe_core.proofs.ExportLists.{each-length, text_or_end}
 use Rattle.pe_core.proofs.Gathering.{Gathered, gathered-start, gathered-more, gathered-done, gathered-refused, get_or-each, with_none, with_one}
@@ -172,10 +172,10 @@ pub ruleset records_read = (records-start, records-pushed, refused-in_record, re
 
 -- the texts at the places of the names are the names
 pub names_are : (place : ℕ → Option ℕ) (b : List ℕ) (p n : ℕ) (places : List ℕ) (names : List (Option (Bor (List ℕ)))) → length b < 2 ^ 64
-    → places ≡ each (λ i. place_or_end (place (import_entry b (p + 20 * i)).name_rva)) n → texts_of names ≡ map (text_at b) places → AreNames place b p names
+    → places ≡ each (λ i. offset_or_end (place (import_entry b (p + 20 * i)).name_rva)) n → texts_of names ≡ map (text_at b) places → AreNames place b p names
 names_are place b p n places names small are texts = record {
   are = λ i d lt.
-      let f : ℕ → ℕ = λ i. place_or_end (place (import_entry b (p + 20 * i)).name_rva) in
+      let f : ℕ → ℕ = λ i. offset_or_end (place (import_entry b (p + 20 * i)).name_rva) in
       let many : length names ≡ n = sym (length-map names (option_map (λ (s : Bor (List ℕ)). s.now))) ∙ ap length texts ∙ length-map places (text_at b) ∙ ap length are ∙ each-length f n in
       sym (get_or-map (option_map (λ (s : Bor (List ℕ)). s.now)) names i d None lt)
       ∙ ap (λ (l : List (Option (List ℕ))). get_or l i None) (texts ∙ ap (map (text_at b)) are)

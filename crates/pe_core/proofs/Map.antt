@@ -1,12 +1,13 @@
 -- The first section that covers an address.
-use Rattle.std.proofs.Common.{◌≡◌, ℕ, ◌+◌, ◌-◌, ◌*◌, ◌/◌, ◌%◌, ◌^◌, ◌<◌, ◌≤◌, arith, Bool, true, false, cond, List, [], ◌∷◌, Option, Some, refl}
+use Rattle.std.proofs.Common.{◌≡◌, ℕ, ◌+◌, ◌-◌, ◌*◌, ◌/◌, ◌%◌, ◌^◌, ◌<◌, ◌≤◌, arith, Bool, true, false, cond, List, [], ◌∷◌, Option, Some, None, Result, Ok, Err, refl, ap}
 use Rattle.std.specs.Prelude.{filter, nat_lt, nat_le, ◌&&◌, ◌==◌, min}
 use Rattle.std.proofs.lemmas.Bool.Decides.{nat_tests}
 use Rattle.std.specs.List.{find}
 use Rattle.std.specs.Int.{is_power_of_two}
 use Rattle.std.proofs.lemmas.Bool.{eqb-true}
 use Rattle.std.proofs.lemmas.Nat.{ones_le_self}
-use Rattle.pe_core.specs.SectionMap.{first, covers, reach, rounded_up, raw_start}
+use Rattle.pe_core.specs.Refusals.{Refusal}
+use Rattle.pe_core.specs.SectionMap.{first, covers, mapped, reach, rounded_up, raw_start}
 use Rattle.pe_core.specs.Sections.{raw_end}
 use Rattle.pe_core.specs.declared.section_table.SectionTable.{SectionTable}
 
@@ -56,3 +57,13 @@ not_below n k e = grind (arith, nat_tests)
 
 pub passes : (alignment address low : ℕ) (s : SectionTable) → s.virtual_address < 2 ^ 32 → s.size_of_raw_data < 2 ^ 32 → low ≡ address % 2 ^ 32 → nat_lt ((low + (2 ^ 32 - s.virtual_address)) % 2 ^ 32 / 4096 * 4096) s.size_of_raw_data ≡ false → covers alignment address s ≡ false
 passes alignment address low s va raw bits e = cheap alignment address low s va raw bits (not_below _ _ e)
+
+value_or_zero : Result ℕ Refusal → ℕ
+value_or_zero (Ok p) = p
+value_or_zero (Err refusal) = 0
+
+-- an RVA that is not refused has this offset
+pub offset_is : (offset : Option ℕ) (p : ℕ) → mapped offset ≡ Ok p → offset ≡ Some p
+unfolding value_or_zero
+offset_is None p e = absurd cc
+offset_is (Some q) p e = ap (λ (x : ℕ). Some x) (ap value_or_zero e)

@@ -3,9 +3,9 @@ use Rattle.std.specs.Prelude.{◌≡◌, ℕ, ◌+◌, ◌*◌, ◌-◌, ◌%◌
 use Rattle.std.specs.Borrow.{Bor}
 use Rattle.std.specs.Option.{option_and_then, option_map}
 use Rattle.pe_core.specs.Records.{import_entry}
-use Rattle.pe_core.specs.declared.import.Entry.{Entry}
+use Rattle.pe_core.specs.declared.import_list.Entry.{Entry}
 use Rattle.pe_core.specs.Imports.{EntryView, is_last, is_ordinal}
-use Rattle.pe_core.specs.SectionIndex.{place_or_end}
+use Rattle.pe_core.specs.SectionIndex.{offset_or_end}
 use Rattle.pe_core.specs.Text.{text_at}
 
 -- so many records stand from p on in front of the one that ends the directory, or of the end of the bytes
@@ -23,7 +23,7 @@ entry_view e = record { dll = e.dll.now; entry = e.entry; rva = e.rva }
 
 -- where the name of an entry stands, behind its hint; where no byte stands if it has none
 abbrev pub name_place : (ℕ → Option ℕ) → ℕ → EntryView → ℕ
-name_place place w e = if is_ordinal w e then 2 ^ 64 - 1 else min (place_or_end (place (e.entry % 2 ^ 31)) + 2) (2 ^ 64 - 1)
+name_place place w e = if is_ordinal w e then 2 ^ 64 - 1 else min (offset_or_end (place (e.entry % 2 ^ 31)) + 2) (2 ^ 64 - 1)
 
 -- these are the texts at those places
 pub record AreEntryNames (place : ℕ → Option ℕ) (w : ℕ) (b : List ℕ) (entries : List Entry) (names : List (Option (Bor (List ℕ)))) : Type 0 where

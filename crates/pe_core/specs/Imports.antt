@@ -12,7 +12,7 @@ use Rattle.pe_core.specs.Refusals.{Refusal, ImportName, ◌>>=◌}
 use Rattle.pe_core.specs.Rows.{each}
 use Rattle.pe_core.specs.SectionMap.{mapped}
 use Rattle.pe_core.specs.Text.{text_at}
-use Rattle.pe_core.specs.declared.import.Import.{Import}
+use Rattle.pe_core.specs.declared.import_list.Import.{Import}
 use Rattle.pe_core.specs.declared.import.ImportData.{ImportData}
 use Rattle.pe_core.specs.declared.import.ImportDirectoryEntry.{ImportDirectoryEntry}
 use Rattle.pe_core.specs.declared.import.SyntheticImportDirectoryEntry.{SyntheticImportDirectoryEntry}

@@ -5,18 +5,13 @@ use Rattle.pe_core.specs.declared.section_table.SectionTable.{SectionTable}
 use Rattle.pe_core.specs.declared.section_pieces.Piece.{Piece}
 use Rattle.pe_core.specs.SectionPieces.{Maps}
 
-pub record Indexed : Type 0 where
-  pub resolve : Bool
-  pub alignment : ℕ
-  pub sections : List SectionTable
-
--- the pieces are those of the sections, and addresses are mapped
+-- the pieces are those of the sections, and RVAs are resolved
 pub record Agrees (resolve : Bool) (alignment : ℕ) (sections : List SectionTable) (pieces : List Piece) : Type 0 where
   pub resolves : resolve ≡ true
   pub aligns : is_power_of_two alignment ≡ true
   pub maps : Maps alignment sections pieces
 
--- the place, or for none the greatest number, where no byte stands
-abbrev pub place_or_end : Option ℕ → ℕ
-place_or_end None = 2 ^ 64 - 1
-place_or_end (Some p) = p
+-- the file offset, or for none the greatest number, at which no byte stands
+abbrev pub offset_or_end : Option ℕ → ℕ
+offset_or_end None = 2 ^ 64 - 1
+offset_or_end (Some p) = p

@@ -8,8 +8,8 @@ ghost use Rattle.pe_core.specs.Exports.{export_data_view, export_data_at, export
 ghost use Rattle.pe_core.specs.Options.{default_options};
 ghost use Rattle.pe_core.specs.Refusals.{Gives, GivesUnlessMemory};
 ghost use Rattle.pe_core.specs.Rows.{each};
-ghost use Rattle.pe_core.specs.SectionIndex.{place_or_end};
-ghost use Rattle.pe_core.specs.SectionMap.{place_of};
+ghost use Rattle.pe_core.specs.SectionIndex.{offset_or_end};
+ghost use Rattle.pe_core.specs.SectionMap.{offset_in, section_map};
 ghost use Rattle.pe_core.specs.Text.{texts_of};
 
 use crate::bytes::{number16, number32, require_bytes, slice_at, u32_at};
@@ -17,8 +17,7 @@ use crate::data_directories::DataDirectory;
 use crate::error::Result;
 use crate::many_texts::texts_at;
 use crate::options::ParseOptions;
-use crate::section_index::SectionIndex;
-use crate::section_map::{find_offset, mapped_place};
+use crate::section_index::{SectionIndex, SectionMap};
 use crate::section_table::SectionTable;
 use crate::text::text_at;
 use std::alloc::{AllocError, Allocator};
@@ -77,19 +76,13 @@ impl ExportDirectoryTable {
 }
 
 /// The image's name, if it has one.
-fn image_name<'a>(
-    bytes: &'a [u8],
-    rva: u32,
-    sections: &[SectionTable],
-    file_alignment: u32,
-    opts: &ParseOptions,
-) -> Option<&'a str>
-    ensures { option_map (λ s. s.now) result ≡ image_name (place_of opts.now.resolve_rva file_alignment sections.now) bytes.entry.now rva }
+fn image_name<'a>(bytes: &'a [u8], rva: u32, sections: &SectionMap<'_>) -> Option<&'a str>
+    ensures { option_map (λ s. s.now) result ≡ image_name (offset_in sections.now) bytes.entry.now rva }
 {
     if rva == 0 {
         return None;
     }
-    let place = find_offset(rva as usize, sections, file_alignment, opts)?;
+    let place = sections.find(rva as usize)?;
     text_at(bytes, place)
 }
 
@@ -98,16 +91,14 @@ fn table_at<'a>(
     bytes: &'a [u8],
     rva: u32,
     size: usize,
-    sections: &[SectionTable],
-    file_alignment: u32,
-    opts: &ParseOptions,
+    sections: &SectionMap<'_>,
 ) -> Result<&'a [u8]>
-    ensures { Gives (λ s. s.now) result (table_at (place_of opts.now.resolve_rva file_alignment sections.now) bytes.entry.now rva size) }
+    ensures { Gives (λ s. s.now) result (table_at (offset_in sections.now) bytes.entry.now rva size) }
 {
     if size == 0 {
         return Ok(&[]);
     }
-    let place = mapped_place(rva, sections, file_alignment, opts)?;
+    let place = sections.offset_of(rva)?;
     slice_at(bytes, place, size)
 }
 
@@ -133,7 +124,7 @@ impl<'a> ExportData<'a> {
         sections: &[SectionTable],
         file_alignment: u32,
     ) -> Result<ExportData<'a>>
-        ensures { Gives export_data_view result (export_data_at (place_of default_options.resolve_rva file_alignment sections.now) bytes.entry.now directory.virtual_address) }
+        ensures { Gives export_data_view result (export_data_at (section_map default_options sections.now file_alignment) bytes.entry.now directory.virtual_address) }
     {
         ExportData::parse_with_opts(
             bytes,
@@ -146,7 +137,6 @@ impl<'a> ExportData<'a> {
 
     /// The export directory: 40 bytes at the directory's address, `Unmapped` or `Short`; then the tables of addresses,
     /// names and ordinals, each `Unmapped` or `Short` unless it has no entries. The directory's size isn't used.
-    #[tactic(auto, unfolding(crate::specs::Exports::export_data_at))]
     pub fn parse_with_opts(
         bytes: &'a [u8],
         directory: DataDirectory,
@@ -154,22 +144,35 @@ impl<'a> ExportData<'a> {
         file_alignment: u32,
         opts: &ParseOptions,
     ) -> Result<ExportData<'a>>
-        ensures { Gives export_data_view result (export_data_at (place_of opts.now.resolve_rva file_alignment sections.now) bytes.entry.now directory.virtual_address) }
+        ensures { Gives export_data_view result (export_data_at (section_map opts.now sections.now file_alignment) bytes.entry.now directory.virtual_address) }
     {
-        let place = mapped_place(directory.virtual_address, sections, file_alignment, opts)?;
+        let sections = SectionMap::new(sections, file_alignment, opts);
+        ExportData::parse_with_map(bytes, directory, &sections)
+    }
+
+    /// The export directory, as `parse_with_opts` reads it, by a section map.
+    #[tactic(auto, unfolding(crate::specs::Exports::export_data_at))]
+    pub fn parse_with_map(
+        bytes: &'a [u8],
+        directory: DataDirectory,
+        sections: &SectionMap<'_>,
+    ) -> Result<ExportData<'a>>
+        ensures { Gives export_data_view result (export_data_at (offset_in sections.now) bytes.entry.now directory.virtual_address) }
+    {
+        let place = sections.offset_of(directory.virtual_address)?;
         require_bytes(bytes, place, SIZE_OF_EXPORT_DIRECTORY)?;
         let directory = ExportDirectoryTable::at(bytes, place);
         let size = 4 * directory.address_table_entries as usize;
         let rva = directory.address_table_rva;
-        let addresses = table_at(bytes, rva, size, sections, file_alignment, opts)?;
+        let addresses = table_at(bytes, rva, size, sections)?;
         let count = directory.number_of_name_pointers as usize;
         let rva = directory.name_pointer_rva;
-        let names = table_at(bytes, rva, 4 * count, sections, file_alignment, opts)?;
+        let names = table_at(bytes, rva, 4 * count, sections)?;
         let rva = directory.ordinal_table_rva;
-        let ordinals = table_at(bytes, rva, 2 * count, sections, file_alignment, opts)?;
+        let ordinals = table_at(bytes, rva, 2 * count, sections)?;
         Ok(ExportData {
             directory,
-            name: image_name(bytes, directory.name_rva, sections, file_alignment, opts),
+            name: image_name(bytes, directory.name_rva, sections),
             addresses,
             names,
             ordinals,
@@ -206,13 +209,13 @@ fn address_of(addresses: &[u8], ordinal: u16) -> Option<u32>
 }
 
 /// The export of entry `i` of the name table, whose name this is.
-fn named_export<'a, A: Allocator>(
+fn named_export<'a>(
     name: Option<&'a str>,
     i: usize,
     export_data: &ExportData<'_>,
-    index: &SectionIndex<'_, A>,
+    sections: &SectionMap<'_>,
 ) -> Option<Export<'a>>
-    ensures { option_map export_view result ≡ option_and_then (named_export (place_of index.now.resolve index.now.alignment index.now.sections) (export_data_view export_data.now) i) (option_map (λ s. s.now) name.entry) }
+    ensures { option_map export_view result ≡ option_and_then (named_export (offset_in sections.now) (export_data_view export_data.now) i) (option_map (λ s. s.now) name.entry) }
 {
     let name = name?;
     let ordinal = ordinal_of(export_data.ordinals, i)?;
@@ -220,7 +223,7 @@ fn named_export<'a, A: Allocator>(
     Some(Export {
         name,
         rva,
-        offset: index.find(rva as usize),
+        offset: sections.find(rva as usize),
     })
 }
 
@@ -229,13 +232,13 @@ fn named_exports<'a, A: Allocator>(
     alloc: A,
     names: &[Option<&'a str>],
     export_data: &ExportData<'_>,
-    index: &SectionIndex<'_, A>,
+    sections: &SectionMap<'_>,
 ) -> Result<Vec<Export<'a>, A>>
-    ensures { GivesUnlessMemory (λ v. map export_view v.items) result (Ok (exports_from (place_of index.now.resolve index.now.alignment index.now.sections) (export_data_view export_data.now) 0 (texts_of names.now))) }
+    ensures { GivesUnlessMemory (λ v. map export_view v.items) result (Ok (exports_from (offset_in sections.now) (export_data_view export_data.now) 0 (texts_of names.now))) }
 {
     let mut exports = Vec::with_capacity(alloc, names.len())?;
     for (i, name) in names.iter().enumerate() {
-        if let Some(export) = named_export(*name, i, export_data, index) {
+        if let Some(export) = named_export(*name, i, export_data, sections) {
             exports.push(export)?;
         }
     }
@@ -247,31 +250,16 @@ fn named_exports<'a, A: Allocator>(
 fn name_places<A: Allocator>(
     alloc: A,
     names: &[u8],
-    index: &SectionIndex<'_, A>,
+    sections: &SectionMap<'_>,
 ) -> std::result::Result<Vec<usize, A>, AllocError>
-    ensures { IfOk result (λ v. v.items ≡ each (λ i. place_or_end (place_of index.now.resolve index.now.alignment index.now.sections (le names.now (4 * i) 4))) (length names.now / 4)) }
+    ensures { IfOk result (λ v. v.items ≡ each (λ i. offset_or_end (offset_in sections.now (le names.now (4 * i) 4))) (length names.now / 4)) }
 {
     let count = names.len() / 4;
     let mut places = Vec::with_capacity(alloc, count)?;
     for i in 0..count {
-        places.push(index.find_or_end(number32(names, 4 * i)))?;
+        places.push(sections.find_or_end(number32(names, 4 * i)))?;
     }
     Ok(places)
-}
-
-/// The exports that have names, their addresses mapped by the index.
-#[tactic(auto, using(crate::proofs::ExportLists::listed))]
-fn exports_by_index<'a, A: Allocator + Copy + Drop>(
-    alloc: A,
-    bytes: &'a [u8],
-    export_data: &ExportData<'_>,
-    index: &SectionIndex<'_, A>,
-) -> Result<Vec<Export<'a>, A>>
-    ensures { GivesUnlessMemory (λ v. map export_view v.items) result (Ok (exports (place_of index.now.resolve index.now.alignment index.now.sections) bytes.entry.now (export_data_view export_data.now))) }
-{
-    let places = name_places(alloc, export_data.names, index)?;
-    let names = texts_at(alloc, bytes, &places)?;
-    named_exports(alloc, &names, export_data, index)
 }
 
 impl<'a> Export<'a> {
@@ -286,9 +274,24 @@ impl<'a> Export<'a> {
         file_alignment: u32,
         opts: &ParseOptions,
     ) -> Result<Vec<Export<'a>, A>>
-        ensures { GivesUnlessMemory (λ v. map export_view v.items) result (Ok (exports (place_of opts.now.resolve_rva file_alignment sections.now) bytes.entry.now (export_data_view export_data.now))) }
+        ensures { GivesUnlessMemory (λ v. map export_view v.items) result (Ok (exports (section_map opts.now sections.now file_alignment) bytes.entry.now (export_data_view export_data.now))) }
     {
         let index = SectionIndex::new(alloc, sections, file_alignment, opts)?;
-        exports_by_index(alloc, bytes, export_data, &index)
+        Export::parse_with_map(alloc, bytes, export_data, &index.map())
+    }
+
+    /// The exports that have names, as `parse_with_opts` lists them, by a section map.
+    #[tactic(auto, using(crate::proofs::ExportLists::listed))]
+    pub fn parse_with_map<A: Allocator + Copy + Drop>(
+        alloc: A,
+        bytes: &'a [u8],
+        export_data: &ExportData<'_>,
+        sections: &SectionMap<'_>,
+    ) -> Result<Vec<Export<'a>, A>>
+        ensures { GivesUnlessMemory (λ v. map export_view v.items) result (Ok (exports (offset_in sections.now) bytes.entry.now (export_data_view export_data.now))) }
+    {
+        let places = name_places(alloc, export_data.names, sections)?;
+        let names = texts_at(alloc, bytes, &places)?;
+        named_exports(alloc, &names, export_data, sections)
     }
 }

@@ -12,6 +12,7 @@ mod error;
 mod export;
 mod header;
 mod import;
+mod import_list;
 pub mod laws;
 mod many_texts;
 mod optional_header;
@@ -39,12 +40,14 @@ pub use header::{
     TE_MAGIC, TeHeader,
 };
 pub use import::{
-    Import, ImportData, ImportDirectoryEntry, SyntheticImportDirectoryEntry, lookup_number,
-    lookup_size, lookups_at,
+    ImportData, ImportDirectoryEntry, SyntheticImportDirectoryEntry, lookup_number, lookup_size,
+    lookups_at,
 };
+pub use import_list::Import;
 pub use optional_header::{MAGIC_32, MAGIC_64, OptionalHeader, StandardFields, WindowsFields};
 pub use options::{ParseMode, ParseOptions};
 pub use relocation::RelocationData;
+pub use section_index::{SectionIndex, SectionMap, mapped_offset};
 pub use section_map::{find_offset, rounded_up};
 pub use section_table::SectionTable;
 pub use strtab::Strtab;

@@ -8,7 +8,7 @@ use crate::bytes::slice_at;
 use crate::data_directories::DataDirectory;
 use crate::error::Result;
 use crate::options::ParseOptions;
-use crate::section_map::mapped_place;
+use crate::section_index::mapped_offset;
 use crate::section_table::SectionTable;
 
 /// The base relocations of an image: blocks, which are not read further.
@@ -51,7 +51,7 @@ impl<'a> RelocationData<'a> {
         ensures { Gives (λ r. r.bytes.now) result
             (directory_bytes opts.now bytes.entry.now dd sections.now file_alignment) }
     {
-        let place = mapped_place(dd.virtual_address, sections, file_alignment, opts)?;
+        let place = mapped_offset(dd.virtual_address, sections, file_alignment, opts)?;
         let bytes = slice_at(bytes, place, dd.size as usize)?;
         Ok(RelocationData { bytes })
     }

@@ -1,11 +1,12 @@
-//! The index of a list of sections.
+//! The section map of an image as a value, and its index for many lookups.
 
 ghost use Rattle.std.specs.Prelude.{◌≡◌, ◌+◌, ◌-◌, ◌<◌, ◌≤◌, ◌^◌, IfOk, IfErr};
-ghost use Rattle.pe_core.specs.SectionMap.{place_of};
-ghost use Rattle.pe_core.specs.SectionIndex.{place_or_end};
+ghost use Rattle.pe_core.specs.Refusals.{Gives};
+ghost use Rattle.pe_core.specs.SectionIndex.{offset_or_end};
+ghost use Rattle.pe_core.specs.SectionMap.{map_view, mapped, offset_in, section_map};
 ghost use Rattle.pe_core.specs.declared.error.Error.TheVariants.{Memory};
 
-use crate::error::Result;
+use crate::error::{Error, Reason, Result};
 use crate::options::ParseOptions;
 use crate::section_map::find_offset;
 use crate::section_pieces::{Piece, owner_of, pieces_of};
@@ -13,12 +14,101 @@ use crate::section_table::SectionTable;
 use std::alloc::Allocator;
 use std::marker::Model;
 
-/// Up to how many sections they are searched one by one.
-const FEW: usize = 8;
-
-/// A list of sections, made ready for many lookups.
+/// The section map of an image: it maps RVAs as `find_offset` does. It is made once of the sections, the file alignment and
+/// the options, and passed on. `SectionIndex::map` makes one that maps each RVA in a few steps under many sections.
 #[derive(Drop)]
-pub(crate) struct SectionIndex<'a, A: Allocator> {
+pub struct SectionMap<'a> {
+    sections: &'a [SectionTable],
+    file_alignment: u32,
+    opts: ParseOptions,
+    pieces: Option<&'a [Piece]>,
+}
+
+impl<'a> Model for SectionMap<'a> {
+    ghost use Rattle.std.specs.Prelude.{IfSome};
+    ghost use Rattle.pe_core.specs.SectionIndex.{Agrees};
+    ghost use Rattle.pe_core.specs.SectionMap.{SectionMapView, map_view};
+
+    ghost Value = { SectionMapView };
+
+    ghost view = { λ s. map_view s.opts s.sections.now s.file_alignment };
+
+    ghost invariant = { λ s. IfSome s.pieces (λ v. Agrees s.opts.resolve_rva s.file_alignment s.sections.now v.now) };
+}
+
+impl<'a> SectionMap<'a> {
+    /// The section map of these sections. It tests them one by one for each RVA.
+    pub fn new(
+        sections: &'a [SectionTable],
+        file_alignment: u32,
+        opts: &ParseOptions,
+    ) -> SectionMap<'a>
+        ensures { result ≡ map_view opts.now sections.entry.now file_alignment }
+    {
+        SectionMap {
+            sections,
+            file_alignment,
+            opts: *opts,
+            pieces: None,
+        }
+    }
+
+    /// The file offset of an RVA, as `find_offset` returns it.
+    pub fn find(&self, rva: usize) -> Option<usize>
+        ensures { result ≡ offset_in self.now rva }
+    {
+        match self.pieces {
+            None => self.find_by_sections(rva),
+            Some(pieces) => {
+                let owner = owner_of(pieces, rva)?;
+                Some(rva - owner.address as usize + owner.place as usize)
+            }
+        }
+    }
+
+    /// The same without an index. It stands apart so that a lookup by an index saves no registers.
+    #[cold]
+    #[inline(never)]
+    fn find_by_sections(&self, rva: usize) -> Option<usize>
+        ensures { result ≡ offset_in self.now rva }
+    {
+        find_offset(rva, self.sections, self.file_alignment, &self.opts)
+    }
+
+    /// The file offset of an RVA, or `Unmapped`.
+    pub fn offset_of(&self, rva: u32) -> Result<usize>
+        ensures { Gives (λ p. p) result (mapped (offset_in self.now rva)) }
+    {
+        match self.find(rva as usize) {
+            Some(offset) => Ok(offset),
+            None => Err(Error::Malformed(Reason::Unmapped(u64::from(rva)))),
+        }
+    }
+
+    /// The file offset of an RVA for readers of texts: an unmapped one gets an offset at which no byte stands.
+    pub(crate) fn find_or_end(&self, rva: u32) -> usize
+        ensures { result ≡ offset_or_end (offset_in self.now rva) }
+    {
+        self.find(rva as usize).unwrap_or(usize::MAX)
+    }
+}
+
+/// The file offset of an RVA, as `find_offset` returns it, or `Unmapped`.
+pub fn mapped_offset(
+    rva: u32,
+    sections: &[SectionTable],
+    file_alignment: u32,
+    opts: &ParseOptions,
+) -> Result<usize>
+    ensures { Gives (λ p. p) result (mapped (section_map opts.now sections.now file_alignment rva)) }
+{
+    SectionMap::new(sections, file_alignment, opts).offset_of(rva)
+}
+
+/// What makes a section map fast under many sections: the RVAs cut into pieces, each of which belongs to the first section
+/// that covers it. An index of n sections takes n log n steps to make, and its map log n steps for an RVA.
+#[derive(Drop)]
+pub struct SectionIndex<'a, A: Allocator> {
     sections: &'a [SectionTable],
     file_alignment: u32,
     opts: ParseOptions,
@@ -27,18 +117,19 @@ pub(crate) struct SectionIndex<'a, A: Allocator> {
 
 impl<'a, A: Allocator> Model for SectionIndex<'a, A> {
     ghost use Rattle.std.specs.Prelude.{IfSome};
-    ghost use Rattle.pe_core.specs.SectionIndex.{Indexed, Agrees};
+    ghost use Rattle.pe_core.specs.SectionIndex.{Agrees};
+    ghost use Rattle.pe_core.specs.SectionMap.{SectionMapView, map_view};
 
-    ghost Value = { Indexed };
+    ghost Value = { SectionMapView };
 
-    ghost view = { λ s. record { resolve = s.opts.resolve_rva; alignment = s.file_alignment; sections = s.sections.now } };
+    ghost view = { λ s. map_view s.opts s.sections.now s.file_alignment };
 
     ghost invariant = { λ s. IfSome s.pieces (λ v. Agrees s.opts.resolve_rva s.file_alignment s.sections.now v.items) };
 }
 
 impl<'a, A: Allocator> SectionIndex<'a, A> {
-    /// The index of the sections.
-    pub(crate) fn new(
+    /// The index of these sections. `Memory` is its one error.
+    pub fn new(
         alloc: A,
         sections: &'a [SectionTable],
         file_alignment: u32,
@@ -46,13 +137,10 @@ impl<'a, A: Allocator> SectionIndex<'a, A> {
     ) -> Result<Self>
     where
         A: Copy,
-        ensures made { IfOk result (λ index. index ≡ record { resolve = opts.now.resolve_rva; alignment = file_alignment; sections = sections.entry.now }) }
+        ensures made { IfOk result (λ index. index ≡ map_view opts.now sections.entry.now file_alignment) }
         ensures refused { IfErr result (λ error. error ≡ Memory record {}) }
     {
-        let pieces = if opts.resolve_rva
-            && file_alignment.is_power_of_two()
-            && sections.len() > FEW
-        {
+        let pieces = if opts.resolve_rva && file_alignment.is_power_of_two() {
             Some(pieces_of(alloc, sections, file_alignment)?)
         } else {
             None
@@ -65,22 +153,18 @@ impl<'a, A: Allocator> SectionIndex<'a, A> {
         })
     }
 
-    /// The place in the file of the address, as `find_offset` gives it.
-    pub(crate) fn find(&self, rva: usize) -> Option<usize>
-        ensures { result ≡ place_of self.now.resolve self.now.alignment self.now.sections rva }
+    /// The section map of its sections, by this index.
+    pub fn map(&self) -> SectionMap<'_>
+        ensures { result ≡ self.now }
     {
-        match &self.pieces {
-            None => find_offset(rva, self.sections, self.file_alignment, &self.opts),
-            Some(pieces) => {
-                let owner = owner_of(pieces, rva)?;
-                Some(rva - owner.address as usize + owner.place as usize)
-            }
+        SectionMap {
+            sections: self.sections,
+            file_alignment: self.file_alignment,
+            opts: self.opts,
+            pieces: match &self.pieces {
+                Some(pieces) => Some(pieces.as_slice()),
+                None => None,
+            },
         }
-    }
-    /// The same for readers of texts: an address without a place gets one where no byte stands.
-    pub(crate) fn find_or_end(&self, rva: u32) -> usize
-        ensures { result ≡ place_or_end (place_of self.now.resolve self.now.alignment self.now.sections rva) }
-    {
-        self.find(rva as usize).unwrap_or(usize::MAX)
     }
 }

@@ -1,12 +1,10 @@
-//! The map from addresses to places in the file.
+//! The section map: from RVAs to file offsets.
 
 ghost use Rattle.std.specs.Prelude.{◌≡◌, ℕ, ◌+◌, ◌%◌, ◌<◌, ◌≤◌, ◌^◌, false, IsTrue, OnSome};
 ghost use Rattle.std.specs.Option.{option_copied};
 ghost use Rattle.std.specs.List.{find};
-ghost use Rattle.pe_core.specs.Refusals.{Gives};
-ghost use Rattle.pe_core.specs.SectionMap.{rounded_up, raw_start, reach, covers, mapped, place_of};
+ghost use Rattle.pe_core.specs.SectionMap.{rounded_up, raw_start, reach, covers, section_map};
 
-use crate::error::{Error, Reason, Result};
 use crate::options::ParseOptions;
 use crate::section_table::SectionTable;
 
@@ -26,7 +24,7 @@ pub fn rounded_up(n: usize, unit: usize) -> usize
     (n + (unit - 1)) / unit * unit
 }
 
-/// Where the section's bytes begin in the file when it is mapped.
+/// The file offset of the section's bytes when it is mapped.
 pub(crate) fn raw_start(section: &SectionTable) -> usize
     ensures place { result ≡ raw_start section.now }
     ensures small { result < 2 ^ 32 }
@@ -34,7 +32,7 @@ pub(crate) fn raw_start(section: &SectionTable) -> usize
     section.pointer_to_raw_data as usize / SECTOR * SECTOR
 }
 
-/// How many addresses the section covers.
+/// How many RVAs the section covers.
 #[tactic(auto, unfolding(crate::specs::SectionMap::reach))]
 pub(crate) fn reach(section: &SectionTable, alignment: u32) -> usize
     requires { 0 < alignment }
@@ -95,16 +93,16 @@ fn section_of(sections: &[SectionTable], alignment: u32, address: usize) -> Opti
     sections.iter().find(|section| covers_by_tests(section, alignment, address, low))
 }
 
-/// The place in the file of a relative virtual address, by the first section that covers it. `None` if none does or
-/// the file alignment is no power of two. With `resolve_rva` off an address is its place.
-#[tactic(auto, using(crate::proofs::Map::positive, crate::proofs::Map::found_covers, crate::proofs::Map::find_first), unfolding(crate::specs::SectionMap::place_of))]
+/// The file offset of an RVA, by the first section that covers it. `None` if none does or the file alignment is no power
+/// of two. With `resolve_rva` off an RVA is its own file offset.
+#[tactic(auto, using(crate::proofs::Map::positive, crate::proofs::Map::found_covers, crate::proofs::Map::find_first), unfolding(crate::specs::SectionMap::offset_of))]
 pub fn find_offset(
     rva: usize,
     sections: &[SectionTable],
     file_alignment: u32,
     opts: &ParseOptions,
 ) -> Option<usize>
-    ensures { result ≡ place_of opts.now.resolve_rva file_alignment sections.now rva }
+    ensures { result ≡ section_map opts.now sections.now file_alignment rva }
 {
     if !opts.resolve_rva {
         return Some(rva);
@@ -114,19 +112,4 @@ pub fn find_offset(
     }
     let section = section_of(sections, file_alignment, rva)?;
     Some(rva - section.virtual_address as usize + raw_start(section))
-}
-
-/// The place in the file of a relative virtual address, or `Unmapped`.
-pub(crate) fn mapped_place(
-    rva: u32,
-    sections: &[SectionTable],
-    file_alignment: u32,
-    opts: &ParseOptions,
-) -> Result<usize>
-    ensures { Gives (λ p. p) result (mapped (place_of opts.now.resolve_rva file_alignment sections.now rva)) }
-{
-    match find_offset(rva as usize, sections, file_alignment, opts) {
-        Some(place) => Ok(place),
-        None => Err(Error::Malformed(Reason::Unmapped(u64::from(rva)))),
-    }
 }

@@ -4,7 +4,7 @@ use Rattle.std.specs.Prelude.{◌==◌, if◌then◌else◌}
 use Rattle.std.proofs.lemmas.Bool.Decides.{nat_tests}
 use Rattle.pe_core.specs.Bytes.{holds}
 use Rattle.pe_core.specs.Refusals.{Refusal, ExceptionSize, ExceptionOffset, ExceptionBounds, outcome}
-use Rattle.pe_core.specs.SectionMap.{place_of}
+use Rattle.pe_core.specs.SectionMap.{section_map}
 use Rattle.pe_core.specs.declared.data_directories.DataDirectory.{DataDirectory}
 use Rattle.pe_core.specs.declared.options.ParseOptions.{ParseOptions}
 use Rattle.pe_core.specs.declared.section_table.SectionTable.{SectionTable}
@@ -76,7 +76,7 @@ if_whole false b size unit place v h = absurd cc
 
 inside_directory : (width : ℕ) (b : List ℕ) (d : DataDirectory) (sections : List SectionTable) (unit : ℕ) (o : ParseOptions) (v : ExceptionView) → exception_at width b d sections unit o ≡ Ok v → IsInside v
 unfolding exception_at
-inside_directory width b d sections unit o v h = if_whole (d.size % width == 0) b d.size unit (place_of o.resolve_rva unit sections d.virtual_address) v h
+inside_directory width b d sections unit o v h = if_whole (d.size % width == 0) b d.size unit (section_map o sections unit d.virtual_address) v h
 
 -- and has so many whole entries of x64
 pub entries_of_table : (b : List ℕ) (o : ParseOptions) (c : CoreView) (x : ImageView) (v : ExceptionView) → core_of b o ≡ Ok c → IsImage b o (Ok x) → x.exception_data ≡ Some v → length (functions (table_of v)) ≡ v.size / 12

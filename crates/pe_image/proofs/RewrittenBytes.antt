@@ -11,6 +11,7 @@ use Rattle.pe_core.specs.Options.{is_permissive}
 use Rattle.pe_core.specs.Records.{dos_header, coff_header, section_table}
 use Rattle.pe_core.specs.Refusals.{Refusal, Short, BadMagic, HeaderPointer, outcome, ◌>>=◌}
 use Rattle.pe_core.specs.Rows.{each}
+use Rattle.pe_core.specs.SectionMap.{section_map}
 use Rattle.pe_core.specs.Sections.{raw_end, sections_of, sections_place}
 use Rattle.pe_core.specs.Spelling.{spell_dos, spell_coff, spell_optional, spell_section}
 use Rattle.pe_core.specs.declared.data_directories.DataDirectory.{DataDirectory}
@@ -26,10 +27,10 @@ use Rattle.pe_records.specs.declared.certificate_table.AttributeCertificateRevis
 use Rattle.pe_records.specs.declared.certificate_table.AttributeCertificateType.TheVariants.{X509, PkcsSignedData, Reserved1, TsStackSigned}
 use Rattle.pe_records.proofs.CertificateListings.{StandFrom, is_listing, unplaced}
 use Rattle.pe_records.proofs.CertificatesReadAgain.{next_place}
-use Rattle.pe_image.specs.Core.{CoreView, core_of, core_with, place_in_image, export_data_of, exports_of, import_directory, import_data_of, imports_of}
+use Rattle.pe_image.specs.Core.{CoreView, core_of, core_with, export_data_of, exports_of, import_directory, import_data_of, imports_of}
 use Rattle.pe_image.specs.Fields.{field, given_value}
 use Rattle.pe_image.specs.Image.{ImageView, before_resources, IsBehindCore, IsImage}
-use Rattle.pe_image.specs.Layout.{directory, is_64}
+use Rattle.pe_image.specs.Layout.{alignment, directory, is_64}
 use Rattle.pe_image.specs.Overlay.{Piece, EndsInZeros, has_byte, byte_of, byte_after, last_piece, overlay}
 use Rattle.pe_image.specs.Pieces.{all_certificate_pieces, all_section_pieces, certificate_pieces, header_pieces, in_a_row, lacking, section_pieces}
 use Rattle.pe_image.specs.Writing.{AreAligned, certificate_directory, image_by, image_end, image_pieces, image_tests, image_written}
@@ -291,7 +292,7 @@ field_kept b true (Some d) cs small m same = read_kept b d.virtual_address d.siz
 core_header : (b : List ℕ) (o : ParseOptions) (header : HeaderView) (sections : List SectionTable) (c : CoreView) → core_with b o header sections ≡ Ok c → c.header ≡ header
 unfolding core_with
 core_header b o header sections c h =
-    let place = place_in_image o sections header.optional_header in
+    let place = section_map o sections (alignment header.optional_header) in
     let width = entry_size (is_64 header.optional_header) in
     let data_found = export_data_of place b (directory 0 header.optional_header) in
     of_two {X = Option (List ImportRecordView)} {Y = List ImportView} (import_data_of place width b (import_directory o header.optional_header)) (λ found. imports_of place width b found)

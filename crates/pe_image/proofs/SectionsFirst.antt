@@ -5,14 +5,15 @@ use Rattle.pe_core.specs.Header.{HeaderView, header_at}
 use Rattle.pe_core.specs.Imports.{ImportRecordView, ImportView, entry_size}
 use Rattle.pe_core.specs.Refusals.{Refusal, ◌>>=◌}
 use Rattle.pe_core.specs.declared.error.Error.{Error}
+use Rattle.pe_core.specs.SectionMap.{section_map}
 use Rattle.pe_core.specs.Sections.{sections_of}
 use Rattle.pe_core.specs.declared.options.ParseOptions.{ParseOptions}
 use Rattle.pe_core.specs.declared.section_table.SectionTable.{SectionTable}
 use Rattle.pe_resource.specs.Resources.{ResourceView}
-use Rattle.pe_image.specs.Core.{CoreView, core_of, core_with, sections_read, place_in_image, export_data_of, exports_of, import_directory, import_data_of, imports_of}
+use Rattle.pe_image.specs.Core.{CoreView, core_of, core_with, sections_read, export_data_of, exports_of, import_directory, import_data_of, imports_of}
 use Rattle.pe_image.specs.Fields.{Field}
 use Rattle.pe_image.specs.Image.{ImageView, with_fields, demanded, first_four_demanded, before_resources, IsBehindCore, IsImage, image_view, GivesImage}
-use Rattle.pe_image.specs.Layout.{directory, is_64}
+use Rattle.pe_image.specs.Layout.{alignment, directory, is_64}
 use Rattle.pe_image.specs.declared.pe.PE.{PE}
 use Rattle.pe_image.proofs.Steps.{passed_test}
 
@@ -28,7 +29,7 @@ of_two (Ok x) f make part w z same h = of_one (f x) (make x) part w z (same x) h
 core_sections : (b : List ℕ) (o : ParseOptions) (header : HeaderView) (sections : List SectionTable) (c : CoreView) → core_with b o header sections ≡ Ok c → c.sections ≡ sections
 unfolding core_with
 core_sections b o header sections c h =
-    let place = place_in_image o sections header.optional_header in
+    let place = section_map o sections (alignment header.optional_header) in
     let width = entry_size (is_64 header.optional_header) in
     let data_found = export_data_of place b (directory 0 header.optional_header) in
     of_two {X = Option (List ImportRecordView)} {Y = List ImportView} (import_data_of place width b (import_directory o header.optional_header)) (λ found. imports_of place width b found)

@@ -6,16 +6,12 @@ use Rattle.pe_core.specs.Exports.{ExportDataView, ExportView, export_data_at, ex
 use Rattle.pe_core.specs.Header.{HeaderView, OptionalHeaderView, header_at}
 use Rattle.pe_core.specs.Imports.{AreLibraries, ImportRecordView, ImportView, entry_size, import_data_at, imports}
 use Rattle.pe_core.specs.Refusals.{Refusal, ◌>>=◌}
-use Rattle.pe_core.specs.SectionMap.{place_of}
+use Rattle.pe_core.specs.SectionMap.{section_map}
 use Rattle.pe_core.specs.Sections.{sections_of}
 use Rattle.pe_core.specs.declared.data_directories.DataDirectory.{DataDirectory}
 use Rattle.pe_core.specs.declared.options.ParseOptions.{ParseOptions}
 use Rattle.pe_core.specs.declared.section_table.SectionTable.{SectionTable}
 use Rattle.pe_image.specs.Layout.{directory, alignment, is_64}
-
--- what maps the addresses of an image to places in the file
-abbrev pub place_in_image : ParseOptions → List SectionTable → Option OptionalHeaderView → ℕ → Option ℕ
-place_in_image opts sections o = place_of opts.resolve_rva (alignment o) sections
 
 -- the value of what is read, if it is not refused
 abbrev pub value_or_none : {X : Type 0} → Result X Refusal → Option X
@@ -60,7 +56,7 @@ pub record CoreView : Type 0 where
 unfoldable pub core_with : List ℕ → ParseOptions → HeaderView → List SectionTable → Result CoreView Refusal
 core_with b opts header sections =
     let o = header.optional_header in
-    let place = place_in_image opts sections o in
+    let place = section_map opts sections (alignment o) in
     let width = entry_size (is_64 o) in
     let export_data = export_data_of place b (directory 0 o) in
     import_data_of place width b (import_directory opts o) >>= λ import_data.

@@ -7,7 +7,7 @@ ghost use Rattle.pe_core.specs.Exports.{export_data_view, export_view};
 ghost use Rattle.pe_core.specs.Header.{header_view};
 ghost use Rattle.pe_core.specs.Imports.{entry_size, import_data_view, import_view};
 ghost use Rattle.pe_core.specs.Refusals.{GivesUnlessMemory, GivesUnlessMemoryAfter};
-ghost use Rattle.pe_core.specs.SectionMap.{place_of};
+ghost use Rattle.pe_core.specs.SectionMap.{section_map};
 ghost use Rattle.pe_image.specs.Core.{export_data_of, exports_of, import_data_of, imports_of, core_with, sections_read, core_of, AreLibrariesOf};
 ghost use Rattle.pe_image.specs.CoreParts.{core_view, CoreHasLibraries};
 ghost use Rattle.pe_image.specs.LayoutParts.{layout_of};
@@ -35,7 +35,7 @@ fn export_data<'a>(
     sections: &[SectionTable],
     layout: &Layout,
 ) -> Option<ExportData<'a>>
-    ensures { option_map export_data_view result ≡ export_data_of (place_of opts.now.resolve_rva layout.now.file_alignment sections.now) bytes.entry.now layout.now.exports }
+    ensures { option_map export_data_view result ≡ export_data_of (section_map opts.now sections.now layout.now.file_alignment) bytes.entry.now layout.now.exports }
 {
     let alignment = layout.file_alignment;
     ExportData::parse_with_opts(bytes, layout.exports?, sections, alignment, opts).ok()
@@ -51,7 +51,7 @@ fn exports<'a, A: Allocator + Copy + Drop>(
     export_data: &Option<ExportData<'a>>,
 ) -> Result<Vec<Export<'a>, A>>
     ensures { GivesUnlessMemory (λ v. map export_view v.items) result
-        (Ok (exports_of (place_of opts.now.resolve_rva file_alignment sections.now) bytes.entry.now (option_map export_data_view export_data.now))) }
+        (Ok (exports_of (section_map opts.now sections.now file_alignment) bytes.entry.now (option_map export_data_view export_data.now))) }
 {
     match export_data {
         None => Ok(Vec::new(alloc)),
@@ -68,7 +68,7 @@ fn import_data<'a, A: Allocator + Copy + Drop>(
     layout: &Layout,
 ) -> Result<Option<ImportData<'a, A>>>
     ensures { GivesUnlessMemory (option_map import_data_view) result
-        (import_data_of (place_of opts.now.resolve_rva layout.now.file_alignment sections.now) (entry_size layout.now.is_64) bytes.entry.now
+        (import_data_of (section_map opts.now sections.now layout.now.file_alignment) (entry_size layout.now.is_64) bytes.entry.now
         (if opts.now.parse_imports then layout.now.imports else None)) }
 {
     if !opts.parse_imports {
@@ -103,7 +103,7 @@ fn imports<'a, A: Allocator + Copy + Drop>(
     import_data: &Option<ImportData<'a, A>>,
 ) -> Result<Vec<Import<'a>, A>>
     ensures { GivesUnlessMemory (λ v. map import_view v.items) result
-        (imports_of (place_of opts.now.resolve_rva layout.now.file_alignment sections.now) (entry_size layout.now.is_64) bytes.entry.now (option_map import_data_view import_data.now)) }
+        (imports_of (section_map opts.now sections.now layout.now.file_alignment) (entry_size layout.now.is_64) bytes.entry.now (option_map import_data_view import_data.now)) }
 {
     let Some(data) = import_data else {
         return Ok(Vec::new(alloc));

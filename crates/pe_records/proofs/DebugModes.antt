@@ -3,7 +3,7 @@ use Rattle.std.proofs.Common.{◌≡◌, ℕ, Bool, true, false, List, Option, S
 use Rattle.std.specs.Prelude.{◌-◌, length, min, nat_lt, if◌then◌else◌}
 use Rattle.pe_core.specs.Bytes.{holds}
 use Rattle.pe_core.specs.Refusals.{Refusal, DebugSize, DebugBounds, ◌>>=◌}
-use Rattle.pe_core.specs.SectionMap.{place_of}
+use Rattle.pe_core.specs.SectionMap.{section_map}
 use Rattle.pe_core.specs.declared.byte_range.ByteRange.{ByteRange}
 use Rattle.pe_core.specs.declared.data_directories.DataDirectory.{DataDirectory}
 use Rattle.pe_core.specs.declared.options.ParseMode.{ParseMode}
@@ -37,7 +37,7 @@ strict_range_at b size (Some place) r e = bounded (holds b place size) (record {
 
 strict_range : (o : ParseOptions) (b : List ℕ) (d : DataDirectory) (sections : List SectionTable) (alignment : ℕ) (r : ByteRange) → directory_range (in_mode Strict o) b d sections alignment ≡ Ok r → directory_range (in_mode Permissive o) b d sections alignment ≡ Ok r
 unfolding directory_range
-strict_range o b d sections alignment r e = strict_range_at b d.size (place_of o.resolve_rva alignment sections d.virtual_address) r e
+strict_range o b d sections alignment r e = strict_range_at b d.size (section_map o sections alignment d.virtual_address) r e
 
 strict_table : (o : ParseOptions) (b : List ℕ) (d : DataDirectory) (sections : List SectionTable) (alignment : ℕ) (t : List ℕ) → directory_table (in_mode Strict o) b d sections alignment ≡ Ok t → directory_table (in_mode Permissive o) b d sections alignment ≡ Ok t
 unfolding directory_table

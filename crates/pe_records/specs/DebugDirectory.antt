@@ -7,7 +7,7 @@ use Rattle.pe_core.specs.Options.{is_permissive}
 use Rattle.pe_core.specs.Places.{bytes_in}
 use Rattle.pe_core.specs.Refusals.{Refusal, Unmapped, DebugBounds, kind_of, ◌>>=◌}
 use Rattle.pe_core.specs.Rows as Rows
-use Rattle.pe_core.specs.SectionMap.{place_of}
+use Rattle.pe_core.specs.SectionMap.{section_map}
 use Rattle.pe_core.specs.TerseHeader.{reduced}
 use Rattle.pe_core.specs.declared.byte_range.ByteRange.{ByteRange}
 use Rattle.pe_core.specs.declared.data_directories.DataDirectory.{DataDirectory}
@@ -29,7 +29,7 @@ range_at b mode size (Some place) =
 
 -- where the table of a directory stands
 unfoldable pub directory_range : ParseOptions → List ℕ → DataDirectory → List SectionTable → ℕ → Result ByteRange Refusal
-directory_range o b d sections alignment = range_at b o.parse_mode d.size (place_of o.resolve_rva alignment sections d.virtual_address)
+directory_range o b d sections alignment = range_at b o.parse_mode d.size (section_map o sections alignment d.virtual_address)
 
 -- the bytes of the table of a directory
 unfoldable pub directory_table : ParseOptions → List ℕ → DataDirectory → List SectionTable → ℕ → Result (List ℕ) Refusal

@@ -40,7 +40,7 @@ pub use constants::{
 use first_entries::FirstEntries;
 use pe_core::{
     ByteRange, DataDirectory, Error, ParseMode, ParseOptions, Reason, Result, SectionTable,
-    find_offset, number16, number32, require_bytes, split_entry,
+    mapped_offset, number16, number32, require_bytes, split_entry,
 };
 pub use pogo::{POGOEntryIterator, POGOInfo, POGOInfoEntry};
 pub use records::{ExDllCharacteristicsInfo, ReproInfo, VCFeatureInfo};
@@ -247,11 +247,8 @@ impl<'a> DebugData<'a> {
             (directory_range opts.now bytes.now dd sections.now file_alignment) }
         ensures within { IfOk result (IsWithin bytes.now) }
     {
-        let address = dd.virtual_address as usize;
+        let place = mapped_offset(dd.virtual_address, sections, file_alignment, opts)?;
         let size = dd.size as usize;
-        let Some(place) = find_offset(address, sections, file_alignment, opts) else {
-            return Err(Error::Malformed(Reason::Unmapped(address as u64)));
-        };
         match (require_bytes(bytes, place, size), opts.parse_mode) {
             (Ok(()), _) => Ok(ByteRange {
                 place,

@@ -6,7 +6,7 @@ use Rattle.pe_core.specs.Options.{is_permissive}
 use Rattle.pe_core.specs.Places.{bytes_in}
 use Rattle.pe_core.specs.Refusals.{Refusal, Memory, Short, Unmapped, ResourceBounds, ResourceCycle, outcome, ◌>>=◌}
 use Rattle.pe_core.specs.Refusals as refusals
-use Rattle.pe_core.specs.SectionMap.{place_of}
+use Rattle.pe_core.specs.SectionMap.{section_map}
 use Rattle.pe_core.specs.declared.byte_range.ByteRange.{ByteRange}
 use Rattle.pe_core.specs.declared.data_directories.DataDirectory.{DataDirectory}
 use Rattle.pe_core.specs.declared.options.ParseMode.{ParseMode}
@@ -140,7 +140,7 @@ directory_not b (Some p) = one_test (holds b p 16) Short (directory_of b p) (λ 
 
 directory_at_not : (o : ParseOptions) (b : List ℕ) (dd : DataDirectory) (sections : List SectionTable) (alignment : ℕ) → NotMemory (directory_at o b dd sections alignment)
 unfolding directory_at
-directory_at_not o b dd sections alignment = directory_not b (place_of o.resolve_rva alignment sections dd.virtual_address)
+directory_at_not o b dd sections alignment = directory_not b (section_map o sections alignment dd.virtual_address)
 
 directory_and_data_not : (o : ParseOptions) (f : List ℕ) (dd : DataDirectory) (sections : List SectionTable) (alignment : ℕ) → NotMemory (directory_and_data o f dd sections alignment)
 unfolding directory_and_data

@@ -5,7 +5,7 @@ use Rattle.std.specs.Option.{option_map}
 use Rattle.pe_core.specs.Bytes.{le, holds, record_at}
 use Rattle.pe_core.specs.Places.{bytes_in, IsWithin}
 use Rattle.pe_core.specs.Refusals.{Refusal, Unmapped, ResourceBounds, outcome, ◌>>=◌}
-use Rattle.pe_core.specs.SectionMap.{place_of}
+use Rattle.pe_core.specs.SectionMap.{section_map}
 use Rattle.pe_core.specs.declared.byte_range.ByteRange.{ByteRange}
 use Rattle.pe_core.specs.declared.options.ParseOptions.{ParseOptions}
 use Rattle.pe_core.specs.declared.section_table.SectionTable.{SectionTable}
@@ -17,7 +17,7 @@ use Rattle.pe_resource.specs.VersionFields.{VersionView, version_in}
 
 -- the places of addresses
 abbrev pub map_of : ParseOptions → List SectionTable → ℕ → ℕ → Option ℕ
-map_of o sections alignment address = place_of o.resolve_rva alignment sections address
+map_of o sections alignment = section_map o sections alignment
 
 -- where the data entry lies behind an entry of the first directory: at the end of the walk over directories; none without
 -- an entry, or where the walk ends at a directory

@@ -2,7 +2,7 @@
 use Rattle.std.specs.Prelude.{ℕ, ◌+◌, ◌*◌, min, List, Option, Some, None, Result, Err}
 use Rattle.pe_core.specs.Bytes.{le, range, record_at}
 use Rattle.pe_core.specs.Refusals.{Refusal, Unmapped}
-use Rattle.pe_core.specs.SectionMap.{place_of}
+use Rattle.pe_core.specs.SectionMap.{section_map}
 use Rattle.pe_core.specs.declared.data_directories.DataDirectory.{DataDirectory}
 use Rattle.pe_core.specs.declared.options.ParseOptions.{ParseOptions}
 use Rattle.pe_core.specs.declared.section_table.SectionTable.{SectionTable}
@@ -32,7 +32,7 @@ directory_at_place b (Some p) = record_at b p 16 (directory_of b p)
 
 -- the directory that a data directory leads to
 unfoldable pub directory_at : ParseOptions → List ℕ → DataDirectory → List SectionTable → ℕ → Result ImageResourceDirectory Refusal
-directory_at o b d sections alignment = directory_at_place b (place_of o.resolve_rva alignment sections d.virtual_address)
+directory_at o b d sections alignment = directory_at_place b (section_map o sections alignment d.virtual_address)
 
 -- the entries of a directory, which stand at p
 abbrev pub entries_at : List ℕ → ℕ → ImageResourceDirectory → Result (List ResourceEntry) Refusal

@@ -10,7 +10,7 @@ ghost use Rattle.pe_resource.specs.ResourceEntries.{entries_left, with_id};
 use crate::directory::ResourceEntryIterator;
 use crate::entry::walk;
 use pe_core::{
-    ByteRange, Error, ParseOptions, Reason, Result, SectionTable, find_offset, number32,
+    ByteRange, Error, ParseOptions, Reason, Result, SectionTable, mapped_offset, number32,
     require_bytes,
 };
 
@@ -73,9 +73,7 @@ fn file_range(
     ensures range { Gives (λ r. r) result (file_range pe.now size (map_of opts.now sections.now file_alignment address)) }
     ensures within { IfOk result (IsWithin pe.now) }
 {
-    let Some(place) = find_offset(address as usize, sections, file_alignment, opts) else {
-        return Err(Error::Malformed(Reason::Unmapped(u64::from(address))));
-    };
+    let place = mapped_offset(address, sections, file_alignment, opts)?;
     let length = size as usize;
     if pe.len() < length || pe.len() - length < place {
         let end = (place as u64).saturating_add(length as u64);

@@ -11,8 +11,8 @@ ghost use Rattle.pe_resource.specs.ResourceEntries.{entries, entries_left, items
 use crate::constants::RESOURCE_ENTRY_SIZE;
 use crate::entry::ResourceEntry;
 use pe_core::{
-    DataDirectory, Error, ParseOptions, Reason, Result, SectionTable, find_offset, number16,
-    number32, require_bytes, slice_at,
+    DataDirectory, ParseOptions, Result, SectionTable, mapped_offset, number16, number32,
+    require_bytes, slice_at,
 };
 
 /// The bytes of a directory without its entries.
@@ -74,10 +74,7 @@ impl ImageResourceDirectory {
     ) -> Result<ImageResourceDirectory>
         ensures { Gives (λ d. d) result (directory_at opts.now bytes.now dd sections.now file_alignment) }
     {
-        let address = dd.virtual_address;
-        let Some(place) = find_offset(address as usize, sections, file_alignment, opts) else {
-            return Err(Error::Malformed(Reason::Unmapped(u64::from(address))));
-        };
+        let place = mapped_offset(dd.virtual_address, sections, file_alignment, opts)?;
         require_bytes(bytes, place, SIZE_OF_DIRECTORY)?;
         Ok(ImageResourceDirectory::at(bytes, place))
     }

@@ -1,7 +1,7 @@
 -- From an entry of the ARM64 function table to its unwind record.
 use Rattle.std.specs.Prelude.{ℕ, ◌*◌, List, Option, Some, None, Result, Err, if◌then◌else◌}
 use Rattle.pe_core.specs.Refusals.{Refusal, Unmapped}
-use Rattle.pe_core.specs.SectionMap.{place_of, mapped}
+use Rattle.pe_core.specs.SectionMap.{section_map, mapped}
 use Rattle.pe_core.specs.declared.options.ParseOptions.{ParseOptions}
 use Rattle.pe_core.specs.declared.section_table.SectionTable.{SectionTable}
 use Rattle.pe_unwind.specs.declared.arm64.function.Arm64RuntimeFunction.{Arm64RuntimeFunction}
@@ -18,9 +18,9 @@ info_at_place b (Some p) = info_at b p
 -- the place of the unwind record whose address an entry gives; there is none where its unwind data are packed
 abbrev pub place_of_function : ExceptionView → List SectionTable → ParseOptions → Arm64RuntimeFunction → Option (Result ℕ Refusal)
 place_of_function v sections opts f =
-    if is_packed f then None else Some (mapped (place_of opts.resolve_rva v.alignment sections (4 * bits f.unwind_data 2 30)))
+    if is_packed f then None else Some (mapped (section_map opts sections v.alignment (4 * bits f.unwind_data 2 30)))
 
 -- the unwind record at the address that an entry gives; there is none where its unwind data are packed
 abbrev pub info_of_function : ExceptionView → List SectionTable → ParseOptions → Arm64RuntimeFunction → Option (Result Arm64InfoView Refusal)
 info_of_function v sections opts f =
-    if is_packed f then None else Some (info_at_place v.content (place_of opts.resolve_rva v.alignment sections (4 * bits f.unwind_data 2 30)))
+    if is_packed f then None else Some (info_at_place v.content (section_map opts sections v.alignment (4 * bits f.unwind_data 2 30)))

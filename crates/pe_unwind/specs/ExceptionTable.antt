@@ -2,7 +2,7 @@
 use Rattle.std.specs.Prelude.{ℕ, ◌*◌, ◌/◌, ◌%◌, ◌==◌, List, [], ◌∷◌, length, Option, Some, None, Result, Err, if◌then◌else◌, nat_lt}
 use Rattle.pe_core.specs.Bytes.{holds, range}
 use Rattle.pe_core.specs.Refusals.{Refusal, Unmapped, ExceptionSize, ExceptionOffset, ExceptionBounds, FunctionIndex, outcome}
-use Rattle.pe_core.specs.SectionMap.{place_of}
+use Rattle.pe_core.specs.SectionMap.{section_map}
 use Rattle.pe_core.specs.declared.byte_range.ByteRange.{ByteRange}
 use Rattle.pe_core.specs.declared.data_directories.DataDirectory.{DataDirectory}
 use Rattle.pe_core.specs.declared.options.ParseOptions.{ParseOptions}
@@ -34,7 +34,7 @@ exception_at_place b size alignment (Some p) =
 unfoldable pub exception_at : ℕ → List ℕ → DataDirectory → List SectionTable → ℕ → ParseOptions → Result ExceptionView Refusal
 exception_at width b directory sections alignment opts =
     if directory.size % width == 0
-    then exception_at_place b directory.size alignment (place_of opts.resolve_rva alignment sections directory.virtual_address)
+    then exception_at_place b directory.size alignment (section_map opts sections alignment directory.virtual_address)
     else Err ExceptionSize
 
 -- the entry of a table with this index

@@ -1,7 +1,7 @@
 -- Chains of links between the entries of a function table. (x64 exception handling; links by this project's profile.)
 use Rattle.std.specs.Prelude.{◌≡◌, ℕ, ◌-◌, ◌*◌, ◌/◌, ◌%◌, List, length, Option, Some, None, Result, Ok, Err, if◌then◌else◌, nat_le, nat_lt, ◌==◌, ◌&&◌, option_and_then, IsSomeAnd}
 use Rattle.pe_core.specs.Refusals.{Refusal, Unmapped, FunctionLink, FunctionCycle}
-use Rattle.pe_core.specs.SectionMap.{place_of}
+use Rattle.pe_core.specs.SectionMap.{section_map}
 use Rattle.pe_core.specs.declared.options.ParseOptions.{ParseOptions}
 use Rattle.pe_core.specs.declared.section_table.SectionTable.{SectionTable}
 use Rattle.pe_core.specs.Chains.{after}
@@ -17,11 +17,11 @@ pub record Table : Type 0 where
 
 -- the table of an exception directory
 abbrev pub links_of : ExceptionView → List SectionTable → ParseOptions → Table
-links_of v sections opts = record { entries = table_of v; start = v.start; place = place_of opts.resolve_rva v.alignment sections }
+links_of v sections opts = record { entries = table_of v; start = v.start; place = section_map opts sections v.alignment }
 
 -- the same, seen in what follows the links
 abbrev pub table_view : Links → Table
-table_view l = record { entries = l.table.now; start = l.start; place = place_of l.opts.now.resolve_rva l.file_alignment l.sections.now }
+table_view l = record { entries = l.table.now; start = l.start; place = section_map l.opts.now l.sections.now l.file_alignment }
 
 -- how many entries there are
 abbrev pub count : Table → ℕ

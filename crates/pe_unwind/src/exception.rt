@@ -9,7 +9,7 @@ use crate::links::Links;
 use crate::unwind_info::UnwindInfo;
 use pe_core::{
     ByteRange, CountedTable, DataDirectory, Error, ParseOptions, Reason, Result, SectionTable,
-    find_offset,
+    mapped_offset,
 };
 use std::fmt;
 use std::marker::Model;
@@ -127,10 +127,7 @@ impl<'a> ExceptionData<'a> {
         if size as usize % width != 0 {
             return Err(Error::Malformed(Reason::ExceptionSize(size)));
         }
-        let Some(offset) = find_offset(virtual_address as usize, sections, file_alignment, opts)
-        else {
-            return Err(Error::Malformed(Reason::Unmapped(u64::from(virtual_address))));
-        };
+        let offset = mapped_offset(virtual_address, sections, file_alignment, opts)?;
         if offset % 4 != 0 {
             return Err(Error::Malformed(Reason::ExceptionOffset(offset as u64)));
         }
@@ -335,11 +332,8 @@ impl<'a> ExceptionData<'a> {
         if function.is_packed() {
             return None;
         }
-        let address = function.unwind_data_rva();
-        match find_offset(address as usize, sections, self.file_alignment, opts) {
-            Some(place) => Some(Ok(place)),
-            None => Some(Err(Error::Malformed(Reason::Unmapped(u64::from(address))))),
-        }
+        let rva = function.unwind_data_rva();
+        Some(mapped_offset(rva, sections, self.file_alignment, opts))
     }
 
     /// The unwind record of the function that covers an address, if one does: lookup, links and record in one call.

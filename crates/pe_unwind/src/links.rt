@@ -1,13 +1,14 @@
 //! Links between the entries of a function table: an odd unwind address leads to another entry.
 
 ghost use Rattle.std.specs.Prelude.{◌≡◌, ◌%◌};
+ghost use Rattle.pe_core.specs.SectionMap.{mapped};
 ghost use Rattle.pe_unwind.specs.FunctionTable.{answer_of};
 ghost use Rattle.pe_unwind.specs.LinkSteps.{Leads};
 ghost use Rattle.pe_unwind.specs.Links.{table_view, Follows};
 ghost use Rattle.pe_unwind.specs.Unwinding.{FindsRecord};
 
 use crate::function_table::{SIZE_OF_FUNCTION, read_function};
-use pe_core::{Error, ParseOptions, Reason, Result, SectionTable, find_offset};
+use pe_core::{Error, ParseOptions, Reason, Result, SectionTable, mapped_offset};
 
 /// The entries of a function table, and what maps addresses to places in the file.
 #[derive(Clone, Copy)]
@@ -22,16 +23,11 @@ pub(crate) struct Links<'a, 'b> {
 }
 
 impl<'a, 'b> Links<'a, 'b> {
-    /// The place of an address.
-    pub fn place(&self, address: u32) -> Option<usize>
-        ensures { result ≡ (table_view self.now).place address }
+    /// The file offset of an RVA.
+    fn offset_of(&self, rva: u32) -> Result<usize>
+        ensures { answer_of result ≡ mapped ((table_view self.now).place rva) }
     {
-        find_offset(
-            address as usize,
-            self.sections,
-            self.file_alignment,
-            self.opts,
-        )
+        mapped_offset(rva, self.sections, self.file_alignment, self.opts)
     }
 
     /// The unwind address of the entry that an odd address leads to.
@@ -39,9 +35,7 @@ impl<'a, 'b> Links<'a, 'b> {
         requires { address % 2 ≡ 1 }
         ensures { Leads (table_view self.now) address (answer_of result) }
     {
-        let Some(place) = self.place(address - 1) else {
-            return Err(Error::Malformed(Reason::Unmapped(u64::from(address - 1))));
-        };
+        let place = self.offset_of(address - 1)?;
         if place < self.start
             || (place - self.start) % SIZE_OF_FUNCTION != 0
             || self.table.len() / SIZE_OF_FUNCTION <= (place - self.start) / SIZE_OF_FUNCTION
@@ -81,9 +75,6 @@ impl<'a, 'b> Links<'a, 'b> {
         ensures { FindsRecord (table_view self.now) address (answer_of result) }
     {
         let last = self.end_of(address)?;
-        match self.place(last) {
-            Some(place) => Ok(place),
-            None => Err(Error::Malformed(Reason::Unmapped(u64::from(last)))),
-        }
+        self.offset_of(last)
     }
 }

@@ -1,9 +1,9 @@
 use Rattle.std.proofs.Common.{map}
 use Rattle.pe_core.specs.Imports.{entry_size, import_record_view}
-use Rattle.pe_core.specs.SectionMap.{place_of}
+use Rattle.pe_core.specs.SectionMap.{offset_in}
 use Rattle.pe_core.proofs.ImportLists.{RecordsRead}
 use Rattle.pe_core.proofs.import.named_records.Given as goal
 
 -- the records so far
 abbrev pub invariant-loop-i : goal.invariant-loop-i
-invariant-loop-i g l = RecordsRead (place_of l.index.resolve l.index.alignment l.index.sections) (entry_size l.is_64) l.bytes l.place l.i (map import_record_view l.records.items)
+invariant-loop-i g l = RecordsRead (offset_in l.sections) (entry_size l.is_64) l.bytes l.place l.i (map import_record_view l.records.items)

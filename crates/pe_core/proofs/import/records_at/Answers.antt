@@ -1,6 +1,6 @@
 use Rattle.std.proofs.Common.{arith}
 use Rattle.pe_core.proofs.ImportLists.{names_are}
-use Rattle.pe_core.proofs.import.records_by_index.Goals as goal
+use Rattle.pe_core.proofs.import.records_at.Goals as goal
 
 pub named_records-requires-clause-names : goal.named_records-requires-clause-names
 named_records-requires-clause-names g c =

@@ -1,7 +1,7 @@
 use Rattle.std.proofs.Common.{◌≡◌, ◌++◌, drop, map}
 use Rattle.pe_core.specs.Imports.{entries, entry_size, import_record_view}
 use Rattle.pe_core.specs.ImportSteps.{entry_view}
-use Rattle.pe_core.proofs.import.entries_of.Given as goal
+use Rattle.pe_core.proofs.import_list.entries_of.Given as goal
 
 -- the entries so far, and those of the records that are left
 abbrev pub invariant-loop-record : goal.invariant-loop-record

@@ -1,0 +1,220 @@
+//! The list of imports: what the entries of the import directory's records name.
+
+ghost use Rattle.std.specs.Prelude.{◌≡◌, ◌*◌, ◌/◌, ◌%◌, ◌^◌, ◌++◌, length, map, IfOk, OnOk};
+ghost use Rattle.std.specs.Option.{option_map};
+ghost use Rattle.pe_core.specs.Gathered.{all_or_refusal};
+ghost use Rattle.pe_core.specs.Imports.{entries, entry_at, import_data_view, import_of, import_record_view, import_view, imports, entry_size};
+ghost use Rattle.pe_core.specs.ImportSteps.{AreEntryNames, entry_view, name_place};
+ghost use Rattle.pe_core.specs.Refusals.{Gives, GivesUnlessMemory};
+ghost use Rattle.pe_core.specs.Rows.{each};
+ghost use Rattle.pe_core.specs.SectionMap.{offset_in, section_map};
+ghost use Rattle.pe_core.specs.Text.{text_at};
+
+use crate::bytes::u16_at;
+use crate::error::{Error, Reason, Result};
+use crate::import::{ImportData, SyntheticImportDirectoryEntry, lookup_number, lookup_size};
+use crate::many_texts::texts_at;
+use crate::options::ParseOptions;
+use crate::section_index::{SectionIndex, SectionMap};
+use crate::section_table::SectionTable;
+use std::alloc::{AllocError, Allocator};
+
+/// The size of the hint in front of an import's name in bytes.
+const SIZE_OF_HINT: usize = 2;
+
+/// What an image imports.
+#[derive(Debug, Drop)]
+pub struct Import<'a> {
+    /// `None` where the import is by its ordinal.
+    pub name: Option<&'a str>,
+    /// The library's name.
+    pub dll: &'a str,
+    /// The ordinal, or the hint for a name.
+    pub ordinal: u16,
+    /// The relative virtual address of the slot that the loader fills.
+    pub rva: u64,
+}
+
+/// An entry of a record's list, with what its import takes from the record.
+#[derive(Clone, Copy)]
+struct Entry<'a> {
+    dll: &'a str,
+    entry: u64,
+    rva: u64,
+}
+
+impl<'a> Entry<'a> {
+    ghost use Rattle.pe_core.specs.Imports.{is_ordinal};
+
+    /// Whether the highest bit is set.
+    fn is_ordinal(&self, is_64: bool) -> bool
+        ensures { result ≡ is_ordinal (entry_size is_64) (entry_view self.now) }
+    {
+        let highest = if is_64 {
+            0x8000_0000_0000_0000
+        } else {
+            0x8000_0000
+        };
+        self.entry >= highest
+    }
+
+    /// The address of the hint and the name, if it is no ordinal.
+    fn name_rva(&self) -> u32
+        ensures { result ≡ self.now.entry % 2 ^ 31 }
+    {
+        (self.entry % 0x8000_0000) as u32
+    }
+}
+
+/// Appends the entries of a record's list.
+#[tactic(auto, unfolding(crate::specs::Rows::each))]
+fn push_entries<'a, A: Allocator>(
+    imported: &SyntheticImportDirectoryEntry<'a>,
+    is_64: bool,
+    entries: &mut Vec<Entry<'a>, A>,
+) -> std::result::Result<(), AllocError>
+    ensures { OnOk result (map entry_view entries.new.items ≡ map entry_view entries.old.items ++ each (entry_at (entry_size is_64) (import_record_view imported.now)) (length imported.now.lookups.now / entry_size is_64)) }
+{
+    let size = lookup_size(is_64);
+    let rva = u64::from(imported.import_directory_entry.address_table_rva);
+    for k in 0..imported.lookups.len() / size {
+        entries.push(Entry {
+            dll: imported.name,
+            entry: lookup_number(imported.lookups, size * k, is_64),
+            rva: rva + (size * k) as u64,
+        })?;
+    }
+    Ok(())
+}
+
+/// The entries of all records, in their order.
+#[tactic(auto, unfolding(crate::specs::Imports::entries))]
+fn entries_of<'a, A: Allocator>(
+    alloc: A,
+    records: &[SyntheticImportDirectoryEntry<'a>],
+    is_64: bool,
+) -> std::result::Result<Vec<Entry<'a>, A>, AllocError>
+    ensures { IfOk result (λ v. map entry_view v.items ≡ entries (entry_size is_64) (map import_record_view records.now)) }
+{
+    let mut entries = Vec::new(alloc);
+    for record in records {
+        push_entries(record, is_64, &mut entries)?;
+    }
+    Ok(entries)
+}
+
+/// The places of the names that the entries lead to, each behind its hint.
+fn entry_places<A: Allocator>(
+    alloc: A,
+    entries: &[Entry<'_>],
+    sections: &SectionMap<'_>,
+    is_64: bool,
+) -> std::result::Result<Vec<usize, A>, AllocError>
+    ensures { IfOk result (λ v. v.items ≡ map (name_place (offset_in sections.now) (entry_size is_64)) (map entry_view entries.now)) }
+{
+    let mut places = Vec::with_capacity(alloc, entries.len())?;
+    for entry in entries {
+        let place = if entry.is_ordinal(is_64) {
+            usize::MAX
+        } else {
+            sections
+                .find_or_end(entry.name_rva())
+                .saturating_add(SIZE_OF_HINT)
+        };
+        places.push(place)?;
+    }
+    Ok(places)
+}
+
+/// What an entry imports whose name was looked up: `Unmapped`, `Short` of its hint, or `ImportName`.
+#[tactic(auto, unfolding(crate::specs::Imports::import_of))]
+fn import_of<'a>(
+    bytes: &'a [u8],
+    entry: &Entry<'a>,
+    name: Option<&'a str>,
+    sections: &SectionMap<'_>,
+    is_64: bool,
+) -> Result<Import<'a>>
+    requires { option_map (λ s. s.now) name ≡ text_at bytes.now (name_place (offset_in sections.now) (entry_size is_64) (entry_view entry.now)) }
+    ensures { Gives import_view result (import_of (offset_in sections.now) (entry_size is_64) bytes.entry.now (entry_view entry.entry.now)) }
+{
+    let Entry { dll, rva, .. } = *entry;
+    if entry.is_ordinal(is_64) {
+        return Ok(Import {
+            name: None,
+            dll,
+            ordinal: (entry.entry % 0x1_0000) as u16,
+            rva,
+        });
+    }
+    let name_rva = entry.name_rva();
+    let place = sections.offset_of(name_rva)?;
+    let ordinal = u16_at(bytes, place)?;
+    if name.is_none() {
+        return Err(Error::Malformed(Reason::ImportName(name_rva)));
+    }
+    Ok(Import {
+        name,
+        dll,
+        ordinal,
+        rva,
+    })
+}
+
+/// The imports of all these entries, whose names these are.
+#[tactic(auto, using(crate::proofs::ImportLists::imports_read))]
+fn named_imports<'a, A: Allocator>(
+    alloc: A,
+    bytes: &'a [u8],
+    entries: &[Entry<'a>],
+    names: &[Option<&'a str>],
+    sections: &SectionMap<'_>,
+    is_64: bool,
+) -> Result<Vec<Import<'a>, A>>
+    requires many { length names.now ≡ length entries.now }
+    requires names { AreEntryNames (offset_in sections.now) (entry_size is_64) bytes.now entries.now names.now }
+    ensures { GivesUnlessMemory (λ v. map import_view v.items) result (all_or_refusal (map (import_of (offset_in sections.now) (entry_size is_64) bytes.entry.now) (map entry_view entries.now))) }
+{
+    let mut imports = Vec::with_capacity(alloc, entries.len())?;
+    for (i, entry) in entries.iter().enumerate() {
+        imports.push(import_of(bytes, entry, names[i], sections, is_64)?)?;
+    }
+    Ok(imports)
+}
+
+impl<'a> Import<'a> {
+    /// What the entries of all records import, in their order. The highest bit of an entry says that its low 16 bits
+    /// are an ordinal; else its low 31 bits are the address of a hint of two bytes and a name behind it: `Unmapped`,
+    /// `Short` of the hint, `ImportName` where no zero ends the name or it is not UTF-8.
+    pub fn parse_with_opts<A: Allocator + Copy + Drop>(
+        alloc: A,
+        bytes: &'a [u8],
+        import_data: &ImportData<'a, A>,
+        sections: &[SectionTable],
+        file_alignment: u32,
+        opts: &ParseOptions,
+        is_64: bool,
+    ) -> Result<Vec<Import<'a>, A>>
+        ensures { GivesUnlessMemory (λ v. map import_view v.items) result (imports (section_map opts.now sections.now file_alignment) (entry_size is_64) bytes.entry.now (import_data_view import_data.now)) }
+    {
+        let index = SectionIndex::new(alloc, sections, file_alignment, opts)?;
+        Import::parse_with_map(alloc, bytes, import_data, &index.map(), is_64)
+    }
+
+    /// What the entries of all records import, as `parse_with_opts` lists it, by a section map.
+    #[tactic(auto, unfolding(crate::specs::Imports::imports))]
+    pub fn parse_with_map<A: Allocator + Copy + Drop>(
+        alloc: A,
+        bytes: &'a [u8],
+        import_data: &ImportData<'a, A>,
+        sections: &SectionMap<'_>,
+        is_64: bool,
+    ) -> Result<Vec<Import<'a>, A>>
+        ensures { GivesUnlessMemory (λ v. map import_view v.items) result (imports (offset_in sections.now) (entry_size is_64) bytes.entry.now (import_data_view import_data.now)) }
+    {
+        let entries = entries_of(alloc, &import_data.import_data, is_64)?;
+        let places = entry_places(alloc, &entries, sections, is_64)?;
+        let names = texts_at(alloc, bytes, &places)?;
+        named_imports(alloc, bytes, &entries, &names, sections, is_64)
+    }
+}
