@@ -36,7 +36,7 @@ pub enum Reason {
     /// The size of a POGO record.
     PogoSize(u32),
     /// How many bytes a POGO entry needs at least, padding included, and how many are left from its beginning on.
-    PogoName { place: usize, length: usize },
+    PogoName { needed: usize, length: usize },
     /// The size of the exception directory.
     ExceptionSize(u32),
     /// The place of the exception directory, which is no multiple of four.
@@ -59,7 +59,7 @@ pub enum Reason {
     Arm64Stream { length: usize, start: usize },
     /// The place of an ARM64 code that is cut, counted from the beginning of its stream.
     Arm64Cut(usize),
-    /// The end of resource data, which is past the bytes that hold them.
+    /// Where resource data end, from the start of the file: past the bytes that are to hold them.
     ResourceBounds(u64),
     /// The place of a resource directory that was reached again.
     ResourceCycle(u32),
@@ -257,7 +257,7 @@ impl Reason {
                 " of its stream",
             ),
             Reason::ResourceBounds(end) => (
-                "resource data ends at offset ",
+                "resource data ends at file offset ",
                 Number::Hex(*end),
                 ", past the bytes that hold it",
             ),
@@ -308,9 +308,9 @@ impl fmt::Display for Reason {
             return write!(f, "{before}{number}{after}");
         }
         match self {
-            Reason::PogoName { place, length } => write!(
+            Reason::PogoName { needed, length } => write!(
                 f,
-                "POGO entry truncated: {place} bytes needed up to the end of its padded name, {length} left"
+                "POGO entry truncated: {needed} bytes needed up to the end of its padded name, {length} left"
             ),
             Reason::Arm64Stream { length, start } => write!(
                 f,

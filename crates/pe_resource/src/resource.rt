@@ -10,7 +10,7 @@ ghost use Rattle.pe_resource.specs.Directories.{count};
 ghost use Rattle.pe_resource.specs.ResourceEntries.{entries, entries_left};
 ghost use Rattle.pe_resource.specs.Resources.{resource_view, first_entries_in, first_directory_view, first_directory, AreResources, IsResource, IsResourceRange};
 
-use crate::content::{content_range, file_bytes};
+use crate::content::{content_range, file_range};
 use crate::directory::{ImageResourceDirectory, ResourceEntryIterator, SIZE_OF_DIRECTORY};
 use crate::manifest::ManifestData;
 use crate::version::VersionInfo;
@@ -49,10 +49,12 @@ impl<'a> Default for ResourceData<'a> {
     }
 }
 
-/// The bytes of the first entries in the data of a directory. `None` where the data are shorter than a directory.
+/// The bytes of the first entries in the data of a directory, which start at an offset of the file. `None` where the data are
+/// shorter than a directory.
 #[tactic(auto, unfolding(crate::specs::Resources::first_entries_in))]
 fn first_entries<'a>(
     data: &'a [u8],
+    start: usize,
     directory: &ImageResourceDirectory,
     mode: ParseMode,
 ) -> Result<Option<&'a [u8]>>
@@ -63,7 +65,7 @@ fn first_entries<'a>(
     match (slice_at(data, SIZE_OF_DIRECTORY, size), mode) {
         (Ok(table), _) => Ok(Some(table)),
         (Err(_), ParseMode::Strict) => {
-            let end = SIZE_OF_DIRECTORY as u64 + size as u64;
+            let end = (start as u64).saturating_add((SIZE_OF_DIRECTORY + size) as u64);
             Err(Error::Malformed(Reason::ResourceBounds(end)))
         }
         (Err(_), ParseMode::Permissive) if fits => Ok(Some(&[])),
@@ -102,8 +104,9 @@ impl<'a> FirstDirectory<'a> {
             virtual_address,
             size,
         } = dd;
-        let data = file_bytes(bytes, virtual_address, size, sections, file_alignment, opts)?;
-        match first_entries(data, &directory, opts.parse_mode)? {
+        let range = file_range(bytes, virtual_address, size, sections, file_alignment, opts)?;
+        let data = range.of(bytes);
+        match first_entries(data, range.place, &directory, opts.parse_mode)? {
             None => Ok(None),
             Some(table) => Ok(Some(FirstDirectory {
                 directory,
