@@ -36,8 +36,8 @@ pub enum Reason {
     DebugData(u32),
     /// The size of a POGO record.
     PogoSize(u32),
-    /// How many bytes a POGO entry needs at least, padding included, and how many are left from its beginning on.
-    PogoName { place: usize, length: usize },
+    /// How many bytes a POGO entry needs at least, padding included, and how many are left from its start on.
+    PogoName { needed: usize, length: usize },
     /// The size of the exception directory.
     ExceptionSize(u32),
     /// The file offset of the exception directory, which is not a multiple of four.
@@ -60,7 +60,7 @@ pub enum Reason {
     Arm64Stream { length: usize, start: usize },
     /// The offset of a truncated ARM64 code in its stream.
     Arm64Cut(usize),
-    /// The end of resource data, which is past the bytes that hold them.
+    /// The file offset at which resource data ends, past the bytes that are to hold it.
     ResourceBounds(u64),
     /// The offset of a resource directory that was reached again.
     ResourceCycle(u32),
@@ -258,7 +258,7 @@ impl Reason {
                 " of its stream",
             ),
             Reason::ResourceBounds(end) => (
-                "resource data ends at offset ",
+                "resource data ends at file offset ",
                 Number::Hex(*end),
                 ", past the bytes that hold it",
             ),
@@ -309,9 +309,9 @@ impl fmt::Display for Reason {
             return write!(f, "{before}{number}{after}");
         }
         match self {
-            Reason::PogoName { place, length } => write!(
+            Reason::PogoName { needed, length } => write!(
                 f,
-                "POGO entry truncated: {place} bytes needed up to the end of its padded name, {length} left"
+                "POGO entry truncated: {needed} bytes needed up to the end of its padded name, {length} left"
             ),
             Reason::Arm64Stream { length, start } => write!(
                 f,

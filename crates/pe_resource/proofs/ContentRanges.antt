@@ -6,18 +6,15 @@ use Rattle.pe_core.specs.Places.{IsWithin}
 use Rattle.pe_core.specs.Refusals.{Refusal, Short, ResourceBounds, outcome, ◌>>=◌}
 use Rattle.pe_core.specs.declared.byte_range.ByteRange.{ByteRange}
 use Rattle.pe_core.specs.declared.data_directories.DataDirectory.{DataDirectory}
-use Rattle.pe_core.specs.declared.options.ParseMode.{ParseMode}
 use Rattle.pe_core.specs.declared.options.ParseOptions.{ParseOptions}
 use Rattle.pe_core.specs.declared.section_table.SectionTable.{SectionTable}
 use Rattle.pe_resource.specs.declared.content.ResourceDataEntry.{ResourceDataEntry}
-use Rattle.pe_resource.specs.declared.directory.ImageResourceDirectory.{ImageResourceDirectory}
 use Rattle.pe_resource.specs.declared.entry.ResourceEntry.{ResourceEntry}
 use Rattle.pe_resource.specs.declared.version.VersionName.{VersionName}
 use Rattle.pe_resource.specs.declared.version.VersionName.TheVariants as names
 use Rattle.pe_resource.specs.declared.version.VsFixedFileInfo.{VsFixedFileInfo}
 use Rattle.pe_resource.specs.Contents.{map_of, IsThere, data_entry_at, file_range, named_range, range_in, IsContentRange, content_of, IsContent, version_of_content, IsVersion}
-use Rattle.pe_resource.specs.ResourceEntries.{entries}
-use Rattle.pe_resource.specs.Resources.{ResourceView, no_resources, first_entries_in, directory_and_data, IsWithManifest, IsBehindEntries, IsBehindDirectory, IsResource, IsRangeBehindEntries, IsRangeBehindDirectory, IsResourceRange, IsManifestIn, IsVersionIn}
+use Rattle.pe_resource.specs.Resources.{ResourceView, no_resources, FirstDirectoryView, first_directory, IsOfFirst, resources_with, AreResources, IsResource, IsResourceRange, IsManifestIn, IsVersionIn}
 use Rattle.pe_resource.specs.VersionFields.{VersionView, file_strings, fixed_info_of, name_of, value_named, version_in, value_range_in}
 use Rattle.pe_resource.specs.VersionStrings.{VersionString, strings, read, value_of, value_range}
 use Rattle.pe_resource.proofs.OneAnswer.{one_content}
@@ -71,11 +68,12 @@ there : (map : ℕ → Option ℕ) (f b : List ℕ) (es : List ResourceEntry) (i
 there map f b es id None h = refl
 there map f b es id (Some r) h = (content_within map f b es id r h, refl)
 
-given_manifest : (d : ImageResourceDirectory) (es : List ResourceEntry) (v : Option VersionView) (m : Result (Option (List ℕ)) Refusal) (x : ResourceView) → Ok x ≡ (m >>= λ m. Ok (record { directory = d; first_entries = es; version = v; manifest = m })) → (m ≡ Ok x.manifest) × (v ≡ x.version)
-given_manifest d es v (Err e) x h = absurd (ok_not_refused x e h)
-given_manifest d es v (Ok m) x h =
-    let same = ok_once x (record { directory = d; first_entries = es; version = v; manifest = m }) h in
-    (ap (λ (y : ResourceView). Ok y.manifest) (sym same), ap (λ (y : ResourceView). y.version) (sym same))
+given_by : (d : FirstDirectoryView) (v : Result (Option VersionView) Refusal) (m : Result (Option (List ℕ)) Refusal) (x : ResourceView) → Ok x ≡ resources_with d v m → (m ≡ Ok x.manifest) × (v ≡ Ok x.version)
+given_by d (Err e) m x h = absurd (ok_not_refused x e h)
+given_by d (Ok v) (Err e) x h = absurd (ok_not_refused x e h)
+given_by d (Ok v) (Ok m) x h =
+    let same = ok_once x (record { directory = d.directory; first_entries = d.entries; version = v; manifest = m }) h in
+    (ap (λ (y : ResourceView). Ok y.manifest) (sym same), ap (λ (y : ResourceView). Ok y.version) (sym same))
 
 in_range : (map : ℕ → Option ℕ) (f b : List ℕ) (es : List ResourceEntry) (id : ℕ) (r : Result (Option ByteRange) Refusal) (m : Option (List ℕ)) → IsContentRange map f b es id r → IsContent map f b es id (Ok m) → IsManifestIn f r m
 in_range map f b es id (Err e) m h k = absurd (ok_not_refused m e (one_content map f b es id (Ok m) (Err e) k (Err e, h, refl)))
@@ -87,37 +85,31 @@ version_by : (map : ℕ → Option ℕ) (f b : List ℕ) (es : List ResourceEntr
 version_by map f b es r (Err e) v h k is = absurd (ok_not_refused v e is)
 version_by map f b es r (Ok m) v h k is = let found = in_range map f b es 16 r m h k in (found.0, m, found.1, found.2, sym is)
 
-with_manifest : (map : ℕ → Option ℕ) (f : List ℕ) (d : ImageResourceDirectory) (body : List ℕ) (es : List ResourceEntry) (v : Result (Option VersionView) Refusal) (x : ResourceView) → IsVersion map f body es v → IsWithManifest map f d body es v (Ok x) → IsContent map f body es 24 (Ok x.manifest) × IsVersion map f body es (Ok x.version)
-with_manifest map f d body es (Err e) x i h = absurd (ok_not_refused x e h)
-with_manifest map f d body es (Ok v) x i h =
-    let is = given_manifest d es v h.0 x h.2 in
-    (subst (IsContent map f body es 24) is.0 h.1, subst (λ (o : Option VersionView). IsVersion map f body es (Ok o)) is.1 i)
+of_resources : (map : ℕ → Option ℕ) (f : List ℕ) (d : FirstDirectoryView) (x : ResourceView) → AreResources map f d (Ok x) → IsContent map f d.bytes d.entries 24 (Ok x.manifest) × IsVersion map f d.bytes d.entries (Ok x.version)
+of_resources map f d x h =
+    let is = given_by d h.0 h.1 x h.4 in
+    (subst (IsContent map f d.bytes d.entries 24) is.0 h.3, subst (IsVersion map f d.bytes d.entries) is.1 h.2)
 
-manifest_behind_entries : (map : ℕ → Option ℕ) (f : List ℕ) (d : ImageResourceDirectory) (body : List ℕ) (t : Result (Option (List ℕ)) Refusal) (x : ResourceView) (r : Result (Option ByteRange) Refusal) → IsBehindEntries map f d body t (Ok x) → IsRangeBehindEntries map f body 24 t r → IsManifestIn f r x.manifest
-manifest_behind_entries map f d body (Err e) x r h k = absurd (ok_not_refused x e h)
-manifest_behind_entries map f d body (Ok None) x r h k = (None, k, ap (λ (y : ResourceView). y.manifest) (ok_once x no_resources h))
-manifest_behind_entries map f d body (Ok (Some table)) x r h k = in_range map f body (entries table) 24 r x.manifest k (with_manifest map f d body (entries table) h.0 x h.1 h.2).0
+abbrev IsRangeOf : (ℕ → Option ℕ) → List ℕ → ℕ → FirstDirectoryView → Result (Option ByteRange) Refusal → Type 0
+IsRangeOf map f id d r = IsContentRange map f d.bytes d.entries id r
 
-version_behind_entries : (map : ℕ → Option ℕ) (f : List ℕ) (d : ImageResourceDirectory) (body : List ℕ) (t : Result (Option (List ℕ)) Refusal) (x : ResourceView) (r : Result (Option ByteRange) Refusal) → IsBehindEntries map f d body t (Ok x) → IsRangeBehindEntries map f body 16 t r → IsVersionIn f r x.version
-version_behind_entries map f d body (Err e) x r h k = absurd (ok_not_refused x e h)
-version_behind_entries map f d body (Ok None) x r h k = (None, None, k, refl, ap (λ (y : ResourceView). Ok y.version) (sym (ok_once x no_resources h)))
-version_behind_entries map f d body (Ok (Some table)) x r h k =
-    let is = (with_manifest map f d body (entries table) h.0 x h.1 h.2).1 in
-    version_by map f body (entries table) r is.0 x.version k is.1 is.2
+manifest_of_first : (map : ℕ → Option ℕ) (f : List ℕ) (q : Result (Option FirstDirectoryView) Refusal) (x : ResourceView) (r : Result (Option ByteRange) Refusal) → IsOfFirst no_resources (AreResources map f) q (Ok x) → IsOfFirst None (IsRangeOf map f 24) q r → IsManifestIn f r x.manifest
+manifest_of_first map f (Err e) x r h k = absurd (ok_not_refused x e h)
+manifest_of_first map f (Ok None) x r h k = (None, k, ap (λ (y : ResourceView). y.manifest) (ok_once x no_resources h))
+manifest_of_first map f (Ok (Some d)) x r h k = in_range map f d.bytes d.entries 24 r x.manifest k (of_resources map f d x h).0
 
-manifest_behind_directory : (mode : ParseMode) (map : ℕ → Option ℕ) (f : List ℕ) (t : Result (ImageResourceDirectory × List ℕ) Refusal) (x : ResourceView) (r : Result (Option ByteRange) Refusal) → IsBehindDirectory mode map f t (Ok x) → IsRangeBehindDirectory mode map f 24 t r → IsManifestIn f r x.manifest
-manifest_behind_directory mode map f (Err e) x r h k = absurd (ok_not_refused x e h)
-manifest_behind_directory mode map f (Ok (d, body)) x r h k = manifest_behind_entries map f d body (first_entries_in mode body d) x r h k
-
-version_behind_directory : (mode : ParseMode) (map : ℕ → Option ℕ) (f : List ℕ) (t : Result (ImageResourceDirectory × List ℕ) Refusal) (x : ResourceView) (r : Result (Option ByteRange) Refusal) → IsBehindDirectory mode map f t (Ok x) → IsRangeBehindDirectory mode map f 16 t r → IsVersionIn f r x.version
-version_behind_directory mode map f (Err e) x r h k = absurd (ok_not_refused x e h)
-version_behind_directory mode map f (Ok (d, body)) x r h k = version_behind_entries map f d body (first_entries_in mode body d) x r h k
+version_of_first : (map : ℕ → Option ℕ) (f : List ℕ) (q : Result (Option FirstDirectoryView) Refusal) (x : ResourceView) (r : Result (Option ByteRange) Refusal) → IsOfFirst no_resources (AreResources map f) q (Ok x) → IsOfFirst None (IsRangeOf map f 16) q r → IsVersionIn f r x.version
+version_of_first map f (Err e) x r h k = absurd (ok_not_refused x e h)
+version_of_first map f (Ok None) x r h k = (None, None, k, refl, ap (λ (y : ResourceView). Ok y.version) (sym (ok_once x no_resources h)))
+version_of_first map f (Ok (Some d)) x r h k =
+    let is = (of_resources map f d x h).1 in
+    version_by map f d.bytes d.entries r is.0 x.version k is.1 is.2
 
 pub manifest_in : (o : ParseOptions) (f : List ℕ) (d : DataDirectory) (sections : List SectionTable) (alignment : ℕ) (x : ResourceView) (r : Result (Option ByteRange) Refusal) → IsResource o f d sections alignment (Ok x) → IsResourceRange o f d 24 sections alignment r → IsManifestIn f r x.manifest
-manifest_in o f d sections alignment x r h k = manifest_behind_directory o.parse_mode (map_of o sections alignment) f (directory_and_data o f d sections alignment) x r h k
+manifest_in o f d sections alignment x r h k = manifest_of_first (map_of o sections alignment) f (first_directory o f d sections alignment) x r h k
 
 pub version_in_range : (o : ParseOptions) (f : List ℕ) (d : DataDirectory) (sections : List SectionTable) (alignment : ℕ) (x : ResourceView) (r : Result (Option ByteRange) Refusal) → IsResource o f d sections alignment (Ok x) → IsResourceRange o f d 16 sections alignment r → IsVersionIn f r x.version
-version_in_range o f d sections alignment x r h k = version_behind_directory o.parse_mode (map_of o sections alignment) f (directory_and_data o f d sections alignment) x r h k
+version_in_range o f d sections alignment x r h k = version_of_first (map_of o sections alignment) f (first_directory o f d sections alignment) x r h k
 
 -- ---- version information by its parts
 

@@ -3,13 +3,13 @@ use Rattle.std.proofs.Common.{◌≡◌, ℕ, List, Option, Some, Result, Ok, Er
 use Rattle.pe_core.specs.Refusals.{Refusal, Gives, ◌>>=◌, answer_by}
 use Rattle.pe_core.specs.declared.byte_range.ByteRange.{ByteRange}
 use Rattle.pe_core.specs.declared.error.Error.{Error}
-use Rattle.pe_resource.specs.declared.directory.ImageResourceDirectory.{ImageResourceDirectory}
 use Rattle.pe_resource.specs.declared.entry.ResourceEntry.{ResourceEntry}
 use Rattle.pe_resource.specs.Contents.{IsLeaf, named_range, range_in, IsContentRange, content_of, IsContent, version_of_content, IsVersion}
-use Rattle.pe_resource.specs.ResourceEntries.{is_directory, data_place, entries}
+use Rattle.pe_resource.specs.ResourceEntries.{is_directory, data_place}
 use Rattle.pe_resource.specs.ResourceWalk.{Walks}
-use Rattle.pe_resource.specs.Resources.{IsBehindEntries}
+use Rattle.pe_resource.specs.Resources.{FirstDirectoryView, resources_with, AreResources}
 use Rattle.pe_resource.specs.VersionFields.{VersionView}
+use Rattle.pe_resource.proofs.SomeResource.{some_content}
 
 pub given_answer : {X Y : Type 0} (view : X → Y) (r : Result X Error) (d : Result Y Refusal) → Gives view r d → answer_by view r ≡ d
 given_answer view (Ok x) d h = sym h
@@ -39,19 +39,17 @@ range_in_fault map f b o p e is fault = ap (range_in map f b) is ∙ ap (λ (r :
 pub range_in_given : (map : ℕ → Option ℕ) (f b : List ℕ) (o : Option ℕ) (p : ℕ) (c : ByteRange) → o ≡ Some p → named_range map f b p ≡ Ok c → range_in map f b o ≡ Ok (Some c)
 range_in_given map f b o p c is there = ap (range_in map f b) is ∙ ap (λ (r : Result ByteRange Refusal). r >>= λ r. Ok (Some r)) there
 
-pub resources_without_version : (map : ℕ → Option ℕ) (f : List ℕ) (d : ImageResourceDirectory) (body table : List ℕ) (es : List ResourceEntry) (e : Refusal) → es ≡ entries table → IsVersion map f body es (Err e) → IsBehindEntries map f d body (Ok (Some table)) (Err e)
-resources_without_version map f d body table es e is h = (Err e, subst (λ (xs : List ResourceEntry). IsVersion map f body xs (Err e)) is h, refl)
+-- the manifest has an answer even where the version information is refused before it is asked
+pub resources_without_version : (map : ℕ → Option ℕ) (f : List ℕ) (d : FirstDirectoryView) (es : List ResourceEntry) (e : Refusal) → es ≡ d.entries → IsVersion map f d.bytes es (Err e) → AreResources map f d (Err e)
+resources_without_version map f d es e is h =
+    let (m, is_manifest) = some_content map f d.bytes d.entries 24 in
+    (Err e, m, subst (λ (xs : List ResourceEntry). IsVersion map f d.bytes xs (Err e)) is h, is_manifest, refl)
 
-pub resources_without_manifest : (map : ℕ → Option ℕ) (f : List ℕ) (d : ImageResourceDirectory) (body table : List ℕ) (es : List ResourceEntry) (v : Option VersionView) (e : Refusal) → es ≡ entries table → IsVersion map f body es (Ok v) → IsContent map f body es 24 (Err e) → IsBehindEntries map f d body (Ok (Some table)) (Err e)
-resources_without_manifest map f d body table es v e is h k = (
+pub resources_read : (map : ℕ → Option ℕ) (f : List ℕ) (d : FirstDirectoryView) (es : List ResourceEntry) (v : Option VersionView) (m : Result (Option (List ℕ)) Refusal) → es ≡ d.entries → IsVersion map f d.bytes es (Ok v) → IsContent map f d.bytes es 24 m → AreResources map f d (resources_with d (Ok v) m)
+resources_read map f d es v m is h k = (
   Ok v,
-  subst (λ (xs : List ResourceEntry). IsVersion map f body xs (Ok v)) is h,
-  (Err e, subst (λ (xs : List ResourceEntry). IsContent map f body xs 24 (Err e)) is k, refl),
-)
-
-pub resources_given : (map : ℕ → Option ℕ) (f : List ℕ) (d : ImageResourceDirectory) (body table : List ℕ) (es : List ResourceEntry) (v : Option VersionView) (m : Option (List ℕ)) → es ≡ entries table → IsVersion map f body es (Ok v) → IsContent map f body es 24 (Ok m) → IsBehindEntries map f d body (Ok (Some table)) (Ok (record { directory = d; first_entries = entries table; version = v; manifest = m }))
-resources_given map f d body table es v m is h k = (
-  Ok v,
-  subst (λ (xs : List ResourceEntry). IsVersion map f body xs (Ok v)) is h,
-  (Ok m, subst (λ (xs : List ResourceEntry). IsContent map f body xs 24 (Ok m)) is k, refl),
+  m,
+  subst (λ (xs : List ResourceEntry). IsVersion map f d.bytes xs (Ok v)) is h,
+  subst (λ (xs : List ResourceEntry). IsContent map f d.bytes xs 24 m) is k,
+  refl,
 )

@@ -16,9 +16,9 @@ use Rattle.pe_resource.specs.declared.directory.ImageResourceDirectory.{ImageRes
 use Rattle.pe_resource.specs.declared.entry.ResourceEntry.{ResourceEntry}
 use Rattle.pe_resource.specs.Contents.{map_of, IsLeaf, file_range, file_bytes, named_range, data_entry_at, range_in, IsContentRange, content_of, IsContent, version_of_content, IsVersion}
 use Rattle.pe_resource.specs.Directories.{directory_at, directory_at_place, directory_of, count}
-use Rattle.pe_resource.specs.ResourceEntries.{with_id, is_directory, data_place, entries}
+use Rattle.pe_resource.specs.ResourceEntries.{with_id, is_directory, data_place}
 use Rattle.pe_resource.specs.ResourceWalk.{Walks}
-use Rattle.pe_resource.specs.Resources.{ResourceView, first_entries_in, directory_and_data, IsWithManifest, IsBehindEntries, IsBehindDirectory, IsResource}
+use Rattle.pe_resource.specs.Resources.{ResourceView, no_resources, first_entries_in, FirstDirectoryView, first_directory, IsOfFirst, AreResources, IsResource}
 use Rattle.pe_resource.specs.VersionFields.{VersionView, version_in, fixed_info_of, fixed_info_in, fixed_info_at}
 use Rattle.pe_resource.specs.VersionStrings.{VersionString, string_at, whole_string_at, string_and_next, is_short_text, value_bytes, value_place, then_more, strings_in, strings, read, all_read, value_of}
 
@@ -142,12 +142,6 @@ directory_at_not : (o : ParseOptions) (b : List ℕ) (dd : DataDirectory) (secti
 unfolding directory_at
 directory_at_not o b dd sections alignment = directory_not b (section_map o sections alignment dd.virtual_address)
 
-directory_and_data_not : (o : ParseOptions) (f : List ℕ) (dd : DataDirectory) (sections : List SectionTable) (alignment : ℕ) → NotMemory (directory_and_data o f dd sections alignment)
-unfolding directory_and_data
-directory_and_data_not o f dd sections alignment =
-    then_not (directory_at o f dd sections alignment) _ (directory_at_not o f dd sections alignment)
-    (λ d. then_not (file_bytes f dd.size (map_of o sections alignment dd.virtual_address)) _ (file_bytes_not f dd.size (map_of o sections alignment dd.virtual_address)) (λ c. given (d, c)))
-
 by_mode : {X : Type 0} (t : Bool) (x : X) → NotMemory (if t then Ok x else Err ResourceBounds)
 by_mode true x = given x
 by_mode false x = not_kind ResourceBounds (λ s. cc)
@@ -161,20 +155,23 @@ first_entries_not : (mode : ParseMode) (body : List ℕ) (d : ImageResourceDirec
 unfolding first_entries_in
 first_entries_not mode body d = entries_at_not (nat_le 16 (length body)) (holds body 16 (8 * count d)) (is_permissive mode) (range body 16 (8 * count d)) []
 
-with_manifest_not : (map : ℕ → Option ℕ) (f : List ℕ) (d : ImageResourceDirectory) (body : List ℕ) (es : List ResourceEntry) (v : Result (Option VersionView) Refusal) (r : Result ResourceView Refusal) → NotMemory v → IsWithManifest map f d body es v r → NotMemory r
-with_manifest_not map f d body es (Err e) r not_v h = subst NotMemory (sym h) (not_kind e (same_kind e not_v))
-with_manifest_not map f d body es (Ok v) r not_v h = subst NotMemory (sym h.2) (then_not h.0 _ (content_no_memory map f body es 24 h.0 h.1) (λ m. given _))
+first_directory_not : (o : ParseOptions) (f : List ℕ) (dd : DataDirectory) (sections : List SectionTable) (alignment : ℕ) → NotMemory (first_directory o f dd sections alignment)
+unfolding first_directory
+first_directory_not o f dd sections alignment =
+    then_not (directory_at o f dd sections alignment) _ (directory_at_not o f dd sections alignment)
+    (λ d. then_not (file_bytes f dd.size (map_of o sections alignment dd.virtual_address)) _ (file_bytes_not f dd.size (map_of o sections alignment dd.virtual_address))
+    (λ bytes. then_not (first_entries_in o.parse_mode bytes d) _ (first_entries_not o.parse_mode bytes d) (λ t. given _)))
 
-behind_entries_not : (map : ℕ → Option ℕ) (f : List ℕ) (d : ImageResourceDirectory) (body : List ℕ) (t : Result (Option (List ℕ)) Refusal) (r : Result ResourceView Refusal) → NotMemory t → IsBehindEntries map f d body t r → NotMemory r
-behind_entries_not map f d body (Err e) r not_t h = subst NotMemory (sym h) (not_kind e (same_kind e not_t))
-behind_entries_not map f d body (Ok None) r not_t h = subst NotMemory (sym h) (given _)
-behind_entries_not map f d body (Ok (Some table)) r not_t h =
-    with_manifest_not map f d body (entries table) h.0 r (version_no_memory map f body (entries table) h.0 h.1) h.2
+resources_not : (map : ℕ → Option ℕ) (f : List ℕ) (d : FirstDirectoryView) (r : Result ResourceView Refusal) → AreResources map f d r → NotMemory r
+resources_not map f d r h =
+    subst NotMemory (sym h.4)
+    (then_not h.0 _ (version_no_memory map f d.bytes d.entries h.0 h.2) (λ v. then_not h.1 _ (content_no_memory map f d.bytes d.entries 24 h.1 h.3) (λ m. given _)))
 
-behind_directory_not : (mode : ParseMode) (map : ℕ → Option ℕ) (f : List ℕ) (s : Result (ImageResourceDirectory × List ℕ) Refusal) (r : Result ResourceView Refusal) → NotMemory s → IsBehindDirectory mode map f s r → NotMemory r
-behind_directory_not mode map f (Err e) r not_s h = subst NotMemory (sym h) (not_kind e (same_kind e not_s))
-behind_directory_not mode map f (Ok (d, body)) r not_s h = behind_entries_not map f d body (first_entries_in mode body d) r (first_entries_not mode body d) h
+of_first_not : (map : ℕ → Option ℕ) (f : List ℕ) (q : Result (Option FirstDirectoryView) Refusal) (r : Result ResourceView Refusal) → NotMemory q → IsOfFirst no_resources (AreResources map f) q r → NotMemory r
+of_first_not map f (Err e) r not_q h = subst NotMemory (sym h) (not_kind e (same_kind e not_q))
+of_first_not map f (Ok None) r not_q h = subst NotMemory (sym h) (given _)
+of_first_not map f (Ok (Some d)) r not_q h = resources_not map f d r h
 
 pub resource_no_memory : (o : ParseOptions) (f : List ℕ) (dd : DataDirectory) (sections : List SectionTable) (alignment : ℕ) (r : Result ResourceView Refusal) → IsResource o f dd sections alignment r → r ≢ Err Memory
 resource_no_memory o f dd sections alignment r h =
-    behind_directory_not o.parse_mode (map_of o sections alignment) f (directory_and_data o f dd sections alignment) r (directory_and_data_not o f dd sections alignment) h
+    of_first_not (map_of o sections alignment) f (first_directory o f dd sections alignment) r (first_directory_not o f dd sections alignment) h

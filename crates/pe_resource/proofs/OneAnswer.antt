@@ -3,16 +3,14 @@ use Rattle.std.proofs.Common.{◌≡◌, ℕ, Bool, List, Option, Some, None, Re
 use Rattle.pe_core.specs.Refusals.{Refusal, Short, ResourceCycle, ◌>>=◌}
 use Rattle.pe_core.specs.declared.byte_range.ByteRange.{ByteRange}
 use Rattle.pe_core.specs.declared.data_directories.DataDirectory.{DataDirectory}
-use Rattle.pe_core.specs.declared.options.ParseMode.{ParseMode}
 use Rattle.pe_core.specs.declared.options.ParseOptions.{ParseOptions}
 use Rattle.pe_core.specs.declared.section_table.SectionTable.{SectionTable}
 use Rattle.pe_core.proofs.Pigeonhole.{stop_once}
-use Rattle.pe_resource.specs.declared.directory.ImageResourceDirectory.{ImageResourceDirectory}
 use Rattle.pe_resource.specs.declared.entry.ResourceEntry.{ResourceEntry}
 use Rattle.pe_resource.specs.Contents.{map_of, IsLeaf, range_in, IsContentRange, content_of, IsContent, version_of_content, IsVersion}
-use Rattle.pe_resource.specs.ResourceEntries.{with_id, is_directory, data_place, entries}
+use Rattle.pe_resource.specs.ResourceEntries.{with_id, is_directory, data_place}
 use Rattle.pe_resource.specs.ResourceWalk.{step, decided, passes, Decides, Walks}
-use Rattle.pe_resource.specs.Resources.{ResourceView, first_entries_in, directory_and_data, IsWithManifest, IsBehindEntries, IsBehindDirectory, IsResource, IsRangeBehindEntries, IsRangeBehindDirectory, IsResourceRange}
+use Rattle.pe_resource.specs.Resources.{ResourceView, no_resources, FirstDirectoryView, first_directory, IsOfFirst, resources_with, AreResources, IsResource, IsResourceRange}
 use Rattle.pe_resource.specs.VersionFields.{VersionView}
 use Rattle.pe_resource.proofs.Walks.{none_from_decided, cycle_is_endless}
 
@@ -64,37 +62,23 @@ one_version map f b es r s h k =
     let same : h.0 ≡ k.0 = one_content map f b es 16 h.0 k.0 h.1 k.1 in
     h.2 ∙ ap (λ (c : Result (Option (List ℕ)) Refusal). c >>= version_of_content) same ∙ sym k.2
 
-one_with_manifest : (map : ℕ → Option ℕ) (f : List ℕ) (d : ImageResourceDirectory) (body : List ℕ) (es : List ResourceEntry) (v : Result (Option VersionView) Refusal) (r s : Result ResourceView Refusal) → IsWithManifest map f d body es v r → IsWithManifest map f d body es v s → r ≡ s
-one_with_manifest map f d body es (Err e) r s h k = h ∙ sym k
-one_with_manifest map f d body es (Ok v) r s h k =
-    let same : h.0 ≡ k.0 = one_content map f body es 24 h.0 k.0 h.1 k.1 in
-    h.2 ∙ ap (λ (m : Result (Option (List ℕ)) Refusal). m >>= λ m. Ok (record { directory = d; first_entries = es; version = v; manifest = m })) same ∙ sym k.2
+one_resources : (map : ℕ → Option ℕ) (f : List ℕ) (d : FirstDirectoryView) (r s : Result ResourceView Refusal) → AreResources map f d r → AreResources map f d s → r ≡ s
+one_resources map f d r s h k =
+    let versions : h.0 ≡ k.0 = one_version map f d.bytes d.entries h.0 k.0 h.2 k.2 in
+    let manifests : h.1 ≡ k.1 = one_content map f d.bytes d.entries 24 h.1 k.1 h.3 k.3 in
+    h.4 ∙ ap (λ (v : Result (Option VersionView) Refusal). resources_with d v h.1) versions
+    ∙ ap (λ (m : Result (Option (List ℕ)) Refusal). resources_with d k.0 m) manifests ∙ sym k.4
 
-one_behind_entries : (map : ℕ → Option ℕ) (f : List ℕ) (d : ImageResourceDirectory) (body : List ℕ) (t : Result (Option (List ℕ)) Refusal) (r s : Result ResourceView Refusal) → IsBehindEntries map f d body t r → IsBehindEntries map f d body t s → r ≡ s
-one_behind_entries map f d body (Err e) r s h k = h ∙ sym k
-one_behind_entries map f d body (Ok None) r s h k = h ∙ sym k
-one_behind_entries map f d body (Ok (Some table)) r s h k =
-    let same : h.0 ≡ k.0 = one_version map f body (entries table) h.0 k.0 h.1 k.1 in
-    one_with_manifest map f d body (entries table) k.0 r s
-    (subst (λ (v : Result (Option VersionView) Refusal). IsWithManifest map f d body (entries table) v r) same h.2) k.2
-
-one_behind_directory : (mode : ParseMode) (map : ℕ → Option ℕ) (f : List ℕ) (t : Result (ImageResourceDirectory × List ℕ) Refusal) (r s : Result ResourceView Refusal) → IsBehindDirectory mode map f t r → IsBehindDirectory mode map f t s → r ≡ s
-one_behind_directory mode map f (Err e) r s h k = h ∙ sym k
-one_behind_directory mode map f (Ok (d, body)) r s h k = one_behind_entries map f d body (first_entries_in mode body d) r s h k
+one_of_first : {X : Type 0} (none : X) (Reads : FirstDirectoryView → Result X Refusal → Type 0) (q : Result (Option FirstDirectoryView) Refusal) (r s : Result X Refusal) → ((d : FirstDirectoryView) (r s : Result X Refusal) → Reads d r → Reads d s → r ≡ s) → IsOfFirst none Reads q r → IsOfFirst none Reads q s → r ≡ s
+one_of_first none Reads (Err e) r s one h k = h ∙ sym k
+one_of_first none Reads (Ok None) r s one h k = h ∙ sym k
+one_of_first none Reads (Ok (Some d)) r s one h k = one d r s h k
 
 pub one_resource : (o : ParseOptions) (f : List ℕ) (d : DataDirectory) (sections : List SectionTable) (alignment : ℕ) (r s : Result ResourceView Refusal) → IsResource o f d sections alignment r → IsResource o f d sections alignment s → r ≡ s
-one_resource o f d sections alignment r s h k = one_behind_directory o.parse_mode (map_of o sections alignment) f (directory_and_data o f d sections alignment) r s h k
-
--- ---- ranges
-
-one_range_behind_entries : (map : ℕ → Option ℕ) (f body : List ℕ) (id : ℕ) (t : Result (Option (List ℕ)) Refusal) (r s : Result (Option ByteRange) Refusal) → IsRangeBehindEntries map f body id t r → IsRangeBehindEntries map f body id t s → r ≡ s
-one_range_behind_entries map f body id (Err e) r s h k = h ∙ sym k
-one_range_behind_entries map f body id (Ok None) r s h k = h ∙ sym k
-one_range_behind_entries map f body id (Ok (Some table)) r s h k = one_content_range map f body (entries table) id r s h k
-
-one_range_behind_directory : (mode : ParseMode) (map : ℕ → Option ℕ) (f : List ℕ) (id : ℕ) (t : Result (ImageResourceDirectory × List ℕ) Refusal) (r s : Result (Option ByteRange) Refusal) → IsRangeBehindDirectory mode map f id t r → IsRangeBehindDirectory mode map f id t s → r ≡ s
-one_range_behind_directory mode map f id (Err e) r s h k = h ∙ sym k
-one_range_behind_directory mode map f id (Ok (d, body)) r s h k = one_range_behind_entries map f body id (first_entries_in mode body d) r s h k
+one_resource o f d sections alignment r s h k =
+    one_of_first no_resources (AreResources (map_of o sections alignment) f) (first_directory o f d sections alignment) r s (one_resources (map_of o sections alignment) f) h k
 
 pub one_range : (o : ParseOptions) (f : List ℕ) (d : DataDirectory) (id : ℕ) (sections : List SectionTable) (alignment : ℕ) (r s : Result (Option ByteRange) Refusal) → IsResourceRange o f d id sections alignment r → IsResourceRange o f d id sections alignment s → r ≡ s
-one_range o f d id sections alignment r s h k = one_range_behind_directory o.parse_mode (map_of o sections alignment) f id (directory_and_data o f d sections alignment) r s h k
+one_range o f d id sections alignment r s h k =
+    one_of_first None (λ (d : FirstDirectoryView). IsContentRange (map_of o sections alignment) f d.bytes d.entries id) (first_directory o f d sections alignment) r s
+    (λ d r s. one_content_range (map_of o sections alignment) f d.bytes d.entries id r s) h k

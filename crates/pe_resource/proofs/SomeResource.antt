@@ -5,15 +5,13 @@ use Rattle.pe_core.specs.Chains.{after}
 use Rattle.pe_core.specs.Refusals.{Refusal, Short, ResourceCycle, ◌>>=◌}
 use Rattle.pe_core.specs.declared.byte_range.ByteRange.{ByteRange}
 use Rattle.pe_core.specs.declared.data_directories.DataDirectory.{DataDirectory}
-use Rattle.pe_core.specs.declared.options.ParseMode.{ParseMode}
 use Rattle.pe_core.specs.declared.options.ParseOptions.{ParseOptions}
 use Rattle.pe_core.specs.declared.section_table.SectionTable.{SectionTable}
-use Rattle.pe_resource.specs.declared.directory.ImageResourceDirectory.{ImageResourceDirectory}
 use Rattle.pe_resource.specs.declared.entry.ResourceEntry.{ResourceEntry}
 use Rattle.pe_resource.specs.Contents.{map_of, IsLeaf, range_in, IsContentRange, content_of, IsContent, version_of_content, IsVersion}
-use Rattle.pe_resource.specs.ResourceEntries.{directory_place, with_id, is_directory, data_place, entries}
+use Rattle.pe_resource.specs.ResourceEntries.{directory_place, with_id, is_directory, data_place}
 use Rattle.pe_resource.specs.ResourceWalk.{step, decided, passed_on, passes, Walks}
-use Rattle.pe_resource.specs.Resources.{ResourceView, first_entries_in, directory_and_data, IsWithManifest, IsBehindEntries, IsBehindDirectory, IsResource, IsRangeBehindEntries, IsRangeBehindDirectory, IsResourceRange}
+use Rattle.pe_resource.specs.Resources.{ResourceView, no_resources, FirstDirectoryView, first_directory, IsOfFirst, resources_with, AreResources, IsResource, IsResourceRange}
 use Rattle.pe_resource.specs.VersionFields.{VersionView}
 use Rattle.pe_resource.proofs.Walks.{only_short, place_decides, places_below}
 
@@ -58,7 +56,7 @@ some_leaf b (Some e) = let (w, walks) = some_walk b is_directory e in (w >>= λ 
 some_content_range : (map : ℕ → Option ℕ) (f b : List ℕ) (es : List ResourceEntry) (id : ℕ) → (r : Result (Option ByteRange) Refusal) × IsContentRange map f b es id r
 some_content_range map f b es id = let (leaf, is) = some_leaf b (with_id id es) in (leaf >>= range_in map f b, (leaf, is, refl))
 
-some_content : (map : ℕ → Option ℕ) (f b : List ℕ) (es : List ResourceEntry) (id : ℕ) → (r : Result (Option (List ℕ)) Refusal) × IsContent map f b es id r
+pub some_content : (map : ℕ → Option ℕ) (f b : List ℕ) (es : List ResourceEntry) (id : ℕ) → (r : Result (Option (List ℕ)) Refusal) × IsContent map f b es id r
 some_content map f b es id = let (c, is) = some_content_range map f b es id in (c >>= λ c. Ok (content_of f c), (c, is, refl))
 
 some_version : (map : ℕ → Option ℕ) (f b : List ℕ) (es : List ResourceEntry) → (r : Result (Option VersionView) Refusal) × IsVersion map f b es r
@@ -66,35 +64,22 @@ some_version map f b es = let (c, is) = some_content map f b es 16 in (c >>= ver
 
 -- ---- resources
 
-some_with_manifest : (map : ℕ → Option ℕ) (f : List ℕ) (d : ImageResourceDirectory) (body : List ℕ) (es : List ResourceEntry) (v : Result (Option VersionView) Refusal) → (r : Result ResourceView Refusal) × IsWithManifest map f d body es v r
-some_with_manifest map f d body es (Err e) = (Err e, refl)
-some_with_manifest map f d body es (Ok v) =
-    let (m, is) = some_content map f body es 24 in
-    (m >>= λ m. Ok (record { directory = d; first_entries = es; version = v; manifest = m }), (m, is, refl))
+pub some_resources : (map : ℕ → Option ℕ) (f : List ℕ) (d : FirstDirectoryView) → (r : Result ResourceView Refusal) × AreResources map f d r
+some_resources map f d =
+    let (v, is_version) = some_version map f d.bytes d.entries in
+    let (m, is_manifest) = some_content map f d.bytes d.entries 24 in
+    (resources_with d v m, (v, m, is_version, is_manifest, refl))
 
-some_behind_entries : (map : ℕ → Option ℕ) (f : List ℕ) (d : ImageResourceDirectory) (body : List ℕ) (t : Result (Option (List ℕ)) Refusal) → (r : Result ResourceView Refusal) × IsBehindEntries map f d body t r
-some_behind_entries map f d body (Err e) = (Err e, refl)
-some_behind_entries map f d body (Ok None) = (_, refl)
-some_behind_entries map f d body (Ok (Some table)) =
-    let (v, is) = some_version map f body (entries table) in
-    let (r, whole) = some_with_manifest map f d body (entries table) v in
-    (r, (v, is, whole))
-
-some_behind_directory : (mode : ParseMode) (map : ℕ → Option ℕ) (f : List ℕ) (d : Result (ImageResourceDirectory × List ℕ) Refusal) → (r : Result ResourceView Refusal) × IsBehindDirectory mode map f d r
-some_behind_directory mode map f (Err e) = (Err e, refl)
-some_behind_directory mode map f (Ok (d, body)) = some_behind_entries map f d body (first_entries_in mode body d)
+some_of_first : {X : Type 0} (none : X) (Reads : FirstDirectoryView → Result X Refusal → Type 0) (q : Result (Option FirstDirectoryView) Refusal) → ((d : FirstDirectoryView) → (r : Result X Refusal) × Reads d r) → (r : Result X Refusal) × IsOfFirst none Reads q r
+some_of_first none Reads (Err e) some = (Err e, refl)
+some_of_first none Reads (Ok None) some = (Ok none, refl)
+some_of_first none Reads (Ok (Some d)) some = some d
 
 pub some_resource : (o : ParseOptions) (f : List ℕ) (d : DataDirectory) (sections : List SectionTable) (alignment : ℕ) → (r : Result ResourceView Refusal) × IsResource o f d sections alignment r
-some_resource o f d sections alignment = some_behind_directory o.parse_mode (map_of o sections alignment) f (directory_and_data o f d sections alignment)
-
-some_range_behind_entries : (map : ℕ → Option ℕ) (f body : List ℕ) (id : ℕ) (t : Result (Option (List ℕ)) Refusal) → (r : Result (Option ByteRange) Refusal) × IsRangeBehindEntries map f body id t r
-some_range_behind_entries map f body id (Err e) = (Err e, refl)
-some_range_behind_entries map f body id (Ok None) = (Ok None, refl)
-some_range_behind_entries map f body id (Ok (Some table)) = some_content_range map f body (entries table) id
-
-some_range_behind_directory : (mode : ParseMode) (map : ℕ → Option ℕ) (f : List ℕ) (id : ℕ) (d : Result (ImageResourceDirectory × List ℕ) Refusal) → (r : Result (Option ByteRange) Refusal) × IsRangeBehindDirectory mode map f id d r
-some_range_behind_directory mode map f id (Err e) = (Err e, refl)
-some_range_behind_directory mode map f id (Ok (d, body)) = some_range_behind_entries map f body id (first_entries_in mode body d)
+some_resource o f d sections alignment =
+    some_of_first no_resources (AreResources (map_of o sections alignment) f) (first_directory o f d sections alignment) (some_resources (map_of o sections alignment) f)
 
 pub some_range : (o : ParseOptions) (f : List ℕ) (d : DataDirectory) (id : ℕ) (sections : List SectionTable) (alignment : ℕ) → (r : Result (Option ByteRange) Refusal) × IsResourceRange o f d id sections alignment r
-some_range o f d id sections alignment = some_range_behind_directory o.parse_mode (map_of o sections alignment) f id (directory_and_data o f d sections alignment)
+some_range o f d id sections alignment =
+    some_of_first None (λ (d : FirstDirectoryView). IsContentRange (map_of o sections alignment) f d.bytes d.entries id) (first_directory o f d sections alignment)
+    (λ d. some_content_range (map_of o sections alignment) f d.bytes d.entries id)

@@ -12,6 +12,7 @@ use Rattle.pe_core.specs.declared.section_table.SectionTable.{SectionTable}
 use Rattle.pe_resource.specs.declared.directory.ImageResourceDirectory.{ImageResourceDirectory}
 use Rattle.pe_resource.specs.declared.entry.ResourceEntry.{ResourceEntry}
 use Rattle.pe_resource.specs.declared.manifest.ManifestData.{ManifestData}
+use Rattle.pe_resource.specs.declared.resource.FirstDirectory.{FirstDirectory}
 use Rattle.pe_resource.specs.declared.resource.ResourceData.{ResourceData}
 use Rattle.pe_resource.specs.Contents.{map_of, IsThere, file_bytes, IsContentRange, IsContent, version_of_content, IsVersion}
 use Rattle.pe_resource.specs.Directories.{directory_at, count}
@@ -53,47 +54,49 @@ first_entries_in mode body d =
     else (if is_permissive mode then Ok (Some []) else Err ResourceBounds))
     else (if is_permissive mode then Ok None else Err ResourceBounds)
 
--- the directory and its data: so many bytes at its place as the data directory says
-unfoldable pub directory_and_data : ParseOptions → List ℕ → DataDirectory → List SectionTable → ℕ → Result (ImageResourceDirectory × List ℕ) Refusal
-directory_and_data o f dd sections alignment =
+-- the first directory, its data and its first entries
+pub record FirstDirectoryView : Type 0 where
+  pub directory : ImageResourceDirectory
+  pub bytes : List ℕ
+  pub entries : List ResourceEntry
+
+abbrev pub first_directory_view : FirstDirectory → FirstDirectoryView
+first_directory_view d = record { directory = d.directory; bytes = d.bytes.now; entries = entries d.table.now }
+
+-- the one that a data directory leads to, which says how many bytes its data are; none where they are shorter than a directory
+unfoldable pub first_directory : ParseOptions → List ℕ → DataDirectory → List SectionTable → ℕ → Result (Option FirstDirectoryView) Refusal
+first_directory o f dd sections alignment =
     directory_at o f dd sections alignment >>= λ d.
-    file_bytes f dd.size (map_of o sections alignment dd.virtual_address) >>= λ body. Ok (d, body)
+    file_bytes f dd.size (map_of o sections alignment dd.virtual_address) >>= λ bytes.
+    first_entries_in o.parse_mode bytes d >>= λ table.
+    Ok (option_map (λ t. record { directory = d; bytes = bytes; entries = entries t }) table)
 
--- version information, and the manifest behind it
-abbrev pub IsWithManifest : (ℕ → Option ℕ) → List ℕ → ImageResourceDirectory → List ℕ → List ResourceEntry → Result (Option VersionView) Refusal → Result ResourceView Refusal → Type 0
-IsWithManifest map f d body es (Err e) r = r ≡ Err e
-IsWithManifest map f d body es (Ok v) r =
-    (m : Result (Option (List ℕ)) Refusal) × IsContent map f body es 24 m
-    × (r ≡ (m >>= λ m. Ok (record { directory = d; first_entries = es; version = v; manifest = m })))
+-- what is read of the first directory: this where there is none, and what refuses it where it is refused
+abbrev pub IsOfFirst : {X : Type 0} → X → (FirstDirectoryView → Result X Refusal → Type 0) → Result (Option FirstDirectoryView) Refusal → Result X Refusal → Type 0
+IsOfFirst none Reads (Err e) r = r ≡ Err e
+IsOfFirst none Reads (Ok None) r = r ≡ Ok none
+IsOfFirst none Reads (Ok (Some d)) r = Reads d r
 
-abbrev pub IsBehindEntries : (ℕ → Option ℕ) → List ℕ → ImageResourceDirectory → List ℕ → Result (Option (List ℕ)) Refusal → Result ResourceView Refusal → Type 0
-IsBehindEntries map f d body (Err e) r = r ≡ Err e
-IsBehindEntries map f d body (Ok None) r = r ≡ Ok no_resources
-IsBehindEntries map f d body (Ok (Some table)) r =
-    (v : Result (Option VersionView) Refusal) × IsVersion map f body (entries table) v × IsWithManifest map f d body (entries table) v r
+-- version information and manifest together, or the first refusal of them
+abbrev pub resources_with : FirstDirectoryView → Result (Option VersionView) Refusal → Result (Option (List ℕ)) Refusal → Result ResourceView Refusal
+resources_with d version manifest =
+    version >>= λ v. manifest >>= λ m. Ok (record { directory = d.directory; first_entries = d.entries; version = v; manifest = m })
 
-abbrev pub IsBehindDirectory : ParseMode → (ℕ → Option ℕ) → List ℕ → Result (ImageResourceDirectory × List ℕ) Refusal → Result ResourceView Refusal → Type 0
-IsBehindDirectory mode map f (Err e) r = r ≡ Err e
-IsBehindDirectory mode map f (Ok (d, body)) r = IsBehindEntries map f d body (first_entries_in mode body d) r
+-- the resources of a first directory: the version information and the manifest that its entries lead to
+abbrev pub AreResources : (ℕ → Option ℕ) → List ℕ → FirstDirectoryView → Result ResourceView Refusal → Type 0
+AreResources map f d r =
+    (v : Result (Option VersionView) Refusal) × (m : Result (Option (List ℕ)) Refusal)
+    × IsVersion map f d.bytes d.entries v × IsContent map f d.bytes d.entries 24 m × (r ≡ resources_with d v m)
 
 -- the resources that a data directory leads to, or the first refusal
 abbrev pub IsResource : ParseOptions → List ℕ → DataDirectory → List SectionTable → ℕ → Result ResourceView Refusal → Type 0
-IsResource o f dd sections alignment r = IsBehindDirectory o.parse_mode (map_of o sections alignment) f (directory_and_data o f dd sections alignment) r
-
--- the range of the content of the first of the first entries with an id; none where there are no first entries
-abbrev pub IsRangeBehindEntries : (ℕ → Option ℕ) → List ℕ → List ℕ → ℕ → Result (Option (List ℕ)) Refusal → Result (Option ByteRange) Refusal → Type 0
-IsRangeBehindEntries map f body id (Err e) r = r ≡ Err e
-IsRangeBehindEntries map f body id (Ok None) r = r ≡ Ok None
-IsRangeBehindEntries map f body id (Ok (Some table)) r = IsContentRange map f body (entries table) id r
-
-abbrev pub IsRangeBehindDirectory : ParseMode → (ℕ → Option ℕ) → List ℕ → ℕ → Result (ImageResourceDirectory × List ℕ) Refusal → Result (Option ByteRange) Refusal → Type 0
-IsRangeBehindDirectory mode map f id (Err e) r = r ≡ Err e
-IsRangeBehindDirectory mode map f id (Ok (d, body)) r = IsRangeBehindEntries map f body id (first_entries_in mode body d) r
+IsResource o f dd sections alignment r =
+    IsOfFirst no_resources (AreResources (map_of o sections alignment) f) (first_directory o f dd sections alignment) r
 
 -- where the content of the first resource with an id lies in the file, or the first refusal on the way to it
 abbrev pub IsResourceRange : ParseOptions → List ℕ → DataDirectory → ℕ → List SectionTable → ℕ → Result (Option ByteRange) Refusal → Type 0
 IsResourceRange o f dd id sections alignment r =
-    IsRangeBehindDirectory o.parse_mode (map_of o sections alignment) f id (directory_and_data o f dd sections alignment) r
+    IsOfFirst None (λ d. IsContentRange (map_of o sections alignment) f d.bytes d.entries id) (first_directory o f dd sections alignment) r
 
 -- the range of a manifest is found, and it is there
 abbrev pub IsManifestIn : List ℕ → Result (Option ByteRange) Refusal → Option (List ℕ) → Type 0

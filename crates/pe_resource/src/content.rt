@@ -4,7 +4,7 @@ ghost use Rattle.std.specs.Prelude.{◌≡◌, ◌+◌, ◌≤◌, length, IfOk,
 ghost use Rattle.std.specs.Option.{option_map};
 ghost use Rattle.pe_core.specs.Places.{IsWithin};
 ghost use Rattle.pe_core.specs.Refusals.{Gives, answer_by};
-ghost use Rattle.pe_resource.specs.Contents.{map_of, IsLeaf, data_entry_at, file_range, file_bytes, named_range, range_in, IsContentRange, IsContent};
+ghost use Rattle.pe_resource.specs.Contents.{map_of, IsLeaf, data_entry_at, file_range, named_range, range_in, IsContentRange, IsContent};
 ghost use Rattle.pe_resource.specs.ResourceEntries.{entries_left, with_id};
 
 use crate::directory::ResourceEntryIterator;
@@ -62,7 +62,7 @@ fn leaf(bytes: &[u8], it: ResourceEntryIterator, id: u16) -> Result<Option<u32>>
 }
 
 /// The range of so many bytes of the file, at the place of an address.
-fn file_range(
+pub(crate) fn file_range(
     pe: &[u8],
     address: u32,
     size: u32,
@@ -80,21 +80,6 @@ fn file_range(
         return Err(Error::Malformed(Reason::ResourceBounds(end)));
     }
     Ok(ByteRange { place, length })
-}
-
-/// So many bytes of the file, at the place of an address.
-pub(crate) fn file_bytes<'a>(
-    pe: &'a [u8],
-    address: u32,
-    size: u32,
-    sections: &[SectionTable],
-    file_alignment: u32,
-    opts: &ParseOptions,
-) -> Result<&'a [u8]>
-    ensures { Gives (λ s. s.now) result (file_bytes pe.entry.now size (map_of opts.now sections.now file_alignment address)) }
-{
-    let range = file_range(pe, address, size, sections, file_alignment, opts)?;
-    Ok(range.of(pe))
 }
 
 /// The range of the file that the data entry at a place names.

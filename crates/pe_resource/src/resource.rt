@@ -1,6 +1,6 @@
 //! The resources of an image, as one value.
 
-ghost use Rattle.std.specs.Prelude.{◌≡◌, ◌≢◌, ◌+◌, ◌≤◌, length, Err, Ok, IfOk, IfSome};
+ghost use Rattle.std.specs.Prelude.{◌≡◌, ◌≢◌, Err, Ok, IfOk, IfSome};
 ghost use Rattle.std.specs.Option.{option_map};
 ghost use Rattle.pe_core.specs.Options.{default_options};
 ghost use Rattle.pe_core.specs.Places.{IsWithin};
@@ -8,9 +8,9 @@ ghost use Rattle.pe_core.specs.Refusals.{Gives, Memory, answer_by};
 ghost use Rattle.pe_resource.specs.Contents.{map_of};
 ghost use Rattle.pe_resource.specs.Directories.{count};
 ghost use Rattle.pe_resource.specs.ResourceEntries.{entries, entries_left};
-ghost use Rattle.pe_resource.specs.Resources.{resource_view, first_entries_in, directory_and_data, IsBehindEntries, IsResource, IsRangeBehindEntries, IsResourceRange};
+ghost use Rattle.pe_resource.specs.Resources.{resource_view, first_entries_in, first_directory_view, first_directory, AreResources, IsResource, IsResourceRange};
 
-use crate::content::{content_range, file_bytes};
+use crate::content::{content_range, file_range};
 use crate::directory::{ImageResourceDirectory, ResourceEntryIterator, SIZE_OF_DIRECTORY};
 use crate::manifest::ManifestData;
 use crate::version::VersionInfo;
@@ -49,10 +49,12 @@ impl<'a> Default for ResourceData<'a> {
     }
 }
 
-/// The bytes of the first entries in the data of a directory. `None` where the data are shorter than a directory.
+/// The bytes of the first entries in the data of a directory, which start at an offset of the file. `None` where the data are
+/// shorter than a directory.
 #[tactic(auto, unfolding(crate::specs::Resources::first_entries_in))]
 fn first_entries<'a>(
     data: &'a [u8],
+    start: usize,
     directory: &ImageResourceDirectory,
     mode: ParseMode,
 ) -> Result<Option<&'a [u8]>>
@@ -63,7 +65,7 @@ fn first_entries<'a>(
     match (slice_at(data, SIZE_OF_DIRECTORY, size), mode) {
         (Ok(table), _) => Ok(Some(table)),
         (Err(_), ParseMode::Strict) => {
-            let end = SIZE_OF_DIRECTORY as u64 + size as u64;
+            let end = (start as u64).saturating_add((SIZE_OF_DIRECTORY + size) as u64);
             Err(Error::Malformed(Reason::ResourceBounds(end)))
         }
         (Err(_), ParseMode::Permissive) if fits => Ok(Some(&[])),
@@ -71,53 +73,55 @@ fn first_entries<'a>(
     }
 }
 
-/// The range of the content of the first resource with an id, in a directory and its data.
-fn range_in_data(
-    bytes: &[u8],
-    data: &[u8],
-    directory: &ImageResourceDirectory,
-    id: u16,
-    sections: &[SectionTable],
-    file_alignment: u32,
-    opts: &ParseOptions,
-) -> Result<Option<ByteRange>>
-    ensures range { IsRangeBehindEntries (map_of opts.now sections.now file_alignment) bytes.now data.now id
-        (first_entries_in opts.now.parse_mode data.now directory.now) (answer_by (λ r. r) result) }
-    ensures within { IfOk result (λ r. IfSome r (IsWithin bytes.now)) }
-{
-    match first_entries(data, directory, opts.parse_mode)? {
-        None => Ok(None),
-        Some(table) => {
-            let it = ResourceEntryIterator::new(table);
-            content_range(bytes, data, it, id, sections, file_alignment, opts)
-        }
-    }
+/// The first directory, its data, and the bytes of its entries among them.
+#[derive(Clone, Copy)]
+struct FirstDirectory<'a> {
+    directory: ImageResourceDirectory,
+    bytes: &'a [u8],
+    table: &'a [u8],
 }
 
-/// The directory that a data directory leads to, and its data.
-#[tactic(auto, unfolding(crate::specs::Resources::directory_and_data))]
-fn directory_and_data<'a>(
-    bytes: &'a [u8],
-    dd: DataDirectory,
-    sections: &[SectionTable],
-    file_alignment: u32,
-    opts: &ParseOptions,
-) -> Result<(ImageResourceDirectory, &'a [u8])>
-    ensures { Gives (λ d. (d.0, d.1.now)) result (directory_and_data opts.now bytes.entry.now dd sections.now file_alignment) }
-{
-    let directory = ImageResourceDirectory::parse_with_opts(
-        bytes,
-        dd,
-        sections,
-        file_alignment,
-        opts,
-    )?;
-    let DataDirectory {
-        virtual_address,
-        size,
-    } = dd;
-    let data = file_bytes(bytes, virtual_address, size, sections, file_alignment, opts)?;
-    Ok((directory, data))
+impl<'a> FirstDirectory<'a> {
+    /// The first directory that a data directory leads to. `None` where its data are shorter than a directory.
+    #[tactic(auto, unfolding(crate::specs::Resources::first_directory))]
+    fn parse(
+        bytes: &'a [u8],
+        dd: DataDirectory,
+        sections: &[SectionTable],
+        file_alignment: u32,
+        opts: &ParseOptions,
+    ) -> Result<Option<FirstDirectory<'a>>>
+        ensures { Gives (option_map first_directory_view) result (first_directory opts.now bytes.entry.now dd sections.now file_alignment) }
+    {
+        let directory = ImageResourceDirectory::parse_with_opts(
+            bytes,
+            dd,
+            sections,
+            file_alignment,
+            opts,
+        )?;
+        let DataDirectory {
+            virtual_address,
+            size,
+        } = dd;
+        let range = file_range(bytes, virtual_address, size, sections, file_alignment, opts)?;
+        let data = range.of(bytes);
+        match first_entries(data, range.place, &directory, opts.parse_mode)? {
+            None => Ok(None),
+            Some(table) => Ok(Some(FirstDirectory {
+                directory,
+                bytes: data,
+                table,
+            })),
+        }
+    }
+
+    /// Its entries.
+    fn entries(&self) -> ResourceEntryIterator<'a>
+        ensures { entries_left result ≡ (first_directory_view self.now).entries }
+    {
+        ResourceEntryIterator::new(self.table)
+    }
 }
 
 impl<'a> ResourceData<'a> {
@@ -170,8 +174,13 @@ impl<'a> ResourceData<'a> {
         ensures range { IsResourceRange opts.now bytes.now dd id sections.now file_alignment (answer_by (λ r. r) result) }
         ensures within { IfOk result (λ r. IfSome r (IsWithin bytes.now)) }
     {
-        let (directory, data) = directory_and_data(bytes, dd, sections, file_alignment, opts)?;
-        range_in_data(bytes, data, &directory, id, sections, file_alignment, opts)
+        match FirstDirectory::parse(bytes, dd, sections, file_alignment, opts)? {
+            None => Ok(None),
+            Some(first) => {
+                let it = first.entries();
+                content_range(bytes, first.bytes, it, id, sections, file_alignment, opts)
+            }
+        }
     }
 
     /// The resources that a data directory leads to.
@@ -184,52 +193,31 @@ impl<'a> ResourceData<'a> {
     ) -> Result<ResourceData<'a>>
         ensures { IsResource opts.now bytes.entry.now dd sections.now file_alignment (answer_by resource_view result) }
     {
-        let (directory, data) = directory_and_data(bytes, dd, sections, file_alignment, opts)?;
-        ResourceData::of_data(bytes, directory, data, sections, file_alignment, opts)
-    }
-
-    /// The resources of a directory and its data.
-    fn of_data(
-        bytes: &'a [u8],
-        directory: ImageResourceDirectory,
-        data: &'a [u8],
-        sections: &[SectionTable],
-        file_alignment: u32,
-        opts: &ParseOptions,
-    ) -> Result<ResourceData<'a>>
-        ensures { IsBehindEntries (map_of opts.now sections.now file_alignment) bytes.entry.now directory data.entry.now
-            (first_entries_in opts.now.parse_mode data.entry.now directory) (answer_by resource_view result) }
-    {
-        match first_entries(data, &directory, opts.parse_mode)? {
+        match FirstDirectory::parse(bytes, dd, sections, file_alignment, opts)? {
             None => Ok(ResourceData::default()),
-            Some(table) => {
-                let parts = (directory, table);
-                ResourceData::of_entries(bytes, data, parts, sections, file_alignment, opts)
-            }
+            Some(first) => ResourceData::of_first(bytes, first, sections, file_alignment, opts),
         }
     }
 
-    /// The resources of a directory with these bytes of first entries.
-    fn of_entries(
+    /// The resources of a first directory.
+    fn of_first(
         bytes: &'a [u8],
-        data: &'a [u8],
-        parts: (ImageResourceDirectory, &'a [u8]),
+        first: FirstDirectory<'a>,
         sections: &[SectionTable],
         file_alignment: u32,
         opts: &ParseOptions,
     ) -> Result<ResourceData<'a>>
-        ensures { IsBehindEntries (map_of opts.now sections.now file_alignment) bytes.entry.now parts.entry.0 data.entry.now
-            (Ok (Some parts.entry.1.now)) (answer_by resource_view result) }
+        ensures { AreResources (map_of opts.now sections.now file_alignment) bytes.entry.now (first_directory_view first.entry) (answer_by resource_view result) }
     {
-        let (directory, table) = parts;
-        let it = ResourceEntryIterator::new(table);
+        let data = first.bytes;
+        let it = first.entries();
         let version = VersionInfo::of_entries(bytes, data, it, sections, file_alignment, opts)?;
         let manifest = ManifestData::of_entries(bytes, data, it, sections, file_alignment, opts)?;
         Ok(ResourceData {
-            image_resource_directory: directory,
+            image_resource_directory: first.directory,
             version_info: version,
             manifest_data: manifest,
-            table,
+            table: first.table,
         })
     }
 

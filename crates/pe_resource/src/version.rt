@@ -4,7 +4,7 @@ ghost use Rattle.std.specs.Prelude.{◌≡◌, ◌≢◌, ◌+◌, ◌==◌, ◌
 ghost use Rattle.std.specs.Option.{option_map};
 ghost use Rattle.pe_core.specs.Places.{IsWithin};
 ghost use Rattle.pe_core.specs.Refusals.{Gives, Memory, answer_by};
-ghost use Rattle.pe_resource.specs.Contents.{map_of, version_of_content, IsVersion};
+ghost use Rattle.pe_resource.specs.Contents.{map_of, content_of, version_of_content, IsVersion};
 ghost use Rattle.pe_resource.specs.ResourceEntries.{entries_left};
 ghost use Rattle.pe_resource.specs.VersionFields.{version_of_halves, high_half, low_half, version_text, fixed_info_at, fixed_info_in, fixed_info_of, name_of, file_strings, file_strings_view, GivesText, version_view, version_in, value_range_in};
 ghost use Rattle.pe_resource.specs.VersionStrings.{strings, read, value_of, IsPlain};
@@ -13,7 +13,7 @@ use crate::constants::{RT_VERSION, VS_FFI_SIGNATURE, VS_VERSION_INFO_KEY};
 use crate::content::content;
 use crate::directory::ResourceEntryIterator;
 use crate::string::{first_value, require_strings, text_of, value_range};
-use pe_core::{ByteRange, ParseOptions, Result, SectionTable, number32, require_bytes};
+use pe_core::{ByteRange, Error, ParseOptions, Result, SectionTable, number32};
 use std::alloc::{AllocError, Allocator};
 
 /// The bytes of fixed file information.
@@ -161,13 +161,13 @@ impl VsFixedFileInfo {
 
     /// The fixed file information among the strings of version information, `data`: the value of the first string with the
     /// key `VS_VERSION_INFO`, `None` without one. Refused as a string that doesn't read is, then `Short` where the value has
-    /// fewer than 52 bytes.
-    #[tactic(auto, unfolding(crate::specs::VersionFields::fixed_info_of))]
+    /// fewer than 52 bytes. Numbers in refusals count from the start of `data`.
+    #[tactic(auto, using(crate::proofs::ValueRanges::range_of_value), unfolding(crate::specs::VersionFields::fixed_info_of))]
     pub fn of_strings(data: &[u8]) -> Result<Option<VsFixedFileInfo>>
         ensures { Gives (λ f. f) result (fixed_info_of data.now) }
     {
         require_strings(data)?;
-        fixed_info_in(first_value(data, VS_VERSION_INFO_KEY))
+        fixed_info_in(data, value_range(data, VS_VERSION_INFO_KEY))
     }
 
     /// Whether the signature is the one of fixed file information.
@@ -245,7 +245,8 @@ impl VersionName {
 
     /// Where the value of the first string with this name lies in version information, `data`: its bytes, with those up to a
     /// multiple of four if they are there. `None` without such a string. Refused as the version information is: as a string
-    /// that doesn't read, then `Short` where the value of `VS_VERSION_INFO` has fewer than 52 bytes.
+    /// that doesn't read, then `Short` where the value of `VS_VERSION_INFO` has fewer than 52 bytes. Numbers in refusals count
+    /// from the start of `data`.
     #[tactic(auto, unfolding(crate::specs::VersionFields::value_range_in))]
     pub fn value_range(self, data: &[u8]) -> Result<Option<ByteRange>>
         ensures range { Gives (λ r. r) result (value_range_in self data.now) }
@@ -437,17 +438,22 @@ pub struct VersionInfo<'a> {
     pub string_info: StringFileInfo<'a>,
 }
 
-/// The fixed file information of a value, if there is a value. `Short` below 52 bytes.
-fn fixed_info_in(value: Option<&[u8]>) -> Result<Option<VsFixedFileInfo>>
-    ensures { Gives (λ f. f) result (fixed_info_in (option_map (λ v. v.now) value.entry)) }
+/// The fixed file information of a value in version information, if there is a value. `Short` below 52 bytes.
+fn fixed_info_in(data: &[u8], value: Option<ByteRange>) -> Result<Option<VsFixedFileInfo>>
+    requires { IfSome value (IsWithin data.now) }
+    ensures { Gives (λ f. f) result (fixed_info_in (content_of data.now value)) }
 {
-    match value {
-        None => Ok(None),
-        Some(bytes) => {
-            require_bytes(bytes, 0, SIZE_OF_FIXED_INFO)?;
-            Ok(Some(VsFixedFileInfo::at(bytes, 0)))
-        }
+    let Some(range) = value else {
+        return Ok(None);
+    };
+    let bytes = range.of(data);
+    if bytes.len() < SIZE_OF_FIXED_INFO {
+        return Err(Error::Short {
+            at: range.place,
+            needed: SIZE_OF_FIXED_INFO,
+        });
     }
+    Ok(Some(VsFixedFileInfo::at(bytes, 0)))
 }
 
 impl<'a> VersionInfo<'a> {
@@ -495,7 +501,7 @@ impl<'a> VersionInfo<'a> {
     /// directory's data, `it` its first entries. `None` without such an entry, or where the walk over directories ends at a
     /// directory. Refusals in this order: those of the walk; of the data entry, `Short`, `Unmapped`, and `ResourceBounds`
     /// where its bytes are not in the file; of a string that doesn't read; `Short` where the value of `VS_VERSION_INFO` has
-    /// fewer than 52 bytes. It asks for no memory.
+    /// fewer than 52 bytes. Numbers in the last two count from the start of the version information. It asks for no memory.
     pub fn parse<A: Allocator + Drop>(
         _alloc: A,
         pe: &'a [u8],

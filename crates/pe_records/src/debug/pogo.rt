@@ -106,14 +106,14 @@ fn entry_at<'a>(bytes: &'a [u8]) -> Result<(POGOInfoEntry<'a>, usize)>
     let rest = bytes.split_at(8).1;
     let Some(zero) = first_zero(rest) else {
         return Err(Error::Malformed(Reason::PogoName {
-            place: rounded_up(bytes.len() + 1, UNIT),
+            needed: rounded_up(bytes.len() + 1, UNIT),
             length: bytes.len(),
         }));
     };
     let end = rounded_up(8 + zero + 1, UNIT);
     if bytes.len() < end {
         return Err(Error::Malformed(Reason::PogoName {
-            place: end,
+            needed: end,
             length: bytes.len(),
         }));
     }
