@@ -2,8 +2,15 @@
 . tools/kit.sh
 . tools/tests_crate.sh
 
-copy=$(mktemp -d)
-trap 'rm -rf "$copy"' EXIT
+# The copy of the crates, in a folder that is removed at the end, or in the one that BENCH_WORK names. There the crates that
+# one measurement proved are there for the next.
+if [ -n "${BENCH_WORK:-}" ]; then
+  copy=$BENCH_WORK
+  mkdir -p "$copy"
+else
+  copy=$(mktemp -d)
+  trap 'rm -rf "$copy"' EXIT
+fi
 
 # Proves and builds the program bench/NAME.txt over some crates, in a copy of all crates, and runs it once with the
 # arguments. Its path is "$program" then. That takes some minutes, and the end of what it says is shown where it fails.
