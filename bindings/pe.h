@@ -202,7 +202,7 @@ typedef struct {
                                        _EX_DLLCHARACTERISTICS 20, or another */
     uint32_t size_of_data;          /* bytes of the record */
     uint32_t address_of_raw_data;   /* RVA of the record, or 0 */
-    uint32_t pointer_to_raw_data;   /* file offset of the record; here it is read */
+    uint32_t pointer_to_raw_data;   /* file offset of the record, where the library reads it */
 } pe_c_debug_entry;
 
 /* A CodeView record of PDB 7.0 ("RSDS"): a symbol server files the PDB under its name, GUID and age. */
@@ -354,7 +354,7 @@ typedef struct {
     uint32_t is_chained;            /* 1 or 0 */
     uint32_t frame_register_offset; /* bytes: subtract them from the frame register to get the base of saves */
     uint8_t size_of_prolog;         /* bytes */
-    uint8_t handler_kind;           /* 0 none, 1 exception handler, 2 termination handler */
+    uint8_t handler_kind;           /* 0 none, 1 exception handler (also with both flags), 2 termination handler */
     uint8_t spare[6];               /* 0 */
 } pe_c_record;
 
