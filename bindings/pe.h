@@ -1,13 +1,13 @@
 /* pe.h: reads PE images (Windows .exe and .dll files) by a proved library, from C11 and C++17.
  *
  * The caller's obligations, for each call:
- *   - `bytes` points to `length` readable bytes, the whole file, which nothing writes during the call. It may be NULL
- *     if `length` is 0;
+ *   - `bytes` points to the `length` bytes of the file, which are readable and which nothing writes during the call. It
+ *     may be NULL if `length` is 0;
  *   - every other pointer is not NULL (an array of 0 entries may be), is aligned for its type, and points to
  *     initialised memory (`= PE_C_EMPTY`), also where the call only writes;
  *   - what a call writes (`out`, a walk, `room`) overlaps no other argument.
- * There is no obligation on what the bytes or the fields of records contain: every value is legal, and a wrong one gives
- * an error code, never undefined behaviour.
+ * There is no obligation on what the bytes or the fields of records contain: every value is legal. A wrong range gives an
+ * error code, never undefined behaviour.
  *
  * No call allocates, keeps state, prints, calls back, or needs initialisation. Any thread may call at any time.
  *
@@ -28,12 +28,14 @@
  *   - resource data too short for a directory, and resource entries that are not all inside the data: they count as
  *     absent.
  *
- * Arguments. Most calls take the image as the results of two calls, pe_c_image and pe_c_sections, and the mode:
+ * Arguments. Most calls take the bytes, the results of pe_c_image and pe_c_sections, and the mode. Each of these calls is
+ * made only if the one before returned PE_C_DONE:
  *
- *     bytes, length, image, sections, count, mode
+ *     pe_c_image(bytes, length, mode, &image);
+ *     pe_c_sections(bytes, length, &image, sections, entries);
+ *     pe_c_symbol_key(bytes, length, &image, sections, image.number_of_sections, mode, &key);
  *
- * A range or a walk that does not lie inside `bytes` is PE_C_SHORT, tested first; as a certificate table it is
- * PE_C_CERTIFICATE_TABLE.
+ * A range or a walk that does not lie inside `bytes` is PE_C_SHORT; as a certificate table it is PE_C_CERTIFICATE_TABLE.
  *
  * The layouts are those of https://learn.microsoft.com/windows/win32/debug/pe-format */
 #ifndef PE_C_H
