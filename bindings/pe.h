@@ -604,8 +604,8 @@ uint32_t pe_c_arm64_codes(const uint8_t *bytes, size_t length, const pe_c_range 
 
 /* Returns the next code. The walk does not stop at PE_C_ARM64_END and PE_C_ARM64_END_C, since the codes of epilogs
  * follow; the caller stops there.
- * Errors: PE_C_SHORT where the walk is not inside the bytes; PE_C_ARM64_STREAM where it is no walk of pe_c_arm64_codes;
- * PE_C_ARM64_CUT for a truncated code. */
+ * Errors: PE_C_SHORT where the walk is not inside the bytes; PE_C_ARM64_STREAM where its offset plus the bytes left is not a
+ * multiple of 4 or is above 4,294,967,292, as in no walk of pe_c_arm64_codes; PE_C_ARM64_CUT for a truncated code. */
 uint32_t pe_c_next_arm64_code(const uint8_t *bytes, size_t length, pe_c_arm64_walk *walk, pe_c_arm64_code *out);
 
 /* ---- exports
@@ -720,8 +720,8 @@ uint32_t pe_c_next_import(const uint8_t *bytes, size_t length, const pe_c_image_
  *
  * The three calls return PE_C_NOTHING without resources or without one of the type. Damaged version information is no
  * error of the manifest, nor the reverse. The calls share these errors; the last two items are of version information:
- *   - the root directory: PE_C_UNMAPPED, PE_C_SHORT; PE_C_RESOURCE_BOUNDS of the data that the data directory names, and in
- *     strict mode of the root's entries;
+ *   - the root directory: PE_C_UNMAPPED, PE_C_SHORT; PE_C_RESOURCE_BOUNDS where the data that the data directory names ends
+ *     past the end of the file, and in strict mode where the root or its entries are not all inside the data;
  *   - the way to the resource: PE_C_SHORT, PE_C_RESOURCE_CYCLE;
  *   - its content: PE_C_SHORT, PE_C_UNMAPPED, PE_C_RESOURCE_BOUNDS;
  *   - the version strings: PE_C_SHORT, PE_C_RESOURCE_STRING;
