@@ -199,7 +199,7 @@ uint32_t pe_c_place(const pe_c_section *sections, size_t count, uint32_t file_al
 typedef struct {
     uint32_t characteristics;       /* reserved */
     uint32_t time_date_stamp;       /* seconds since 1970, or a hash in a reproducible build */
-    uint16_t major_version, minor_version;
+    uint16_t major_version, minor_version;  /* of the record's format */
     uint32_t data_type;             /* IMAGE_DEBUG_TYPE_CODEVIEW 2, _VC_FEATURE 12, _POGO 13, _REPRO 16,
                                        _EX_DLLCHARACTERISTICS 20, or another */
     uint32_t size_of_data;          /* bytes of the record */
@@ -236,11 +236,11 @@ typedef struct {
 /* Repro: the same sources build the same image. */
 typedef struct {
     pe_c_range hash;                /* empty unless has_hash */
-    uint32_t has_hash;              /* 1 or 0; 0 means that the image's time stamps are a hash */
+    uint32_t has_hash;              /* 1; or 0, and the image's time stamps are a hash */
     uint32_t spare;                 /* 0 */
 } pe_c_repro;
 
-/* POGO: the parts of the sections, such as ".text$mn". */
+/* POGO: the parts of the image's sections, such as ".text$mn". */
 typedef struct {
     pe_c_range entries;             /* a walk for pe_c_next_pogo_entry, at its start */
     uint32_t signature;             /* 0x4C544347 (LTCG) or 0x50475500 (PGU) */
