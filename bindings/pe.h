@@ -1,32 +1,43 @@
-/* pe.h: reading Windows executables by a proved library, from C11 and C++17.
+/* pe.h: reads PE images (Windows .exe and .dll files) by a proved library, from C11 and C++17.
  *
- * What a caller owes, for each call:
- *   - `bytes` points to `length` readable bytes, which nothing writes during the call. With length 0 it may be NULL;
- *   - the other pointers are not NULL (an array of 0 entries may be), are aligned for their type, and what they point
- *     to is initialised (`= PE_C_EMPTY`), also where a call only writes it;
- *   - what a call writes (`out`, a walk, `room`) overlaps nothing else that it is handed.
- * Nothing is owed about what the bytes or the fields of records say: every value is legal, and tested where it matters.
+ * The caller's obligations, for each call:
+ *   - `bytes` points to the `length` bytes of the file, which are readable and which nothing writes during the call. It
+ *     may be NULL if `length` is 0;
+ *   - every other pointer is not NULL (an array of 0 entries may be), is aligned for its type, and points to
+ *     initialised memory (`= PE_C_EMPTY`), also where the call only writes;
+ *   - what a call writes (`out`, a walk, `room`) overlaps no other argument.
+ * There is no obligation on what the bytes or the fields of records contain: every value is legal. A wrong range gives an
+ * error code, never undefined behaviour.
  *
- * No call allocates, keeps anything, prints, calls back, or needs a start-up call. Any thread may call at any time.
+ * No call allocates, keeps state, prints, calls back, or needs initialisation. Any thread may call at any time.
  *
- * A call answers PE_C_DONE and fills `out`, or a number that says why not, and then leaves `out` as it was. A place is
- * a number of bytes from `bytes` on; a range that a call gives lies in the bytes. An address is a relative virtual
- * one, which counts from the image's first byte in memory.
+ * Results. A call returns PE_C_DONE and fills `out`, or returns another number and leaves `out` unchanged. The comment
+ * of a call lists its errors in the order in which they are tested. PE_C_NOTHING means that there is nothing of the
+ * kind; it is no error.
  *
- * A walk is a record that steps: each call gives the next item and moves the walk. PE_C_NOTHING is its end; behind an
- * item that is refused it is over. A walk that is over answers PE_C_NOTHING and stays where it is.
+ * Units. A `place` is a file offset: bytes, from the start of `bytes`. A range that a call returns lies inside `bytes`.
+ * RVAs, sizes and lengths are in bytes; an RVA counts from the start of the image in memory.
  *
- * `mode` is PE_C_STRICT or PE_C_PERMISSIVE; any value but 0 is permissive. Permissive headers may overlap the DOS
- * header; a permissive debug directory may pass the end of the bytes, and is cut there; a CodeView record that is too
- * small for what it is, resource data that are too short for a directory, and resource entries that are not all in
- * the data count as absent.
+ * Walks. A walk is a record that steps over a list: each call returns the next item and moves the walk. PE_C_NOTHING is
+ * the end of the list. After an error the walk is over too. A walk that is over returns PE_C_NOTHING each time.
  *
- * The calls of an image take what two calls gave, pe_c_image and pe_c_sections, and the mode:
+ * Modes. `mode` is PE_C_STRICT (0) or PE_C_PERMISSIVE (any other value). Permissive mode accepts
+ *   - a PE header that overlaps the DOS header;
+ *   - a debug directory that ends past the end of the file: it is truncated there;
+ *   - a CodeView record that is too small: it counts as absent;
+ *   - resource data too short for a directory, and resource entries that are not all inside the data: they count as
+ *     absent.
  *
- *     bytes, length, image, sections, count, mode
+ * Arguments. Most calls take the bytes, the results of pe_c_image and pe_c_sections, and the mode. Each of these calls is
+ * made only if the one before returned PE_C_DONE:
  *
- * Where a call takes a range, a walk or an address besides, it answers PE_C_SHORT for a range that is not in the
- * bytes. */
+ *     pe_c_image(bytes, length, mode, &image);
+ *     pe_c_sections(bytes, length, &image, sections, entries);
+ *     pe_c_symbol_key(bytes, length, &image, sections, image.number_of_sections, mode, &key);
+ *
+ * A range or a walk that does not lie inside `bytes` is PE_C_SHORT; as a certificate table it is PE_C_CERTIFICATE_TABLE.
+ *
+ * The layouts are those of https://learn.microsoft.com/windows/win32/debug/pe-format */
 #ifndef PE_C_H
 #define PE_C_H
 
@@ -45,9 +56,9 @@ extern "C" {
 #define PE_C_EMPTY {0}
 #endif
 
-/* ---- answers
+/* ---- results
  *
- * They keep their numbers for ever; new ones may come. pe_c_text has their texts. tools/make_errors writes this list. */
+ * The numbers are stable; new ones may be added. pe_c_text returns their texts. tools/make_errors writes this list. */
 
 enum {
     PE_C_DONE = 0,
@@ -88,50 +99,64 @@ enum {
     PE_C_WRITE_OVERLAP = 35,        /* sections overlap in the file; never returned */
     PE_C_WRITE_SECTION = 36,        /* section data is not in the source bytes; never returned */
     PE_C_WRITE_FIT = 37,            /* write does not fit the buffer; never returned */
-    PE_C_NOTHING = 100,             /* there is nothing of the kind, or the walk is at its end */
+    PE_C_NOTHING = 100,             /* there is nothing of the kind, or the walk is over */
     PE_C_ROOM = 101                 /* the array is too small */
 };
 
 enum { PE_C_STRICT = 0, PE_C_PERMISSIVE = 1 };
 
-/* Puts the text of an answer into the array, in UTF-8, cut at the array's end and with no zero behind it. Gives the
- * length of the whole text, which is less than 128. */
+/* Writes the text of a result to the start of the array, in UTF-8, truncated at the array's end and not NUL-terminated.
+ * Returns the length of the whole text in bytes, which is below 128. */
 size_t pe_c_text(uint32_t answer, uint8_t *room, size_t length);
 
-/* ---- the image */
+/* ---- the image
+ *
+ * An image starts with the DOS header, whose last field is the file offset of the PE header. That has the COFF header,
+ * the optional header with the data directories, and the section headers, which map RVAs to file offsets.
+ * https://learn.microsoft.com/windows/win32/debug/pe-format */
 
+/* A range of the bytes of the file. */
 typedef struct {
-    uint64_t place, length;
+    uint64_t place;                 /* file offset */
+    uint64_t length;                /* bytes */
 } pe_c_range;
 
+/* A data directory. Both fields are 0 where it is absent. */
 typedef struct {
-    uint32_t virtual_address, size;
+    uint32_t virtual_address;       /* RVA */
+    uint32_t size;                  /* bytes */
 } pe_c_directory;
 
-/* What the headers say of all of an image. Without an optional header its numbers are 0, and its directories absent. */
+/* The headers of an image. Without an optional header the numbers that it has are 0, and its directories are absent. */
 typedef struct {
-    uint64_t base;                  /* the preferred address of the first byte in memory */
-    uint64_t sections_place;        /* where the section headers stand */
-    uint32_t entry;                 /* the address of the entry point */
-    uint32_t file_alignment;
-    pe_c_directory exports;         /* directories: both 0 where absent */
+    uint64_t base;                  /* ImageBase, the preferred virtual address of the image; add RVAs to it */
+    uint64_t sections_place;        /* file offset of the section headers */
+    uint32_t entry;                 /* RVA of the entry point */
+    uint32_t file_alignment;        /* bytes; a power of two, or no RVA is mapped */
+    pe_c_directory exports;
     pe_c_directory imports;
     pe_c_directory resources;
-    pe_c_directory exceptions;
-    pe_c_directory certificates;    /* its virtual_address is a place in the file */
+    pe_c_directory exceptions;      /* the function table */
+    pe_c_directory certificates;    /* its virtual_address is a file offset, not an RVA */
     pe_c_directory debug;
-    uint16_t machine;               /* 0x8664 for x64, 0xAA64 for ARM64, 0x14C for x86 */
-    uint16_t width;                 /* 32, 64, or 0 without an optional header */
+    uint16_t machine;               /* IMAGE_FILE_MACHINE_AMD64 0x8664, _ARM64 0xAA64, _I386 0x14C, or another */
+    uint16_t width;                 /* 64 for PE32+, 32 for PE32, 0 without an optional header */
     uint16_t number_of_sections;
-    uint16_t spare;
+    uint16_t spare;                 /* 0 */
 } pe_c_image_info;
 
+/* IMAGE_SECTION_HEADER. */
 typedef struct {
-    uint8_t name[8];                /* with zeros behind it, none where it has eight bytes */
-    uint32_t virtual_size, virtual_address, size_of_raw_data, pointer_to_raw_data;
-    uint32_t pointer_to_relocations, pointer_to_linenumbers;
-    uint16_t number_of_relocations, number_of_linenumbers;
-    uint32_t characteristics;
+    uint8_t name[8];                /* padded with zeros; a name of 8 bytes is not NUL-terminated */
+    uint32_t virtual_size;          /* bytes in memory */
+    uint32_t virtual_address;       /* RVA of its first byte */
+    uint32_t size_of_raw_data;      /* bytes in the file */
+    uint32_t pointer_to_raw_data;   /* file offset */
+    uint32_t pointer_to_relocations;    /* file offset; 0 in images */
+    uint32_t pointer_to_linenumbers;    /* file offset, or 0 */
+    uint16_t number_of_relocations;
+    uint16_t number_of_linenumbers;
+    uint32_t characteristics;       /* IMAGE_SCN_ flags */
 } pe_c_section;
 
 PE_C_SIZE(pe_c_range, 16);
@@ -139,65 +164,93 @@ PE_C_SIZE(pe_c_directory, 8);
 PE_C_SIZE(pe_c_image_info, 80);
 PE_C_SIZE(pe_c_section, 40);
 
-/* Reads the headers of an image. PE_C_SHORT, PE_C_BAD_MAGIC; in strict mode PE_C_HEADER_POINTER. */
+/* Reads the headers of an image.
+ * Errors: PE_C_SHORT, PE_C_BAD_MAGIC of the DOS header; PE_C_HEADER_POINTER in strict mode; PE_C_SHORT, PE_C_BAD_MAGIC of
+ * the PE signature; PE_C_SHORT of the COFF header; PE_C_SHORT, PE_C_BAD_MAGIC of the optional header; PE_C_SHORT of its
+ * fields and directories. */
 uint32_t pe_c_image(const uint8_t *bytes, size_t length, uint32_t mode, pe_c_image_info *out);
 
-/* Puts the section headers at the beginning of the array, image->number_of_sections of them, and leaves the rest of it
- * as it was. PE_C_ROOM where the array has fewer entries; PE_C_SHORT where the section headers are not all there. */
+/* Writes the section headers to the start of the array, image->number_of_sections of them. The rest of the array is
+ * unchanged, and all of it after an error.
+ * Errors: PE_C_ROOM where the array has fewer entries; PE_C_SHORT where the section headers are truncated. */
 uint32_t pe_c_sections(const uint8_t *bytes, size_t length, const pe_c_image_info *image, pe_c_section *room,
                        size_t entries);
 
-/* Gives the place of an address in the file, by the first section that covers it. PE_C_NOTHING where none does, or
- * where the file alignment is no power of two. The place may be behind the end of the bytes. */
+/* Returns the file offset of an RVA, by the first section that covers it. The offset may be past the end of the file.
+ * PE_C_NOTHING where no section covers the RVA, or the file alignment is not a power of two. */
 uint32_t pe_c_place(const pe_c_section *sections, size_t count, uint32_t file_alignment, uint32_t rva, uint64_t *out);
 
 /* ---- debug data
  *
- * Each call that gives a record reads all debug data, the directory and the six records, and answers the first
- * refusal: PE_C_UNMAPPED, PE_C_DEBUG_BOUNDS, then those of the records, PE_C_DEBUG_SIZE, PE_C_SHORT, PE_C_DEBUG_DATA,
- * PE_C_POGO_SIZE. A record is that of the first entry of its kind. PE_C_NOTHING without one or a directory. */
+ * The debug directory is a table of entries of 28 bytes. Each entry says which type of record it leads to and where that
+ * is: CodeView names the PDB file of the image, POGO the parts that the linker joined, Repro marks a reproducible build.
+ * https://learn.microsoft.com/windows/win32/debug/pe-format#the-debug-section
+ *
+ * pe_c_debug_entries lists the entries and reads no record. Each of the six calls that return a record reads all debug
+ * data, so what damages one record is an error of all six. A record is that of the first entry of its type. The six
+ * calls return PE_C_NOTHING without a debug directory or such a record, and share their errors:
+ *   - the directory: PE_C_UNMAPPED; PE_C_DEBUG_BOUNDS in strict mode;
+ *   - PDB 7.0, then PDB 2.0: PE_C_DEBUG_SIZE in strict mode; PE_C_SHORT, PE_C_DEBUG_DATA;
+ *   - VC features, then characteristics: PE_C_SHORT;
+ *   - Repro: PE_C_SHORT, PE_C_DEBUG_DATA;
+ *   - POGO: PE_C_SHORT, PE_C_POGO_SIZE, PE_C_DEBUG_DATA. */
 
+/* IMAGE_DEBUG_DIRECTORY. */
 typedef struct {
-    uint32_t characteristics, time_date_stamp;
-    uint16_t major_version, minor_version;
-    uint32_t data_type;             /* 2 CodeView, 12 VC features, 13 POGO, 16 Repro, 20 characteristics */
-    uint32_t size_of_data, address_of_raw_data, pointer_to_raw_data;
+    uint32_t characteristics;       /* reserved */
+    uint32_t time_date_stamp;       /* seconds since 1970, or a hash in a reproducible build */
+    uint16_t major_version, minor_version;  /* of the record's format */
+    uint32_t data_type;             /* IMAGE_DEBUG_TYPE_CODEVIEW 2, _VC_FEATURE 12, _POGO 13, _REPRO 16,
+                                       _EX_DLLCHARACTERISTICS 20, or another */
+    uint32_t size_of_data;          /* bytes of the record */
+    uint32_t address_of_raw_data;   /* RVA of the record, or 0 */
+    uint32_t pointer_to_raw_data;   /* file offset of the record, where the library reads it */
 } pe_c_debug_entry;
 
-/* A record of PDB 7.0: the key by which a symbol server files the symbols. */
+/* A CodeView record of PDB 7.0 ("RSDS"): a symbol server files the PDB under its name, GUID and age. */
 typedef struct {
-    uint8_t guid[16];               /* as in the file: three little-endian numbers, of 4, 2 and 2 bytes, and 8 bytes */
-    uint32_t age;
-    uint32_t spare;
-    pe_c_range name;                /* with the zeros behind it */
+    uint8_t guid[16];               /* as in the file: little-endian u32, u16, u16, then 8 bytes */
+    uint32_t age;                   /* grows by one each time the PDB is written */
+    uint32_t spare;                 /* 0 */
+    pe_c_range name;                /* the PDB file's name, up to the end of the record: it ends at the first zero */
 } pe_c_key;
 
-/* A record of PDB 2.0. */
+/* A CodeView record of PDB 2.0 ("NB10"). */
 typedef struct {
-    pe_c_range name;                /* with the zeros behind it */
-    uint32_t offset, signature, age;
-    uint32_t spare;
+    pe_c_range name;                /* the PDB file's name, up to the end of the record: it ends at the first zero */
+    uint32_t offset;                /* 0 where the symbols are in a file of their own */
+    uint32_t signature;             /* time stamp of the PDB, seconds since 1970 */
+    uint32_t age;                   /* grows by one each time the PDB is written */
+    uint32_t spare;                 /* 0 */
 } pe_c_pdb20;
 
+/* VC features: the counts that dumpbin /headers shows. */
 typedef struct {
-    uint32_t pre_vc_plusplus_count, c_and_cplusplus_count, guard_stack_count, sdl_count, guard_count;
+    uint32_t pre_vc_plusplus_count; /* "Pre-VC++ 11.00" */
+    uint32_t c_and_cplusplus_count; /* "C/C++" */
+    uint32_t guard_stack_count;     /* "/GS" */
+    uint32_t sdl_count;             /* "/sdl" */
+    uint32_t guard_count;           /* "guardN" */
 } pe_c_vc_features;
 
+/* Repro: the same sources build the same image. */
 typedef struct {
-    pe_c_range hash;                /* empty without one */
-    uint32_t has_hash;              /* 1 or 0; 0 says that the time stamps of the image are a hash */
-    uint32_t spare;
+    pe_c_range hash;                /* empty unless has_hash */
+    uint32_t has_hash;              /* 1; or 0, and the image's time stamps are a hash */
+    uint32_t spare;                 /* 0 */
 } pe_c_repro;
 
+/* POGO: the parts of the image's sections, such as ".text$mn". */
 typedef struct {
-    pe_c_range entries;             /* a walk over its entries, at their beginning */
-    uint32_t signature;             /* 0x4C544347 or 0x50475500 */
-    uint32_t spare;
+    pe_c_range entries;             /* a walk for pe_c_next_pogo_entry, at its start */
+    uint32_t signature;             /* 0x4C544347 (LTCG) or 0x50475500 (PGU) */
+    uint32_t spare;                 /* 0 */
 } pe_c_pogo;
 
 typedef struct {
-    pe_c_range name;                /* with the zero behind it */
-    uint32_t rva, size;
+    pe_c_range name;                /* with its final zero */
+    uint32_t rva;                   /* RVA of the part */
+    uint32_t size;                  /* bytes of the part */
 } pe_c_pogo_entry;
 
 PE_C_SIZE(pe_c_debug_entry, 28);
@@ -208,113 +261,146 @@ PE_C_SIZE(pe_c_repro, 24);
 PE_C_SIZE(pe_c_pogo, 24);
 PE_C_SIZE(pe_c_pogo_entry, 24);
 
-/* Gives the range of the debug directory's entries, a walk. PE_C_NOTHING without a directory; PE_C_UNMAPPED,
- * PE_C_DEBUG_BOUNDS. The records are not read. */
+/* Returns the entries of the debug directory as a walk for pe_c_next_debug_entry. PE_C_NOTHING without a directory.
+ * Errors: PE_C_UNMAPPED; PE_C_DEBUG_BOUNDS in strict mode. */
 uint32_t pe_c_debug_entries(const uint8_t *bytes, size_t length, const pe_c_image_info *image,
                             const pe_c_section *sections, size_t count, uint32_t mode, pe_c_range *out);
 
-/* Gives the next entry of the directory. PE_C_SHORT for a last one that is cut. */
+/* Returns the next entry of the debug directory.
+ * Errors: PE_C_SHORT where the walk is not inside the bytes, or its last entry is truncated. */
 uint32_t pe_c_next_debug_entry(const uint8_t *bytes, size_t length, pe_c_range *walk, pe_c_debug_entry *out);
 
+/* Returns the symbol key: the CodeView record, if it is one of PDB 7.0. */
 uint32_t pe_c_symbol_key(const uint8_t *bytes, size_t length, const pe_c_image_info *image,
                          const pe_c_section *sections, size_t count, uint32_t mode, pe_c_key *out);
 
+/* Returns the CodeView record, if it is one of PDB 2.0. */
 uint32_t pe_c_debug_pdb20(const uint8_t *bytes, size_t length, const pe_c_image_info *image,
                           const pe_c_section *sections, size_t count, uint32_t mode, pe_c_pdb20 *out);
 
+/* Returns the record of VC features. */
 uint32_t pe_c_debug_vc_features(const uint8_t *bytes, size_t length, const pe_c_image_info *image,
                                 const pe_c_section *sections, size_t count, uint32_t mode, pe_c_vc_features *out);
 
-/* Gives the flags of the record of further characteristics. */
+/* Returns the extended DLL characteristics, IMAGE_DLLCHARACTERISTICS_EX_ flags. */
 uint32_t pe_c_debug_characteristics(const uint8_t *bytes, size_t length, const pe_c_image_info *image,
                                     const pe_c_section *sections, size_t count, uint32_t mode, uint32_t *out);
 
+/* Returns the Repro record. */
 uint32_t pe_c_debug_repro(const uint8_t *bytes, size_t length, const pe_c_image_info *image,
                           const pe_c_section *sections, size_t count, uint32_t mode, pe_c_repro *out);
 
+/* Returns the POGO record. PE_C_NOTHING also for another signature. */
 uint32_t pe_c_debug_pogo(const uint8_t *bytes, size_t length, const pe_c_image_info *image,
                          const pe_c_section *sections, size_t count, uint32_t mode, pe_c_pogo *out);
 
-/* Gives the next entry of a POGO record. PE_C_SHORT for less than eight bytes, PE_C_POGO_NAME for a name without an
- * end, or whose padding up to a multiple of four bytes is cut. */
+/* Returns the next entry of a POGO record.
+ * Errors: PE_C_SHORT where the walk is not inside the bytes, or fewer than 8 bytes are left; PE_C_POGO_NAME where the name
+ * is not NUL-terminated, or its padding to a multiple of 4 bytes is truncated. */
 uint32_t pe_c_next_pogo_entry(const uint8_t *bytes, size_t length, pe_c_range *walk, pe_c_pogo_entry *out);
 
-/* ---- certificates */
+/* ---- certificates
+ *
+ * The attribute certificate table holds the Authenticode signatures: certificates one after the other, each aligned to 8
+ * bytes. It is not part of the image in memory, so its directory has a file offset.
+ * https://learn.microsoft.com/windows/win32/debug/pe-format#the-attribute-certificate-table-image-only */
 
+/* WIN_CERTIFICATE. */
 typedef struct {
-    pe_c_range body;
-    uint32_t length;                /* of header and body, as the header says */
-    uint16_t revision;              /* 0x100 or 0x200 */
-    uint16_t type;                  /* 1 X.509, 2 PKCS #7 signed data, 3 reserved, 4 of a terminal server */
+    pe_c_range body;                /* what follows the header of 8 bytes */
+    uint32_t length;                /* dwLength: bytes of header and body */
+    uint16_t revision;              /* WIN_CERT_REVISION_1_0 0x100 or _2_0 0x200 */
+    uint16_t type;                  /* WIN_CERT_TYPE_X509 1, _PKCS_SIGNED_DATA 2, _RESERVED_1 3, _TS_STACK_SIGNED 4 */
 } pe_c_certificate;
 
 PE_C_SIZE(pe_c_certificate, 24);
 
-/* Gives the next attribute certificate. The walk begins as the range of image.certificates, whose virtual_address is a
- * place: { image.certificates.virtual_address, image.certificates.size }. PE_C_CERTIFICATE_TABLE where that is not in
- * the bytes; PE_C_SHORT, PE_C_CERTIFICATE_SIZE, PE_C_CERTIFICATE_REVISION, PE_C_CERTIFICATE_TYPE of a certificate. The
- * body of the last certificate may pass the range, not the bytes. */
+/* Returns the next attribute certificate. The walk starts as the range of the directory:
+ * { image.certificates.virtual_address, image.certificates.size }. The body of the last certificate may end past the
+ * table, not past the file.
+ * Errors: PE_C_CERTIFICATE_TABLE where the walk is not inside the bytes; PE_C_SHORT of the header; PE_C_CERTIFICATE_SIZE,
+ * PE_C_CERTIFICATE_REVISION, PE_C_CERTIFICATE_TYPE. */
 uint32_t pe_c_next_certificate(const uint8_t *bytes, size_t length, pe_c_range *walk, pe_c_certificate *out);
 
-/* ---- x64 functions and how their frames are unwound */
+/* ---- x64 functions and unwind records
+ *
+ * The exception directory of an x64 image is a table of functions, sorted by start RVA. Each function leads to an unwind
+ * record, whose codes say what the prolog did to the stack; undo them to find the caller's frame. A record can be
+ * chained to another function, whose record continues it. A leaf function needs no entry.
+ * https://learn.microsoft.com/cpp/build/exception-handling-x64
+ *
+ * To unwind at an RVA: pe_c_function_table, pe_c_find_function, pe_c_plan_from, then pe_c_next_record until
+ * PE_C_NOTHING, and pe_c_next_code for each record. */
 
+/* RUNTIME_FUNCTION. */
 typedef struct {
-    uint32_t begin, end;            /* the addresses that it covers, without the end */
-    uint32_t unwind;                /* the address of its unwind record, or, plus one, of the entry that it links to */
+    uint32_t begin;                 /* RVA of its first byte */
+    uint32_t end;                   /* RVA after its last byte */
+    uint32_t unwind;                /* RVA of its unwind record; an odd one is a link: the RVA of another entry, plus 1 */
 } pe_c_function;
 
+/* A walk over unwind codes. */
 typedef struct {
-    pe_c_range left;                /* the code bytes that are left */
-    uint8_t version;                /* 1 or 2 */
-    uint8_t frame_register;         /* 0: none */
-    uint8_t spare[6];
+    pe_c_range left;                /* the code bytes that are left, 2 for each slot */
+    uint8_t version;                /* of the unwind record, 1 or 2 */
+    uint8_t frame_register;         /* its number, as in pe_c_code.operand; 0 without one */
+    uint8_t spare[6];               /* 0 */
 } pe_c_walk;
 
+/* UNWIND_INFO. */
 typedef struct {
-    pe_c_walk codes;                /* a walk over its codes, at their beginning */
-    pe_c_range handler_data;        /* to the end of the bytes; empty without a handler */
-    uint32_t handler;               /* an address, or 0 */
-    pe_c_function chained;          /* its record goes on with this one */
+    pe_c_walk codes;                /* a walk for pe_c_next_code, at its start */
+    pe_c_range handler_data;        /* what follows the handler's RVA, up to the end of the file; empty without a handler */
+    uint32_t handler;               /* RVA of the handler, or 0 */
+    pe_c_function chained;          /* the function whose record continues this one; 0 unless is_chained */
     uint32_t is_chained;            /* 1 or 0 */
-    uint32_t frame_register_offset; /* bytes that the frame register was set above rsp: subtract them from it for saves */
+    uint32_t frame_register_offset; /* bytes: subtract them from the frame register to get the base of saves */
     uint8_t size_of_prolog;         /* bytes */
-    uint8_t handler_kind;           /* 0 none, 1 exceptions, 2 termination */
-    uint8_t spare[6];
+    uint8_t handler_kind;           /* 0 none, 1 exception handler (also with both flags), 2 termination handler */
+    uint8_t spare[6];               /* 0 */
 } pe_c_record;
 
+/* What an instruction of the prolog did. */
 enum {
-    PE_C_PUSH = 0,                  /* pushed the register `operand` */
-    PE_C_ALLOC = 1,                 /* made room for `value` bytes on the stack */
-    PE_C_SET_FRAME = 2,             /* set the frame register */
-    PE_C_SAVE = 3,                  /* saved the register `operand` at `value` */
-    PE_C_SAVE_XMM = 4,              /* saved eight bytes of the register `operand` at `value` */
-    PE_C_EPILOG = 5,                /* an epilog: `value` its size or the low part of its offset, `operand` the rest */
-    PE_C_SAVE_XMM128 = 6,           /* saved the register `operand` at `value` */
-    PE_C_MACHINE_FRAME = 7,         /* the processor's frame; `operand` is 1 with an error code */
-    PE_C_NOOP = 8
+    PE_C_PUSH = 0,                  /* UWOP_PUSH_NONVOL: pushed the register `operand` */
+    PE_C_ALLOC = 1,                 /* UWOP_ALLOC_SMALL, _LARGE: allocated `value` bytes on the stack */
+    PE_C_SET_FRAME = 2,             /* UWOP_SET_FPREG: set the frame register to rsp + frame_register_offset */
+    PE_C_SAVE = 3,                  /* UWOP_SAVE_NONVOL, _FAR: saved the register `operand` at offset `value` */
+    PE_C_SAVE_XMM = 4,              /* opcode 6 of version 1: saved the low 8 bytes of `operand` at offset `value` */
+    PE_C_EPILOG = 5,                /* UWOP_EPILOG of version 2: `value` is the epilog's size or the low part of its
+                                       offset, `operand` its flags or the high part */
+    PE_C_SAVE_XMM128 = 6,           /* UWOP_SAVE_XMM128, _FAR: saved the register `operand` at offset `value` */
+    PE_C_MACHINE_FRAME = 7,         /* UWOP_PUSH_MACHFRAME: the processor's frame; `operand` is 1 with an error code */
+    PE_C_NOOP = 8                   /* opcode 7 of version 2: nothing to undo */
 };
 
+/* UNWIND_CODE. */
 typedef struct {
-    uint8_t code_offset;            /* of the instruction's end, from the start of the prolog: it has run from there on */
+    uint8_t code_offset;            /* bytes from the start of the prolog to the end of the instruction; undo the code at
+                                       this offset and after it */
     uint8_t operation;              /* PE_C_PUSH .. PE_C_NOOP */
-    uint8_t operand;                /* 0 to 15 rax, rcx, rdx, rbx, rsp, rbp, rsi, rdi, r8 ..; 17 on xmm0 .. */
-    uint8_t from_frame;             /* 1: once PE_C_SET_FRAME has run, value counts from the frame register less
-                                       frame_register_offset; until then, and if this is 0, from rsp */
-    uint32_t value;                 /* bytes */
+    uint8_t operand;                /* a register: 0 to 15 rax, rcx, rdx, rbx, rsp, rbp, rsi, rdi, r8 .. r15; 17 to 32
+                                       xmm0 .. xmm15; or as the operation says; else 0 */
+    uint8_t from_frame;             /* 1: once PE_C_SET_FRAME has run, `value` counts from the frame register minus
+                                       frame_register_offset. Before that, and if this is 0, it counts from rsp */
+    uint32_t value;                 /* bytes, or as the operation says; else 0 */
 } pe_c_code;
 
+/* An entry of the scope table of a C handler: a __try block. */
 typedef struct {
-    uint32_t begin, end, handler, target;   /* addresses; `handler` may be 1, and `target` 0 */
+    uint32_t begin, end;            /* RVAs of the guarded code, without the end */
+    uint32_t handler;               /* RVA of the filter or of the __finally block; 1 means EXCEPTION_EXECUTE_HANDLER */
+    uint32_t target;                /* RVA of the __except block; 0 for __finally */
 } pe_c_scope;
 
-/* A plan: the records from a function to the root of its chain, a record a step. It begins with pe_c_plan_from. */
+/* A plan: a walk over the records of a function, up to the root of its chain. pe_c_plan_from makes it. */
 typedef struct {
-    uint32_t unwind;                /* the unwind address of the next record */
-    uint32_t is_over;               /* 1 behind the root or a refusal */
-    uint32_t saved;                 /* an unwind address that was passed: where it comes again, the chain never ends */
-    uint32_t spare;
-    uint64_t steps;                 /* how many records were given since the address was saved */
-    uint64_t limit;                 /* after how many another is saved */
+    uint32_t unwind;                /* unwind RVA of the next record */
+    uint32_t is_over;               /* 1 after the root or an error, else 0 */
+    uint32_t saved;                 /* an unwind RVA on the way: if it comes again, the chain never ends */
+    uint32_t spare;                 /* 0 */
+    uint64_t steps;                 /* records returned since that RVA was saved */
+    uint64_t limit;                 /* records after which another RVA is saved */
 } pe_c_plan;
 
 PE_C_SIZE(pe_c_function, 12);
@@ -324,130 +410,156 @@ PE_C_SIZE(pe_c_code, 8);
 PE_C_SIZE(pe_c_scope, 16);
 PE_C_SIZE(pe_c_plan, 32);
 
-/* Gives the range of the function table, entries of 12 bytes. PE_C_NOTHING without one, or for another machine than
- * x64; PE_C_EXCEPTION_SIZE, PE_C_UNMAPPED, PE_C_EXCEPTION_OFFSET, PE_C_EXCEPTION_BOUNDS. */
+/* Returns the range of the function table, entries of 12 bytes. PE_C_NOTHING without one, or for a machine other than
+ * x64.
+ * Errors: PE_C_EXCEPTION_SIZE, PE_C_UNMAPPED, PE_C_EXCEPTION_OFFSET, PE_C_EXCEPTION_BOUNDS. */
 uint32_t pe_c_function_table(const uint8_t *bytes, size_t length, const pe_c_image_info *image,
                              const pe_c_section *sections, size_t count, uint32_t mode, pe_c_range *out);
 
-/* Gives the function that covers an address, by halving: the last that begins at or before it, where the begins of the
- * table never fall; else some function that covers it, or none. PE_C_NOTHING where there is none. */
+/* Returns the function that covers an RVA, by binary search, or PE_C_NOTHING. In a table sorted by start RVA that is the
+ * last function that starts at or before the RVA, if the RVA is before its end; in any other table it is some function
+ * that covers the RVA, or PE_C_NOTHING.
+ * Errors: PE_C_SHORT where the table is not inside the bytes. */
 uint32_t pe_c_find_function(const uint8_t *bytes, size_t length, const pe_c_range *table, uint32_t rva,
                             pe_c_function *out);
 
-/* Gives the function of an index from 0 on. PE_C_FUNCTION_INDEX where the table has fewer. */
+/* Returns the function with an index, from 0.
+ * Errors: PE_C_SHORT where the table is not inside the bytes; PE_C_FUNCTION_INDEX where it has no such entry. */
 uint32_t pe_c_function_at(const uint8_t *bytes, size_t length, const pe_c_range *table, uint64_t index,
                           pe_c_function *out);
 
-/* Gives the unwind record of a function's unwind address. An odd one is a link to another entry, and is followed to the
- * end of its chain. The refusals of the table; PE_C_UNMAPPED, PE_C_FUNCTION_LINK, PE_C_FUNCTION_CYCLE of the links;
+/* Returns the unwind record of an unwind RVA, the field `unwind` of a function. Links are followed to their end.
+ * Errors: those of pe_c_function_table; PE_C_UNMAPPED, PE_C_FUNCTION_LINK, PE_C_FUNCTION_CYCLE of the links;
  * PE_C_UNMAPPED, PE_C_SHORT, PE_C_UNWIND_VERSION of the record. */
 uint32_t pe_c_unwind_record(const uint8_t *bytes, size_t length, const pe_c_image_info *image,
                             const pe_c_section *sections, size_t count, uint32_t mode, uint32_t unwind,
                             pe_c_record *out);
 
-/* Gives the next code of a record, its last instruction first. PE_C_SHORT for a code that is cut, PE_C_UNWIND_CODE for
- * bytes that begin none. */
+/* Returns the next code of a record, in the order in which they are undone: the last instruction of the prolog first.
+ * Errors: PE_C_SHORT where the walk is not inside the bytes, or a code is truncated; PE_C_UNWIND_CODE for an invalid
+ * code. */
 uint32_t pe_c_next_code(const uint8_t *bytes, size_t length, pe_c_walk *walk, pe_c_code *out);
 
-/* Gives the scope table in the data of a handler of C, as a walk. PE_C_NOTHING where it is not all there; whether a
- * handler has such a table is known by its address alone. */
+/* Returns the scope table in a record's handler_data as a walk for pe_c_next_scope. PE_C_NOTHING where it is truncated.
+ * Only a handler such as __C_specific_handler has one: the caller knows it by the handler's RVA.
+ * Errors: PE_C_SHORT where handler_data is not inside the bytes. */
 uint32_t pe_c_scope_table(const uint8_t *bytes, size_t length, const pe_c_range *handler_data, pe_c_range *out);
 
-/* Gives the next entry of a scope table. PE_C_SHORT for a last one that is cut. */
+/* Returns the next entry of a scope table.
+ * Errors: PE_C_SHORT where the walk is not inside the bytes, or its last entry is truncated. */
 uint32_t pe_c_next_scope(const uint8_t *bytes, size_t length, pe_c_range *walk, pe_c_scope *out);
 
-/* Gives the next record of a plan: that of the function, then that of the function which it is chained to, and so on.
- * PE_C_NOTHING behind the root. PE_C_FUNCTION_CYCLE exactly if the chain of a plan that pe_c_plan_from made never ends;
- * else what pe_c_unwind_record answers of the next record. A plan that is refused is over. */
+/* Returns the next record of a plan: that of the function, then that of the function to which it is chained, and so on.
+ * PE_C_NOTHING after the root.
+ * Errors: those of pe_c_unwind_record for the next record; PE_C_FUNCTION_CYCLE if, and only if, the chain of a plan made by
+ * pe_c_plan_from never ends. Records may be returned before that error. */
 uint32_t pe_c_next_record(const uint8_t *bytes, size_t length, const pe_c_image_info *image,
                           const pe_c_section *sections, size_t count, uint32_t mode, pe_c_plan *plan,
                           pe_c_record *out);
 
-/* The plan of a function, by its unwind address. */
+/* Returns the plan of a function, by its unwind RVA. */
 static inline pe_c_plan pe_c_plan_from(uint32_t unwind)
 {
     pe_c_plan plan = {unwind, 0, unwind, 0, 0, 1};
     return plan;
 }
 
-/* ---- ARM64 functions and how their frames are unwound */
+/* ---- ARM64 functions and unwind records
+ *
+ * The exception directory of an ARM64 image is a table of functions too. The unwind data of a function is packed into its
+ * entry if the prolog and epilog are canonical, else it is a record with a byte stream of codes: those of the prolog, and
+ * those of each epilog, which a scope locates. The length of a function is in its unwind data.
+ * https://learn.microsoft.com/cpp/build/arm64-exception-handling */
 
+/* An entry of the function table. */
 typedef struct {
-    uint32_t begin;                 /* the address where it begins */
-    uint32_t unwind;                /* unwind data that are packed, or the address of its unwind record */
+    uint32_t begin;                 /* RVA of its first byte */
+    uint32_t unwind;                /* packed unwind data, or the RVA of its unwind record: its two lowest bits say which */
 } pe_c_arm64_function;
 
+/* Packed unwind data. The fields mean nothing unless is_packed. */
 typedef struct {
-    uint32_t flag;                  /* 0: `unwind` is the address of a record; 1 function, 2 fragment, 3 reserved */
+    uint32_t flag;                  /* 0: `unwind` is the RVA of a record; 1 a function; 2 a fragment; 3 reserved */
     uint32_t function_length;       /* bytes */
-    uint32_t frame_size;            /* bytes */
-    uint32_t reg_f, reg_i, h, cr;   /* as Microsoft's page names them */
-    uint32_t is_packed;             /* 1 or 0; 0 with flag 0, whose other fields mean nothing */
+    uint32_t frame_size;            /* bytes of stack that the function allocates */
+    uint32_t reg_f;                 /* RegF: 0, or the number of saved registers from d8 on, less 1 */
+    uint32_t reg_i;                 /* RegI: the number of saved registers from x19 on */
+    uint32_t h;                     /* H: 1 where x0 .. x7 are stored at the start of the function */
+    uint32_t cr;                    /* CR: 0 x29 and lr are not saved, 1 lr is, 2 and 3 both are, with 2 signed */
+    uint32_t is_packed;             /* 1 unless `flag` is 0 */
 } pe_c_arm64_packed;
 
+/* An unwind record (.xdata). */
 typedef struct {
-    pe_c_range scopes;              /* a walk over its epilog scopes, at their beginning */
-    pe_c_range codes;               /* its code bytes */
-    pe_c_range handler_data;        /* to the end of the bytes; empty without a handler */
-    uint32_t handler;               /* an address, or 0 */
+    pe_c_range scopes;              /* a walk for pe_c_next_arm64_scope, at its start */
+    pe_c_range codes;               /* the code bytes, for pe_c_arm64_codes */
+    pe_c_range handler_data;        /* what follows the handler's RVA, up to the end of the file; empty without a handler */
+    uint32_t handler;               /* RVA of the handler, or 0 */
     uint32_t has_handler;           /* 1 or 0 */
     uint32_t function_length;       /* bytes */
-    uint32_t epilog_in_header;      /* 1 where the one epilog's codes begin at epilog_start */
-    uint32_t epilog_start;          /* the index of its first code byte; else 0 */
+    uint32_t epilog_in_header;      /* 1 where the one epilog has no scope: its codes start at epilog_start */
+    uint32_t epilog_start;          /* index of that epilog's first code byte; else 0 */
     uint32_t version;               /* 0 */
 } pe_c_arm64_record;
 
+/* An epilog scope. */
 typedef struct {
-    uint32_t start_offset;          /* bytes, from the function's begin */
-    uint32_t start_index;           /* the index of its first code byte */
-    uint32_t reserved;              /* the four bits between them */
+    uint32_t start_offset;          /* bytes, from the start of the function to that of the epilog */
+    uint32_t start_index;           /* index of the epilog's first code byte, for pe_c_arm64_codes */
+    uint32_t reserved;              /* bits 18 to 21 */
     uint32_t word;                  /* the whole entry */
 } pe_c_arm64_scope;
 
+/* A walk over ARM64 unwind codes. */
 typedef struct {
     pe_c_range left;                /* the code bytes that are left */
-    uint64_t offset;                /* where they begin, counted from the beginning of the stream */
+    uint64_t offset;                /* bytes, from the start of the record's codes to these */
 } pe_c_arm64_walk;
 
-/* Integer registers are counted from x0, floating-point registers from d0. A preindexed store moves the stack pointer
- * down by `value` first. A pair is the register and the one behind it, or the link register. */
+/* The kinds of codes, with Microsoft's names. `value` is bytes: a size, or an offset from sp. `operand` is a register:
+ * n means xn, or dn in the kinds of floating point. A pair is that register and the next, or lr. A preindexed store (_x)
+ * moves sp down by `value` first. */
 enum {
-    PE_C_ARM64_ALLOC_SMALL = 0,     /* made room for `value` bytes on the stack */
-    PE_C_ARM64_SAVE_R19_R20_PREINDEXED = 1,
-    PE_C_ARM64_SAVE_FP_LR = 2,      /* saved x29 and the link register at `value`; others the register `operand` */
-    PE_C_ARM64_SAVE_FP_LR_PREINDEXED = 3,
-    PE_C_ARM64_ALLOC_MEDIUM = 4,
-    PE_C_ARM64_SAVE_REG_PAIR = 5,
-    PE_C_ARM64_SAVE_REG_PAIR_PREINDEXED = 6,
-    PE_C_ARM64_SAVE_REG = 7,
-    PE_C_ARM64_SAVE_REG_PREINDEXED = 8,
-    PE_C_ARM64_SAVE_LR_PAIR = 9,
-    PE_C_ARM64_SAVE_FREG_PAIR = 10,
-    PE_C_ARM64_SAVE_FREG_PAIR_PREINDEXED = 11,
-    PE_C_ARM64_SAVE_FREG = 12,
-    PE_C_ARM64_SAVE_FREG_PREINDEXED = 13,
-    PE_C_ARM64_ALLOC_Z = 14,        /* made room for `operand` scalable vectors */
-    PE_C_ARM64_ALLOC_LARGE = 15,
-    PE_C_ARM64_SET_FP = 16,         /* set x29 to the stack pointer */
-    PE_C_ARM64_ADD_FP = 17,         /* set x29 to `value` bytes above the stack pointer */
-    PE_C_ARM64_NOP = 18,
-    PE_C_ARM64_END = 19,
-    PE_C_ARM64_END_C = 20,
-    PE_C_ARM64_SAVE_NEXT = 21,      /* saved the pair behind that of the instruction before it, whose code is next */
-    PE_C_ARM64_SAVE_ANY_REG = 22,   /* `flags`: bit 0 pair, bit 1 preindexed, bits 2 and 3 the kind: 0 x, 1 d, 2 q */
-    PE_C_ARM64_SAVE_ZREG = 23,      /* the numbers of register and offset as the code has them */
-    PE_C_ARM64_SAVE_PREG = 24,
-    PE_C_ARM64_CUSTOM_STACK = 25,   /* `operand`: 0 trap frame, 1 machine frame, 2 context, 3 of ARM64EC, 4 clear */
-    PE_C_ARM64_PAC_SIGN_LR = 26,
-    PE_C_ARM64_RESERVED = 27        /* `operand` the first byte, `value` the number in the bytes behind it */
+    PE_C_ARM64_ALLOC_SMALL = 0,     /* alloc_s: allocated `value` bytes, below 512, on the stack */
+    PE_C_ARM64_SAVE_R19_R20_PREINDEXED = 1, /* save_r19r20_x */
+    PE_C_ARM64_SAVE_FP_LR = 2,      /* save_fplr: saved x29 and lr at `value` */
+    PE_C_ARM64_SAVE_FP_LR_PREINDEXED = 3,   /* save_fplr_x */
+    PE_C_ARM64_ALLOC_MEDIUM = 4,    /* alloc_m: allocated `value` bytes, below 32 KiB */
+    PE_C_ARM64_SAVE_REG_PAIR = 5,   /* save_regp: saved the pair from `operand` on at `value` */
+    PE_C_ARM64_SAVE_REG_PAIR_PREINDEXED = 6,    /* save_regp_x */
+    PE_C_ARM64_SAVE_REG = 7,        /* save_reg: saved the register `operand` at `value` */
+    PE_C_ARM64_SAVE_REG_PREINDEXED = 8,     /* save_reg_x */
+    PE_C_ARM64_SAVE_LR_PAIR = 9,    /* save_lrpair: saved the register `operand` and lr at `value` */
+    PE_C_ARM64_SAVE_FREG_PAIR = 10, /* save_fregp */
+    PE_C_ARM64_SAVE_FREG_PAIR_PREINDEXED = 11,  /* save_fregp_x */
+    PE_C_ARM64_SAVE_FREG = 12,      /* save_freg */
+    PE_C_ARM64_SAVE_FREG_PREINDEXED = 13,   /* save_freg_x */
+    PE_C_ARM64_ALLOC_Z = 14,        /* alloc_z: allocated `operand` scalable vectors */
+    PE_C_ARM64_ALLOC_LARGE = 15,    /* alloc_l: allocated `value` bytes, below 256 MiB */
+    PE_C_ARM64_SET_FP = 16,         /* set_fp: set x29 to sp */
+    PE_C_ARM64_ADD_FP = 17,         /* add_fp: set x29 to sp + `value`; `operand` is the code's byte, `value` / 8 */
+    PE_C_ARM64_NOP = 18,            /* nop: nothing to undo */
+    PE_C_ARM64_END = 19,            /* end: the end of the prolog's or an epilog's codes */
+    PE_C_ARM64_END_C = 20,          /* end_c: the end of the codes of a chained fragment */
+    PE_C_ARM64_SAVE_NEXT = 21,      /* save_next: saved the next pair after that of the instruction before, whose code
+                                       follows this one */
+    PE_C_ARM64_SAVE_ANY_REG = 22,   /* save_any_reg: `flags` bit 0 a pair, bit 1 preindexed, bits 2 and 3 the registers:
+                                       0 x, 1 d, 2 q. Preindexed, `value` is 16 * the code's number; LLVM adds 16 */
+    PE_C_ARM64_SAVE_ZREG = 23,      /* save_zreg: the code's numbers of register (`operand`) and offset (`value`) */
+    PE_C_ARM64_SAVE_PREG = 24,      /* save_preg: likewise */
+    PE_C_ARM64_CUSTOM_STACK = 25,   /* `operand` 0 MSFT_OP_TRAP_FRAME, 1 _MACHINE_FRAME, 2 _CONTEXT, 3 _EC_CONTEXT,
+                                       4 _CLEAR_UNWOUND_TO_CALL */
+    PE_C_ARM64_PAC_SIGN_LR = 26,    /* pac_sign_lr: signed lr */
+    PE_C_ARM64_RESERVED = 27        /* `operand` is the first byte, `value` the number in the bytes after it */
 };
 
+/* An ARM64 unwind code. */
 typedef struct {
-    uint32_t offset;                /* where the code begins, counted from the beginning of the stream */
-    uint32_t length;                /* its bytes, 1 to 5 */
+    uint32_t offset;                /* bytes, from the start of the record's codes to this one */
+    uint32_t length;                /* bytes of the code, 1 to 5 */
     uint32_t kind;                  /* PE_C_ARM64_ALLOC_SMALL .. PE_C_ARM64_RESERVED */
-    uint32_t operand;               /* register, count, case or first operand; else 0 */
-    uint32_t value;                 /* bytes, or the other operand; else 0 */
+    uint32_t operand;               /* a register, or as the kind says; else 0 */
+    uint32_t value;                 /* bytes, or as the kind says; else 0 */
     uint32_t flags;                 /* of PE_C_ARM64_SAVE_ANY_REG; else 0 */
 } pe_c_arm64_code;
 
@@ -458,95 +570,120 @@ PE_C_SIZE(pe_c_arm64_scope, 16);
 PE_C_SIZE(pe_c_arm64_walk, 24);
 PE_C_SIZE(pe_c_arm64_code, 24);
 
-/* The same for ARM64: entries of 8 bytes. */
+/* Returns the range of the function table, entries of 8 bytes. PE_C_NOTHING without one, or for a machine other than
+ * ARM64.
+ * Errors: PE_C_EXCEPTION_SIZE, PE_C_UNMAPPED, PE_C_EXCEPTION_OFFSET, PE_C_EXCEPTION_BOUNDS. */
 uint32_t pe_c_arm64_table(const uint8_t *bytes, size_t length, const pe_c_image_info *image,
                           const pe_c_section *sections, size_t count, uint32_t mode, pe_c_range *out);
 
-/* Gives the function of an index from 0 on. PE_C_FUNCTION_INDEX where the table has fewer. Where an ARM64 function
- * ends is in its unwind data. */
+/* Returns the function with an index, from 0.
+ * Errors: PE_C_SHORT where the table is not inside the bytes; PE_C_FUNCTION_INDEX where it has no such entry. */
 uint32_t pe_c_arm64_function_at(const uint8_t *bytes, size_t length, const pe_c_range *table, uint64_t index,
                                 pe_c_arm64_function *out);
 
-/* Gives the fields of unwind data that are packed into an entry. It is never refused. */
+/* Returns the fields of packed unwind data. It always returns PE_C_DONE. */
 uint32_t pe_c_arm64_packed_fields(const pe_c_arm64_function *function, pe_c_arm64_packed *out);
 
-/* Gives the unwind record of a function. The refusals of the table; then PE_C_NOTHING where its unwind data are packed;
- * PE_C_UNMAPPED, PE_C_SHORT, PE_C_ARM64_VERSION. */
+/* Returns the unwind record of a function. PE_C_NOTHING where its unwind data is packed.
+ * Errors: those of pe_c_arm64_table, also where the data is packed; PE_C_UNMAPPED, PE_C_SHORT, PE_C_ARM64_VERSION of the
+ * record. */
 uint32_t pe_c_arm64_unwind_record(const uint8_t *bytes, size_t length, const pe_c_image_info *image,
                                   const pe_c_section *sections, size_t count, uint32_t mode,
                                   const pe_c_arm64_function *function, pe_c_arm64_record *out);
 
-/* Gives the next epilog scope of a record. */
+/* Returns the next epilog scope of a record.
+ * Errors: PE_C_SHORT where the walk is not inside the bytes, or its last scope is truncated. */
 uint32_t pe_c_next_arm64_scope(const uint8_t *bytes, size_t length, pe_c_range *walk, pe_c_arm64_scope *out);
 
-/* Gives a walk over a record's codes from the start on, a number of code bytes: 0 for the prolog, start_index of a
- * scope or epilog_start for an epilog. PE_C_ARM64_STREAM where the codes are no multiple of four bytes, more than
- * 4,294,967,292, or fewer than the start. */
+/* Returns a walk over a record's codes. `start` is the index of the first code byte: 0 for the prolog, start_index of a
+ * scope or epilog_start for an epilog.
+ * Errors: PE_C_SHORT where the codes are not inside the bytes; PE_C_ARM64_STREAM where their length is not a multiple of 4,
+ * is above 4,294,967,292, or is below the start. */
 uint32_t pe_c_arm64_codes(const uint8_t *bytes, size_t length, const pe_c_range *codes, uint64_t start,
                           pe_c_arm64_walk *out);
 
-/* Gives the next code. Walks do not stop at PE_C_ARM64_END and PE_C_ARM64_END_C, since the codes of epilogs stand
- * behind them. PE_C_ARM64_CUT for a code that is cut; PE_C_ARM64_STREAM for a walk of no stream. */
+/* Returns the next code. The walk does not stop at PE_C_ARM64_END and PE_C_ARM64_END_C, since the codes of epilogs
+ * follow; the caller stops there.
+ * Errors: PE_C_SHORT where the walk is not inside the bytes; PE_C_ARM64_STREAM where its offset plus the bytes left is not a
+ * multiple of 4 or is above 4,294,967,292, as in no walk of pe_c_arm64_codes; PE_C_ARM64_CUT for a truncated code. */
 uint32_t pe_c_next_arm64_code(const uint8_t *bytes, size_t length, pe_c_arm64_walk *walk, pe_c_arm64_code *out);
 
-/* ---- exports */
+/* ---- exports
+ *
+ * The export directory has three tables: the RVAs of what is exported, the RVAs of names in alphabetical order, and for
+ * each name the index of its RVA in the first table. An RVA inside the directory is a forwarder: that of a text such as
+ * "NTDLL.RtlAllocateHeap". It is returned as any other.
+ * https://learn.microsoft.com/windows/win32/debug/pe-format#the-edata-section-image-only */
 
+/* A walk over exports. */
 typedef struct {
-    pe_c_range names, ordinals, addresses;  /* the three tables, of 4, 2 and 4 bytes an entry */
-    uint64_t next;                  /* the index of the next name */
+    pe_c_range names;               /* RVAs of names, 4 bytes each */
+    pe_c_range ordinals;            /* for each name the index of its RVA in `addresses`, 2 bytes each */
+    pe_c_range addresses;           /* RVAs of what is exported, 4 bytes each */
+    uint64_t next;                  /* index of the next name */
 } pe_c_exports;
 
 typedef struct {
-    pe_c_range name;                /* UTF-8, without the zero behind it */
-    uint64_t place;                 /* the place of its address in the file; 0 unless has_place */
-    uint32_t rva;                   /* its address */
-    uint32_t has_place;             /* 1 or 0 */
+    pe_c_range name;                /* UTF-8, without its final zero */
+    uint64_t place;                 /* file offset of the RVA; 0 unless has_place */
+    uint32_t rva;                   /* RVA of what is exported */
+    uint32_t has_place;             /* 1 where the RVA is mapped, else 0 */
 } pe_c_export;
 
 PE_C_SIZE(pe_c_exports, 56);
 PE_C_SIZE(pe_c_export, 32);
 
-/* Gives the tables of the export directory, a walk. PE_C_NOTHING without one; PE_C_UNMAPPED, PE_C_SHORT. */
+/* Returns the tables of the export directory as a walk for pe_c_next_export. PE_C_NOTHING without a directory.
+ * Errors: PE_C_UNMAPPED, PE_C_SHORT of the directory, then of the table of RVAs, of names and of indices. */
 uint32_t pe_c_export_tables(const uint8_t *bytes, size_t length, const pe_c_image_info *image,
                             const pe_c_section *sections, size_t count, uint32_t mode, pe_c_exports *out);
 
-/* Gives the next export that has a name and an address; entries without either are passed over. */
+/* Returns the next export. Entries are skipped whose name is unmapped, not NUL-terminated or not UTF-8, or whose index is
+ * past the table of RVAs.
+ * Errors: PE_C_SHORT where the tables are not inside the bytes. */
 uint32_t pe_c_next_export(const uint8_t *bytes, size_t length, const pe_c_image_info *image,
                           const pe_c_section *sections, size_t count, uint32_t mode, pe_c_exports *walk,
                           pe_c_export *out);
 
 /* ---- imports
  *
- * Two walks: one over the libraries of the import directory, and of each library one over its imports, which begins as
- * library.imports. A program that reads all libraries before the first import meets the refusals in the order in which
- * `peinfo` does. */
+ * The import directory has a record of 20 bytes for each DLL, which leads to the DLL's name and to its list of imports,
+ * by name or by ordinal. The loader writes the virtual address of each import to a slot of the DLL's address table.
+ * https://learn.microsoft.com/windows/win32/debug/pe-format#the-idata-section
+ *
+ * There are two walks: one over the DLLs (here "libraries"), and for each one over its imports, which starts as
+ * library.imports. A program that reads all libraries before the first import meets errors in the order of
+ * `peinfo list`. */
 
+/* A walk over libraries. */
 typedef struct {
-    uint64_t next;                  /* the place of the next record of the import directory */
-    uint32_t is_over;               /* 1 behind the last library or a refusal, else 0 */
-    uint32_t spare;
+    uint64_t next;                  /* file offset of the next record of the import directory */
+    uint32_t is_over;               /* 1 after the last library or an error, else 0 */
+    uint32_t spare;                 /* 0 */
 } pe_c_libraries;
 
+/* A walk over the imports of a library. */
 typedef struct {
-    pe_c_range left;                /* the entries of the library's list that are left, of 8 bytes in PE32+, else 4 */
-    uint64_t rva;                   /* where the loader puts the address of the next one */
+    pe_c_range left;                /* the entries of the list that are left: 8 bytes each in PE32+, else 4 */
+    uint64_t rva;                   /* RVA of the next import's slot in the address table */
 } pe_c_imports;
 
+/* IMAGE_IMPORT_DESCRIPTOR. */
 typedef struct {
-    pe_c_range name;                /* UTF-8, without the zero behind it */
-    pe_c_imports imports;           /* a walk over its imports, at their beginning */
-    uint32_t lookup_table_rva;      /* the numbers of its record; this one may be 0 */
-    uint32_t time_date_stamp;       /* 0, or a mark that the imports are bound */
-    uint32_t forwarder_chain;
-    uint32_t name_rva;
-    uint32_t address_table_rva;     /* the slots that the loader fills */
-    uint32_t spare;
+    pe_c_range name;                /* of the DLL: UTF-8, without its final zero */
+    pe_c_imports imports;           /* a walk for pe_c_next_import, at its start */
+    uint32_t lookup_table_rva;      /* RVA of the list; where it is 0, the list is the address table */
+    uint32_t time_date_stamp;       /* 0, or not 0 where the imports are bound */
+    uint32_t forwarder_chain;       /* index of the first forwarder, or -1 */
+    uint32_t name_rva;              /* RVA of the DLL's name */
+    uint32_t address_table_rva;     /* RVA of the slots that the loader fills */
+    uint32_t spare;                 /* 0 */
 } pe_c_library;
 
 typedef struct {
-    pe_c_range name;                /* UTF-8, without the zero behind it; empty unless has_name */
-    uint64_t rva;                   /* where the loader puts the import's address */
-    uint32_t ordinal;               /* the ordinal, or the hint of the name */
+    pe_c_range name;                /* UTF-8, without its final zero; empty unless has_name */
+    uint64_t rva;                   /* RVA of the slot that the loader fills */
+    uint32_t ordinal;               /* the ordinal; with a name its hint, an index into the DLL's table of names */
     uint32_t has_name;              /* 1 or 0 */
 } pe_c_import;
 
@@ -555,35 +692,56 @@ PE_C_SIZE(pe_c_imports, 24);
 PE_C_SIZE(pe_c_library, 64);
 PE_C_SIZE(pe_c_import, 32);
 
-/* Gives a walk over the libraries of the import directory. PE_C_NOTHING without one; PE_C_UNMAPPED. */
+/* Returns the import directory as a walk for pe_c_next_library. PE_C_NOTHING without a directory.
+ * Errors: PE_C_UNMAPPED. */
 uint32_t pe_c_import_libraries(const uint8_t *bytes, size_t length, const pe_c_image_info *image,
                                const pe_c_section *sections, size_t count, uint32_t mode, pe_c_libraries *out);
 
-/* Gives the next library. PE_C_SHORT where its record, or the zero entry that ends its list, is not there;
- * PE_C_UNMAPPED, PE_C_IMPORT_NAME of its name. A list whose address has no place is empty. */
+/* Returns the next library. The directory ends at a record whose name or address table has the RVA 0. A list whose RVA is
+ * unmapped is empty.
+ * Errors: PE_C_SHORT where the record is truncated; PE_C_UNMAPPED, PE_C_IMPORT_NAME of the name; PE_C_SHORT where no zero
+ * entry ends the list. */
 uint32_t pe_c_next_library(const uint8_t *bytes, size_t length, const pe_c_image_info *image,
                            const pe_c_section *sections, size_t count, uint32_t mode, pe_c_libraries *walk,
                            pe_c_library *out);
 
-/* Gives the next import of a library. PE_C_UNMAPPED, PE_C_SHORT, PE_C_IMPORT_NAME of its name. */
+/* Returns the next import of a library.
+ * Errors: PE_C_SHORT where the walk is not inside the bytes, or its last entry is truncated; PE_C_UNMAPPED of the RVA in
+ * the entry; PE_C_SHORT of the hint there; PE_C_IMPORT_NAME of the name. */
 uint32_t pe_c_next_import(const uint8_t *bytes, size_t length, const pe_c_image_info *image,
                           const pe_c_section *sections, size_t count, uint32_t mode, pe_c_imports *walk,
                           pe_c_import *out);
 
-/* ---- version and manifest
+/* ---- version information and manifest
  *
- * Version information is the content of the first resource of the kind 16, a manifest that of the kind 24. Each call
- * answers the refusals of the resource directory and of its own content alone: PE_C_UNMAPPED, PE_C_SHORT,
- * PE_C_RESOURCE_BOUNDS, PE_C_RESOURCE_CYCLE; those of version information PE_C_RESOURCE_STRING, too. PE_C_NOTHING
- * where there is nothing of the kind. */
+ * Resources are a tree of directories: type, name, language. Version information is the first resource of type 16
+ * (RT_VERSION), the manifest the first of type 24 (RT_MANIFEST).
+ * https://learn.microsoft.com/windows/win32/menurc/vs-versioninfo
+ *
+ * The three calls return PE_C_NOTHING without resources or without one of the type. Damaged version information is no
+ * error of the manifest, nor the reverse. The calls share these errors; the last two items are of version information:
+ *   - the root directory: PE_C_UNMAPPED, PE_C_SHORT; PE_C_RESOURCE_BOUNDS where the data that the data directory names ends
+ *     past the end of the file, and in strict mode where the root or its entries are not all inside the data;
+ *   - the way to the resource: PE_C_SHORT, PE_C_RESOURCE_CYCLE;
+ *   - its content: PE_C_SHORT, PE_C_UNMAPPED, PE_C_RESOURCE_BOUNDS;
+ *   - the version strings: PE_C_SHORT, PE_C_RESOURCE_STRING;
+ *   - the fixed file information: PE_C_SHORT. */
 
+/* VS_FIXEDFILEINFO. */
 typedef struct {
-    uint32_t signature, struct_version;     /* 0xFEEF04BD */
+    uint32_t signature;             /* 0xFEEF04BD */
+    uint32_t struct_version;        /* major in the high 16 bits, minor in the low */
     uint32_t file_version_ms, file_version_ls;          /* 1.2.3.4 is 0x00010002 and 0x00030004 */
-    uint32_t product_version_ms, product_version_ls;
-    uint32_t file_flags_mask, file_flags, file_os, file_type, file_subtype, file_date_ms, file_date_ls;
+    uint32_t product_version_ms, product_version_ls;    /* likewise */
+    uint32_t file_flags_mask;       /* which bits of file_flags are valid */
+    uint32_t file_flags;            /* VS_FF_ flags */
+    uint32_t file_os;               /* VOS_ */
+    uint32_t file_type;             /* VFT_: 1 application, 2 DLL, 3 driver */
+    uint32_t file_subtype;          /* VFT2_ */
+    uint32_t file_date_ms, file_date_ls;    /* a FILETIME, mostly 0 */
 } pe_c_version;
 
+/* The names of version strings. */
 enum {
     PE_C_COMMENTS = 0,
     PE_C_COMPANY_NAME = 1,
@@ -601,16 +759,16 @@ enum {
 
 PE_C_SIZE(pe_c_version, 52);
 
-/* Gives the fixed file information. */
+/* Returns the fixed file information. PE_C_NOTHING also where version information has none. */
 uint32_t pe_c_fixed_version(const uint8_t *bytes, size_t length, const pe_c_image_info *image,
                             const pe_c_section *sections, size_t count, uint32_t mode, pe_c_version *out);
 
-/* Gives the value of a name, PE_C_COMMENTS .. PE_C_SPECIAL_BUILD, as a range of UTF-16 units, little-endian, with the
- * zeros behind it: a text ends at the first zero. PE_C_NOTHING for another name. */
+/* Returns the value of a name, PE_C_COMMENTS .. PE_C_SPECIAL_BUILD: UTF-16 code units, little-endian, with the zeros after
+ * the text, which ends at the first zero. PE_C_NOTHING also without a string of that name, and for another number. */
 uint32_t pe_c_version_text(const uint8_t *bytes, size_t length, const pe_c_image_info *image,
                            const pe_c_section *sections, size_t count, uint32_t mode, uint32_t name, pe_c_range *out);
 
-/* Gives the range of the manifest, a text in XML. */
+/* Returns the range of the manifest, an XML text. */
 uint32_t pe_c_manifest(const uint8_t *bytes, size_t length, const pe_c_image_info *image,
                        const pe_c_section *sections, size_t count, uint32_t mode, pe_c_range *out);
 

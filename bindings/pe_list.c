@@ -1,14 +1,14 @@
-/* pe_list: shows what the calls of pe.h read of a Windows executable.
+/* pe_list: shows what the calls of pe.h read of a PE image.
  *
  *     pe_list list FILE [--permissive]    the lines of `peinfo list`
- *     pe_list key FILE                    the key by which a symbol server files the image's symbols
+ *     pe_list key FILE                    the symbol key: GUID, age and name of the PDB
  *     pe_list version FILE                the version information
- *     pe_list unwind FILE HEXRVA          how the frame of the x64 function that covers an address is unwound, record
- *                                         by record up to the root of its chain
+ *     pe_list unwind FILE HEXRVA          the x64 function that covers an RVA, and its unwind records, up to the root of
+ *                                         their chain
  *
- * The file is mapped, and nothing of it is copied. `list` refuses an image as `peinfo list` does, but for the base
- * relocations, which no call reads: where these alone are damaged the image is listed. The status is 0, 1 for an image
- * that is refused, 2 for misused words, 3 for a fault of a file or of standard output. */
+ * The file is mapped; nothing of it is copied. `list` refuses the images that `peinfo list` refuses, but for those with
+ * damaged base relocations alone, which no call reads. The status is 0, 1 for an image that is refused, 2 for misused
+ * arguments, 3 for an error of a file or of standard output. */
 #define _POSIX_C_SOURCE 200809L
 #include "pe.h"
 
@@ -25,7 +25,7 @@ enum { FINE = 0, REFUSED = 1, MISUSED = 2, FAULT = 3 };
 
 enum { X64 = 0x8664, ARM64 = 0xAA64, FUNCTION_SIZE = 12, ARM64_FUNCTION_SIZE = 8 };
 
-/* The bytes of a file, and what two calls say of them. */
+/* The bytes of a file, its headers and its section headers. */
 typedef struct {
     const char *file;
     const uint8_t *bytes;
@@ -36,13 +36,13 @@ typedef struct {
     size_t count;
 } image;
 
-/* What each call of an image takes first. */
+/* The first arguments of the calls that take an image. */
 #define BYTES(it) (it)->bytes, (it)->length
 #define IMAGE(it) BYTES(it), &(it)->info, (it)->sections, (it)->count, (it)->mode
 
 /* ---- reading */
 
-/* Maps a file. An empty one has no bytes. */
+/* Maps a file. An empty file cannot be mapped; it has no bytes. */
 static int map_file(const char *file, image *it)
 {
     int opened = open(file, O_RDONLY | O_CLOEXEC);
@@ -67,7 +67,7 @@ static int map_file(const char *file, image *it)
     return FINE;
 }
 
-/* The headers and the sections. */
+/* Reads the headers and the section headers. */
 static uint32_t read_image(image *it, uint32_t mode)
 {
     it->mode = mode;
@@ -94,14 +94,14 @@ static int refused(const image *it, uint32_t answer, const char *advice)
 
 /* ---- list */
 
-/* What an image has besides its headers. */
+/* The directories that `list` shows. */
 typedef struct {
     pe_c_range debug, functions, arm64_functions, certificates;
     int has_debug, has_functions, has_arm64_functions, has_certificates;
 } directories;
 
-/* Where a directory is there. One that is refused refuses the image in strict mode, and counts as absent in
- * permissive. */
+/* Notes whether a directory is there. In strict mode its error refuses the image; in permissive mode it counts as
+ * absent. */
 static uint32_t keep(const image *it, uint32_t answer, int *has)
 {
     *has = answer == PE_C_DONE;
@@ -110,7 +110,7 @@ static uint32_t keep(const image *it, uint32_t answer, int *has)
     return answer;
 }
 
-/* The answer of a walk that was read to its end. */
+/* The result of a walk that was read to its end: the end itself is no error. */
 static uint32_t ended(uint32_t answer)
 {
     if (answer == PE_C_NOTHING)
@@ -118,7 +118,7 @@ static uint32_t ended(uint32_t answer)
     return answer;
 }
 
-/* Every library is read. */
+/* Reads every library. */
 static uint32_t try_libraries(const image *it)
 {
     pe_c_libraries walk = PE_C_EMPTY;
@@ -129,7 +129,7 @@ static uint32_t try_libraries(const image *it)
     return ended(answer);
 }
 
-/* Every import of a library is read. */
+/* Reads every import of a library. */
 static uint32_t try_imports_of(const image *it, pe_c_imports walk)
 {
     pe_c_import item = PE_C_EMPTY;
@@ -139,7 +139,7 @@ static uint32_t try_imports_of(const image *it, pe_c_imports walk)
     return ended(answer);
 }
 
-/* All libraries, and then all imports: one that is refused refuses the image in both modes. */
+/* Reads all libraries, then all imports. An error in one refuses the image in both modes. */
 static uint32_t try_imports(const image *it)
 {
     pe_c_libraries walk = PE_C_EMPTY;
@@ -155,7 +155,7 @@ static uint32_t try_imports(const image *it)
     return ended(answer);
 }
 
-/* The debug directory, where none of the records is refused. */
+/* Returns the debug directory, if no record is damaged: any call that returns a record reads them all. */
 static uint32_t try_debug(const image *it, pe_c_range *out)
 {
     pe_c_key key = PE_C_EMPTY;
@@ -165,7 +165,7 @@ static uint32_t try_debug(const image *it, pe_c_range *out)
     return pe_c_debug_entries(IMAGE(it), out);
 }
 
-/* Every certificate is read. */
+/* Reads every certificate, and returns the range of the table. */
 static uint32_t try_certificates(const image *it, pe_c_range *out)
 {
     pe_c_range walk = {it->info.certificates.virtual_address, it->info.certificates.size};
@@ -179,7 +179,7 @@ static uint32_t try_certificates(const image *it, pe_c_range *out)
     return ended(answer);
 }
 
-/* Version information and manifest. */
+/* Reads version information and manifest. */
 static uint32_t try_resources(const image *it)
 {
     pe_c_version version = PE_C_EMPTY;
@@ -190,7 +190,7 @@ static uint32_t try_resources(const image *it)
     return pe_c_manifest(IMAGE(it), &manifest);
 }
 
-/* All that `peinfo list` reads, in its order. */
+/* Reads what `peinfo list` reads, in its order. */
 static uint32_t read_directories(const image *it, directories *out)
 {
     int has_resources = 0;
@@ -248,7 +248,7 @@ static void list_arm64_functions(const image *it, const pe_c_range *table)
             printf("function64 %08" PRIx32 " %08" PRIx32 "\n", function.begin, function.unwind);
 }
 
-/* The answer of an image with all that `peinfo list` reads of it. */
+/* Reads an image and what `peinfo list` reads of it. */
 static uint32_t read_all(image *it, uint32_t mode, directories *out)
 {
     uint32_t answer = read_image(it, mode);
@@ -278,7 +278,7 @@ static int list(image *it, uint32_t mode)
 
 /* ---- key */
 
-/* The GUID's digits as symbol servers write them, the age, and the file's name up to its first zero. */
+/* Prints the GUID and the age as symbol servers write them, and the PDB's name up to its first zero. */
 static int show_key(image *it)
 {
     pe_c_key key = PE_C_EMPTY;
@@ -307,7 +307,7 @@ static const char *const names[] = {
     "OriginalFilename", "PrivateBuild", "ProductName", "ProductVersion", "SpecialBuild"
 };
 
-/* A character in UTF-8; a replacement for half a surrogate pair. */
+/* Prints a character in UTF-8, or U+FFFD for an unpaired surrogate. */
 static void show_character(uint32_t c)
 {
     if (c >= 0xD800 && c < 0xE000)
@@ -329,7 +329,7 @@ static void show_character(uint32_t c)
     }
 }
 
-/* A text of UTF-16 units up to the first zero. */
+/* Prints UTF-16 code units up to the first zero. */
 static void show_units(const uint8_t *units, uint64_t length)
 {
     for (uint64_t i = 0; i + 2 <= length; i += 2) {
@@ -461,9 +461,9 @@ static int show_unwinding(image *it, uint32_t rva)
     return answer == PE_C_NOTHING ? FINE : refused(it, answer, "");
 }
 
-/* ---- words */
+/* ---- arguments */
 
-/* One to eight hexadecimal digits. */
+/* Reads an RVA of one to eight hexadecimal digits. */
 static int address_of(const char *word, uint32_t *out)
 {
     size_t length = strlen(word);

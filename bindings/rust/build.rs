@@ -1,10 +1,10 @@
-//! Finds libpe_c.a: in the folder that PE_C_FOLDER names; else where the toolchain's command puts it in this
-//! repository; else where pkg-config finds pe_c.
+//! Finds libpe_c.a: in the folder that PE_C_FOLDER names; without that variable in crates/pe_c/out, where `rt lib` puts
+//! it, else where pkg-config finds pe_c.
 
 use std::path::{Path, PathBuf};
 use std::{env, process};
 
-/// The folder of an installed archive.
+/// The folder of the installed archive, by pkg-config.
 fn installed() -> Option<PathBuf> {
     let command = env::var("PKG_CONFIG").unwrap_or_else(|_| "pkg-config".to_owned());
     let answer = process::Command::new(command).args(["--variable=libdir", "pe_c"]).output().ok()?;

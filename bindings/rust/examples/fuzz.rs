@@ -1,9 +1,9 @@
-//! Makes every call on damaged images: `fuzz SECONDS [--seed N] [FILE ..]`. The files are images, or damaged ones made
-//! of the tests' images where none is named; those above 1 MiB are passed over.
+//! Makes every call on damaged images: `fuzz SECONDS [--seed N] [FILE ..]`. The files are images; those below 64 bytes or
+//! above 1 MiB are skipped. Without files, the images of the tests are damaged.
 //!
-//! Each input is a file with a few bytes changed, and at times cut, and ends where memory ends, so that a read behind
-//! it faults. The calls that take ranges and walks get ones that lie, too. A run with the same seed, files and machine
-//! makes the same inputs. The last line tells what was read.
+//! Each input is a file with a few bytes changed, and sometimes truncated. It ends where readable memory ends, so that a
+//! read past its end crashes. The calls that take ranges and walks get wrong ones too. A run with the same seed, files and
+//! machine makes the same inputs. The last line counts what was read.
 
 #[path = "../tests/made/mod.rs"]
 mod made;
@@ -21,21 +21,21 @@ extern "C" {
     fn mprotect(at: *mut c_void, length: usize, may: i32) -> i32;
 }
 
-/// How many bytes an input has at most, and the bytes of a page.
+/// The most bytes of an input, and the bytes of a page.
 const ROOM: usize = 1 << 20;
 const PAGE: usize = 1 << 16;
 
-/// Of one file so many inputs are made in turn.
+/// Inputs made of one file before the next.
 const INPUTS_OF_A_FILE: usize = 64;
 
-/// How many items a walk that lies may give.
+/// The most items that a wrong walk may return.
 const MOST: usize = 16;
 
-/// Writable memory, behind which there is none.
+/// Writable memory with an unreadable page after it.
 fn fenced() -> &'static mut [u8] {
     const READ_AND_WRITE: i32 = 3;
     const PRIVATE_AND_ANONYMOUS: i32 = 0x22;
-    // SAFETY: fresh memory of the process, the last page of which is made unreadable; the rest is given out once.
+    // SAFETY: fresh memory of the process, the last page of which is made unreadable; the rest is lent once.
     unsafe {
         let at = mmap(std::ptr::null_mut(), ROOM + PAGE, READ_AND_WRITE, PRIVATE_AND_ANONYMOUS, -1, 0);
         assert!(at as isize != -1 && mprotect(at.cast::<u8>().add(ROOM).cast(), PAGE, 0) == 0);
@@ -43,7 +43,7 @@ fn fenced() -> &'static mut [u8] {
     }
 }
 
-/// Numbers by the method xorshift.
+/// Random numbers, by xorshift.
 struct Random(u64);
 
 impl Random {
@@ -58,7 +58,7 @@ impl Random {
         (self.next() >> 16) as usize % end
     }
 
-    /// A number that is like to be at the edge of something.
+    /// A number that is likely to be a limit of something.
     fn edge(&mut self, length: u64) -> u64 {
         match self.below(8) {
             0 => 0,
@@ -72,7 +72,7 @@ impl Random {
     }
 }
 
-/// The places where a change matters most: headers, section headers, the tables of directories and what is behind them.
+/// The offsets where a change matters most: headers, section headers, the tables of directories and what follows them.
 fn hot_places(bytes: &[u8]) -> Vec<Range<usize>> {
     let mut places = vec![0..bytes.len(), 0..bytes.len().min(1024), 60..64];
     let Ok(image) = Image::parse(bytes, Mode::Permissive) else {
@@ -107,7 +107,7 @@ fn hot_places(bytes: &[u8]) -> Vec<Range<usize>> {
     places
 }
 
-/// Copies a file, cut at times, to the end of the memory.
+/// Copies a file, sometimes truncated, to the end of the memory.
 fn copy<'m>(memory: &'m mut [u8], bytes: &[u8], random: &mut Random) -> &'m mut [u8] {
     let cut = if random.below(8) == 0 { random.below(bytes.len()) } else { 0 };
     let length = bytes.len() - cut;
@@ -116,7 +116,7 @@ fn copy<'m>(memory: &'m mut [u8], bytes: &[u8], random: &mut Random) -> &'m mut 
     input
 }
 
-/// Changes a few bytes; gives what they were.
+/// Changes a few bytes; returns what they were.
 fn change(input: &mut [u8], places: &[Range<usize>], random: &mut Random) -> Vec<(usize, u8)> {
     let mut before = Vec::new();
     for _ in 0..1 + random.below(6) {
@@ -131,7 +131,7 @@ fn change(input: &mut [u8], places: &[Range<usize>], random: &mut Random) -> Vec
     before
 }
 
-/// Calls with records that lie: none of them may touch anything but the bytes and what it is lent.
+/// Makes calls with wrong records: none may touch anything but the bytes and its arguments.
 fn read_by_lies(bytes: &[u8], random: &mut Random, seen: &mut Seen) {
     let (start, length) = (bytes.as_ptr(), bytes.len());
     let number = length as u64;
@@ -177,7 +177,7 @@ fn read_by_lies(bytes: &[u8], random: &mut Random, seen: &mut Seen) {
             call!($name(&image, sections.as_ptr(), sections.len(), mode $(, $more)*), $out)
         };
     }
-    // steps a walk while it gives items, but not for ever
+    // steps a walk while it returns items, but not forever
     macro_rules! walk {
         ($name:ident($walk:expr), $out:ident) => {{
             let mut walk = $walk;
@@ -255,7 +255,7 @@ fn read_by_lies(bytes: &[u8], random: &mut Random, seen: &mut Seen) {
     walk_of_image!(pe_c_next_record(plan), Record);
 }
 
-/// Words: the seconds, the seed, and the files.
+/// The arguments: the seconds, the seed, and the files.
 fn words() -> Option<(u64, u64, Vec<String>)> {
     let mut words = std::env::args().skip(1);
     let seconds = words.next()?.parse().ok()?;

@@ -1,4 +1,4 @@
-//! Writes the images of the tests into a folder, for other programs: `made FOLDER`.
+//! Writes the images of the tests to a folder, for other programs: `made FOLDER`.
 
 #[path = "../tests/made/mod.rs"]
 mod made;

@@ -1,16 +1,17 @@
-//! Shows what the calls read of an image, a fact a line: `show unwind|debug|resources|tables FILE`. The lines are those
-//! of the programs tools/show_*.txt, so that the two can be compared, and tools/compare_unwind, compare_debug and
-//! compare_resources take it by a script of the program's name. What no call tells is read from the bytes: three fields
-//! of an ARM64 record, and the first resource entries; of the lines of show_tables.txt only those of each export, record
-//! and import are there. A first line `strict` says that the image is refused in strict mode; what follows is then what
-//! permissive mode gives.
+//! Shows what the calls read of an image, one fact a line: `show unwind|debug|resources|tables FILE`. The lines are those of
+//! the programs tools/show_*.txt, so that the two can be compared: tools/compare_unwind, compare_debug and
+//! compare_resources run it by a script of the program's name.
+//!
+//! What no call returns is read from the bytes: three fields of an ARM64 record, and the first resource entries. Of the
+//! lines of show_tables.txt only those of exports, records and imports are there. A first line `strict` says that the image
+//! is refused in strict mode; the lines after it are those of permissive mode.
 
 use pe_c::{
     Arm64Code, Arm64Operation, Arm64Record, Arm64Unwinding, Code, CustomStack, Error, Function, Handler, Image, Import,
     Mode, Offset, Operation, RegisterKind, Repro, Text, UnwindRecord, VersionName,
 };
 
-/// What a directory gives: nothing where it is refused, which permissive mode leaves out.
+/// A directory, or nothing where it is refused, as in permissive mode.
 fn there<T>(answer: Result<Option<T>, Error>) -> Option<T> {
     answer.ok().flatten()
 }
@@ -162,7 +163,7 @@ fn show_codes(record: &Arm64Record, start: u32) {
     }
 }
 
-/// A number of four bytes at a place of the bytes, which is known to be there.
+/// The u32 at an offset that is known to be inside the bytes.
 fn number_at(bytes: &[u8], place: u64) -> u32 {
     let place = place as usize;
     u32::from_le_bytes(bytes[place..place + 4].try_into().expect("four bytes"))
@@ -286,7 +287,7 @@ fn show_debug(image: &Image) {
     }
 }
 
-/// A text, none where it is no text: of an odd number of bytes, or with half a surrogate pair.
+/// A text, or `None` for an odd number of bytes or an unpaired surrogate.
 fn whole_text(text: Text) -> Option<String> {
     if text.0.len() % 2 != 0 {
         return None;
@@ -353,14 +354,14 @@ fn show_tables(image: &Image) {
     }
 }
 
-/// Every library is read, and then every import, in the order of the readers of directory and list.
+/// Reads every library, then every import: errors come in the order of `peinfo list`.
 fn imports<'i, 'a>(image: &'i Image<'a>) -> Result<Vec<(&'a [u8], Import<'a>)>, Error> {
     let libraries: Vec<_> = image.libraries()?.into_iter().flatten().collect::<Result<_, _>>()?;
     let each = libraries.iter().flat_map(|it| it.imports().map(|import| import.map(|import| (it.name, import))));
     each.collect()
 }
 
-/// The first refusal of an image's directories.
+/// The first error of an image's directories.
 fn refusal(image: &Image) -> Result<(), Error> {
     imports(image)?;
     image.symbol_key()?;
@@ -372,7 +373,7 @@ fn refusal(image: &Image) -> Result<(), Error> {
     Ok(())
 }
 
-/// The image in strict mode; in permissive mode where that refuses it.
+/// The image in strict mode, or in permissive mode where strict mode refuses it.
 fn read(bytes: &[u8]) -> Result<Image<'_>, Error> {
     let strict = Image::parse(bytes, Mode::Strict).and_then(|image| refusal(&image).map(|()| image));
     strict.or_else(|error| {

@@ -1,19 +1,22 @@
-//! Attribute certificates.
+//! The attribute certificate table holds the Authenticode signatures of an image: certificates one after the other, each
+//! aligned to 8 bytes. It is not part of the image in memory, so its directory has a file offset. See
+//! <https://learn.microsoft.com/windows/win32/debug/pe-format#the-attribute-certificate-table-image-only>.
+//! A caller takes the body of type 2 (PKCS #7) to check the signature.
 
 use crate::image::{bytes_of, Error, Image};
 use crate::sys;
 use crate::walk::{items, Walk};
 
-/// An attribute certificate.
+/// An attribute certificate, `WIN_CERTIFICATE`.
 #[derive(Clone, Copy, Debug, PartialEq, Eq)]
 pub struct Certificate<'a> {
-    /// The bytes of header and body, as the header says.
+    /// `dwLength`: bytes of header and body.
     pub length: u32,
-    /// 0x100 or 0x200.
+    /// `WIN_CERT_REVISION_1_0` 0x100 or `_2_0` 0x200.
     pub revision: u16,
-    /// 1 X.509, 2 PKCS #7 signed data, 3 reserved, 4 of a terminal server.
+    /// `WIN_CERT_TYPE_X509` 1, `_PKCS_SIGNED_DATA` 2, `_RESERVED_1` 3 or `_TS_STACK_SIGNED` 4.
     pub kind: u16,
-    /// What stands behind the header.
+    /// What follows the header of 8 bytes.
     pub body: &'a [u8],
 }
 
@@ -23,13 +26,30 @@ fn certificate_of(found: sys::Certificate, bytes: &[u8]) -> Result<Certificate<'
 }
 
 items! {
-    /// The certificates of an image. Nothing comes behind one that is refused: [`Error::CERTIFICATE_TABLE`],
-    /// [`Error::SHORT`], [`Error::CERTIFICATE_SIZE`], [`Error::CERTIFICATE_REVISION`], [`Error::CERTIFICATE_TYPE`].
+    /// The certificates of an image, in the order of the table. The body of the last may end past the table, not past the
+    /// file.
+    ///
+    /// An item is an error, and the last one: [`Error::CERTIFICATE_TABLE`] where the table ends past the end of the file;
+    /// [`Error::SHORT`] of the header; [`Error::CERTIFICATE_SIZE`], [`Error::CERTIFICATE_REVISION`],
+    /// [`Error::CERTIFICATE_TYPE`].
+    ///
+    /// ```
+    /// # let bytes: &[u8] = include_bytes!(concat!(env!("CARGO_MANIFEST_DIR"), "/../../crates/peinfo/data/i.bin"));
+    /// use pe_c::{Image, Mode};
+    ///
+    /// let image = Image::parse(bytes, Mode::Strict)?;
+    /// for certificate in image.certificates() {
+    ///     let certificate = certificate?;
+    ///     assert_eq!(certificate.kind, 2); // WIN_CERT_TYPE_PKCS_SIGNED_DATA
+    ///     assert_eq!((certificate.length, certificate.body.len()), (9, 1));
+    /// }
+    /// # Ok::<(), pe_c::Error>(())
+    /// ```
     Certificates<'a>(sys::Range): Certificate<'a>, sys::pe_c_next_certificate, certificate_of
 }
 
 impl<'a> Image<'a> {
-    /// The attribute certificates, none without their directory.
+    /// The attribute certificates. There are none without a certificate directory.
     pub fn certificates(&self) -> Certificates<'a> {
         let directory = self.info().certificates;
         let walk = sys::Range { place: u64::from(directory.virtual_address), length: u64::from(directory.size) };

@@ -1,24 +1,40 @@
-//! Debug data.
+//! The debug directory is a table of entries of 28 bytes. Each says which type of record it leads to and where that is:
+//! CodeView names the PDB file of the image, POGO the parts that the linker joined, Repro marks a reproducible build. See
+//! [Microsoft's page](https://learn.microsoft.com/windows/win32/debug/pe-format#the-debug-section).
+//! Symbolizers take the symbol key, and fetch the PDB from a symbol server by it.
 
 use crate::image::{bytes_of, up_to_zero, Error, Image};
 use crate::sys::{self, DebugEntry, VcFeatures};
 use crate::walk::{items, Walk};
 use core::fmt;
 
-/// The key by which a symbol server files the symbols of an image: a record of PDB 7.0. Its text is the key's: the
-/// GUID's digits and the age.
+/// A CodeView record of PDB 7.0 ("RSDS"): a symbol server files the PDB under its name, GUID and age.
+///
+/// `Display` writes the key as symbol servers do: the GUID's 32 digits, then the age, in upper-case hexadecimal.
+///
+/// ```
+/// # #[path = "../tests/made/mod.rs"] mod made;
+/// # let bytes = made::with_debug();
+/// use pe_c::{Image, Mode};
+///
+/// let image = Image::parse(&bytes, Mode::Permissive)?;
+/// let key = image.symbol_key()?.expect("the image has a PDB");
+/// assert_eq!(key.name(), b"a.pdb");
+/// assert_eq!(key.to_string(), "497B72F6390A44FC878E5A2D63B6CC4B1");
+/// # Ok::<(), pe_c::Error>(())
+/// ```
 #[derive(Clone, Copy, Debug, PartialEq, Eq)]
 pub struct SymbolKey<'a> {
-    /// As in the file: three little-endian numbers, of four, two and two bytes, and eight bytes.
+    /// As in the file: little-endian u32, u16, u16, then 8 bytes.
     pub guid: [u8; 16],
-    /// How often the symbols were written.
+    /// Grows by one each time the PDB is written.
     pub age: u32,
-    /// The file's name, with the zeros behind it.
+    /// The PDB file's name and the zeros after it, up to the end of the record.
     pub name_bytes: &'a [u8],
 }
 
 impl<'a> SymbolKey<'a> {
-    /// The name of the file of symbols, without the zeros behind it.
+    /// The PDB file's name, up to the first zero.
     pub fn name(&self) -> &'a [u8] {
         up_to_zero(self.name_bytes)
     }
@@ -33,72 +49,86 @@ impl fmt::Display for SymbolKey<'_> {
     }
 }
 
-/// A record of PDB 2.0.
+/// A CodeView record of PDB 2.0 ("NB10").
 #[derive(Clone, Copy, Debug, PartialEq, Eq)]
 pub struct Pdb20<'a> {
-    /// Always 0 where the symbols have a file of their own.
+    /// 0 where the symbols are in a file of their own.
     pub offset: u32,
-    /// The time stamp of the file of symbols.
+    /// Time stamp of the PDB, seconds since 1970.
     pub signature: u32,
-    /// How often the symbols were written.
+    /// Grows by one each time the PDB is written.
     pub age: u32,
-    /// The file's name, with the zeros behind it.
+    /// The PDB file's name and the zeros after it, up to the end of the record.
     pub name_bytes: &'a [u8],
 }
 
 impl<'a> Pdb20<'a> {
-    /// The name of the file of symbols, without the zeros behind it.
+    /// The PDB file's name, up to the first zero.
     pub fn name(&self) -> &'a [u8] {
         up_to_zero(self.name_bytes)
     }
 }
 
-/// A Repro record: the image is the same each time it is built.
+/// A Repro record: the same sources build the same image.
 #[derive(Clone, Copy, Debug, PartialEq, Eq)]
 pub enum Repro<'a> {
-    /// The time stamps of the image are a hash.
+    /// The image's time stamps are a hash.
     TimeStamp,
-    /// The hash.
+    /// The hash of the image.
     Hash(&'a [u8]),
 }
 
-/// A POGO record: what the image's sections were made of.
+/// A POGO record: the parts of the image's sections, such as `.text$mn`.
 #[derive(Clone, Copy, Debug)]
 pub struct Pogo<'a> {
-    /// 0x4C544347 or 0x50475500.
+    /// 0x4C544347 (LTCG) or 0x50475500 (PGU).
     pub signature: u32,
-    /// The bytes of its entries.
+    /// The bytes of the entries.
     pub entry_bytes: &'a [u8],
     entries: Walk<'a, sys::Range>,
 }
 
 impl<'a> Pogo<'a> {
-    /// Its entries.
+    /// The entries, in the order of the record.
     pub fn entries(&self) -> PogoEntries<'a> {
         PogoEntries(self.entries)
     }
 }
 
-/// An entry of a POGO record.
+/// An entry of a POGO record: a part of a section.
 #[derive(Clone, Copy, Debug, PartialEq, Eq)]
 pub struct PogoEntry<'a> {
-    /// Where the part is.
+    /// RVA of the part.
     pub rva: u32,
-    /// Its bytes.
+    /// In bytes.
     pub size: u32,
-    /// Its name, with the zero behind it.
+    /// The name and its final zero.
     pub name_bytes: &'a [u8],
 }
 
 impl<'a> PogoEntry<'a> {
-    /// Its name, without the zero behind it.
+    /// The name, without its final zero.
     pub fn name(&self) -> &'a [u8] {
         up_to_zero(self.name_bytes)
     }
 }
 
 items! {
-    /// The entries of a debug directory. A last one that is cut is [`SHORT`](Error::SHORT).
+    /// The entries of a debug directory, in the order of the table. A truncated last entry is [`Error::SHORT`].
+    ///
+    /// ```
+    /// # #[path = "../tests/made/mod.rs"] mod made;
+    /// # let bytes = made::with_debug();
+    /// use pe_c::{Image, Mode};
+    ///
+    /// let image = Image::parse(&bytes, Mode::Permissive)?;
+    /// let mut types = Vec::new();
+    /// for entry in image.debug_entries()?.into_iter().flatten() {
+    ///     types.push(entry?.data_type);
+    /// }
+    /// assert_eq!(types, [2, 12, 13, 16, 20]);
+    /// # Ok::<(), pe_c::Error>(())
+    /// ```
     DebugEntries<'a>(sys::Range): DebugEntry, sys::pe_c_next_debug_entry, |entry, _| Ok(entry)
 }
 
@@ -107,22 +137,40 @@ fn pogo_entry_of(found: sys::PogoEntry, bytes: &[u8]) -> Result<PogoEntry<'_>, E
 }
 
 items! {
-    /// The entries of a POGO record. The last may be [`SHORT`](Error::SHORT) or [`POGO_NAME`](Error::POGO_NAME).
+    /// The entries of a POGO record.
+    ///
+    /// The last item may be an error: [`Error::SHORT`] where fewer than 8 bytes are left; [`Error::POGO_NAME`] where the
+    /// name is not NUL-terminated, or its padding to a multiple of 4 bytes is truncated.
     PogoEntries<'a>(sys::Range): PogoEntry<'a>, sys::pe_c_next_pogo_entry, pogo_entry_of
 }
 
-/// Debug data. Each call that gives a record reads all of them, the directory and the six records, and is refused as
-/// the first that is: [`Error::UNMAPPED`], [`Error::DEBUG_BOUNDS`], [`Error::DEBUG_SIZE`], [`Error::SHORT`],
-/// [`Error::DEBUG_DATA`], [`Error::POGO_SIZE`]. A record is that of the first entry of its kind.
+/// # Debug data
+///
+/// [`debug_entries`](Self::debug_entries) lists the entries and reads no record. Each of the six methods that return a
+/// record reads all debug data, so what damages one record is an error of all six. A record is that of the first entry of
+/// its type. The six return `None` without a debug directory or such a record, and share their errors:
+///
+/// - the directory: [`Error::UNMAPPED`]; in strict mode [`Error::DEBUG_BOUNDS`];
+/// - PDB 7.0, then PDB 2.0: in strict mode [`Error::DEBUG_SIZE`]; [`Error::SHORT`], [`Error::DEBUG_DATA`];
+/// - VC features, then characteristics: [`Error::SHORT`];
+/// - Repro: [`Error::SHORT`], [`Error::DEBUG_DATA`];
+/// - POGO: [`Error::SHORT`], [`Error::POGO_SIZE`], [`Error::DEBUG_DATA`].
 impl<'a> Image<'a> {
-    /// The entries of the debug directory, whose records are not read. None without a directory. [`Error::UNMAPPED`],
-    /// [`Error::DEBUG_BOUNDS`].
+    /// The entries of the debug directory, or `None` without a directory.
+    ///
+    /// # Errors
+    ///
+    /// [`Error::UNMAPPED`]; in strict mode [`Error::DEBUG_BOUNDS`].
     pub fn debug_entries(&self) -> Result<Option<DebugEntries<'a>>, Error> {
         let entries = self.ask(sys::pe_c_debug_entries)?;
         Ok(entries.map(|entries| DebugEntries(Walk::new(self.bytes(), entries))))
     }
 
-    /// The key by which a symbol server files the image's symbols: its record of PDB 7.0.
+    /// The key by which a symbol server files the image's PDB: the CodeView record, if it is one of PDB 7.0.
+    ///
+    /// # Errors
+    ///
+    /// Those of [debug data](#debug-data).
     pub fn symbol_key(&self) -> Result<Option<SymbolKey<'a>>, Error> {
         let Some(key) = self.ask(sys::pe_c_symbol_key)? else {
             return Ok(None);
@@ -131,7 +179,11 @@ impl<'a> Image<'a> {
         Ok(Some(SymbolKey { guid: key.guid, age: key.age, name_bytes }))
     }
 
-    /// The record of PDB 2.0.
+    /// The CodeView record, if it is one of PDB 2.0.
+    ///
+    /// # Errors
+    ///
+    /// Those of [debug data](#debug-data).
     pub fn pdb20(&self) -> Result<Option<Pdb20<'a>>, Error> {
         let Some(record) = self.ask(sys::pe_c_debug_pdb20)? else {
             return Ok(None);
@@ -142,16 +194,28 @@ impl<'a> Image<'a> {
     }
 
     /// The record of VC features.
+    ///
+    /// # Errors
+    ///
+    /// Those of [debug data](#debug-data).
     pub fn vc_features(&self) -> Result<Option<VcFeatures>, Error> {
         self.ask(sys::pe_c_debug_vc_features)
     }
 
-    /// The flags of the record of further characteristics.
+    /// The extended DLL characteristics: `IMAGE_DLLCHARACTERISTICS_EX_` flags.
+    ///
+    /// # Errors
+    ///
+    /// Those of [debug data](#debug-data).
     pub fn debug_characteristics(&self) -> Result<Option<u32>, Error> {
         self.ask(sys::pe_c_debug_characteristics)
     }
 
     /// The Repro record.
+    ///
+    /// # Errors
+    ///
+    /// Those of [debug data](#debug-data).
     pub fn repro(&self) -> Result<Option<Repro<'a>>, Error> {
         let Some(record) = self.ask(sys::pe_c_debug_repro)? else {
             return Ok(None);
@@ -162,7 +226,11 @@ impl<'a> Image<'a> {
         Ok(Some(Repro::Hash(bytes_of(record.hash, self.bytes())?)))
     }
 
-    /// The POGO record.
+    /// The POGO record, if it has one of the two signatures.
+    ///
+    /// # Errors
+    ///
+    /// Those of [debug data](#debug-data).
     pub fn pogo(&self) -> Result<Option<Pogo<'a>>, Error> {
         let Some(record) = self.ask(sys::pe_c_debug_pogo)? else {
             return Ok(None);

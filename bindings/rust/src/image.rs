@@ -1,17 +1,25 @@
-//! Images, modes and errors, and how calls are made.
+//! An image: its headers and sections, the mode in which it is read, and errors.
+//!
+//! An image starts with the DOS header, whose last field is the file offset of the PE header. That has the COFF header,
+//! the optional header with the data directories, and the section headers, which map RVAs to file offsets. The layouts are
+//! those of Microsoft's [PE Format](https://learn.microsoft.com/windows/win32/debug/pe-format). All calls of the library
+//! are made here and in `walk`.
 
 use crate::sys::{self, ImageInfo, Section};
 use alloc::vec::Vec;
 use core::fmt;
 
-/// What becomes of a damaged header or directory.
+/// How damaged headers and directories are read.
 #[derive(Clone, Copy, Debug, PartialEq, Eq, Hash)]
 pub enum Mode {
-    /// It is refused.
+    /// They are errors.
     Strict,
-    /// Headers may overlap the DOS header; a debug directory may pass the end of the bytes, and is cut there; a CodeView
-    /// record that is too small, resource data that are too short for a directory, and resource entries that are not all
-    /// in the data count as absent.
+    /// These are accepted:
+    /// - a PE header that overlaps the DOS header;
+    /// - a debug directory that ends past the end of the file: it is truncated there;
+    /// - a CodeView record that is too small: it counts as absent;
+    /// - resource data too short for a directory, and resource entries that are not all inside the data: they count as
+    ///   absent.
     Permissive,
 }
 
@@ -24,16 +32,15 @@ impl Mode {
     }
 }
 
-/// Why a call refuses, by the library's number, which stays the same from version to version. Its text is the
-/// library's.
+/// An error, by the library's number, which is stable. `Display` writes the library's text, `Debug` the constant's name.
 ///
 /// ```
 /// use pe_c::{Error, Image, Mode};
 ///
-/// let refusal = Image::parse(b"MZ", Mode::Strict).unwrap_err();
-/// assert_eq!(refusal, Error::SHORT);
-/// assert_eq!(refusal.number(), 2);
-/// println!("{refusal}");
+/// let error = Image::parse(b"MZ", Mode::Strict).unwrap_err();
+/// assert_eq!(error, Error::SHORT);
+/// assert_eq!(error.number(), 2);
+/// assert_eq!(error.to_string(), "truncated");
 /// ```
 #[derive(Clone, Copy, PartialEq, Eq, Hash)]
 pub struct Error(u32);
@@ -43,7 +50,7 @@ macro_rules! errors {
         impl Error {
             $($(#[$doc])* pub const $name: Error = Error($number);)*
 
-            /// The name of the constant. None for a number that has none here.
+            /// The name of the constant, or `None` for a number without one.
             pub const fn name(self) -> Option<&'static str> {
                 match self.0 {
                     $($number => Some(stringify!($name)),)*
@@ -117,7 +124,7 @@ errors! {
 }
 
 impl Error {
-    /// The number, as in `pe.h`.
+    /// The number: that of the constant `PE_C_` in `pe.h`.
     pub const fn number(self) -> u32 {
         self.0
     }
@@ -144,7 +151,7 @@ impl fmt::Display for Error {
 
 impl core::error::Error for Error {}
 
-/// An answer by its number.
+/// The result of a call, by the number that it returned.
 pub(crate) fn answer<T>(number: u32, value: T) -> Result<Option<T>, Error> {
     match number {
         sys::DONE => Ok(Some(value)),
@@ -153,24 +160,37 @@ pub(crate) fn answer<T>(number: u32, value: T) -> Result<Option<T>, Error> {
     }
 }
 
-/// The bytes of a range that the library gave. They are always there.
+/// The bytes of a range that the library returned. They are always there; `SHORT` stands in for a panic.
 pub(crate) fn bytes_of(range: sys::Range, bytes: &[u8]) -> Result<&[u8], Error> {
     range.of(bytes).ok_or(Error::SHORT)
 }
 
-/// The bytes up to the first zero.
+/// The bytes up to the first zero, or all of them.
 pub(crate) fn up_to_zero(bytes: &[u8]) -> &[u8] {
     bytes.split(|byte| *byte == 0).next().unwrap_or_default()
 }
 
 impl Section {
-    /// The name, without the zeros behind it.
+    /// The name, without its padding.
     pub fn name(&self) -> &[u8] {
         up_to_zero(&self.name)
     }
 }
 
-/// An image: its bytes, its headers and its sections.
+/// A PE image: the bytes of its file, its headers and its sections.
+///
+/// ```
+/// # let bytes: &[u8] = include_bytes!(concat!(env!("CARGO_MANIFEST_DIR"), "/../../crates/peinfo/data/i.bin"));
+/// use pe_c::{Image, Mode};
+///
+/// let image = Image::parse(bytes, Mode::Strict)?;
+/// assert_eq!(image.info().machine, 0x8664); // IMAGE_FILE_MACHINE_AMD64
+/// assert_eq!(image.info().width, 64); // PE32+
+/// let section = &image.sections()[0];
+/// assert_eq!((section.name(), section.virtual_address), (b".rdata".as_slice(), 0x1000));
+/// assert_eq!(image.place(0x1040), Some(0x240));
+/// # Ok::<(), pe_c::Error>(())
+/// ```
 #[derive(Clone)]
 pub struct Image<'a> {
     bytes: &'a [u8],
@@ -189,20 +209,26 @@ impl fmt::Debug for Image<'_> {
     }
 }
 
-/// A call of an image.
+/// A call that takes an image.
 type Call<T> = unsafe extern "C" fn(*const u8, usize, *const ImageInfo, *const Section, usize, u32, *mut T) -> u32;
-/// A call of an image that takes one thing more.
+/// A call that takes an image and one more argument.
 type CallWith<M, T> =
     unsafe extern "C" fn(*const u8, usize, *const ImageInfo, *const Section, usize, u32, M, *mut T) -> u32;
 
-// SAFETY of all calls here: they are the declarations of `sys`, which fit the exports. Each pointer and length are
-// those of one borrow that lives over the call; what is lent to be written overlaps nothing, and is initialised. The
-// library has no other premise, and all that it writes are numbers.
+// SAFETY of all calls here: they are the declarations of `sys`, which match the archive. Each pointer and length are
+// those of one borrow that outlives the call; what the call writes overlaps no other argument, and is initialised. The
+// library requires nothing else, and all that it writes are integers.
 
 impl<'a> Image<'a> {
-    /// Reads the headers and the section headers: [`SHORT`](Error::SHORT), [`BAD_MAGIC`](Error::BAD_MAGIC), and in
-    /// strict mode [`HEADER_POINTER`](Error::HEADER_POINTER). [`MEMORY`](Error::MEMORY) where there is none for the
-    /// section headers.
+    /// Reads the headers and the section headers.
+    ///
+    /// # Errors
+    ///
+    /// - [`Error::SHORT`], [`Error::BAD_MAGIC`] of the DOS header; in strict mode [`Error::HEADER_POINTER`];
+    /// - [`Error::SHORT`], [`Error::BAD_MAGIC`] of the PE signature; [`Error::SHORT`] of the COFF header;
+    /// - [`Error::SHORT`], [`Error::BAD_MAGIC`] of the optional header; [`Error::SHORT`] of its fields and directories;
+    /// - [`Error::MEMORY`] where the section headers cannot be allocated, at most 65,535 of 40 bytes;
+    /// - [`Error::SHORT`] where they are truncated.
     pub fn parse(bytes: &'a [u8], mode: Mode) -> Result<Self, Error> {
         let mut info = ImageInfo::default();
         // SAFETY: as above.
@@ -222,27 +248,28 @@ impl<'a> Image<'a> {
         Ok(Image { bytes, mode, info, sections })
     }
 
-    /// The bytes that it was read from.
+    /// The bytes of the file.
     pub fn bytes(&self) -> &'a [u8] {
         self.bytes
     }
 
-    /// The mode in which it is read.
+    /// The mode in which the image is read.
     pub fn mode(&self) -> Mode {
         self.mode
     }
 
-    /// What the headers say.
+    /// The headers.
     pub fn info(&self) -> &ImageInfo {
         &self.info
     }
 
-    /// The section headers, in their order.
+    /// The section headers, in the order of the file.
     pub fn sections(&self) -> &[Section] {
         &self.sections
     }
 
-    /// The place of an address in the file, by the first section that covers it. It may be behind the end of the bytes.
+    /// The file offset of an RVA, by the first section that covers it. It may be past the end of the file. `None` where no
+    /// section covers the RVA, or the file alignment is not a power of two.
     pub fn place(&self, rva: u32) -> Option<u64> {
         let mut place = 0;
         // SAFETY: as above.
@@ -252,7 +279,7 @@ impl<'a> Image<'a> {
         (number == sys::DONE).then_some(place)
     }
 
-    /// Makes a call of the image.
+    /// Makes a call that takes the image.
     pub(crate) fn ask<T: Default>(&self, call: Call<T>) -> Result<Option<T>, Error> {
         let mut out = T::default();
         let (bytes, sections) = (self.bytes, &self.sections);
@@ -264,7 +291,7 @@ impl<'a> Image<'a> {
         answer(number, out)
     }
 
-    /// Makes a call that takes something besides: a number, or a pointer that the caller lends for the call.
+    /// Makes a call that takes one more argument: a number, or a pointer to what the caller lends for the call.
     fn call_with<M, T: Default>(&self, call: CallWith<M, T>, more: M) -> Result<Option<T>, Error> {
         let mut out = T::default();
         let (bytes, sections) = (self.bytes, &self.sections);
@@ -276,12 +303,12 @@ impl<'a> Image<'a> {
         answer(number, out)
     }
 
-    /// Makes a call that takes a number besides.
+    /// Makes a call that takes a number too.
     pub(crate) fn ask_with<T: Default>(&self, call: CallWith<u32, T>, more: u32) -> Result<Option<T>, Error> {
         self.call_with(call, more)
     }
 
-    /// Makes a call that takes a record besides.
+    /// Makes a call that takes a record too.
     pub(crate) fn ask_of<M, T: Default>(&self, call: CallWith<*const M, T>, more: &M) -> Result<Option<T>, Error> {
         self.call_with(call, more)
     }

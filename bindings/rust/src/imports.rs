@@ -1,33 +1,58 @@
-//! Imports: the libraries that an image imports from, and what it imports from each.
+//! The import directory has a record of 20 bytes for each DLL, which leads to the DLL's name and to its list of imports,
+//! by name or by ordinal. The loader writes the virtual address of each import to a slot of the DLL's address table. See
+//! [Microsoft's page](https://learn.microsoft.com/windows/win32/debug/pe-format#the-idata-section).
 
 use crate::image::{bytes_of, Error, Image};
 use crate::sys;
 use crate::walk::ImageWalk;
 use core::iter::FusedIterator;
 
-/// A library that an image imports from.
+/// A DLL that an image imports from.
 #[derive(Clone, Copy, Debug)]
 pub struct Library<'i, 'a> {
     image: &'i Image<'a>,
-    /// Its name, in UTF-8.
+    /// The DLL's name: UTF-8, without its final zero.
     pub name: &'a [u8],
     raw: sys::Library,
 }
 
 impl<'i, 'a> Library<'i, 'a> {
-    /// The record as the library gives it.
+    /// The record of the C library, with the RVAs of the lookup and address tables.
     pub fn raw(&self) -> &sys::Library {
         &self.raw
     }
 
-    /// Its imports.
+    /// The imports from this DLL.
     pub fn imports(&self) -> Imports<'i, 'a> {
         Imports(ImageWalk::new(self.image, self.raw.imports))
     }
 }
 
-/// The libraries of an image's import directory, in their order. The last may be [`SHORT`](Error::SHORT),
-/// [`UNMAPPED`](Error::UNMAPPED) or [`IMPORT_NAME`](Error::IMPORT_NAME).
+/// The DLLs that an image imports from, in the order of the import directory.
+///
+/// The directory ends at a record whose name or address table has the RVA 0. A list whose RVA is unmapped is empty.
+///
+/// The last item may be an error: [`Error::SHORT`] where the record is truncated; [`Error::UNMAPPED`],
+/// [`Error::IMPORT_NAME`] of the name; [`Error::SHORT`] where no zero entry ends the list.
+///
+/// ```
+/// # #[path = "../tests/made/mod.rs"] mod made;
+/// # let bytes = made::with_imports();
+/// use pe_c::{Image, Mode};
+///
+/// let image = Image::parse(&bytes, Mode::Permissive)?;
+/// let mut found = Vec::new();
+/// for library in image.libraries()?.into_iter().flatten() {
+///     let library = library?;
+///     for import in library.imports() {
+///         found.push((library.name, import?.name));
+///     }
+/// }
+/// let kernel32 = b"KERNEL32.dll".as_slice();
+/// assert_eq!(found[0], (kernel32, Some(b"Sleep".as_slice())));
+/// assert_eq!(found[1], (kernel32, None)); // by ordinal
+/// # Ok::<(), pe_c::Error>(())
+/// ```
 #[derive(Clone, Debug)]
 pub struct Libraries<'i, 'a>(ImageWalk<'i, 'a, sys::Libraries>);
 
@@ -46,19 +71,21 @@ impl<'i, 'a> Iterator for Libraries<'i, 'a> {
 
 impl FusedIterator for Libraries<'_, '_> {}
 
-/// An import.
+/// An import, by name or by ordinal.
 #[derive(Clone, Copy, Debug, PartialEq, Eq)]
 pub struct Import<'a> {
-    /// Its name, in UTF-8. None for an import by its ordinal.
+    /// UTF-8, without its final zero; `None` for an import by ordinal.
     pub name: Option<&'a [u8]>,
-    /// The ordinal, or the hint of the name.
+    /// The ordinal; with a name its hint, an index into the DLL's table of names.
     pub ordinal: u32,
-    /// Where the loader puts its address.
+    /// RVA of the slot to which the loader writes the import's virtual address.
     pub rva: u64,
 }
 
-/// The imports of a library, in their order. The last may be [`UNMAPPED`](Error::UNMAPPED), [`SHORT`](Error::SHORT) or
-/// [`IMPORT_NAME`](Error::IMPORT_NAME).
+/// The imports of a library, in the order of its list.
+///
+/// The last item may be an error: [`Error::UNMAPPED`] of the RVA in the entry; [`Error::SHORT`] of the hint there;
+/// [`Error::IMPORT_NAME`] of the name. [`Libraries`] has an example.
 #[derive(Clone, Debug)]
 pub struct Imports<'i, 'a>(ImageWalk<'i, 'a, sys::Imports>);
 
@@ -78,22 +105,11 @@ impl<'a> Iterator for Imports<'_, 'a> {
 impl FusedIterator for Imports<'_, '_> {}
 
 impl<'a> Image<'a> {
-    /// The libraries that it imports from, each with its imports. None without an import directory.
+    /// The DLLs that the image imports from, each with its imports, or `None` without an import directory.
+    ///
+    /// # Errors
+    ///
     /// [`Error::UNMAPPED`].
-    ///
-    /// ```
-    /// # let bytes: &[u8] = include_bytes!(concat!(env!("CARGO_MANIFEST_DIR"), "/../../crates/peinfo/data/i.bin"));
-    /// use pe_c::{Image, Mode};
-    ///
-    /// let image = Image::parse(bytes, Mode::Strict)?;
-    /// for library in image.libraries()?.into_iter().flatten() {
-    ///     let library = library?;
-    ///     for import in library.imports() {
-    ///         println!("{} {:?}", library.name.escape_ascii(), import?.name);
-    ///     }
-    /// }
-    /// # Ok::<(), pe_c::Error>(())
-    /// ```
     pub fn libraries(&self) -> Result<Option<Libraries<'_, 'a>>, Error> {
         let walk = self.ask(sys::pe_c_import_libraries)?;
         Ok(walk.map(|walk| Libraries(ImageWalk::new(self, walk))))

@@ -1,9 +1,34 @@
-//! Reading Windows executables by a proved library: headers, debug data, certificates, x64 and ARM64 unwind data,
-//! exports, imports, version information and manifest.
+//! Reads PE images (Windows .exe and .dll files) by a proved library: headers, debug data, certificates, x64 and ARM64
+//! unwind data, exports, imports, version information and the manifest.
 //!
-//! [`Image`] borrows the bytes that it was read from, and names, bodies and texts are slices of these bytes: they
-//! outlive the `Image`. Every walk is an iterator. No byte string makes a call panic or run for ever, and no call but
-//! [`Image::parse`], which keeps the section headers in a vector, and [`Text::to_string_lossy`] asks for memory.
+//! The library is proved to return what its definitions say, for every byte string; this crate is a thin safe layer over
+//! it, and is tested. Start with [`Image::parse`]; each part of an image is a method of [`Image`]:
+//!
+//! | part | methods | layout |
+//! |---|---|---|
+//! | headers, sections | [`info`](Image::info), [`sections`](Image::sections), [`place`](Image::place) | [PE Format] |
+//! | debug data | [`symbol_key`](Image::symbol_key), [`debug_entries`](Image::debug_entries), [`pogo`](Image::pogo), .. | [debug section] |
+//! | certificates | [`certificates`](Image::certificates) | [certificate table] |
+//! | unwind data | [`functions`](Image::functions), [`arm64_functions`](Image::arm64_functions) | [x64], [ARM64] |
+//! | exports, imports | [`exports`](Image::exports), [`libraries`](Image::libraries) | [.edata], [.idata] |
+//! | resources | [`version`](Image::version), [`version_text`](Image::version_text), [`manifest`](Image::manifest) | [version information] |
+//!
+//! [PE Format]: https://learn.microsoft.com/windows/win32/debug/pe-format
+//! [debug section]: https://learn.microsoft.com/windows/win32/debug/pe-format#the-debug-section
+//! [certificate table]: https://learn.microsoft.com/windows/win32/debug/pe-format#the-attribute-certificate-table-image-only
+//! [x64]: https://learn.microsoft.com/cpp/build/exception-handling-x64
+//! [ARM64]: https://learn.microsoft.com/cpp/build/arm64-exception-handling
+//! [.edata]: https://learn.microsoft.com/windows/win32/debug/pe-format#the-edata-section-image-only
+//! [.idata]: https://learn.microsoft.com/windows/win32/debug/pe-format#the-idata-section
+//! [version information]: https://learn.microsoft.com/windows/win32/menurc/vs-versioninfo
+//!
+//! - An `Image` borrows the bytes of the file. Names, bodies and texts are slices of these bytes: they outlive the `Image`.
+//! - A directory that is absent is `Ok(None)`; a damaged one is an [`Error`]. An error in one part does not affect another.
+//! - Every list is an iterator. After an `Err` item it returns `None`.
+//! - No bytes make a call panic or loop forever. Only [`Image::parse`], for the section headers, and
+//!   [`Text::to_string_lossy`] allocate.
+//! - A `place` is a file offset in bytes. An RVA counts from the start of the image in memory.
+//! - The docs of a call list its errors in the order in which they are tested.
 //!
 //! ```
 //! # let bytes: &[u8] = include_bytes!(concat!(env!("CARGO_MANIFEST_DIR"), "/../../crates/peinfo/data/i.bin"));
@@ -12,7 +37,7 @@
 //! let image = Image::parse(bytes, Mode::Strict)?;
 //! assert_eq!(image.info().entry, 0x1000);
 //! let functions = image.functions()?.expect("an x64 image with exception data");
-//! let found = functions.find(0x1025)?.expect("a function covers the address");
+//! let found = functions.find(0x1025)?.expect("a function covers the RVA");
 //! assert_eq!((found.begin, found.end), (0x1020, 0x1040));
 //! for record in functions.plan(found) {
 //!     for code in record?.codes() {
@@ -22,9 +47,12 @@
 //! # Ok::<(), pe_c::Error>(())
 //! ```
 //!
-//! The library is `libpe_c.a`, for Linux on x86-64 with SSE4.2 and POPCNT. `build.rs` says where it is looked for.
+//! The library is `libpe_c.a`, for Linux on x86-64 with SSE4.2 and POPCNT. `build.rs` takes it from the folder that
+//! `PE_C_FOLDER` names; without that variable from `crates/pe_c/out` of the repository, else from where pkg-config finds
+//! `pe_c`.
 #![no_std]
-#![warn(missing_docs, unsafe_op_in_unsafe_fn)]
+#![deny(missing_docs)]
+#![warn(unsafe_op_in_unsafe_fn)]
 
 extern crate alloc;
 
@@ -34,7 +62,6 @@ mod debug;
 mod exports;
 mod image;
 mod imports;
-#[allow(missing_docs)]
 pub mod sys;
 mod version;
 mod walk;

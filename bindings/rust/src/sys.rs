@@ -1,12 +1,15 @@
-//! The calls and records as `pe.h` declares them, for those who want no allocation at all. What each call gives and
-//! answers, and what its caller owes, is told there.
+//! The calls and records of `pe.h`, for callers that want no allocation at all.
 //!
-//! `tools/bindings` compares the names and the counts of parameters with the header and the archive, and the sizes of
-//! the records stand below.
+//! `pe.h` has their contracts: what each call returns, its errors in order, and what its caller owes. In short: every
+//! pointer is valid for its type and its length, `out`, walks and `room` overlap no other argument, and every value of
+//! every field is legal. A call returns [`DONE`] and fills `out`, or another number and leaves it unchanged; the numbers
+//! of errors are those of [`Error`](crate::Error).
+//!
+//! `tools/bindings` compares the names, the parameters and the fields with the header and the archive.
 
-/// The call was answered.
+/// The call succeeded.
 pub const DONE: u32 = 0;
-/// There is nothing of the kind, or the walk is at its end.
+/// There is nothing of the kind, or the walk is over.
 pub const NOTHING: u32 = 100;
 
 macro_rules! record {
@@ -20,209 +23,472 @@ macro_rules! record {
 }
 
 record!(
-    /// A range of the bytes.
-    Range, 16 { place: u64, length: u64 });
+/// A range of the bytes of the file. As a walk over entries of one size, it is what is left.
+Range, 16 {
+    /// File offset.
+    place: u64,
+    /// In bytes.
+    length: u64,
+});
 record!(
-    /// Where a directory is. Both are 0 where it is absent.
-    Directory, 8 { virtual_address: u32, size: u32 });
+/// A data directory. Both fields are 0 where it is absent.
+Directory, 8 {
+    /// RVA; of the certificate table a file offset.
+    virtual_address: u32,
+    /// In bytes.
+    size: u32,
+});
 record!(
-/// What the headers say of all of an image. Without an optional header its numbers are 0, and its directories absent.
+/// The headers of an image. Without an optional header the numbers that it has are 0, and its directories are absent.
 ImageInfo, 80 {
-    /// The preferred address of the first byte in memory.
+    /// `ImageBase`: the preferred virtual address of the image. Add RVAs to it.
     base: u64,
-    /// Where the section headers stand.
+    /// File offset of the section headers.
     sections_place: u64,
-    /// The address of the entry point.
+    /// RVA of the entry point.
     entry: u32,
+    /// In bytes. If it is not a power of two, no RVA is mapped.
     file_alignment: u32,
+    /// The export directory.
     exports: Directory,
+    /// The import directory.
     imports: Directory,
+    /// The resource directory.
     resources: Directory,
+    /// The exception directory: the function table.
     exceptions: Directory,
-    /// Its address is a place in the file.
+    /// The certificate table. Its `virtual_address` is a file offset, not an RVA.
     certificates: Directory,
+    /// The debug directory.
     debug: Directory,
-    /// 0x8664 for x64, 0xAA64 for ARM64, 0x14C for x86.
+    /// `IMAGE_FILE_MACHINE_AMD64` 0x8664, `_ARM64` 0xAA64, `_I386` 0x14C, or another.
     machine: u16,
-    /// 32, 64, or 0 without an optional header.
+    /// 64 for PE32+, 32 for PE32, 0 without an optional header.
     width: u16,
+    /// The number of section headers.
     number_of_sections: u16,
+    /// 0.
     spare: u16,
 });
 record!(
-/// A section header.
+/// A section header, `IMAGE_SECTION_HEADER`.
 Section, 40 {
-    /// With zeros behind it, none where it has eight bytes.
+    /// Padded with zeros; a name of 8 bytes is not NUL-terminated. [`Section::name`] is without the zeros.
     name: [u8; 8],
+    /// Bytes in memory.
     virtual_size: u32,
+    /// RVA of its first byte.
     virtual_address: u32,
+    /// Bytes in the file.
     size_of_raw_data: u32,
+    /// File offset of its first byte.
     pointer_to_raw_data: u32,
+    /// File offset; 0 in images.
     pointer_to_relocations: u32,
+    /// File offset, or 0.
     pointer_to_linenumbers: u32,
+    /// 0 in images.
     number_of_relocations: u16,
+    /// The number of COFF line numbers.
     number_of_linenumbers: u16,
+    /// `IMAGE_SCN_` flags.
     characteristics: u32,
 });
 record!(
-/// An entry of the debug directory.
+/// An entry of the debug directory, `IMAGE_DEBUG_DIRECTORY`.
 DebugEntry, 28 {
+    /// Reserved.
     characteristics: u32,
+    /// Seconds since 1970, or a hash in a reproducible build.
     time_date_stamp: u32,
+    /// Of the record's format.
     major_version: u16,
+    /// Of the record's format.
     minor_version: u16,
-    /// 2 CodeView, 12 VC features, 13 POGO, 16 Repro, 20 characteristics.
+    /// `IMAGE_DEBUG_TYPE_CODEVIEW` 2, `_VC_FEATURE` 12, `_POGO` 13, `_REPRO` 16, `_EX_DLLCHARACTERISTICS` 20, or another.
     data_type: u32,
+    /// Bytes of the record.
     size_of_data: u32,
+    /// RVA of the record, or 0.
     address_of_raw_data: u32,
+    /// File offset of the record, where the library reads it.
     pointer_to_raw_data: u32,
 });
 record!(
-    /// A record of PDB 7.0.
-    Key, 40 { guid: [u8; 16], age: u32, spare: u32, name: Range });
-record!(
-    /// A record of PDB 2.0.
-    Pdb20, 32 { name: Range, offset: u32, signature: u32, age: u32, spare: u32 });
-record!(
-/// A record of VC features.
-VcFeatures, 20 {
-    pre_vc_plusplus_count: u32,
-    c_and_cplusplus_count: u32,
-    guard_stack_count: u32,
-    sdl_count: u32,
-    guard_count: u32,
-});
-record!(
-    /// A Repro record.
-    Repro, 24 { hash: Range, has_hash: u32, spare: u32 });
-record!(
-    /// A POGO record.
-    Pogo, 24 { entries: Range, signature: u32, spare: u32 });
-record!(
-    /// An entry of a POGO record.
-    PogoEntry, 24 { name: Range, rva: u32, size: u32 });
-record!(
-    /// An attribute certificate.
-    Certificate, 24 { body: Range, length: u32, revision: u16, kind: u16 });
-record!(
-/// The addresses that an x64 function covers, and where its unwind record is.
-Function, 12 {
-    begin: u32,
-    /// Behind the last address.
-    end: u32,
-    /// The address of its unwind record, or, plus one, of the entry that it links to.
-    unwind: u32,
-});
-record!(
-    /// A walk over unwind codes.
-    Walk, 24 { left: Range, version: u8, frame_register: u8, spare: [u8; 6] });
-record!(
-/// An unwind record.
-Record, 72 {
-    codes: Walk,
-    handler_data: Range,
-    handler: u32,
-    chained: Function,
-    is_chained: u32,
-    frame_register_offset: u32,
-    size_of_prolog: u8,
-    handler_kind: u8,
-    spare: [u8; 6],
-});
-record!(
-    /// An unwind code.
-    Code, 8 { code_offset: u8, operation: u8, operand: u8, from_frame: u8, value: u32 });
-record!(
-    /// An entry of a scope table: the addresses that are guarded, the handler or filter, and where it goes on.
-    Scope, 16 { begin: u32, end: u32, handler: u32, target: u32 });
-record!(
-    /// A walk over the records from a function to the root of its chain.
-    Plan, 32 { unwind: u32, is_over: u32, saved: u32, spare: u32, steps: u64, limit: u64 });
-record!(
-    /// Where an ARM64 function begins, and its unwind data or their address.
-    Arm64Function, 8 { begin: u32, unwind: u32 });
-record!(
-/// Unwind data that are packed into an entry.
-Arm64Packed, 32 {
-    flag: u32,
-    function_length: u32,
-    frame_size: u32,
-    reg_f: u32,
-    reg_i: u32,
-    h: u32,
-    cr: u32,
-    is_packed: u32,
-});
-record!(
-/// An ARM64 unwind record.
-Arm64Record, 72 {
-    scopes: Range,
-    codes: Range,
-    handler_data: Range,
-    handler: u32,
-    has_handler: u32,
-    function_length: u32,
-    epilog_in_header: u32,
-    epilog_start: u32,
-    version: u32,
-});
-record!(
-    /// An epilog of an ARM64 function: where it begins, in bytes from the function's begin, and the index of its first
-    /// code byte.
-    Arm64Scope, 16 { start_offset: u32, start_index: u32, reserved: u32, word: u32 });
-record!(
-    /// A walk over ARM64 unwind codes.
-    Arm64Walk, 24 { left: Range, offset: u64 });
-record!(
-    /// An ARM64 unwind code.
-    Arm64Code, 24 { offset: u32, length: u32, kind: u32, operand: u32, value: u32, flags: u32 });
-record!(
-    /// A walk over exports.
-    Exports, 56 { names: Range, ordinals: Range, addresses: Range, next: u64 });
-record!(
-    /// An export.
-    Export, 32 { name: Range, place: u64, rva: u32, has_place: u32 });
-record!(
-    /// A walk over the libraries of an import directory.
-    Libraries, 16 { next: u64, is_over: u32, spare: u32 });
-record!(
-    /// A walk over the imports of a library.
-    Imports, 24 { left: Range, rva: u64 });
-record!(
-/// A library that an image imports from.
-Library, 64 {
+/// A CodeView record of PDB 7.0 ("RSDS"). See [`SymbolKey`](crate::SymbolKey).
+Key, 40 {
+    /// As in the file: little-endian u32, u16, u16, then 8 bytes.
+    guid: [u8; 16],
+    /// Grows by one each time the PDB is written.
+    age: u32,
+    /// 0.
+    spare: u32,
+    /// The PDB file's name, up to the end of the record: it ends at the first zero.
     name: Range,
-    imports: Imports,
-    lookup_table_rva: u32,
-    time_date_stamp: u32,
-    forwarder_chain: u32,
-    name_rva: u32,
-    address_table_rva: u32,
+});
+record!(
+/// A CodeView record of PDB 2.0 ("NB10"). See [`Pdb20`](crate::Pdb20).
+Pdb20, 32 {
+    /// The PDB file's name, up to the end of the record: it ends at the first zero.
+    name: Range,
+    /// 0 where the symbols are in a file of their own.
+    offset: u32,
+    /// Time stamp of the PDB, seconds since 1970.
+    signature: u32,
+    /// Grows by one each time the PDB is written.
+    age: u32,
+    /// 0.
     spare: u32,
 });
 record!(
-    /// An import.
-    Import, 32 { name: Range, rva: u64, ordinal: u32, has_name: u32 });
+/// VC features: the counts that `dumpbin /headers` shows, in its words.
+VcFeatures, 20 {
+    /// "Pre-VC++ 11.00".
+    pre_vc_plusplus_count: u32,
+    /// "C/C++".
+    c_and_cplusplus_count: u32,
+    /// "/GS".
+    guard_stack_count: u32,
+    /// "/sdl".
+    sdl_count: u32,
+    /// "guardN".
+    guard_count: u32,
+});
 record!(
-/// The fixed file information.
-Version, 52 {
+/// A Repro record. See [`Repro`](crate::Repro).
+Repro, 24 {
+    /// Empty unless `has_hash`.
+    hash: Range,
+    /// 1 or 0; 0 means that the image's time stamps are a hash.
+    has_hash: u32,
+    /// 0.
+    spare: u32,
+});
+record!(
+/// A POGO record. See [`Pogo`](crate::Pogo).
+Pogo, 24 {
+    /// A walk for [`pe_c_next_pogo_entry`], at its start.
+    entries: Range,
+    /// 0x4C544347 (LTCG) or 0x50475500 (PGU).
     signature: u32,
+    /// 0.
+    spare: u32,
+});
+record!(
+/// An entry of a POGO record.
+PogoEntry, 24 {
+    /// With its final zero.
+    name: Range,
+    /// RVA of the part.
+    rva: u32,
+    /// Bytes of the part.
+    size: u32,
+});
+record!(
+/// An attribute certificate, `WIN_CERTIFICATE`. See [`Certificate`](crate::Certificate).
+Certificate, 24 {
+    /// What follows the header of 8 bytes.
+    body: Range,
+    /// `dwLength`: bytes of header and body.
+    length: u32,
+    /// 0x100 or 0x200.
+    revision: u16,
+    /// `wCertificateType`, 1 to 4.
+    kind: u16,
+});
+record!(
+/// An entry of the x64 function table, `RUNTIME_FUNCTION`.
+Function, 12 {
+    /// RVA of its first byte.
+    begin: u32,
+    /// RVA after its last byte.
+    end: u32,
+    /// RVA of its unwind record. An odd one is a link: the RVA of another entry, plus 1.
+    unwind: u32,
+});
+record!(
+/// A walk over x64 unwind codes.
+Walk, 24 {
+    /// The code bytes that are left, 2 for each slot.
+    left: Range,
+    /// Of the unwind record, 1 or 2.
+    version: u8,
+    /// Its number, as in [`Code::operand`]; 0 without one.
+    frame_register: u8,
+    /// 0.
+    spare: [u8; 6],
+});
+record!(
+/// An x64 unwind record, `UNWIND_INFO`. See [`UnwindRecord`](crate::UnwindRecord).
+Record, 72 {
+    /// A walk for [`pe_c_next_code`], at its start.
+    codes: Walk,
+    /// What follows the handler's RVA, up to the end of the file. Empty without a handler.
+    handler_data: Range,
+    /// RVA of the handler, or 0.
+    handler: u32,
+    /// The function whose record continues this one; 0 unless `is_chained`.
+    chained: Function,
+    /// 1 or 0.
+    is_chained: u32,
+    /// In bytes. Subtract it from the frame register to get the base of saves.
+    frame_register_offset: u32,
+    /// In bytes.
+    size_of_prolog: u8,
+    /// 0 none, 1 exception handler (also with both flags), 2 termination handler.
+    handler_kind: u8,
+    /// 0.
+    spare: [u8; 6],
+});
+record!(
+/// An x64 unwind code, `UNWIND_CODE`. See [`Code`](crate::Code).
+Code, 8 {
+    /// Bytes, from the start of the prolog to the end of the instruction.
+    code_offset: u8,
+    /// 0 to 8, in the order of [`Operation`](crate::Operation).
+    operation: u8,
+    /// A register as [`Register`](crate::Register) numbers it. Of an epilog its flags or the high part of its offset; of a
+    /// machine frame 1 with an error code; else 0.
+    operand: u8,
+    /// 1 where `value` is an [`Offset::Frame`](crate::Offset::Frame), else 0.
+    from_frame: u8,
+    /// In bytes: a size or an offset. Of an epilog its size or the low part of its offset; else 0.
+    value: u32,
+});
+record!(
+/// An entry of the scope table of a C handler: a `__try` block.
+Scope, 16 {
+    /// RVA of the first guarded byte.
+    begin: u32,
+    /// RVA after the last guarded byte.
+    end: u32,
+    /// RVA of the filter or of the `__finally` block. 1 means `EXCEPTION_EXECUTE_HANDLER`.
+    handler: u32,
+    /// RVA of the `__except` block; 0 for `__finally`.
+    target: u32,
+});
+record!(
+/// A walk over the records of a function, up to the root of its chain. It starts with `saved` equal to `unwind`, `limit`
+/// 1, and 0 in the other fields.
+Plan, 32 {
+    /// Unwind RVA of the next record.
+    unwind: u32,
+    /// 1 after the root or an error, else 0.
+    is_over: u32,
+    /// An unwind RVA on the way: if it comes again, the chain never ends.
+    saved: u32,
+    /// 0.
+    spare: u32,
+    /// Records returned since that RVA was saved.
+    steps: u64,
+    /// Records after which another RVA is saved.
+    limit: u64,
+});
+record!(
+/// An entry of the ARM64 function table.
+Arm64Function, 8 {
+    /// RVA of its first byte.
+    begin: u32,
+    /// Packed unwind data, or the RVA of its unwind record: its two lowest bits say which.
+    unwind: u32,
+});
+record!(
+/// Packed unwind data of an ARM64 function. The fields mean nothing unless `is_packed`.
+Arm64Packed, 32 {
+    /// 1 a function, 2 a fragment without prolog and epilog, 3 reserved; 0 where the unwind data is a record.
+    flag: u32,
+    /// In bytes.
+    function_length: u32,
+    /// Bytes of stack that the function allocates.
+    frame_size: u32,
+    /// RegF: 0, or the number of saved registers from d8 on, less 1.
+    reg_f: u32,
+    /// RegI: the number of saved registers from x19 on.
+    reg_i: u32,
+    /// H: 1 where x0 to x7 are stored at the start of the function.
+    h: u32,
+    /// CR: 0 x29 and lr are not saved, 1 lr is, 2 and 3 both are, with 2 signed.
+    cr: u32,
+    /// 1 unless `flag` is 0.
+    is_packed: u32,
+});
+record!(
+/// An ARM64 unwind record. See [`Arm64Record`](crate::Arm64Record).
+Arm64Record, 72 {
+    /// A walk for [`pe_c_next_arm64_scope`], at its start.
+    scopes: Range,
+    /// The code bytes, for [`pe_c_arm64_codes`].
+    codes: Range,
+    /// What follows the handler's RVA, up to the end of the file. Empty without a handler.
+    handler_data: Range,
+    /// RVA of the handler, or 0.
+    handler: u32,
+    /// 1 or 0.
+    has_handler: u32,
+    /// In bytes.
+    function_length: u32,
+    /// 1 where the one epilog has no scope: its codes start at `epilog_start`.
+    epilog_in_header: u32,
+    /// Index of that epilog's first code byte; else 0.
+    epilog_start: u32,
+    /// 0.
+    version: u32,
+});
+record!(
+/// An epilog scope: where an epilog of an ARM64 function is, and where its codes are.
+Arm64Scope, 16 {
+    /// Bytes, from the start of the function to that of the epilog.
+    start_offset: u32,
+    /// Index of the epilog's first code byte. Pass it to [`Arm64Record::codes`](crate::Arm64Record::codes).
+    start_index: u32,
+    /// Bits 18 to 21.
+    reserved: u32,
+    /// The whole entry.
+    word: u32,
+});
+record!(
+/// A walk over ARM64 unwind codes.
+Arm64Walk, 24 {
+    /// The code bytes that are left.
+    left: Range,
+    /// Bytes, from the start of the record's codes to these.
+    offset: u64,
+});
+record!(
+/// An ARM64 unwind code. See [`Arm64Code`](crate::Arm64Code).
+Arm64Code, 24 {
+    /// Bytes, from the start of the record's codes to this one.
+    offset: u32,
+    /// Bytes of the code, 1 to 5.
+    length: u32,
+    /// 0 to 27, in the order of [`Arm64Operation`](crate::Arm64Operation).
+    kind: u32,
+    /// A register, a count, a case or the first operand; else 0.
+    operand: u32,
+    /// Bytes, or the second operand; else 0.
+    value: u32,
+    /// Of `SaveAnyReg`: bit 0 a pair, bit 1 preindexed, bits 2 and 3 the kind of register; else 0.
+    flags: u32,
+});
+record!(
+/// A walk over exports.
+Exports, 56 {
+    /// RVAs of names, 4 bytes each.
+    names: Range,
+    /// For each name the index of its RVA in `addresses`, 2 bytes each.
+    ordinals: Range,
+    /// RVAs of what is exported, 4 bytes each.
+    addresses: Range,
+    /// Index of the next name.
+    next: u64,
+});
+record!(
+/// An export. See [`Export`](crate::Export).
+Export, 32 {
+    /// UTF-8, without its final zero.
+    name: Range,
+    /// File offset of the RVA; 0 unless `has_place`.
+    place: u64,
+    /// RVA of what is exported.
+    rva: u32,
+    /// 1 where the RVA is mapped, else 0.
+    has_place: u32,
+});
+record!(
+/// A walk over the libraries of an import directory.
+Libraries, 16 {
+    /// File offset of the next record.
+    next: u64,
+    /// 1 after the last library or an error, else 0.
+    is_over: u32,
+    /// 0.
+    spare: u32,
+});
+record!(
+/// A walk over the imports of a library.
+Imports, 24 {
+    /// The entries of the list that are left: 8 bytes each in PE32+, else 4.
+    left: Range,
+    /// RVA of the next import's slot in the address table.
+    rva: u64,
+});
+record!(
+/// A DLL that an image imports from, `IMAGE_IMPORT_DESCRIPTOR`. See [`Library`](crate::Library).
+Library, 64 {
+    /// UTF-8, without its final zero.
+    name: Range,
+    /// A walk for [`pe_c_next_import`], at its start.
+    imports: Imports,
+    /// RVA of the list of imports. Where it is 0, the list is the address table.
+    lookup_table_rva: u32,
+    /// 0, or not 0 where the imports are bound.
+    time_date_stamp: u32,
+    /// Index of the first forwarder, or -1.
+    forwarder_chain: u32,
+    /// RVA of the DLL's name.
+    name_rva: u32,
+    /// RVA of the slots that the loader fills.
+    address_table_rva: u32,
+    /// 0.
+    spare: u32,
+});
+record!(
+/// An import. See [`Import`](crate::Import).
+Import, 32 {
+    /// UTF-8, without its final zero; empty unless `has_name`.
+    name: Range,
+    /// RVA of the slot that the loader fills.
+    rva: u64,
+    /// The ordinal; with a name its hint.
+    ordinal: u32,
+    /// 1 or 0.
+    has_name: u32,
+});
+record!(
+/// The fixed file information, `VS_FIXEDFILEINFO`: versions, file type and flags as numbers.
+///
+/// ```
+/// # #[path = "../tests/made/mod.rs"] mod made;
+/// # let bytes = made::with_resources();
+/// use pe_c::{Image, Mode};
+///
+/// let image = Image::parse(&bytes, Mode::Permissive)?;
+/// let version = image.version()?.expect("the image has version information");
+/// assert_eq!(version.file_version(), [3, 11, 3150, 1013]);
+/// assert_eq!(version.product_version(), [1, 2, 3, 4]);
+/// # Ok::<(), pe_c::Error>(())
+/// ```
+Version, 52 {
+    /// 0xFEEF04BD.
+    signature: u32,
+    /// Of this record: major in the high 16 bits, minor in the low.
     struct_version: u32,
+    /// High half of the file's version: 1.2.3.4 is 0x00010002 and 0x00030004.
     file_version_ms: u32,
+    /// Low half of the file's version.
     file_version_ls: u32,
+    /// High half of the product's version.
     product_version_ms: u32,
+    /// Low half of the product's version.
     product_version_ls: u32,
+    /// Which bits of `file_flags` are valid.
     file_flags_mask: u32,
+    /// `VS_FF_` flags.
     file_flags: u32,
+    /// `VOS_`: the operating system that the file is for.
     file_os: u32,
+    /// `VFT_`: 1 application, 2 DLL, 3 driver.
     file_type: u32,
+    /// `VFT2_`: which driver or font.
     file_subtype: u32,
+    /// High half of a `FILETIME`, mostly 0.
     file_date_ms: u32,
+    /// Low half of it.
     file_date_ls: u32,
 });
 
 impl Range {
-    /// The bytes of a range, if it lies in them.
+    /// The bytes of a range, or `None` if they are not all there.
     pub fn of<'a>(&self, bytes: &'a [u8]) -> Option<&'a [u8]> {
         let place = usize::try_from(self.place).ok()?;
         let length = usize::try_from(self.length).ok()?;
@@ -230,11 +496,11 @@ impl Range {
     }
 }
 
-/// Declares calls that take an image first, after their names more parameters, and give a record.
+/// Declares calls that take an image first, after their names more parameters, and then `out`.
 macro_rules! calls_of_an_image {
-    ($($name:ident($($more:ident: $type:ty),*) -> $out:ty;)*) => {
+    ($($(#[$doc:meta])* $name:ident($($more:ident: $type:ty),*) -> $out:ty;)*) => {
         extern "C" {
-            $(pub fn $name(
+            $($(#[$doc])* pub fn $name(
                 bytes: *const u8, length: usize, image: *const ImageInfo, sections: *const Section, count: usize,
                 mode: u32, $($more: $type,)* out: *mut $out,
             ) -> u32;)*
@@ -242,17 +508,19 @@ macro_rules! calls_of_an_image {
     };
 }
 
-/// Declares calls that take the bytes first, then more parameters, and give a record.
+/// Declares calls that take the bytes first, then more parameters, and then `out`.
 macro_rules! calls_of_bytes {
-    ($($name:ident($($more:ident: $type:ty),*) -> $out:ty;)*) => {
+    ($($(#[$doc:meta])* $name:ident($($more:ident: $type:ty),*) -> $out:ty;)*) => {
         extern "C" {
-            $(pub fn $name(bytes: *const u8, length: usize, $($more: $type,)* out: *mut $out) -> u32;)*
+            $($(#[$doc])* pub fn $name(bytes: *const u8, length: usize, $($more: $type,)* out: *mut $out) -> u32;)*
         }
     };
 }
 
 extern "C" {
+    /// Writes the text of a result to the start of the array, truncated at its end. Returns the length of the whole text.
     pub fn pe_c_text(answer: u32, room: *mut u8, length: usize) -> usize;
+    /// Writes the section headers to the start of an array.
     pub fn pe_c_sections(
         bytes: *const u8,
         length: usize,
@@ -260,45 +528,80 @@ extern "C" {
         room: *mut Section,
         entries: usize,
     ) -> u32;
+    /// Returns the file offset of an RVA.
     pub fn pe_c_place(sections: *const Section, count: usize, file_alignment: u32, rva: u32, out: *mut u64) -> u32;
+    /// Returns the fields of packed unwind data.
     pub fn pe_c_arm64_packed_fields(function: *const Arm64Function, out: *mut Arm64Packed) -> u32;
 }
 
 calls_of_bytes! {
+    /// Reads the headers of an image.
     pe_c_image(mode: u32) -> ImageInfo;
+    /// Returns the next entry of the debug directory.
     pe_c_next_debug_entry(walk: *mut Range) -> DebugEntry;
+    /// Returns the next entry of a POGO record.
     pe_c_next_pogo_entry(walk: *mut Range) -> PogoEntry;
+    /// Returns the next certificate of the certificate table.
     pe_c_next_certificate(walk: *mut Range) -> Certificate;
+    /// Returns the x64 function that covers an RVA.
     pe_c_find_function(table: *const Range, rva: u32) -> Function;
+    /// Returns the x64 function with an index.
     pe_c_function_at(table: *const Range, index: u64) -> Function;
+    /// Returns the next code of an x64 unwind record.
     pe_c_next_code(walk: *mut Walk) -> Code;
+    /// Returns the scope table in the data of a C handler, as a walk.
     pe_c_scope_table(handler_data: *const Range) -> Range;
+    /// Returns the next entry of a scope table.
     pe_c_next_scope(walk: *mut Range) -> Scope;
+    /// Returns the ARM64 function with an index.
     pe_c_arm64_function_at(table: *const Range, index: u64) -> Arm64Function;
+    /// Returns the next epilog scope of an ARM64 unwind record.
     pe_c_next_arm64_scope(walk: *mut Range) -> Arm64Scope;
+    /// Returns a walk over ARM64 unwind codes, from the code byte with the index `start`.
     pe_c_arm64_codes(codes: *const Range, start: u64) -> Arm64Walk;
+    /// Returns the next ARM64 unwind code.
     pe_c_next_arm64_code(walk: *mut Arm64Walk) -> Arm64Code;
 }
 
 calls_of_an_image! {
+    /// Returns the entries of the debug directory, as a walk.
     pe_c_debug_entries() -> Range;
+    /// Returns the CodeView record, if it is one of PDB 7.0.
     pe_c_symbol_key() -> Key;
+    /// Returns the CodeView record, if it is one of PDB 2.0.
     pe_c_debug_pdb20() -> Pdb20;
+    /// Returns the record of VC features.
     pe_c_debug_vc_features() -> VcFeatures;
+    /// Returns the extended DLL characteristics.
     pe_c_debug_characteristics() -> u32;
+    /// Returns the Repro record.
     pe_c_debug_repro() -> Repro;
+    /// Returns the POGO record.
     pe_c_debug_pogo() -> Pogo;
+    /// Returns the range of the x64 function table.
     pe_c_function_table() -> Range;
+    /// Returns the x64 unwind record of an unwind RVA.
     pe_c_unwind_record(unwind: u32) -> Record;
+    /// Returns the next record of a plan.
     pe_c_next_record(plan: *mut Plan) -> Record;
+    /// Returns the range of the ARM64 function table.
     pe_c_arm64_table() -> Range;
+    /// Returns the unwind record of an ARM64 function, unless its unwind data is packed.
     pe_c_arm64_unwind_record(function: *const Arm64Function) -> Arm64Record;
+    /// Returns the tables of the export directory, as a walk.
     pe_c_export_tables() -> Exports;
+    /// Returns the next export.
     pe_c_next_export(walk: *mut Exports) -> Export;
+    /// Returns the import directory, as a walk.
     pe_c_import_libraries() -> Libraries;
+    /// Returns the next library.
     pe_c_next_library(walk: *mut Libraries) -> Library;
+    /// Returns the next import of a library.
     pe_c_next_import(walk: *mut Imports) -> Import;
+    /// Returns the fixed file information.
     pe_c_fixed_version() -> Version;
+    /// Returns the value of a version name, by its number in the order of [`VersionName`](crate::VersionName).
     pe_c_version_text(name: u32) -> Range;
+    /// Returns the range of the manifest.
     pe_c_manifest() -> Range;
 }

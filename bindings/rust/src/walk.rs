@@ -1,15 +1,15 @@
-//! What all walks share: steps over bytes, and that nothing comes behind an end or a refusal.
+//! What all walks share: the call of a step, and that a walk is over after its end or an error.
 
 use crate::image::{answer, Error, Image};
 
-/// A call over bytes that takes a record and a number, and gives a record.
+/// A call that takes the bytes, a record and a number, and returns a record.
 pub(crate) type Look<M, N, T> = unsafe extern "C" fn(*const u8, usize, *const M, N, *mut T) -> u32;
 
 /// Makes such a call.
 pub(crate) fn look<M, N, T: Default>(bytes: &[u8], call: Look<M, N, T>, more: &M, n: N) -> Result<Option<T>, Error> {
     let mut out = T::default();
     // SAFETY: the call is one of the declarations of `sys`. The pointer and the length are those of one slice, `more`
-    // and `out` are lent for the call, and the library has no other premise.
+    // and `out` are lent for the call, and the library requires nothing else.
     let number = unsafe { call(bytes.as_ptr(), bytes.len(), more, n, &mut out) };
     answer(number, out)
 }
@@ -36,7 +36,7 @@ impl<'a, W> Walk<'a, W> {
             return None;
         }
         let mut out = T::default();
-        // SAFETY: as in `look`; the walk is lent for the call too, and overlaps nothing.
+        // SAFETY: as in `look`; the walk is lent for the call too, and overlaps no other argument.
         let number = unsafe { call(self.bytes.as_ptr(), self.bytes.len(), &mut self.walk, &mut out) };
         let item = answer(number, out).transpose();
         self.is_over = !matches!(item, Some(Ok(_)));
@@ -44,8 +44,8 @@ impl<'a, W> Walk<'a, W> {
     }
 }
 
-/// Declares an iterator over bytes: its walk, its items, the call that steps, and what an item is by what the call gives
-/// and by the bytes.
+/// Declares an iterator over bytes: its walk, its items, the call of a step, and how an item is made of what the call
+/// returned and the bytes.
 macro_rules! items {
     ($(#[$doc:meta])* $name:ident<'a>($walk:ty): $item:ty, $call:path, $told:expr) => {
         $(#[$doc])*

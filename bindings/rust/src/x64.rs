@@ -1,16 +1,21 @@
-//! x64 functions, and how their frames are unwound.
+//! The exception directory of an x64 image is a table of functions, sorted by start RVA. Each function leads to an unwind
+//! record, whose codes say what the prolog did to the stack; undo them to find the caller's frame. A record can be chained
+//! to another function, whose record continues it. A leaf function needs no entry. See
+//! [Microsoft's page](https://learn.microsoft.com/cpp/build/exception-handling-x64).
+//!
+//! An unwinder takes [`Functions::find`], then [`Functions::plan`], then the codes of each record.
 
 use crate::image::{bytes_of, Error, Image};
 use crate::sys::{self, Function, Scope};
 use crate::walk::{items, look, ImageWalk, Walk};
 use core::iter::FusedIterator;
 
-/// A register by its number: 0 to 15 are rax, rcx, rdx, rbx, rsp, rbp, rsi, rdi and r8 to r15, 17 to 32 xmm0 to xmm15.
+/// A register, by its number: 0 to 15 are rax, rcx, rdx, rbx, rsp, rbp, rsi, rdi and r8 to r15, 17 to 32 xmm0 to xmm15.
 #[derive(Clone, Copy, Debug, PartialEq, Eq, Hash)]
 pub struct Register(pub u8);
 
 impl Register {
-    /// Its name, empty for a number that is none.
+    /// The name, empty for a number above 32.
     pub fn name(self) -> &'static str {
         const NAMES: [&str; 33] = [
             "rax", "rcx", "rdx", "rbx", "rsp", "rbp", "rsi", "rdi", "r8", "r9", "r10", "r11", "r12", "r13", "r14",
@@ -21,52 +26,53 @@ impl Register {
     }
 }
 
-/// Where a register was saved, in bytes.
+/// Where a register was saved: an offset in bytes, and the base from which it counts.
 #[derive(Clone, Copy, Debug, PartialEq, Eq, Hash)]
 pub enum Offset {
-    /// From the stack pointer.
+    /// From rsp.
     Stack(u32),
-    /// From the frame register less its offset, once [`Operation::SetFrame`] has run; until then from the stack pointer.
+    /// From the frame register minus its offset (see [`UnwindRecord::frame`]) once [`Operation::SetFrame`] has run; before
+    /// that from rsp.
     Frame(u32),
 }
 
-/// What an instruction did.
+/// What an instruction of the prolog did, with Microsoft's names.
 #[derive(Clone, Copy, Debug, PartialEq, Eq, Hash)]
 pub enum Operation {
-    /// Pushed a register.
+    /// `UWOP_PUSH_NONVOL`: pushed a register.
     Push(Register),
-    /// Made room for so many bytes on the stack.
+    /// `UWOP_ALLOC_SMALL`, `UWOP_ALLOC_LARGE`: allocated so many bytes on the stack.
     Alloc(u32),
-    /// Set the frame register.
+    /// `UWOP_SET_FPREG`: set the frame register to rsp plus its offset. [`UnwindRecord::frame`] has both.
     SetFrame,
-    /// Saved a register.
+    /// `UWOP_SAVE_NONVOL`, `UWOP_SAVE_NONVOL_FAR`: saved a register.
     Save(Register, Offset),
-    /// Saved eight bytes of an XMM register.
+    /// Opcode 6 of version 1: saved the low 8 bytes of an XMM register.
     SaveXmm(Register, Offset),
-    /// Tells an epilog, in records of version 2.
+    /// `UWOP_EPILOG`, opcode 6 of version 2: describes an epilog.
     Epilog {
-        /// Its size, or the low part of its offset.
+        /// Its size in bytes, or the low part of its offset.
         size_or_low: u32,
         /// Its flags, or the high part of its offset.
         flags_or_high: u8,
     },
-    /// Saved an XMM register.
+    /// `UWOP_SAVE_XMM128`, `UWOP_SAVE_XMM128_FAR`, and opcode 7 of version 1: saved an XMM register.
     SaveXmm128(Register, Offset),
-    /// The processor's own frame.
+    /// `UWOP_PUSH_MACHFRAME`: the frame that the processor pushed at an interrupt.
     MachineFrame {
-        /// Whether there is an error code in it.
+        /// Whether the frame has an error code.
         has_error_code: bool,
     },
-    /// Nothing that is to be undone.
+    /// Opcode 7 of version 2: nothing to undo.
     Noop,
 }
 
-/// An unwind code.
+/// An unwind code: one instruction of a prolog.
 #[derive(Clone, Copy, Debug, PartialEq, Eq, Hash)]
 pub struct Code {
-    /// The offset of the instruction's end, in bytes from the start of the prolog: it has run from there on.
+    /// Bytes, from the start of the prolog to the end of the instruction. Undo the code at this offset and after it.
     pub code_offset: u8,
-    /// What it did.
+    /// What the instruction did.
     pub operation: Operation,
 }
 
@@ -74,7 +80,7 @@ impl From<sys::Code> for Code {
     fn from(code: sys::Code) -> Code {
         let register = Register(code.operand);
         let offset = if code.from_frame == 0 { Offset::Stack(code.value) } else { Offset::Frame(code.value) };
-        // the library gives 0 to 8 alone
+        // the library returns 0 to 8
         let operation = match code.operation {
             0 => Operation::Push(register),
             1 => Operation::Alloc(code.value),
@@ -91,26 +97,59 @@ impl From<sys::Code> for Code {
 }
 
 items! {
-    /// The codes of an unwind record, its last instruction first. The last may be [`SHORT`](Error::SHORT) or
-    /// [`UNWIND_CODE`](Error::UNWIND_CODE).
+    /// The codes of an unwind record, in the order in which they are undone: the last instruction of the prolog first.
+    ///
+    /// The last item may be an error: [`Error::SHORT`] for a truncated code, [`Error::UNWIND_CODE`] for an invalid one.
+    ///
+    /// ```
+    /// # let bytes: &[u8] = include_bytes!(concat!(env!("CARGO_MANIFEST_DIR"), "/../../crates/peinfo/data/i.bin"));
+    /// use pe_c::{Image, Mode, Operation, Register};
+    ///
+    /// let image = Image::parse(bytes, Mode::Strict)?;
+    /// let functions = image.functions()?.expect("an x64 image with exception data");
+    /// let function = functions.find(0x1025)?.expect("a function covers the RVA");
+    /// let codes: Result<Vec<_>, _> = functions.record(function)?.codes().collect();
+    /// let codes = codes?;
+    /// assert_eq!(codes[0].operation, Operation::Alloc(40));
+    /// assert_eq!((codes[1].code_offset, codes[1].operation), (1, Operation::Push(Register(5))));
+    /// assert_eq!(Register(5).name(), "rbp");
+    /// # Ok::<(), pe_c::Error>(())
+    /// ```
     Codes<'a>(sys::Walk): Code, sys::pe_c_next_code, |code, _| Ok(Code::from(code))
 }
 
 items! {
-    /// The entries of a scope table.
+    /// The entries of a scope table, in the order of the table.
     Scopes<'a>(sys::Range): Scope, sys::pe_c_next_scope, |scope, _| Ok(scope)
 }
 
-/// The handler of a function: its address, and what it finds behind that, to the end of the bytes.
+/// The handler of a function: its RVA, and its data, which follows that in the record. Only the handler knows the length
+/// of its data, so the slice goes up to the end of the file.
 #[derive(Clone, Copy, Debug, PartialEq, Eq)]
 pub enum Handler<'a> {
-    /// Of exceptions.
+    /// `UNW_FLAG_EHANDLER`, also with `UNW_FLAG_UHANDLER`: called for exceptions.
     Exception(u32, &'a [u8]),
-    /// Of termination.
+    /// `UNW_FLAG_UHANDLER` alone: called when an exception unwinds the function.
     Termination(u32, &'a [u8]),
 }
 
-/// How the frame of a function is unwound.
+/// An unwind record, `UNWIND_INFO`: what the prolog of a function did to the stack.
+///
+/// ```
+/// # #[path = "../tests/made/mod.rs"] mod made;
+/// # let bytes = made::with_functions();
+/// use pe_c::{Handler, Image, Mode, Register};
+///
+/// let image = Image::parse(&bytes, Mode::Permissive)?;
+/// let functions = image.functions()?.expect("an x64 image with exception data");
+/// let record = functions.record(functions.get(0).expect("the first function"))?;
+/// assert_eq!(record.size_of_prolog(), 8);
+/// assert_eq!(record.frame(), Some((Register(5), 32))); // saves count from rbp - 32
+/// assert!(matches!(record.handler(), Some(Handler::Exception(0x1100, _))));
+/// let scopes = record.scopes().expect("the handler's data is a scope table");
+/// assert_eq!(scopes.count(), 1);
+/// # Ok::<(), pe_c::Error>(())
+/// ```
 #[derive(Clone, Copy, Debug)]
 pub struct UnwindRecord<'a> {
     raw: sys::Record,
@@ -118,38 +157,39 @@ pub struct UnwindRecord<'a> {
 }
 
 impl<'a> UnwindRecord<'a> {
-    /// The record as the library gives it.
+    /// The record of the C library.
     pub fn raw(&self) -> &sys::Record {
         &self.raw
     }
 
-    /// 1 or 2.
+    /// The version, 1 or 2. Version 2 can describe epilogs.
     pub fn version(&self) -> u8 {
         self.raw.codes.version
     }
 
-    /// The bytes of the prolog.
+    /// The length of the prolog, in bytes.
     pub fn size_of_prolog(&self) -> u8 {
         self.raw.size_of_prolog
     }
 
-    /// The frame register, and how far it is above the stack pointer.
+    /// The frame register and its offset in bytes: how far it was set above rsp. Subtract the offset from the register to
+    /// get the base of [`Offset::Frame`].
     pub fn frame(&self) -> Option<(Register, u32)> {
         let register = self.raw.codes.frame_register;
         (register != 0).then_some((Register(register), self.raw.frame_register_offset))
     }
 
-    /// Its codes.
+    /// The codes.
     pub fn codes(&self) -> Codes<'a> {
         Codes(Walk::new(self.bytes, self.raw.codes))
     }
 
-    /// The function whose record goes on with this one.
+    /// The function to which the record is chained, whose record continues this one.
     pub fn chained(&self) -> Option<Function> {
         (self.raw.is_chained != 0).then_some(self.raw.chained)
     }
 
-    /// The handler.
+    /// The handler. A chained record has none.
     pub fn handler(&self) -> Option<Handler<'a>> {
         let data = self.raw.handler_data.of(self.bytes)?;
         match self.raw.handler_kind {
@@ -159,8 +199,8 @@ impl<'a> UnwindRecord<'a> {
         }
     }
 
-    /// The scope table in the handler's data. None where it is not all there; whether a handler has such a table is
-    /// known by its address alone.
+    /// The scope table in the data of an exception handler, or `None` where it is truncated. Only a handler such as
+    /// `__C_specific_handler` has one: the caller knows it by the handler's RVA.
     pub fn scopes(&self) -> Option<Scopes<'a>> {
         let mut table = sys::Range::default();
         let (place, length) = (self.bytes.as_ptr(), self.bytes.len());
@@ -170,7 +210,24 @@ impl<'a> UnwindRecord<'a> {
     }
 }
 
-/// The x64 functions of an image.
+/// The x64 functions of an image: the table in its exception directory.
+///
+/// ```
+/// # let bytes: &[u8] = include_bytes!(concat!(env!("CARGO_MANIFEST_DIR"), "/../../crates/peinfo/data/i.bin"));
+/// use pe_c::{Image, Mode};
+///
+/// let image = Image::parse(bytes, Mode::Strict)?;
+/// let functions = image.functions()?.expect("an x64 image with exception data");
+/// let function = functions.find(0x1025)?.expect("a function covers the RVA");
+/// assert_eq!((function.begin, function.end), (0x1020, 0x1040));
+/// assert_eq!(functions.find(0x1010)?, None);
+///
+/// // its own record, and those to which it is chained
+/// let record = functions.record(function)?;
+/// let plan: Result<Vec<_>, _> = functions.plan(function).collect();
+/// assert_eq!(record.raw(), plan?[0].raw());
+/// # Ok::<(), pe_c::Error>(())
+/// ```
 #[derive(Clone, Copy, Debug)]
 pub struct Functions<'i, 'a> {
     image: &'i Image<'a>,
@@ -178,22 +235,22 @@ pub struct Functions<'i, 'a> {
 }
 
 impl<'i, 'a> Functions<'i, 'a> {
-    /// How many there are.
+    /// The number of functions.
     pub fn len(&self) -> u64 {
         self.table.length / 12
     }
 
-    /// Whether there are none.
+    /// Whether the table is empty.
     pub fn is_empty(&self) -> bool {
         self.len() == 0
     }
 
-    /// The function of an index. None behind the last.
+    /// The function with an index, from 0, or `None` at [`len`](Self::len) and above.
     pub fn get(&self, index: u64) -> Option<Function> {
         look(self.image.bytes(), sys::pe_c_function_at, &self.table, index).ok().flatten()
     }
 
-    /// All of them, in the order of the table.
+    /// The functions, in the order of the table.
     pub fn iter(&self) -> impl Iterator<Item = Function> + 'i
     where
         'a: 'i,
@@ -202,28 +259,49 @@ impl<'i, 'a> Functions<'i, 'a> {
         (0..self.len()).map_while(move |index| functions.get(index))
     }
 
-    /// The function that covers an address, by halving: the last that begins at or before it, where the begins of the
-    /// table never fall; else some function that covers it, or none.
+    /// The function that covers an RVA, by binary search.
+    ///
+    /// In a table sorted by start RVA that is the last function that starts at or before the RVA, if the RVA is before its
+    /// end. In any other table it is some function that covers the RVA, or `None`. The table of [`Image::functions`] lies
+    /// inside the file, so no error is returned.
     pub fn find(&self, rva: u32) -> Result<Option<Function>, Error> {
         look(self.image.bytes(), sys::pe_c_find_function, &self.table, rva)
     }
 
-    /// The unwind record of a function, behind its links. [`Error::UNMAPPED`], [`Error::FUNCTION_LINK`],
-    /// [`Error::FUNCTION_CYCLE`]; [`Error::UNMAPPED`], [`Error::SHORT`], [`Error::UNWIND_VERSION`].
+    /// The unwind record of a function. Links are followed to their end; chained records are those of
+    /// [`plan`](Self::plan).
+    ///
+    /// # Errors
+    ///
+    /// - of the links: [`Error::UNMAPPED`], [`Error::FUNCTION_LINK`], [`Error::FUNCTION_CYCLE`];
+    /// - of the record: [`Error::UNMAPPED`], [`Error::SHORT`], [`Error::UNWIND_VERSION`].
+    ///
+    /// The table was checked by [`Image::functions`]: its errors come there.
     pub fn record(&self, function: Function) -> Result<UnwindRecord<'a>, Error> {
         let raw = self.image.ask_with(sys::pe_c_unwind_record, function.unwind)?.ok_or(Error::UNMAPPED)?;
         Ok(UnwindRecord { raw, bytes: self.image.bytes() })
     }
 
-    /// The records of a function: its own, that of the function which it is chained to, and so on up to the root.
-    /// [`Error::FUNCTION_CYCLE`] comes exactly if the chain never ends.
+    /// The records of a function, up to the root of its chain: its own, that of the function to which it is chained, and so
+    /// on.
+    ///
+    /// # Errors
+    ///
+    /// The last item may be an error:
+    /// - those of [`record`](Self::record) for the next function of the chain: [`Error::UNMAPPED`],
+    ///   [`Error::FUNCTION_LINK`], [`Error::FUNCTION_CYCLE`] of the links; [`Error::UNMAPPED`], [`Error::SHORT`],
+    ///   [`Error::UNWIND_VERSION`] of the record;
+    /// - [`Error::FUNCTION_CYCLE`] where the chain leads back to a record of the chain.
+    ///
+    /// [`Error::FUNCTION_CYCLE`] is returned if, and only if, the chain never ends. Records may be returned before it. The
+    /// errors of the table come from [`Image::functions`].
     pub fn plan(&self, function: Function) -> Plan<'i, 'a> {
         let start = sys::Plan { unwind: function.unwind, saved: function.unwind, limit: 1, ..sys::Plan::default() };
         Plan(ImageWalk::new(self.image, start))
     }
 }
 
-/// The records from a function to the root of its chain.
+/// The records of a function, up to the root of its chain. [`Functions::plan`] says which errors an item can be.
 #[derive(Clone, Debug)]
 pub struct Plan<'i, 'a>(ImageWalk<'i, 'a, sys::Plan>);
 
@@ -239,8 +317,11 @@ impl<'a> Iterator for Plan<'_, 'a> {
 impl FusedIterator for Plan<'_, '_> {}
 
 impl<'a> Image<'a> {
-    /// The x64 functions. None without exception data, or for another machine. [`Error::EXCEPTION_SIZE`],
-    /// [`Error::UNMAPPED`], [`Error::EXCEPTION_OFFSET`], [`Error::EXCEPTION_BOUNDS`].
+    /// The x64 functions, or `None` without an exception directory, or for a machine other than x64.
+    ///
+    /// # Errors
+    ///
+    /// [`Error::EXCEPTION_SIZE`], [`Error::UNMAPPED`], [`Error::EXCEPTION_OFFSET`], [`Error::EXCEPTION_BOUNDS`].
     pub fn functions(&self) -> Result<Option<Functions<'_, 'a>>, Error> {
         let Some(table) = self.ask(sys::pe_c_function_table)? else {
             return Ok(None);

@@ -1,4 +1,4 @@
-//! What each call gives of images that are made by hand. Expected values come from how they are made.
+//! What each call returns for images made by hand. Expected values come from how the images are made.
 
 mod made;
 
@@ -126,14 +126,14 @@ fn older_debug_records_are_read() {
 
 #[test]
 fn damaged_debug_data_are_refused() {
-    // the file's name ends behind the file
+    // the name ends past the end of the file
     let mut bytes = with_debug();
     let table = bytes.windows(4).rposition(|word| word == 0x5F00_0000u32.to_le_bytes()).unwrap() - 4 * 28 - 4;
     bytes[table + 16..table + 20].copy_from_slice(&0x10_0000u32.to_le_bytes());
     let image = strict(&bytes);
     assert_eq!(image.symbol_key(), Err(Error::DEBUG_DATA));
     assert_eq!(image.repro(), Err(Error::DEBUG_DATA));
-    // a directory that passes the end is cut in permissive mode
+    // a directory that ends past the end of the file is truncated in permissive mode
     let mut long = SMALL.to_vec();
     long[0xFC..0x100].copy_from_slice(&0x1000u32.to_le_bytes());
     assert_eq!(strict(&long).debug_entries().err(), Some(Error::DEBUG_BOUNDS));
@@ -192,7 +192,7 @@ fn functions_are_found() {
     ] {
         assert_eq!(functions.find(address).unwrap().map(|it| it.begin), begin);
     }
-    // the record behind the link of the second is that of the first
+    // the record to which the second function's link leads is that of the first
     let first = functions.record(functions.get(0).unwrap()).unwrap();
     let second = functions.record(functions.get(1).unwrap()).unwrap();
     assert_eq!(first.raw(), second.raw());
@@ -417,7 +417,7 @@ fn imports_are_listed_by_library() {
     assert!(strict(SMALL).libraries().unwrap().is_none());
 }
 
-/// What refuses the libraries of an image with these bytes at an address, and what its imports, if they can be read.
+/// The error of the libraries of an image with these bytes at an RVA, and that of its imports if they can be read.
 fn import_refusals(address: u32, part: &[u8]) -> (Option<Error>, Option<Error>) {
     let mut bytes = with_imports();
     let at = place(address) as usize;
@@ -431,7 +431,7 @@ fn import_refusals(address: u32, part: &[u8]) -> (Option<Error>, Option<Error>) 
 
 #[test]
 fn imports_are_refused_where_they_are_read() {
-    // the addresses of the parts, as they are put: names of 13 and 6 bytes, hints and names of 8 and 4, three entries
+    // the RVAs of the parts, as they are put: names of 13 and 6 bytes, hints and names of 8 and 4, three entries
     let (first, sleep, lookups) = (ADDRESS, ADDRESS + 24, ADDRESS + 36);
     let directory = lookups + 24 + 16;
     assert_eq!(import_refusals(first, b"K"), (None, None));
@@ -472,7 +472,7 @@ fn images_are_shared_by_threads() {
     });
 }
 
-/// What an image gives outlives the image.
+/// Names and bodies outlive the image.
 #[test]
 fn what_is_given_outlives_the_image() {
     fn name(bytes: &[u8]) -> &[u8] {

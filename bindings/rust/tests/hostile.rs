@@ -1,4 +1,4 @@
-//! Bytes and records that are damaged, cut or lie: every call returns, and what it gives lies in the bytes.
+//! Damaged and truncated bytes, and wrong records: every call returns, and the ranges that it returns lie in the bytes.
 
 mod made;
 mod reading;
@@ -13,7 +13,7 @@ const MODES: [Mode; 2] = [Mode::Strict, Mode::Permissive];
 fn every_beginning_of_an_image_is_read_or_refused() {
     for (_, image) in made::all() {
         for length in 0..image.len() {
-            // bytes of their own, so that a tool that watches memory sees a read behind their end
+            // an allocation of its own, so that a memory checker sees a read past its end
             let bytes = image[..length].to_vec();
             for mode in MODES {
                 read_all(&bytes, mode, 64);
@@ -37,12 +37,12 @@ fn every_byte_of_an_image_may_change() {
     }
 }
 
-/// Numbers at the ends of their ranges, and near the bytes' length.
+/// Numbers at the ends of their ranges, and near the length of the bytes.
 fn lies(length: u64) -> Vec<u64> {
     vec![0, 1, 4, length - 1, length, length + 1, 1 << 31, u32::MAX.into(), 1 << 32, 1 << 63, u64::MAX - 3, u64::MAX]
 }
 
-/// Steps a walk to its end, which comes within so many steps more; gives its first answer.
+/// Steps a walk to its end, which must come within so many more steps; returns the result of the first step.
 fn first_of_all<W, T: Default + PartialEq + std::fmt::Debug>(
     most: usize,
     start: W,
@@ -68,7 +68,7 @@ fn first_of_all<W, T: Default + PartialEq + std::fmt::Debug>(
     first
 }
 
-/// A walk by a range: `SHORT` and then nothing where the range lies; else it ends.
+/// A walk over a range: `SHORT` and then nothing where the range is wrong; else it ends.
 fn walk<W, T: Default + PartialEq + std::fmt::Debug>(
     bytes: &[u8],
     there: bool,

@@ -1,4 +1,4 @@
-//! Reads all that the calls give of an image, for tests, the fuzz loop and the bench.
+//! Makes every call on an image and adds up what they return, for tests, the fuzz loop and the bench.
 #![allow(dead_code)]
 
 use pe_c::{Arm64Record, Arm64Unwinding, Error, Handler, Image, Mode, UnwindRecord, VersionName};
@@ -6,7 +6,7 @@ use pe_c::{Arm64Record, Arm64Unwinding, Error, Handler, Image, Mode, UnwindRecor
 /// What was read.
 #[derive(Clone, Copy, Debug, Default, PartialEq, Eq)]
 pub struct Seen {
-    /// How many items of a table or a walk are read, at most.
+    /// The most items of a table or a walk that are read.
     most: usize,
     pub images: u64,
     pub records: u64,
@@ -16,7 +16,7 @@ pub struct Seen {
 }
 
 impl Seen {
-    /// Nothing so far, of which so many items of a table or a walk will be read.
+    /// Nothing so far, with the most items of a table or a walk to read.
     pub fn up_to(most: usize) -> Seen {
         Seen { most, ..Seen::default() }
     }
@@ -29,13 +29,13 @@ impl Seen {
         self.refusals += other.refusals;
     }
 
-    /// Reads the ends of a slice of the input.
+    /// Reads the first and last byte of a slice of the input.
     fn touch(&mut self, slice: &[u8]) {
         self.slices += 1;
         std::hint::black_box((slice.first(), slice.last()));
     }
 
-    /// The value of a call, none where it refuses.
+    /// The value of a call, or `None` after an error.
     fn keep<T>(&mut self, answer: Result<Option<T>, Error>) -> Option<T> {
         answer.unwrap_or_else(|_| {
             self.refusals += 1;
@@ -213,7 +213,7 @@ fn read_version(image: &Image, seen: &mut Seen) {
     }
 }
 
-/// Makes every call on these bytes, and reads so many items of each table and walk.
+/// Makes every call on these bytes, and reads at most so many items of each table and walk.
 pub fn read_all(bytes: &[u8], mode: Mode, most: usize) -> Seen {
     let mut seen = Seen::up_to(most);
     let answer = Image::parse(bytes, mode);
