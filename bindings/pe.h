@@ -1,13 +1,13 @@
 /* pe.h: reads PE images (Windows .exe and .dll files) by a proved library, from C11 and C++17.
  *
  * The caller's obligations, for each call:
- *   - `bytes` points to `length` readable bytes, the whole file, which nothing writes during the call. It may be NULL
- *     if `length` is 0;
+ *   - `bytes` points to the `length` bytes of the file, which are readable and which nothing writes during the call. It
+ *     may be NULL if `length` is 0;
  *   - every other pointer is not NULL (an array of 0 entries may be), is aligned for its type, and points to
  *     initialised memory (`= PE_C_EMPTY`), also where the call only writes;
  *   - what a call writes (`out`, a walk, `room`) overlaps no other argument.
- * There is no obligation on what the bytes or the fields of records contain: every value is legal, and a wrong one gives
- * an error code, never undefined behaviour.
+ * There is no obligation on what the bytes or the fields of records contain: every value is legal. A wrong range gives an
+ * error code, never undefined behaviour.
  *
  * No call allocates, keeps state, prints, calls back, or needs initialisation. Any thread may call at any time.
  *
@@ -28,12 +28,14 @@
  *   - resource data too short for a directory, and resource entries that are not all inside the data: they count as
  *     absent.
  *
- * Arguments. Most calls take the image as the results of two calls, pe_c_image and pe_c_sections, and the mode:
+ * Arguments. Most calls take the bytes, the results of pe_c_image and pe_c_sections, and the mode. Each of these calls is
+ * made only if the one before returned PE_C_DONE:
  *
- *     bytes, length, image, sections, count, mode
+ *     pe_c_image(bytes, length, mode, &image);
+ *     pe_c_sections(bytes, length, &image, sections, entries);
+ *     pe_c_symbol_key(bytes, length, &image, sections, image.number_of_sections, mode, &key);
  *
- * A range or a walk that does not lie inside `bytes` is PE_C_SHORT, tested first; as a certificate table it is
- * PE_C_CERTIFICATE_TABLE.
+ * A range or a walk that does not lie inside `bytes` is PE_C_SHORT; as a certificate table it is PE_C_CERTIFICATE_TABLE.
  *
  * The layouts are those of https://learn.microsoft.com/windows/win32/debug/pe-format */
 #ifndef PE_C_H
@@ -197,7 +199,7 @@ uint32_t pe_c_place(const pe_c_section *sections, size_t count, uint32_t file_al
 typedef struct {
     uint32_t characteristics;       /* reserved */
     uint32_t time_date_stamp;       /* seconds since 1970, or a hash in a reproducible build */
-    uint16_t major_version, minor_version;
+    uint16_t major_version, minor_version;  /* of the record's format */
     uint32_t data_type;             /* IMAGE_DEBUG_TYPE_CODEVIEW 2, _VC_FEATURE 12, _POGO 13, _REPRO 16,
                                        _EX_DLLCHARACTERISTICS 20, or another */
     uint32_t size_of_data;          /* bytes of the record */
@@ -234,11 +236,11 @@ typedef struct {
 /* Repro: the same sources build the same image. */
 typedef struct {
     pe_c_range hash;                /* empty unless has_hash */
-    uint32_t has_hash;              /* 1 or 0; 0 means that the image's time stamps are a hash */
+    uint32_t has_hash;              /* 1; or 0, and the image's time stamps are a hash */
     uint32_t spare;                 /* 0 */
 } pe_c_repro;
 
-/* POGO: the parts of the sections, such as ".text$mn". */
+/* POGO: the parts of the image's sections, such as ".text$mn". */
 typedef struct {
     pe_c_range entries;             /* a walk for pe_c_next_pogo_entry, at its start */
     uint32_t signature;             /* 0x4C544347 (LTCG) or 0x50475500 (PGU) */
@@ -602,8 +604,8 @@ uint32_t pe_c_arm64_codes(const uint8_t *bytes, size_t length, const pe_c_range 
 
 /* Returns the next code. The walk does not stop at PE_C_ARM64_END and PE_C_ARM64_END_C, since the codes of epilogs
  * follow; the caller stops there.
- * Errors: PE_C_SHORT where the walk is not inside the bytes; PE_C_ARM64_STREAM where it is no walk of pe_c_arm64_codes;
- * PE_C_ARM64_CUT for a truncated code. */
+ * Errors: PE_C_SHORT where the walk is not inside the bytes; PE_C_ARM64_STREAM where its offset plus the bytes left is not a
+ * multiple of 4 or is above 4,294,967,292, as in no walk of pe_c_arm64_codes; PE_C_ARM64_CUT for a truncated code. */
 uint32_t pe_c_next_arm64_code(const uint8_t *bytes, size_t length, pe_c_arm64_walk *walk, pe_c_arm64_code *out);
 
 /* ---- exports
@@ -718,8 +720,8 @@ uint32_t pe_c_next_import(const uint8_t *bytes, size_t length, const pe_c_image_
  *
  * The three calls return PE_C_NOTHING without resources or without one of the type. Damaged version information is no
  * error of the manifest, nor the reverse. The calls share these errors; the last two items are of version information:
- *   - the root directory: PE_C_UNMAPPED, PE_C_SHORT; PE_C_RESOURCE_BOUNDS of the data that the data directory names, and in
- *     strict mode of the root's entries;
+ *   - the root directory: PE_C_UNMAPPED, PE_C_SHORT; PE_C_RESOURCE_BOUNDS where the data that the data directory names ends
+ *     past the end of the file, and in strict mode where the root or its entries are not all inside the data;
  *   - the way to the resource: PE_C_SHORT, PE_C_RESOURCE_CYCLE;
  *   - its content: PE_C_SHORT, PE_C_UNMAPPED, PE_C_RESOURCE_BOUNDS;
  *   - the version strings: PE_C_SHORT, PE_C_RESOURCE_STRING;

@@ -12,7 +12,7 @@ fn installed() -> Option<PathBuf> {
     Some(PathBuf::from(folder.trim()))
 }
 
-fn has_archive(folder: &PathBuf) -> bool {
+fn has_archive(folder: &Path) -> bool {
     folder.join("libpe_c.a").is_file()
 }
 
@@ -22,10 +22,10 @@ fn main() {
     let here = env::var("CARGO_MANIFEST_DIR").expect("cargo names the crate's folder");
     let named = env::var("PE_C_FOLDER").ok().map(PathBuf::from);
     let found = match named {
-        Some(folder) => Some(folder).filter(has_archive),
+        Some(folder) => Some(folder).filter(|it| has_archive(it)),
         None => Some(Path::new(&here).join("../../crates/pe_c/out"))
-            .filter(has_archive)
-            .or_else(|| installed().filter(has_archive)),
+            .filter(|it| has_archive(it))
+            .or_else(|| installed().filter(|it| has_archive(it))),
     };
     let Some(folder) = found else {
         eprintln!("there is no libpe_c.a: PE_C_FOLDER names its folder, or PKG_CONFIG_PATH that of pe_c.pc");

@@ -1,6 +1,6 @@
 //! The attribute certificate table holds the Authenticode signatures of an image: certificates one after the other, each
 //! aligned to 8 bytes. It is not part of the image in memory, so its directory has a file offset. See
-//! [Microsoft's page](https://learn.microsoft.com/windows/win32/debug/pe-format#the-attribute-certificate-table-image-only).
+//! <https://learn.microsoft.com/windows/win32/debug/pe-format#the-attribute-certificate-table-image-only>.
 //! A caller takes the body of type 2 (PKCS #7) to check the signature.
 
 use crate::image::{bytes_of, Error, Image};

@@ -69,7 +69,7 @@ errors! {
     SHORT = 2;
     /// Invalid magic number.
     BAD_MAGIC = 3;
-    /// PE header offset lies inside the DOS header.
+    /// PE header offset lies inside the DOS header. Strict mode only.
     HEADER_POINTER = 4;
     /// Import name not NUL-terminated or not UTF-8.
     IMPORT_NAME = 5;
@@ -83,9 +83,9 @@ errors! {
     CERTIFICATE_TABLE = 10;
     /// RVA maps to no file offset.
     UNMAPPED = 11;
-    /// Debug directory ends past the end of the file.
+    /// Debug directory ends past the end of the file. Strict mode only.
     DEBUG_BOUNDS = 12;
-    /// Debug record too small.
+    /// Debug record too small. Strict mode only.
     DEBUG_SIZE = 13;
     /// Debug record truncated.
     DEBUG_DATA = 14;

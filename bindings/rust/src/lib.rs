@@ -4,16 +4,25 @@
 //! The library is proved to return what its definitions say, for every byte string; this crate is a thin safe layer over
 //! it, and is tested. Start with [`Image::parse`]; each part of an image is a method of [`Image`]:
 //!
-//! | part | methods |
-//! |---|---|
-//! | headers and sections | [`info`](Image::info), [`sections`](Image::sections), [`place`](Image::place) |
-//! | debug data | [`symbol_key`](Image::symbol_key), [`debug_entries`](Image::debug_entries), [`pogo`](Image::pogo), .. |
-//! | certificates | [`certificates`](Image::certificates) |
-//! | unwind data | [`functions`](Image::functions) of x64, [`arm64_functions`](Image::arm64_functions) |
-//! | exports, imports | [`exports`](Image::exports), [`libraries`](Image::libraries) |
-//! | resources | [`version`](Image::version), [`version_text`](Image::version_text), [`manifest`](Image::manifest) |
+//! | part | methods | layout |
+//! |---|---|---|
+//! | headers, sections | [`info`](Image::info), [`sections`](Image::sections), [`place`](Image::place) | [PE Format] |
+//! | debug data | [`symbol_key`](Image::symbol_key), [`debug_entries`](Image::debug_entries), [`pogo`](Image::pogo), .. | [debug section] |
+//! | certificates | [`certificates`](Image::certificates) | [certificate table] |
+//! | unwind data | [`functions`](Image::functions), [`arm64_functions`](Image::arm64_functions) | [x64], [ARM64] |
+//! | exports, imports | [`exports`](Image::exports), [`libraries`](Image::libraries) | [.edata], [.idata] |
+//! | resources | [`version`](Image::version), [`version_text`](Image::version_text), [`manifest`](Image::manifest) | [version information] |
 //!
-//! - An `Image` borrows the bytes of the file. Names, bodies and texts are slices of these bytes, so they outlive it.
+//! [PE Format]: https://learn.microsoft.com/windows/win32/debug/pe-format
+//! [debug section]: https://learn.microsoft.com/windows/win32/debug/pe-format#the-debug-section
+//! [certificate table]: https://learn.microsoft.com/windows/win32/debug/pe-format#the-attribute-certificate-table-image-only
+//! [x64]: https://learn.microsoft.com/cpp/build/exception-handling-x64
+//! [ARM64]: https://learn.microsoft.com/cpp/build/arm64-exception-handling
+//! [.edata]: https://learn.microsoft.com/windows/win32/debug/pe-format#the-edata-section-image-only
+//! [.idata]: https://learn.microsoft.com/windows/win32/debug/pe-format#the-idata-section
+//! [version information]: https://learn.microsoft.com/windows/win32/menurc/vs-versioninfo
+//!
+//! - An `Image` borrows the bytes of the file. Names, bodies and texts are slices of these bytes: they outlive the `Image`.
 //! - A directory that is absent is `Ok(None)`; a damaged one is an [`Error`]. An error in one part does not affect another.
 //! - Every list is an iterator. After an `Err` item it returns `None`.
 //! - No bytes make a call panic or loop forever. Only [`Image::parse`], for the section headers, and
@@ -40,10 +49,10 @@
 //!
 //! The library is `libpe_c.a`, for Linux on x86-64 with SSE4.2 and POPCNT. `build.rs` takes it from the folder that
 //! `PE_C_FOLDER` names; without that variable from `crates/pe_c/out` of the repository, else from where pkg-config finds
-//! `pe_c`. The layouts are those of Microsoft's
-//! [PE Format](https://learn.microsoft.com/windows/win32/debug/pe-format).
+//! `pe_c`.
 #![no_std]
-#![warn(missing_docs, unsafe_op_in_unsafe_fn)]
+#![deny(missing_docs)]
+#![warn(unsafe_op_in_unsafe_fn)]
 
 extern crate alloc;
 

@@ -135,8 +135,9 @@ impl fmt::Display for Text<'_> {
 /// The three methods return `None` without resources or without one of the type. Damaged version information is no error of
 /// the manifest, nor the reverse. The methods share these errors; the last two items are of version information:
 ///
-/// - the root directory: [`Error::UNMAPPED`], [`Error::SHORT`]; [`Error::RESOURCE_BOUNDS`] of the data that the data
-///   directory names, and in strict mode of the root's entries;
+/// - the root directory: [`Error::UNMAPPED`], [`Error::SHORT`]; [`Error::RESOURCE_BOUNDS`] where the data that the data
+///   directory names ends past the end of the file, and in strict mode where the root or its entries are not all inside
+///   the data;
 /// - the way to the resource: [`Error::SHORT`], [`Error::RESOURCE_CYCLE`];
 /// - its content: [`Error::SHORT`], [`Error::UNMAPPED`], [`Error::RESOURCE_BOUNDS`];
 /// - the version strings: [`Error::SHORT`], [`Error::RESOURCE_STRING`];

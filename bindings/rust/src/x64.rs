@@ -291,7 +291,7 @@ impl<'i, 'a> Functions<'i, 'a> {
     /// - those of [`record`](Self::record) for the next function of the chain: [`Error::UNMAPPED`],
     ///   [`Error::FUNCTION_LINK`], [`Error::FUNCTION_CYCLE`] of the links; [`Error::UNMAPPED`], [`Error::SHORT`],
     ///   [`Error::UNWIND_VERSION`] of the record;
-    /// - [`Error::FUNCTION_CYCLE`] where the chain leads back to a function of the chain.
+    /// - [`Error::FUNCTION_CYCLE`] where the chain leads back to a record of the chain.
     ///
     /// [`Error::FUNCTION_CYCLE`] is returned if, and only if, the chain never ends. Records may be returned before it. The
     /// errors of the table come from [`Image::functions`].

@@ -1,13 +1,9 @@
 -- What equality and clones of a type mean.
 use Rattle.std.specs.Prelude.{◌≡◌, ◌↔◌, Bool, IsTrue}
 
--- this test tells this value from all others: it is true of the value itself, and of no other
-abbrev pub TellsApart : {X : Type 0} → (X → X → Bool) → X → Type 0
-TellsApart {X} eq x = (y : X) → IsTrue (eq x y) ↔ (x ≡ y)
-
--- so it does of all values
+-- two values are equal if they are the same
 abbrev pub IsEquality : {X : Type 0} → (X → X → Bool) → Type 0
-IsEquality {X} eq = (x : X) → TellsApart eq x
+IsEquality {X} eq = (x y : X) → IsTrue (eq x y) ↔ (x ≡ y)
 
 -- it compares two values by what is seen of them
 abbrev pub ComparesBy : {X Y : Type 0} → (X → Y) → (X → X → Bool) → Type 0

@@ -1,6 +1,6 @@
 //! Laws of the traits that types have: `==` is equality of all fields, a default has zeros, a clone is its original.
 
-ghost use Rattle.std.specs.Prelude.{◌≡◌, ℕ, Bool};
+ghost use Rattle.std.specs.Prelude.{◌≡◌};
 ghost use Rattle.pe_unwind.specs.declared.register.Register.{Register};
 ghost use Rattle.pe_unwind.specs.declared.function_table.RuntimeFunction.{RuntimeFunction};
 ghost use Rattle.pe_unwind.specs.declared.scope_table.ScopeTableEntry.{ScopeTableEntry};
@@ -19,8 +19,7 @@ ghost use Rattle.pe_unwind.specs.declared.unwind_code.UnwindCodeIterator.{Unwind
 ghost use Rattle.pe_unwind.specs.declared.unwind_info.UnwindInfo.{UnwindInfo};
 ghost use Rattle.pe_unwind.specs.declared.arm64.info.Arm64ExceptionHandler.{Arm64ExceptionHandler};
 ghost use Rattle.pe_unwind.specs.declared.arm64.info.Arm64UnwindInfo.{Arm64UnwindInfo};
-ghost use Rattle.pe_unwind.specs.declared.arm64.codes.Arm64UnwindCode.TheVariants.{AllocSmall, SaveR19R20Preindexed, SaveFpLr, SaveFpLrPreindexed, AllocMedium, SaveRegPair, SaveRegPairPreindexed, SaveReg, SaveRegPreindexed, SaveLrPair, SaveFRegPair, SaveFRegPairPreindexed, SaveFReg, SaveFRegPreindexed, AllocZ, AllocLarge, SetFp, AddFp, Nop, End, EndC, SaveNext, SaveAnyReg, SaveZReg, SavePReg, CustomStack, PacSignLr, Reserved};
-ghost use Rattle.pe_core.specs.Traits.{TellsApart, IsEquality, ComparesBy, Copies};
+ghost use Rattle.pe_core.specs.Traits.{IsEquality, ComparesBy, Copies};
 ghost use Rattle.pe_unwind.specs.Arm64Record.{arm64_handler_view};
 ghost use Rattle.pe_unwind.specs.UnwindRecord.{handler_view};
 
@@ -33,38 +32,6 @@ use crate::register::Register;
 use crate::scope_table::ScopeTableEntry;
 use crate::unwind_code::{StackFrameOffset, UnwindCode, UnwindCodeIterator, UnwindOperation};
 use crate::unwind_info::{UnwindHandler, UnwindInfo};
-
-/// `==` tells each ARM64 code from all others, a clause for each.
-fn equality_of_each_arm64_code()
-    ensures alloc_small { (n : ℕ) → TellsApart ⟦<Arm64UnwindCode as PartialEq>⟧.eq (AllocSmall n) }
-    ensures save_r19_r20_preindexed { (o : ℕ) → TellsApart ⟦<Arm64UnwindCode as PartialEq>⟧.eq (SaveR19R20Preindexed o) }
-    ensures save_fp_lr { (o : ℕ) → TellsApart ⟦<Arm64UnwindCode as PartialEq>⟧.eq (SaveFpLr o) }
-    ensures save_fp_lr_preindexed { (o : ℕ) → TellsApart ⟦<Arm64UnwindCode as PartialEq>⟧.eq (SaveFpLrPreindexed o) }
-    ensures alloc_medium { (n : ℕ) → TellsApart ⟦<Arm64UnwindCode as PartialEq>⟧.eq (AllocMedium n) }
-    ensures save_reg_pair { (r o : ℕ) → TellsApart ⟦<Arm64UnwindCode as PartialEq>⟧.eq (SaveRegPair r o) }
-    ensures save_reg_pair_preindexed { (r o : ℕ) → TellsApart ⟦<Arm64UnwindCode as PartialEq>⟧.eq (SaveRegPairPreindexed r o) }
-    ensures save_reg { (r o : ℕ) → TellsApart ⟦<Arm64UnwindCode as PartialEq>⟧.eq (SaveReg r o) }
-    ensures save_reg_preindexed { (r o : ℕ) → TellsApart ⟦<Arm64UnwindCode as PartialEq>⟧.eq (SaveRegPreindexed r o) }
-    ensures save_lr_pair { (r o : ℕ) → TellsApart ⟦<Arm64UnwindCode as PartialEq>⟧.eq (SaveLrPair r o) }
-    ensures save_freg_pair { (r o : ℕ) → TellsApart ⟦<Arm64UnwindCode as PartialEq>⟧.eq (SaveFRegPair r o) }
-    ensures save_freg_pair_preindexed { (r o : ℕ) → TellsApart ⟦<Arm64UnwindCode as PartialEq>⟧.eq (SaveFRegPairPreindexed r o) }
-    ensures save_freg { (r o : ℕ) → TellsApart ⟦<Arm64UnwindCode as PartialEq>⟧.eq (SaveFReg r o) }
-    ensures save_freg_preindexed { (r o : ℕ) → TellsApart ⟦<Arm64UnwindCode as PartialEq>⟧.eq (SaveFRegPreindexed r o) }
-    ensures alloc_z { (n : ℕ) → TellsApart ⟦<Arm64UnwindCode as PartialEq>⟧.eq (AllocZ n) }
-    ensures alloc_large { (n : ℕ) → TellsApart ⟦<Arm64UnwindCode as PartialEq>⟧.eq (AllocLarge n) }
-    ensures set_fp { TellsApart ⟦<Arm64UnwindCode as PartialEq>⟧.eq SetFp }
-    ensures add_fp { (i o : ℕ) → TellsApart ⟦<Arm64UnwindCode as PartialEq>⟧.eq (AddFp i o) }
-    ensures nop { TellsApart ⟦<Arm64UnwindCode as PartialEq>⟧.eq Nop }
-    ensures end { TellsApart ⟦<Arm64UnwindCode as PartialEq>⟧.eq End }
-    ensures end_c { TellsApart ⟦<Arm64UnwindCode as PartialEq>⟧.eq EndC }
-    ensures save_next { TellsApart ⟦<Arm64UnwindCode as PartialEq>⟧.eq SaveNext }
-    ensures save_any_reg { (k : ℕ) (p i : Bool) (r o : ℕ) → TellsApart ⟦<Arm64UnwindCode as PartialEq>⟧.eq (SaveAnyReg k p i r o) }
-    ensures save_zreg { (r o : ℕ) → TellsApart ⟦<Arm64UnwindCode as PartialEq>⟧.eq (SaveZReg r o) }
-    ensures save_preg { (r o : ℕ) → TellsApart ⟦<Arm64UnwindCode as PartialEq>⟧.eq (SavePReg r o) }
-    ensures custom_stack { (w : Arm64CustomStackCase) → TellsApart ⟦<Arm64UnwindCode as PartialEq>⟧.eq (CustomStack w) }
-    ensures pac_sign_lr { TellsApart ⟦<Arm64UnwindCode as PartialEq>⟧.eq PacSignLr }
-    ensures reserved { (b v n : ℕ) → TellsApart ⟦<Arm64UnwindCode as PartialEq>⟧.eq (Reserved b v n) }
-{}
 
 /// `==` compares all fields, and slices by their bytes.
 pub fn equality_is_of_all_fields()
@@ -83,9 +50,7 @@ pub fn equality_is_of_all_fields()
     ensures arm64_unwind_code_data { IsEquality ⟦<Arm64UnwindCodeData as PartialEq>⟧.eq }
     ensures unwind_handler { ComparesBy handler_view ⟦<UnwindHandler<'static> as PartialEq>⟧.eq }
     ensures arm64_exception_handler { ComparesBy arm64_handler_view ⟦<Arm64ExceptionHandler<'static> as PartialEq>⟧.eq }
-{
-    equality_of_each_arm64_code()
-}
+{}
 
 /// A default has zeros in all fields.
 pub fn defaults_are_zeros()
