@@ -77,6 +77,6 @@ copy_with_damaged_crate() {
   {
     cat crates.txt
     echo
-    echo "damaged: pe_core pe_records pe_unwind pe_plan pe_resource pe_image pe_images"
+    echo "damaged: pe_core pe_records pe_unwind pe_plan pe_frame pe_resource pe_image pe_images"
   } >"$folder/crates.txt"
 }

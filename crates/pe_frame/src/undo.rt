@@ -16,6 +16,9 @@ const XMM0: u8 = 17;
 
 const XMM15: u8 = 32;
 
+/// How many numbers a word has: the weight of the high half of an XMM register.
+const NUMBERS_OF_A_WORD: u128 = 0x1_0000_0000_0000_0000;
+
 /// How far above the instruction pointer a machine frame has the stack pointer: past cs and the flags.
 const RSP_OF_MACHINE_FRAME: u64 = 24;
 
@@ -85,7 +88,7 @@ fn wide_number<M: Memory>(memory: &M, address: u64) -> Result<u128, FrameError>
 {
     let low = number(memory, address)?;
     let high = number(memory, above(address, SIZE_OF_WORD)?)?;
-    Ok(u128::from(low) + u128::from(high) * 0x1_0000_0000_0000_0000)
+    Ok(u128::from(low) + u128::from(high) * NUMBERS_OF_A_WORD)
 }
 
 /// The registers before an interrupt, whose machine frame has the instruction pointer at this address.
