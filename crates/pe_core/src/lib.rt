@@ -10,6 +10,7 @@ mod counted_table;
 mod data_directories;
 mod error;
 mod export;
+mod first_zero;
 mod header;
 mod import;
 mod import_list;
