@@ -14,14 +14,12 @@ use crate::answers::{DONE, hand_out, hand_out_some, options};
 use crate::image::{Image, is_absent};
 use crate::ranges::{NO_BYTES, Range, last_range, range_of, slice_of};
 use crate::walks::next_entry;
-use pe_core::{Error, Reason, Result, SectionTable, u32_at};
+use pe_core::{COFF_MACHINE_ARM64, Error, Reason, Result, SectionTable, u32_at};
 use pe_unwind::{
     Arm64CustomStackCase, Arm64EpilogScope, Arm64RuntimeFunction, Arm64UnwindCode,
     Arm64UnwindCodeIterator, Arm64UnwindExtension, Arm64UnwindHeader, Arm64UnwindInfo,
     ExceptionData,
 };
-
-const MACHINE_ARM64: u16 = 0xAA64;
 
 /// The bytes of one epilog scope.
 const SIZE_OF_SCOPE: usize = 4;
@@ -125,7 +123,7 @@ fn table_of(
     ensures { answer_by (λ x. x) result ≡ table_at 0xAA64 8 bytes.now image.now sections.now mode }
 {
     let directory = image.exceptions;
-    if image.machine != MACHINE_ARM64 || is_absent(directory) {
+    if image.machine != COFF_MACHINE_ARM64 || is_absent(directory) {
         return Ok(None);
     }
     let alignment = image.file_alignment;

@@ -88,7 +88,12 @@ const NO_LIBRARIES: Libraries = Libraries {
 fn require_offset(rva: u32, image: &Image, sections: &[SectionTable]) -> Result<usize>
     ensures { Gives (λ p. p) result (mapped (map_of_image image.now sections.now rva)) }
 {
-    mapped_offset(rva, sections, image.file_alignment, &ParseOptions::default())
+    mapped_offset(
+        rva,
+        sections,
+        image.file_alignment,
+        &ParseOptions::default(),
+    )
 }
 
 /// The name at a place, to which an address leads: `ImportName` where there is no text.

@@ -15,13 +15,11 @@ use crate::answers::{DONE, NOTHING, hand_out, hand_out_some, number_of, options}
 use crate::image::{Image, is_absent};
 use crate::ranges::{NO_BYTES, Range, last_range, range_of, slice_of};
 use crate::walks::next_entry;
-use pe_core::{CountedTable, Result, SectionTable};
+use pe_core::{COFF_MACHINE_X86_64, CountedTable, Result, SectionTable};
 use pe_unwind::{
     ExceptionData, Register, RuntimeFunction, ScopeTableEntry, StackFrameOffset, UnwindCode,
     UnwindCodeIterator, UnwindHandler, UnwindInfo, UnwindOperation, scope_table_size, search,
 };
-
-const MACHINE_X64: u16 = 0x8664;
 
 /// The bytes of one entry of a scope table.
 const SIZE_OF_SCOPE: usize = 16;
@@ -89,7 +87,7 @@ fn table_of(
     ensures { answer_by (λ x. x) result ≡ table_at 0x8664 12 bytes.now image.now sections.now mode }
 {
     let directory = image.exceptions;
-    if image.machine != MACHINE_X64 || is_absent(directory) {
+    if image.machine != COFF_MACHINE_X86_64 || is_absent(directory) {
         return Ok(None);
     }
     let alignment = image.file_alignment;

@@ -29,3 +29,4 @@ pub mod Symbols
 pub mod Strings
 pub mod TerseHeader
 pub mod Chains
+pub mod ZeroRuns

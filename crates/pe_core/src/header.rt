@@ -26,6 +26,15 @@ pub const TE_MAGIC: u16 = 0x5A56;
 /// The size of the header of a terse image in bytes.
 pub const SIZE_OF_TE_HEADER: u16 = 40;
 
+/// `IMAGE_FILE_MACHINE_AMD64`: x64, in the COFF header's `machine`.
+pub const COFF_MACHINE_X86_64: u16 = 0x8664;
+
+/// `IMAGE_FILE_MACHINE_ARM64`: ARM64, in the COFF header's `machine`.
+pub const COFF_MACHINE_ARM64: u16 = 0xAA64;
+
+/// The flag of a DLL in the COFF header's `characteristics`.
+pub const IMAGE_FILE_DLL: u16 = 0x2000;
+
 /// The size of the PE signature in bytes.
 pub(crate) const SIZE_OF_PE_SIGNATURE: usize = 4;
 
@@ -65,7 +74,7 @@ impl DosHeader {
 /// The COFF file header, 20 bytes.
 #[derive(Clone, Copy, Debug, PartialEq)]
 pub struct CoffHeader {
-    /// The processor, as 0x8664 for x64 and 0xAA64 for ARM64.
+    /// The processor, as `COFF_MACHINE_X86_64` or `COFF_MACHINE_ARM64`.
     pub machine: u16,
     pub number_of_sections: u16,
     /// In seconds since the beginning of 1970, or a hash.

@@ -10,6 +10,7 @@ mod counted_table;
 mod data_directories;
 mod error;
 mod export;
+mod first_zero;
 mod header;
 mod import;
 mod import_list;
@@ -36,8 +37,8 @@ pub use data_directories::{DataDirectories, DataDirectory, MOST_DIRECTORIES};
 pub use error::{Error, Reason, Result};
 pub use export::{Export, ExportData, ExportDirectoryTable};
 pub use header::{
-    CoffHeader, DOS_MAGIC, DosHeader, Header, PE_MAGIC, SIZE_OF_DOS_HEADER, SIZE_OF_TE_HEADER,
-    TE_MAGIC, TeHeader,
+    COFF_MACHINE_ARM64, COFF_MACHINE_X86_64, CoffHeader, DOS_MAGIC, DosHeader, Header,
+    IMAGE_FILE_DLL, PE_MAGIC, SIZE_OF_DOS_HEADER, SIZE_OF_TE_HEADER, TE_MAGIC, TeHeader,
 };
 pub use import::{
     ImportData, ImportDirectoryEntry, SyntheticImportDirectoryEntry, lookup_number, lookup_size,

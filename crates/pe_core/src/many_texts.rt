@@ -1,14 +1,15 @@
 //! The texts at many places of a byte string, each byte read about once.
 
-ghost use Rattle.std.specs.Prelude.{◌≡◌, ℕ, ◌≤◌, ◌-◌, length, drop, map, IfOk, OnOk, All, []};
+ghost use Rattle.std.specs.Prelude.{◌≡◌, ℕ, ◌≤◌, ◌-◌, length, drop, map, IfOk, IfSome, OnOk, All, []};
 ghost use Rattle.std.specs.Option.{option_map};
 ghost use Rattle.pe_core.specs.Text.{text_of, text_at, texts_of};
 ghost use Rattle.pe_core.specs.TextRuns.{AreFirstTexts, IsLastText, IsRun, last_of};
 
-use crate::text::{first_zero, from_place, text_at};
+use crate::first_zero::first_zero;
+use crate::text::{from_place, text_at, text_of};
 use std::alloc::{AllocError, Allocator};
 
-/// A run of so many bytes is worth keeping.
+/// A text of fewer bytes is short, and a run of so many is worth keeping.
 const LONG: usize = 64;
 
 /// The places from `start` to `end`, with the first zero behind them at `end`, or with none behind them.
@@ -46,6 +47,18 @@ fn text_from(text: &str, place: usize) -> Option<&str>
     }
 }
 
+/// The text at a place, if a zero ends it within a few bytes: most names do. Such a text costs the same wherever it lies,
+/// so no run of it is kept.
+#[tactic(auto, using(crate::proofs::FirstZero::short_texts))]
+fn short_text_at(bytes: &[u8], place: usize) -> Option<Option<&str>>
+    ensures { IfSome result (λ text. option_map (λ s. s.now) text ≡ text_at bytes.now place) }
+{
+    let rest = from_place(bytes, place);
+    let first = &rest[..rest.len().min(LONG)];
+    let length = first_zero(first)?;
+    Some(text_of(&first[..length]))
+}
+
 /// The run that starts at a place.
 fn run_from(bytes: &[u8], start: usize) -> Run<'_>
     ensures run { IsRun bytes.now result }
@@ -80,8 +93,8 @@ fn text_of_run<'a>(run: &Run<'a>, place: usize) -> Option<&'a str>
     }
 }
 
-/// The text at a place, by the run if the place lies in it, and else by a run from there, which replaces it. The
-/// number says how many bytes were read.
+/// The text at a place: by the run if the place lies in it, else by its few bytes, else by a run from there, which
+/// replaces the first. The number says how many bytes were read for the run.
 fn text_by_run<'a>(bytes: &'a [u8], run: &mut Run<'a>, place: usize) -> (Option<&'a str>, usize)
     requires { IsRun bytes.now run.old }
     ensures run { IsRun bytes.entry.now run.new }
@@ -90,6 +103,9 @@ fn text_by_run<'a>(bytes: &'a [u8], run: &mut Run<'a>, place: usize) -> (Option<
     if run.start <= place && place <= run.end {
         return (text_of_run(run, place), 0);
     }
+    if let Some(text) = short_text_at(bytes, place) {
+        return (text, 0);
+    }
     *run = run_from(bytes, place);
     (
         text_of_run(run, place),
@@ -97,7 +113,7 @@ fn text_by_run<'a>(bytes: &'a [u8], run: &mut Run<'a>, place: usize) -> (Option<
     )
 }
 
-/// Appends the texts at the first places, until as many bytes were read for them as there are.
+/// Appends the texts at the first places, until as many bytes were read for long ones as there are.
 fn push_first_texts<'a, A: Allocator>(
     bytes: &'a [u8],
     places: &[usize],

@@ -9,9 +9,10 @@ ghost use Rattle.pe_core.specs.Strings.{pieces, strings_at, strings_view};
 
 use crate::bytes::{number32, require_bytes};
 use crate::error::{Error, Reason, Result};
+use crate::first_zero::first_zero;
 use crate::header::CoffHeader;
 use crate::symbol::SIZE_OF_SYMBOL;
-use crate::text::{first_zero, from_place, text_at, text_of};
+use crate::text::{from_place, text_at, text_of};
 use std::alloc::Allocator;
 
 /// The size field in front of the strings, in bytes.

@@ -1,9 +1,11 @@
 //! Bytes that are text, and texts that a zero ends.
 
-ghost use Rattle.std.specs.Prelude.{◌≡◌, ◌==◌, drop, position};
+ghost use Rattle.std.specs.Prelude.{◌≡◌, ◌==◌, drop};
 ghost use Rattle.std.specs.List.{before_first};
 ghost use Rattle.std.specs.Option.{option_map};
 ghost use Rattle.pe_core.specs.Text.{text_of, text_at};
+
+use crate::first_zero::first_zero;
 
 /// The bytes as text. `None` if they are not UTF-8.
 #[tactic(auto, using(crate::proofs::Texts::utf8_tests))]
@@ -11,13 +13,6 @@ pub(crate) fn text_of(bytes: &[u8]) -> Option<&str>
     ensures { option_map (λ s. s.now) result ≡ text_of bytes.now }
 {
     str::from_utf8(bytes).ok()
-}
-
-/// Where the first zero is.
-pub(crate) fn first_zero(bytes: &[u8]) -> Option<usize>
-    ensures { result ≡ position (λ c. c == 0) bytes.now }
-{
-    bytes.iter().position(|byte| *byte == 0)
 }
 
 /// The bytes up to the first zero, or all of them.

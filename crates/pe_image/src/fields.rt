@@ -14,17 +14,14 @@ ghost use Rattle.pe_image.specs.FieldSteps.{by_mode, list_by_mode, first_fields_
 
 use crate::core_image::Core;
 use crate::layout::Layout;
-use pe_core::{DataDirectory, ParseOptions, RelocationData, Result, SectionTable};
+use pe_core::{
+    COFF_MACHINE_ARM64, COFF_MACHINE_X86_64, DataDirectory, ParseOptions, RelocationData, Result,
+    SectionTable,
+};
 use pe_records::{CertificateDirectoryTable, DebugData, enumerate_certificates};
 use pe_resource::ResourceData;
 use pe_unwind::ExceptionData;
 use std::alloc::Allocator;
-
-/// The machine x64, as the COFF header gives it.
-pub const COFF_MACHINE_X86_64: u16 = 0x8664;
-
-/// The machine ARM64, as the COFF header gives it.
-pub const COFF_MACHINE_ARM64: u16 = 0xAA64;
 
 /// The debug data by mode.
 #[tactic(auto, using(crate::proofs::ByMode::gives_by_mode))]

@@ -25,8 +25,6 @@ ghost use Rattle.pe_image.specs.Pieces.{all_certificate_pieces, all_section_piec
 ghost use Rattle.pe_image.specs.Writing.{AreAligned, GivesWritten, certificate_directory, certificates_written, clash, image_pieces, image_written, sections_written};
 ghost use Rattle.pe_image.specs.WritingSteps.{put_in_turn};
 
-use crate::fields::{COFF_MACHINE_ARM64, COFF_MACHINE_X86_64};
-
 /// The whole promise of permissive mode, as one law. Bytes are refused exactly as their core is: headers, section headers,
 /// imports. Otherwise there is an image: its core is that core; its name, kind, entry point and image base are those of
 /// the core; and the field of each directory is what that directory's own definition gives, and empty where that is absent
@@ -101,12 +99,6 @@ pub fn images_are_one()
     pe_resource::laws::resources::resources_have_an_answer();
     pe_resource::laws::resources::resources_have_one_answer();
 }
-
-/// The numbers of the machines that have exception data.
-pub fn constants()
-    ensures x64 { COFF_MACHINE_X86_64 ≡ 0x8664 }
-    ensures arm64 { COFF_MACHINE_ARM64 ≡ 0xAA64 }
-{}
 
 /// Exception data of an image are of its bytes, and map addresses by its file alignment: so lookup, links and records over
 /// them are those of the bytes.

@@ -5,16 +5,13 @@ ghost use Rattle.pe_core.specs.Header.{header_view, optional_view};
 ghost use Rattle.pe_image.specs.Layout.{is_library};
 ghost use Rattle.pe_image.specs.LayoutParts.{layout_of};
 
-use pe_core::{DataDirectory, Header, MAGIC_64, OptionalHeader};
+use pe_core::{DataDirectory, Header, IMAGE_FILE_DLL, MAGIC_64, OptionalHeader};
 
-/// The bit of the characteristics that tells a library.
-const FILE_IS_LIBRARY: u16 = 0x2000;
-
-/// Whether the image is a library.
+/// Whether the image is a DLL.
 pub fn is_library(header: &Header<'_>) -> bool
     ensures { result ≡ is_library (header_view header.now) }
 {
-    header.coff_header.characteristics / FILE_IS_LIBRARY % 2 == 1
+    header.coff_header.characteristics / IMAGE_FILE_DLL % 2 == 1
 }
 
 /// What an optional header says of the image and of where its directories are. Without one there are none, and the numbers

@@ -14,10 +14,10 @@ mod te;
 mod write;
 
 pub use coff::Coff;
-pub use fields::COFF_MACHINE_ARM64;
-pub use fields::COFF_MACHINE_X86_64;
 pub use pe::PE;
 pub use pe_core::ByteRange;
+pub use pe_core::COFF_MACHINE_ARM64;
+pub use pe_core::COFF_MACHINE_X86_64;
 pub use pe_core::CoffHeader;
 pub use pe_core::CountedTable;
 pub use pe_core::DOS_MAGIC;

@@ -3,12 +3,12 @@
 ghost use Rattle.std.specs.Prelude.{◌≡◌, ◌<◌, ◌^◌, map};
 ghost use Rattle.pe_core.specs.Refusals.{answer_by};
 ghost use Rattle.pe_unwind.specs.FunctionTable.{answer_of};
-ghost use Rattle.pe_unwind.specs.Links.{links_of};
+ghost use Rattle.pe_unwind.specs.Links.{links_by};
 ghost use Rattle.pe_unwind.specs.UnwindRecord.{unwind_view};
 ghost use Rattle.pe_unwind.specs.Unwinding.{Unwinds};
 ghost use Rattle.pe_plan.specs.PlanSteps.{HasLength, Counts, Takes};
 
-use pe_core::{Error, ParseOptions, Reason, Result, SectionTable};
+use pe_core::{Error, Reason, Result, SectionMap};
 use pe_unwind::{ExceptionData, RuntimeFunction, UnwindInfo};
 use std::alloc::Allocator;
 
@@ -23,27 +23,26 @@ fn address_of(function: RuntimeFunction) -> u32
     function.unwind_info_address
 }
 
-/// The records of exception data, and what maps addresses to places in the file.
+/// The records of exception data, and the section map of their image.
 #[derive(Clone, Copy)]
 pub(crate) struct Records<'a, 'b> {
     pub exceptions: &'b ExceptionData<'a>,
-    pub sections: &'b [SectionTable],
-    pub opts: &'b ParseOptions,
+    pub sections: &'b SectionMap<'b>,
 }
 
 impl<'a, 'b> Records<'a, 'b> {
     /// The record of a function.
     fn record(&self, function: RuntimeFunction) -> Result<UnwindInfo<'a>>
-        ensures { Unwinds (links_of self.now.exceptions.now self.now.sections.now self.now.opts.now) self.now.exceptions.now.content function.unwind_info_address (answer_by unwind_view result) }
+        ensures { Unwinds (links_by self.now.exceptions.now self.now.sections.now) self.now.exceptions.now.content function.unwind_info_address (answer_by unwind_view result) }
     {
         self.exceptions
-            .get_unwind_info_with_opts(function, self.sections, self.opts)
+            .get_unwind_info_with_map(function, self.sections)
     }
 
     /// How many records the chain of a function has, up to its root. One unwind address is saved after 1, 2, 4, 8 and so
     /// on records, so a ring ends after about as many records as it has, and those before it. No memory is asked for.
     pub fn count(&self, function: RuntimeFunction) -> Result<usize>
-        ensures { Counts (links_of self.now.exceptions.now self.now.sections.now self.now.opts.now) self.now.exceptions.now.content function (answer_of result) }
+        ensures { Counts (links_by self.now.exceptions.now self.now.sections.now) self.now.exceptions.now.content function (answer_of result) }
     {
         let mut current = function;
         let mut saved = function.unwind_info_address;
@@ -72,8 +71,8 @@ impl<'a, 'b> Records<'a, 'b> {
         function: RuntimeFunction,
         count: usize,
     ) -> Result<Vec<UnwindInfo<'a>, A>>
-        requires { HasLength (links_of self.now.exceptions.now self.now.sections.now self.now.opts.now) self.now.exceptions.now.content function count }
-        ensures { Takes (links_of self.now.exceptions.now self.now.sections.now self.now.opts.now) self.now.exceptions.now.content function (answer_by (λ records. map unwind_view records.items) result) }
+        requires { HasLength (links_by self.now.exceptions.now self.now.sections.now) self.now.exceptions.now.content function count }
+        ensures { Takes (links_by self.now.exceptions.now self.now.sections.now) self.now.exceptions.now.content function (answer_by (λ records. map unwind_view records.items) result) }
     {
         let mut records = Vec::with_capacity(alloc, count)?;
         let mut current = function;

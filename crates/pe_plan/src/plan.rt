@@ -3,12 +3,12 @@
 ghost use Rattle.std.specs.Prelude.{◌≡◌, ◌↔◌, map, Err};
 ghost use Rattle.std.specs.Option.{option_map};
 ghost use Rattle.pe_core.specs.Refusals.{FunctionCycle, answer_by};
-ghost use Rattle.pe_unwind.specs.Links.{links_of};
+ghost use Rattle.pe_unwind.specs.Links.{links_by, links_of};
 ghost use Rattle.pe_unwind.specs.UnwindRecord.{unwind_view};
 ghost use Rattle.pe_plan.specs.Plans.{NeverEnds, PlansFrom, Plans};
 
 use crate::chain::Records;
-use pe_core::{ParseOptions, Result, SectionTable};
+use pe_core::{ParseOptions, Result, SectionMap, SectionTable};
 use pe_unwind::{ExceptionData, RuntimeFunction, UnwindInfo};
 use std::alloc::Allocator;
 
@@ -50,10 +50,24 @@ impl UnwindPlan {
         ensures plan { PlansFrom (links_of exceptions.now sections.now opts.now) exceptions.now.content function (answer_by (λ records. map unwind_view records.items) result) }
         ensures cycle { (answer_by (λ records. map unwind_view records.items) result ≡ Err FunctionCycle) ↔ NeverEnds (links_of exceptions.now sections.now opts.now) exceptions.now.content function }
     {
+        let sections = exceptions.section_map(sections, opts);
+        UnwindPlan::of_function_with_map(alloc, exceptions, function, &sections)
+    }
+
+    /// The unwind records of a function, as `of_function` returns them, by a section map. With an index (`SectionIndex`) each
+    /// step takes few steps under many sections.
+    pub fn of_function_with_map<'a, A: Allocator>(
+        alloc: A,
+        exceptions: &ExceptionData<'a>,
+        function: RuntimeFunction,
+        sections: &SectionMap<'_>,
+    ) -> Result<Vec<UnwindInfo<'a>, A>>
+        ensures plan { PlansFrom (links_by exceptions.now sections.now) exceptions.now.content function (answer_by (λ records. map unwind_view records.items) result) }
+        ensures cycle { (answer_by (λ records. map unwind_view records.items) result ≡ Err FunctionCycle) ↔ NeverEnds (links_by exceptions.now sections.now) exceptions.now.content function }
+    {
         let chain = Records {
             exceptions,
             sections,
-            opts,
         };
         let count = chain.count(function)?;
         chain.take(alloc, function, count)

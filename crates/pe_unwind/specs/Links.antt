@@ -1,7 +1,7 @@
 -- Chains of links between the entries of a function table. (x64 exception handling; links by this project's profile.)
 use Rattle.std.specs.Prelude.{◌≡◌, ℕ, ◌-◌, ◌*◌, ◌/◌, ◌%◌, List, length, Option, Some, None, Result, Ok, Err, if◌then◌else◌, nat_le, nat_lt, ◌==◌, ◌&&◌, option_and_then, IsSomeAnd}
 use Rattle.pe_core.specs.Refusals.{Refusal, Unmapped, FunctionLink, FunctionCycle}
-use Rattle.pe_core.specs.SectionMap.{section_map}
+use Rattle.pe_core.specs.SectionMap.{SectionMapView, map_view, offset_in}
 use Rattle.pe_core.specs.declared.options.ParseOptions.{ParseOptions}
 use Rattle.pe_core.specs.declared.section_table.SectionTable.{SectionTable}
 use Rattle.pe_core.specs.Chains.{after}
@@ -9,19 +9,23 @@ use Rattle.pe_unwind.specs.declared.links.Links.{Links}
 use Rattle.pe_unwind.specs.ExceptionTable.{ExceptionView, table_of}
 use Rattle.pe_unwind.specs.FunctionTable.{function_at}
 
--- the bytes of a function table, where they begin in the file, and the map from addresses to places
+-- the bytes of a function table, where they begin in the file, and the section map
 pub record Table : Type 0 where
   pub entries : List ℕ
   pub start : ℕ
   pub place : ℕ → Option ℕ
 
--- the table of an exception directory
+-- the table of an exception directory, by a section map
+abbrev pub links_by : ExceptionView → SectionMapView → Table
+links_by v m = record { entries = table_of v; start = v.start; place = offset_in m }
+
+-- the same by these sections, under these options, with the directory's own file alignment
 abbrev pub links_of : ExceptionView → List SectionTable → ParseOptions → Table
-links_of v sections opts = record { entries = table_of v; start = v.start; place = section_map opts sections v.alignment }
+links_of v sections opts = links_by v (map_view opts sections v.alignment)
 
 -- the same, seen in what follows the links
 abbrev pub table_view : Links → Table
-table_view l = record { entries = l.table.now; start = l.start; place = section_map l.opts.now l.sections.now l.file_alignment }
+table_view l = record { entries = l.table.now; start = l.start; place = offset_in l.sections.now }
 
 -- how many entries there are
 abbrev pub count : Table → ℕ

@@ -8,8 +8,8 @@ use crate::function_table::{RuntimeFunction, RuntimeFunctionIterator, SIZE_OF_FU
 use crate::links::Links;
 use crate::unwind_info::UnwindInfo;
 use pe_core::{
-    ByteRange, CountedTable, DataDirectory, Error, ParseOptions, Reason, Result, SectionTable,
-    mapped_offset,
+    ByteRange, CountedTable, DataDirectory, Error, ParseOptions, Reason, Result, SectionMap,
+    SectionTable, mapped_offset,
 };
 use std::fmt;
 use std::marker::Model;
@@ -56,7 +56,8 @@ impl<'a> ExceptionData<'a> {
     ghost use Rattle.pe_unwind.specs.Arm64Record.{info_view};
     ghost use Rattle.pe_unwind.specs.Arm64Unwinding.{place_of_function, info_of_function};
     ghost use Rattle.pe_unwind.specs.FunctionTable.{functions, function_items, items_of_functions, answer_of, Finds};
-    ghost use Rattle.pe_unwind.specs.Links.{IsEndless, links_of, table_view};
+    ghost use Rattle.pe_core.specs.SectionMap.{map_view};
+    ghost use Rattle.pe_unwind.specs.Links.{IsEndless, links_by, links_of, table_view};
     ghost use Rattle.pe_unwind.specs.Unwinding.{FindsRecord, Unwinds, UnwindsAt, CyclesAt};
     ghost use Rattle.pe_unwind.specs.UnwindRecord.{unwind_view};
 
@@ -229,16 +230,25 @@ impl<'a> ExceptionData<'a> {
         Ok(search(&mut table, rva))
     }
 
-    /// The table's links, under these sections and options.
-    fn links<'b>(&self, sections: &'b [SectionTable], opts: &'b ParseOptions) -> Links<'a, 'b>
-        ensures { table_view result ≡ links_of self.now sections.now opts.now }
+    /// The section map of these sections, under these options, with the file alignment of the image.
+    pub fn section_map<'b>(
+        &self,
+        sections: &'b [SectionTable],
+        opts: &ParseOptions,
+    ) -> SectionMap<'b>
+        ensures { result ≡ map_view opts.now sections.entry.now self.now.alignment }
+    {
+        SectionMap::new(sections, self.file_alignment, opts)
+    }
+
+    /// The table's links, by a section map.
+    fn links<'b>(&self, sections: &'b SectionMap<'b>) -> Links<'a, 'b>
+        ensures { table_view result ≡ links_by self.now sections.now }
     {
         Links {
             table: self.table_bytes(),
             start: self.offset,
             sections,
-            file_alignment: self.file_alignment,
-            opts,
         }
     }
 
@@ -253,7 +263,8 @@ impl<'a> ExceptionData<'a> {
     ) -> Result<usize>
         ensures { FindsRecord (links_of self.now sections.now opts.now) unwind_address (answer_of result) }
     {
-        self.links(sections, opts).record_place(unwind_address)
+        let sections = self.section_map(sections, opts);
+        self.links(&sections).record_place(unwind_address)
     }
 
     /// The unwind record of a function, with the default options.
@@ -280,7 +291,20 @@ impl<'a> ExceptionData<'a> {
         ensures record { Unwinds (links_of self.now sections.now opts.now) self.now.content function.unwind_info_address (answer_by unwind_view result) }
         ensures cycle { (answer_by unwind_view result ≡ Err FunctionCycle) ↔ IsEndless (links_of self.now sections.now opts.now) function.unwind_info_address }
     {
-        let links = self.links(sections, opts);
+        let sections = self.section_map(sections, opts);
+        self.get_unwind_info_with_map(function, &sections)
+    }
+
+    /// The unwind record of a function, as `get_unwind_info_with_opts` reads it, by a section map.
+    pub fn get_unwind_info_with_map(
+        &self,
+        function: RuntimeFunction,
+        sections: &SectionMap<'_>,
+    ) -> Result<UnwindInfo<'a>>
+        ensures record { Unwinds (links_by self.now sections.now) self.now.content function.unwind_info_address (answer_by unwind_view result) }
+        ensures cycle { (answer_by unwind_view result ≡ Err FunctionCycle) ↔ IsEndless (links_by self.now sections.now) function.unwind_info_address }
+    {
+        let links = self.links(sections);
         self.linked_record(&links, function.unwind_info_address)
     }
 
@@ -362,7 +386,8 @@ impl<'a> ExceptionData<'a> {
         let Some(function) = search(&mut table, rva) else {
             return Ok(None);
         };
-        let links = self.links(sections, opts);
+        let sections = self.section_map(sections, opts);
+        let links = self.links(&sections);
         let info = self.linked_record(&links, function.unwind_info_address)?;
         Ok(Some(info))
     }

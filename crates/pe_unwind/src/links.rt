@@ -1,41 +1,31 @@
 //! Links between the entries of a function table: an odd unwind address leads to another entry.
 
 ghost use Rattle.std.specs.Prelude.{◌≡◌, ◌%◌};
-ghost use Rattle.pe_core.specs.SectionMap.{mapped};
 ghost use Rattle.pe_unwind.specs.FunctionTable.{answer_of};
 ghost use Rattle.pe_unwind.specs.LinkSteps.{Leads};
 ghost use Rattle.pe_unwind.specs.Links.{table_view, Follows};
 ghost use Rattle.pe_unwind.specs.Unwinding.{FindsRecord};
 
 use crate::function_table::{SIZE_OF_FUNCTION, read_function};
-use pe_core::{Error, ParseOptions, Reason, Result, SectionTable, mapped_offset};
+use pe_core::{Error, Reason, Result, SectionMap};
 
-/// The entries of a function table, and what maps addresses to places in the file.
+/// The entries of a function table, and the section map of their image.
 #[derive(Clone, Copy)]
 pub(crate) struct Links<'a, 'b> {
     /// The bytes of the table.
     pub table: &'a [u8],
     /// Where the table begins in the file.
     pub start: usize,
-    pub sections: &'b [SectionTable],
-    pub file_alignment: u32,
-    pub opts: &'b ParseOptions,
+    pub sections: &'b SectionMap<'b>,
 }
 
 impl<'a, 'b> Links<'a, 'b> {
-    /// The file offset of an RVA.
-    fn offset_of(&self, rva: u32) -> Result<usize>
-        ensures { answer_of result ≡ mapped ((table_view self.now).place rva) }
-    {
-        mapped_offset(rva, self.sections, self.file_alignment, self.opts)
-    }
-
     /// The unwind address of the entry that an odd address leads to.
     fn follow(&self, address: u32) -> Result<u32>
         requires { address % 2 ≡ 1 }
         ensures { Leads (table_view self.now) address (answer_of result) }
     {
-        let place = self.offset_of(address - 1)?;
+        let place = self.sections.offset_of(address - 1)?;
         if place < self.start
             || (place - self.start) % SIZE_OF_FUNCTION != 0
             || self.table.len() / SIZE_OF_FUNCTION <= (place - self.start) / SIZE_OF_FUNCTION
@@ -75,6 +65,6 @@ impl<'a, 'b> Links<'a, 'b> {
         ensures { FindsRecord (table_view self.now) address (answer_of result) }
     {
         let last = self.end_of(address)?;
-        self.offset_of(last)
+        self.sections.offset_of(last)
     }
 }

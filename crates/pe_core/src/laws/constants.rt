@@ -2,11 +2,11 @@
 
 ghost use Rattle.std.specs.Prelude.{◌≡◌};
 ghost use Rattle.pe_core.specs.declared.data_directories.TheConstants.{MOST_DIRECTORIES};
-ghost use Rattle.pe_core.specs.declared.header.TheConstants.{DOS_MAGIC, PE_MAGIC, SIZE_OF_DOS_HEADER, SIZE_OF_TE_HEADER, TE_MAGIC};
+ghost use Rattle.pe_core.specs.declared.header.TheConstants.{COFF_MACHINE_ARM64, COFF_MACHINE_X86_64, DOS_MAGIC, IMAGE_FILE_DLL, PE_MAGIC, SIZE_OF_DOS_HEADER, SIZE_OF_TE_HEADER, TE_MAGIC};
 ghost use Rattle.pe_core.specs.declared.optional_header.TheConstants.{MAGIC_32, MAGIC_64};
 ghost use Rattle.pe_core.specs.declared.symbol.TheConstants.{SIZE_OF_SYMBOL};
 
-/// Magic numbers and sizes of headers, and the size of a symbol.
+/// Magic numbers and sizes of headers, the machines that have exception data, the flag of a DLL, and the size of a symbol.
 pub fn constants_of_headers()
     ensures dos_magic { DOS_MAGIC ≡ 0x5A4D }
     ensures pe_magic { PE_MAGIC ≡ 0x4550 }
@@ -16,5 +16,8 @@ pub fn constants_of_headers()
     ensures magic_32 { MAGIC_32 ≡ 0x10B }
     ensures magic_64 { MAGIC_64 ≡ 0x20B }
     ensures most_directories { MOST_DIRECTORIES ≡ 16 }
+    ensures x64 { COFF_MACHINE_X86_64 ≡ 0x8664 }
+    ensures arm64 { COFF_MACHINE_ARM64 ≡ 0xAA64 }
+    ensures dll { IMAGE_FILE_DLL ≡ 0x2000 }
     ensures symbol { SIZE_OF_SYMBOL ≡ 18 }
 {}

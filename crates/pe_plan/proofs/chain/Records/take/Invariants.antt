@@ -1,11 +1,11 @@
 use Rattle.std.proofs.Common.{◌≡◌, map, length}
-use Rattle.pe_unwind.specs.Links.{links_of}
+use Rattle.pe_unwind.specs.Links.{links_by}
 use Rattle.pe_unwind.specs.UnwindRecord.{unwind_view}
 use Rattle.pe_plan.proofs.Walks.{TakenTo}
 use Rattle.pe_plan.proofs.chain.Records.take.Given as goal
 
 abbrev pub invariant-loop : goal.invariant-loop
 invariant-loop g l = record {
-  taken : TakenTo (links_of l.self.exceptions.now l.self.sections.now l.self.opts.now) l.self.exceptions.now.content l.fn.function l.count (map unwind_view l.records.items) l.current;
+  taken : TakenTo (links_by l.self.exceptions.now l.self.sections.now) l.self.exceptions.now.content l.fn.function l.count (map unwind_view l.records.items) l.current;
   many : length l.records.items ≡ l.counter;
 }
