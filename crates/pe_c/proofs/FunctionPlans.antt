@@ -18,6 +18,7 @@ use Rattle.pe_plan.specs.Plans.{IsChain, PlansFrom}
 use Rattle.pe_plan.specs.PlanSteps.{Counts}
 use Rattle.pe_plan.proofs.Marks.{Marked, starts, keeps, moves, comes_again, comes_to_root, comes_to_fault}
 use Rattle.pe_plan.proofs.OnePlan.{one_plan}
+use Rattle.pe_plan.proofs.RecordLaw.{RecordLaw}
 use Rattle.pe_plan.proofs.Walks.{counted}
 use Rattle.pe_c.specs.Modes.{options_of}
 use Rattle.pe_c.specs.Plans.{AnswersBehind, GivesInTurn, StepsIf, StepsPlan, TellsUnwindRecord, ended, ending_of, gives, goes_on, leaves, plan_from}
@@ -155,53 +156,53 @@ by_record t b f told p w r i (Some next) u tells is flag chained =
     (subst (λ (g : RuntimeFunction). Stands t b f (told ++ r ∷ []) (goes_on p g.unwind_info_address)) (sym chained)
     (saved_or_not t b f w.current next w.records i (told ++ r ∷ []) p (nat_le p.limit (p.steps + 1)) w.way w.not_over u is (all_zip_more (TellsUnwindRecord b) told w.records r i w.tells tells)))
 
-by_answer : (t : Table) (b : List ℕ) (f : RuntimeFunction) (told : List UnwindRecord) (p : Plan) (w : Stands t b f told p) (next : Result UnwindRecord Refusal) (x : Result UnwindInfoView Refusal) →
+by_answer : (law : RecordLaw) (t : Table) (b : List ℕ) (f : RuntimeFunction) (told : List UnwindRecord) (p : Plan) (w : Stands t b f told p) (next : Result UnwindRecord Refusal) (x : Result UnwindInfoView Refusal) →
     Unwinds t b (w.current).unwind_info_address x → Tells b next x → Steps t b f told (gives p next) (leaves p next)
-by_answer t b f told p w (Ok r) (Ok i) u tells =
+by_answer law t b f told p w (Ok r) (Ok i) u tells =
     by_record t b f told p w r i i.chained_info u tells refl (ap (λ (y : UnwindRecord). y.is_chained) tells.2) (ap (λ (y : UnwindRecord). y.chained) tells.2)
-by_answer t b f told p w (Ok r) (Err k) u tells = absurd tells
-by_answer t b f told p w (Err e) (Ok i) u tells = absurd tells
-by_answer t b f told p w (Err e) (Err k) u tells =
-    subst (λ (x : Refusal). Counts t b f (Err x)) tells (comes_to_fault t b f w.current w.records k p.saved w.way u)
+by_answer law t b f told p w (Ok r) (Err k) u tells = absurd tells
+by_answer law t b f told p w (Err e) (Ok i) u tells = absurd tells
+by_answer law t b f told p w (Err e) (Err k) u tells =
+    subst (λ (x : Refusal). Counts t b f (Err x)) tells (comes_to_fault law t b f w.current w.records k p.saved w.way u)
 
-by_step : (t : Table) (b : List ℕ) (image : Image) (s : List SectionTable) (mode : ℕ) (f : RuntimeFunction) (told : List UnwindRecord) (p q : Plan) (next : Result UnwindRecord Refusal) (answer : Result (Option UnwindRecord) Refusal) →
+by_step : (law : RecordLaw) (t : Table) (b : List ℕ) (image : Image) (s : List SectionTable) (mode : ℕ) (f : RuntimeFunction) (told : List UnwindRecord) (p q : Plan) (next : Result UnwindRecord Refusal) (answer : Result (Option UnwindRecord) Refusal) →
     Has t b image s mode → Stands t b f told p → FollowsToRecord b image s mode p.unwind next → answer ≡ gives p next → q ≡ leaves p next → Steps t b f told answer q
-by_step t b image s mode f told p q next answer h w follows a l =
+by_step law t b image s mode f told p q next answer h w follows a l =
     let x : Found t b p.unwind next = found t b image s mode p.unwind next h follows in
     let u : Unwinds t b (w.current).unwind_info_address x.answer = subst (λ (y : ℕ). Unwinds t b y x.answer) (sym w.here) x.unwinds in
-    rw (a, l) (by_answer t b f told p w next x.answer u x.tells)
+    rw (a, l) (by_answer law t b f told p w next x.answer u x.tells)
 
-by_test : (test : Bool) (t : Table) (b : List ℕ) (image : Image) (s : List SectionTable) (mode : ℕ) (f : RuntimeFunction) (told : List UnwindRecord) (p q : Plan) (answer : Result (Option UnwindRecord) Refusal) →
+by_test : (law : RecordLaw) (test : Bool) (t : Table) (b : List ℕ) (image : Image) (s : List SectionTable) (mode : ℕ) (f : RuntimeFunction) (told : List UnwindRecord) (p q : Plan) (answer : Result (Option UnwindRecord) Refusal) →
     test ≡ true → Has t b image s mode → Stands t b f told p → StepsIf test b image s mode p answer q → Steps t b f told answer q
-by_test false t b image s mode f told p q answer e h w step = absurd cc
-by_test true t b image s mode f told p q answer e h w step = by_step t b image s mode f told p q step.0 answer h w step.1 step.2 step.3
+by_test law false t b image s mode f told p q answer e h w step = absurd cc
+by_test law true t b image s mode f told p q answer e h w step = by_step law t b image s mode f told p q step.0 answer h w step.1 step.2 step.3
 
-steps : (t : Table) (b : List ℕ) (image : Image) (s : List SectionTable) (mode : ℕ) (f : RuntimeFunction) (told : List UnwindRecord) (p q : Plan) (answer : Result (Option UnwindRecord) Refusal) →
+steps : (law : RecordLaw) (t : Table) (b : List ℕ) (image : Image) (s : List SectionTable) (mode : ℕ) (f : RuntimeFunction) (told : List UnwindRecord) (p q : Plan) (answer : Result (Option UnwindRecord) Refusal) →
     Has t b image s mode → GoesOn t b f told p → StepsPlan b image s mode p answer q → Steps t b f told answer q
-steps t b image s mode f told p q answer h on step =
+steps law t b image s mode f told p q answer h on step =
     ⊎_elim
     (λ (w : Stands t b f told p).
     let over : (p.is_over == 0) ≡ true = (let none : p.is_over ≡ 0 = w.not_over in grind (arith, nat_tests)) in
-    by_test (p.is_over == 0) t b image s mode f told p q answer over h w step)
+    by_test law (p.is_over == 0) t b image s mode f told p q answer over h w step)
     (λ (w : (p.is_over ≡ 1) × Told t b f told).
     subst (λ (x : Result (Option UnwindRecord) Refusal). Steps t b f told x q) (sym (over_gives b image s mode p q answer w.0 step)) w.1)
     on
 
 -- ---- all steps
 
-run : (t : Table) (b : List ℕ) (image : Image) (s : List SectionTable) (mode : ℕ) (f : RuntimeFunction) (told rs : List UnwindRecord) (p q : Plan) →
+run : (law : RecordLaw) (t : Table) (b : List ℕ) (image : Image) (s : List SectionTable) (mode : ℕ) (f : RuntimeFunction) (told rs : List UnwindRecord) (p q : Plan) →
     Has t b image s mode → GoesOn t b f told p → GivesInTurn b image s mode p rs q → GoesOn t b f (told ++ rs) q
-run t b image s mode f told [] p q h on g =
+run law t b image s mode f told [] p q h on g =
     subst (λ (x : List UnwindRecord). GoesOn t b f x q) (sym (append-nil told)) (subst (λ (x : Plan). GoesOn t b f told x) g on)
-run t b image s mode f told (r ∷ rs) p q h on g =
+run law t b image s mode f told (r ∷ rs) p q h on g =
     subst (λ (x : List UnwindRecord). GoesOn t b f x q) (append_assoc told (r ∷ []) rs)
-    (run t b image s mode f (told ++ r ∷ []) rs g.0 q h (steps t b image s mode f told p g.0 (Ok (Some r)) h on g.1) g.2)
+    (run law t b image s mode f (told ++ r ∷ []) rs g.0 q h (steps law t b image s mode f told p g.0 (Ok (Some r)) h on g.1) g.2)
 
-whole : (t : Table) (b : List ℕ) (image : Image) (s : List SectionTable) (mode : ℕ) (f : RuntimeFunction) (given : List UnwindRecord) (answer : Result (Option UnwindRecord) Refusal) →
+whole : (law : RecordLaw) (t : Table) (b : List ℕ) (image : Image) (s : List SectionTable) (mode : ℕ) (f : RuntimeFunction) (given : List UnwindRecord) (answer : Result (Option UnwindRecord) Refusal) →
     Has t b image s mode → (a : AnswersBehind b image s mode f.unwind_info_address given answer) → Steps t b f given answer a.1
-whole t b image s mode f given answer h a =
+whole law t b image s mode f given answer h a =
     let start : Stands t b f [] (plan_from f.unwind_info_address) = record { records = []; tells = tt; current = f; way = starts t b f; here = refl; not_over = refl } in
-    steps t b image s mode f given a.0 a.1 answer h (run t b image s mode f [] given (plan_from f.unwind_info_address) a.0 h (inl start) a.2) a.3
+    steps law t b image s mode f given a.0 a.1 answer h (run law t b image s mode f [] given (plan_from f.unwind_info_address) a.0 h (inl start) a.2) a.3
 
 -- ---- what the steps answer
 
@@ -216,37 +217,37 @@ content_is : (b : List ℕ) (image : Image) (s : List SectionTable) (mode : ℕ)
     PlansFrom (links_of v s (options_of mode)) b f x → PlansFrom (links_of v s (options_of mode)) v.content f x
 content_is b image s mode v f x e p = subst (λ (c : List ℕ). PlansFrom (links_of v s (options_of mode)) c f x) (sym (of_bytes b image s mode v e)) p
 
-pub records_are_told : (b : List ℕ) (image : Image) (s : List SectionTable) (mode : ℕ) (v : ExceptionView) (f : RuntimeFunction) (given : List UnwindRecord) →
+pub records_are_told : (law : RecordLaw) (b : List ℕ) (image : Image) (s : List SectionTable) (mode : ℕ) (v : ExceptionView) (f : RuntimeFunction) (given : List UnwindRecord) →
     image_exceptions b image s mode ≡ Ok v → AnswersBehind b image s mode f.unwind_info_address given (Ok None) →
     (is : List UnwindInfoView) × PlansFrom (links_of v s (options_of mode)) v.content f (Ok is) × AllZip (TellsUnwindRecord b) given is
-records_are_told b image s mode v f given e a =
-    let all : Told (links_of v s (options_of mode)) b f given = whole (links_of v s (options_of mode)) b image s mode f given (Ok None) (there b image s mode v e) a in
+records_are_told law b image s mode v f given e a =
+    let all : Told (links_of v s (options_of mode)) b f given = whole law (links_of v s (options_of mode)) b image s mode f given (Ok None) (there b image s mode v e) a in
     (all.records, content_is b image s mode v f (Ok all.records) e all.chain, all.tells)
 
 no_memory : (t : Table) (b : List ℕ) (f : RuntimeFunction) (k : Refusal) → Counts t b f (Err k) → k ≢ Memory
 no_memory t b f k c e = absurd (subst (λ (x : Refusal). Counts t b f (Err x)) e c)
 
-pub refusals_are_of_plans : (b : List ℕ) (image : Image) (s : List SectionTable) (mode : ℕ) (v : ExceptionView) (f : RuntimeFunction) (given : List UnwindRecord) (refusal : Refusal) →
+pub refusals_are_of_plans : (law : RecordLaw) (b : List ℕ) (image : Image) (s : List SectionTable) (mode : ℕ) (v : ExceptionView) (f : RuntimeFunction) (given : List UnwindRecord) (refusal : Refusal) →
     image_exceptions b image s mode ≡ Ok v → AnswersBehind b image s mode f.unwind_info_address given (Err refusal) →
     (refusal ≢ Memory) × PlansFrom (links_of v s (options_of mode)) v.content f (Err refusal)
-refusals_are_of_plans b image s mode v f given refusal e a =
+refusals_are_of_plans law b image s mode v f given refusal e a =
     let t = links_of v s (options_of mode) in
-    let c : Counts t b f (Err refusal) = whole t b image s mode f given (Err refusal) (there b image s mode v e) a in
+    let c : Counts t b f (Err refusal) = whole law t b image s mode f given (Err refusal) (there b image s mode v e) a in
     (no_memory t b f refusal c, content_is b image s mode v f (Err refusal) e (counted t b f refusal c))
 
-ends_so : (t : Table) (b : List ℕ) (f : RuntimeFunction) (given : List UnwindRecord) (q : Plan) (plan : Result (List UnwindInfoView) Refusal) (answer : Result (Option UnwindRecord) Refusal) →
+ends_so : (law : RecordLaw) (t : Table) (b : List ℕ) (f : RuntimeFunction) (given : List UnwindRecord) (q : Plan) (plan : Result (List UnwindInfoView) Refusal) (answer : Result (Option UnwindRecord) Refusal) →
     PlansFrom t b f plan → plan ≢ Err Memory → Steps t b f given answer q → (answer ≡ ending_of plan) ⊎ ((r : UnwindRecord) × (answer ≡ Ok (Some r)))
-ends_so t b f given q plan (Ok None) p known all = inl (ap ending_of (one_plan t b f (Ok all.records) plan all.chain p (λ e. cc) known))
-ends_so t b f given q plan (Ok (Some r)) p known on = inr (r, refl)
-ends_so t b f given q plan (Err k) p known c =
-    inl (ap ending_of (one_plan t b f (Err k) plan (counted t b f k c) p (λ e. no_memory t b f k c (let same : k ≡ Memory = cc in same)) known))
+ends_so law t b f given q plan (Ok None) p known all = inl (ap ending_of (one_plan law t b f (Ok all.records) plan all.chain p (λ e. cc) known))
+ends_so law t b f given q plan (Ok (Some r)) p known on = inr (r, refl)
+ends_so law t b f given q plan (Err k) p known c =
+    inl (ap ending_of (one_plan law t b f (Err k) plan (counted t b f k c) p (λ e. no_memory t b f k c (let same : k ≡ Memory = cc in same)) known))
 
-pub plans_end_so : (b : List ℕ) (image : Image) (s : List SectionTable) (mode : ℕ) (v : ExceptionView) (f : RuntimeFunction) (plan : Result (List UnwindInfoView) Refusal) (given : List UnwindRecord) (answer : Result (Option UnwindRecord) Refusal) →
+pub plans_end_so : (law : RecordLaw) (b : List ℕ) (image : Image) (s : List SectionTable) (mode : ℕ) (v : ExceptionView) (f : RuntimeFunction) (plan : Result (List UnwindInfoView) Refusal) (given : List UnwindRecord) (answer : Result (Option UnwindRecord) Refusal) →
     image_exceptions b image s mode ≡ Ok v → PlansFrom (links_of v s (options_of mode)) v.content f plan → plan ≢ Err Memory →
     AnswersBehind b image s mode f.unwind_info_address given answer → (answer ≡ ending_of plan) ⊎ ((r : UnwindRecord) × (answer ≡ Ok (Some r)))
-plans_end_so b image s mode v f plan given answer e p known a =
+plans_end_so law b image s mode v f plan given answer e p known a =
     let t = links_of v s (options_of mode) in
-    ends_so t b f given a.1 plan answer (subst (λ (c : List ℕ). PlansFrom t c f plan) (of_bytes b image s mode v e) p) known (whole t b image s mode f given answer (there b image s mode v e) a)
+    ends_so law t b f given a.1 plan answer (subst (λ (c : List ℕ). PlansFrom t c f plan) (of_bytes b image s mode v e) p) known (whole law t b image s mode f given answer (there b image s mode v e) a)
 
 -- ---- exception data that are refused
 

@@ -88,7 +88,9 @@ pub fn plans_are_those_of_functions()
     ensures without_table { (b : List ℕ) (image : Image) (sections : List SectionTable) (mode unwind : ℕ) (refusal : Refusal) (given : List UnwindRecord) (answer : Result (Option UnwindRecord) Refusal) →
         image_exceptions b image sections mode ≡ Err refusal → AnswersBehind b image sections mode unwind given answer →
         (given ≡ []) × (answer ≡ Err refusal) }
-{}
+{
+    pe_unwind::laws::x64::one_record_of_addresses();
+}
 
 /// A plan that began at an unwind address gives at most three times as many records as there are addresses: so it comes to
 /// the root, or is refused.

@@ -9,9 +9,8 @@ use Rattle.pe_unwind.specs.FunctionTable.{functions, Finds}
 use Rattle.pe_unwind.specs.Links.{Table, IsEndless, links_of}
 use Rattle.pe_unwind.specs.UnwindRecord.{UnwindInfoView}
 use Rattle.pe_unwind.specs.Unwinding.{Unwinds}
-use Rattle.pe_unwind.proofs.LinkChains.{unwinds_cycle}
-use Rattle.pe_unwind.proofs.OneChain.{one_record}
 use Rattle.pe_plan.specs.Plans.{IsChain, ComesTo, HasChained, NeverEnds, PlansFrom, PlansFound, Plans}
+use Rattle.pe_plan.proofs.RecordLaw.{RecordLaw}
 
 -- where a chain ends: behind a root, or at a function whose record is refused, but for a cycle
 abbrev pub IsEnd : Table → List ℕ → Option RuntimeFunction → Type 0
@@ -19,81 +18,81 @@ IsEnd t b None = Unit {0}
 IsEnd t b (Some g) = (k : Refusal) × (k ≢ FunctionCycle) × Unwinds t b g.unwind_info_address (Err k)
 
 -- no record stands there
-pub no_record : (t : Table) (b : List ℕ) (start end final : Option RuntimeFunction) (i : UnwindInfoView) (is : List UnwindInfoView) → start ≡ end → IsEnd t b end → IsChain t b start (i ∷ is) final → ⊥
-no_record t b None end final i is same stop p = p
-no_record t b (Some f) end final i is same stop p =
+pub no_record : (law : RecordLaw) (t : Table) (b : List ℕ) (start end final : Option RuntimeFunction) (i : UnwindInfoView) (is : List UnwindInfoView) → start ≡ end → IsEnd t b end → IsChain t b start (i ∷ is) final → ⊥
+no_record law t b None end final i is same stop p = p
+no_record law t b (Some f) end final i is same stop p =
     let here : IsEnd t b (Some f) = subst (IsEnd t b) (sym same) stop in
-    let clash = one_record t b f.unwind_info_address (Err here.0) (Ok i) here.2 p.0 in
+    let clash = law.one t b f.unwind_info_address (Err here.0) (Ok i) here.2 p.0 in
     cc
 
 -- the same record
-pub same_record : (t : Table) (b : List ℕ) (u : ℕ) (i j : UnwindInfoView) → Unwinds t b u (Ok i) → Unwinds t b u (Ok j) → i ≡ j
-same_record t b u i j v w = let same = one_record t b u (Ok i) (Ok j) v w in cc
+pub same_record : (law : RecordLaw) (t : Table) (b : List ℕ) (u : ℕ) (i j : UnwindInfoView) → Unwinds t b u (Ok i) → Unwinds t b u (Ok j) → i ≡ j
+same_record law t b u i j v w = let same = law.one t b u (Ok i) (Ok j) v w in cc
 
 -- what follows the same record
-pub follows_same : (t : Table) (b : List ℕ) (f : RuntimeFunction) (i j : UnwindInfoView) (end : Option RuntimeFunction) (is js : List UnwindInfoView) (other : Option RuntimeFunction) → IsChain t b (Some f) (i ∷ is) end → IsChain t b (Some f) (j ∷ js) other → IsChain t b i.chained_info js other
-follows_same t b f i j end is js other p q =
-    subst (λ (r : UnwindInfoView). IsChain t b r.chained_info js other) (same_record t b f.unwind_info_address j i q.0 p.0) q.1
+pub follows_same : (law : RecordLaw) (t : Table) (b : List ℕ) (f : RuntimeFunction) (i j : UnwindInfoView) (end : Option RuntimeFunction) (is js : List UnwindInfoView) (other : Option RuntimeFunction) → IsChain t b (Some f) (i ∷ is) end → IsChain t b (Some f) (j ∷ js) other → IsChain t b i.chained_info js other
+follows_same law t b f i j end is js other p q =
+    subst (λ (r : UnwindInfoView). IsChain t b r.chained_info js other) (same_record law t b f.unwind_info_address j i q.0 p.0) q.1
 
 -- no chained records go on behind the end
-not_longer : (t : Table) (b : List ℕ) (start end : Option RuntimeFunction) (g : RuntimeFunction) (is js : List UnwindInfoView) → IsChain t b start is end → IsEnd t b end → IsChain t b start js (Some g) → length js ≤ length is
-not_longer t b start end g is [] p stop q = omega arith
-not_longer t b start end g [] (j ∷ js) p stop q = absurd (no_record t b start end (Some g) j js p stop q)
-not_longer t b None end g (i ∷ is) (j ∷ js) p stop q = absurd p
-not_longer t b (Some f) end g (i ∷ is) (j ∷ js) p stop q =
-    omega (arith, not_longer t b i.chained_info end g is js p.1 stop (follows_same t b f i j end is js (Some g) p q))
+not_longer : (law : RecordLaw) (t : Table) (b : List ℕ) (start end : Option RuntimeFunction) (g : RuntimeFunction) (is js : List UnwindInfoView) → IsChain t b start is end → IsEnd t b end → IsChain t b start js (Some g) → length js ≤ length is
+not_longer law t b start end g is [] p stop q = omega arith
+not_longer law t b start end g [] (j ∷ js) p stop q = absurd (no_record law t b start end (Some g) j js p stop q)
+not_longer law t b None end g (i ∷ is) (j ∷ js) p stop q = absurd p
+not_longer law t b (Some f) end g (i ∷ is) (j ∷ js) p stop q =
+    omega (arith, not_longer law t b i.chained_info end g is js p.1 stop (follows_same law t b f i j end is js (Some g) p q))
 
 -- a cycle of links in place of a record
-cycle_of : (t : Table) (b : List ℕ) (u : ℕ) (x : Result UnwindInfoView Refusal) → IsEndless t u → Unwinds t b u x → x ≡ Err FunctionCycle
-cycle_of t b u x endless w = (unwinds_cycle t b u x w).1 endless
+cycle_of : (law : RecordLaw) (t : Table) (b : List ℕ) (u : ℕ) (x : Result UnwindInfoView Refusal) → IsEndless t u → Unwinds t b u x → x ≡ Err FunctionCycle
+cycle_of law t b u x endless w = (law.cycle t b u x w).1 endless
 
 -- the links of none of its functions never end
-no_endless_links : (t : Table) (b : List ℕ) (start end : Option RuntimeFunction) (g : RuntimeFunction) (is js : List UnwindInfoView) → IsChain t b start is end → IsEnd t b end → IsChain t b start js (Some g) → IsEndless t g.unwind_info_address → ⊥
-no_endless_links t b start end g [] [] p stop q endless =
+no_endless_links : (law : RecordLaw) (t : Table) (b : List ℕ) (start end : Option RuntimeFunction) (g : RuntimeFunction) (is js : List UnwindInfoView) → IsChain t b start is end → IsEnd t b end → IsChain t b start js (Some g) → IsEndless t g.unwind_info_address → ⊥
+no_endless_links law t b start end g [] [] p stop q endless =
     let here : IsEnd t b (Some g) = subst (IsEnd t b) (sym p ∙ q) stop in
-    let same = cycle_of t b g.unwind_info_address (Err here.0) endless here.2 in
+    let same = cycle_of law t b g.unwind_info_address (Err here.0) endless here.2 in
     here.1 (let is : here.0 ≡ FunctionCycle = cc in is)
-no_endless_links t b start end g [] (j ∷ js) p stop q endless = no_record t b start end (Some g) j js p stop q
-no_endless_links t b None end g (i ∷ is) js p stop q endless = p
-no_endless_links t b (Some f) end g (i ∷ is) [] p stop q endless =
+no_endless_links law t b start end g [] (j ∷ js) p stop q endless = no_record law t b start end (Some g) j js p stop q
+no_endless_links law t b None end g (i ∷ is) js p stop q endless = p
+no_endless_links law t b (Some f) end g (i ∷ is) [] p stop q endless =
     let same : f ≡ g = cc in
-    let clash = cycle_of t b f.unwind_info_address (Ok i) (subst (λ (h : RuntimeFunction). IsEndless t h.unwind_info_address) (sym same) endless) p.0 in
+    let clash = cycle_of law t b f.unwind_info_address (Ok i) (subst (λ (h : RuntimeFunction). IsEndless t h.unwind_info_address) (sym same) endless) p.0 in
     cc
-no_endless_links t b (Some f) end g (i ∷ is) (j ∷ js) p stop q endless =
-    no_endless_links t b i.chained_info end g is js p.1 stop (follows_same t b f i j end is js (Some g) p q) endless
+no_endless_links law t b (Some f) end g (i ∷ is) (j ∷ js) p stop q endless =
+    no_endless_links law t b i.chained_info end g is js p.1 stop (follows_same law t b f i j end is js (Some g) p q) endless
 
 -- a chain that comes to an end does not go on for ever
-pub ends : (t : Table) (b : List ℕ) (f : RuntimeFunction) (end : Option RuntimeFunction) (is : List UnwindInfoView) → IsChain t b (Some f) is end → IsEnd t b end → NeverEnds t b f → ⊥
-ends t b f end is p stop =
+pub ends : (law : RecordLaw) (t : Table) (b : List ℕ) (f : RuntimeFunction) (end : Option RuntimeFunction) (is : List UnwindInfoView) → IsChain t b (Some f) is end → IsEnd t b end → NeverEnds t b f → ⊥
+ends law t b f end is p stop =
     ⊎_elim
     (λ (on : (n : ℕ) → HasChained t b (Some f) n).
     let more : HasChained t b (Some f) (suc (length is)) = on (suc (length is)) in
-    absurd (omega (arith, more.2, not_longer t b (Some f) end more.1 is more.0 p stop more.3)))
+    absurd (omega (arith, more.2, not_longer law t b (Some f) end more.1 is more.0 p stop more.3)))
     (λ (links : (g : RuntimeFunction) × ComesTo t b (Some f) g × IsEndless t g.unwind_info_address).
-    no_endless_links t b (Some f) end links.0 is links.1.0 p stop links.1.1 links.2)
+    no_endless_links law t b (Some f) end links.0 is links.1.0 p stop links.1.1 links.2)
 
 -- a plan is a cycle exactly where the chain goes on for ever
-pub plan_cycle : (t : Table) (b : List ℕ) (f : RuntimeFunction) (x : Result (List UnwindInfoView) Refusal) → PlansFrom t b f x → (x ≡ Err FunctionCycle) ↔ NeverEnds t b f
-plan_cycle t b f (Ok is) p = (λ e. cc, λ never. absurd (ends t b f None is p tt never))
-plan_cycle t b f (Err Memory) p = (λ e. cc, λ never. absurd (ends t b f None p.0 p.1 tt never))
-plan_cycle t b f (Err FunctionCycle) p = (λ e. p, λ never. refl)
-plan_cycle t b f (Err fault) p = (λ e. cc, λ never. absurd (ends t b f (Some p.0) p.1.0 p.1.1 (fault, (λ e. cc), p.2) never))
+pub plan_cycle : (law : RecordLaw) (t : Table) (b : List ℕ) (f : RuntimeFunction) (x : Result (List UnwindInfoView) Refusal) → PlansFrom t b f x → (x ≡ Err FunctionCycle) ↔ NeverEnds t b f
+plan_cycle law t b f (Ok is) p = (λ e. cc, λ never. absurd (ends law t b f None is p tt never))
+plan_cycle law t b f (Err Memory) p = (λ e. cc, λ never. absurd (ends law t b f None p.0 p.1 tt never))
+plan_cycle law t b f (Err FunctionCycle) p = (λ e. p, λ never. refl)
+plan_cycle law t b f (Err fault) p = (λ e. cc, λ never. absurd (ends law t b f (Some p.0) p.1.0 p.1.1 (fault, (λ e. cc), p.2) never))
 
-pub found_cycle : (t : Table) (b : List ℕ) (found : Option RuntimeFunction) (x : Result (Option (List UnwindInfoView)) Refusal) → PlansFound t b found x → (x ≡ Err FunctionCycle) ↔ IsSomeAnd found (NeverEnds t b)
-found_cycle t b None x p = (λ e. absurd (let clash : Path (Result (Option (List UnwindInfoView)) Refusal) (Ok None) (Err FunctionCycle) = sym p ∙ e in cc), λ never. absurd never)
-found_cycle t b (Some f) (Ok None) p = absurd p
-found_cycle t b (Some f) (Ok (Some is)) p = (λ e. cc, λ never. absurd (ends t b f None is p tt never))
-found_cycle t b (Some f) (Err k) p =
-    let exact : Path (Result (List UnwindInfoView) Refusal) (Err k) (Err FunctionCycle) ↔ NeverEnds t b f = plan_cycle t b f (Err k) p in (
+pub found_cycle : (law : RecordLaw) (t : Table) (b : List ℕ) (found : Option RuntimeFunction) (x : Result (Option (List UnwindInfoView)) Refusal) → PlansFound t b found x → (x ≡ Err FunctionCycle) ↔ IsSomeAnd found (NeverEnds t b)
+found_cycle law t b None x p = (λ e. absurd (let clash : Path (Result (Option (List UnwindInfoView)) Refusal) (Ok None) (Err FunctionCycle) = sym p ∙ e in cc), λ never. absurd never)
+found_cycle law t b (Some f) (Ok None) p = absurd p
+found_cycle law t b (Some f) (Ok (Some is)) p = (λ e. cc, λ never. absurd (ends law t b f None is p tt never))
+found_cycle law t b (Some f) (Err k) p =
+    let exact : Path (Result (List UnwindInfoView) Refusal) (Err k) (Err FunctionCycle) ↔ NeverEnds t b f = plan_cycle law t b f (Err k) p in (
       λ e. exact.0 (let same : k ≡ FunctionCycle = cc in ap (λ (r : Refusal). Err r) same),
       λ never. let same = exact.1 never in let is : k ≡ FunctionCycle = cc in ap (λ (r : Refusal). Err r) is,
     )
 
 -- the plan of what lookup finds
-pub plans : (v : ExceptionView) (sections : List SectionTable) (opts : ParseOptions) (a : ℕ) (found : Option RuntimeFunction) (x : Result (Option (List UnwindInfoView)) Refusal) → Finds (functions (table_of v)) a found → PlansFound (links_of v sections opts) v.content found x → Plans v sections opts a x
-plans v sections opts a found x finds plan = record {
+pub plans : (law : RecordLaw) (v : ExceptionView) (sections : List SectionTable) (opts : ParseOptions) (a : ℕ) (found : Option RuntimeFunction) (x : Result (Option (List UnwindInfoView)) Refusal) → Finds (functions (table_of v)) a found → PlansFound (links_of v sections opts) v.content found x → Plans v sections opts a x
+plans law v sections opts a found x finds plan = record {
   found = found;
   finds = finds;
   plan = plan;
-  cycle = found_cycle (links_of v sections opts) v.content found x plan;
+  cycle = found_cycle law (links_of v sections opts) v.content found x plan;
 }

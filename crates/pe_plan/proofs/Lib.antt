@@ -1,3 +1,4 @@
+pub mod RecordLaw
 pub mod Chains
 pub mod Rings
 pub mod Marks

@@ -5,11 +5,11 @@ use Rattle.pe_unwind.specs.declared.function_table.RuntimeFunction.{RuntimeFunct
 use Rattle.pe_unwind.specs.Links.{Table}
 use Rattle.pe_unwind.specs.UnwindRecord.{UnwindInfoView}
 use Rattle.pe_unwind.specs.Unwinding.{Unwinds}
-use Rattle.pe_unwind.proofs.LinkChains.{unwinds_cycle, unwinds_no_memory}
 use Rattle.pe_plan.specs.Plans.{IsChain, NeverEnds}
 use Rattle.pe_plan.specs.PlanSteps.{Counts}
 use Rattle.pe_plan.proofs.Chains.{one_more}
 use Rattle.pe_plan.proofs.Rings.{ring_goes_on}
+use Rattle.pe_plan.proofs.RecordLaw.{RecordLaw}
 
 -- these records lead to the current function; the saved address is that of a function on the way
 pub record Marked (t : Table) (b : List ℕ) (f : RuntimeFunction) (records : List UnwindInfoView) (current : RuntimeFunction) (saved : ℕ) : Type 0 where
@@ -78,8 +78,8 @@ pub comes_to_root : (t : Table) (b : List ℕ) (f current : RuntimeFunction) (is
 comes_to_root t b f current is i saved m u root = chain_more t b (Some f) None current is i m.chain u root
 
 -- a record that is refused
-pub comes_to_fault : (t : Table) (b : List ℕ) (f current : RuntimeFunction) (is : List UnwindInfoView) (k : Refusal) (saved : ℕ) → Marked t b f is current saved → Unwinds t b current.unwind_info_address (Err k) → Counts t b f (Err k)
-comes_to_fault t b f current is Memory saved m u = unwinds_no_memory t b current.unwind_info_address u
-comes_to_fault t b f current is FunctionCycle saved m u =
-    inr (current, (is, m.chain), (unwinds_cycle t b current.unwind_info_address (Err FunctionCycle) u).0 refl)
-comes_to_fault t b f current is fault saved m u = (current, (is, m.chain), u)
+pub comes_to_fault : (law : RecordLaw) (t : Table) (b : List ℕ) (f current : RuntimeFunction) (is : List UnwindInfoView) (k : Refusal) (saved : ℕ) → Marked t b f is current saved → Unwinds t b current.unwind_info_address (Err k) → Counts t b f (Err k)
+comes_to_fault law t b f current is Memory saved m u = law.no_memory t b current.unwind_info_address u
+comes_to_fault law t b f current is FunctionCycle saved m u =
+    inr (current, (is, m.chain), (law.cycle t b current.unwind_info_address (Err FunctionCycle) u).0 refl)
+comes_to_fault law t b f current is fault saved m u = (current, (is, m.chain), u)

@@ -5,19 +5,19 @@ use Rattle.pe_unwind.specs.declared.function_table.RuntimeFunction.{RuntimeFunct
 use Rattle.pe_unwind.specs.Links.{Table}
 use Rattle.pe_unwind.specs.UnwindRecord.{UnwindInfoView}
 use Rattle.pe_unwind.specs.Unwinding.{Unwinds}
-use Rattle.pe_unwind.proofs.OneChain.{one_record}
 use Rattle.pe_plan.specs.Plans.{IsChain, PlansFrom}
 use Rattle.pe_plan.proofs.Endings.{IsEnd, no_record, same_record, follows_same, ends, plan_cycle}
+use Rattle.pe_plan.proofs.RecordLaw.{RecordLaw}
 
 -- a chain that comes to an end has one list of records, and one end
-one_chain : (t : Table) (b : List ℕ) (start end final : Option RuntimeFunction) (is js : List UnwindInfoView) → IsChain t b start is end → IsEnd t b end → IsChain t b start js final → IsEnd t b final → (is ≡ js) × (end ≡ final)
-one_chain t b start end final [] [] p stop q halt = (refl, sym p ∙ q)
-one_chain t b start end final [] (j ∷ js) p stop q halt = absurd (no_record t b start end final j js p stop q)
-one_chain t b start end final (i ∷ is) [] p stop q halt = absurd (no_record t b start final end i is q halt p)
-one_chain t b None end final (i ∷ is) (j ∷ js) p stop q halt = absurd p
-one_chain t b (Some f) end final (i ∷ is) (j ∷ js) p stop q halt =
-    let rest = one_chain t b i.chained_info end final is js p.1 stop (follows_same t b f i j end is js final p q) halt in
-    let first : i ≡ j = same_record t b f.unwind_info_address i j p.0 q.0 in
+one_chain : (law : RecordLaw) (t : Table) (b : List ℕ) (start end final : Option RuntimeFunction) (is js : List UnwindInfoView) → IsChain t b start is end → IsEnd t b end → IsChain t b start js final → IsEnd t b final → (is ≡ js) × (end ≡ final)
+one_chain law t b start end final [] [] p stop q halt = (refl, sym p ∙ q)
+one_chain law t b start end final [] (j ∷ js) p stop q halt = absurd (no_record law t b start end final j js p stop q)
+one_chain law t b start end final (i ∷ is) [] p stop q halt = absurd (no_record law t b start final end i is q halt p)
+one_chain law t b None end final (i ∷ is) (j ∷ js) p stop q halt = absurd p
+one_chain law t b (Some f) end final (i ∷ is) (j ∷ js) p stop q halt =
+    let rest = one_chain law t b i.chained_info end final is js p.1 stop (follows_same law t b f i j end is js final p q) halt in
+    let first : i ≡ j = same_record law t b f.unwind_info_address i j p.0 q.0 in
     (ap (λ (r : UnwindInfoView). r ∷ is) first ∙ ap (λ (rs : List UnwindInfoView). j ∷ rs) rest.0, rest.1)
 
 -- what a chain with this end answers
@@ -38,31 +38,31 @@ cycle_or_ends t b f (Err Memory) p there = absurd (there refl)
 cycle_or_ends t b f (Err FunctionCycle) p there = inl refl
 cycle_or_ends t b f (Err fault) p there = inr (record { records = p.1.0; end = Some p.0; chain = p.1.1; stops = (fault, (λ e. cc), p.2); answers = (fault, p.2, refl) })
 
-one_answer : (t : Table) (b : List ℕ) (is js : List UnwindInfoView) (end final : Option RuntimeFunction) (x y : Result (List UnwindInfoView) Refusal) → is ≡ js → end ≡ final → Answers t b is end x → Answers t b js final y → x ≡ y
-one_answer t b is js None None x y same at v w = v ∙ ap (λ (rs : List UnwindInfoView). Ok rs) same ∙ sym w
-one_answer t b is js None (Some g) x y same at v w = cc
-one_answer t b is js (Some f) None x y same at v w = cc
-one_answer t b is js (Some f) (Some g) x y same at v w =
+one_answer : (law : RecordLaw) (t : Table) (b : List ℕ) (is js : List UnwindInfoView) (end final : Option RuntimeFunction) (x y : Result (List UnwindInfoView) Refusal) → is ≡ js → end ≡ final → Answers t b is end x → Answers t b js final y → x ≡ y
+one_answer law t b is js None None x y same at v w = v ∙ ap (λ (rs : List UnwindInfoView). Ok rs) same ∙ sym w
+one_answer law t b is js None (Some g) x y same at v w = cc
+one_answer law t b is js (Some f) None x y same at v w = cc
+one_answer law t b is js (Some f) (Some g) x y same at v w =
     let here : f ≡ g = cc in
-    let fault = one_record t b g.unwind_info_address (Err v.0) (Err w.0) (rw here at v.1) w.1 in
+    let fault = law.one t b g.unwind_info_address (Err v.0) (Err w.0) (rw here at v.1) w.1 in
     let kind : v.0 ≡ w.0 = cc in
     v.2 ∙ ap (λ (k : Refusal). Err k) kind ∙ sym w.2
 
 -- a plan that ends is no cycle
-not_both : (t : Table) (b : List ℕ) (f : RuntimeFunction) (x y : Result (List UnwindInfoView) Refusal) → PlansFrom t b f x → x ≡ Err FunctionCycle → Ends t b f y → ⊥
-not_both t b f x y p cycle e = ends t b f e.end e.records e.chain e.stops ((plan_cycle t b f x p).0 cycle)
+not_both : (law : RecordLaw) (t : Table) (b : List ℕ) (f : RuntimeFunction) (x y : Result (List UnwindInfoView) Refusal) → PlansFrom t b f x → x ≡ Err FunctionCycle → Ends t b f y → ⊥
+not_both law t b f x y p cycle e = ends law t b f e.end e.records e.chain e.stops ((plan_cycle law t b f x p).0 cycle)
 
-pub one_plan : (t : Table) (b : List ℕ) (f : RuntimeFunction) (x y : Result (List UnwindInfoView) Refusal) → PlansFrom t b f x → PlansFrom t b f y → x ≢ Err Memory → y ≢ Err Memory → x ≡ y
-one_plan t b f x y p q there here =
+pub one_plan : (law : RecordLaw) (t : Table) (b : List ℕ) (f : RuntimeFunction) (x y : Result (List UnwindInfoView) Refusal) → PlansFrom t b f x → PlansFrom t b f y → x ≢ Err Memory → y ≢ Err Memory → x ≡ y
+one_plan law t b f x y p q there here =
     ⊎_elim
     (λ (c : x ≡ Err FunctionCycle).
     ⊎_elim (λ (d : y ≡ Err FunctionCycle). c ∙ sym d)
-    (λ (d : Ends t b f y). absurd (not_both t b f x y p c d))
+    (λ (d : Ends t b f y). absurd (not_both law t b f x y p c d))
     (cycle_or_ends t b f y q here))
     (λ (c : Ends t b f x).
-    ⊎_elim (λ (d : y ≡ Err FunctionCycle). absurd (not_both t b f y x q d c))
+    ⊎_elim (λ (d : y ≡ Err FunctionCycle). absurd (not_both law t b f y x q d c))
     (λ (d : Ends t b f y).
-    let same = one_chain t b (Some f) c.end d.end c.records d.records c.chain c.stops d.chain d.stops in
-    one_answer t b c.records d.records c.end d.end x y same.0 same.1 c.answers d.answers)
+    let same = one_chain law t b (Some f) c.end d.end c.records d.records c.chain c.stops d.chain d.stops in
+    one_answer law t b c.records d.records c.end d.end x y same.0 same.1 c.answers d.answers)
     (cycle_or_ends t b f y q here))
     (cycle_or_ends t b f x p there)

@@ -3,8 +3,6 @@ use Rattle.std.proofs.Common.{◌≡◌, ◌≢◌, ℕ, zero, suc, ◌+◌, ◌
 use Rattle.std.specs.Prelude.{if◌then◌else◌}
 use Rattle.pe_core.specs.Bytes.{AreBytes, le}
 use Rattle.pe_core.specs.Refusals.{Refusal, Memory, FunctionCycle, outcome, ◌>>=◌}
-use Rattle.pe_unwind.proofs.LinkChains.{unwinds_cycle, unwinds_no_memory}
-use Rattle.pe_unwind.proofs.SomeAnswer.{some_record}
 use Rattle.pe_unwind.specs.declared.function_table.RuntimeFunction.{RuntimeFunction}
 use Rattle.pe_unwind.specs.FunctionTable.{function_at}
 use Rattle.pe_unwind.specs.Links.{Table}
@@ -13,6 +11,7 @@ use Rattle.pe_unwind.specs.Unwinding.{Unwinds, record_at_address, record_at_plac
 use Rattle.pe_plan.specs.Plans.{IsChain, PlansFrom}
 use Rattle.pe_plan.proofs.Chains.{one_more}
 use Rattle.pe_plan.proofs.Rings.{AreBelow, below_more, many_go_on}
+use Rattle.pe_plan.proofs.RecordLaw.{RecordLaw}
 
 -- ---- the unwind address of a chained function has four bytes
 
@@ -95,30 +94,30 @@ by_next t b f n m r i (Some g) small big u to =
       below = below_more t b n (Some f) r.current r.records i r.chain r.below (subst (λ (o : Option RuntimeFunction). AreBelow n o []) (sym to) last);
     })
 
-by_refusal : (t : Table) (b : List ℕ) (f current : RuntimeFunction) (is : List UnwindInfoView) (k : Refusal) → IsChain t b (Some f) is (Some current) → Unwinds t b current.unwind_info_address (Err k) → Planned t b f
-by_refusal t b f current is Memory chain u = absurd (unwinds_no_memory t b current.unwind_info_address u)
-by_refusal t b f current is FunctionCycle chain u =
-    (Err FunctionCycle, inr (current, (is, chain), (unwinds_cycle t b current.unwind_info_address (Err FunctionCycle) u).0 refl), λ e. cc)
-by_refusal t b f current is fault chain u = (Err fault, (current, (is, chain), u), λ e. cc)
+by_refusal : (law : RecordLaw) (t : Table) (b : List ℕ) (f current : RuntimeFunction) (is : List UnwindInfoView) (k : Refusal) → IsChain t b (Some f) is (Some current) → Unwinds t b current.unwind_info_address (Err k) → Planned t b f
+by_refusal law t b f current is Memory chain u = absurd (law.no_memory t b current.unwind_info_address u)
+by_refusal law t b f current is FunctionCycle chain u =
+    (Err FunctionCycle, inr (current, (is, chain), (law.cycle t b current.unwind_info_address (Err FunctionCycle) u).0 refl), λ e. cc)
+by_refusal law t b f current is fault chain u = (Err fault, (current, (is, chain), u), λ e. cc)
 
-by_record : (t : Table) (b : List ℕ) (f : RuntimeFunction) (n m : ℕ) (r : Reached t b f n m) (x : Result UnwindInfoView Refusal) → AreBytes b → 2 ^ 32 ≤ n → Unwinds t b r.current.unwind_info_address x → Reached t b f n (suc m) ⊎ Planned t b f
-by_record t b f n m r (Err k) small big u = inr (by_refusal t b f r.current r.records k r.chain u)
-by_record t b f n m r (Ok i) small big u = by_next t b f n m r i i.chained_info small big u refl
+by_record : (law : RecordLaw) (t : Table) (b : List ℕ) (f : RuntimeFunction) (n m : ℕ) (r : Reached t b f n m) (x : Result UnwindInfoView Refusal) → AreBytes b → 2 ^ 32 ≤ n → Unwinds t b r.current.unwind_info_address x → Reached t b f n (suc m) ⊎ Planned t b f
+by_record law t b f n m r (Err k) small big u = inr (by_refusal law t b f r.current r.records k r.chain u)
+by_record law t b f n m r (Ok i) small big u = by_next t b f n m r i i.chained_info small big u refl
 
-goes : (t : Table) (b : List ℕ) (f : RuntimeFunction) (n m : ℕ) → AreBytes b → 2 ^ 32 ≤ n → f.unwind_info_address < n → Reached t b f n m ⊎ Planned t b f
-goes t b f n zero small big first = inl (record { records = []; current = f; many = refl; chain = refl; below = first })
-goes t b f n (suc m) small big first =
+goes : (law : RecordLaw) (t : Table) (b : List ℕ) (f : RuntimeFunction) (n m : ℕ) → AreBytes b → 2 ^ 32 ≤ n → f.unwind_info_address < n → Reached t b f n m ⊎ Planned t b f
+goes law t b f n zero small big first = inl (record { records = []; current = f; many = refl; chain = refl; below = first })
+goes law t b f n (suc m) small big first =
     ⊎_elim
-    (λ (r : Reached t b f n m). let (x, unwinds) = some_record t b r.current.unwind_info_address in by_record t b f n m r x small big unwinds)
+    (λ (r : Reached t b f n m). let (x, unwinds) = law.exists t b r.current.unwind_info_address in by_record law t b f n m r x small big unwinds)
     (λ (p : Planned t b f). inr p)
-    (goes t b f n m small big first)
+    (goes law t b f n m small big first)
 
-with_bound : (t : Table) (b : List ℕ) (f : RuntimeFunction) (n : ℕ) → AreBytes b → 2 ^ 32 ≤ n → f.unwind_info_address < n → Planned t b f
-with_bound t b f n small big first =
+with_bound : (law : RecordLaw) (t : Table) (b : List ℕ) (f : RuntimeFunction) (n : ℕ) → AreBytes b → 2 ^ 32 ≤ n → f.unwind_info_address < n → Planned t b f
+with_bound law t b f n small big first =
     ⊎_elim
     (λ (r : Reached t b f n n). (Err FunctionCycle, inl (many_go_on t b n (Some f) r.current r.records r.chain r.below (omega (arith, r.many))), λ e. cc))
     (λ (p : Planned t b f). p)
-    (goes t b f n n small big first)
+    (goes law t b f n n small big first)
 
-pub some_plan : (t : Table) (b : List ℕ) (f : RuntimeFunction) → AreBytes b → (x : Result (List UnwindInfoView) Refusal) × PlansFrom t b f x × (x ≢ Err Memory)
-some_plan t b f small = with_bound t b f (2 ^ 32 + suc f.unwind_info_address) small (omega arith) (omega arith)
+pub some_plan : (law : RecordLaw) (t : Table) (b : List ℕ) (f : RuntimeFunction) → AreBytes b → (x : Result (List UnwindInfoView) Refusal) × PlansFrom t b f x × (x ≢ Err Memory)
+some_plan law t b f small = with_bound law t b f (2 ^ 32 + suc f.unwind_info_address) small (omega arith) (omega arith)

@@ -7,13 +7,13 @@ use Rattle.pe_unwind.specs.Links.{Table}
 use Rattle.pe_unwind.specs.UnwindRecord.{UnwindInfoView, unwind_view}
 use Rattle.pe_unwind.specs.declared.unwind_info.UnwindInfo.{UnwindInfo}
 use Rattle.pe_unwind.specs.Unwinding.{Unwinds}
-use Rattle.pe_unwind.proofs.OneChain.{one_record}
 use Rattle.pe_plan.specs.Plans.{IsChain, NeverEnds, PlansFrom}
 use Rattle.pe_plan.specs.PlanSteps.{HasLength, Counts, Takes}
 use Rattle.pe_plan.proofs.Chains.{one_more}
 use Rattle.pe_plan.proofs.Marks.{Marked, starts, keeps, moves, comes_to_root}
 use Rattle.pe_plan.proofs.Rings.{AreBelow, below_more, many_go_on}
 use Rattle.pe_plan.proofs.Endings.{same_record}
+use Rattle.pe_plan.proofs.RecordLaw.{RecordLaw}
 
 -- so many chained records were counted, up to the current function
 pub record CountedTo (t : Table) (b : List ℕ) (f : RuntimeFunction) (chained : ℕ) (current : RuntimeFunction) (saved : ℕ) : Type 0 where
@@ -106,17 +106,17 @@ next : (t : Table) (b : List ℕ) (f : RuntimeFunction) (count : ℕ) (records :
 next t b f count records current s more = next_at t b f count records s.rest s.here current s.chain s.ahead s.many s.is_current more
 
 -- its record is not refused
-pub not_refused : (t : Table) (b : List ℕ) (f : RuntimeFunction) (count : ℕ) (records : List UnwindInfoView) (current : RuntimeFunction) (k : Refusal) → TakenTo t b f count records current → length records < count → Unwinds t b current.unwind_info_address (Err k) → ⊥
-not_refused t b f count records current k s more u =
+pub not_refused : (law : RecordLaw) (t : Table) (b : List ℕ) (f : RuntimeFunction) (count : ℕ) (records : List UnwindInfoView) (current : RuntimeFunction) (k : Refusal) → TakenTo t b f count records current → length records < count → Unwinds t b current.unwind_info_address (Err k) → ⊥
+not_refused law t b f count records current k s more u =
     let n : Next t b f count records current = next t b f count records current s more in
-    let clash = one_record t b current.unwind_info_address (Ok n.info) (Err k) n.unwinds u in
+    let clash = law.one t b current.unwind_info_address (Ok n.info) (Err k) n.unwinds u in
     cc
 
 -- one record more
-pub takes_more : (t : Table) (b : List ℕ) (f : RuntimeFunction) (count : ℕ) (records : List UnwindInfoView) (current later : RuntimeFunction) (i : UnwindInfoView) → TakenTo t b f count records current → length records < count → Unwinds t b current.unwind_info_address (Ok i) → IfSome i.chained_info (λ h. h ≡ later) → TakenTo t b f count (records ++ i ∷ []) later
-takes_more t b f count records current later i s more u to =
+pub takes_more : (law : RecordLaw) (t : Table) (b : List ℕ) (f : RuntimeFunction) (count : ℕ) (records : List UnwindInfoView) (current later : RuntimeFunction) (i : UnwindInfoView) → TakenTo t b f count records current → length records < count → Unwinds t b current.unwind_info_address (Ok i) → IfSome i.chained_info (λ h. h ≡ later) → TakenTo t b f count (records ++ i ∷ []) later
+takes_more law t b f count records current later i s more u to =
     let n : Next t b f count records current = next t b f count records current s more in
-    let same : n.info ≡ i = same_record t b current.unwind_info_address n.info i n.unwinds u in
+    let same : n.info ≡ i = same_record law t b current.unwind_info_address n.info i n.unwinds u in
     record {
       rest = n.rest;
       here = i.chained_info;
@@ -127,9 +127,9 @@ takes_more t b f count records current later i s more u to =
     }
 
 -- the same of records that are seen through their view
-pub takes_next : (t : Table) (b : List ℕ) (f : RuntimeFunction) (count : ℕ) (xs ys : List UnwindInfo) (x : UnwindInfo) (current later : RuntimeFunction) → TakenTo t b f count (map unwind_view xs) current → length xs < count → Unwinds t b current.unwind_info_address (Ok (unwind_view x)) → IfSome x.chained_info (λ h. h ≡ later) → ys ≡ xs ++ x ∷ [] → TakenTo t b f count (map unwind_view ys) later
-takes_next t b f count xs ys x current later s more u to same =
-    rw same (rw map_push (takes_more t b f count (map unwind_view xs) current later (unwind_view x) s (omega (arith, more, length-map xs unwind_view)) u to))
+pub takes_next : (law : RecordLaw) (t : Table) (b : List ℕ) (f : RuntimeFunction) (count : ℕ) (xs ys : List UnwindInfo) (x : UnwindInfo) (current later : RuntimeFunction) → TakenTo t b f count (map unwind_view xs) current → length xs < count → Unwinds t b current.unwind_info_address (Ok (unwind_view x)) → IfSome x.chained_info (λ h. h ≡ later) → ys ≡ xs ++ x ∷ [] → TakenTo t b f count (map unwind_view ys) later
+takes_next law t b f count xs ys x current later s more u to same =
+    rw same (rw map_push (takes_more law t b f count (map unwind_view xs) current later (unwind_view x) s (omega (arith, more, length-map xs unwind_view)) u to))
 
 pub goes_on : (o : Option RuntimeFunction) (next later : RuntimeFunction) → o ≡ Some next → later ≡ next → IfSome o (λ h. h ≡ later)
 goes_on o next later is same = rw is (sym same)

@@ -9,6 +9,7 @@ ghost use Rattle.pe_unwind.specs.Unwinding.{Unwinds};
 ghost use Rattle.pe_plan.specs.PlanSteps.{HasLength, Counts, Takes};
 
 use pe_core::{Error, Reason, Result, SectionMap};
+use pe_unwind::laws::x64::one_record_of_addresses;
 use pe_unwind::{ExceptionData, RuntimeFunction, UnwindInfo};
 use std::alloc::Allocator;
 
@@ -44,6 +45,7 @@ impl<'a, 'b> Records<'a, 'b> {
     pub fn count(&self, function: RuntimeFunction) -> Result<usize>
         ensures { Counts (links_by self.now.exceptions.now self.now.sections.now) self.now.exceptions.now.content function (answer_of result) }
     {
+        one_record_of_addresses();
         let mut current = function;
         let mut saved = function.unwind_info_address;
         let mut power: usize = 1;
@@ -74,6 +76,7 @@ impl<'a, 'b> Records<'a, 'b> {
         requires { HasLength (links_by self.now.exceptions.now self.now.sections.now) self.now.exceptions.now.content function count }
         ensures { Takes (links_by self.now.exceptions.now self.now.sections.now) self.now.exceptions.now.content function (answer_by (λ records. map unwind_view records.items) result) }
     {
+        one_record_of_addresses();
         let mut records = Vec::with_capacity(alloc, count)?;
         let mut current = function;
         for _ in 0..count {

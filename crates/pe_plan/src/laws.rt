@@ -36,4 +36,6 @@ pub fn one_plan_of_functions()
         PlansFrom t b f x → PlansFrom t b f y → x ≢ Err Memory → y ≢ Err Memory → x ≡ y }
     ensures cycle { (t : Table) (b : List ℕ) (f : RuntimeFunction) (x : Result (List UnwindInfoView) Refusal) →
         PlansFrom t b f x → ((x ≡ Err FunctionCycle) ↔ NeverEnds t b f) }
-{}
+{
+    pe_unwind::laws::x64::one_record_of_addresses();
+}

@@ -9,6 +9,7 @@ ghost use Rattle.pe_plan.specs.Plans.{NeverEnds, PlansFrom, Plans};
 
 use crate::chain::Records;
 use pe_core::{ParseOptions, Result, SectionMap, SectionTable};
+use pe_unwind::laws::x64::one_record_of_addresses;
 use pe_unwind::{ExceptionData, RuntimeFunction, UnwindInfo};
 use std::alloc::Allocator;
 
@@ -27,6 +28,7 @@ impl UnwindPlan {
     ) -> Result<Option<Vec<UnwindInfo<'a>, A>>>
         ensures { Plans exceptions.now sections.now opts.now rva (answer_by (option_map (λ records. map unwind_view records.items)) result) }
     {
+        one_record_of_addresses();
         let Some(function) = exceptions.find_function(rva)? else {
             return Ok(None);
         };
@@ -65,6 +67,7 @@ impl UnwindPlan {
         ensures plan { PlansFrom (links_by exceptions.now sections.now) exceptions.now.content function (answer_by (λ records. map unwind_view records.items) result) }
         ensures cycle { (answer_by (λ records. map unwind_view records.items) result ≡ Err FunctionCycle) ↔ NeverEnds (links_by exceptions.now sections.now) exceptions.now.content function }
     {
+        one_record_of_addresses();
         let chain = Records {
             exceptions,
             sections,

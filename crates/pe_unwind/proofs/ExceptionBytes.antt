@@ -1,5 +1,6 @@
 -- Exception data are of the bytes that they were read of.
-use Rattle.std.proofs.Common.{◌≡◌, ℕ, ◌%◌, Bool, true, false, List, [], ◌∷◌, Option, None, Some, Ok, Err, sym, ap}
+use Rattle.std.proofs.Common.{◌≡◌, ℕ, ◌+◌, ◌%◌, ◌≤◌, Bool, true, false, List, [], ◌∷◌, length, Option, None, Some, Ok, Err, refl, sym, ap, subst, arith}
+use Rattle.std.proofs.lemmas.Bool.Decides.{nat_tests}
 use Rattle.std.specs.Prelude.{◌==◌, if◌then◌else◌}
 use Rattle.pe_core.specs.Bytes.{holds}
 use Rattle.pe_core.specs.Refusals.{Refusal, ExceptionSize, ExceptionOffset, ExceptionBounds, outcome}
@@ -31,3 +32,34 @@ if_whole false b size unit place v h = absurd cc
 pub in_directory : (width : ℕ) (b : List ℕ) (d : DataDirectory) (sections : List SectionTable) (unit : ℕ) (o : ParseOptions) (v : ExceptionView) → exception_at width b d sections unit o ≡ Ok v → IsOf b unit v
 unfolding exception_at
 in_directory width b d sections unit o v h = if_whole (d.size % width == 0) b d.size unit (section_map o sections unit d.virtual_address) v h
+
+pub content_of_bytes : (width : ℕ) (b : List ℕ) (d : DataDirectory) (sections : List SectionTable) (unit : ℕ) (o : ParseOptions) (v : ExceptionView) → exception_at width b d sections unit o ≡ Ok v → v.content ≡ b
+content_of_bytes width b d sections unit o v h = (in_directory width b d sections unit o v h).0
+
+pub alignment_of_image : (width : ℕ) (b : List ℕ) (d : DataDirectory) (sections : List SectionTable) (unit : ℕ) (o : ParseOptions) (v : ExceptionView) → exception_at width b d sections unit o ≡ Ok v → v.alignment ≡ unit
+alignment_of_image width b d sections unit o v h = (in_directory width b d sections unit o v h).1
+
+-- ---- the table is inside the bytes
+
+abbrev IsInside : ExceptionView → Type 0
+IsInside v = v.start + v.size ≤ length v.content
+
+after_tests : (s t : Bool) (x v : ExceptionView) → (t ≡ true → IsInside x) → outcome ((s, ExceptionOffset) ∷ (t, ExceptionBounds) ∷ []) x ≡ Ok v → IsInside v
+after_tests true true x v f h = let same : x ≡ v = cc in subst IsInside same (f refl)
+after_tests true false x v f h = absurd cc
+after_tests false t x v f h = absurd cc
+
+held : (b : List ℕ) (p n : ℕ) → holds b p n ≡ true → p + n ≤ length b
+held b p n e = grind (arith, nat_tests)
+
+inside_at_place : (b : List ℕ) (size unit : ℕ) (place : Option ℕ) (v : ExceptionView) → exception_at_place b size unit place ≡ Ok v → IsInside v
+inside_at_place b size unit None v h = absurd cc
+inside_at_place b size unit (Some p) v h = after_tests (p % 4 == 0) (holds b p size) (record { content = b; start = p; size = size; alignment = unit }) v (held b p size) h
+
+inside_if_whole : (t : Bool) (b : List ℕ) (size unit : ℕ) (place : Option ℕ) (v : ExceptionView) → (if t then exception_at_place b size unit place else Err ExceptionSize) ≡ Ok v → IsInside v
+inside_if_whole true b size unit place v h = inside_at_place b size unit place v h
+inside_if_whole false b size unit place v h = absurd cc
+
+pub inside_directory : (width : ℕ) (b : List ℕ) (d : DataDirectory) (sections : List SectionTable) (unit : ℕ) (o : ParseOptions) (v : ExceptionView) → exception_at width b d sections unit o ≡ Ok v → IsInside v
+unfolding exception_at
+inside_directory width b d sections unit o v h = inside_if_whole (d.size % width == 0) b d.size unit (section_map o sections unit d.virtual_address) v h

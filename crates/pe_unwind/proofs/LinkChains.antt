@@ -6,14 +6,14 @@ use Rattle.std.proofs.lemmas.Option.{option_and_then_some, cond_some}
 use Rattle.pe_core.specs.Refusals.{Refusal, Memory, Short, UnwindVersion, Unmapped, FunctionLink, FunctionCycle, outcome, ◌>>=◌}
 use Rattle.pe_core.specs.Chains.{after, NeverStops, FollowsKey, HasKeysBelow, KeyDecides}
 use Rattle.pe_core.proofs.Pigeonhole.{never_stops, repeats, after_more}
-use Rattle.pe_unwind.specs.FunctionTable.{function_at}
+use Rattle.pe_unwind.specs.FunctionTable.{Finds, function_at, functions}
 use Rattle.pe_core.specs.Bytes.{holds}
 use Rattle.pe_unwind.specs.UnwindRecord.{UnwindInfoView, unwind_tests, unwind_record, ending_holds, behind_codes, flags_at, version_at, count_at}
 use Rattle.pe_core.specs.declared.options.ParseOptions.{ParseOptions}
 use Rattle.pe_core.specs.declared.section_table.SectionTable.{SectionTable}
 use Rattle.pe_unwind.specs.declared.function_table.RuntimeFunction.{RuntimeFunction}
-use Rattle.pe_unwind.specs.ExceptionTable.{ExceptionView}
-use Rattle.pe_unwind.specs.Unwinding.{Unwinds, UnwindsFound, UnwindsAt, CyclesAt, record_at_place, record_at_address}
+use Rattle.pe_unwind.specs.ExceptionTable.{ExceptionView, table_of}
+use Rattle.pe_unwind.specs.Unwinding.{Unwinds, UnwindsFound, UnwindsAt, record_at_place, record_at_address}
 use Rattle.pe_unwind.specs.Links.{Table, IsOdd, count, entry_at, link, next, address_of, IsEndless, Follows, links_of}
 use Rattle.pe_unwind.specs.LinkSteps.{Leads}
 
@@ -215,8 +215,13 @@ cycle_found t b (Some f) (Err k) w = (
   λ endless. other_value k FunctionCycle ((unwinds_cycle t b f.unwind_info_address (Err k) w).1 endless),
 )
 
-pub cycles_at_code : (v : ExceptionView) (sections : List SectionTable) (opts : ParseOptions) (a : ℕ) (answer : Result (Option UnwindInfoView) Refusal) → UnwindsAt v sections opts a answer → CyclesAt v sections opts a answer
-cycles_at_code v sections opts a answer w = (w.0, w.1, cycle_found (links_of v sections opts) v.content w.0 answer w.2)
+pub unwinds_at_code : (v : ExceptionView) (sections : List SectionTable) (opts : ParseOptions) (a : ℕ) (found : Option RuntimeFunction) (answer : Result (Option UnwindInfoView) Refusal) → Finds (functions (table_of v)) a found → UnwindsFound (links_of v sections opts) v.content found answer → UnwindsAt v sections opts a answer
+unwinds_at_code v sections opts a found answer finds unwinds = record {
+  found = found;
+  finds = finds;
+  unwinds = unwinds;
+  cycle = cycle_found (links_of v sections opts) v.content found answer unwinds;
+}
 
 -- places where no entry stands
 pub no_entry-before : (t : Table) (p : ℕ) → p < t.start → entry_at t p ≡ None

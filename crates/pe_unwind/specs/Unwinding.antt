@@ -35,13 +35,10 @@ UnwindsFound t b (Some f) (Ok None) = ⊥
 UnwindsFound t b (Some f) (Ok (Some i)) = Unwinds t b f.unwind_info_address (Ok i)
 UnwindsFound t b (Some f) (Err e) = Unwinds t b f.unwind_info_address (Err e)
 
--- what asking for the record at an address of code answers
-abbrev pub UnwindsAt : ExceptionView → List SectionTable → ParseOptions → ℕ → Result (Option UnwindInfoView) Refusal → Type 0
-UnwindsAt v sections opts a answer =
-    (found : Option RuntimeFunction) × Finds (functions (table_of v)) a found × UnwindsFound (links_of v sections opts) v.content found answer
-
--- such an answer is refused as a cycle exactly where the chain of the function that lookup found is endless
-abbrev pub CyclesAt : ExceptionView → List SectionTable → ParseOptions → ℕ → Result (Option UnwindInfoView) Refusal → Type 0
-CyclesAt v sections opts a answer =
-    (found : Option RuntimeFunction) × Finds (functions (table_of v)) a found
-    × ((answer ≡ Err FunctionCycle) ↔ IsSomeAnd found (λ f. IsEndless (links_of v sections opts) f.unwind_info_address))
+-- what asking for the record at an address of code answers: that of the function which lookup finds, and a cycle exactly
+-- where the links of that function never end
+pub record UnwindsAt (v : ExceptionView) (sections : List SectionTable) (opts : ParseOptions) (a : ℕ) (answer : Result (Option UnwindInfoView) Refusal) : Type 0 where
+  pub found : Option RuntimeFunction
+  pub finds : Finds (functions (table_of v)) a found
+  pub unwinds : UnwindsFound (links_of v sections opts) v.content found answer
+  pub cycle : (answer ≡ Err FunctionCycle) ↔ IsSomeAnd found (λ f. IsEndless (links_of v sections opts) f.unwind_info_address)

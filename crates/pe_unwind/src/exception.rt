@@ -58,7 +58,7 @@ impl<'a> ExceptionData<'a> {
     ghost use Rattle.pe_unwind.specs.FunctionTable.{functions, function_items, items_of_functions, answer_of, Finds};
     ghost use Rattle.pe_core.specs.SectionMap.{map_view};
     ghost use Rattle.pe_unwind.specs.Links.{IsEndless, links_by, links_of, table_view};
-    ghost use Rattle.pe_unwind.specs.Unwinding.{FindsRecord, Unwinds, UnwindsAt, CyclesAt};
+    ghost use Rattle.pe_unwind.specs.Unwinding.{FindsRecord, Unwinds, UnwindsFound, UnwindsAt};
     ghost use Rattle.pe_unwind.specs.UnwindRecord.{unwind_view};
 
     /// The exception directory of an x64 image, with the default options.
@@ -361,20 +361,8 @@ impl<'a> ExceptionData<'a> {
     }
 
     /// The unwind record of the function that covers an address, if one does: lookup, links and record in one call.
+    #[tactic(auto, using(crate::proofs::LinkChains::unwinds_at_code))]
     pub fn unwind_at(
-        &self,
-        rva: u32,
-        sections: &[SectionTable],
-        opts: &ParseOptions,
-    ) -> Result<Option<UnwindInfo<'a>>>
-        ensures record { UnwindsAt self.now sections.now opts.now rva (answer_by (option_map unwind_view) result) }
-        ensures cycle { CyclesAt self.now sections.now opts.now rva (answer_by (option_map unwind_view) result) }
-    {
-        self.record_at_code(rva, sections, opts)
-    }
-
-    /// Lookup, links and record.
-    fn record_at_code(
         &self,
         rva: u32,
         sections: &[SectionTable],
@@ -383,7 +371,20 @@ impl<'a> ExceptionData<'a> {
         ensures { UnwindsAt self.now sections.now opts.now rva (answer_by (option_map unwind_view) result) }
     {
         let mut table = self.table();
-        let Some(function) = search(&mut table, rva) else {
+        let found = search(&mut table, rva);
+        self.record_of_found(found, sections, opts)
+    }
+
+    /// The unwind record of a function that lookup may have found.
+    fn record_of_found(
+        &self,
+        found: Option<RuntimeFunction>,
+        sections: &[SectionTable],
+        opts: &ParseOptions,
+    ) -> Result<Option<UnwindInfo<'a>>>
+        ensures { UnwindsFound (links_of self.now sections.now opts.now) self.now.content found (answer_by (option_map unwind_view) result) }
+    {
+        let Some(function) = found else {
             return Ok(None);
         };
         let sections = self.section_map(sections, opts);

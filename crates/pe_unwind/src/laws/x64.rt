@@ -1,19 +1,23 @@
 //! Laws of x64: lookup, links, unwind codes, registers and scope tables.
 
-ghost use Rattle.std.specs.Prelude.{◌≡◌, ◌/◌, ◌<◌, ◌↔◌, ℕ, List, Option, Some, Result, Err, IsSome, IsTrue, map, Ok};
+ghost use Rattle.std.specs.Prelude.{◌≡◌, ◌+◌, ◌/◌, ◌<◌, ◌≤◌, ◌↔◌, ℕ, List, length, Option, Some, Result, Err, IsSome, IsTrue, map, Ok};
 ghost use Rattle.std.specs.Iterator.{Drains};
 ghost use Rattle.std.specs.List.{Any};
 ghost use Rattle.std.specs.Ordering.{nat_cmp};
 ghost use Rattle.std.specs.declared.cmp.Ordering.TheVariants.{Equal};
 ghost use Rattle.pe_core.specs.Refusals.{Refusal, Memory, FunctionCycle, outcome};
+ghost use Rattle.pe_core.specs.declared.data_directories.DataDirectory.{DataDirectory};
 ghost use Rattle.pe_core.specs.declared.error.Error.{Error};
+ghost use Rattle.pe_core.specs.declared.options.ParseOptions.{ParseOptions};
+ghost use Rattle.pe_core.specs.declared.section_table.SectionTable.{SectionTable};
 ghost use Rattle.pe_unwind.specs.declared.function_table.RuntimeFunction.{RuntimeFunction};
 ghost use Rattle.pe_unwind.specs.declared.register.Register.{Register};
 ghost use Rattle.pe_unwind.specs.declared.scope_table.ScopeTableEntry.{ScopeTableEntry};
 ghost use Rattle.pe_unwind.specs.declared.unwind_code.UnwindCode.{UnwindCode};
 ghost use Rattle.pe_unwind.specs.declared.unwind_code.UnwindCodeIterator.{UnwindCodeIterator};
 ghost use Rattle.pe_unwind.specs.CodeStream.{CodeStream, AreItems, stream_of};
-ghost use Rattle.pe_unwind.specs.FunctionTable.{NeverFalls, NoEndPassesNext, Covers, Finds, answer_of};
+ghost use Rattle.pe_unwind.specs.ExceptionTable.{ExceptionView, exception_at};
+ghost use Rattle.pe_unwind.specs.FunctionTable.{NeverFalls, NoEndPassesNext, Covers, Finds, answer_of, functions};
 ghost use Rattle.pe_unwind.specs.Links.{Table, Follows, IsEndless};
 ghost use Rattle.pe_unwind.specs.Places.{UnwindPartsStand};
 ghost use Rattle.pe_unwind.specs.UnwindCodes.{BeginsWithCode};
@@ -77,4 +81,17 @@ pub fn one_record_of_addresses()
 /// The codes of an unwind record stand four bytes behind its beginning, and its handler's data are the last of the bytes.
 pub fn parts_of_records_stand()
     ensures { (b : List ℕ) (p : ℕ) (i : UnwindInfoView) → outcome (unwind_tests b p) (unwind_record b p) ≡ Ok i → UnwindPartsStand b p i }
+{}
+
+/// Exception data are of the bytes that they were read from, and map RVAs by the alignment that was passed. Their table lies in
+/// these bytes, and a table of x64 has a twelfth of its size in entries.
+#[tactic(auto, using(crate::proofs::ExceptionBytes::content_of_bytes, crate::proofs::ExceptionBytes::alignment_of_image, crate::proofs::ExceptionBytes::inside_directory, crate::proofs::Searches::length_functions))]
+pub fn exception_data_are_of_their_bytes()
+    ensures content { (width : ℕ) (b : List ℕ) (d : DataDirectory) (sections : List SectionTable) (unit : ℕ) (o : ParseOptions) (v : ExceptionView) →
+        exception_at width b d sections unit o ≡ Ok v → v.content ≡ b }
+    ensures alignment { (width : ℕ) (b : List ℕ) (d : DataDirectory) (sections : List SectionTable) (unit : ℕ) (o : ParseOptions) (v : ExceptionView) →
+        exception_at width b d sections unit o ≡ Ok v → v.alignment ≡ unit }
+    ensures inside { (width : ℕ) (b : List ℕ) (d : DataDirectory) (sections : List SectionTable) (unit : ℕ) (o : ParseOptions) (v : ExceptionView) →
+        exception_at width b d sections unit o ≡ Ok v → v.start + v.size ≤ length v.content }
+    ensures entries { (b : List ℕ) → length (functions b) ≡ length b / 12 }
 {}
