@@ -24,8 +24,8 @@ pub fn one_answer_of_steps()
 
 /// A step undoes what the prologs of a function did: where a machine ran them and stopped in the innermost part, after its
 /// prolog (`whole`) or inside of it (`begun`), a step returns the registers of the caller. Each register has the value from
-/// the entry of the outermost part that saved it, or the one that it had if none did. No memory is asked of but the slots
-/// that the prologs stored to, and nothing of what the bodies did to other registers and memory.
+/// the entry of the outermost part that saved it, or the one that it has where no part did. The known memory has to show the
+/// words that the prologs stored, and the return address; what the bodies did to other registers and memory does not matter.
 pub fn prologs_are_undone()
     ensures whole { (m : ℕ → Option ℕ) (p : Part) (parts : List Part) (offset : ℕ) (g : Registers) (x : Result Registers FrameError) →
         p.info.size_of_prolog ≤ offset → AreFrames m (p ∷ parts) None g → Steps m (infos (p ∷ parts)) offset g x →
