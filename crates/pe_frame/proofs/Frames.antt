@@ -39,14 +39,14 @@ entry_of c limit p m g record_is stops =
     let codes = ran limit p.codes in
     let q = begun c f p.codes p.entry limit stops.order record_is.prolog in
     let held = known m (run f codes p.entry).memory c f codes p.entry stops.body.memory (holds c f codes p.entry q) in
-    let at = undone.has_place c f (is_framed (ran None p.codes)) codes p.entry g record_is.frame q stops.body.frame in
+    let at = undone.has_base c f (is_framed (ran None p.codes)) codes p.entry g record_is.frame q stops.body.frame in
     let un = undone.undoes m at.base c f codes p.entry g q held stops.body.count stops.body.wide_count at.saves at.points in
     record {
       entry = un.entry;
       is = rw at.is (rw un.is refl);
       count = un.count;
       wide_count = un.wide_count;
-      leaves = un.place;
+      leaves = un.stack;
       registers = un.registers;
       wide = un.wide;
     }
@@ -207,7 +207,7 @@ root_above m p (q ∷ parts) limit g frames =
     let rest = root_above m q parts None (registers_of p.entry) frames.4 in
     omega arith
 
--- the known memory has the return address, unless it is in an interrupt's place
+-- the known memory has the eight bytes that the stack pointer points at where the function was entered
 root_word : (m : ℕ → Option ℕ) (p : Part) (parts : List Part) (limit : Option ℕ) (g : Registers) → AreFrames m (p ∷ parts) limit g →
     m (top (root_of p parts).entry) ≡ Some (loaded (root_of p parts).entry.memory (top (root_of p parts).entry))
 root_word m p [] limit g frames =

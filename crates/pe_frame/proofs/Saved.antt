@@ -8,7 +8,7 @@ use Rattle.pe_frame.specs.Machine.{Machine, top, base, loaded, stored, run, slot
 use Rattle.pe_frame.proofs.Words.{loaded-stored, loaded-apart}
 use Rattle.pe_frame.proofs.Runs.{entered, same, same_wide, slots_above}
 
--- each place has what was saved there
+-- each slot has what was saved there
 abbrev pub HoldsReturn : (ℕ → ℕ → Type 0) → Bool → Machine → Type 0
 HoldsReturn P true s = P (top s) (loaded s.memory (top s))
 HoldsReturn P false s = Unit {0}

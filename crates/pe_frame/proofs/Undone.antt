@@ -19,7 +19,7 @@ abbrev pub HasBase : Option ℕ → List UnwindOperation → ℕ → ℕ → Typ
 HasBase None codes t b = SavesNone codes ⊎ (t ≡ b)
 HasBase (Some c) codes t b = c ≡ b
 
--- the stack pointer is at its place or, with a frame register, anywhere below
+-- the stack pointer is where the prolog left it or, with a frame register, anywhere below
 abbrev pub Points : Option ℕ → List UnwindOperation → ℕ → ℕ → Type 0
 Points None codes t p = p ≡ t
 Points (Some b) codes t p = (p ≤ t) × (PushesLate codes → p ≡ t)
@@ -157,8 +157,8 @@ LeavesAt (other ∷ before) s u = LeavesAt before s u
 
 interrupt_ok : (m : ℕ → Option ℕ) (b : ℕ) (e : Bool) (g : Registers) (a p : ℕ) → m (pointer g + error_size e) ≡ Some a → m (pointer g + error_size e + 24) ≡ Some p → pointer g + error_size e + 24 < 2 ^ 64 →
     undone m b (PushMachineFrame e) g ≡ Ok (put_rip (put_register g 4 p) a)
-interrupt_ok m b e g a p at place small =
-    rw (above_ok (pointer g) (error_size e) (omega arith)) (rw (number_ok m (pointer g + error_size e) a at) (rw (above_ok (pointer g + error_size e) 24 small) (rw (number_ok m (pointer g + error_size e + 24) p place) refl)))
+interrupt_ok m b e g a p at stack small =
+    rw (above_ok (pointer g) (error_size e) (omega arith)) (rw (number_ok m (pointer g + error_size e) a at) (rw (above_ok (pointer g + error_size e) 24 small) (rw (number_ok m (pointer g + error_size e + 24) p stack) refl)))
 
 pub record Undoes (m : ℕ → Option ℕ) (b : ℕ) (codes : List UnwindOperation) (s : Machine) (g : Registers) : Type 0 where
   pub entry : Registers
@@ -166,13 +166,13 @@ pub record Undoes (m : ℕ → Option ℕ) (b : ℕ) (codes : List UnwindOperati
   pub count : length entry.general ≡ 16
   pub wide_count : length entry.xmm ≡ 16
   pub wide : (r : ℕ) → get_or entry.xmm r 0 ≡ chosen (saves_wide codes r) (get_or s.xmm r 0) (get_or g.xmm r 0)
-  pub place : LeavesAt codes s entry
+  pub stack : LeavesAt codes s entry
   pub registers : (r : ℕ) → r ≢ 4 → get_or entry.general r 0 ≡ chosen (saves codes r) (get_or s.general r 0) (get_or g.general r 0)
 
 pub undoes : (m : ℕ → Option ℕ) (b : ℕ) (c : Bool) (f : Frame) (codes : List UnwindOperation) (s : Machine) (g : Registers) → IsProlog c f codes s → Holds (λ a v. m a ≡ Some v) c f codes s → length g.general ≡ 16 → length g.xmm ≡ 16
     → HasBase (run f codes s).frame codes (top (run f codes s)) b → Points (run f codes s).frame codes (top (run f codes s)) (pointer g) → Undoes m b codes s g
 undoes m b c f [] s g p h len wlen hb pt =
-    record { entry = g; is = refl; count = len; wide_count = wlen; wide = λ r. refl; place = none_points s.frame [] (top s) (pointer g) p.frame pt; registers = λ r other. refl }
+    record { entry = g; is = refl; count = len; wide_count = wlen; wide = λ r. refl; stack = none_points s.frame [] (top s) (pointer g) p.frame pt; registers = λ r other. refl }
 undoes m b c f (PushNonVolatile q ∷ before) s g p h len wlen hb pt =
     let t = top (run f before s) in
     let set_top = pointer_set (run f before s).general (t - 8) (count c f before s p.1) in
@@ -185,15 +185,15 @@ undoes m b c f (PushNonVolatile q ∷ before) s g p h len wlen hb pt =
     let step = pop_ok m b q g v p.0.0.number p.0.0.other word (omega (arith, p.0.3)) in
     let len_set : length (set g.general q.0 v) ≡ 16 = length-set g.general q.0 v ∙ len in
     let len_next : length next.general ≡ 16 = length-set (set g.general q.0 v) 4 (pointer g + 8) ∙ len_set in
-    let place : pointer next ≡ t = pointer_set (set g.general q.0 v) (pointer g + 8) len_set ∙ omega (arith, p.0.3) in
-    let rest = undoes m b c f before s next p.1 h.1 len_next wlen (base_moved (run f before s).frame (PushNonVolatile q ∷ before) before _ t b p.0.2 hb) (points_exact _ before t (pointer next) place) in
+    let stack : pointer next ≡ t = pointer_set (set g.general q.0 v) (pointer g + 8) len_set ∙ omega (arith, p.0.3) in
+    let rest = undoes m b c f before s next p.1 h.1 len_next wlen (base_moved (run f before s).frame (PushNonVolatile q ∷ before) before _ t b p.0.2 hb) (points_exact _ before t (pointer next) stack) in
     record {
       entry = rest.entry;
       is = then_all m b (PushNonVolatile q) before g next rest.entry step rest.is;
       count = rest.count;
       wide_count = rest.wide_count;
       wide = rest.wide;
-      place = rest.place;
+      stack = rest.stack;
       registers = λ r other. rest.registers r other ∙ (moved (set g.general q.0 v) s.general (pointer g + 8) r (saves before r) other ∙ restored g.general s.general q.0 v r (saves before r) len p.0.0.number refl);
     }
 undoes m b c f (Alloc n ∷ before) s g p h len wlen hb pt =
@@ -206,8 +206,8 @@ undoes m b c f (Alloc n ∷ before) s g p h len wlen hb pt =
     let next : Registers = put_register g 4 (pointer g + n) in
     let step = raised_ok n g (omega (arith, p.0.1)) in
     let len_next : length next.general ≡ 16 = length-set g.general 4 (pointer g + n) ∙ len in
-    let place : pointer next ≡ pointer g + n = pointer_set g.general (pointer g + n) len in
-    let pt_next : Points (run f before s).frame before t (pointer next) = subst (λ (k : ℕ). Points (run f before s).frame before t k) (sym place) (points_raised (run f before s).frame before t (pointer g) n p.0.1 pt') in
+    let stack : pointer next ≡ pointer g + n = pointer_set g.general (pointer g + n) len in
+    let pt_next : Points (run f before s).frame before t (pointer next) = subst (λ (k : ℕ). Points (run f before s).frame before t k) (sym stack) (points_raised (run f before s).frame before t (pointer g) n p.0.1 pt') in
     let rest = undoes m b c f before s next p.1 h len_next wlen (base_moved (run f before s).frame (Alloc n ∷ before) before _ t b p.0.0 hb) pt_next in
     record {
       entry = rest.entry;
@@ -215,22 +215,22 @@ undoes m b c f (Alloc n ∷ before) s g p h len wlen hb pt =
       count = rest.count;
       wide_count = rest.wide_count;
       wide = rest.wide;
-      place = rest.place;
+      stack = rest.stack;
       registers = λ r other. rest.registers r other ∙ moved g.general s.general (pointer g + n) r (saves before r) other;
     }
 undoes m b c f (SetFPRegister ∷ before) s g p h len wlen hb pt =
     let t = top (run f before s) in
     let next : Registers = put_register g 4 b in
     let len_next : length next.general ≡ 16 = length-set g.general 4 b ∙ len in
-    let place : pointer next ≡ t = pointer_set g.general b len ∙ sym hb in
-    let rest = undoes m b c f before s next p.1 h len_next wlen (base_none _ before t b p.0.1 (inr hb)) (points_exact _ before t (pointer next) place) in
+    let stack : pointer next ≡ t = pointer_set g.general b len ∙ sym hb in
+    let rest = undoes m b c f before s next p.1 h len_next wlen (base_none _ before t b p.0.1 (inr hb)) (points_exact _ before t (pointer next) stack) in
     record {
       entry = rest.entry;
       is = then_all m b SetFPRegister before g next rest.entry refl rest.is;
       count = rest.count;
       wide_count = rest.wide_count;
       wide = rest.wide;
-      place = rest.place;
+      stack = rest.stack;
       registers = λ r other. rest.registers r other ∙ moved g.general s.general b r (saves before r) other;
     }
 undoes m b c f (SaveNonVolatile q o ∷ before) s g p h len wlen hb pt =
@@ -241,22 +241,22 @@ undoes m b c f (SaveNonVolatile q o ∷ before) s g p h len wlen hb pt =
     let word : m (b + offset_number o) ≡ Some v = ap (λ (k : ℕ). m (k + offset_number o)) (sym is_base) ∙ h.0 in
     let step = load_ok m b q o g v p.0.0.number word (omega (arith, p.0.2)) in
     let len_next : length next.general ≡ 16 = length-set g.general q.0 v ∙ len in
-    let place : pointer next ≡ pointer g = pointer_other g.general q.0 v p.0.0.other in
+    let stack : pointer next ≡ pointer g = pointer_other g.general q.0 v p.0.0.other in
     let hb_next : HasBase (run f before s).frame before t b = base_saved_rest (run f before s).frame q o before t b hb in
-    let rest = undoes m b c f before s next p.1 h.1 len_next wlen hb_next (subst (λ (k : ℕ). Points (run f before s).frame before t k) (sym place) (points_weaker (run f before s).frame (SaveNonVolatile q o ∷ before) before t (pointer g) (λ k. k) pt)) in
+    let rest = undoes m b c f before s next p.1 h.1 len_next wlen hb_next (subst (λ (k : ℕ). Points (run f before s).frame before t k) (sym stack) (points_weaker (run f before s).frame (SaveNonVolatile q o ∷ before) before t (pointer g) (λ k. k) pt)) in
     record {
       entry = rest.entry;
       is = then_all m b (SaveNonVolatile q o) before g next rest.entry step rest.is;
       count = rest.count;
       wide_count = rest.wide_count;
       wide = rest.wide;
-      place = rest.place;
+      stack = rest.stack;
       registers = λ r other. rest.registers r other ∙ restored g.general s.general q.0 v r (saves before r) len p.0.0.number refl;
     }
 undoes m b c f (SaveXMM r o ∷ before) s g p h len wlen hb pt = absurd p.0
 undoes m b c f (Epilog x y ∷ before) s g p h len wlen hb pt =
     let rest = undoes m b c f before s g p.1 h len wlen (base_weaker (run f before s).frame (Epilog x y ∷ before) before _ b (λ k. k) hb) (points_weaker (run f before s).frame (Epilog x y ∷ before) before _ (pointer g) (λ k. k) pt) in
-    record { entry = rest.entry; is = rest.is; count = rest.count; wide_count = rest.wide_count; wide = rest.wide; place = rest.place; registers = rest.registers }
+    record { entry = rest.entry; is = rest.is; count = rest.count; wide_count = rest.wide_count; wide = rest.wide; stack = rest.stack; registers = rest.registers }
 undoes m b c f (SaveXMM128 q o ∷ before) s g p h len wlen hb pt =
     let t = top (run f before s) in
     let is_base : base (run f before s) ≡ b = base_wide (run f before s).frame q o before t b hb in
@@ -274,7 +274,7 @@ undoes m b c f (SaveXMM128 q o ∷ before) s g p h len wlen hb pt =
       count = rest.count;
       wide_count = rest.wide_count;
       wide = λ r. rest.wide r ∙ restored g.xmm s.xmm (q.0 - 17) v r (saves_wide before r) wlen (omega (arith, p.0.0.most)) refl;
-      place = rest.place;
+      stack = rest.stack;
       registers = rest.registers;
     }
 undoes m b c f (PushMachineFrame e ∷ []) s g p h len wlen hb pt =
@@ -282,22 +282,22 @@ undoes m b c f (PushMachineFrame e ∷ []) s g p h len wlen hb pt =
     let a = loaded s.memory (top s + error_size e) in
     let q = loaded s.memory (top s + error_size e + 24) in
     let at : m (pointer g + error_size e) ≡ Some a = ap (λ (k : ℕ). m (k + error_size e)) is_top ∙ h.0 in
-    let place : m (pointer g + error_size e + 24) ≡ Some q = ap (λ (k : ℕ). m (k + error_size e + 24)) is_top ∙ h.1.0 in
+    let stack : m (pointer g + error_size e + 24) ≡ Some q = ap (λ (k : ℕ). m (k + error_size e + 24)) is_top ∙ h.1.0 in
     let next : Registers = put_rip (put_register g 4 q) a in
-    let step : undone m b (PushMachineFrame e) g ≡ Ok next = interrupt_ok m b e g a q at place (omega (arith, p.0.1)) in
+    let step : undone m b (PushMachineFrame e) g ≡ Ok next = interrupt_ok m b e g a q at stack (omega (arith, p.0.1)) in
     record {
       entry = next;
       is = then_all m b (PushMachineFrame e) [] g next next step refl;
       count = length-set g.general 4 q ∙ len;
       wide_count = wlen;
       wide = λ r. refl;
-      place = (pointer_set g.general q len, refl);
+      stack = (pointer_set g.general q len, refl);
       registers = λ r other. moved g.general s.general q r false other;
     }
 undoes m b c f (PushMachineFrame e ∷ o ∷ before) s g p h len wlen hb pt = absurd p.0.0
 undoes m b c f (Noop ∷ before) s g p h len wlen hb pt =
     let rest = undoes m b c f before s g p.1 h len wlen (base_weaker (run f before s).frame (Noop ∷ before) before _ b (λ k. k) hb) (points_weaker (run f before s).frame (Noop ∷ before) before _ (pointer g) (λ k. k) pt) in
-    record { entry = rest.entry; is = rest.is; count = rest.count; wide_count = rest.wide_count; wide = rest.wide; place = rest.place; registers = rest.registers }
+    record { entry = rest.entry; is = rest.is; count = rest.count; wide_count = rest.wide_count; wide = rest.wide; stack = rest.stack; registers = rest.registers }
 
 -- the frame register and the base of the frame
 pub record IsSet (f : Frame) (codes : List UnwindOperation) (s : Machine) (b : ℕ) : Type 0 where
@@ -378,21 +378,21 @@ base_framed f sets g b is value =
     let back : b + f.offset - f.offset ≡ b = omega arith in
     rw none (rw test (rw value (rw high (ap Ok back))))
 
-pub record HasPlace (f : Frame) (sets : Bool) (codes : List UnwindOperation) (s : Machine) (g : Registers) : Type 0 where
+pub record BaseAndStack (f : Frame) (sets : Bool) (codes : List UnwindOperation) (s : Machine) (g : Registers) : Type 0 where
   pub base : ℕ
   pub is : base_of f sets (is_framed codes) g ≡ Ok base
   pub saves : HasBase (run f codes s).frame codes (top (run f codes s)) base
   pub points : Points (run f codes s).frame codes (top (run f codes s)) (pointer g)
 
-has_place_by : (c : Bool) (f : Frame) (sets : Bool) (codes : List UnwindOperation) (s : Machine) (g : Registers) (frame : Option ℕ) → (f.register ≡ 0) ⊎ (sets ≡ true) → IsProlog c f codes s → (run f codes s).frame ≡ frame → KeepsFrame f codes frame (run f codes s).general g → HasPlace f sets codes s g
-has_place_by c f sets codes s g None named p e k =
+has_base_by : (c : Bool) (f : Frame) (sets : Bool) (codes : List UnwindOperation) (s : Machine) (g : Registers) (frame : Option ℕ) → (f.register ≡ 0) ⊎ (sets ≡ true) → IsProlog c f codes s → (run f codes s).frame ≡ frame → KeepsFrame f codes frame (run f codes s).general g → BaseAndStack f sets codes s g
+has_base_by c f sets codes s g None named p e k =
     record {
       base = pointer g;
       is = rw (unframed c f codes s p e) (base_plain f sets g named);
       saves = base_none (run f codes s).frame codes _ (pointer g) e (inr (sym k));
       points = points_exact (run f codes s).frame codes _ (pointer g) k;
     }
-has_place_by c f sets codes s g (Some b) named p e k =
+has_base_by c f sets codes s g (Some b) named p e k =
     let i = is_set c f codes s b p e in
     record {
       base = b;
@@ -401,8 +401,8 @@ has_place_by c f sets codes s g (Some b) named p e k =
       points = subst (λ (x : Option ℕ). Points x codes (top (run f codes s)) (pointer g)) (sym e) (k.0, k.1);
     }
 
-pub has_place : (c : Bool) (f : Frame) (sets : Bool) (codes : List UnwindOperation) (s : Machine) (g : Registers) → (f.register ≡ 0) ⊎ (sets ≡ true) → IsProlog c f codes s → KeepsFrame f codes (run f codes s).frame (run f codes s).general g → HasPlace f sets codes s g
-has_place c f sets codes s g named p k = has_place_by c f sets codes s g (run f codes s).frame named p refl k
+pub has_base : (c : Bool) (f : Frame) (sets : Bool) (codes : List UnwindOperation) (s : Machine) (g : Registers) → (f.register ≡ 0) ⊎ (sets ≡ true) → IsProlog c f codes s → KeepsFrame f codes (run f codes s).frame (run f codes s).general g → BaseAndStack f sets codes s g
+has_base c f sets codes s g named p k = has_base_by c f sets codes s g (run f codes s).frame named p refl k
 
 -- without a machine frame the stack pointer is where it was, and the pop ends it
 pub left_plain : (codes : List UnwindOperation) (s : Machine) (u : Registers) → is_interrupted codes ≡ false → LeavesAt codes s u → pointer u ≡ top s

@@ -128,7 +128,7 @@ IsFirst (o ∷ before) = ⊥
 -- An operation that a prolog may do after those before it.
 -- A push or an allocation: not below address 0, nor after a save without a frame register.
 -- A frame register: once.
--- A machine frame: first, where an interrupt enters in place of a call.
+-- A machine frame: first, where an interrupt enters and no call.
 -- A save: on none of the slots, the return address among them.
 abbrev pub MayFollow : Bool → Frame → List UnwindOperation → Machine → Machine → UnwindOperation → Type 0
 MayFollow called f before s t (PushNonVolatile r) = IsSavable r.0 × MaySave t.frame f.register r.0 × MayMove t.frame before × (8 ≤ top t)

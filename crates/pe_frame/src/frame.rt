@@ -71,10 +71,10 @@ fn caller<M: Memory>(
 
 /// The registers of a function's caller, from those inside the function.
 ///
-/// `plan` has the function's unwind records, as `UnwindPlan::of` of pe_plan returns them; `start` is the RVA at which the
-/// function starts, `rva` the instruction pointer less the image base. At or after the end of the prolog all codes of the
-/// first record are undone, inside of it those that end at or before `rva`. The records to which it is chained are undone
-/// whole. Epilogs are not recognized: in one of them the result is wrong.
+/// `plan` has the function's unwind records, as `UnwindPlan::of` of pe_plan returns them; `start` is the `begin_address` of
+/// the function that lookup found, `rva` the instruction pointer less the image base. At or after the end of the prolog all
+/// codes of the first record are undone, inside of it those that end at or before `rva`. The records to which it is chained
+/// are undone whole. Epilogs are not recognized: in one of them the result is wrong.
 ///
 /// **A walk.** In the top frame `rva` is the instruction that is about to run: look the function up by it. In each other frame
 /// it is a return address, which may lie after the end of the function if the call is its last instruction: look up by

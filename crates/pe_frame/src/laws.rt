@@ -1,6 +1,7 @@
 //! Laws over the definitions. Each is the contract of a function that does nothing.
 
 ghost use Rattle.std.specs.Prelude.{◌≡◌, ℕ, ◌+◌, ◌-◌, ◌^◌, ◌<◌, ◌≤◌, length, slice_index, List, Option, None, Some, Result, Ok, [], ◌∷◌};
+ghost use Rattle.pe_core.specs.Traits.{IsEquality};
 ghost use Rattle.pe_unwind.specs.UnwindRecord.{UnwindInfoView};
 ghost use Rattle.pe_frame.specs.declared.error.FrameError.{FrameError};
 ghost use Rattle.pe_frame.specs.declared.registers.Registers.{Registers};
@@ -9,6 +10,8 @@ ghost use Rattle.pe_frame.specs.Machine.{loaded};
 ghost use Rattle.pe_frame.specs.Frames.{Part, infos, left, registers_of, AreFrames, IsCaller};
 ghost use Rattle.pe_frame.specs.Samples.{all_known, home_part, inner_part, framed_part, interrupt_part};
 ghost use Rattle.pe_frame.specs.Steps.{Steps, by_kind};
+
+use crate::registers::Registers;
 
 /// A step has an answer, and one alone, up to the numbers in a refusal of codes.
 #[tactic(auto, using(crate::proofs::OneStep::some_step))]
@@ -21,8 +24,8 @@ pub fn one_answer_of_steps()
 
 /// A step undoes what the prologs of a function did: where a machine ran them and stopped in the innermost part, after its
 /// prolog (`whole`) or inside of it (`begun`), a step returns the registers of the caller. Each register has the value from
-/// the entry of the outermost part that saved it, or the one that it had if none did. No memory is asked of but the slots
-/// that the prologs stored to, and nothing of what the bodies did to other registers and memory.
+/// the entry of the outermost part that saved it, or the one that it has where no part did. The known memory has to show the
+/// words that the prologs stored, and the return address; what the bodies did to other registers and memory does not matter.
 pub fn prologs_are_undone()
     ensures whole { (m : ℕ → Option ℕ) (p : Part) (parts : List Part) (offset : ℕ) (g : Registers) (x : Result Registers FrameError) →
         p.info.size_of_prolog ≤ offset → AreFrames m (p ∷ parts) None g → Steps m (infos (p ∷ parts)) offset g x →
@@ -46,4 +49,9 @@ pub fn prologs_are_there()
     ensures framed { AreFrames (all_known (left None framed_part)) (framed_part ∷ []) None (registers_of (left None framed_part)) }
     ensures begun { AreFrames (all_known (left (Some 11) framed_part)) (framed_part ∷ []) (Some 11) (registers_of (left (Some 11) framed_part)) }
     ensures interrupted { AreFrames (all_known (left None interrupt_part)) (interrupt_part ∷ []) None (registers_of (left None interrupt_part)) }
+{}
+
+/// Two registers of a thread are equal if all of them are.
+pub fn equality_is_of_all_registers()
+    ensures { IsEquality ⟦<Registers as PartialEq>⟧.eq }
 {}
