@@ -274,6 +274,14 @@ fn names_of<'a, A: Allocator>(
     Ok(names)
 }
 
+/// Sorts names by their bytes, and keeps each once.
+fn sort_once<'a, A: Allocator>(names: &mut Vec<&'a str, A>)
+    ensures { AreLibraries (map (λ s. s.now) names.old.items) (map (λ s. s.now) names.new.items) }
+{
+    names.sort_unstable();
+    names.dedup();
+}
+
 impl<'a, A: Allocator + Copy + Drop> ImportData<'a, A> {
     /// The import directory, with the default options. `is_64` says that entries have 8 bytes, as in PE32+, and not 4.
     pub fn parse(
@@ -342,8 +350,7 @@ impl<'a, A: Allocator + Copy + Drop> ImportData<'a, A> {
         ensures refused { IfErr result (λ error. error ≡ Memory record {}) }
     {
         let mut names = names_of(alloc, &self.import_data)?;
-        names.sort_unstable();
-        names.dedup();
+        sort_once(&mut names);
         Ok(names)
     }
 }

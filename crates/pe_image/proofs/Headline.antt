@@ -7,7 +7,7 @@ use Rattle.pe_resource.specs.Resources.{ResourceView}
 use Rattle.pe_image.specs.Core.{CoreView, core_of}
 use Rattle.pe_image.specs.Fields.{Field, given_value}
 use Rattle.pe_image.specs.Headline.{AreDerived, AreAlone, IsOfCore, IsPermissive}
-use Rattle.pe_image.specs.Image.{ImageView, core_part, with_fields, demanded, first_four_demanded, before_resources, AreResourcesOf, IsBehindCore, IsImage}
+use Rattle.pe_image.specs.Image.{ImageView, core_part, with_fields, demanded, first_fields_demanded, before_resources, AreResourcesOf, IsBehindCore, IsImage}
 use Rattle.pe_image.proofs.Permissive.{demanded_never, four_never}
 
 -- ---- a core with its fields is an image of that core, and the one that there is
@@ -30,13 +30,13 @@ from_answer : (b : List ℕ) (o : ParseOptions) (c : CoreView) (f : Field Resour
 from_answer b o c f (Err e) are given = absurd cc
 from_answer b o c f (Ok x) are given = let same : x ≡ with_fields b o c f = cc in rw same (of_core b o c f are)
 
-from_image : (b : List ℕ) (o : ParseOptions) (q : Result CoreView Refusal) (r : Result ImageView Refusal) → o.parse_mode ≡ Permissive → IsBehindCore b o (q >>= λ c. first_four_demanded b o c >>= λ u. Ok c) r → IsPermissive b o q r
+from_image : (b : List ℕ) (o : ParseOptions) (q : Result CoreView Refusal) (r : Result ImageView Refusal) → o.parse_mode ≡ Permissive → IsBehindCore b o (q >>= λ c. first_fields_demanded b o c >>= λ u. Ok c) r → IsPermissive b o q r
 from_image b o (Err e) r h is = is
 from_image b o (Ok c) r h is =
     let (f, are, given) : IsBehindCore b o (Ok c) r = rw (four_never b o c h) at is in
     from_answer b o c f r are (rw (demanded_never o.parse_mode f h) at given)
 
-to_image : (b : List ℕ) (o : ParseOptions) (q : Result CoreView Refusal) (r : Result ImageView Refusal) → o.parse_mode ≡ Permissive → IsPermissive b o q r → IsBehindCore b o (q >>= λ c. first_four_demanded b o c >>= λ u. Ok c) r
+to_image : (b : List ℕ) (o : ParseOptions) (q : Result CoreView Refusal) (r : Result ImageView Refusal) → o.parse_mode ≡ Permissive → IsPermissive b o q r → IsBehindCore b o (q >>= λ c. first_fields_demanded b o c >>= λ u. Ok c) r
 to_image b o (Err e) r h is = is
 to_image b o (Ok c) (Err e) h is = absurd is
 to_image b o (Ok c) (Ok x) h is =

@@ -14,7 +14,7 @@ use Rattle.pe_image.specs.Image.{ImageView, IsImage}
 use Rattle.pe_image.specs.Overlay.{LeavesOverlay, all_fit, overlay}
 use Rattle.pe_image.specs.Pieces.{all_certificate_pieces, all_section_pieces, certificates_end}
 use Rattle.pe_image.specs.Writing.{GivesWritten, certificate_directory, certificates_by, certificates_written, image_by, image_end, image_pieces, image_tests, image_written, is_unit, section_tests, sections_written}
-use Rattle.pe_image.proofs.ExceptionFields.{content_of_bytes}
+use Rattle.pe_image.proofs.ExceptionFields.{TableLaw, content_of_bytes}
 use Rattle.pe_image.proofs.RewrittenBytes.{value_is}
 
 -- ---- lookup
@@ -22,9 +22,9 @@ use Rattle.pe_image.proofs.RewrittenBytes.{value_is}
 table_in : (b : List ℕ) (v : ExceptionView) → v.content ≡ b → table_of v ≡ range b v.start v.size
 table_in b v same = ap (λ b. range b v.start v.size) same
 
-pub finds_scanned : (b : List ℕ) (o : ParseOptions) (c : CoreView) (x : ImageView) (v : ExceptionView) (a : ℕ) (found : Option RuntimeFunction) → core_of b o ≡ Ok c → IsImage b o (Ok x) → x.exception_data ≡ Some v → Finds (functions (table_of v)) a found → NeverFalls (functions (range b v.start v.size)) → found ≡ scan (functions (range b v.start v.size)) a
-finds_scanned b o c x v a found core is given finds sorted =
-    let table : table_of v ≡ range b v.start v.size = table_in b v (content_of_bytes b o c x v core is given) in
+pub finds_scanned : (law : TableLaw) (b : List ℕ) (o : ParseOptions) (c : CoreView) (x : ImageView) (v : ExceptionView) (a : ℕ) (found : Option RuntimeFunction) → core_of b o ≡ Ok c → IsImage b o (Ok x) → x.exception_data ≡ Some v → Finds (functions (table_of v)) a found → NeverFalls (functions (range b v.start v.size)) → found ≡ scan (functions (range b v.start v.size)) a
+finds_scanned law b o c x v a found core is given finds sorted =
+    let table : table_of v ≡ range b v.start v.size = table_in b v (content_of_bytes law b o c x v core is given) in
     let here : Finds (functions (range b v.start v.size)) a found = subst (λ t. Finds (functions t) a found) table finds in
     here.scanned sorted
 

@@ -15,9 +15,9 @@ use Rattle.pe_image.specs.LayoutParts.{layout_of}
 use Rattle.pe_image.specs.declared.layout.Layout.{Layout}
 use Rattle.pe_image.specs.Core.{CoreView, core_of, sections_read}
 use Rattle.pe_image.specs.Fields.{Field, given_value}
-use Rattle.pe_image.specs.FieldSteps.{FirstFieldsView, by_mode, list_by_mode, first_fields, first_fields_in_turn, GivesResources}
-use Rattle.pe_image.specs.Image.{ImageView, with_fields, demanded, first_four_demanded, before_resources, AreResourcesOf, IsBehindCore, IsImage, GivesImage}
-use Rattle.pe_image.specs.ImageSteps.{image_of, unless_refused, GivesBehindCore}
+use Rattle.pe_image.specs.FieldSteps.{by_mode, list_by_mode, first_fields_in_turn, GivesResources}
+use Rattle.pe_image.specs.Image.{ImageView, FirstFieldsView, first_fields, image_of, with_fields, demanded, first_fields_demanded, before_resources, AreResourcesOf, IsBehindCore, IsImage, GivesImage}
+use Rattle.pe_image.specs.ImageSteps.{unless_refused, GivesBehindCore}
 use Rattle.pe_image.specs.declared.pe.PE.{PE}
 use Rattle.pe_image.proofs.SectionsFirst.{sections_of_core}
 use Rattle.pe_image.proofs.Steps.{refused_test, passed_test, still_passes, unless, unless_memory, if_memory}
@@ -46,7 +46,7 @@ joined (Ok x) f g = refl
 joined (Err e) f g = refl
 
 -- the fields in front of the resources, read in turn, are these fields, unless one is demanded and refused
-in_turn : (b : List ℕ) (opts : ParseOptions) (c : CoreView) → first_fields_in_turn b opts c ≡ (first_four_demanded b opts c >>= λ u. Ok (first_fields b opts c))
+in_turn : (b : List ℕ) (opts : ParseOptions) (c : CoreView) → first_fields_in_turn b opts c ≡ (first_fields_demanded b opts c >>= λ u. Ok (first_fields b opts c))
 unfolding first_fields_in_turn
 in_turn b opts c = simp (kept, kept_list, joined)
 
@@ -61,7 +61,7 @@ behind_core b opts r c f answer given are is = rw given (f, are, is)
 
 first_refused : (b : List ℕ) (opts : ParseOptions) (c : CoreView) (e : Refusal) → first_fields_in_turn b opts c ≡ Err e → IsBehindCore b opts (unless_refused b opts c) (Err e)
 first_refused b opts c e h =
-    let t : first_four_demanded b opts c ≡ Err e = refused_test (first_four_demanded b opts c) (first_fields b opts c) e (sym (in_turn b opts c) ∙ h) in
+    let t : first_fields_demanded b opts c ≡ Err e = refused_test (first_fields_demanded b opts c) (first_fields b opts c) e (sym (in_turn b opts c) ∙ h) in
     behind_refusal b opts (unless_refused b opts c) e (rw t refl)
 
 pub first_refused_unless : (b : List ℕ) (opts : ParseOptions) (c : CoreView) (e : Error) → UnlessMemory e (first_fields_in_turn b opts c ≡ Err (kind_of e)) → UnlessMemory e (IsBehindCore b opts (unless_refused b opts c) (Err (kind_of e)))
@@ -91,7 +91,7 @@ value_passed Permissive (Some (Err r)) x h = cc
 pub last_refused : (b : List ℕ) (opts : ParseOptions) (c : CoreView) (first : FirstFieldsView) (f : Field ResourceView) (e : Refusal) → first_fields_in_turn b opts c ≡ Ok first → AreResourcesOf b opts c f → Err e ≡ by_mode opts.parse_mode f → IsBehindCore b opts (unless_refused b opts c) (Err e)
 last_refused b opts c first f e h are refused =
     behind_core b opts (unless_refused b opts c) c f (Err e)
-    (still_passes (first_four_demanded b opts c) (first_fields b opts c) first c (sym (in_turn b opts c) ∙ h))
+    (still_passes (first_fields_demanded b opts c) (first_fields b opts c) first c (sym (in_turn b opts c) ∙ h))
     are (rw (demanded_refused opts.parse_mode f e refused) refl)
 
 same_image : (b : List ℕ) (opts : ParseOptions) (c : CoreView) (f : Field ResourceView) → with_fields b opts c f ≡ image_of c (first_fields b opts c) (given_value f)
@@ -100,10 +100,10 @@ same_image b opts c f = refl
 
 pub accepted : (b : List ℕ) (opts : ParseOptions) (c : CoreView) (first : FirstFieldsView) (f : Field ResourceView) (resources : Option ResourceView) → first_fields_in_turn b opts c ≡ Ok first → AreResourcesOf b opts c f → Ok resources ≡ by_mode opts.parse_mode f → IsBehindCore b opts (unless_refused b opts c) (Ok (image_of c first resources))
 accepted b opts c first f resources h are given =
-    let fields : first_fields b opts c ≡ first = passed_test (first_four_demanded b opts c) (first_fields b opts c) first (sym (in_turn b opts c) ∙ h) in
+    let fields : first_fields b opts c ≡ first = passed_test (first_fields_demanded b opts c) (first_fields b opts c) first (sym (in_turn b opts c) ∙ h) in
     let same : with_fields b opts c f ≡ image_of c first resources = same_image b opts c f ∙ (ap (λ first. image_of c first (given_value f)) fields ∙ ap (λ resources. image_of c first resources) (value_passed opts.parse_mode f resources given)) in
     behind_core b opts (unless_refused b opts c) c f (Ok (image_of c first resources))
-    (still_passes (first_four_demanded b opts c) (first_fields b opts c) first c (sym (in_turn b opts c) ∙ h))
+    (still_passes (first_fields_demanded b opts c) (first_fields b opts c) first c (sym (in_turn b opts c) ∙ h))
     are (rw (demanded_passed opts.parse_mode f resources given) (ap (λ x. Ok x) (sym same)))
 
 -- ---- from the core on

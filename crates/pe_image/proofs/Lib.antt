@@ -4,6 +4,8 @@ pub mod ByMode
 pub mod Images
 pub mod Modes
 pub mod Permissive
+pub mod LibraryLists
+pub mod Requests
 pub mod Headline
 pub mod SectionsFirst
 pub mod ExceptionFields

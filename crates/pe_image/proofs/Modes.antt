@@ -13,7 +13,7 @@ use Rattle.pe_resource.specs.Resources.{ResourceView, IsResource}
 use Rattle.pe_unwind.specs.ExceptionTable.{exception_at}
 use Rattle.pe_image.specs.Core.{CoreView, core_of, core_with}
 use Rattle.pe_image.specs.Fields.{Field, IsField, field, given_value, resource_directory}
-use Rattle.pe_image.specs.Image.{ImageView, with_fields, demanded, first_four_demanded, before_resources, debug_of, exceptions_of, relocations_of, AreResourcesOf, IsBehindCore, IsImage}
+use Rattle.pe_image.specs.Image.{ImageView, with_fields, demanded, first_fields_demanded, before_resources, debug_of, exceptions_of, relocations_of, AreResourcesOf, IsBehindCore, IsImage}
 use Rattle.pe_image.specs.Layout.{directory, alignment}
 use Rattle.pe_image.proofs.SectionsFirst.{core_before}
 use Rattle.pe_image.proofs.Steps.{first_passed}
@@ -92,14 +92,14 @@ same_fields law b o c f h = rw (same_debug law b o c h, same_exceptions b o c, s
 
 -- ---- the image
 
-four_kept : (b : List ℕ) (o : ParseOptions) (r : Result CoreView Refusal) (c : CoreView) → r ≡ Ok c → (r >>= λ c. first_four_demanded b o c >>= λ u. Ok c) ≡ Ok c → first_four_demanded b o c ≡ Ok tt
-four_kept b o r c is h = first_passed (first_four_demanded b o c) (λ u. Ok c) c (rw is at h)
+four_kept : (b : List ℕ) (o : ParseOptions) (r : Result CoreView Refusal) (c : CoreView) → r ≡ Ok c → (r >>= λ c. first_fields_demanded b o c >>= λ u. Ok c) ≡ Ok c → first_fields_demanded b o c ≡ Ok tt
+four_kept b o r c is h = first_passed (first_fields_demanded b o c) (λ u. Ok c) c (rw is at h)
 
 permissive_before : HeaderLaw → (b : List ℕ) (o : ParseOptions) (c : CoreView) → core_of b (strict o) ≡ Ok c → before_resources b (permissive o) ≡ Ok c
 unfolding before_resources
 permissive_before law b o c h = rw (permissive_core law b o c h) refl
 
-behind : HeaderLaw → DebugLaw → ResourceLaw → (b : List ℕ) (o : ParseOptions) (c : CoreView) (image : ImageView) (f : Field ResourceView) → core_of b (strict o) ≡ Ok c → first_four_demanded b (strict o) c ≡ Ok tt → AreResourcesOf b (strict o) c f → Ok image ≡ (demanded Strict f >>= λ u. Ok (with_fields b (strict o) c f)) → IsImage b (permissive o) (Ok image)
+behind : HeaderLaw → DebugLaw → ResourceLaw → (b : List ℕ) (o : ParseOptions) (c : CoreView) (image : ImageView) (f : Field ResourceView) → core_of b (strict o) ≡ Ok c → first_fields_demanded b (strict o) c ≡ Ok tt → AreResourcesOf b (strict o) c f → Ok image ≡ (demanded Strict f >>= λ u. Ok (with_fields b (strict o) c f)) → IsImage b (permissive o) (Ok image)
 behind header debug resource b o c image f is four are given =
     let passed : demanded Strict f ≡ Ok tt = first_passed (demanded Strict f) (λ u. Ok (with_fields b (strict o) c f)) image (sym given) in
     let same : with_fields b (strict o) c f ≡ with_fields b (permissive o) c f = same_fields debug b o c f (first_passed (demanded Strict (debug_of b (strict o) c)) _ tt four) in

@@ -11,7 +11,7 @@ use Rattle.pe_resource.specs.Resources.{ResourceView, IsResource}
 use Rattle.pe_image.specs.Core.{CoreView, core_of}
 use Rattle.pe_image.specs.Fields.{Field, IsField, given_value, resource_directory}
 use Rattle.pe_image.specs.Headline.{AreDerived}
-use Rattle.pe_image.specs.Image.{ImageView, core_part, with_fields, demanded, first_four_demanded, before_resources, debug_of, exceptions_of, relocations_of, certificates_of, AreResourcesOf, IsBehindCore, IsImage}
+use Rattle.pe_image.specs.Image.{ImageView, core_part, with_fields, demanded, first_fields_demanded, before_resources, debug_of, exceptions_of, relocations_of, certificates_of, AreResourcesOf, IsBehindCore, IsImage}
 use Rattle.pe_image.specs.Layout.{alignment}
 use Rattle.pe_image.proofs.Steps.{passed_test}
 
@@ -21,15 +21,15 @@ use Rattle.pe_image.proofs.Steps.{passed_test}
 abbrev IsWhole : List ℕ → ParseOptions → CoreView → ImageView → Type 0
 IsWhole b o c x = (f : Field ResourceView) × AreResourcesOf b o c f × (x ≡ with_fields b o c f)
 
-whole_behind : (b : List ℕ) (o : ParseOptions) (c : CoreView) (x : ImageView) (r : Result CoreView Refusal) → (first_four_demanded b o c >>= λ u. Ok c) ≡ r → IsBehindCore b o r (Ok x) → IsWhole b o c x
+whole_behind : (b : List ℕ) (o : ParseOptions) (c : CoreView) (x : ImageView) (r : Result CoreView Refusal) → (first_fields_demanded b o c >>= λ u. Ok c) ≡ r → IsBehindCore b o r (Ok x) → IsWhole b o c x
 whole_behind b o c x (Err e) h is = absurd cc
 whole_behind b o c x (Ok d) h (f, are, given) =
-    let same : d ≡ c = sym (passed_test (first_four_demanded b o c) c d h) in
+    let same : d ≡ c = sym (passed_test (first_fields_demanded b o c) c d h) in
     (f, rw same at are, sym (passed_test (demanded o.parse_mode f) (with_fields b o c f) x (sym (rw same at given))))
 
 whole : (b : List ℕ) (o : ParseOptions) (c : CoreView) (x : ImageView) → core_of b o ≡ Ok c → IsImage b o (Ok x) → IsWhole b o c x
 unfolding before_resources
-whole b o c x h is = whole_behind b o c x (first_four_demanded b o c >>= λ u. Ok c) refl (rw h at is)
+whole b o c x h is = whole_behind b o c x (first_fields_demanded b o c >>= λ u. Ok c) refl (rw h at is)
 
 core_alone : (b : List ℕ) (o : ParseOptions) (c : CoreView) (f : Field ResourceView) → core_part (with_fields b o c f) ≡ c
 unfolding with_fields
@@ -87,7 +87,7 @@ resources_alone b o c x h is =
 pub demanded_never : {X : Type 0} (mode : ParseMode) (f : Field X) → mode ≡ Permissive → demanded mode f ≡ Ok tt
 demanded_never mode f h = rw h refl
 
-pub four_never : (b : List ℕ) (o : ParseOptions) (c : CoreView) → o.parse_mode ≡ Permissive → first_four_demanded b o c ≡ Ok tt
+pub four_never : (b : List ℕ) (o : ParseOptions) (c : CoreView) → o.parse_mode ≡ Permissive → first_fields_demanded b o c ≡ Ok tt
 four_never b o c h = rw (demanded_never o.parse_mode (debug_of b o c) h, demanded_never o.parse_mode (exceptions_of b o c) h, demanded_never o.parse_mode (relocations_of b o c) h) (demanded_never o.parse_mode (certificates_of b o c) h)
 
 same_kind : {X : Type 0} (k e : Refusal) → ◌≡◌ {A = Result X Refusal} (Err k) (Err e) → k ≡ e
@@ -96,12 +96,12 @@ same_kind k e h = cc
 never_refused : {X : Type 0} (r : Result X Refusal) (x : X) (e : Refusal) → r ≡ Ok x → r ≡ Err e → ⊥
 never_refused r x e h g = absurd cc
 
-accepted_behind : (b : List ℕ) (o : ParseOptions) (c : CoreView) (r : Result ImageView Refusal) (e : Refusal) → o.parse_mode ≡ Permissive → IsBehindCore b o (first_four_demanded b o c >>= λ u. Ok c) r → r ≡ Err e → ⊥
+accepted_behind : (b : List ℕ) (o : ParseOptions) (c : CoreView) (r : Result ImageView Refusal) (e : Refusal) → o.parse_mode ≡ Permissive → IsBehindCore b o (first_fields_demanded b o c >>= λ u. Ok c) r → r ≡ Err e → ⊥
 accepted_behind b o c r e h is refused =
     let (f, are, given) : IsBehindCore b o (Ok c) r = rw (four_never b o c h) at is in
     never_refused r (with_fields b o c f) e (rw (demanded_never o.parse_mode f h) at given) refused
 
-refused_behind : (b : List ℕ) (o : ParseOptions) (q : Result CoreView Refusal) (r : Result ImageView Refusal) (e : Refusal) → o.parse_mode ≡ Permissive → IsBehindCore b o (q >>= λ c. first_four_demanded b o c >>= λ u. Ok c) r → (r ≡ Err e) ↔ (q ≡ Err e)
+refused_behind : (b : List ℕ) (o : ParseOptions) (q : Result CoreView Refusal) (r : Result ImageView Refusal) (e : Refusal) → o.parse_mode ≡ Permissive → IsBehindCore b o (q >>= λ c. first_fields_demanded b o c >>= λ u. Ok c) r → (r ≡ Err e) ↔ (q ≡ Err e)
 refused_behind b o (Err k) r e h is = (λ refused. ap (λ e. Err e) (same_kind {X = ImageView} k e (sym is ∙ refused)), λ refused. is ∙ ap (λ e. Err e) (same_kind {X = CoreView} k e refused))
 refused_behind b o (Ok c) r e h is = (λ refused. absurd (accepted_behind b o c r e h is refused), λ refused. absurd cc)
 

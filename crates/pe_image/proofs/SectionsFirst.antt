@@ -1,5 +1,5 @@
 -- Where an image is given, its section headers were read before all of it.
-use Rattle.std.proofs.Common.{◌≡◌, ℕ, List, Option, Result, Ok, Err, refl, sym, ap, ◌∙◌}
+use Rattle.std.proofs.Common.{◌≡◌, ℕ, List, Option, Result, Ok, Err, refl, sym, ap, subst, ◌∙◌}
 use Rattle.std.specs.Prelude.{IfOk}
 use Rattle.pe_core.specs.Header.{HeaderView, header_at}
 use Rattle.pe_core.specs.Imports.{ImportRecordView, ImportView, entry_size}
@@ -12,7 +12,7 @@ use Rattle.pe_core.specs.declared.section_table.SectionTable.{SectionTable}
 use Rattle.pe_resource.specs.Resources.{ResourceView}
 use Rattle.pe_image.specs.Core.{CoreView, core_of, core_with, sections_read, export_data_of, exports_of, import_directory, import_data_of, imports_of}
 use Rattle.pe_image.specs.Fields.{Field}
-use Rattle.pe_image.specs.Image.{ImageView, with_fields, demanded, first_four_demanded, before_resources, IsBehindCore, IsImage, image_view, GivesImage}
+use Rattle.pe_image.specs.Image.{ImageView, with_fields, demanded, first_fields_demanded, before_resources, IsBehindCore, IsImage, image_view, GivesImage}
 use Rattle.pe_image.specs.Layout.{alignment, directory, is_64}
 use Rattle.pe_image.specs.declared.pe.PE.{PE}
 use Rattle.pe_image.proofs.Steps.{passed_test}
@@ -36,6 +36,16 @@ core_sections b o header sections c h =
     (λ found list. record { header = header; sections = sections; export_data = data_found; exports = exports_of place b data_found; import_data = found; imports = list })
     (λ (c : CoreView). c.sections) sections c (λ x y. refl) h
 
+core_header : (b : List ℕ) (o : ParseOptions) (header : HeaderView) (sections : List SectionTable) (c : CoreView) → core_with b o header sections ≡ Ok c → c.header ≡ header
+unfolding core_with
+core_header b o header sections c h =
+    let place = place_in_image o sections header.optional_header in
+    let width = entry_size (is_64 header.optional_header) in
+    let data_found = export_data_of place b (directory 0 header.optional_header) in
+    of_two {X = Option (List ImportRecordView)} {Y = List ImportView} (import_data_of place width b (import_directory o header.optional_header)) (λ found. imports_of place width b found)
+    (λ found list. record { header = header; sections = sections; export_data = data_found; exports = exports_of place b data_found; import_data = found; imports = list })
+    (λ (c : CoreView). c.header) header c (λ x y. refl) h
+
 then_sections : (b : List ℕ) (o : ParseOptions) (header : HeaderView) (r : Result (List SectionTable) Refusal) (c : CoreView) → (r >>= λ sections. core_with b o header sections) ≡ Ok c → r ≡ Ok c.sections
 then_sections b o header (Ok sections) c h = ap (λ sections. Ok sections) (sym (core_sections b o header sections c h))
 then_sections b o header (Err e) c h = absurd cc
@@ -48,12 +58,28 @@ pub sections_of_core : (b : List ℕ) (o : ParseOptions) (c : CoreView) → core
 unfolding core_of
 sections_of_core b o c h = then_header b o (header_at b o.parse_mode) c h
 
+with_sections : (b : List ℕ) (o : ParseOptions) (header : HeaderView) (r : Result (List SectionTable) Refusal) (c : CoreView) → sections_of b header ≡ r → (r >>= λ sections. core_with b o header sections) ≡ Ok c →
+    (Path (Result HeaderView Refusal) (Ok header) (Ok c.header)) × (sections_of b c.header ≡ Ok c.sections)
+with_sections b o header (Ok sections) c is h =
+    let same : header ≡ c.header = sym (core_header b o header sections c h) in
+    (ap (λ (x : HeaderView). Ok x) same, subst (λ (x : HeaderView). sections_of b x ≡ Ok c.sections) same (is ∙ ap (λ (s : List SectionTable). Ok s) (sym (core_sections b o header sections c h))))
+with_sections b o header (Err e) c is h = absurd cc
+
+with_header : (b : List ℕ) (o : ParseOptions) (r : Result HeaderView Refusal) (c : CoreView) → (r >>= λ header. sections_of b header >>= λ sections. core_with b o header sections) ≡ Ok c → (r ≡ Ok c.header) × (sections_of b c.header ≡ Ok c.sections)
+with_header b o (Ok header) c h = with_sections b o header (sections_of b header) c refl h
+with_header b o (Err e) c h = absurd cc
+
+-- a core has the headers and the section headers that were read
+pub headers_of_core : (b : List ℕ) (o : ParseOptions) (c : CoreView) → core_of b o ≡ Ok c → (header_at b o.parse_mode ≡ Ok c.header) × (sections_of b c.header ≡ Ok c.sections)
+unfolding core_of
+headers_of_core b o c h = with_header b o (header_at b o.parse_mode) c h
+
 same_sections : (b : List ℕ) (o : ParseOptions) (c : CoreView) (f : Field ResourceView) → (with_fields b o c f).sections ≡ c.sections
 unfolding with_fields
 same_sections b o c f = refl
 
-pub core_before : (b : List ℕ) (o : ParseOptions) (r : Result CoreView Refusal) (d : CoreView) → (r >>= λ c. first_four_demanded b o c >>= λ u. Ok c) ≡ Ok d → r ≡ Ok d
-core_before b o (Ok c) d h = ap (λ c. Ok c) (passed_test (first_four_demanded b o c) c d h)
+pub core_before : (b : List ℕ) (o : ParseOptions) (r : Result CoreView Refusal) (d : CoreView) → (r >>= λ c. first_fields_demanded b o c >>= λ u. Ok c) ≡ Ok d → r ≡ Ok d
+core_before b o (Ok c) d h = ap (λ c. Ok c) (passed_test (first_fields_demanded b o c) c d h)
 core_before b o (Err e) d h = absurd cc
 
 behind : (b : List ℕ) (o : ParseOptions) (r : Result CoreView Refusal) (x : ImageView) → before_resources b o ≡ r → IsBehindCore b o r (Ok x) → sections_read b o ≡ Ok x.sections

@@ -1,5 +1,5 @@
 -- The fields in front of the resources, one read after the other: for proofs alone.
-use Rattle.std.specs.Prelude.{◌≡◌, List, [], ℕ, Option, Some, None, Result, Ok, map, unwrap_or}
+use Rattle.std.specs.Prelude.{◌≡◌, List, [], ℕ, Option, Some, None, Result, Ok, map}
 use Rattle.std.specs.Option.{option_map}
 use Rattle.pe_core.specs.Modes.{none_if_refused, empty_if_refused}
 use Rattle.pe_core.specs.Refusals.{Refusal, answer_by, ◌>>=◌}
@@ -8,14 +8,13 @@ use Rattle.pe_core.specs.declared.error.Error.{Error}
 use Rattle.pe_core.specs.declared.section_table.SectionTable.{SectionTable}
 use Rattle.pe_core.specs.declared.options.ParseMode.{ParseMode}
 use Rattle.pe_core.specs.declared.options.ParseOptions.{ParseOptions}
-use Rattle.pe_records.specs.Certificates.{CertificateView, certificate_view}
-use Rattle.pe_records.specs.DebugRecords.{DebugFields, debug_view}
+use Rattle.pe_records.specs.Certificates.{certificate_view}
+use Rattle.pe_records.specs.DebugRecords.{debug_view}
 use Rattle.pe_resource.specs.Resources.{ResourceView, resource_view, IsResource}
 use Rattle.pe_resource.specs.declared.resource.ResourceData.{ResourceData}
-use Rattle.pe_unwind.specs.ExceptionTable.{ExceptionView}
 use Rattle.pe_image.specs.Core.{CoreView}
-use Rattle.pe_image.specs.Fields.{Field, IsField, given_value}
-use Rattle.pe_image.specs.Image.{debug_of, exceptions_of, relocations_of, certificates_of}
+use Rattle.pe_image.specs.Fields.{Field, IsField}
+use Rattle.pe_image.specs.Image.{FirstFieldsView, debug_of, exceptions_of, relocations_of, certificates_of}
 use Rattle.pe_image.specs.declared.fields.FirstFields.{FirstFields}
 
 -- what a mode makes of a field that is read
@@ -33,12 +32,6 @@ abbrev pub GivesResources : ParseOptions → List ℕ → List SectionTable → 
 GivesResources opts b sections unit d answer =
     (f : Field ResourceView) × IsField (λ d r. IsResource opts b d sections unit r) d f × (answer_by (option_map resource_view) answer ≡ by_mode opts.parse_mode f)
 
-pub record FirstFieldsView : Type 0 where
-  pub debug_data : Option DebugFields
-  pub exception_data : Option ExceptionView
-  pub relocation_data : Option (List ℕ)
-  pub certificates : List CertificateView
-
 abbrev pub first_fields_view : {Z : Type 0} → FirstFields Z → FirstFieldsView
 first_fields_view f = record {
   debug_data = option_map debug_view f.debug_data;
@@ -54,12 +47,3 @@ first_fields_in_turn b opts c = do
   relocations ← by_mode opts.parse_mode (relocations_of b opts c)
   certificates ← list_by_mode opts.parse_mode (certificates_of b opts c)
   Ok (record { debug_data = debug; exception_data = exceptions; relocation_data = relocations; certificates = certificates })
-
--- the same fields, each by itself
-abbrev pub first_fields : List ℕ → ParseOptions → CoreView → FirstFieldsView
-first_fields b opts c = record {
-  debug_data = given_value (debug_of b opts c);
-  exception_data = given_value (exceptions_of b opts c);
-  relocation_data = given_value (relocations_of b opts c);
-  certificates = unwrap_or (given_value (certificates_of b opts c)) [];
-}

@@ -65,9 +65,13 @@ image_view p = record {
 abbrev pub source_of : {Z : Type 0} → PE Z → List ℕ
 source_of p = p.bytes.now
 
+-- the names of its libraries
+abbrev pub libraries_of : {Z : Type 0} → PE Z → List (List ℕ)
+libraries_of p = map (λ s. s.now) p.libraries.items
+
 -- the libraries of an image are those of its import directory
 abbrev pub HasLibraries : {Z : Type 0} → PE Z → Type 0
-HasLibraries p = AreLibrariesOf (option_map import_data_view p.import_data) (map (λ s. s.now) p.libraries.items)
+HasLibraries p = AreLibrariesOf (image_view p).import_data (libraries_of p)
 
 -- the core that an image holds
 abbrev pub core_part : ImageView → CoreView
@@ -92,9 +96,25 @@ AreResourcesOf b opts c f = IsResourceField b opts c.sections c.header.optional_
 
 -- ---- the image
 
--- a core with its fields, where a refused one is left empty
-unfoldable pub with_fields : List ℕ → ParseOptions → CoreView → Field ResourceView → ImageView
-with_fields b opts c resources = record {
+-- the fields before the resources
+pub record FirstFieldsView : Type 0 where
+  pub debug_data : Option DebugFields
+  pub exception_data : Option ExceptionView
+  pub relocation_data : Option (List ℕ)
+  pub certificates : List CertificateView
+
+-- those of a core, where a refused one is left empty
+abbrev pub first_fields : List ℕ → ParseOptions → CoreView → FirstFieldsView
+first_fields b opts c = record {
+  debug_data = given_value (debug_of b opts c);
+  exception_data = given_value (exceptions_of b opts c);
+  relocation_data = given_value (relocations_of b opts c);
+  certificates = unwrap_or (given_value (certificates_of b opts c)) [];
+}
+
+-- the image of a core, the fields before the resources, and the resources
+abbrev pub image_of : CoreView → FirstFieldsView → Option ResourceView → ImageView
+image_of c first resources = record {
   header = c.header;
   sections = c.sections;
   size = 0;
@@ -107,12 +127,16 @@ with_fields b opts c resources = record {
   import_data = c.import_data;
   exports = c.exports;
   imports = c.imports;
-  debug_data = given_value (debug_of b opts c);
-  exception_data = given_value (exceptions_of b opts c);
-  relocation_data = given_value (relocations_of b opts c);
-  certificates = unwrap_or (given_value (certificates_of b opts c)) [];
-  resource_data = given_value resources;
+  debug_data = first.debug_data;
+  exception_data = first.exception_data;
+  relocation_data = first.relocation_data;
+  certificates = first.certificates;
+  resource_data = resources;
 }
+
+-- a core with its fields, where a refused one is left empty
+unfoldable pub with_fields : List ℕ → ParseOptions → CoreView → Field ResourceView → ImageView
+with_fields b opts c resources = image_of c (first_fields b opts c) (given_value resources)
 
 -- a refused field refuses the image in strict mode
 abbrev pub demanded : {X : Type 0} → ParseMode → Field X → Result (Unit {0}) Refusal
@@ -121,17 +145,17 @@ demanded Strict None = Ok tt
 demanded Strict (Some (Ok x)) = Ok tt
 demanded Strict (Some (Err refusal)) = Err refusal
 
--- the first of the fields in front of the resources that refuses a core
-abbrev pub first_four_demanded : List ℕ → ParseOptions → CoreView → Result (Unit {0}) Refusal
-first_four_demanded b opts c = do
+-- the first of the fields before the resources that refuses a core
+abbrev pub first_fields_demanded : List ℕ → ParseOptions → CoreView → Result (Unit {0}) Refusal
+first_fields_demanded b opts c = do
   _ ← demanded opts.parse_mode (debug_of b opts c)
   _ ← demanded opts.parse_mode (exceptions_of b opts c)
   _ ← demanded opts.parse_mode (relocations_of b opts c)
   demanded opts.parse_mode (certificates_of b opts c)
 
--- a core that is not refused for the fields in front of the resources
+-- a core that is not refused for the fields before the resources
 unfoldable pub before_resources : List ℕ → ParseOptions → Result CoreView Refusal
-before_resources b opts = core_of b opts >>= λ c. first_four_demanded b opts c >>= λ u. Ok c
+before_resources b opts = core_of b opts >>= λ c. first_fields_demanded b opts c >>= λ u. Ok c
 
 abbrev pub IsBehindCore : List ℕ → ParseOptions → Result CoreView Refusal → Result ImageView Refusal → Type 0
 IsBehindCore b opts (Err refusal) r = r ≡ Err refusal

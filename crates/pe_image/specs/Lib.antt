@@ -2,6 +2,7 @@ pub mod Layout
 pub mod Core
 pub mod Fields
 pub mod Image
+pub mod Memory
 pub mod Headline
 pub mod LayoutParts
 pub mod CoreParts

@@ -1,6 +1,6 @@
 //! The core of an image: headers, sections, exports and imports.
 
-ghost use Rattle.std.specs.Prelude.{◌≡◌, map, IfErr, IfOk, None, Ok, if◌then◌else◌};
+ghost use Rattle.std.specs.Prelude.{◌≡◌, ◌<◌, ◌⊎◌, map, IfErr, IfOk, IsSome, IsSomeAnd, None, Ok, if◌then◌else◌};
 ghost use Rattle.pe_core.specs.declared.error.Error.TheVariants.{Memory};
 ghost use Rattle.std.specs.Option.{option_map};
 ghost use Rattle.pe_core.specs.Exports.{export_data_view, export_view};
@@ -8,9 +8,11 @@ ghost use Rattle.pe_core.specs.Header.{header_view};
 ghost use Rattle.pe_core.specs.Imports.{entry_size, import_data_view, import_view};
 ghost use Rattle.pe_core.specs.Refusals.{GivesUnlessMemory, GivesUnlessMemoryAfter};
 ghost use Rattle.pe_core.specs.SectionMap.{section_map};
+ghost use Rattle.pe_core.specs.Sections.{sections_of};
 ghost use Rattle.pe_image.specs.Core.{export_data_of, exports_of, import_data_of, imports_of, core_with, sections_read, core_of, AreLibrariesOf};
 ghost use Rattle.pe_image.specs.CoreParts.{core_view, CoreHasLibraries};
 ghost use Rattle.pe_image.specs.LayoutParts.{layout_of};
+ghost use Rattle.pe_image.specs.Memory.{AsksForMemory, HasExports, HasImports, MemoryOnlyIf};
 
 use crate::layout::Layout;
 use pe_core::{Export, ExportData, Header, Import, ImportData, ParseOptions, Result, SectionTable};
@@ -26,6 +28,21 @@ pub struct Core<'a, A: Allocator + Copy + Drop> {
     pub import_data: Option<ImportData<'a, A>>,
     pub imports: Vec<Import<'a>, A>,
     pub libraries: Vec<&'a str, A>,
+}
+
+/// The section headers of an image. Memory is asked for only where there are some.
+fn sections<A: Allocator + Copy + Drop>(
+    alloc: A,
+    bytes: &[u8],
+    header: &Header<'_>,
+) -> Result<Vec<SectionTable, A>>
+    ensures sections { GivesUnlessMemoryAfter (sections_of bytes.now (header_view header.now)) (λ v. v.items) result (sections_of bytes.now (header_view header.now)) }
+    ensures memory { MemoryOnlyIf (0 < (header_view header.now).coff_header.number_of_sections) result }
+{
+    if header.coff_header.number_of_sections == 0 {
+        return Ok(Vec::new(alloc));
+    }
+    header.sections(alloc, bytes)
 }
 
 /// The export directory, if there is one and it is not refused.
@@ -50,8 +67,9 @@ fn exports<'a, A: Allocator + Copy + Drop>(
     file_alignment: u32,
     export_data: &Option<ExportData<'a>>,
 ) -> Result<Vec<Export<'a>, A>>
-    ensures { GivesUnlessMemory (λ v. map export_view v.items) result
+    ensures exports { GivesUnlessMemory (λ v. map export_view v.items) result
         (Ok (exports_of (section_map opts.now sections.now file_alignment) bytes.entry.now (option_map export_data_view export_data.now))) }
+    ensures memory { MemoryOnlyIf (IsSome (option_map export_data_view export_data.now)) result }
 {
     match export_data {
         None => Ok(Vec::new(alloc)),
@@ -67,9 +85,11 @@ fn import_data<'a, A: Allocator + Copy + Drop>(
     sections: &[SectionTable],
     layout: &Layout,
 ) -> Result<Option<ImportData<'a, A>>>
-    ensures { GivesUnlessMemory (option_map import_data_view) result
+    ensures directory { GivesUnlessMemory (option_map import_data_view) result
         (import_data_of (section_map opts.now sections.now layout.now.file_alignment) (entry_size layout.now.is_64) bytes.entry.now
         (if opts.now.parse_imports then layout.now.imports else None)) }
+    ensures memory { MemoryOnlyIf (IsSomeAnd (if opts.now.parse_imports then layout.now.imports else None)
+        (λ d. IsSome (section_map opts.now sections.now layout.now.file_alignment d.virtual_address))) result }
 {
     if !opts.parse_imports {
         return Ok(None);
@@ -102,8 +122,9 @@ fn imports<'a, A: Allocator + Copy + Drop>(
     layout: &Layout,
     import_data: &Option<ImportData<'a, A>>,
 ) -> Result<Vec<Import<'a>, A>>
-    ensures { GivesUnlessMemory (λ v. map import_view v.items) result
+    ensures imports { GivesUnlessMemory (λ v. map import_view v.items) result
         (imports_of (section_map opts.now sections.now layout.now.file_alignment) (entry_size layout.now.is_64) bytes.entry.now (option_map import_data_view import_data.now)) }
+    ensures memory { MemoryOnlyIf (IsSome (option_map import_data_view import_data.now)) result }
 {
     let Some(data) = import_data else {
         return Ok(Vec::new(alloc));
@@ -119,6 +140,7 @@ fn libraries<'a, A: Allocator + Copy + Drop>(
 ) -> Result<Vec<&'a str, A>>
     ensures listed { IfOk result (λ v. AreLibrariesOf (option_map import_data_view import_data.now) (map (λ s. s.now) v.items)) }
     ensures refused { IfErr result (λ error. error ≡ Memory record {}) }
+    ensures memory { MemoryOnlyIf (IsSome (option_map import_data_view import_data.now)) result }
 {
     match import_data {
         None => Ok(Vec::new(alloc)),
@@ -129,7 +151,7 @@ fn libraries<'a, A: Allocator + Copy + Drop>(
 impl<'a, A: Allocator + Copy + Drop> Core<'a, A> {
     /// The core of an image with these headers and sections. Refusals: those of the import directory, then those of its
     /// imports; `Memory`.
-    #[tactic(auto, unfolding(crate::specs::Core::core_with, crate::specs::LayoutParts::layout_of))]
+    #[tactic(auto, using(crate::proofs::Requests::asks_for_exports, crate::proofs::Requests::asks_for_directory, crate::proofs::Requests::asks_for_imports), unfolding(crate::specs::Core::core_with, crate::specs::LayoutParts::layout_of))]
     fn with(
         alloc: A,
         bytes: &'a [u8],
@@ -138,6 +160,8 @@ impl<'a, A: Allocator + Copy + Drop> Core<'a, A> {
         sections: Vec<SectionTable, A>,
     ) -> Result<Core<'a, A>>
         ensures core { GivesUnlessMemory core_view result (core_with bytes.entry.now opts.now (header_view header.entry) sections.items) }
+        ensures memory { MemoryOnlyIf (HasExports bytes.entry.now opts.now sections.items (header_view header.entry).optional_header
+            ⊎ HasImports opts.now sections.items (header_view header.entry).optional_header) result }
         ensures libraries { IfOk result CoreHasLibraries }
     {
         let layout = Layout::of(&header.optional_header);
@@ -160,13 +184,14 @@ impl<'a, A: Allocator + Copy + Drop> Core<'a, A> {
 
     /// The core of an image, or the first refusal: of its headers, its sections, its import directory, its imports. Memory
     /// is asked for once the headers and the section headers are there.
-    #[tactic(auto, using(crate::proofs::NoMemory::header_owes_nothing), unfolding(crate::specs::Core::core_of))]
+    #[tactic(auto, using(crate::proofs::NoMemory::header_owes_nothing, crate::proofs::Requests::asks_for_sections, crate::proofs::Requests::asks_for_core), unfolding(crate::specs::Core::core_of))]
     pub fn read(alloc: A, bytes: &'a [u8], opts: &ParseOptions) -> Result<Core<'a, A>>
         ensures core { GivesUnlessMemoryAfter (sections_read bytes.entry.now opts.now) core_view result (core_of bytes.entry.now opts.now) }
+        ensures memory { MemoryOnlyIf (AsksForMemory bytes.entry.now opts.now) result }
         ensures libraries { IfOk result CoreHasLibraries }
     {
         let header = Header::parse_with_opts(bytes, opts)?;
-        let sections = header.sections(alloc, bytes)?;
+        let sections = sections(alloc, bytes, &header)?;
         Core::with(alloc, bytes, opts, header, sections)
     }
 }

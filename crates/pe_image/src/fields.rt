@@ -1,6 +1,6 @@
 //! The directories of an image behind its core: what each mode makes of them.
 
-ghost use Rattle.std.specs.Prelude.{map, None, if◌then◌else◌};
+ghost use Rattle.std.specs.Prelude.{◌≡◌, map, None, if◌then◌else◌};
 ghost use Rattle.std.specs.Option.{option_map};
 ghost use Rattle.pe_core.specs.Refusals.{GivesUnlessMemory, answer_by};
 ghost use Rattle.pe_core.specs.Relocations.{directory_bytes};
@@ -10,6 +10,8 @@ ghost use Rattle.pe_resource.specs.Resources.{resource_view};
 ghost use Rattle.pe_unwind.specs.ExceptionTable.{exception_at};
 ghost use Rattle.pe_image.specs.CoreParts.{core_view};
 ghost use Rattle.pe_image.specs.Fields.{field, exceptions_for, IsResourceField};
+ghost use Rattle.pe_image.specs.LayoutParts.{layout_of};
+ghost use Rattle.pe_image.specs.Memory.{BeginsCertificates, HasCertificates, MemoryOnlyIf};
 ghost use Rattle.pe_image.specs.FieldSteps.{by_mode, list_by_mode, first_fields_view, first_fields_in_turn, GivesResources};
 
 use crate::core_image::Core;
@@ -24,15 +26,16 @@ use pe_unwind::ExceptionData;
 use std::alloc::Allocator;
 
 /// The debug data by mode.
-#[tactic(auto, using(crate::proofs::ByMode::gives_by_mode))]
+#[tactic(auto, using(crate::proofs::ByMode::gives_by_mode, crate::proofs::ByMode::never_by_mode, crate::proofs::NoMemory::debug_lacks))]
 fn debug_data<'a>(
     bytes: &'a [u8],
     opts: &ParseOptions,
     sections: &[SectionTable],
     layout: &Layout,
 ) -> Result<Option<DebugData<'a>>>
-    ensures { GivesUnlessMemory (option_map debug_view) result (by_mode opts.now.parse_mode
+    ensures data { GivesUnlessMemory (option_map debug_view) result (by_mode opts.now.parse_mode
         (field (λ d. debug_data opts.now bytes.entry.now d sections.now layout.now.file_alignment 0) layout.now.debug)) }
+    ensures no_memory { MemoryOnlyIf ⊥ result }
 {
     let Some(directory) = layout.debug else {
         return Ok(None);
@@ -43,7 +46,7 @@ fn debug_data<'a>(
 }
 
 /// The exception data by mode. `None` for another machine than x64 and ARM64.
-#[tactic(auto, using(crate::proofs::ByMode::gives_by_mode))]
+#[tactic(auto, using(crate::proofs::ByMode::gives_by_mode, crate::proofs::ByMode::never_by_mode, crate::proofs::NoMemory::exception_lacks))]
 fn exception_data<'a>(
     bytes: &'a [u8],
     opts: &ParseOptions,
@@ -51,8 +54,9 @@ fn exception_data<'a>(
     machine: u16,
     layout: &Layout,
 ) -> Result<Option<ExceptionData<'a>>>
-    ensures { GivesUnlessMemory (λ d. d) result (by_mode opts.now.parse_mode (exceptions_for machine
+    ensures data { GivesUnlessMemory (λ d. d) result (by_mode opts.now.parse_mode (exceptions_for machine
         (λ width d. exception_at width bytes.entry.now d sections.now layout.now.file_alignment opts.now) layout.now.exceptions)) }
+    ensures no_memory { MemoryOnlyIf ⊥ result }
 {
     let Some(directory) = layout.exceptions else {
         return Ok(None);
@@ -71,15 +75,16 @@ fn exception_data<'a>(
 }
 
 /// The base relocations by mode.
-#[tactic(auto, using(crate::proofs::ByMode::gives_by_mode))]
+#[tactic(auto, using(crate::proofs::ByMode::gives_by_mode, crate::proofs::ByMode::never_by_mode, crate::proofs::NoMemory::relocations_lack))]
 fn relocation_data<'a>(
     bytes: &'a [u8],
     opts: &ParseOptions,
     sections: &[SectionTable],
     layout: &Layout,
 ) -> Result<Option<RelocationData<'a>>>
-    ensures { GivesUnlessMemory (option_map (λ r. r.bytes.now)) result (by_mode opts.now.parse_mode
+    ensures data { GivesUnlessMemory (option_map (λ r. r.bytes.now)) result (by_mode opts.now.parse_mode
         (field (λ d. directory_bytes opts.now bytes.entry.now d sections.now layout.now.file_alignment) layout.now.relocations)) }
+    ensures no_memory { MemoryOnlyIf ⊥ result }
 {
     let Some(directory) = layout.relocations else {
         return Ok(None);
@@ -90,14 +95,16 @@ fn relocation_data<'a>(
 }
 
 /// The certificates by mode, unless the options pass them over.
+#[tactic(auto, using(crate::proofs::ByMode::begins_by_mode))]
 fn certificates<'a, A: Allocator + Copy>(
     alloc: A,
     bytes: &'a [u8],
     opts: &ParseOptions,
     layout: &Layout,
 ) -> Result<CertificateDirectoryTable<'a, A>>
-    ensures { GivesUnlessMemory (λ found. map certificate_view found.items) result (list_by_mode opts.now.parse_mode
+    ensures certificates { GivesUnlessMemory (λ found. map certificate_view found.items) result (list_by_mode opts.now.parse_mode
         (if opts.now.parse_attribute_certificates then field (λ d. certificates_at bytes.entry.now d.virtual_address d.size) layout.now.certificates else None)) }
+    ensures memory { MemoryOnlyIf (BeginsCertificates bytes.entry.now (if opts.now.parse_attribute_certificates then layout.now.certificates else None)) result }
 {
     if !opts.parse_attribute_certificates {
         return Ok(Vec::new(alloc));
@@ -114,7 +121,7 @@ fn certificates<'a, A: Allocator + Copy>(
 }
 
 /// The resources by mode, unless the options pass them over. No memory is asked for.
-#[tactic(auto, using(crate::proofs::ByMode::resources_by_mode))]
+#[tactic(auto, using(crate::proofs::ByMode::resources_by_mode, crate::proofs::ByMode::never_if_not))]
 pub fn resource_data<'a, A: Allocator + Copy + Drop>(
     alloc: A,
     bytes: &'a [u8],
@@ -122,8 +129,9 @@ pub fn resource_data<'a, A: Allocator + Copy + Drop>(
     sections: &[SectionTable],
     layout: &Layout,
 ) -> Result<Option<ResourceData<'a>>>
-    ensures { GivesResources opts.now bytes.entry.now sections.now layout.now.file_alignment
+    ensures resources { GivesResources opts.now bytes.entry.now sections.now layout.now.file_alignment
         (if opts.now.parse_resources then layout.now.resources else None) result }
+    ensures no_memory { MemoryOnlyIf ⊥ result }
 {
     if !opts.parse_resources {
         return Ok(None);
@@ -148,22 +156,24 @@ pub struct FirstFields<'a, A: Allocator + Copy + Drop> {
 impl<'a, A: Allocator + Copy + Drop> FirstFields<'a, A> {
     /// The fields of an image with this core, or the first refusal in strict mode: of the debug data, the exception data, the
     /// base relocations, the certificates.
-    #[tactic(auto, unfolding(crate::specs::FieldSteps::first_fields_in_turn, crate::specs::LayoutParts::layout_of))]
+    #[tactic(auto, using(crate::proofs::Requests::from_nothing), unfolding(crate::specs::FieldSteps::first_fields_in_turn, crate::specs::LayoutParts::layout_of))]
     pub fn read(
         alloc: A,
         bytes: &'a [u8],
         opts: &ParseOptions,
         core: &Core<'a, A>,
+        layout: &Layout,
     ) -> Result<FirstFields<'a, A>>
-        ensures { GivesUnlessMemory first_fields_view result (first_fields_in_turn bytes.entry.now opts.now (core_view core.now)) }
+        requires { layout.now ≡ layout_of (core_view core.now).header.optional_header }
+        ensures fields { GivesUnlessMemory first_fields_view result (first_fields_in_turn bytes.entry.now opts.now (core_view core.now)) }
+        ensures memory { MemoryOnlyIf (HasCertificates bytes.entry.now opts.now (core_view core.now).header.optional_header) result }
     {
-        let layout = Layout::of(&core.header.optional_header);
         let machine = core.header.coff_header.machine;
         Ok(FirstFields {
-            debug_data: debug_data(bytes, opts, &core.sections, &layout)?,
-            exception_data: exception_data(bytes, opts, &core.sections, machine, &layout)?,
-            relocation_data: relocation_data(bytes, opts, &core.sections, &layout)?,
-            certificates: certificates(alloc, bytes, opts, &layout)?,
+            debug_data: debug_data(bytes, opts, &core.sections, layout)?,
+            exception_data: exception_data(bytes, opts, &core.sections, machine, layout)?,
+            relocation_data: relocation_data(bytes, opts, &core.sections, layout)?,
+            certificates: certificates(alloc, bytes, opts, layout)?,
         })
     }
 }

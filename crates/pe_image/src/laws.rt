@@ -3,6 +3,7 @@
 ghost use Rattle.std.specs.Prelude.{◌≡◌, ◌≢◌, ◌↔◌, ◌+◌, ◌/◌, ◌%◌, ◌<◌, ◌≤◌, ◌⊎◌, ℕ, List, [], Ok, Err, Option, Result, Some, length, slice_index, true, unwrap_or};
 ghost use Rattle.pe_core.specs.Bytes.{AreBytes, range};
 ghost use Rattle.pe_core.specs.Header.{OptionalHeaderView};
+ghost use Rattle.pe_core.specs.Imports.{ImportRecordView};
 ghost use Rattle.pe_core.specs.Refusals.{Refusal};
 ghost use Rattle.pe_core.specs.Sections.{SharesRawByte};
 ghost use Rattle.pe_core.specs.declared.section_table.SectionTable.{SectionTable};
@@ -15,15 +16,16 @@ ghost use Rattle.pe_resource.specs.Resources.{ResourceView};
 ghost use Rattle.pe_unwind.specs.declared.function_table.RuntimeFunction.{RuntimeFunction};
 ghost use Rattle.pe_unwind.specs.ExceptionTable.{ExceptionView, table_of};
 ghost use Rattle.pe_unwind.specs.FunctionTable.{Finds, NeverFalls, functions, scan};
-ghost use Rattle.pe_image.specs.Core.{CoreView, core_of};
+ghost use Rattle.pe_image.specs.Core.{AreLibrariesOf, CoreView, core_of};
 ghost use Rattle.pe_image.specs.Layout.{alignment};
 ghost use Rattle.pe_image.specs.Fields.{Field, given_value};
 ghost use Rattle.pe_image.specs.Headline.{AreDerived, IsPermissive};
-ghost use Rattle.pe_image.specs.Image.{ImageView, core_part, AreResourcesOf, IsImage, certificates_of, debug_of, exceptions_of, relocations_of};
+ghost use Rattle.pe_image.specs.Image.{HasLibraries, ImageView, core_part, AreResourcesOf, IsImage, certificates_of, debug_of, exceptions_of, image_view, libraries_of, relocations_of};
 ghost use Rattle.pe_image.specs.Overlay.{EndsInZeros, LeavesOverlay, Piece, all_fit, overlay};
 ghost use Rattle.pe_image.specs.Pieces.{all_certificate_pieces, all_section_pieces};
 ghost use Rattle.pe_image.specs.Writing.{AreAligned, GivesWritten, certificate_directory, certificates_written, clash, image_pieces, image_written, sections_written};
 ghost use Rattle.pe_image.specs.WritingSteps.{put_in_turn};
+ghost use Rattle.pe_image.specs.declared.pe.PE.{PE};
 
 /// The whole promise of permissive mode, as one law. Bytes are refused exactly as their core is: headers, section headers,
 /// imports. Otherwise there is an image: its core is that core; its name, kind, entry point and image base are those of
@@ -38,7 +40,7 @@ pub fn headline()
 /// The promise of the calls on an image. In an exception table that is sorted by start RVA, lookup finds what a linear scan
 /// of the image's bytes finds. The table has a twelfth of its size in entries, and `search` reads at most as many of them as
 /// that number has binary digits. An accepted write leaves the overlay of its pieces, and a refused one changes nothing.
-#[tactic(auto, using(crate::proofs::HeadlineCalls::finds_scanned, crate::proofs::ExceptionFields::entries_of_table, crate::proofs::HeadlineCalls::image_leaves, crate::proofs::HeadlineCalls::sections_leave, crate::proofs::HeadlineCalls::certificates_leave))]
+#[tactic(auto, using(crate::proofs::HeadlineCalls::image_leaves, crate::proofs::HeadlineCalls::sections_leave, crate::proofs::HeadlineCalls::certificates_leave))]
 pub fn headline_calls()
     ensures lookup { (b : List ℕ) (o : ParseOptions) (c : CoreView) (x : ImageView) (v : ExceptionView) (a : ℕ) (found : Option RuntimeFunction) →
         core_of b o ≡ Ok c → IsImage b o (Ok x) → x.exception_data ≡ Some v → Finds (functions (table_of v)) a found →
@@ -51,7 +53,9 @@ pub fn headline_calls()
         GivesWritten r (sections_written b sections unit offset old) old new → LeavesOverlay (all_section_pieces b unit offset sections) r old new }
     ensures certificates { (old new : List ℕ) (x : ImageView) (h : OptionalHeaderView) (r : Result ℕ Error) → x.header.optional_header ≡ Some h →
         GivesWritten r (certificates_written x old) old new → LeavesOverlay (all_certificate_pieces (certificate_directory h) x.certificates) r old new }
-{}
+{
+    pe_unwind::laws::x64::exception_data_are_of_their_bytes();
+}
 
 /// Permissive parsing refuses an image exactly where its core is refused, and as that.
 #[tactic(auto, using(crate::proofs::Permissive::refused_as_the_core))]
@@ -80,7 +84,8 @@ pub fn permissive_fields_are_their_own()
         (f : Field ResourceView) × AreResourcesOf b o c f × (x.resource_data ≡ given_value f) }
 {}
 
-/// Where strict parsing succeeds, permissive parsing with otherwise the same options gives the same image.
+/// Where strict parsing succeeds, permissive parsing with otherwise the same options gives the same image, and so the same
+/// libraries (`equal_images_have_equal_libraries`).
 pub fn strict_images_are_permissive()
     ensures { (b : List ℕ) (o : ParseOptions) (x : ImageView) →
         IsImage b (record o { parse_mode = ParseMode.Strict }) (Ok x) →
@@ -100,15 +105,29 @@ pub fn images_are_one()
     pe_resource::laws::resources::resources_have_one_answer();
 }
 
+/// An import directory decides the names of its libraries: there is one list of them, and one alone.
+#[tactic(auto, using(crate::proofs::LibraryLists::some_list, crate::proofs::LibraryLists::one_list))]
+pub fn libraries_are_one()
+    ensures exists { (d : Option (List ImportRecordView)) → (libraries : List (List ℕ)) × AreLibrariesOf d libraries }
+    ensures one { (d : Option (List ImportRecordView)) (xs ys : List (List ℕ)) → AreLibrariesOf d xs → AreLibrariesOf d ys → xs ≡ ys }
+{}
+
+/// Images that look the same, as those of both modes, have the same libraries.
+#[tactic(auto, using(crate::proofs::LibraryLists::same_libraries))]
+pub fn equal_images_have_equal_libraries<Y, Z>()
+    ensures { (p : PE Y) (q : PE Z) → image_view p ≡ image_view q → HasLibraries p → HasLibraries q → libraries_of p ≡ libraries_of q }
+{}
+
 /// Exception data of an image are of its bytes, and map addresses by its file alignment: so lookup, links and records over
 /// them are those of the bytes.
-#[tactic(auto, using(crate::proofs::ExceptionFields::content_of_bytes, crate::proofs::ExceptionFields::alignment_of_image))]
 pub fn exception_data_are_of_the_bytes()
     ensures content { (b : List ℕ) (o : ParseOptions) (c : CoreView) (x : ImageView) (v : ExceptionView) → core_of b o ≡ Ok c → IsImage b o (Ok x) →
         x.exception_data ≡ Some v → v.content ≡ b }
     ensures alignment { (b : List ℕ) (o : ParseOptions) (c : CoreView) (x : ImageView) (v : ExceptionView) → core_of b o ≡ Ok c → IsImage b o (Ok x) →
         x.exception_data ≡ Some v → v.alignment ≡ alignment c.header.optional_header }
-{}
+{
+    pe_unwind::laws::x64::exception_data_are_of_their_bytes();
+}
 
 /// Pieces that all fit and are put one after the other are their overlay: each byte is that of the last piece that covers
 /// its place.

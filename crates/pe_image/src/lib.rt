@@ -1,7 +1,8 @@
 //! Windows executables as one value: images, terse images and COFF objects.
 //!
 //! Every call is proved to give what its definition in `specs/` gives, for every byte string. The layers below are here
-//! too, so that a user names this crate alone.
+//! too: a program that only calls them names this crate alone in `crates.txt`, and `pe_plan` for plans. One whose own contracts
+//! cite definitions names the crates that these stand in as well, as `pe_client` does.
 #![tactic(auto)]
 
 mod coff;

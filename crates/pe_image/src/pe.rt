@@ -8,8 +8,10 @@ ghost use Rattle.pe_resource.specs.Resources.{resource_view};
 ghost use Rattle.pe_image.specs.FieldSteps.{first_fields_view};
 ghost use Rattle.pe_image.specs.Core.{sections_read};
 ghost use Rattle.pe_image.specs.CoreParts.{core_view, CoreHasLibraries};
-ghost use Rattle.pe_image.specs.Image.{image_view, source_of, HasLibraries, GivesImage};
-ghost use Rattle.pe_image.specs.ImageSteps.{image_of, GivesBehindCore};
+ghost use Rattle.pe_image.specs.Image.{image_of, image_view, source_of, HasLibraries, GivesImage};
+ghost use Rattle.pe_image.specs.ImageSteps.{GivesBehindCore};
+ghost use Rattle.pe_image.specs.LayoutParts.{layout_of};
+ghost use Rattle.pe_image.specs.Memory.{AsksForMemory, HasCertificates, MemoryOnlyIf};
 
 use crate::core_image::Core;
 use crate::fields::{FirstFields, resource_data};
@@ -111,9 +113,11 @@ impl<'a, A: Allocator + Copy + Drop> PE<'a, A> {
     fn of_parts(
         bytes: &'a [u8],
         core: Core<'a, A>,
+        layout: &Layout,
         first: FirstFields<'a, A>,
         resource_data: Option<ResourceData<'a>>,
     ) -> PE<'a, A>
+        requires { layout.now ≡ layout_of (core_view core).header.optional_header }
         ensures view { image_view result ≡ image_of (core_view core.entry) (first_fields_view first.entry) (option_map resource_view resource_data.entry) }
         ensures libraries { CoreHasLibraries core.entry → HasLibraries result }
         ensures source { source_of result ≡ bytes.entry.now }
@@ -133,7 +137,6 @@ impl<'a, A: Allocator + Copy + Drop> PE<'a, A> {
             relocation_data,
             certificates,
         } = first;
-        let layout = Layout::of(&header.optional_header);
         PE {
             bytes,
             size: 0,
@@ -158,6 +161,7 @@ impl<'a, A: Allocator + Copy + Drop> PE<'a, A> {
     }
 
     /// The image with this core, or the first refusal in strict mode.
+    #[tactic(auto, using(crate::proofs::Requests::from_nothing))]
     fn with_core(
         alloc: A,
         bytes: &'a [u8],
@@ -166,18 +170,20 @@ impl<'a, A: Allocator + Copy + Drop> PE<'a, A> {
     ) -> Result<PE<'a, A>>
         requires { CoreHasLibraries core }
         ensures image { GivesBehindCore bytes.entry.now opts.now (core_view core.entry) result }
+        ensures memory { MemoryOnlyIf (HasCertificates bytes.entry.now opts.now (core_view core.entry).header.optional_header) result }
         ensures libraries { IfOk result HasLibraries }
         ensures source { IfOk result (λ p. source_of p ≡ bytes.entry.now) }
     {
-        let first = FirstFields::read(alloc, bytes, opts, &core)?;
         let layout = Layout::of(&core.header.optional_header);
+        let first = FirstFields::read(alloc, bytes, opts, &core, &layout)?;
         let resource_data = resource_data(alloc, bytes, opts, &core.sections, &layout)?;
-        Ok(PE::of_parts(bytes, core, first, resource_data))
+        Ok(PE::of_parts(bytes, core, &layout, first, resource_data))
     }
 
     /// The image of these bytes, strictly and with all directories.
     pub fn parse(alloc: A, bytes: &'a [u8]) -> Result<PE<'a, A>>
         ensures image { GivesImage bytes.entry.now default_options result }
+        ensures memory { MemoryOnlyIf (AsksForMemory bytes.entry.now default_options) result }
         ensures sections { IfOk result (λ p. sections_read bytes.entry.now default_options ≡ Ok (image_view p).sections) }
         ensures libraries { IfOk result HasLibraries }
         ensures source { IfOk result (λ p. source_of p ≡ bytes.entry.now) }
@@ -189,9 +195,11 @@ impl<'a, A: Allocator + Copy + Drop> PE<'a, A> {
     /// headers are not all there, those of the import directory and of its imports; in strict mode those of the debug data,
     /// the exception data, the base relocations, the certificates and the resources, each of which permissive mode leaves
     /// empty. A refused export directory counts as absent. `Memory` comes only once the headers and the section headers are
-    /// there, and is never left out.
+    /// there, and is never left out: it is asked for section headers, exports, imports with their libraries, and certificates
+    /// alone, where the image has some.
     pub fn parse_with_opts(alloc: A, bytes: &'a [u8], opts: &ParseOptions) -> Result<PE<'a, A>>
         ensures image { GivesImage bytes.entry.now opts.now result }
+        ensures memory { MemoryOnlyIf (AsksForMemory bytes.entry.now opts.now) result }
         ensures sections { IfOk result (λ p. sections_read bytes.entry.now opts.now ≡ Ok (image_view p).sections) }
         ensures libraries { IfOk result HasLibraries }
         ensures source { IfOk result (λ p. source_of p ≡ bytes.entry.now) }

@@ -120,7 +120,8 @@ impl<'a> FirstDirectory<'a> {
     fn entries(&self) -> ResourceEntryIterator<'a>
         ensures { entries_left result ≡ (first_directory_view self.now).entries }
     {
-        ResourceEntryIterator::new(self.table)
+        let FirstDirectory { table, .. } = *self;
+        ResourceEntryIterator::new(table)
     }
 }
 

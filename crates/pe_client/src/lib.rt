@@ -1,0 +1,12 @@
+//! Facts that a program proves of its own calls, from the contracts and the laws of the libraries alone: no lemma, no
+//! definition and no proof file stands here.
+//!
+//! The calls need `pe_image` and `pe_plan` in `crates.txt`. Each other crate is named there for the definitions that the
+//! contracts here cite: those of options (`pe_core`), of debug data (`pe_records`), of links (`pe_unwind`).
+#![tactic(auto)]
+
+mod modes;
+mod plans;
+
+pub use modes::{debug_data, debug_data_of_both_modes, libraries_of_both_modes};
+pub use plans::{is_endless, root_record};

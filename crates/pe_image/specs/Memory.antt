@@ -1,0 +1,44 @@
+-- What of an image memory is asked for. (This project's profile.)
+use Rattle.std.specs.Prelude.{◌≡◌, ◌<◌, ◌⊎◌, ℕ, List, Option, None, Result, Ok, Err, IsSome, IsSomeAnd, if◌then◌else◌}
+use Rattle.pe_core.specs.Header.{HeaderView, OptionalHeaderView, header_at}
+use Rattle.pe_core.specs.Refusals.{IfMemory}
+use Rattle.pe_core.specs.Sections.{sections_of}
+use Rattle.pe_core.specs.declared.data_directories.DataDirectory.{DataDirectory}
+use Rattle.pe_core.specs.declared.error.Error.{Error}
+use Rattle.pe_core.specs.declared.options.ParseOptions.{ParseOptions}
+use Rattle.pe_core.specs.declared.section_table.SectionTable.{SectionTable}
+use Rattle.pe_records.specs.Certificates.{ListingBegins}
+use Rattle.pe_image.specs.Core.{place_in_image, export_data_of, import_directory}
+use Rattle.pe_image.specs.Layout.{directory}
+
+-- this is owed where memory has run out
+abbrev pub MemoryOnlyIf : {X : Type 0} → Type 0 → Result X Error → Type 0
+MemoryOnlyIf P (Ok x) = Unit {0}
+MemoryOnlyIf P (Err e) = IfMemory e P
+
+-- the export directory is there, and it is not refused
+abbrev pub HasExports : List ℕ → ParseOptions → List SectionTable → Option OptionalHeaderView → Type 0
+HasExports b opts sections o = IsSome (export_data_of (place_in_image opts sections o) b (directory 0 o))
+
+-- the import directory is there, unless the options pass it over, and its address has a place in the file
+abbrev pub HasImports : ParseOptions → List SectionTable → Option OptionalHeaderView → Type 0
+HasImports opts sections o = IsSomeAnd (import_directory opts o) (λ d. IsSome (place_in_image opts sections o d.virtual_address))
+
+-- the certificate table, unless the options pass it over, begins with a certificate
+abbrev pub BeginsCertificates : List ℕ → Option DataDirectory → Type 0
+BeginsCertificates b d = IsSomeAnd d (λ d. ListingBegins b d.virtual_address d.size)
+
+abbrev pub HasCertificates : List ℕ → ParseOptions → Option OptionalHeaderView → Type 0
+HasCertificates b opts o = BeginsCertificates b (if opts.parse_attribute_certificates then directory 4 o else None)
+
+-- reading an image asks for memory for its section headers, exports, imports with their libraries, and certificates alone,
+-- and only once the headers and the section headers are there
+pub record AsksForMemory (b : List ℕ) (opts : ParseOptions) : Type 0 where
+  pub header : HeaderView
+  pub sections : List SectionTable
+  pub is_header : header_at b opts.parse_mode ≡ Ok header
+  pub are_sections : sections_of b header ≡ Ok sections
+  pub list : (0 < header.coff_header.number_of_sections)
+      ⊎ (HasExports b opts sections header.optional_header
+      ⊎ (HasImports opts sections header.optional_header
+      ⊎ HasCertificates b opts header.optional_header))
