@@ -39,7 +39,7 @@ core_sections b o header sections c h =
 core_header : (b : List ℕ) (o : ParseOptions) (header : HeaderView) (sections : List SectionTable) (c : CoreView) → core_with b o header sections ≡ Ok c → c.header ≡ header
 unfolding core_with
 core_header b o header sections c h =
-    let place = place_in_image o sections header.optional_header in
+    let place = section_map o sections (alignment header.optional_header) in
     let width = entry_size (is_64 header.optional_header) in
     let data_found = export_data_of place b (directory 0 header.optional_header) in
     of_two {X = Option (List ImportRecordView)} {Y = List ImportView} (import_data_of place width b (import_directory o header.optional_header)) (λ found. imports_of place width b found)

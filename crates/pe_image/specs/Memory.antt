@@ -2,14 +2,15 @@
 use Rattle.std.specs.Prelude.{◌≡◌, ◌<◌, ◌⊎◌, ℕ, List, Option, None, Result, Ok, Err, IsSome, IsSomeAnd, if◌then◌else◌}
 use Rattle.pe_core.specs.Header.{HeaderView, OptionalHeaderView, header_at}
 use Rattle.pe_core.specs.Refusals.{IfMemory}
+use Rattle.pe_core.specs.SectionMap.{section_map}
 use Rattle.pe_core.specs.Sections.{sections_of}
 use Rattle.pe_core.specs.declared.data_directories.DataDirectory.{DataDirectory}
 use Rattle.pe_core.specs.declared.error.Error.{Error}
 use Rattle.pe_core.specs.declared.options.ParseOptions.{ParseOptions}
 use Rattle.pe_core.specs.declared.section_table.SectionTable.{SectionTable}
 use Rattle.pe_records.specs.Certificates.{ListingBegins}
-use Rattle.pe_image.specs.Core.{place_in_image, export_data_of, import_directory}
-use Rattle.pe_image.specs.Layout.{directory}
+use Rattle.pe_image.specs.Core.{export_data_of, import_directory}
+use Rattle.pe_image.specs.Layout.{alignment, directory}
 
 -- this is owed where memory has run out
 abbrev pub MemoryOnlyIf : {X : Type 0} → Type 0 → Result X Error → Type 0
@@ -18,11 +19,11 @@ MemoryOnlyIf P (Err e) = IfMemory e P
 
 -- the export directory is there, and it is not refused
 abbrev pub HasExports : List ℕ → ParseOptions → List SectionTable → Option OptionalHeaderView → Type 0
-HasExports b opts sections o = IsSome (export_data_of (place_in_image opts sections o) b (directory 0 o))
+HasExports b opts sections o = IsSome (export_data_of (section_map opts sections (alignment o)) b (directory 0 o))
 
 -- the import directory is there, unless the options pass it over, and its address has a place in the file
 abbrev pub HasImports : ParseOptions → List SectionTable → Option OptionalHeaderView → Type 0
-HasImports opts sections o = IsSomeAnd (import_directory opts o) (λ d. IsSome (place_in_image opts sections o d.virtual_address))
+HasImports opts sections o = IsSomeAnd (import_directory opts o) (λ d. IsSome (section_map opts sections (alignment o) d.virtual_address))
 
 -- the certificate table, unless the options pass it over, begins with a certificate
 abbrev pub BeginsCertificates : List ℕ → Option DataDirectory → Type 0
