@@ -7,6 +7,7 @@ ghost use Rattle.std.specs.Ordering.{nat_cmp};
 ghost use Rattle.std.specs.declared.cmp.Ordering.TheVariants.{Equal};
 ghost use Rattle.pe_core.specs.Refusals.{Refusal, Memory, FunctionCycle, outcome};
 ghost use Rattle.pe_core.specs.declared.error.Error.{Error};
+ghost use Rattle.pe_unwind.specs.declared.unwind_code.TheConstants.{UWOP_ALLOC_LARGE, UWOP_ALLOC_SMALL, UWOP_EPILOG, UWOP_PUSH_MACHFRAME, UWOP_PUSH_NONVOL, UWOP_SAVE_NONVOL, UWOP_SAVE_NONVOL_FAR, UWOP_SAVE_XMM128, UWOP_SAVE_XMM128_FAR, UWOP_SET_FPREG, UWOP_SPARE_CODE};
 ghost use Rattle.pe_unwind.specs.declared.function_table.RuntimeFunction.{RuntimeFunction};
 ghost use Rattle.pe_unwind.specs.declared.register.Register.{Register};
 ghost use Rattle.pe_unwind.specs.declared.scope_table.ScopeTableEntry.{ScopeTableEntry};
@@ -77,4 +78,19 @@ pub fn one_record_of_addresses()
 /// The codes of an unwind record stand four bytes behind its beginning, and its handler's data are the last of the bytes.
 pub fn parts_of_records_stand()
     ensures { (b : List ℕ) (p : ℕ) (i : UnwindInfoView) → outcome (unwind_tests b p) (unwind_record b p) ≡ Ok i → UnwindPartsStand b p i }
+{}
+
+/// The opcodes of unwind codes, as the format numbers them.
+pub fn opcode_constants()
+    ensures push_nonvol { UWOP_PUSH_NONVOL ≡ 0 }
+    ensures alloc_large { UWOP_ALLOC_LARGE ≡ 1 }
+    ensures alloc_small { UWOP_ALLOC_SMALL ≡ 2 }
+    ensures set_fpreg { UWOP_SET_FPREG ≡ 3 }
+    ensures save_nonvol { UWOP_SAVE_NONVOL ≡ 4 }
+    ensures save_nonvol_far { UWOP_SAVE_NONVOL_FAR ≡ 5 }
+    ensures epilog { UWOP_EPILOG ≡ 6 }
+    ensures spare_code { UWOP_SPARE_CODE ≡ 7 }
+    ensures save_xmm128 { UWOP_SAVE_XMM128 ≡ 8 }
+    ensures save_xmm128_far { UWOP_SAVE_XMM128_FAR ≡ 9 }
+    ensures push_machframe { UWOP_PUSH_MACHFRAME ≡ 10 }
 {}
