@@ -3,6 +3,7 @@ use Rattle.std.specs.Prelude.{◌≡◌, ℕ, ◌+◌, ◌*◌, ◌/◌, ◌%◌
 use Rattle.pe_core.specs.Bytes.{AreBytes}
 use Rattle.pe_core.specs.Refusals.{Refusal, Short, UnwindCode as BadCode}
 use Rattle.pe_unwind.specs.declared.register.Register.{Register}
+use Rattle.pe_unwind.specs.declared.unwind_code.TheConstants.{UWOP_ALLOC_LARGE, UWOP_ALLOC_SMALL, UWOP_EPILOG, UWOP_PUSH_MACHFRAME, UWOP_PUSH_NONVOL, UWOP_SAVE_NONVOL, UWOP_SAVE_NONVOL_FAR, UWOP_SAVE_XMM128, UWOP_SAVE_XMM128_FAR, UWOP_SET_FPREG, UWOP_SPARE_CODE}
 use Rattle.pe_unwind.specs.declared.unwind_code.StackFrameOffset.{StackFrameOffset}
 use Rattle.pe_unwind.specs.declared.unwind_code.StackFrameOffset.TheVariants.{RSP, FP}
 use Rattle.pe_unwind.specs.declared.unwind_code.UnwindOperation.{UnwindOperation}
@@ -23,22 +24,22 @@ offset f n = if f == 0 then RSP n else FP n
 -- what opcode and info say, behind which these bytes stand: a case for each line of the table
 abbrev pub SpellsOperation : ℕ → ℕ → ℕ → ℕ → ℕ → List ℕ → UnwindOperation → Type 0
 SpellsOperation v f place op info [] o =
-    ((op ≡ 0) × (o ≡ PushNonVolatile (integer info)))
-    ⊎ (((op ≡ 2) × (o ≡ Alloc (info * 8 + 8)))
-    ⊎ (((op ≡ 3) × (o ≡ SetFPRegister))
-    ⊎ (((op ≡ 6) × (v ≡ 2) × (o ≡ Epilog place info))
-    ⊎ ((op ≡ 10) × (info < 2) × (o ≡ PushMachineFrame (info == 1))))))
+    ((op ≡ UWOP_PUSH_NONVOL) × (o ≡ PushNonVolatile (integer info)))
+    ⊎ (((op ≡ UWOP_ALLOC_SMALL) × (o ≡ Alloc (info * 8 + 8)))
+    ⊎ (((op ≡ UWOP_SET_FPREG) × (o ≡ SetFPRegister))
+    ⊎ (((op ≡ UWOP_EPILOG) × (v ≡ 2) × (o ≡ Epilog place info))
+    ⊎ ((op ≡ UWOP_PUSH_MACHFRAME) × (info < 2) × (o ≡ PushMachineFrame (info == 1))))))
 SpellsOperation v f place op info (a ∷ b ∷ []) o =
-    ((op ≡ 1) × (info ≡ 0) × (o ≡ Alloc ((a + 256 * b) * 8)))
-    ⊎ (((op ≡ 4) × (o ≡ SaveNonVolatile (integer info) (offset f ((a + 256 * b) * 8))))
-    ⊎ (((op ≡ 6) × (v ≡ 1) × (o ≡ SaveXMM (xmm info) (offset f ((a + 256 * b) * 16))))
-    ⊎ ((op ≡ 8) × (o ≡ SaveXMM128 (xmm info) (offset f ((a + 256 * b) * 16))))))
+    ((op ≡ UWOP_ALLOC_LARGE) × (info ≡ 0) × (o ≡ Alloc ((a + 256 * b) * 8)))
+    ⊎ (((op ≡ UWOP_SAVE_NONVOL) × (o ≡ SaveNonVolatile (integer info) (offset f ((a + 256 * b) * 8))))
+    ⊎ (((op ≡ UWOP_EPILOG) × (v ≡ 1) × (o ≡ SaveXMM (xmm info) (offset f ((a + 256 * b) * 16))))
+    ⊎ ((op ≡ UWOP_SAVE_XMM128) × (o ≡ SaveXMM128 (xmm info) (offset f ((a + 256 * b) * 16))))))
 SpellsOperation v f place op info (a ∷ b ∷ c ∷ d ∷ []) o =
-    ((op ≡ 1) × (info ≡ 1) × (o ≡ Alloc (a + 256 * b + 65536 * c + 16777216 * d)))
-    ⊎ (((op ≡ 5) × (o ≡ SaveNonVolatile (integer info) (offset f (a + 256 * b + 65536 * c + 16777216 * d))))
-    ⊎ (((op ≡ 7) × (v ≡ 1) × (o ≡ SaveXMM128 (xmm info) (offset f (a + 256 * b + 65536 * c + 16777216 * d))))
-    ⊎ (((op ≡ 7) × (v ≡ 2) × (o ≡ Noop))
-    ⊎ ((op ≡ 9) × (o ≡ SaveXMM128 (xmm info) (offset f (a + 256 * b + 65536 * c + 16777216 * d)))))))
+    ((op ≡ UWOP_ALLOC_LARGE) × (info ≡ 1) × (o ≡ Alloc (a + 256 * b + 65536 * c + 16777216 * d)))
+    ⊎ (((op ≡ UWOP_SAVE_NONVOL_FAR) × (o ≡ SaveNonVolatile (integer info) (offset f (a + 256 * b + 65536 * c + 16777216 * d))))
+    ⊎ (((op ≡ UWOP_SPARE_CODE) × (v ≡ 1) × (o ≡ SaveXMM128 (xmm info) (offset f (a + 256 * b + 65536 * c + 16777216 * d))))
+    ⊎ (((op ≡ UWOP_SPARE_CODE) × (v ≡ 2) × (o ≡ Noop))
+    ⊎ ((op ≡ UWOP_SAVE_XMM128_FAR) × (o ≡ SaveXMM128 (xmm info) (offset f (a + 256 * b + 65536 * c + 16777216 * d)))))))
 SpellsOperation v f place op info other o = ⊥
 
 -- for version v and frame register f the bytes spell the code

@@ -6,6 +6,7 @@ ghost use Rattle.std.specs.Iterator.SizeHint.{IsWithinCount};
 ghost use Rattle.pe_core.specs.Refusals.{kind_of};
 ghost use Rattle.pe_unwind.specs.UnwindCodes.{SpellsOperation, BeginsWithCode, BeginsWithNoCode, IsFault, offset};
 ghost use Rattle.pe_unwind.specs.CodeSlots.{slots_at};
+ghost use Rattle.pe_unwind.specs.declared.unwind_code.TheConstants.{UWOP_ALLOC_LARGE, UWOP_ALLOC_SMALL, UWOP_EPILOG, UWOP_PUSH_MACHFRAME, UWOP_PUSH_NONVOL, UWOP_SAVE_NONVOL, UWOP_SAVE_NONVOL_FAR, UWOP_SAVE_XMM128, UWOP_SAVE_XMM128_FAR, UWOP_SET_FPREG, UWOP_SPARE_CODE};
 ghost use Rattle.pe_unwind.specs.CodeStream.{stream_of, slots_left, GivesCode};
 
 use crate::register::Register;
@@ -115,7 +116,8 @@ fn slots(version: u8, opcode: u8, info: u8) -> Option<usize>
 
 /// An operation of one slot.
 fn short_operation(version: u8, place: u8, opcode: u8, info: u8) -> UnwindOperation
-    requires { (opcode ≡ 0) ⊎ ((opcode ≡ 2) ⊎ ((opcode ≡ 3) ⊎ (((opcode ≡ 6) × (version ≡ 2)) ⊎ ((opcode ≡ 10) × (info < 2))))) }
+    requires { (opcode ≡ UWOP_PUSH_NONVOL) ⊎ ((opcode ≡ UWOP_ALLOC_SMALL) ⊎ ((opcode ≡ UWOP_SET_FPREG)
+        ⊎ (((opcode ≡ UWOP_EPILOG) × (version ≡ 2)) ⊎ ((opcode ≡ UWOP_PUSH_MACHFRAME) × (info < 2))))) }
     ensures { (f : ℕ) → SpellsOperation version f place opcode info [] result }
 {
     match opcode {
@@ -139,7 +141,8 @@ fn middle_operation(
     info: u8,
     operand: u16,
 ) -> UnwindOperation
-    requires line { ((opcode ≡ 1) × (info ≡ 0)) ⊎ ((opcode ≡ 4) ⊎ (((opcode ≡ 6) × (version ≡ 1)) ⊎ (opcode ≡ 8))) }
+    requires line { ((opcode ≡ UWOP_ALLOC_LARGE) × (info ≡ 0)) ⊎ ((opcode ≡ UWOP_SAVE_NONVOL)
+        ⊎ (((opcode ≡ UWOP_EPILOG) × (version ≡ 1)) ⊎ (opcode ≡ UWOP_SAVE_XMM128))) }
     requires info { info < 16 }
     ensures { (place a b : ℕ) → operand ≡ a + 256 * b → SpellsOperation version frame_register.0 place opcode info (a ∷ b ∷ []) result }
 {
@@ -170,7 +173,8 @@ fn long_operation(
     info: u8,
     operand: u32,
 ) -> UnwindOperation
-    requires line { ((opcode ≡ 1) × (info ≡ 1)) ⊎ ((opcode ≡ 5) ⊎ (((opcode ≡ 7) × ((version ≡ 1) ⊎ (version ≡ 2))) ⊎ (opcode ≡ 9))) }
+    requires line { ((opcode ≡ UWOP_ALLOC_LARGE) × (info ≡ 1)) ⊎ ((opcode ≡ UWOP_SAVE_NONVOL_FAR)
+        ⊎ (((opcode ≡ UWOP_SPARE_CODE) × ((version ≡ 1) ⊎ (version ≡ 2))) ⊎ (opcode ≡ UWOP_SAVE_XMM128_FAR))) }
     requires info { info < 16 }
     ensures { (place a b c d : ℕ) → operand ≡ a + 256 * b + 65536 * c + 16777216 * d →
         SpellsOperation version frame_register.0 place opcode info (a ∷ b ∷ c ∷ d ∷ []) result }

@@ -10,6 +10,7 @@ ghost use Rattle.pe_core.specs.declared.data_directories.DataDirectory.{DataDire
 ghost use Rattle.pe_core.specs.declared.error.Error.{Error};
 ghost use Rattle.pe_core.specs.declared.options.ParseOptions.{ParseOptions};
 ghost use Rattle.pe_core.specs.declared.section_table.SectionTable.{SectionTable};
+ghost use Rattle.pe_unwind.specs.declared.unwind_code.TheConstants.{UWOP_ALLOC_LARGE, UWOP_ALLOC_SMALL, UWOP_EPILOG, UWOP_PUSH_MACHFRAME, UWOP_PUSH_NONVOL, UWOP_SAVE_NONVOL, UWOP_SAVE_NONVOL_FAR, UWOP_SAVE_XMM128, UWOP_SAVE_XMM128_FAR, UWOP_SET_FPREG, UWOP_SPARE_CODE};
 ghost use Rattle.pe_unwind.specs.declared.function_table.RuntimeFunction.{RuntimeFunction};
 ghost use Rattle.pe_unwind.specs.declared.register.Register.{Register};
 ghost use Rattle.pe_unwind.specs.declared.scope_table.ScopeTableEntry.{ScopeTableEntry};
@@ -94,4 +95,19 @@ pub fn exception_data_are_of_their_bytes()
     ensures inside { (width : ℕ) (b : List ℕ) (d : DataDirectory) (sections : List SectionTable) (unit : ℕ) (o : ParseOptions) (v : ExceptionView) →
         exception_at width b d sections unit o ≡ Ok v → v.start + v.size ≤ length v.content }
     ensures entries { (b : List ℕ) → length (functions b) ≡ length b / 12 }
+{}
+
+/// The opcodes of unwind codes, as the format numbers them.
+pub fn opcode_constants()
+    ensures push_nonvol { UWOP_PUSH_NONVOL ≡ 0 }
+    ensures alloc_large { UWOP_ALLOC_LARGE ≡ 1 }
+    ensures alloc_small { UWOP_ALLOC_SMALL ≡ 2 }
+    ensures set_fpreg { UWOP_SET_FPREG ≡ 3 }
+    ensures save_nonvol { UWOP_SAVE_NONVOL ≡ 4 }
+    ensures save_nonvol_far { UWOP_SAVE_NONVOL_FAR ≡ 5 }
+    ensures epilog { UWOP_EPILOG ≡ 6 }
+    ensures spare_code { UWOP_SPARE_CODE ≡ 7 }
+    ensures save_xmm128 { UWOP_SAVE_XMM128 ≡ 8 }
+    ensures save_xmm128_far { UWOP_SAVE_XMM128_FAR ≡ 9 }
+    ensures push_machframe { UWOP_PUSH_MACHFRAME ≡ 10 }
 {}
