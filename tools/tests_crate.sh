@@ -65,18 +65,23 @@ copy_of_test() {
   esac
 }
 
-# The crates' sources and one more crate, damaged, the program of tools/damaged.
-copy_with_damaged_crate() {
-  local folder=$1 part
+# The crates' sources and one more crate, a program that stands in a folder of tools as files NAME.txt, and has the folder's
+# name. Its main file may name tests/refusing.test.
+copy_with_program() {
+  local folder=$1 program=$2 name part sources
+  name=$(basename "$program")
+  sources=$folder/crates/$name/src
   copy_crates "$folder"
-  mkdir -p "$folder/crates/damaged/src"
-  for part in tools/damaged/*.txt; do
-    cp "$part" "$folder/crates/damaged/src/$(basename "$part" .txt).rt"
+  mkdir -p "$sources"
+  for part in "$program"/*.txt; do
+    cp "$part" "$sources/$(basename "$part" .txt).rt"
   done
-  cp tests/refusing.test "$folder/crates/damaged/src/refusing.rt"
+  if grep -qx 'mod refusing;' "$program/main.txt"; then
+    cp tests/refusing.test "$sources/refusing.rt"
+  fi
   {
     cat crates.txt
     echo
-    echo "damaged: pe_core pe_records pe_unwind pe_plan pe_frame pe_resource pe_image pe_images"
+    echo "$name: pe_core pe_records pe_unwind pe_plan pe_frame pe_resource pe_image pe_images"
   } >"$folder/crates.txt"
 }

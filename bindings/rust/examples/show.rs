@@ -1,9 +1,9 @@
 //! Shows what the calls read of an image, one fact a line: `show unwind|debug|resources|tables FILE`. The lines are those of
-//! the programs tools/show_*.txt, so that the two can be compared: tools/compare_unwind, compare_debug and
-//! compare_resources run it by a script of the program's name.
+//! the program tools/show, so that the two can be compared: tools/compare_unwind, compare_debug and compare_resources run
+//! this one with `--show`.
 //!
 //! What no call returns is read from the bytes: three fields of an ARM64 record, and the first resource entries. Of the
-//! lines of show_tables.txt only those of exports, records and imports are there. A first line `strict` says that the image
+//! lines of `show tables` only those of exports, records and imports are there. A first line `strict` says that the image
 //! is refused in strict mode; the lines after it are those of permissive mode.
 
 use pe_c::{
