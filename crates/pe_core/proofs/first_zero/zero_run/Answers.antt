@@ -1,4 +1,4 @@
-use Rattle.std.proofs.Common.{◌∙◌, ap, refl, eqb, w8, arith}
+use Rattle.std.proofs.Common.{◌∙◌, ap, eqb, w8, arith}
 use Rattle.std.proofs.lemmas.Simd.{length-chunk, bitmask_splat, first_set_mask_l, run_in_chunk_le, run_in_chunk_fails, run_in_chunk_stops}
 use lib.Lanes.{chunk}
 use Rattle.pe_core.specs.ZeroRuns.{lowest_bit}
