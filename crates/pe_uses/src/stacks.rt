@@ -35,8 +35,13 @@ pub fn walk_stack(
         let inside = rva.saturating_sub(u32::from(is_return_address));
         let caller = match exceptions.find_function(inside)? {
             Some(function) => {
-                let records =
-                    UnwindPlan::of_function(alloc, exceptions, function, &image.sections, &opts)?;
+                let records = UnwindPlan::of_function(
+                    alloc,
+                    exceptions,
+                    function,
+                    &image.sections,
+                    &opts,
+                )?;
                 step(&records, function.begin_address, rva, registers, stack)
             }
             None if is_return_address => break,
