@@ -10,8 +10,9 @@ use std::alloc::Global;
 pub struct Frame {
     /// The codes to undo, in order. Each has run once `code_offset` bytes of the function have.
     pub codes: Vec<UnwindCode>,
-    /// The frame register and its offset in bytes, if the record has one. Once `SetFPRegister` has run, in this record or
-    /// in one that it is chained to, saves count from the register less its offset; until then from rsp.
+    /// The frame register and its offset in bytes, if the record has one. Saves count from the register less its offset once
+    /// the record's `SetFPRegister` has run, and in all of a record that names the register and does not set it; else from
+    /// rsp. `step` of pe_frame does all of this.
     pub frame_register: Option<(Register, u32)>,
 }
 
