@@ -4,8 +4,8 @@ use pe_c::{Code, Error, Image, Mode, Register};
 pub struct Frame {
     /// The codes to undo, in order. Each has run once `code_offset` bytes of the function have.
     pub codes: Vec<Code>,
-    /// The frame register and its offset in bytes, if the record has one. Once `SetFrame` has run, in this record or in one
-    /// that it is chained to, saves count from the register less its offset; until then from rsp.
+    /// The frame register and its offset in bytes, if there is one. Saves count from the register less its offset once the
+    /// record's `SetFrame` has run, and in all of a record that names the register and does not set it; else from rsp.
     pub frame_register: Option<(Register, u32)>,
 }
 
