@@ -14,9 +14,10 @@ use std::fmt;
 pub enum Reason {
     /// The DOS header's pointer to the PE header, which is below 64.
     HeaderPointer(u32),
-    /// The RVA of the name of a library or of an imported function.
+    /// The RVA of the name of a library, or of the hint before the name of an imported function.
     ImportName(u32),
-    /// The offset in the string table, from its size field.
+    /// An offset in the string table, from its size field: the one that a symbol has, that of the first byte of a
+    /// string that is not UTF-8, or the end of a truncated table.
     StringTable(u32),
     /// The revision of a certificate.
     CertificateRevision(u16),
@@ -24,19 +25,20 @@ pub enum Reason {
     CertificateType(u16),
     /// The length that a certificate states.
     CertificateSize(u32),
-    /// The file offset at which the certificate table ends.
+    /// The file offset at which the certificate table ends, or the greatest u64 if that is greater.
     CertificateTable(u64),
-    /// An RVA that maps to no file offset.
+    /// An RVA that maps to no file offset: of a directory, a table, a record, the name of a library or a hint.
     Unmapped(u64),
-    /// The file offset at which the debug directory ends.
+    /// The file offset at which the debug directory ends, or the greatest usize if that is greater.
     DebugBounds(u64),
     /// The size of a debug record.
     DebugSize(u32),
-    /// The size of a debug record's data.
+    /// The size of a debug record: its entry's for CodeView and POGO, the length that the record states for Repro.
     DebugData(u32),
     /// The size of a POGO record.
     PogoSize(u32),
-    /// How many bytes a POGO entry needs at least, padding included, and how many are left from its start on.
+    /// How many bytes a POGO entry needs, from its start to the end of its padding, and how many are left there. If its
+    /// name is not NUL-terminated, those of the shortest longer name are needed.
     PogoName { needed: usize, length: usize },
     /// The size of the exception directory.
     ExceptionSize(u32),
@@ -48,7 +50,8 @@ pub enum Reason {
     FunctionIndex(usize),
     /// The RVA in a link from one function entry to another.
     FunctionLink(u32),
-    /// The links or chained records that were followed.
+    /// The links that were followed until a saved one came again, or one more than the entries; for a plan, the records
+    /// that were followed until a saved unwind RVA came again, or the links of a record whose links never end.
     FunctionCycle(usize),
     /// The version of an unwind record.
     UnwindVersion(u8),
@@ -60,11 +63,13 @@ pub enum Reason {
     Arm64Stream { length: usize, start: usize },
     /// The offset of a truncated ARM64 code in its stream.
     Arm64Cut(usize),
-    /// The file offset at which resource data ends, past the bytes that are to hold it.
+    /// The file offset at which resource data ends, past the bytes that are to hold it, or the greatest u64 if that is
+    /// greater. Where the data is too short for the first directory or its entries: the end of these entries.
     ResourceBounds(u64),
-    /// The offset of a resource directory that was reached again.
+    /// The offset of a directory on the ring, or of the saved one, from the start of the resource directory.
     ResourceCycle(u32),
-    /// The offset of a version string.
+    /// The offset of a version string, from the start of the version information, or of the bytes that were passed; 0
+    /// for an iterator's.
     ResourceString(u32),
     /// The stripped size of a TE header.
     TeSize(u16),
@@ -78,7 +83,8 @@ pub enum Reason {
     WriteOverlap(usize, usize),
     /// The index of a section.
     WriteSection(usize),
-    /// The end of what was to be written, and the length of the buffer in bytes.
+    /// The end of what was to be written, or the greatest u64 if that is greater, and the length of the buffer in
+    /// bytes.
     WriteFit { end: u64, length: usize },
 }
 
