@@ -1,5 +1,6 @@
--- The records that debug entries lead to. Each is none, a value or a refusal, as a function of the bytes and an entry.
--- (PE format: debug directory; the layouts of the records and the tests of their sizes are this project's profile.)
+-- The records to which debug entries lead. Each is none, a value or a refusal, as a function of the bytes and an
+-- entry. (PE format: debug directory; the layouts of the records and the tests of their sizes are this project's
+-- profile.)
 use Rattle.std.specs.Prelude.{ℕ, ◌+◌, ◌-◌, ◌==◌, ◌||◌, List, [], ◌∷◌, Bool, Option, Some, None, Result, Ok, Err, nat_lt, if◌then◌else◌}
 use Rattle.std.specs.Option.{option_map}
 use Rattle.pe_core.specs.Bytes.{le, range, holds, record_at}
@@ -20,16 +21,16 @@ use Rattle.pe_records.specs.declared.debug.records.ReproInfo.{ReproInfo}
 use Rattle.pe_records.specs.declared.debug.records.ReproInfo.TheVariants as repros
 use Rattle.pe_records.specs.declared.debug.records.VCFeatureInfo.{VCFeatureInfo}
 
--- where the record of an entry stands
+-- the file offset of an entry's record
 abbrev pub record_place : Bool → ImageDebugDirectory → ℕ
 record_place resolve e = if resolve then e.pointer_to_raw_data else e.address_of_raw_data
 
--- a record whose entry must give it at least so many bytes
+-- a record that needs at least this many bytes, by the size in its entry
 abbrev pub of_least_size : {X : Type 0} → ParseMode → ℕ → ℕ → Result (Option X) Refusal → Result (Option X) Refusal
 of_least_size mode least size record_there =
     if nat_lt size least then none_if_refused mode (Err DebugSize) else record_there
 
--- a record that begins with a signature of its own: under any other there is none
+-- a record that starts with its own signature; with any other signature there is none
 abbrev pub signed : {X : Type 0} → (ℕ → Bool) → List ℕ → ℕ → Result (Option X) Refusal → Result (Option X) Refusal
 signed is_own b p record_there = if holds b p 4 then (if is_own (le b p 4) then record_there else Ok None) else Err Short
 
@@ -44,7 +45,7 @@ pub record Pdb70 : Type 0 where
 abbrev pub pdb70_view : CodeviewPDB70DebugInfo → Pdb70
 pdb70_view r = record { codeview_signature = r.codeview_signature; signature = r.signature; age = r.age; filename = r.filename.now }
 
--- 24 bytes and a file name, in so many bytes at p
+-- 24 bytes and a file name: the record at offset p in this many bytes
 unfoldable pub pdb70_at : List ℕ → ℕ → ℕ → Pdb70
 pdb70_at b p size = record {
   codeview_signature = le b p 4;
@@ -70,7 +71,7 @@ pub record Pdb20 : Type 0 where
 abbrev pub pdb20_view : CodeviewPDB20DebugInfo → Pdb20
 pdb20_view r = record { codeview_signature = r.codeview_signature; codeview_offset = r.codeview_offset; signature = r.signature; age = r.age; filename = r.filename.now }
 
--- 16 bytes and a file name, in so many bytes at p
+-- 16 bytes and a file name: the record at offset p in this many bytes
 unfoldable pub pdb20_at : List ℕ → ℕ → ℕ → Pdb20
 pdb20_at b p size = record {
   codeview_signature = le b p 4;
@@ -114,7 +115,7 @@ abbrev pub repro_view : ReproInfo → Repro
 repro_view (repros.TimeDateStamp stamp) = Stamp stamp
 repro_view (repros.Buffer count bytes) = Buffer count bytes.now
 
--- the entry's time stamp if the entry gives no bytes, else a count and so many bytes
+-- the entry's time stamp if the entry's size is 0, else a count and that many bytes
 unfoldable pub repro_record : List ℕ → ℕ → ImageDebugDirectory → Result Repro Refusal
 repro_record b p e =
     if e.size_of_data == 0 then Ok (Stamp e.time_date_stamp)
@@ -129,7 +130,7 @@ pub record Pogo : Type 0 where
 abbrev pub pogo_view : POGOInfo → Pogo
 pogo_view r = record { signature = r.signature; bytes = r.bytes.now }
 
--- a signature, 4 bytes, and the bytes behind it
+-- a signature of 4 bytes, and the bytes after it
 unfoldable pub pogo_record : List ℕ → ℕ → ℕ → Result (Option Pogo) Refusal
 pogo_record b p size =
     signed (λ n. n == 0x4C544347 || n == 0x50475500) b p
@@ -162,12 +163,12 @@ abbrev pub of_entry : {X : Type 0} → (ImageDebugDirectory → Result (Option X
 of_entry record_of None = Ok None
 of_entry record_of (Some e) = record_of e
 
--- the same of a record that each entry has
+-- the same for a record that every entry of the type has
 abbrev pub some_of_entry : {X : Type 0} → (ImageDebugDirectory → Result X Refusal) → Option ImageDebugDirectory → Result (Option X) Refusal
 some_of_entry record_of None = Ok None
 some_of_entry record_of (Some e) = record_of e >>= λ r. Ok (Some r)
 
--- debug data: the bytes of the table, the fixup of its addresses, and the six records
+-- debug data: the bytes of the table, the fixup of its entries, and the six records
 pub record DebugFields : Type 0 where
   pub table : List ℕ
   pub fixup : ℕ

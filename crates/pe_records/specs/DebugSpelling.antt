@@ -1,4 +1,4 @@
--- Debug records as bytes: each field in its width, in the order in which the fields stand.
+-- Debug records as bytes: each field in its width, in the order of the fields.
 use Rattle.std.specs.Prelude.{ℕ, ◌+◌, List, [], ◌++◌}
 use Rattle.pe_core.specs.Bytes.{bytes_of}
 use Rattle.pe_records.specs.DebugRecords.{Pdb70, Pdb20, Pogo, Repro, Stamp, Buffer}
