@@ -17,6 +17,7 @@ pub record CertificateView : Type 0 where
   pub certificate_type : AttributeCertificateType
   pub body : List ℕ
 
+-- this certificate as callers see it
 abbrev pub certificate_view : AttributeCertificate → CertificateView
 certificate_view c = record { length = c.length; revision = c.revision; certificate_type = c.certificate_type; body = c.certificate.now }
 

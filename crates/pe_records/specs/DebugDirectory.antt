@@ -75,6 +75,7 @@ rest_of s = s.bytes.now
 abbrev pub fixup_of : ImageDebugDirectoryIterator → ℕ
 fixup_of s = s.rva_offset
 
+-- an item, with its error as a refusal
 abbrev pub item_of : Result ImageDebugDirectory Error → Result ImageDebugDirectory Refusal
 item_of (Ok e) = Ok e
 item_of (Err e) = Err (kind_of e)

@@ -36,12 +36,14 @@ signed is_own b p record_there = if holds b p 4 then (if is_own (le b p 4) then 
 
 -- ---- PDB 7.0
 
+-- what callers see of a PDB 7.0 record
 pub record Pdb70 : Type 0 where
   pub codeview_signature : ℕ
   pub signature : List ℕ
   pub age : ℕ
   pub filename : List ℕ
 
+-- this record as callers see it
 abbrev pub pdb70_view : CodeviewPDB70DebugInfo → Pdb70
 pdb70_view r = record { codeview_signature = r.codeview_signature; signature = r.signature; age = r.age; filename = r.filename.now }
 
@@ -54,6 +56,7 @@ pdb70_at b p size = record {
   filename = range b (p + 24) (size - 24);
 }
 
+-- the record at offset p in this many bytes, none, or its first refusal
 unfoldable pub pdb70_record : ParseMode → List ℕ → ℕ → ℕ → Result (Option Pdb70) Refusal
 pdb70_record mode b p size =
     of_least_size mode 24 size (signed (λ n. n == 0x53445352) b p
@@ -61,6 +64,7 @@ pdb70_record mode b p size =
 
 -- ---- PDB 2.0
 
+-- what callers see of a PDB 2.0 record
 pub record Pdb20 : Type 0 where
   pub codeview_signature : ℕ
   pub codeview_offset : ℕ
@@ -68,6 +72,7 @@ pub record Pdb20 : Type 0 where
   pub age : ℕ
   pub filename : List ℕ
 
+-- this record as callers see it
 abbrev pub pdb20_view : CodeviewPDB20DebugInfo → Pdb20
 pdb20_view r = record { codeview_signature = r.codeview_signature; codeview_offset = r.codeview_offset; signature = r.signature; age = r.age; filename = r.filename.now }
 
@@ -81,6 +86,7 @@ pdb20_at b p size = record {
   filename = range b (p + 16) (size - 16);
 }
 
+-- the record at offset p in this many bytes, none, or its first refusal
 unfoldable pub pdb20_record : ParseMode → List ℕ → ℕ → ℕ → Result (Option Pdb20) Refusal
 pdb20_record mode b p size =
     of_least_size mode 16 size (signed (λ n. n == 0x3031424E) b p
@@ -98,19 +104,22 @@ features_at b p = record {
   guard_count = le b (p + 16) 4;
 }
 
+-- the five counts at offset p, or `Short`
 abbrev pub features_record : List ℕ → ℕ → Result VCFeatureInfo Refusal
 features_record b p = record_at b p 20 (features_at b p)
 
--- the flags, 4 bytes
+-- the flags at offset p, 4 bytes, or `Short`
 abbrev pub characteristics_record : List ℕ → ℕ → Result ExDllCharacteristicsInfo Refusal
 characteristics_record b p = record_at b p 4 (record { characteristics_ex = le b p 4 })
 
 -- ---- Repro
 
+-- what callers see of a Repro record: a time stamp, or a length and a hash
 pub data Repro : Type 0 where
   Stamp : ℕ → Repro
   Buffer : ℕ → List ℕ → Repro
 
+-- this record as callers see it
 abbrev pub repro_view : ReproInfo → Repro
 repro_view (repros.TimeDateStamp stamp) = Stamp stamp
 repro_view (repros.Buffer count bytes) = Buffer count bytes.now
@@ -123,10 +132,12 @@ repro_record b p e =
 
 -- ---- POGO
 
+-- what callers see of a POGO record; `bytes` are its entries
 pub record Pogo : Type 0 where
   pub signature : ℕ
   pub bytes : List ℕ
 
+-- this record as callers see it
 abbrev pub pogo_view : POGOInfo → Pogo
 pogo_view r = record { signature = r.signature; bytes = r.bytes.now }
 
@@ -138,6 +149,7 @@ pogo_record b p size =
 
 -- ---- the records of entries
 
+-- each is read at the file offset of its entry's record
 abbrev pub pdb70_of : ParseOptions → List ℕ → ImageDebugDirectory → Result (Option Pdb70) Refusal
 pdb70_of o b e = pdb70_record o.parse_mode b (record_place o.resolve_rva e) e.size_of_data
 
@@ -186,6 +198,7 @@ table_of d = d.table.now
 abbrev pub fixup_of_data : declared.DebugData → ℕ
 fixup_of_data d = d.rva_offset
 
+-- these debug data as callers see them
 abbrev pub debug_view : declared.DebugData → DebugFields
 debug_view d = record {
   table = table_of d;

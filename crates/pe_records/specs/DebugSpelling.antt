@@ -23,6 +23,7 @@ unfoldable pub spell_repro : Repro → List ℕ
 spell_repro (Stamp stamp) = []
 spell_repro (Buffer count bytes) = bytes_of 4 count ++ bytes
 
+-- how many bytes that is
 abbrev pub size_of_repro : Repro → ℕ
 size_of_repro (Stamp stamp) = 0
 size_of_repro (Buffer count bytes) = 4 + count

@@ -7,12 +7,13 @@ use Rattle.pe_core.specs.declared.error.Error.{Error}
 use Rattle.pe_records.specs.declared.debug.pogo.POGOInfoEntry.{POGOInfoEntry}
 use Rattle.pe_records.specs.declared.debug.pogo.POGOEntryIterator.{POGOEntryIterator}
 
--- an entry; its name is bytes alone
+-- what callers see of an entry
 pub record Entry : Type 0 where
   pub rva : ℕ
   pub size : ℕ
   pub name : List ℕ
 
+-- this entry as callers see it
 abbrev pub entry_of : POGOInfoEntry → Entry
 entry_of e = record { rva = e.rva; size = e.size; name = e.name.now }
 
@@ -60,6 +61,7 @@ Reads b (Err e) = BeginsWithNone b × (kind_of e ≡ fault b)
 abbrev pub stream_of : POGOEntryIterator → List ℕ
 stream_of s = s.bytes.now
 
+-- an item, with its error as a refusal
 abbrev pub stream_item_of : Result POGOInfoEntry Error → Result Entry Refusal
 stream_item_of (Ok e) = Ok (entry_of e)
 stream_item_of (Err e) = Err (kind_of e)

@@ -22,12 +22,15 @@ pub record Arm64InfoView : Type 0 where
   pub codes : List ℕ
   pub handler : Option Arm64HandlerView
 
+-- the extension word as a number
 abbrev pub extension_view : Option Arm64UnwindExtension → Option ℕ
 extension_view e = option_map (λ w. w.0) e
 
+-- this handler as callers see it
 abbrev pub arm64_handler_view : Arm64ExceptionHandler → Arm64HandlerView
 arm64_handler_view h = record { rva = h.rva; bytes = h.bytes.now }
 
+-- this record as callers see it
 abbrev pub info_view : Arm64UnwindInfo → Arm64InfoView
 info_view i = record {
   header = (i.header).0;
@@ -54,10 +57,11 @@ abbrev pub code_words : ℕ → Option ℕ → ℕ
 code_words header None = bits header 27 5
 code_words header (Some extension) = bits extension 16 8
 
--- the RVA of the handler, if there is one, and its data: all bytes after it
+-- the RVA of the handler has 4 bytes, if there is a handler
 abbrev pub handler_size : ℕ → ℕ
 handler_size header = if has_handler header then 4 else 0
 
+-- the handler, if there is one: its RVA, and its data, which are all bytes after it
 abbrev pub handler_at : List ℕ → ℕ → ℕ → Option Arm64HandlerView
 handler_at b q header = if has_handler header then Some (record { rva = le b q 4; bytes = drop (q + 4) b }) else None
 

@@ -31,9 +31,11 @@ table_view l = record { entries = l.table.now; start = l.start; place = offset_i
 abbrev pub count : Table → ℕ
 count t = length t.entries / 12
 
+-- an odd unwind RVA is a link
 abbrev pub IsOdd : ℕ → Type 0
 IsOdd u = u % 2 ≡ 1
 
+-- an even unwind RVA is that of a record
 abbrev pub IsEven : ℕ → Type 0
 IsEven u = u % 2 ≡ 0
 

@@ -29,10 +29,12 @@ pub record UnwindInfoView : Type 0 where
   pub handler : Option HandlerView
   pub codes : List ℕ
 
+-- this handler as callers see it
 abbrev pub handler_view : UnwindHandler → HandlerView
 handler_view (handlers.ExceptionHandler address data_bytes) = Exception address data_bytes.now
 handler_view (handlers.TerminationHandler address data_bytes) = Termination address data_bytes.now
 
+-- this record as callers see it
 abbrev pub unwind_view : UnwindInfo → UnwindInfoView
 unwind_view i = record {
   version = i.version;
@@ -59,9 +61,11 @@ pub record Ending : Type 0 where
   pub chained : Option RuntimeFunction
   pub handler : Option HandlerView
 
+-- this chained function or handler as callers see it
 abbrev pub ending_view : (Option RuntimeFunction × Option UnwindHandler) → Ending
 ending_view e = record { chained = e.0; handler = option_map handler_view e.1 }
 
+-- the chained function or handler at offset q, by the flags
 unfoldable pub ending_at : List ℕ → ℕ → ℕ → Ending
 ending_at b q flags =
     if is_chained flags then record { chained = Some (function_at b q); handler = None }

@@ -100,8 +100,8 @@ impl<'a> ExceptionData<'a> {
         ExceptionData::parse_table(bytes, directory, sections, file_alignment, opts, width)
     }
 
-    /// Parses the exception directory of an ARM64 image, whose entries have 8 bytes. Errors: those of
-    /// `parse_with_opts`, with `ExceptionSize` if the directory's size is not a multiple of 8.
+    /// Parses the exception directory of an ARM64 image, whose entries have 8 bytes. Errors: as `parse_with_opts`, but
+    /// `ExceptionSize` if the directory's size is not a multiple of 8.
     pub fn parse_arm64_with_opts(
         bytes: &'a [u8],
         directory: DataDirectory,
