@@ -1,4 +1,4 @@
--- Certificates as they are written: three pieces, one behind the other. (PE format: attribute certificate table.)
+-- Certificates as they are written: three pieces, one after the other. (PE format: attribute certificate table.)
 use Rattle.std.specs.Prelude.{◌≡◌, ℕ, ◌+◌, ◌-◌, ◌^◌, ◌<◌, List, [], ◌∷◌, ◌++◌, length, replicate, Result}
 use Rattle.std.specs.List.{flat_map}
 use Rattle.pe_core.specs.Bytes.{bytes_of, holds}
@@ -10,11 +10,11 @@ use Rattle.pe_records.specs.Certificates.{CertificateView, revision_number, type
 unfoldable pub spell_certificate : CertificateView → List ℕ
 spell_certificate c = bytes_of 4 c.length ++ bytes_of 2 (revision_number c.revision) ++ bytes_of 2 (type_number c.certificate_type)
 
--- how many bytes a written certificate takes: a multiple of eight
+-- the size of a written certificate in bytes: a multiple of eight
 abbrev pub written_length : CertificateView → ℕ
 written_length c = rounded_up (8 + length c.body) 8
 
--- the zeros behind the body
+-- the zeros after the body
 abbrev pub padding : CertificateView → List ℕ
 padding c = replicate (written_length c - (8 + length c.body)) 0
 
@@ -22,11 +22,11 @@ padding c = replicate (written_length c - (8 + length c.body)) 0
 abbrev pub written_certificate : CertificateView → List ℕ
 written_certificate c = spell_certificate c ++ c.body ++ padding c
 
--- certificates that are written one behind the other
+-- certificates that are written one after the other
 abbrev pub written_certificates : List CertificateView → List ℕ
 written_certificates cs = flat_map written_certificate cs
 
--- the place behind a certificate that is written at p, or `WriteFit` where it does not fit
+-- the offset after a certificate that is written at offset p, or `WriteFit` if it does not fit
 abbrev pub written_end : List ℕ → ℕ → CertificateView → Result ℕ Refusal
 written_end b p c = outcome ((holds b p (written_length c), WriteFit) ∷ []) (p + written_length c)
 

@@ -1,4 +1,4 @@
--- Attribute certificates and the table that lists them. (PE format: attribute certificate table.)
+-- Attribute certificates, and the table that lists them. (PE format: attribute certificate table.)
 use Rattle.std.specs.Prelude.{◌≡◌, ℕ, zero, suc, ◌+◌, ◌-◌, ◌<◌, ◌≤◌, ◌==◌, ◌||◌, ◌⊎◌, Bool, true, false, List, [], ◌∷◌, map, length, slice_get, nat_lt, Some, Result, Ok, Err, Vec, if◌then◌else◌}
 use Rattle.pe_core.specs.Bytes.{le, holds, range}
 use Rattle.pe_core.specs.Refusals.{Refusal, Short, CertificateSize, CertificateRevision, CertificateType, CertificateTable, outcome, kind_of, UnlessMemory, IfMemory, ◌>>=◌}
@@ -10,13 +10,14 @@ use Rattle.pe_records.specs.declared.certificate_table.AttributeCertificateType.
 use Rattle.pe_records.specs.declared.certificate_table.AttributeCertificateType.TheVariants.{X509, PkcsSignedData, Reserved1, TsStackSigned}
 use Rattle.pe_records.specs.declared.certificate_table.AttributeCertificate.{AttributeCertificate}
 
--- a certificate, its body as bytes
+-- what callers see of a certificate; `body` are the bytes of its body
 pub record CertificateView : Type 0 where
   pub length : ℕ
   pub revision : AttributeCertificateRevision
   pub certificate_type : AttributeCertificateType
   pub body : List ℕ
 
+-- this certificate as callers see it
 abbrev pub certificate_view : AttributeCertificate → CertificateView
 certificate_view c = record { length = c.length; revision = c.revision; certificate_type = c.certificate_type; body = c.certificate.now }
 
@@ -33,7 +34,7 @@ type_number PkcsSignedData = 2
 type_number Reserved1 = 3
 type_number TsStackSigned = 4
 
--- this is the number of a revision, and of a type
+-- the number is that of a revision, and that of a type
 abbrev pub is_revision : ℕ → Bool
 is_revision n = n == 0x0100 || n == 0x0200
 
@@ -49,11 +50,11 @@ type_of n = if n == 1 then X509 else (if n == 2 then PkcsSignedData else (if n =
 
 -- ---- one certificate
 
--- how many bytes the body has, by the length that stands at p: the header's eight count too
+-- the size of the body in bytes, by the length at offset p, which counts the header's eight bytes too
 abbrev pub body_length : List ℕ → ℕ → ℕ
 body_length b p = le b p 4 - 8
 
--- the certificate at p, and the place behind it: its body's end rounded up to eight
+-- the certificate at offset p, and the offset after it: the end of its body, rounded up to eight
 unfoldable pub certificate : List ℕ → ℕ → CertificateView × ℕ
 certificate b p = (
   record {
@@ -65,6 +66,7 @@ certificate b p = (
   rounded_up (p + 8 + body_length b p) 8,
 )
 
+-- its tests, in order, and what each refuses
 unfoldable pub certificate_tests : List ℕ → ℕ → List (Bool × Refusal)
 certificate_tests b p =
     (holds b p 8, Short)
@@ -73,21 +75,21 @@ certificate_tests b p =
     ∷ (is_type (le b (p + 6) 2), CertificateType)
     ∷ []
 
--- the certificate at p and the place behind it, or the first refusal
+-- the certificate at offset p and the offset after it, or the first refusal
 unfoldable pub certificate_at : List ℕ → ℕ → Result (CertificateView × ℕ) Refusal
 certificate_at b p = outcome (certificate_tests b p) (certificate b p)
 
--- where the offset stands after a refusal at p: behind the header, if there is one
+-- the offset after a refusal at offset p: after the header, if there is one
 abbrev pub place_after_refusal : ℕ → Refusal → ℕ
 place_after_refusal p Short = p
 place_after_refusal p _ = p + 8
 
--- what a parse at p answers, and where it leaves the offset
+-- what a parse at offset p returns, and where it leaves the offset
 abbrev pub Parses : List ℕ → ℕ → Result AttributeCertificate Error → ℕ → Type 0
 Parses b p (Ok c) after = certificate_at b p ≡ Ok (certificate_view c, after)
 Parses b p (Err e) after = (certificate_at b p ≡ Err (kind_of e)) × (after ≡ place_after_refusal p (kind_of e))
 
--- what finding a number's revision, and its type, answers
+-- what finding the revision, and the type, of a number returns
 abbrev pub FindsRevision : ℕ → Result AttributeCertificateRevision Error → Type 0
 FindsRevision n (Ok r) = (is_revision n ≡ true) × (r ≡ revision_of n)
 FindsRevision n (Err e) = (is_revision n ≡ false) × (kind_of e ≡ CertificateRevision)
@@ -98,13 +100,13 @@ FindsType n (Err e) = (is_type n ≡ false) × (kind_of e ≡ CertificateType)
 
 -- ---- the table
 
--- these certificates stand one behind the other: certificate i at place i, which is before the end, and place i + 1
--- is the one behind it
+-- these certificates follow one another: certificate i is at `place i`, which is before the end, and the offset after
+-- it is `place (suc i)`
 pub record Stand (b : List ℕ) (end : ℕ) (place : ℕ → ℕ) (cs : List CertificateView) : Type 0 where
   pub before_end : (i : ℕ) → i < length cs → place i < end
   pub behind : (i : ℕ) (c : CertificateView) → slice_get cs i ≡ Some c → certificate_at b (place i) ≡ Ok (c, place (suc i))
 
--- these are the certificates of the table: they stand from its address on, and the last place is not before its end
+-- these are the certificates of the table: they start at its offset, and the last place is not before its end
 pub record IsListing (b : List ℕ) (address size : ℕ) (cs : List CertificateView) : Type 0 where
   pub within : address + size ≤ length b
   pub place : ℕ → ℕ
@@ -112,7 +114,8 @@ pub record IsListing (b : List ℕ) (address size : ℕ) (cs : List CertificateV
   pub stand : Stand b (address + size) place cs
   pub last : address + size ≤ place (length cs)
 
--- the beginning of a listing can't go on, since no certificate stands at its last place
+-- a listing can't go on: its first certificates are there, but none is at the offset after them, which is before the
+-- end
 pub record CannotGoOn (b : List ℕ) (address size : ℕ) (refusal : Refusal) : Type 0 where
   pub within : address + size ≤ length b
   pub certificates : List CertificateView
@@ -122,11 +125,11 @@ pub record CannotGoOn (b : List ℕ) (address size : ℕ) (refusal : Refusal) : 
   pub last : place (length certificates) < address + size
   pub refused : certificate_at b (place (length certificates)) ≡ Err refusal
 
--- what the table is refused as: it ends past the file, or a beginning of a listing can't go on
+-- the refusal of a table: it ends past the file, or a listing can't go on
 abbrev pub IsRefused : List ℕ → ℕ → ℕ → Refusal → Type 0
 IsRefused b address size refusal = ((length b < address + size) × (refusal ≡ CertificateTable)) ⊎ CannotGoOn b address size refusal
 
--- the table has the beginning of a listing, with one certificate or more
+-- the table has the first certificates of a listing, one or more
 pub record ListingBegins (b : List ℕ) (address size : ℕ) : Type 0 where
   pub within : address + size ≤ length b
   pub certificates : List CertificateView
@@ -135,19 +138,20 @@ pub record ListingBegins (b : List ℕ) (address size : ℕ) : Type 0 where
   pub first : place 0 ≡ address
   pub stand : Stand b (address + size) place certificates
 
--- what listing a table answers. Memory may run out, but is asked for only once a certificate of the table is read
+-- what listing a table returns; memory may run out, but is allocated only once a certificate of the table is read
 abbrev pub Lists : {Z : Type 0} → List ℕ → ℕ → ℕ → Result (Vec AttributeCertificate Z) Error → Type 0
 Lists b address size (Ok v) = IsListing b address size (map certificate_view v.items)
 Lists b address size (Err e) = UnlessMemory e (IsRefused b address size (kind_of e)) × IfMemory e (ListingBegins b address size)
 
 -- ---- the same as a function, for definitions that go on from the list; it is proved to be the listing
 
--- the certificates from p on up to the end, at most n
+-- the certificates from offset p to the end, at most n
 unfoldable pub certificates_from : List ℕ → ℕ → ℕ → ℕ → Result (List CertificateView) Refusal
 certificates_from b end zero p = Ok []
 certificates_from b end (suc n) p =
     if nat_lt p end then (certificate_at b p >>= λ c. certificates_from b end n c.1 >>= λ cs. Ok (c.0 ∷ cs)) else Ok []
 
--- the certificates of the table, or its refusal; each takes a byte of it, so there are at most as many as its size
+-- the certificates of the table, or its refusal; each takes a byte of the table, so there are at most as many as its
+-- size
 unfoldable pub certificates_at : List ℕ → ℕ → ℕ → Result (List CertificateView) Refusal
 certificates_at b address size = if holds b address size then certificates_from b (address + size) size address else Err CertificateTable

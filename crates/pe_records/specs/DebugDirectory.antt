@@ -1,5 +1,5 @@
--- The debug directory: the table that it points to, and the entries of the table.
--- (PE format: debug directory; the bounds by mode and the fixup are this project's profile.)
+-- The debug directory: the table to which it points, and the entries of the table. (PE format: debug directory; the
+-- bounds by mode and the fixup are this project's profile.)
 use Rattle.std.specs.Prelude.{◌≡◌, ℕ, ◌+◌, ◌-◌, ◌/◌, ◌==◌, List, [], ◌∷◌, length, min, Option, Some, None, Result, Ok, Err, if◌then◌else◌}
 use Rattle.std.specs.List.{find}
 use Rattle.pe_core.specs.Bytes.{le, holds}
@@ -20,24 +20,24 @@ use Rattle.pe_records.specs.declared.debug.ImageDebugDirectoryIterator.{ImageDeb
 
 -- ---- the table
 
--- the range of a table of this size at this place: past the end of the file it is refused, or cut at the end
+-- the range of a table of this size at a file offset; past the end of the file it is refused, or truncated at the end
 abbrev pub range_at : List ℕ → ParseMode → ℕ → Option ℕ → Result ByteRange Refusal
 range_at b mode size None = Err Unmapped
 range_at b mode size (Some place) =
     if holds b place size then Ok (record { place = place; length = size })
     else (if is_permissive mode then Ok (record { place = min place (length b); length = length b - place }) else Err DebugBounds)
 
--- where the table of a directory stands
+-- the range of a directory's table in the file
 unfoldable pub directory_range : ParseOptions → List ℕ → DataDirectory → List SectionTable → ℕ → Result ByteRange Refusal
 directory_range o b d sections alignment = range_at b o.parse_mode d.size (section_map o sections alignment d.virtual_address)
 
--- the bytes of the table of a directory
+-- the bytes of a directory's table
 unfoldable pub directory_table : ParseOptions → List ℕ → DataDirectory → List SectionTable → ℕ → Result (List ℕ) Refusal
 directory_table o b d sections alignment = directory_range o b d sections alignment >>= λ r. Ok (bytes_in b r)
 
 -- ---- its entries
 
--- the entry of 28 bytes at p
+-- the entry of 28 bytes at offset p; the fixup is subtracted from its RVA and its file offset
 unfoldable pub entry_at : ℕ → List ℕ → ℕ → ImageDebugDirectory
 entry_at fixup b p = record {
   characteristics = le b p 4;
@@ -54,11 +54,11 @@ entry_at fixup b p = record {
 unfoldable pub whole_entries : ℕ → List ℕ → List ImageDebugDirectory
 whole_entries fixup b = Rows.whole_entries (entry_at fixup) 28 b
 
--- the entries of a table, and one fault where a last one is cut
+-- the whole entries of a table, and one `Short` for a truncated last entry
 unfoldable pub entries : ℕ → List ℕ → List (Result ImageDebugDirectory Refusal)
 entries fixup b = Rows.entry_items (entry_at fixup) 28 b
 
--- how many entries that is, a cut one included
+-- how many entries that is; a truncated one counts
 abbrev pub count : List ℕ → ℕ
 count b = (length b + 27) / 28
 
@@ -75,11 +75,12 @@ rest_of s = s.bytes.now
 abbrev pub fixup_of : ImageDebugDirectoryIterator → ℕ
 fixup_of s = s.rva_offset
 
+-- an item, with its error as a refusal
 abbrev pub item_of : Result ImageDebugDirectory Error → Result ImageDebugDirectory Refusal
 item_of (Ok e) = Ok e
 item_of (Err e) = Err (kind_of e)
 
--- what one call of next answers, and what it leaves: the first of the entries, and those behind it
+-- what one call of next returns, and the bytes that it leaves: the first of the entries, and those after it
 abbrev pub GivesEntry : ℕ → List ℕ → Option (Result ImageDebugDirectory Error) → List ℕ → Type 0
 GivesEntry fixup b None left = (entries fixup b ≡ []) × (left ≡ b)
 GivesEntry fixup b (Some item) left = entries fixup b ≡ item_of item ∷ entries fixup left

@@ -1,5 +1,6 @@
--- The records that debug entries lead to. Each is none, a value or a refusal, as a function of the bytes and an entry.
--- (PE format: debug directory; the layouts of the records and the tests of their sizes are this project's profile.)
+-- The records to which debug entries lead. Each is none, a value or a refusal, as a function of the bytes and an
+-- entry. (PE format: debug directory; the layouts of the records and the tests of their sizes are this project's
+-- profile.)
 use Rattle.std.specs.Prelude.{ℕ, ◌+◌, ◌-◌, ◌==◌, ◌||◌, List, [], ◌∷◌, Bool, Option, Some, None, Result, Ok, Err, nat_lt, if◌then◌else◌}
 use Rattle.std.specs.Option.{option_map}
 use Rattle.pe_core.specs.Bytes.{le, range, holds, record_at}
@@ -20,31 +21,33 @@ use Rattle.pe_records.specs.declared.debug.records.ReproInfo.{ReproInfo}
 use Rattle.pe_records.specs.declared.debug.records.ReproInfo.TheVariants as repros
 use Rattle.pe_records.specs.declared.debug.records.VCFeatureInfo.{VCFeatureInfo}
 
--- where the record of an entry stands
+-- the file offset of an entry's record
 abbrev pub record_place : Bool → ImageDebugDirectory → ℕ
 record_place resolve e = if resolve then e.pointer_to_raw_data else e.address_of_raw_data
 
--- a record whose entry must give it at least so many bytes
+-- a record that needs at least this many bytes, by the size in its entry
 abbrev pub of_least_size : {X : Type 0} → ParseMode → ℕ → ℕ → Result (Option X) Refusal → Result (Option X) Refusal
 of_least_size mode least size record_there =
     if nat_lt size least then none_if_refused mode (Err DebugSize) else record_there
 
--- a record that begins with a signature of its own: under any other there is none
+-- a record that starts with its own signature; with any other signature there is none
 abbrev pub signed : {X : Type 0} → (ℕ → Bool) → List ℕ → ℕ → Result (Option X) Refusal → Result (Option X) Refusal
 signed is_own b p record_there = if holds b p 4 then (if is_own (le b p 4) then record_there else Ok None) else Err Short
 
 -- ---- PDB 7.0
 
+-- what callers see of a PDB 7.0 record
 pub record Pdb70 : Type 0 where
   pub codeview_signature : ℕ
   pub signature : List ℕ
   pub age : ℕ
   pub filename : List ℕ
 
+-- this record as callers see it
 abbrev pub pdb70_view : CodeviewPDB70DebugInfo → Pdb70
 pdb70_view r = record { codeview_signature = r.codeview_signature; signature = r.signature; age = r.age; filename = r.filename.now }
 
--- 24 bytes and a file name, in so many bytes at p
+-- 24 bytes and a file name: the record at offset p in this many bytes
 unfoldable pub pdb70_at : List ℕ → ℕ → ℕ → Pdb70
 pdb70_at b p size = record {
   codeview_signature = le b p 4;
@@ -53,6 +56,7 @@ pdb70_at b p size = record {
   filename = range b (p + 24) (size - 24);
 }
 
+-- the record at offset p in this many bytes, none, or its first refusal
 unfoldable pub pdb70_record : ParseMode → List ℕ → ℕ → ℕ → Result (Option Pdb70) Refusal
 pdb70_record mode b p size =
     of_least_size mode 24 size (signed (λ n. n == 0x53445352) b p
@@ -60,6 +64,7 @@ pdb70_record mode b p size =
 
 -- ---- PDB 2.0
 
+-- what callers see of a PDB 2.0 record
 pub record Pdb20 : Type 0 where
   pub codeview_signature : ℕ
   pub codeview_offset : ℕ
@@ -67,10 +72,11 @@ pub record Pdb20 : Type 0 where
   pub age : ℕ
   pub filename : List ℕ
 
+-- this record as callers see it
 abbrev pub pdb20_view : CodeviewPDB20DebugInfo → Pdb20
 pdb20_view r = record { codeview_signature = r.codeview_signature; codeview_offset = r.codeview_offset; signature = r.signature; age = r.age; filename = r.filename.now }
 
--- 16 bytes and a file name, in so many bytes at p
+-- 16 bytes and a file name: the record at offset p in this many bytes
 unfoldable pub pdb20_at : List ℕ → ℕ → ℕ → Pdb20
 pdb20_at b p size = record {
   codeview_signature = le b p 4;
@@ -80,6 +86,7 @@ pdb20_at b p size = record {
   filename = range b (p + 16) (size - 16);
 }
 
+-- the record at offset p in this many bytes, none, or its first refusal
 unfoldable pub pdb20_record : ParseMode → List ℕ → ℕ → ℕ → Result (Option Pdb20) Refusal
 pdb20_record mode b p size =
     of_least_size mode 16 size (signed (λ n. n == 0x3031424E) b p
@@ -97,24 +104,27 @@ features_at b p = record {
   guard_count = le b (p + 16) 4;
 }
 
+-- the five counts at offset p, or `Short`
 abbrev pub features_record : List ℕ → ℕ → Result VCFeatureInfo Refusal
 features_record b p = record_at b p 20 (features_at b p)
 
--- the flags, 4 bytes
+-- the flags at offset p, 4 bytes, or `Short`
 abbrev pub characteristics_record : List ℕ → ℕ → Result ExDllCharacteristicsInfo Refusal
 characteristics_record b p = record_at b p 4 (record { characteristics_ex = le b p 4 })
 
 -- ---- Repro
 
+-- what callers see of a Repro record: a time stamp, or a length and a hash
 pub data Repro : Type 0 where
   Stamp : ℕ → Repro
   Buffer : ℕ → List ℕ → Repro
 
+-- this record as callers see it
 abbrev pub repro_view : ReproInfo → Repro
 repro_view (repros.TimeDateStamp stamp) = Stamp stamp
 repro_view (repros.Buffer count bytes) = Buffer count bytes.now
 
--- the entry's time stamp if the entry gives no bytes, else a count and so many bytes
+-- the entry's time stamp if the entry's size is 0, else a count and that many bytes
 unfoldable pub repro_record : List ℕ → ℕ → ImageDebugDirectory → Result Repro Refusal
 repro_record b p e =
     if e.size_of_data == 0 then Ok (Stamp e.time_date_stamp)
@@ -122,14 +132,16 @@ repro_record b p e =
 
 -- ---- POGO
 
+-- what callers see of a POGO record; `bytes` are its entries
 pub record Pogo : Type 0 where
   pub signature : ℕ
   pub bytes : List ℕ
 
+-- this record as callers see it
 abbrev pub pogo_view : POGOInfo → Pogo
 pogo_view r = record { signature = r.signature; bytes = r.bytes.now }
 
--- a signature, 4 bytes, and the bytes behind it
+-- a signature of 4 bytes, and the bytes after it
 unfoldable pub pogo_record : List ℕ → ℕ → ℕ → Result (Option Pogo) Refusal
 pogo_record b p size =
     signed (λ n. n == 0x4C544347 || n == 0x50475500) b p
@@ -137,6 +149,7 @@ pogo_record b p size =
 
 -- ---- the records of entries
 
+-- each is read at the file offset of its entry's record
 abbrev pub pdb70_of : ParseOptions → List ℕ → ImageDebugDirectory → Result (Option Pdb70) Refusal
 pdb70_of o b e = pdb70_record o.parse_mode b (record_place o.resolve_rva e) e.size_of_data
 
@@ -162,12 +175,12 @@ abbrev pub of_entry : {X : Type 0} → (ImageDebugDirectory → Result (Option X
 of_entry record_of None = Ok None
 of_entry record_of (Some e) = record_of e
 
--- the same of a record that each entry has
+-- the same for a record that every entry of the type has
 abbrev pub some_of_entry : {X : Type 0} → (ImageDebugDirectory → Result X Refusal) → Option ImageDebugDirectory → Result (Option X) Refusal
 some_of_entry record_of None = Ok None
 some_of_entry record_of (Some e) = record_of e >>= λ r. Ok (Some r)
 
--- debug data: the bytes of the table, the fixup of its addresses, and the six records
+-- debug data: the bytes of the table, the fixup of its entries, and the six records
 pub record DebugFields : Type 0 where
   pub table : List ℕ
   pub fixup : ℕ
@@ -185,6 +198,7 @@ table_of d = d.table.now
 abbrev pub fixup_of_data : declared.DebugData → ℕ
 fixup_of_data d = d.rva_offset
 
+-- these debug data as callers see them
 abbrev pub debug_view : declared.DebugData → DebugFields
 debug_view d = record {
   table = table_of d;

@@ -1,4 +1,4 @@
--- Debug records as bytes: each field in its width, in the order in which the fields stand.
+-- Debug records as bytes: each field in its width, in the order of the fields.
 use Rattle.std.specs.Prelude.{ℕ, ◌+◌, List, [], ◌++◌}
 use Rattle.pe_core.specs.Bytes.{bytes_of}
 use Rattle.pe_records.specs.DebugRecords.{Pdb70, Pdb20, Pogo, Repro, Stamp, Buffer}
@@ -23,6 +23,7 @@ unfoldable pub spell_repro : Repro → List ℕ
 spell_repro (Stamp stamp) = []
 spell_repro (Buffer count bytes) = bytes_of 4 count ++ bytes
 
+-- how many bytes that is
 abbrev pub size_of_repro : Repro → ℕ
 size_of_repro (Stamp stamp) = 0
 size_of_repro (Buffer count bytes) = 4 + count

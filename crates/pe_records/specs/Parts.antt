@@ -1,4 +1,4 @@
--- Where the parts of records stand that are ranges of the bytes.
+-- Where those parts of debug records stand that are ranges of the bytes.
 use Rattle.std.specs.Prelude.{ℕ, ◌+◌, List, Option, Some, None}
 use Rattle.std.specs.Option.{option_map}
 use Rattle.pe_core.specs.Places.{StandAt}
@@ -7,7 +7,7 @@ use Rattle.pe_records.specs.DebugDirectory.{first_of_type}
 use Rattle.pe_records.specs.DebugRecords.{DebugFields, Repro, Stamp, Buffer, record_place}
 use Rattle.pe_records.specs.declared.debug.ImageDebugDirectory.{ImageDebugDirectory}
 
--- the part of a record, if there is one, stands n bytes behind the place where the entry leads
+-- the part of a record, if there is one, starts n bytes after the offset to which the entry leads
 abbrev pub StandsBehind : ParseOptions → List ℕ → ℕ → Option ImageDebugDirectory → Option (List ℕ) → Type 0
 StandsBehind o b n entry None = Unit {0}
 StandsBehind o b n None (Some part) = ⊥
@@ -19,7 +19,7 @@ hash_of None = None
 hash_of (Some (Stamp stamp)) = None
 hash_of (Some (Buffer count bytes)) = Some bytes
 
--- the parts of the records that the first entries lead to: the two file names, the hash and the entries of POGO
+-- the parts of the records of the first entries: the two file names, the hash and the POGO entries
 pub record DebugPartsStand (o : ParseOptions) (b : List ℕ) (d : DebugFields) : Type 0 where
   pub pdb70 : StandsBehind o b 24 (first_of_type d.fixup 2 d.table) (option_map (λ r. r.filename) d.pdb70)
   pub pdb20 : StandsBehind o b 16 (first_of_type d.fixup 2 d.table) (option_map (λ r. r.filename) d.pdb20)

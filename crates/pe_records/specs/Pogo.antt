@@ -1,4 +1,4 @@
--- Entries of a POGO record (layout: this project's profile).
+-- The entries of a POGO record. (The layout is this project's profile.)
 use Rattle.std.specs.Prelude.{◌≡◌, ℕ, ◌+◌, ◌-◌, ◌<◌, ◌≤◌, ◌≢◌, List, [], ◌∷◌, length, take, drop, slice_index, Option, Some, None, Result, Ok, Err, nat_lt, if◌then◌else◌}
 use Rattle.pe_core.specs.Bytes.{le}
 use Rattle.pe_core.specs.Refusals.{Refusal, Short, PogoName, kind_of}
@@ -7,12 +7,13 @@ use Rattle.pe_core.specs.declared.error.Error.{Error}
 use Rattle.pe_records.specs.declared.debug.pogo.POGOInfoEntry.{POGOInfoEntry}
 use Rattle.pe_records.specs.declared.debug.pogo.POGOEntryIterator.{POGOEntryIterator}
 
--- an entry without where its name lies in memory
+-- what callers see of an entry
 pub record Entry : Type 0 where
   pub rva : ℕ
   pub size : ℕ
   pub name : List ℕ
 
+-- this entry as callers see it
 abbrev pub entry_of : POGOInfoEntry → Entry
 entry_of e = record { rva = e.rva; size = e.size; name = e.name.now }
 
@@ -22,7 +23,7 @@ pub record IsName (name : List ℕ) : Type 0 where
   pub last : slice_index name (length name - 1) ≡ 0
   pub only : (k : ℕ) → k + 1 < length name → slice_index name k ≢ 0
 
--- the bytes begin with the n bytes of an entry: two numbers, the name, and any bytes up to a multiple of four
+-- the bytes start with the n bytes of an entry: two numbers, the name, and any bytes up to a multiple of four
 pub record BeginsWith (b : List ℕ) (e : Entry) (n : ℕ) : Type 0 where
   pub rva : e.rva ≡ le b 0 4
   pub size : e.size ≡ le b 4 4
@@ -31,34 +32,36 @@ pub record BeginsWith (b : List ℕ) (e : Entry) (n : ℕ) : Type 0 where
   pub padded : n ≡ rounded_up (8 + length e.name) 4
   pub whole : n ≤ length b
 
+-- the bytes start with no entry
 abbrev pub BeginsWithNone : List ℕ → Type 0
 BeginsWithNone b = (e : Entry) (n : ℕ) → BeginsWith b e n → ⊥
 
--- what a rest that begins with no entry is refused as
+-- the refusal of a rest that starts with no entry
 abbrev pub fault : List ℕ → Refusal
 fault b = if nat_lt (length b) 8 then Short else PogoName
 
--- the entries of a stream; a rest that begins with no entry is one fault
+-- these are the entries of a stream, and one refusal for a rest that starts with no entry
 abbrev pub Entries : List ℕ → List (Result Entry Refusal) → Type 0
 Entries b [] = b ≡ []
 Entries b (Ok e ∷ more) = (b ≢ []) × (n : ℕ) × BeginsWith b e n × Entries (drop n b) more
 Entries b (Err r ∷ more) = (b ≢ []) × BeginsWithNone b × (r ≡ fault b) × (more ≡ [])
 
--- what one call of next answers, and what it leaves
+-- what one call of next returns, and the bytes that it leaves
 abbrev pub GivesPogoEntry : List ℕ → Option (Result POGOInfoEntry Error) → List ℕ → Type 0
 GivesPogoEntry b None left = (b ≡ []) × (left ≡ [])
 GivesPogoEntry b (Some (Ok e)) left = (b ≢ []) × (n : ℕ) × BeginsWith b (entry_of e) n × (left ≡ drop n b)
 GivesPogoEntry b (Some (Err e)) left = (b ≢ []) × BeginsWithNone b × (kind_of e ≡ fault b) × (left ≡ [])
 
--- what reading the entry at the front answers
+-- what reading the entry at the start of the bytes returns
 abbrev pub Reads : List ℕ → Result (POGOInfoEntry × ℕ) Error → Type 0
 Reads b (Ok x) = BeginsWith b (entry_of x.0) x.1
 Reads b (Err e) = BeginsWithNone b × (kind_of e ≡ fault b)
 
--- what an iterator has left
+-- the bytes that an iterator has left
 abbrev pub stream_of : POGOEntryIterator → List ℕ
 stream_of s = s.bytes.now
 
+-- an item, with its error as a refusal
 abbrev pub stream_item_of : Result POGOInfoEntry Error → Result Entry Refusal
 stream_item_of (Ok e) = Ok (entry_of e)
 stream_item_of (Err e) = Err (kind_of e)

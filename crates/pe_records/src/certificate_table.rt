@@ -1,4 +1,6 @@
-//! Attribute certificates: the records of the certificate table, read and written.
+//! The attribute certificate table: records of a header of 8 bytes and a body (`WIN_CERTIFICATE`), each at a multiple
+//! of eight if the table starts at one. Its directory has a file offset, not an RVA. A caller lists the table, and
+//! writes certificates into an image. See [the PE format](https://learn.microsoft.com/windows/win32/debug/pe-format).
 
 ghost use Rattle.std.specs.Prelude.{◌≡◌, ◌+◌, ◌-◌, ◌<◌, ◌≤◌, ◌^◌, [], ◌∷◌, ◌++◌, length, map, replicate};
 ghost use Rattle.pe_core.specs.Bytes.{holds, put};
@@ -11,28 +13,28 @@ use pe_core::{
 };
 use std::alloc::{Allocator, Global};
 
-/// The bytes that certificates are rounded up to a multiple of.
+/// Certificates are rounded up to a multiple of this many bytes.
 const UNIT: usize = 8;
 
-/// The revision of a certificate. `as u16` gives its number.
+/// The revision of a certificate. `as u16` is its number in the file.
 #[derive(Clone, Copy, Debug, PartialEq)]
 pub enum AttributeCertificateRevision {
-    /// An old certificate.
+    /// An old certificate (`WIN_CERT_REVISION_1_0`).
     Revision1_0 = 0x0100,
-    /// A certificate of today.
+    /// A current certificate (`WIN_CERT_REVISION_2_0`).
     Revision2_0 = 0x0200,
 }
 
-/// What the body of a certificate is. `as u16` gives its number.
+/// The type of a certificate: what its body contains. `as u16` is its number in the file.
 #[derive(Clone, Copy, Debug, PartialEq)]
 pub enum AttributeCertificateType {
-    /// An X.509 certificate.
+    /// An X.509 certificate (`WIN_CERT_TYPE_X509`).
     X509 = 1,
-    /// Signed data of PKCS #7.
+    /// PKCS #7 signed data (`WIN_CERT_TYPE_PKCS_SIGNED_DATA`).
     PkcsSignedData = 2,
-    /// Reserved by the format.
+    /// Reserved (`WIN_CERT_TYPE_RESERVED_1`).
     Reserved1 = 3,
-    /// A certificate of a terminal server's protocol stack.
+    /// A certificate of a terminal server's protocol stack (`WIN_CERT_TYPE_TS_STACK_SIGNED`).
     TsStackSigned = 4,
 }
 
@@ -66,25 +68,32 @@ impl TryFrom<u16> for AttributeCertificateType {
     }
 }
 
-/// A certificate, which borrows its body.
+/// An attribute certificate. It borrows its body from the file.
 #[derive(Debug, Drop)]
 pub struct AttributeCertificate<'a> {
-    /// The bytes of header and body, as the header says. It may belie the body of a certificate that was made by hand.
+    /// The size of header and body in bytes, as the header has it. In a certificate that a caller builds it may differ
+    /// from the size of the body.
     pub length: u32,
+    /// The revision of the certificate.
     pub revision: AttributeCertificateRevision,
+    /// What the body contains.
     pub certificate_type: AttributeCertificateType,
-    /// The body.
+    /// The body, without the header and the padding.
     pub certificate: &'a [u8],
 }
 
-/// The certificates of a table, in their order.
+/// The certificates of a table, in file order.
 pub type CertificateDirectoryTable<'a, A = Global> = Vec<AttributeCertificate<'a>, A>;
 
 impl<'a> AttributeCertificate<'a> {
     ghost use Rattle.pe_records.specs.Certificates.{Parses};
 
-    /// The certificate at the offset, which then moves to the place behind it, a multiple of eight. After a refusal as
-    /// `Short` the offset stands where it was, after any other behind the header of eight bytes.
+    /// Parses the certificate at the file offset `offset`, and moves the offset after it, rounded up to a multiple of
+    /// eight. A length below 8 means an empty body.
+    ///
+    /// Errors, in this order: `Short` if the header of 8 bytes is truncated; `CertificateSize` if the body passes the
+    /// end of the file; `CertificateRevision`; `CertificateType`. After `Short` the offset is unchanged, after any
+    /// other error it is after the header.
     #[tactic(auto, unfolding(crate::specs::Certificates::certificate_at, crate::specs::Certificates::certificate_tests, crate::specs::Certificates::certificate))]
     pub fn parse(bytes: &'a [u8], offset: &mut usize) -> Result<AttributeCertificate<'a>>
         ensures { Parses bytes.entry.now offset.old result offset.new }
@@ -111,7 +120,7 @@ impl<'a> AttributeCertificate<'a> {
 
 ghost use Rattle.pe_records.specs.CertificateWriting.{spell_certificate, written_certificate, written_end};
 
-/// Puts header, body and zeros over the whole piece.
+/// Fills the whole piece with header, body and zeros.
 fn fill_piece(piece: &mut [u8], header: [u8; 8], body: &[u8])
     requires { 8 + length body.now ≤ length piece.old }
     ensures { piece.new ≡ header ++ body.now ++ replicate (length piece.old - (8 + length body.now)) 0 }
@@ -123,6 +132,7 @@ fn fill_piece(piece: &mut [u8], header: [u8; 8], body: &[u8])
 }
 
 impl<'a> AttributeCertificate<'a> {
+    /// The header's eight bytes.
     #[tactic(auto, unfolding(crate::specs::CertificateWriting::spell_certificate, pe_core::specs::Bytes::bytes_of))]
     fn header(&self) -> [u8; 8]
         ensures { result ≡ spell_certificate (certificate_view self.now) }
@@ -142,8 +152,9 @@ impl<'a> AttributeCertificate<'a> {
         ]
     }
 
-    /// Writes the header with the length as it stands, the body, and zeros up to a multiple of eight bytes counted from
-    /// the place; answers the place behind them. Refuses as `WriteFit` where they don't fit, and then changes nothing.
+    /// Writes the header with `length` as it stands, the body, and zeros up to a multiple of eight bytes counted from
+    /// the offset `place`. Returns the offset after them. Errors: `WriteFit` if they do not fit in `out`; then nothing
+    /// is changed.
     #[tactic(auto, using(crate::proofs::CertificatePieces::length_written), unfolding(pe_core::specs::Bytes::splice))]
     pub fn write_into(&self, out: &mut [u8], place: usize) -> Result<usize>
         ensures fit { Gives (λ end. end) result (written_end out.old place (certificate_view self.now)) }
@@ -158,7 +169,7 @@ impl<'a> AttributeCertificate<'a> {
     }
 }
 
-/// The certificates of the table, one behind the other.
+/// The certificates of the table, one after the other.
 #[tactic(auto, using(crate::proofs::CertificateListings::next_above, crate::proofs::CertificateListings::listing, crate::proofs::CertificateListings::refused, crate::proofs::CertificateListings::begun, crate::proofs::CertificateListings::never_memory))]
 fn certificates_of_table<'a, A: Allocator>(
     alloc: A,
@@ -169,6 +180,7 @@ fn certificates_of_table<'a, A: Allocator>(
     ensures { Lists bytes.entry.now address size result }
 {
     if bytes.len() < size || bytes.len() - size < address {
+        // The sum of offset and size may pass a `usize`; the error reports it up to the greatest `u64`.
         let end = (address as u64).saturating_add(size as u64);
         return Err(Error::Malformed(Reason::CertificateTable(end)));
     }
@@ -182,8 +194,12 @@ fn certificates_of_table<'a, A: Allocator>(
     Ok(certificates)
 }
 
-/// The certificates of the table of this size at this place of the file, in their order. The last body may run past the
-/// table's end. Memory is asked for only once the table is known to be in the file and its first certificate is read.
+/// Lists the certificates of a table, in file order. `address` is the table's file offset and `size` its size in
+/// bytes, as the certificate directory has them. The last body may pass the end of the table.
+///
+/// Errors, in this order: `CertificateTable` if the table passes the end of the file; then those of the first
+/// certificate that is invalid, as `AttributeCertificate::parse` returns them. Memory is allocated only once the table
+/// is known to lie in the file and its first certificate is read; `Memory` is returned if an allocation fails.
 pub fn enumerate_certificates<'a, A: Allocator>(
     alloc: A,
     bytes: &'a [u8],

@@ -1,4 +1,7 @@
-//! The debug directory: its entries, and the records that they lead to.
+//! The debug directory: a table of entries of 28 bytes (`IMAGE_DEBUG_DIRECTORY`), each with the type of a record and
+//! where it stands: CodeView (the PDB file), VC feature, extended DLL characteristics, Repro, POGO. A caller parses it
+//! by `DebugData`, which reads the record of the first entry of each of these types. See
+//! [the PE format](https://learn.microsoft.com/windows/win32/debug/pe-format).
 
 mod codeview;
 mod constants;
@@ -45,23 +48,25 @@ use pe_core::{
 pub use pogo::{POGOEntryIterator, POGOInfo, POGOInfoEntry};
 pub use records::{ExDllCharacteristicsInfo, ReproInfo, VCFeatureInfo};
 
-/// An entry of the debug directory, 28 bytes: which record stands where.
+/// An entry of the debug directory, 28 bytes: the type of a record, and where it stands (`IMAGE_DEBUG_DIRECTORY`).
 #[repr(C)]
 #[derive(Clone, Copy, Debug, Default, PartialEq)]
 pub struct ImageDebugDirectory {
     /// Reserved.
     pub characteristics: u32,
-    /// In seconds since the beginning of 1970, or a hash.
+    /// A time stamp in seconds since the start of 1970, or a hash.
     pub time_date_stamp: u32,
+    /// The major version of the format of the record.
     pub major_version: u16,
+    /// The minor version of the format of the record.
     pub minor_version: u16,
-    /// One of the numbers `IMAGE_DEBUG_TYPE_..`.
+    /// The type of the record: one of the constants `IMAGE_DEBUG_TYPE_*`.
     pub data_type: u32,
     /// The size of the record in bytes.
     pub size_of_data: u32,
-    /// The record's relative virtual address.
+    /// The RVA of the record.
     pub address_of_raw_data: u32,
-    /// The record's place in the file.
+    /// The file offset of the record.
     pub pointer_to_raw_data: u32,
 }
 
@@ -73,7 +78,8 @@ fn reduced(address: u32, fixup: u32) -> u32
 }
 
 impl ImageDebugDirectory {
-    /// The entry at a place where its 28 bytes are known to be there, its addresses reduced by the fixup.
+    /// Reads the entry at an offset where its 28 bytes are known to be. The fixup is subtracted from its RVA and its
+    /// file offset.
     #[tactic(auto, unfolding(crate::specs::DebugDirectory::entry_at))]
     pub(crate) fn at(bytes: &[u8], place: usize, fixup: u32) -> ImageDebugDirectory
         requires { place + 28 ≤ length bytes.now }
@@ -91,7 +97,8 @@ impl ImageDebugDirectory {
         }
     }
 
-    /// The place of the entry's record: its pointer if addresses are mapped to places, else its address.
+    /// The file offset of the entry's record: `pointer_to_raw_data` with `resolve_rva`, else `address_of_raw_data`, as
+    /// in images whose RVAs are file offsets.
     pub fn record_place(&self, opts: &ParseOptions) -> u32
         ensures { result ≡ record_place opts.now.resolve_rva self.now }
     {
@@ -103,7 +110,7 @@ impl ImageDebugDirectory {
     }
 }
 
-/// The first entry of the type, by the places of whole entries.
+/// The first whole entry of the type, in the order of the table.
 fn find_entry(bytes: &[u8], fixup: u32, data_type: u32) -> Option<ImageDebugDirectory>
     ensures { result ≡ find (λ e. e.data_type == data_type)
         (map (λ i. entry_at fixup bytes.now (28 * i)) (range_with_len 0 (length bytes.now / 28))) }
@@ -118,7 +125,7 @@ fn find_entry(bytes: &[u8], fixup: u32, data_type: u32) -> Option<ImageDebugDire
         .find(|entry| entry.data_type == data_type)
 }
 
-/// The entries that are left of a debug directory. A last entry that is cut is one item, an error.
+/// The entries that are left of a debug directory. A truncated last entry is one item, `Short`.
 #[derive(Clone, Copy, Debug)]
 pub struct ImageDebugDirectoryIterator<'a> {
     bytes: &'a [u8],
@@ -126,7 +133,8 @@ pub struct ImageDebugDirectoryIterator<'a> {
 }
 
 impl<'a> ImageDebugDirectoryIterator<'a> {
-    /// The entries of these bytes. Both raw addresses of each are reduced by the fixup, modulo 2^32.
+    /// The entries of these bytes, 28 bytes each. `rva_offset`, the fixup, is subtracted from the RVA and the file
+    /// offset of each record, modulo 2^32: pass 0, or for a TE image `TeHeader::rva_offset`.
     pub fn new(bytes: &'a [u8], rva_offset: u32) -> Self
         ensures rest { rest_of result ≡ bytes.entry.now }
         ensures fixup { fixup_of result ≡ rva_offset }
@@ -190,27 +198,28 @@ fn table<'a>(
     Ok(range.of(bytes))
 }
 
-/// The debug data of an image.
+/// The debug data of an image: the entries of the debug directory, and the record of the first whole entry of each
+/// type that is read here. A field is `None` without such an entry.
 #[derive(Clone, Debug, Drop, PartialEq)]
 pub struct DebugData<'a> {
     table: &'a [u8],
     rva_offset: u32,
-    /// The first CodeView entry's record, if it is one of PDB 7.0.
+    /// The record of the first CodeView entry, if it is PDB 7.0 (`RSDS`).
     pub codeview_pdb70_debug_info: Option<CodeviewPDB70DebugInfo<'a>>,
-    /// The first CodeView entry's record, if it is one of PDB 2.0.
+    /// The record of the first CodeView entry, if it is PDB 2.0 (`NB10`).
     pub codeview_pdb20_debug_info: Option<CodeviewPDB20DebugInfo<'a>>,
-    /// The first VC feature entry's record.
+    /// The record of the first VC feature entry.
     pub vcfeature_info: Option<VCFeatureInfo>,
-    /// The record of the first entry of further characteristics.
+    /// The record of the first entry of extended DLL characteristics.
     pub ex_dll_characteristics_info: Option<ExDllCharacteristicsInfo>,
-    /// The first Repro entry's record.
+    /// The record of the first Repro entry.
     pub repro_info: Option<ReproInfo<'a>>,
-    /// The first POGO entry's record, if it has one of the two signatures.
+    /// The record of the first POGO entry, if its signature is `LTCG` or `PGU`.
     pub pogo_info: Option<POGOInfo<'a>>,
 }
 
 impl<'a> DebugData<'a> {
-    /// The records of a table.
+    /// Reads the records of a table, in the order in which their errors count.
     #[tactic(auto, unfolding(crate::specs::DebugRecords::records))]
     fn of_table(
         bytes: &'a [u8],
@@ -233,8 +242,10 @@ impl<'a> DebugData<'a> {
         })
     }
 
-    /// The range of a directory's table of entries. Refusals: `Unmapped`; `DebugBounds` for a table past the end of the
-    /// file, which is cut there in permissive mode.
+    /// The range of the directory's table in the file.
+    ///
+    /// Errors, in this order: `Unmapped` if its RVA is not mapped; `DebugBounds` if it passes the end of the file.
+    /// Permissive mode returns no `DebugBounds`, but truncates the table at the end of the file.
     #[tactic(auto, unfolding(crate::specs::DebugDirectory::directory_range))]
     pub fn table_range(
         bytes: &[u8],
@@ -268,7 +279,8 @@ impl<'a> DebugData<'a> {
         }
     }
 
-    /// The debug data of a directory, by the default options.
+    /// Parses the debug data of a directory with the default options and no fixup. Errors: those of
+    /// `parse_with_opts_and_fixup`.
     pub fn parse(
         bytes: &'a [u8],
         dd: DataDirectory,
@@ -287,7 +299,7 @@ impl<'a> DebugData<'a> {
         )
     }
 
-    /// The debug data of a directory, with no fixup.
+    /// Parses the debug data of a directory with no fixup. Errors: those of `parse_with_opts_and_fixup`.
     pub fn parse_with_opts(
         bytes: &'a [u8],
         dd: DataDirectory,
@@ -301,9 +313,12 @@ impl<'a> DebugData<'a> {
         DebugData::parse_with_opts_and_fixup(bytes, dd, sections, file_alignment, opts, 0)
     }
 
-    /// The debug data of a directory, the raw addresses of its entries reduced by the fixup, modulo 2^32. Refusals in
-    /// this order: `Unmapped`; `DebugBounds` for a table past the end of the file, which is cut there in permissive
-    /// mode; then those of the records PDB 7.0, PDB 2.0, VC feature, characteristics, Repro and POGO.
+    /// Parses the debug data of a directory. `bytes` is the whole file. `rva_offset`, the fixup, is subtracted from
+    /// the RVA and the file offset in each entry, modulo 2^32: pass 0, or for a TE image `TeHeader::rva_offset`.
+    ///
+    /// Errors, in this order: `Unmapped` if the directory's RVA is not mapped; `DebugBounds` if the table passes the
+    /// end of the file, which permissive mode truncates there instead; then those of the records, in the order PDB
+    /// 7.0, PDB 2.0, VC feature, extended DLL characteristics, Repro, POGO.
     #[tactic(auto, unfolding(crate::specs::DebugRecords::debug_data))]
     pub fn parse_with_opts_and_fixup(
         bytes: &'a [u8],
@@ -320,7 +335,7 @@ impl<'a> DebugData<'a> {
         DebugData::of_table(bytes, table, opts, rva_offset)
     }
 
-    /// The GUID of the PDB 7.0 record, under which a symbol server keeps the symbols.
+    /// The GUID of the PDB 7.0 record, by which a symbol server finds the symbols. `None` without such a record.
     pub fn guid(&self) -> Option<[u8; 16]>
         ensures { result ≡ option_map (λ r. r.signature) self.now.codeview_pdb70_debug_info }
     {
@@ -328,14 +343,14 @@ impl<'a> DebugData<'a> {
         Some(record.signature)
     }
 
-    /// The first whole entry of the type.
+    /// The first whole entry of the type, one of `IMAGE_DEBUG_TYPE_*`.
     pub fn find_type(&self, data_type: u32) -> Option<ImageDebugDirectory>
         ensures { result ≡ first_of_type (fixup_of_data self.now) data_type (table_of self.now) }
     {
         self.entries().find_type(data_type)
     }
 
-    /// The entries.
+    /// The entries of the debug directory.
     pub fn entries(&self) -> ImageDebugDirectoryIterator<'a>
         ensures rest { rest_of result ≡ table_of self.now }
         ensures fixup { fixup_of result ≡ fixup_of_data self.now }
@@ -364,6 +379,7 @@ impl<'a> Default for DebugData<'a> {
     }
 }
 
+/// The PDB 7.0 record of the CodeView entry, if there is one.
 fn pdb70_of<'a>(
     bytes: &'a [u8],
     entry: Option<ImageDebugDirectory>,
@@ -377,6 +393,7 @@ fn pdb70_of<'a>(
     }
 }
 
+/// The PDB 2.0 record of the CodeView entry, if there is one.
 fn pdb20_of<'a>(
     bytes: &'a [u8],
     entry: Option<ImageDebugDirectory>,
@@ -390,6 +407,7 @@ fn pdb20_of<'a>(
     }
 }
 
+/// The record of the VC feature entry, if there is one.
 fn features_of(
     bytes: &[u8],
     entry: Option<ImageDebugDirectory>,
@@ -403,6 +421,7 @@ fn features_of(
     }
 }
 
+/// The record of the entry of extended DLL characteristics, if there is one.
 fn characteristics_of(
     bytes: &[u8],
     entry: Option<ImageDebugDirectory>,
@@ -416,6 +435,7 @@ fn characteristics_of(
     }
 }
 
+/// The record of the Repro entry, if there is one.
 fn repro_of<'a>(
     bytes: &'a [u8],
     entry: Option<ImageDebugDirectory>,
@@ -429,6 +449,7 @@ fn repro_of<'a>(
     }
 }
 
+/// The record of the POGO entry, if there is one.
 fn pogo_of<'a>(
     bytes: &'a [u8],
     entry: Option<ImageDebugDirectory>,

@@ -1,7 +1,11 @@
 //! Attribute certificates and debug data of Windows executables.
 //!
-//! Every call is proved to give what its definition in `specs/` gives, for every byte string. Layouts are those of
-//! Microsoft's PE format.
+//! The certificate table holds the signatures of a file (Authenticode). The debug directory leads to records that name
+//! the PDB file of an image, its build and its features. A caller lists certificates by `enumerate_certificates`, and
+//! parses the debug directory by `DebugData`. Layouts:
+//! [PE format](https://learn.microsoft.com/windows/win32/debug/pe-format).
+//!
+//! Every call is proved to return what its definition in `specs/` says, for every byte string.
 #![tactic(auto)]
 
 mod certificate_table;

@@ -1,14 +1,14 @@
--- The bytes of one ARM64 code, and how many it has. Contracts of private functions alone cite it.
+-- The bytes of one ARM64 unwind code, and how many there are. Only contracts of private functions cite it.
 use Rattle.std.specs.Prelude.{◌≡◌, ℕ, if◌then◌else◌, nat_lt, ◌==◌, List}
 use Rattle.pe_unwind.specs.declared.arm64.codes.Arm64UnwindCode.{Arm64UnwindCode}
 use Rattle.pe_unwind.specs.Arm64Encoding.{encoding, Legal}
 
--- the bytes are those of a legal code
+-- the bytes are those of this legal code
 pub record Encodes (bytes : List ℕ) (code : Arm64UnwindCode) : Type 0 where
   pub legal : Legal code
   pub spelled : encoding code ≡ bytes
 
--- how many bytes a code has that begins with these two
+-- the size in bytes of the code that starts with these two bytes
 abbrev pub len_at : ℕ → ℕ → ℕ
 len_at first second =
     if nat_lt first 0xC0 then 1

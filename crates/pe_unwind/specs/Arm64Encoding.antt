@@ -1,12 +1,12 @@
--- The bytes of ARM64 unwind codes: a line for each line of the table. (ARM64 exception handling: unwind codes; reserved
--- codes by this project's choice.)
+-- The bytes of ARM64 unwind codes: one line for each line of Microsoft's table. (ARM64 exception handling: unwind
+-- codes; reserved codes by this project's profile.)
 use Rattle.std.specs.Prelude.{◌≡◌, nat_eq, ℕ, zero, suc, ◌+◌, ◌-◌, ◌*◌, ◌/◌, ◌%◌, ◌^◌, ◌<◌, ◌≤◌, ◌⊎◌, Bool, true, false, if◌then◌else◌, List, [], ◌∷◌, ◌++◌, length, drop}
 use Rattle.pe_unwind.specs.declared.arm64.codes.Arm64CustomStackCase.{Arm64CustomStackCase}
 use Rattle.pe_unwind.specs.declared.arm64.codes.Arm64CustomStackCase.TheVariants.{TrapFrame, MachineFrame, Context, EcContext, ClearUnwoundToCall}
 use Rattle.pe_unwind.specs.declared.arm64.codes.Arm64UnwindCode.{Arm64UnwindCode}
 use Rattle.pe_unwind.specs.declared.arm64.codes.Arm64UnwindCode.TheVariants.{AllocSmall, SaveR19R20Preindexed, SaveFpLr, SaveFpLrPreindexed, AllocMedium, SaveRegPair, SaveRegPairPreindexed, SaveReg, SaveRegPreindexed, SaveLrPair, SaveFRegPair, SaveFRegPairPreindexed, SaveFReg, SaveFRegPreindexed, AllocZ, AllocLarge, SetFp, AddFp, Nop, End, EndC, SaveNext, SaveAnyReg, SaveZReg, SavePReg, CustomStack, PacSignLr, Reserved}
 
--- one bit
+-- a flag as one bit
 abbrev pub bit : Bool → ℕ
 bit true = 1
 bit false = 0
@@ -17,7 +17,7 @@ scale kind true preindexed = 16
 scale kind false true = 16
 scale kind false false = if nat_eq kind 2 then 16 else 8
 
--- what the operating system put on the stack
+-- the byte of a frame of the operating system's own
 abbrev pub case_byte : Arm64CustomStackCase → ℕ
 case_byte TrapFrame = 0xE8
 case_byte MachineFrame = 0xE9
@@ -25,7 +25,7 @@ case_byte Context = 0xEA
 case_byte EcContext = 0xEB
 case_byte ClearUnwoundToCall = 0xEC
 
--- a reserved opcode, and behind it a value in so many bytes, the greatest first
+-- a reserved opcode, followed by a value in this many bytes, the highest first
 abbrev pub reserved_bytes : ℕ → ℕ → ℕ → List ℕ
 reserved_bytes opcode value zero = opcode ∷ []
 reserved_bytes opcode value (suc zero) = opcode ∷ value ∷ []
@@ -65,7 +65,7 @@ encoding (CustomStack what) = case_byte what ∷ []
 encoding PacSignLr = 0xFC ∷ []
 encoding (Reserved opcode value n) = reserved_bytes opcode value n
 
--- the reserved opcodes with so many bytes behind them, and the values that these hold
+-- the reserved opcodes that this many bytes follow, and the values that those bytes hold
 abbrev pub IsReserved : ℕ → ℕ → ℕ → Type 0
 IsReserved opcode value zero = (value ≡ 0) × (((0xED ≤ opcode) × (opcode ≤ 0xF7)) ⊎ ((0xFD ≤ opcode) × (opcode ≤ 0xFF)))
 IsReserved opcode value (suc zero) = ((opcode ≡ 0xE7) × (128 ≤ value) × (value < 256)) ⊎ ((opcode ≡ 0xF8) × (value < 256))
@@ -74,7 +74,7 @@ IsReserved opcode value (suc (suc (suc zero))) = (opcode ≡ 0xFA) × (value < 2
 IsReserved opcode value (suc (suc (suc (suc zero)))) = (opcode ≡ 0xFB) × (value < 2 ^ 32)
 IsReserved opcode value (suc (suc (suc (suc (suc n))))) = ⊥
 
--- the code is one that the table has: each field in its range
+-- the table has this code: each field is in its range
 abbrev pub Legal : Arm64UnwindCode → Type 0
 Legal (AllocSmall size) = (size % 16 ≡ 0) × (size / 16 < 32)
 Legal (SaveR19R20Preindexed offset) = (offset % 8 ≡ 0) × (offset / 8 < 32)
@@ -106,16 +106,16 @@ Legal (CustomStack what) = Unit {0}
 Legal PacSignLr = Unit {0}
 Legal (Reserved opcode value n) = IsReserved opcode value n
 
--- the bytes begin with those of a legal code
+-- the bytes start with those of this legal code
 pub record BeginsWithArm64Code (bytes : List ℕ) (code : Arm64UnwindCode) : Type 0 where
   pub legal : Legal code
   pub spelled : bytes ≡ encoding code ++ drop (length (encoding code)) bytes
 
--- the bytes begin with no code's
+-- the bytes start with no code
 abbrev pub BeginsWithNoArm64Code : List ℕ → Type 0
 BeginsWithNoArm64Code bytes = (code : Arm64UnwindCode) → BeginsWithArm64Code bytes code → ⊥
 
--- the bytes are a proper beginning of a legal code's: some more make them whole
+-- the bytes are a truncated legal code: some more bytes make them whole
 pub record IsCutArm64Code (bytes : List ℕ) : Type 0 where
   pub code : Arm64UnwindCode
   pub missing : List ℕ

@@ -7,7 +7,7 @@ use Rattle.pe_core.specs.Rows.{whole_entries, entry_items}
 use Rattle.pe_unwind.specs.declared.arm64.function.Arm64RuntimeFunction.{Arm64RuntimeFunction}
 use Rattle.pe_unwind.specs.declared.arm64.function.Arm64RuntimeFunctionIterator.{Arm64RuntimeFunctionIterator}
 
--- the entry of 8 bytes at p
+-- the entry of 8 bytes at offset p
 abbrev pub arm64_function_at : List ℕ → ℕ → Arm64RuntimeFunction
 arm64_function_at b p = record {
   begin_address = le b p 4;
@@ -22,11 +22,11 @@ is_packed f = not (bits f.unwind_data 0 2 == 0)
 unfoldable pub arm64_functions : List ℕ → List Arm64RuntimeFunction
 arm64_functions b = whole_entries arm64_function_at 8 b
 
--- the whole entries, and one fault where a last one is cut
+-- the whole entries, and one `Short` for a truncated last entry
 unfoldable pub arm64_function_items : List ℕ → List (Result Arm64RuntimeFunction Refusal)
 arm64_function_items b = entry_items arm64_function_at 8 b
 
--- what an iterator has left
+-- the items that an iterator has left
 abbrev pub items_of_arm64_functions : Arm64RuntimeFunctionIterator → List (Result Arm64RuntimeFunction Refusal)
 items_of_arm64_functions s = arm64_function_items s.bytes.now
 

@@ -9,7 +9,7 @@ use Rattle.pe_unwind.specs.declared.arm64.words.Arm64EpilogScope.{Arm64EpilogSco
 use Rattle.pe_unwind.specs.declared.arm64.words.Arm64UnwindExtension.{Arm64UnwindExtension}
 use Rattle.pe_unwind.specs.Arm64Words.{bits, has_handler, has_epilog, has_extension, epilog_scope_items}
 
--- what callers see of a handler: its address and its data
+-- what callers see of a handler: its RVA and its data
 pub record Arm64HandlerView : Type 0 where
   pub rva : ℕ
   pub bytes : List ℕ
@@ -22,12 +22,15 @@ pub record Arm64InfoView : Type 0 where
   pub codes : List ℕ
   pub handler : Option Arm64HandlerView
 
+-- the extension word as a number
 abbrev pub extension_view : Option Arm64UnwindExtension → Option ℕ
 extension_view e = option_map (λ w. w.0) e
 
+-- this handler as callers see it
 abbrev pub arm64_handler_view : Arm64ExceptionHandler → Arm64HandlerView
 arm64_handler_view h = record { rva = h.rva; bytes = h.bytes.now }
 
+-- this record as callers see it
 abbrev pub info_view : Arm64UnwindInfo → Arm64InfoView
 info_view i = record {
   header = (i.header).0;
@@ -37,14 +40,14 @@ info_view i = record {
   handler = option_map arm64_handler_view i.exception_handler;
 }
 
--- a header with no counts is followed by an extension word, which has them
+-- an extension word follows a header without counts, and has them
 abbrev pub extension_size : ℕ → ℕ
 extension_size header = if has_extension header then 4 else 0
 
 abbrev pub extension_at : List ℕ → ℕ → ℕ → Option ℕ
 extension_at b q header = if has_extension header then Some (le b q 4) else None
 
--- how many epilog scopes there are: none where the header describes the epilog
+-- how many epilog scopes there are: none if the header describes the epilog
 abbrev pub scope_count : ℕ → Option ℕ → ℕ
 scope_count header None = if has_epilog header then 0 else bits header 22 5
 scope_count header (Some extension) = if has_epilog header then 0 else bits extension 0 16
@@ -54,14 +57,15 @@ abbrev pub code_words : ℕ → Option ℕ → ℕ
 code_words header None = bits header 27 5
 code_words header (Some extension) = bits extension 16 8
 
--- the address of the handler, if there is one, and its data: all bytes behind
+-- the RVA of the handler has 4 bytes, if there is a handler
 abbrev pub handler_size : ℕ → ℕ
 handler_size header = if has_handler header then 4 else 0
 
+-- the handler, if there is one: its RVA, and its data, which are all bytes after it
 abbrev pub handler_at : List ℕ → ℕ → ℕ → Option Arm64HandlerView
 handler_at b q header = if has_handler header then Some (record { rva = le b q 4; bytes = drop (q + 4) b }) else None
 
--- the parts of a record follow one another: header, extension word, scopes, codes, address of the handler
+-- the parts of a record follow one another: header, extension word, scopes, codes, RVA of the handler
 abbrev pub scopes_place : ℕ → ℕ → ℕ
 scopes_place p header = p + 4 + extension_size header
 
@@ -75,7 +79,7 @@ handler_place p header extension = codes_place p header extension + 4 * code_wor
 abbrev pub record_size : ℕ → Option ℕ → ℕ
 record_size header extension = 4 + extension_size header + 4 * scope_count header extension + 4 * code_words header extension + handler_size header
 
--- the record at p with these words
+-- the record at offset p with these words
 abbrev pub info_with : List ℕ → ℕ → ℕ → Option ℕ → Arm64InfoView
 info_with b p header extension = record {
   header = header;
@@ -85,7 +89,7 @@ info_with b p header extension = record {
   handler = handler_at b (handler_place p header extension) header;
 }
 
--- and what refuses it
+-- its tests, in order, and what each refuses
 abbrev pub info_tests : List ℕ → ℕ → ℕ → Option ℕ → List (Bool × Refusal)
 info_tests b p header extension =
     (holds b p 4, Short)
@@ -96,30 +100,30 @@ info_tests b p header extension =
     ∷ (holds b (handler_place p header extension) (handler_size header), Short)
     ∷ []
 
--- the record at p
+-- the record at offset p, or its first refusal
 unfoldable pub info_at : List ℕ → ℕ → Result Arm64InfoView Refusal
 info_at b p =
     let header = le b p 4 in
     let extension = extension_at b (p + 4) header in
     outcome (info_tests b p header extension) (info_with b p header extension)
 
--- the size of the record at the start, if its words are there
+-- the size of the record at the start of the bytes, if its words are there
 unfoldable pub size_at : List ℕ → Result ℕ Refusal
 size_at b =
     let header = le b 0 4 in
     outcome ((holds b 0 4, Short) ∷ (holds b 4 (extension_size header), Short) ∷ []) (record_size header (extension_at b 4 header))
 
--- the epilog scopes of a record, if it has some
+-- the epilog scopes of a record, if it has any
 abbrev pub scopes_of : Arm64InfoView → Option (List (Result Arm64EpilogScope Refusal))
 scopes_of i = if has_epilog i.header || length i.scopes == 0 then None else Some (epilog_scope_items i.scopes)
 
--- a word's bytes, if there is a word
+-- the bytes of a word, if there is a word
 abbrev pub word_bytes : Option ℕ → List ℕ
 word_bytes None = []
 word_bytes (Some word) = bytes_of 4 word
 
--- the bytes are those of a record: header, extension word, scopes, codes, address of the handler, and the rest, each of
--- the size that the header and the extension word give it; the rest is a handler's data
+-- the bytes are those of a record: header, extension word, scopes, codes, RVA of the handler and rest; each part has
+-- the size that the header and the extension word say, and the rest is the handler's data
 pub record AreRecord (bytes : List ℕ) (i : Arm64InfoView) (rest : List ℕ) : Type 0 where
   pub joined : bytes ≡ bytes_of 4 i.header ++ (word_bytes i.extension ++ (i.scopes ++ (i.codes ++ (word_bytes (option_map (λ h. h.rva) i.handler) ++ rest))))
   pub version : bits i.header 18 2 ≡ 0
@@ -129,7 +133,7 @@ pub record AreRecord (bytes : List ℕ) (i : Arm64InfoView) (rest : List ℕ) : 
   pub handler : is_some i.handler ≡ has_handler i.header
   pub behind : IfSome i.handler (λ h. h.bytes ≡ rest)
 
--- the words of a record fit their four bytes
+-- the words of a record fit four bytes
 pub record HasWords (i : Arm64InfoView) : Type 0 where
   pub header : i.header < 2 ^ 32
   pub extension : IfSome i.extension (λ word. word < 2 ^ 32)

@@ -1,4 +1,4 @@
--- Streams of ARM64 unwind codes, one behind the other.
+-- Streams of ARM64 unwind codes, which follow one another.
 use Rattle.std.specs.Prelude.{◌≡◌, ℕ, ◌+◌, ◌-◌, ◌%◌, ◌<◌, ◌≤◌, ◌↔◌, IsTrue, nat_le, ◌==◌, List, [], ◌∷◌, ◌++◌, length, drop, Option, Some, None, Result, Ok, Err}
 use Rattle.std.specs.List.{list_any}
 use Rattle.std.specs.Result.{is_err}
@@ -8,12 +8,12 @@ use Rattle.pe_unwind.specs.declared.arm64.codes.Arm64UnwindCodeData.{Arm64Unwind
 use Rattle.pe_unwind.specs.declared.arm64.codes.Arm64UnwindCodeIterator.{Arm64UnwindCodeIterator}
 use Rattle.pe_unwind.specs.Arm64Encoding.{encoding, BeginsWithArm64Code, BeginsWithNoArm64Code}
 
--- the whole bytes, and where the next code begins
+-- the bytes of the whole stream, and the offset of the next code
 pub record CodePlace : Type 0 where
   pub content : List ℕ
   pub at : ℕ
 
--- where an iterator stands
+-- the stream of an iterator, and its offset in it
 abbrev pub stream_place : Arm64UnwindCodeIterator → CodePlace
 stream_place s = record { content = s.bytes.now; at = s.offset }
 
@@ -21,43 +21,44 @@ stream_place s = record { content = s.bytes.now; at = s.offset }
 abbrev pub left_at : CodePlace → ℕ
 left_at s = length s.content - s.at
 
--- whole words of four bytes, at most 4,294,967,292 of them, read from a place in them or at their end
+-- a stream is whole words of four bytes, at most 4,294,967,292 bytes, read from an offset that is not past its end
 abbrev pub stream_at : List ℕ → ℕ → Result CodePlace Refusal
 stream_at bytes start =
     outcome ((length bytes % 4 == 0, Arm64Stream) ∷ (nat_le start (length bytes), Arm64Stream) ∷ (nat_le (length bytes) 4294967292, Arm64Stream) ∷ [])
     (record { content = bytes; at = start })
 
--- an item of the bytes at a place: the code that begins there, with the place and its length, or a cut where none begins
+-- this is the item at an offset: the code that starts there, with its offset and size, or an error if none starts
+-- there
 abbrev pub IsItem : List ℕ → ℕ → Result Arm64UnwindCodeData Error → Type 0
 IsItem bytes at (Ok item) = BeginsWithArm64Code (drop at bytes) item.code × (item.offset ≡ at) × (item.len ≡ length (encoding item.code))
 IsItem bytes at (Err e) = BeginsWithNoArm64Code (drop at bytes) × (kind_of e ≡ Arm64Cut)
 
--- where the item behind it begins; behind a cut nothing comes
+-- the offset of the next item; nothing follows an error
 abbrev pub behind : List ℕ → ℕ → Result Arm64UnwindCodeData Error → ℕ
 behind bytes at (Ok item) = at + item.len
 behind bytes at (Err e) = length bytes
 
--- these are all items of the bytes from a place on: codes that follow one another, and one cut where none begins what is
--- left; behind a cut nothing comes
+-- these are all items from an offset on: codes that follow one another, and one error if no code starts the rest;
+-- nothing follows an error
 abbrev pub Tiles : List ℕ → ℕ → List (Result Arm64UnwindCodeData Error) → Type 0
 Tiles bytes at [] = length bytes ≤ at
 Tiles bytes at (Ok item ∷ items) = (at < length bytes) × IsItem bytes at (Ok item) × Tiles bytes (at + item.len) items
 Tiles bytes at (Err e ∷ items) = (at < length bytes) × IsItem bytes at (Err e) × (items ≡ [])
 
--- what one call of next answers, and where it leaves the iterator
+-- what one call of next returns, and where it leaves the iterator
 abbrev pub GivesArm64Code : CodePlace → Option (Result Arm64UnwindCodeData Error) → CodePlace → Type 0
 GivesArm64Code s None t = (length s.content ≤ s.at) × (t ≡ s)
 GivesArm64Code s (Some item) t =
     (s.at < length s.content) × IsItem s.content s.at item × (t ≡ record { content = s.content; at = behind s.content s.at item })
 
--- the bytes of all codes among the items, one behind the other
+-- the bytes of all codes among the items, one after the other
 abbrev pub codes_of : List (Result Arm64UnwindCodeData Error) → List ℕ
 codes_of [] = []
 codes_of (Ok item ∷ items) = encoding item.code ++ codes_of items
 codes_of (Err e ∷ items) = codes_of items
 
--- the bytes are those of the items' codes, one behind the other, and then a rest that begins with none: not empty exactly
--- if one of the items is a cut
+-- the bytes are those of the items' codes, one after the other, and then a rest that starts with no code; the rest is
+-- not empty exactly if one of the items is an error
 pub record Joins (bytes : List ℕ) (items : List (Result Arm64UnwindCodeData Error)) : Type 0 where
   pub rest : List ℕ
   pub joined : bytes ≡ codes_of items ++ rest

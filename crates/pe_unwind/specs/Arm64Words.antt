@@ -1,4 +1,4 @@
--- Words of ARM64 exception data. Bit 0 is the lowest. (ARM64 exception handling: .xdata records, epilog scopes.)
+-- The words of ARM64 exception data. Bit 0 is the lowest. (ARM64 exception handling: .xdata records, epilog scopes.)
 use Rattle.std.specs.Prelude.{ℕ, ◌/◌, ◌%◌, ◌^◌, ◌==◌, ◌&&◌, Bool, List, Result}
 use Rattle.pe_core.specs.Bytes.{le}
 use Rattle.pe_core.specs.Refusals.{Refusal}
@@ -6,15 +6,15 @@ use Rattle.pe_unwind.specs.declared.arm64.words.Arm64EpilogScope.{Arm64EpilogSco
 use Rattle.pe_unwind.specs.declared.arm64.words.Arm64EpilogScopeIterator.{Arm64EpilogScopeIterator}
 use Rattle.pe_core.specs.Rows.{entry_items}
 
--- the number in so many bits of a word, from bit `first` on
+-- the number in this many bits of a word, from bit `first` on
 abbrev pub bits : ℕ → ℕ → ℕ → ℕ
 bits word first count = word / 2 ^ first % 2 ^ count
 
--- X of a header: the record ends in the address of a handler
+-- bit X of a header: the record ends in the RVA of a handler
 abbrev pub has_handler : ℕ → Bool
 has_handler header = bits header 20 1 == 1
 
--- E of a header: it describes the one epilog, and no scopes follow
+-- bit E of a header: it describes the only epilog, and no scopes follow
 abbrev pub has_epilog : ℕ → Bool
 has_epilog header = bits header 21 1 == 1
 
@@ -22,14 +22,14 @@ has_epilog header = bits header 21 1 == 1
 abbrev pub has_extension : ℕ → Bool
 has_extension header = bits header 22 5 == 0 && bits header 27 5 == 0
 
--- the epilog scope of 4 bytes at p
+-- the epilog scope of 4 bytes at offset p
 abbrev pub epilog_scope_at : List ℕ → ℕ → Arm64EpilogScope
 epilog_scope_at b p = record { 0 = le b p 4 }
 
--- the whole scopes of these bytes, and one fault where a last one is cut
+-- the whole scopes of these bytes, and one `Short` for a truncated last scope
 unfoldable pub epilog_scope_items : List ℕ → List (Result Arm64EpilogScope Refusal)
 epilog_scope_items b = entry_items epilog_scope_at 4 b
 
--- what an iterator has left
+-- the items that an iterator has left
 abbrev pub epilog_scopes_left : Arm64EpilogScopeIterator → List (Result Arm64EpilogScope Refusal)
 epilog_scopes_left s = epilog_scope_items s.bytes.now

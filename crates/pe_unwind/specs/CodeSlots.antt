@@ -1,8 +1,8 @@
--- How many slots a code has. Contracts of private functions alone cite it.
+-- How many slots an x64 unwind code has. Only contracts of private functions cite it.
 use Rattle.std.specs.Prelude.{ℕ, if◌then◌else◌, nat_lt, ◌==◌, ◌||◌, Option, Some, None}
 use Rattle.pe_unwind.specs.declared.unwind_code.TheConstants.{UWOP_ALLOC_LARGE, UWOP_ALLOC_SMALL, UWOP_EPILOG, UWOP_PUSH_MACHFRAME, UWOP_PUSH_NONVOL, UWOP_SAVE_NONVOL, UWOP_SAVE_NONVOL_FAR, UWOP_SAVE_XMM128, UWOP_SAVE_XMM128_FAR, UWOP_SET_FPREG, UWOP_SPARE_CODE}
 
--- how many slots a code with this opcode and info has
+-- how many slots a code with this version, opcode and operation info has, if there is such a code
 abbrev pub slots_at : ℕ → ℕ → ℕ → Option ℕ
 slots_at v op info =
     if op == UWOP_PUSH_NONVOL then Some 1

@@ -10,27 +10,28 @@ use Rattle.pe_core.specs.declared.section_table.SectionTable.{SectionTable}
 use Rattle.pe_unwind.specs.declared.function_table.RuntimeFunction.{RuntimeFunction}
 use Rattle.pe_unwind.specs.FunctionTable.{function_at}
 
--- what callers see of an exception directory: the bytes, the table's place and size in them, and the file alignment
+-- what callers see of an exception directory: the bytes of the file, the table's file offset and size, and the file
+-- alignment
 pub record ExceptionView : Type 0 where
   pub content : List ℕ
   pub start : ℕ
   pub size : ℕ
   pub alignment : ℕ
 
--- where the function table stands, and its bytes
+-- the range of the function table in the file, and its bytes
 abbrev pub table_range : ExceptionView → ByteRange
 table_range v = record { place = v.start; length = v.size }
 
 abbrev pub table_of : ExceptionView → List ℕ
 table_of v = range v.content v.start v.size
 
--- a directory of this size at a place, if it has one
+-- a directory of this size at a file offset; without one its RVA is unmapped
 abbrev pub exception_at_place : List ℕ → ℕ → ℕ → Option ℕ → Result ExceptionView Refusal
 exception_at_place b size alignment None = Err Unmapped
 exception_at_place b size alignment (Some p) =
     outcome ((p % 4 == 0, ExceptionOffset) ∷ (holds b p size, ExceptionBounds) ∷ []) (record { content = b; start = p; size = size; alignment = alignment })
 
--- the exception directory with entries of this width
+-- the exception directory whose entries have this width
 unfoldable pub exception_at : ℕ → List ℕ → DataDirectory → List SectionTable → ℕ → ParseOptions → Result ExceptionView Refusal
 exception_at width b directory sections alignment opts =
     if directory.size % width == 0

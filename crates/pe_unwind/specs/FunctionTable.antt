@@ -1,4 +1,4 @@
--- The function table, and what a lookup in it gives. (x64 exception handling: function table.)
+-- The x64 function table, and what lookup finds in it. (x64 exception handling: function table.)
 use Rattle.std.specs.Prelude.{◌≡◌, ℕ, ◌+◌, ◌<◌, ◌≤◌, List, Option, Some, None, Result, Ok, Err, if◌then◌else◌, nat_le, nat_lt, filter, length, AllPairs, Contains, IfSome}
 use Rattle.std.specs.List.{last_or, AllAdjacentBelow}
 use Rattle.std.specs.Int.Digits.{digits_of}
@@ -9,7 +9,7 @@ use Rattle.pe_unwind.specs.declared.function_table.RuntimeFunction.{RuntimeFunct
 use Rattle.pe_unwind.specs.declared.function_table.RuntimeFunctionIterator.{RuntimeFunctionIterator}
 use Rattle.pe_core.specs.Rows.{whole_entries, entry_items}
 
--- the entry of 12 bytes at p
+-- the entry of 12 bytes at offset p
 abbrev pub function_at : List ℕ → ℕ → RuntimeFunction
 function_at b p = record {
   begin_address = le b p 4;
@@ -21,41 +21,41 @@ function_at b p = record {
 unfoldable pub functions : List ℕ → List RuntimeFunction
 functions b = whole_entries function_at 12 b
 
--- the whole entries, and one fault where a last one is cut
+-- the whole entries, and one `Short` for a truncated last entry
 unfoldable pub function_items : List ℕ → List (Result RuntimeFunction Refusal)
 function_items b = entry_items function_at 12 b
 
--- an answer with the kind of its refusal
+-- a result, with its error as a refusal
 abbrev pub answer_of : {X : Type 0} → Result X Error → Result X Refusal
 answer_of (Ok x) = Ok x
 answer_of (Err e) = Err (kind_of e)
 
--- what an iterator has left
+-- the items that an iterator has left
 abbrev pub items_of_functions : RuntimeFunctionIterator → List (Result RuntimeFunction Refusal)
 items_of_functions s = function_items s.bytes.now
 
--- begins never fall
+-- the table is sorted by start RVA
 abbrev pub NeverFalls : List RuntimeFunction → Type 0
 NeverFalls fs = AllPairs (λ e f. e.begin_address ≤ f.begin_address) fs
 
--- no end passes the next begin
+-- no end passes the next start
 abbrev pub NoEndPassesNext : List RuntimeFunction → Type 0
 NoEndPassesNext fs = AllAdjacentBelow (λ e f. e.end_address ≤ f.begin_address) fs (length fs)
 
--- the function covers the address
+-- the function covers the RVA
 abbrev pub Covers : ℕ → RuntimeFunction → Type 0
 Covers a f = (f.begin_address ≤ a) × (a < f.end_address)
 
--- the entry, if the address is before its end
+-- the entry, if the RVA is before its end
 abbrev pub if_before_end : ℕ → Option RuntimeFunction → Option RuntimeFunction
 if_before_end a None = None
 if_before_end a (Some f) = if nat_lt a f.end_address then Some f else None
 
--- of the entries that begin at or before the address the last, if the address is before its end
+-- the last entry that starts at or before the RVA, if the RVA is before its end
 unfoldable pub scan : List RuntimeFunction → ℕ → Option RuntimeFunction
 scan fs a = if_before_end a (last_or None (filter (λ f. nat_le f.begin_address a) fs))
 
--- what lookup gives: an entry that covers the address, or none; where begins never fall what the scan gives
+-- what lookup finds: an entry that covers the RVA, or none; in a table sorted by start RVA, what a linear scan finds
 pub record Finds (fs : List RuntimeFunction) (a : ℕ) (found : Option RuntimeFunction) : Type 0 where
   pub entry : IfSome found (Contains fs)
   pub covers : IfSome found (Covers a)

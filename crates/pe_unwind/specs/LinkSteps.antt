@@ -1,9 +1,9 @@
--- One link of a chain. Contracts of private functions alone cite it.
+-- One link between entries. Only contracts of private functions cite it.
 use Rattle.std.specs.Prelude.{◌≡◌, ℕ, ◌-◌, Some, None, Result, Ok, Err}
 use Rattle.pe_core.specs.Refusals.{Refusal, Unmapped, FunctionLink}
 use Rattle.pe_unwind.specs.Links.{Table, entry_at, next}
 
--- what following one odd address answers
+-- the result of following one odd RVA
 abbrev pub Leads : Table → ℕ → Result ℕ Refusal → Type 0
 Leads t u (Ok v) = next t u ≡ Some v
 Leads t u (Err Unmapped) = t.place (u - 1) ≡ None

@@ -1,4 +1,4 @@
--- Chains of links between the entries of a function table. (x64 exception handling; links by this project's profile.)
+-- Links between the entries of a function table. (x64 exception handling; links by this project's profile.)
 use Rattle.std.specs.Prelude.{◌≡◌, ℕ, ◌-◌, ◌*◌, ◌/◌, ◌%◌, List, length, Option, Some, None, Result, Ok, Err, if◌then◌else◌, nat_le, nat_lt, ◌==◌, ◌&&◌, option_and_then, IsSomeAnd}
 use Rattle.pe_core.specs.Refusals.{Refusal, Unmapped, FunctionLink, FunctionCycle}
 use Rattle.pe_core.specs.SectionMap.{SectionMapView, map_view, offset_in}
@@ -9,7 +9,7 @@ use Rattle.pe_unwind.specs.declared.links.Links.{Links}
 use Rattle.pe_unwind.specs.ExceptionTable.{ExceptionView, table_of}
 use Rattle.pe_unwind.specs.FunctionTable.{function_at}
 
--- the bytes of a function table, where they begin in the file, and the section map
+-- the bytes of a function table, its file offset, and the section map
 pub record Table : Type 0 where
   pub entries : List ℕ
   pub start : ℕ
@@ -19,50 +19,52 @@ pub record Table : Type 0 where
 abbrev pub links_by : ExceptionView → SectionMapView → Table
 links_by v m = record { entries = table_of v; start = v.start; place = offset_in m }
 
--- the same by these sections, under these options, with the directory's own file alignment
+-- the same by the map of these sections, with these options and the directory's own file alignment
 abbrev pub links_of : ExceptionView → List SectionTable → ParseOptions → Table
 links_of v sections opts = links_by v (map_view opts sections v.alignment)
 
--- the same, seen in what follows the links
+-- the same, as the code that follows links has it
 abbrev pub table_view : Links → Table
 table_view l = record { entries = l.table.now; start = l.start; place = offset_in l.sections.now }
 
--- how many entries there are
+-- how many whole entries there are
 abbrev pub count : Table → ℕ
 count t = length t.entries / 12
 
+-- an odd unwind RVA is a link
 abbrev pub IsOdd : ℕ → Type 0
 IsOdd u = u % 2 ≡ 1
 
+-- an even unwind RVA is that of a record
 abbrev pub IsEven : ℕ → Type 0
 IsEven u = u % 2 ≡ 0
 
--- the entry that stands at a place, if one does
+-- the index of the entry that starts at a file offset, if one does
 unfoldable pub entry_at : Table → ℕ → Option ℕ
 entry_at t p =
     if nat_le t.start p && (p - t.start) % 12 == 0 && nat_lt ((p - t.start) / 12) (count t) then Some ((p - t.start) / 12) else None
 
--- the entry that an odd address leads to
+-- the index of the entry to which an odd RVA is a link
 unfoldable pub link : Table → ℕ → Option ℕ
 link t u = if u % 2 == 1 then option_and_then (entry_at t) (t.place (u - 1)) else None
 
--- the unwind address of an entry
+-- the unwind RVA of an entry
 abbrev pub address_of : Table → ℕ → ℕ
 address_of t i = (function_at t.entries (12 * i)).unwind_info_address
 
--- the next address of the chain
+-- the unwind RVA after one link
 unfoldable pub next : Table → ℕ → Option ℕ
 next t u = option_and_then (λ i. Some (address_of t i)) (link t u)
 
--- every address of the chain exists and is odd
+-- the links never end: every RVA on the way exists and is odd
 abbrev pub IsEndless : Table → ℕ → Type 0
 IsEndless t u = (k : ℕ) → IsSomeAnd (after (next t) k u) IsOdd
 
--- the chain comes to this address
+-- following the links comes to this RVA
 abbrev pub Reaches : Table → ℕ → ℕ → Type 0
 Reaches t u v = (k : ℕ) × (after (next t) k u ≡ Some v)
 
--- what following the chain from u answers: the even address at its end, or why there is none
+-- the result of following the links from u: the even RVA at their end, or why there is none
 abbrev pub Follows : Table → ℕ → Result ℕ Refusal → Type 0
 Follows t u (Ok v) = Reaches t u v × IsEven v
 Follows t u (Err Unmapped) = (v : ℕ) × Reaches t u v × IsOdd v × (t.place (v - 1) ≡ None)

@@ -4,21 +4,22 @@ use Rattle.pe_core.specs.Places.{StandAt}
 use Rattle.pe_unwind.specs.Arm64Record.{Arm64InfoView, scopes_place}
 use Rattle.pe_unwind.specs.UnwindRecord.{HandlerView, Exception, Termination, UnwindInfoView}
 
--- these are the last of the bytes
+-- this part is the last of the bytes
 abbrev pub StandLast : List ℕ → List ℕ → Type 0
 StandLast b part = StandAt b (length b - length part) part
 
--- what a handler finds behind its address
+-- the data of a handler, which follow its RVA
 abbrev pub data_of : HandlerView → List ℕ
 data_of (Exception address d) = d
 data_of (Termination address d) = d
 
--- the codes of a record at p stand behind four bytes, and its handler's data go to the end of the bytes
+-- the codes of a record at offset p start 4 bytes after it, and its handler's data go to the end of the bytes
 pub record UnwindPartsStand (b : List ℕ) (p : ℕ) (i : UnwindInfoView) : Type 0 where
   pub codes : StandAt b (p + 4) i.codes
   pub tail : IfSome i.handler (λ h. StandLast b (data_of h))
 
--- the scopes of an ARM64 record at p stand behind its words, and its codes behind them
+-- the scopes of an ARM64 record at offset p follow its header and extension word, and its codes follow the scopes; its
+-- handler's data go to the end of the bytes
 pub record Arm64PartsStand (b : List ℕ) (p : ℕ) (i : Arm64InfoView) : Type 0 where
   pub scopes : StandAt b (scopes_place p i.header) i.scopes
   pub codes : StandAt b (scopes_place p i.header + length i.scopes) i.codes

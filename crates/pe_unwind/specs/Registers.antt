@@ -1,4 +1,5 @@
--- Names of x64 registers. (x64 exception handling: register numbers; XMM registers stand behind the instruction pointer.)
+-- Names of x64 registers. (x64 exception handling: register numbers; the XMM registers follow the instruction
+-- pointer.)
 use Rattle.std.specs.Prelude.{ℕ, List, [], ◌∷◌, slice_index_or, codes}
 
 -- the names of registers 0 to 32
@@ -39,6 +40,6 @@ names =
     codes "$xmm15" ∷
     []
 
--- the name of a register; empty where no register has the number
+-- the name of a register; empty if no register has the number
 unfoldable pub register_name : ℕ → List ℕ
 register_name n = slice_index_or names n []

@@ -1,11 +1,11 @@
--- The scope table of a handler for C. (x64 exception handling: the language-specific handler's data.)
+-- The scope table of an exception handler for C. (x64 exception handling: the language-specific handler's data.)
 use Rattle.std.specs.Prelude.{ℕ, ◌+◌, List}
 use Rattle.pe_core.specs.Bytes.{le}
 use Rattle.pe_unwind.specs.declared.scope_table.ScopeTableEntry.{ScopeTableEntry}
 use Rattle.pe_unwind.specs.declared.scope_table.ScopeTableIterator.{ScopeTableIterator}
 use Rattle.pe_core.specs.Rows.{whole_entries}
 
--- the entry of 16 bytes at p
+-- the entry of 16 bytes at offset p
 abbrev pub scope_at : List ℕ → ℕ → ScopeTableEntry
 scope_at b p = record {
   begin = le b p 4;
@@ -18,6 +18,6 @@ scope_at b p = record {
 unfoldable pub scopes : List ℕ → List ScopeTableEntry
 scopes b = whole_entries scope_at 16 b
 
--- what an iterator has left
+-- the entries that an iterator has left
 abbrev pub scopes_left : ScopeTableIterator → List ScopeTableEntry
 scopes_left s = scopes s.bytes.now

@@ -1,4 +1,5 @@
--- The spellings of unwind codes. (x64 exception handling: unwind codes; opcodes 6 and 7 by this project's choice.)
+-- The spellings of x64 unwind codes. (x64 exception handling: unwind codes; opcodes 6 and 7 by this project's
+-- profile.)
 use Rattle.std.specs.Prelude.{◌≡◌, ℕ, ◌+◌, ◌*◌, ◌/◌, ◌%◌, ◌<◌, ◌≤◌, ◌⊎◌, if◌then◌else◌, ◌==◌, List, [], ◌∷◌, ◌++◌, length, take}
 use Rattle.pe_core.specs.Bytes.{AreBytes}
 use Rattle.pe_core.specs.Refusals.{Refusal, Short, UnwindCode as BadCode}
@@ -17,11 +18,11 @@ integer n = record { 0 = n }
 abbrev pub xmm : ℕ → Register
 xmm n = record { 0 = n + 17 }
 
--- an offset from the stack or, with a frame register, from the frame
+-- an offset from the stack pointer or, with a frame register, from the frame
 abbrev pub offset : ℕ → ℕ → StackFrameOffset
 offset f n = if f == 0 then RSP n else FP n
 
--- what opcode and info say, behind which these bytes stand: a case for each line of the table
+-- the operation of an opcode and its info, which these bytes follow: one case for each line of the table
 abbrev pub SpellsOperation : ℕ → ℕ → ℕ → ℕ → ℕ → List ℕ → UnwindOperation → Type 0
 SpellsOperation v f place op info [] o =
     ((op ≡ UWOP_PUSH_NONVOL) × (o ≡ PushNonVolatile (integer info)))
@@ -42,21 +43,21 @@ SpellsOperation v f place op info (a ∷ b ∷ c ∷ d ∷ []) o =
     ⊎ ((op ≡ UWOP_SAVE_XMM128_FAR) × (o ≡ SaveXMM128 (xmm info) (offset f (a + 256 * b + 65536 * c + 16777216 * d)))))))
 SpellsOperation v f place op info other o = ⊥
 
--- for version v and frame register f the bytes spell the code
+-- the bytes spell the code, for version v and frame register f
 abbrev pub Spells : ℕ → ℕ → List ℕ → UnwindCode → Type 0
 Spells v f (place ∷ second ∷ more) code =
     (code.code_offset ≡ place) × SpellsOperation v f place (second % 16) (second / 16) more code.operation
 Spells v f other code = ⊥
 
--- the bytes begin with a code's spelling of so many bytes
+-- the bytes start with the code, which has n bytes
 abbrev pub BeginsWithCode : ℕ → ℕ → List ℕ → UnwindCode → ℕ → Type 0
 BeginsWithCode v f bytes code n = (n ≤ length bytes) × Spells v f (take n bytes) code
 
--- no spelling begins the bytes
+-- the bytes start with no code
 abbrev pub BeginsWithNoCode : ℕ → ℕ → List ℕ → Type 0
 BeginsWithNoCode v f bytes = (code : UnwindCode) (n : ℕ) → BeginsWithCode v f bytes code n → ⊥
 
--- the bytes are a proper beginning of a code's spelling: some missing bytes make them a code
+-- the bytes are a truncated code: some missing bytes make them whole
 pub record IsCutCode (v f : ℕ) (bytes : List ℕ) : Type 0 where
   pub code : UnwindCode
   pub missing : List ℕ
@@ -64,7 +65,7 @@ pub record IsCutCode (v f : ℕ) (bytes : List ℕ) : Type 0 where
   pub some : 0 < length missing
   pub spelled : Spells v f (bytes ++ missing) code
 
--- what refuses bytes that begin with no spelling
+-- the refusal of bytes that start with no code
 abbrev pub IsFault : ℕ → ℕ → List ℕ → Refusal → Type 0
 IsFault v f bytes Short = IsCutCode v f bytes
 IsFault v f bytes BadCode = IsCutCode v f bytes → ⊥

@@ -1,4 +1,6 @@
-//! Exception data: the function table of an image, lookup in it, and the records that it leads to.
+//! The exception directory of an image (`.pdata`): a table of entries of 12 bytes on x64 and of 8 bytes on ARM64,
+//! sorted by start RVA. A caller finds the entry that covers an RVA, and reads the unwind record to which it leads.
+//! See [the .pdata section](https://learn.microsoft.com/windows/win32/debug/pe-format#the-pdata-section).
 
 use crate::arm64::function::{
     Arm64RuntimeFunction, Arm64RuntimeFunctionIterator, SIZE_OF_ARM64_FUNCTION,
@@ -14,7 +16,8 @@ use pe_core::{
 use std::fmt;
 use std::marker::Model;
 
-/// The exception directory of an image: its function table, and the bytes in which its records stand.
+/// The exception directory of an image: where its function table stands in the file, and the bytes of the whole file,
+/// in which the unwind records stand.
 #[derive(Drop)]
 pub struct ExceptionData<'a> {
     bytes: &'a [u8],
@@ -34,7 +37,7 @@ impl<'a> Model for ExceptionData<'a> {
     ghost invariant = { λ d. d.offset + d.size ≤ length d.bytes.now };
 }
 
-/// Tells where the table is, without the bytes of the file.
+/// Shows where the table stands, without the bytes of the file.
 impl<'a> fmt::Debug for ExceptionData<'a> {
     fn fmt<W: fmt::Write>(&self, f: &mut fmt::Formatter<W>) -> fmt::Result {
         f.debug_struct("ExceptionData")
@@ -61,7 +64,7 @@ impl<'a> ExceptionData<'a> {
     ghost use Rattle.pe_unwind.specs.Unwinding.{FindsRecord, Unwinds, UnwindsFound, UnwindsAt};
     ghost use Rattle.pe_unwind.specs.UnwindRecord.{unwind_view};
 
-    /// The exception directory of an x64 image, with the default options.
+    /// Parses the exception directory of an x64 image with the default options. Errors: those of `parse_with_opts`.
     pub fn parse(
         bytes: &'a [u8],
         directory: DataDirectory,
@@ -79,8 +82,11 @@ impl<'a> ExceptionData<'a> {
         )
     }
 
-    /// The exception directory of an x64 image. `ExceptionSize` where its size is no whole number of entries,
-    /// `Unmapped`, `ExceptionOffset` where its place is no multiple of four, `ExceptionBounds` where it passes the end.
+    /// Parses the exception directory of an x64 image, whose entries have 12 bytes. `bytes` is the whole file.
+    ///
+    /// Errors, in this order: `ExceptionSize` if the directory's size is not a multiple of 12; `Unmapped` if its RVA
+    /// is not mapped; `ExceptionOffset` if its file offset is not a multiple of 4; `ExceptionBounds` if the table
+    /// passes the end of the file.
     pub fn parse_with_opts(
         bytes: &'a [u8],
         directory: DataDirectory,
@@ -94,7 +100,8 @@ impl<'a> ExceptionData<'a> {
         ExceptionData::parse_table(bytes, directory, sections, file_alignment, opts, width)
     }
 
-    /// The exception directory of an ARM64 image, whose entries have 8 bytes. Refused as `parse_with_opts` refuses.
+    /// Parses the exception directory of an ARM64 image, whose entries have 8 bytes. Errors: as `parse_with_opts`, but
+    /// `ExceptionSize` if the directory's size is not a multiple of 8.
     pub fn parse_arm64_with_opts(
         bytes: &'a [u8],
         directory: DataDirectory,
@@ -108,7 +115,7 @@ impl<'a> ExceptionData<'a> {
         ExceptionData::parse_table(bytes, directory, sections, file_alignment, opts, width)
     }
 
-    /// The exception directory whose entries have this width.
+    /// Parses the exception directory whose entries have `width` bytes.
     #[tactic(auto, unfolding(crate::specs::ExceptionTable::exception_at))]
     fn parse_table(
         bytes: &'a [u8],
@@ -134,6 +141,7 @@ impl<'a> ExceptionData<'a> {
         }
         let size = size as usize;
         if bytes.len() < size || bytes.len() - size < offset {
+            // The sum of offset and size may pass a `usize`; the error reports it up to the greatest `u64`.
             let end = (offset as u64).saturating_add(size as u64);
             return Err(Error::Malformed(Reason::ExceptionBounds(end)));
         }
@@ -145,7 +153,7 @@ impl<'a> ExceptionData<'a> {
         })
     }
 
-    /// Where the function table stands in the file.
+    /// The range of the function table in the file; it lies in the bytes.
     pub fn table_range(&self) -> ByteRange
         ensures range { result ≡ table_range self.now }
         ensures within { IsWithin self.now.content result }
@@ -164,7 +172,7 @@ impl<'a> ExceptionData<'a> {
         self.table_range().of(self.bytes)
     }
 
-    /// How many whole entries for x64 the table has.
+    /// How many whole x64 entries the table has, 12 bytes each.
     #[tactic(auto, using(crate::proofs::Searches::length_functions))]
     pub fn len(&self) -> usize
         ensures { result ≡ length (functions (table_of self.now)) }
@@ -172,7 +180,7 @@ impl<'a> ExceptionData<'a> {
         self.table_bytes().len() / SIZE_OF_FUNCTION
     }
 
-    /// How many whole entries for ARM64 the table has.
+    /// How many whole ARM64 entries the table has, 8 bytes each.
     #[tactic(auto, using(crate::proofs::Arm64Entries::whole_count))]
     pub fn len_arm64(&self) -> usize
         ensures { result ≡ length (arm64_functions (table_of self.now)) }
@@ -187,42 +195,43 @@ impl<'a> ExceptionData<'a> {
         self.size == 0
     }
 
-    /// The entries in the order of the table.
+    /// The x64 entries in the order of the table. A truncated last entry is one `Short` item.
     pub fn functions(&self) -> RuntimeFunctionIterator<'a>
         ensures { items_of_functions result ≡ function_items (table_of self.now) }
     {
         RuntimeFunctionIterator::new(self.table_bytes())
     }
 
-    /// The entry with this index. `FunctionIndex` at or past `len()`.
+    /// The x64 entry with this index, which counts entries. Errors: `FunctionIndex` if the index is not below `len()`.
     pub fn get_function(&self, index: usize) -> Result<RuntimeFunction>
         ensures { Gives (λ f. f) result (function_of (table_of self.now) index) }
     {
         RuntimeFunction::of_table(self.table_bytes(), index)
     }
 
-    /// The entries for ARM64 in the order of the table.
+    /// The ARM64 entries in the order of the table. A truncated last entry is one `Short` item.
     pub fn functions_arm64(&self) -> Arm64RuntimeFunctionIterator<'a>
         ensures { items_of_arm64_functions result ≡ arm64_function_items (table_of self.now) }
     {
         Arm64RuntimeFunctionIterator::new(self.table_bytes())
     }
 
-    /// The entry for ARM64 with this index. `FunctionIndex` at or past `len_arm64()`.
+    /// The ARM64 entry with this index, which counts entries. Errors: `FunctionIndex` if the index is not below
+    /// `len_arm64()`.
     pub fn get_function_arm64(&self, index: usize) -> Result<Arm64RuntimeFunction>
         ensures { Gives (λ f. f) result (arm64_function_of (table_of self.now) index) }
     {
         Arm64RuntimeFunction::of_table(self.table_bytes(), index)
     }
 
-    /// The table, with its reads counted from 0.
+    /// The table as `search` takes it, with a count of 0 reads.
     pub fn table(&self) -> CountedTable<'a>
         ensures { result ≡ record { content = table_of self.now; count = 0 } }
     {
         CountedTable::new(self.table_bytes())
     }
 
-    /// The entry that covers an address, as `search` finds it. Never refused.
+    /// The x64 entry that covers the RVA, as `search` finds it. Never returns an error.
     pub fn find_function(&self, rva: u32) -> Result<Option<RuntimeFunction>>
         ensures { IsOkAnd result (Finds (functions (table_of self.now)) rva) }
     {
@@ -230,7 +239,8 @@ impl<'a> ExceptionData<'a> {
         Ok(search(&mut table, rva))
     }
 
-    /// The section map of these sections, under these options, with the file alignment of the image.
+    /// The section map of `sections` with these options and the file alignment of the image. Pass it to
+    /// `get_unwind_info_with_map` when many records are read.
     pub fn section_map<'b>(
         &self,
         sections: &'b [SectionTable],
@@ -241,7 +251,7 @@ impl<'a> ExceptionData<'a> {
         SectionMap::new(sections, self.file_alignment, opts)
     }
 
-    /// The table's links, by a section map.
+    /// The links between the entries of the table, by a section map.
     fn links<'b>(&self, sections: &'b SectionMap<'b>) -> Links<'a, 'b>
         ensures { table_view result ≡ links_by self.now sections.now }
     {
@@ -252,9 +262,12 @@ impl<'a> ExceptionData<'a> {
         }
     }
 
-    /// The place in the file of the unwind record of an unwind address. An odd address is a link to the entry at that
-    /// address less one: `Unmapped`; `FunctionLink` where no entry stands there; `FunctionCycle` where the links never
-    /// end. Then `Unmapped` where the address at their end has no place.
+    /// The file offset of the unwind record of an unwind RVA, as `unwind_info_address` of an entry has it. An even RVA
+    /// is that of the record. An odd one is a link to the entry at that RVA minus one, whose unwind RVA is followed
+    /// instead.
+    ///
+    /// Errors: `Unmapped` if the RVA of a link is not mapped; `FunctionLink` if no whole entry starts there;
+    /// `FunctionCycle` if the links never end; then `Unmapped` if the RVA at their end is not mapped.
     pub fn record_place(
         &self,
         unwind_address: u32,
@@ -267,7 +280,7 @@ impl<'a> ExceptionData<'a> {
         self.links(&sections).record_place(unwind_address)
     }
 
-    /// The unwind record of a function, with the default options.
+    /// The unwind record of an x64 function, with the default options. Errors: those of `get_unwind_info_with_opts`.
     pub fn get_unwind_info(
         &self,
         function: RuntimeFunction,
@@ -279,9 +292,12 @@ impl<'a> ExceptionData<'a> {
         self.get_unwind_info_with_opts(function, sections, &ParseOptions::default())
     }
 
-    /// The unwind record of a function. An odd unwind address is a link to the entry at that address less one:
-    /// `Unmapped`; `FunctionLink` where no entry stands there; `FunctionCycle` where the links never end. Then the place
-    /// of the record (`Unmapped`), and what refuses it.
+    /// The unwind record of an x64 function. An odd unwind RVA is a link to the entry at that RVA minus one, whose
+    /// unwind RVA is followed instead.
+    ///
+    /// Errors: `Unmapped` if the RVA of a link is not mapped; `FunctionLink` if no whole entry starts there;
+    /// `FunctionCycle` if the links never end; then `Unmapped` if the RVA of the record is not mapped; then those of
+    /// `UnwindInfo::parse`.
     pub fn get_unwind_info_with_opts(
         &self,
         function: RuntimeFunction,
@@ -295,7 +311,8 @@ impl<'a> ExceptionData<'a> {
         self.get_unwind_info_with_map(function, &sections)
     }
 
-    /// The unwind record of a function, as `get_unwind_info_with_opts` reads it, by a section map.
+    /// The unwind record of an x64 function, as `get_unwind_info_with_opts` reads it, by a section map that many calls
+    /// share.
     pub fn get_unwind_info_with_map(
         &self,
         function: RuntimeFunction,
@@ -308,7 +325,7 @@ impl<'a> ExceptionData<'a> {
         self.linked_record(&links, function.unwind_info_address)
     }
 
-    /// The record at the end of a chain of links.
+    /// The unwind record at the end of the links from an unwind RVA.
     fn linked_record(&self, links: &Links<'a, '_>, address: u32) -> Result<UnwindInfo<'a>>
         ensures { Unwinds (table_view links.now) self.now.content address (answer_by unwind_view result) }
     {
@@ -316,7 +333,8 @@ impl<'a> ExceptionData<'a> {
         UnwindInfo::parse(self.bytes, place)
     }
 
-    /// The unwind record of an ARM64 function, with the default options.
+    /// The unwind record of an ARM64 function, with the default options, as `get_unwind_info_arm64_with_opts` reads
+    /// it.
     pub fn get_unwind_info_arm64(
         &self,
         function: Arm64RuntimeFunction,
@@ -327,8 +345,9 @@ impl<'a> ExceptionData<'a> {
         self.get_unwind_info_arm64_with_opts(function, sections, &ParseOptions::default())
     }
 
-    /// The unwind record of an ARM64 function: `None` where its unwind data are packed, else the record at their address
-    /// (`Unmapped`), and what refuses it.
+    /// The unwind record of an ARM64 function. `None` if its unwind data are packed into the entry.
+    ///
+    /// Errors: `Unmapped` if the RVA of the record is not mapped; then those of `Arm64UnwindInfo::parse`.
     pub fn get_unwind_info_arm64_with_opts(
         &self,
         function: Arm64RuntimeFunction,
@@ -343,8 +362,9 @@ impl<'a> ExceptionData<'a> {
         }
     }
 
-    /// The place in the file of the unwind record of an ARM64 function: `None` where its unwind data are packed,
-    /// `Unmapped` where their address has no place.
+    /// The file offset of the unwind record of an ARM64 function. `None` if its unwind data are packed into the entry.
+    ///
+    /// Errors: `Unmapped` if the RVA of the record is not mapped.
     pub fn record_place_arm64(
         &self,
         function: Arm64RuntimeFunction,
@@ -360,7 +380,8 @@ impl<'a> ExceptionData<'a> {
         Some(mapped_offset(rva, sections, self.file_alignment, opts))
     }
 
-    /// The unwind record of the function that covers an address, if one does: lookup, links and record in one call.
+    /// The unwind record of the x64 function that covers the RVA: lookup, links and record in one call. `Ok(None)` if
+    /// lookup finds no function. Errors: those of `get_unwind_info_with_opts`.
     #[tactic(auto, using(crate::proofs::LinkChains::unwinds_at_code))]
     pub fn unwind_at(
         &self,
@@ -375,7 +396,7 @@ impl<'a> ExceptionData<'a> {
         self.record_of_found(found, sections, opts)
     }
 
-    /// The unwind record of a function that lookup may have found.
+    /// The unwind record of the function that lookup found, if it found one.
     fn record_of_found(
         &self,
         found: Option<RuntimeFunction>,

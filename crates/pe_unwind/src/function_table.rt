@@ -1,4 +1,6 @@
-//! The function table: its entries, and the lookup of the one that covers an address.
+//! The x64 function table: `RUNTIME_FUNCTION` entries of 12 bytes, each the start, end and unwind RVA of a function or
+//! a part of one. A caller looks up the entry that covers an RVA. See
+//! [x64 exception handling](https://learn.microsoft.com/cpp/build/exception-handling-x64).
 
 ghost use Rattle.std.specs.Prelude.{◌≡◌, ◌+◌, ◌/◌, ◌≤◌, length, IfSome, Some};
 ghost use Rattle.std.specs.Iterator.{UpTo, YieldsFirstBy, item_count};
@@ -10,18 +12,20 @@ ghost use Rattle.pe_unwind.specs.FunctionTable.{function_at, functions, function
 
 use pe_core::{CountedTable, Error, Reason, Result, number32, split_entry};
 
-/// The bytes of one entry.
+/// The size of an entry in bytes.
 pub(crate) const SIZE_OF_FUNCTION: usize = 12;
 
-/// An entry of the function table: the addresses that a function covers, and where its unwind record stands.
+/// An entry of the x64 function table: the RVAs that a function covers, and the RVA of its unwind record. It is
+/// `RUNTIME_FUNCTION` of winnt.h.
 #[repr(C)]
 #[derive(Clone, Copy, Debug, Default, PartialEq)]
 pub struct RuntimeFunction {
-    /// The address of the first byte.
+    /// The start: RVA of the first byte.
     pub begin_address: u32,
-    /// The address behind the last byte.
+    /// The end: RVA of the byte after the last.
     pub end_address: u32,
-    /// The address of the unwind record; an odd one is a link to the entry at the address less one.
+    /// The RVA of the unwind record. An odd one is a link: the entry at this RVA minus one has the unwind RVA to use
+    /// instead.
     pub unwind_info_address: u32,
 }
 
@@ -38,8 +42,8 @@ pub(crate) fn read_function(bytes: &[u8], place: usize) -> RuntimeFunction
 }
 
 impl RuntimeFunction {
-    /// The entry of a table with this index, which counts entries. `FunctionIndex` where the table has no more than that
-    /// many whole ones.
+    /// The entry of a table with this index, which counts entries. Errors: `FunctionIndex` unless the table has more
+    /// whole entries than that.
     pub fn of_table(table: &[u8], index: usize) -> Result<RuntimeFunction>
         ensures { Gives (λ f. f) result (function_of table.now index) }
     {
@@ -51,14 +55,14 @@ impl RuntimeFunction {
     }
 }
 
-/// The entries that are left of a function table. A cut last entry is one item, refused as `Short`.
+/// The entries that are left of an x64 function table. A truncated last entry is one item, `Short`.
 #[derive(Debug, Drop)]
 pub struct RuntimeFunctionIterator<'a> {
     bytes: &'a [u8],
 }
 
 impl<'a> RuntimeFunctionIterator<'a> {
-    /// The entries of these bytes.
+    /// The entries of these bytes, 12 bytes each.
     pub fn new(bytes: &'a [u8]) -> Self
         ensures { items_of_functions result ≡ function_items bytes.entry.now }
     {
@@ -101,7 +105,7 @@ impl<'a> ExactSizeIterator for RuntimeFunctionIterator<'a> {
     }
 }
 
-/// Reads the entry at a place of the table that is known to have one.
+/// Reads the entry at an offset in the table where one is known to be. It counts as one read.
 fn next_function(table: &mut CountedTable, place: usize) -> RuntimeFunction
     requires { place + 12 ≤ length table.old.content }
     ensures value { result ≡ function_at table.old.content place }
@@ -115,10 +119,11 @@ fn next_function(table: &mut CountedTable, place: usize) -> RuntimeFunction
     }
 }
 
-/// The entry that covers an address. It reads at most as many entries as their number has binary digits.
+/// Returns the entry that covers an RVA, by binary search. It reads at most as many entries as their number has binary
+/// digits; `table` counts these reads.
 ///
-/// Where begins never fall it is the last entry that begins at or before the address, if that entry ends behind it. On
-/// any other table it is some entry that covers the address, or none.
+/// In a table sorted by start RVA it returns the last entry that starts at or before the RVA, if the RVA is before its
+/// end. In any other table it returns some entry that covers the RVA, or `None`.
 #[tactic(auto, using(crate::proofs::Searches::length_functions))]
 pub fn search(table: &mut CountedTable, rva: u32) -> Option<RuntimeFunction>
     ensures found { Finds (functions table.old.content) rva result }
@@ -139,6 +144,7 @@ pub fn search(table: &mut CountedTable, rva: u32) -> Option<RuntimeFunction>
             high = middle;
         }
     }
+    // The search goes by the starts alone; the end is tested once, of the entry that it found.
     match found {
         Some(function) if rva < function.end_address => Some(function),
         _ => None,

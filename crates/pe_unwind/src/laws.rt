@@ -1,4 +1,4 @@
-//! Laws over the definitions. Each is the contract of a function that does nothing.
+//! Laws over the definitions in `specs/`. Each law is the contract of a function that does nothing.
 
 pub mod arm64;
 pub mod derives;

@@ -1,8 +1,13 @@
-//! Exception data of Windows executables: which function covers an address, and how its frame is unwound.
+//! Exception data of Windows executables: which function covers an RVA, and how its frame is unwound.
 //!
-//! A function table is searched by halves, links between its entries are followed to their end, and unwind records give
-//! their codes, for x64 and for ARM64. Every call is proved to give what its definition in `specs/` gives, for every byte
-//! string. Layouts are those of Microsoft's x64 and ARM64 exception handling.
+//! The exception directory (`.pdata`) is a table of functions. An x64 entry leads to an unwind record whose codes say
+//! what the prolog did; an ARM64 entry holds packed unwind data or leads to such a record (`.xdata`). A caller parses
+//! the table by `ExceptionData`, looks an RVA up in it by binary search, follows the links between entries to their
+//! end, and reads the codes of the record. Layouts:
+//! [x64 exception handling](https://learn.microsoft.com/cpp/build/exception-handling-x64) and
+//! [ARM64 exception handling](https://learn.microsoft.com/cpp/build/arm64-exception-handling).
+//!
+//! Every call is proved to return what its definition in `specs/` says, for every byte string.
 #![tactic(auto)]
 
 mod arm64;

@@ -1,4 +1,6 @@
-//! Links between the entries of a function table: an odd unwind address leads to another entry.
+//! Links between the entries of an x64 function table. An odd unwind RVA is a link: the entry at that RVA minus one
+//! has the unwind RVA to follow instead. A caller follows the links to the even RVA at their end, which is that of the
+//! unwind record.
 
 ghost use Rattle.std.specs.Prelude.{◌≡◌, ◌%◌};
 ghost use Rattle.pe_unwind.specs.FunctionTable.{answer_of};
@@ -9,23 +11,26 @@ ghost use Rattle.pe_unwind.specs.Unwinding.{FindsRecord};
 use crate::function_table::{SIZE_OF_FUNCTION, read_function};
 use pe_core::{Error, Reason, Result, SectionMap};
 
-/// The entries of a function table, and the section map of their image.
+/// A function table, and the section map of its image, by which links are followed.
 #[derive(Clone, Copy)]
 pub(crate) struct Links<'a, 'b> {
     /// The bytes of the table.
     pub table: &'a [u8],
-    /// Where the table begins in the file.
+    /// The file offset of the table.
     pub start: usize,
+    /// The map from RVAs to file offsets.
     pub sections: &'b SectionMap<'b>,
 }
 
 impl<'a, 'b> Links<'a, 'b> {
-    /// The unwind address of the entry that an odd address leads to.
+    /// The unwind RVA of the entry to which an odd RVA is a link. Errors: `Unmapped`; `FunctionLink` if no whole entry
+    /// starts there.
     fn follow(&self, address: u32) -> Result<u32>
         requires { address % 2 ≡ 1 }
         ensures { Leads (table_view self.now) address (answer_of result) }
     {
         let place = self.sections.offset_of(address - 1)?;
+        // The start is tested first, so that no difference below is negative.
         if place < self.start
             || (place - self.start) % SIZE_OF_FUNCTION != 0
             || self.table.len() / SIZE_OF_FUNCTION <= (place - self.start) / SIZE_OF_FUNCTION
@@ -35,8 +40,9 @@ impl<'a, 'b> Links<'a, 'b> {
         Ok(read_function(self.table, place - self.start).unwind_info_address)
     }
 
-    /// The even address at the end of a chain of links. One address is saved after 1, 2, 4, 8 and so on links, so a ring
-    /// ends after about as many links as it has, and those before it.
+    /// The even RVA at the end of the links from `address`. This is Brent's algorithm: one RVA is saved after 1, 2, 4,
+    /// 8 and so on links, so a loop is found after about as many links as it has, plus those before it. Errors: those
+    /// of `follow`, and `FunctionCycle` with the number of links that were followed.
     pub fn end_of(&self, address: u32) -> Result<u32>
         ensures { Follows (table_view self.now) address (answer_of result) }
     {
@@ -60,7 +66,7 @@ impl<'a, 'b> Links<'a, 'b> {
         Err(Error::Malformed(Reason::FunctionCycle(entries + 1)))
     }
 
-    /// The place of the record at the end of a chain of links.
+    /// The file offset of the record at the end of the links. Errors: those of `end_of`; `Unmapped`.
     pub fn record_place(&self, address: u32) -> Result<usize>
         ensures { FindsRecord (table_view self.now) address (answer_of result) }
     {

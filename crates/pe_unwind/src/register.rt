@@ -1,9 +1,10 @@
-//! Registers of x64.
+//! Registers of x64, by the numbers that unwind codes use. Numbers:
+//! [x64 exception handling](https://learn.microsoft.com/cpp/build/exception-handling-x64).
 
 use std::fmt;
 
-/// A register by its number in unwind data: 0 to 15 are the integer registers, 16 the instruction pointer, 17 to 32 the
-/// XMM registers.
+/// A register by its number: 0 to 15 are the integer registers as unwind codes number them, 16 is the instruction
+/// pointer, 17 to 32 are the XMM registers.
 #[derive(Clone, Copy, Debug, PartialEq, Eq, PartialOrd, Ord)]
 pub struct Register(pub u8);
 
@@ -11,7 +12,7 @@ impl Register {
     ghost use Rattle.std.specs.Prelude.{◌≡◌};
     ghost use Rattle.pe_unwind.specs.Registers.{register_name};
 
-    /// The register's name, as `$rax`; empty for a number that is no register.
+    /// The register's name, such as `$rax`. Empty if no register has the number.
     #[tactic(auto, unfolding(crate::specs::Registers::register_name))]
     pub fn name(self) -> &'static str
         ensures { result.now ≡ register_name self.0 }

@@ -1,4 +1,5 @@
-//! The scope table of a handler for C: which addresses are guarded, and by what.
+//! The scope table, the data of the exception handler for C (`__C_specific_handler`): which ranges of code are
+//! guarded, and by which filter or handler. A caller gets it by `UnwindInfo::c_scope_table_entries`.
 
 ghost use Rattle.std.specs.Prelude.{◌≡◌, ◌+◌, ◌≤◌, length, IfSome, Some};
 ghost use Rattle.std.specs.Iterator.{UpTo, YieldsFirst, item_count};
@@ -9,24 +10,24 @@ ghost use Rattle.pe_unwind.specs.ScopeTable.{scope_at, scopes, scopes_left};
 
 use pe_core::{Result, number32, require_bytes, split_entry};
 
-/// The bytes of one entry.
+/// The size of an entry in bytes.
 pub(crate) const SIZE_OF_SCOPE: usize = 16;
 
-/// A guarded range of code.
+/// An entry of a scope table: a guarded range of code, and what guards it. All fields are RVAs.
 #[repr(C)]
 #[derive(Clone, Copy, Debug, Default, PartialEq, Eq, Hash)]
 pub struct ScopeTableEntry {
-    /// The address of the first guarded byte.
+    /// The start: RVA of the first guarded byte.
     pub begin: u32,
-    /// The address behind the last guarded byte.
+    /// The end: RVA of the byte after the last guarded one.
     pub end: u32,
-    /// The address of the filter or handler.
+    /// The RVA of the filter or handler.
     pub handler: u32,
-    /// The address where execution goes on after the handler.
+    /// The RVA where execution continues after the handler.
     pub target: u32,
 }
 
-/// Reads the entry at a place that is known to have one.
+/// Reads the entry at an offset where one is known to be.
 fn read_scope(bytes: &[u8], place: usize) -> ScopeTableEntry
     requires { place + 16 ≤ length bytes.now }
     ensures { result ≡ scope_at bytes.now place }
@@ -40,7 +41,7 @@ fn read_scope(bytes: &[u8], place: usize) -> ScopeTableEntry
 }
 
 impl ScopeTableEntry {
-    /// The entry at the place, 16 bytes.
+    /// The entry of 16 bytes at an offset in the bytes. Errors: `Short` if it is truncated.
     pub fn parse(bytes: &[u8], place: usize) -> Result<ScopeTableEntry>
         ensures { Gives (λ s. s) result (record_at bytes.now place 16 (scope_at bytes.now place)) }
     {
@@ -56,7 +57,7 @@ pub struct ScopeTableIterator<'a> {
 }
 
 impl<'a> ScopeTableIterator<'a> {
-    /// The whole entries of these bytes.
+    /// The whole entries of these bytes, 16 bytes each. A truncated last entry is left out.
     pub fn new(bytes: &'a [u8]) -> Self
         ensures { scopes_left result ≡ scopes bytes.entry.now }
     {

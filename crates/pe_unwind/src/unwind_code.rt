@@ -1,4 +1,6 @@
-//! Unwind codes: what a prolog did, and where in it.
+//! x64 unwind codes (`UNWIND_CODE`): what the prolog did, one code for each operation, the last operation first. A
+//! code has 1 to 3 slots of 2 bytes. A caller iterates over the codes of a record and undoes those that have run. See
+//! [x64 exception handling](https://learn.microsoft.com/cpp/build/exception-handling-x64).
 
 ghost use Rattle.std.specs.Prelude.{◌≡◌, ◌+◌, ◌*◌, ◌/◌, ◌%◌, ◌<◌, ◌≤◌, ◌⊎◌, ℕ, [], ◌∷◌, length, IfOk, IfErr, IfSome, OnErr, Some, min, slice_index};
 ghost use Rattle.std.specs.Iterator.{at_most, UpTo};
@@ -12,10 +14,10 @@ ghost use Rattle.pe_unwind.specs.CodeStream.{stream_of, slots_left, GivesCode};
 use crate::register::Register;
 use pe_core::{Error, Reason, Result, number16, number32};
 
-/// The bytes of one slot.
+/// The size of a slot in bytes.
 const SIZE_OF_SLOT: usize = 2;
 
-// The opcodes, as the format names them. In records of version 1 the codes of 6 and 7 save an XMM register.
+// The opcodes, by winnt.h's names. In records of version 1 opcodes 6 and 7 save an XMM register.
 const UWOP_PUSH_NONVOL: u8 = 0;
 
 const UWOP_ALLOC_LARGE: u8 = 1;
@@ -38,53 +40,59 @@ const UWOP_SAVE_XMM128_FAR: u8 = 9;
 
 const UWOP_PUSH_MACHFRAME: u8 = 10;
 
-/// Where a register is saved, in bytes.
+/// Where a register is saved: an offset in bytes, and the register from which it counts.
 #[derive(Clone, Copy, Debug, PartialEq, Eq)]
 pub enum StackFrameOffset {
     /// From the stack pointer.
     RSP(u32),
-    /// From the frame register, reduced by the record's `frame_register_offset`, which is 16 * the frame offset in the file:
-    /// there the stack pointer was when `SetFPRegister` ran. Until that has run, from the stack pointer.
+    /// From the frame register minus the record's `frame_register_offset`, which is 16 * the frame offset in the file:
+    /// the stack pointer as it was when `SetFPRegister` ran. Until `SetFPRegister` has run, the offset counts from the
+    /// stack pointer.
     FP(u32),
 }
 
-/// What a part of the prolog did.
+/// An operation of the prolog, named by what it did.
 #[derive(Clone, Copy, Debug, PartialEq, Eq)]
 pub enum UnwindOperation {
-    /// Pushed an integer register.
+    /// Pushed an integer register (`UWOP_PUSH_NONVOL`).
     PushNonVolatile(Register),
-    /// Made room for so many bytes on the stack.
+    /// Allocated this many bytes on the stack (`UWOP_ALLOC_SMALL`, `UWOP_ALLOC_LARGE`).
     Alloc(u32),
-    /// Set the frame register, to the stack pointer plus the record's `frame_register_offset`.
+    /// Set the frame register to the stack pointer plus the record's `frame_register_offset` (`UWOP_SET_FPREG`).
     SetFPRegister,
-    /// Saved an integer register. Subtract `frame_register_offset` from the frame register before an `FP` offset is added,
-    /// and count from the stack pointer until `SetFPRegister` has run.
+    /// Saved an integer register (`UWOP_SAVE_NONVOL`, `UWOP_SAVE_NONVOL_FAR`). Subtract the record's
+    /// `frame_register_offset` from the frame register before you add an `FP` offset; until `SetFPRegister` has run,
+    /// add it to the stack pointer.
     SaveNonVolatile(Register, StackFrameOffset),
-    /// Saved the low half of an XMM register, at an offset that counts as that of `SaveNonVolatile`.
+    /// Saved the low half of an XMM register (opcode 6 in version 1). The offset counts as that of `SaveNonVolatile`.
     SaveXMM(Register, StackFrameOffset),
-    /// Tells of the function's epilogs: the first of these codes their size and flags, each other the place of one.
+    /// Describes the function's epilogs (`UWOP_EPILOG`, version 2): the first of these codes their size and flags,
+    /// each other the position of one.
     Epilog {
+        /// The first byte of the code: a size in the first of these codes, else the low bits of an epilog's offset.
         offset_low_or_size: u8,
+        /// The operation info, 4 bits: flags in the first of these codes, else the high bits of an epilog's offset.
         offset_high_or_flags: u8,
     },
-    /// Saved an XMM register, at an offset that counts as that of `SaveNonVolatile`.
+    /// Saved an XMM register (`UWOP_SAVE_XMM128`, `UWOP_SAVE_XMM128_FAR`, and opcode 7 in version 1). The offset
+    /// counts as that of `SaveNonVolatile`.
     SaveXMM128(Register, StackFrameOffset),
-    /// Pushed a machine frame, with an error code or without.
+    /// Pushed a machine frame (`UWOP_PUSH_MACHFRAME`); `true` if it has an error code.
     PushMachineFrame(bool),
-    /// Nothing.
+    /// Did nothing (opcode 7 in version 2).
     Noop,
 }
 
-/// An operation, and the place behind its instruction.
+/// An unwind code: an operation of the prolog, and where its instruction ends.
 #[derive(Clone, Copy, Debug, PartialEq, Eq)]
 pub struct UnwindCode {
-    /// From the start of the prolog, in bytes.
+    /// The end of the instruction, in bytes from the start of the prolog.
     pub code_offset: u8,
-    /// What was done.
+    /// What the instruction did.
     pub operation: UnwindOperation,
 }
 
-/// What an offset counts from.
+/// An offset from the stack pointer or, if the record has a frame register, from the frame.
 fn frame_offset(frame_register: Register, value: u32) -> StackFrameOffset
     ensures { result ≡ offset frame_register.0 value }
 {
@@ -95,7 +103,7 @@ fn frame_offset(frame_register: Register, value: u32) -> StackFrameOffset
     }
 }
 
-/// How many slots a code with this opcode and info has, if one has them.
+/// How many slots a code with this opcode and operation info has. `None` if there is no such code.
 fn slots(version: u8, opcode: u8, info: u8) -> Option<usize>
     ensures value { result ≡ slots_at version opcode info }
     ensures range { IfSome result (λ n. (1 ≤ n) × (n ≤ 3)) }
@@ -114,7 +122,7 @@ fn slots(version: u8, opcode: u8, info: u8) -> Option<usize>
     }
 }
 
-/// An operation of one slot.
+/// The operation of a code of one slot. `place` is its first byte.
 fn short_operation(version: u8, place: u8, opcode: u8, info: u8) -> UnwindOperation
     requires { (opcode ≡ UWOP_PUSH_NONVOL) ⊎ ((opcode ≡ UWOP_ALLOC_SMALL) ⊎ ((opcode ≡ UWOP_SET_FPREG)
         ⊎ (((opcode ≡ UWOP_EPILOG) × (version ≡ 2)) ⊎ ((opcode ≡ UWOP_PUSH_MACHFRAME) × (info < 2))))) }
@@ -133,7 +141,7 @@ fn short_operation(version: u8, place: u8, opcode: u8, info: u8) -> UnwindOperat
     }
 }
 
-/// An operation of two slots, of which the second is this number.
+/// The operation of a code of two slots. `operand` is the second.
 fn middle_operation(
     version: u8,
     frame_register: Register,
@@ -165,7 +173,7 @@ fn middle_operation(
     }
 }
 
-/// An operation of three slots, of which the last two are this number.
+/// The operation of a code of three slots. `operand` is the last two.
 fn long_operation(
     version: u8,
     frame_register: Register,
@@ -190,8 +198,8 @@ fn long_operation(
     }
 }
 
-/// How many slots the code has that the bytes begin with, if they are all there. `Short` where some are missing,
-/// `UnwindCode` where no code begins so.
+/// How many slots the code at the start of the bytes has. Errors: `Short` if the first slot is truncated; `UnwindCode`
+/// if no code starts so; `Short` if a later slot is missing.
 fn slots_there(version: u8, bytes: &[u8]) -> Result<usize>
     requires some { 0 < length bytes.now }
     ensures slots { IfOk result (λ n. slots_at version (slice_index bytes.now 1 % 16) (slice_index bytes.now 1 / 16) ≡ Some n) }
@@ -218,7 +226,7 @@ fn slots_there(version: u8, bytes: &[u8]) -> Result<usize>
     Ok(count)
 }
 
-/// The operation of a code that has so many slots, which are all there.
+/// The operation of a code with this many slots, all of which are there.
 fn operation_at(
     version: u8,
     frame_register: Register,
@@ -253,8 +261,7 @@ fn operation_at(
     }
 }
 
-/// The code that the bytes begin with, and how many bytes it has. `Short` where its slots are not all there,
-/// `UnwindCode` where no code begins so.
+/// The code at the start of the bytes, and its size in bytes. Errors: those of `slots_there`.
 fn code_at(version: u8, frame_register: Register, bytes: &[u8]) -> Result<(UnwindCode, usize)>
     requires some { 0 < length bytes.now }
     ensures ok { IfOk result (λ x. BeginsWithCode version frame_register.0 bytes.now x.0 x.1) }
@@ -270,7 +277,8 @@ fn code_at(version: u8, frame_register: Register, bytes: &[u8]) -> Result<(Unwin
     Ok((code, SIZE_OF_SLOT * count))
 }
 
-/// The codes that are left of an unwind record. Over after the first that is refused.
+/// The codes that are left of an unwind record. An item is `Short` if the code is truncated, or `UnwindCode` if it is
+/// invalid; after an error the iterator is over.
 #[derive(Clone, Debug, Drop)]
 pub struct UnwindCodeIterator<'a> {
     bytes: &'a [u8],
@@ -279,7 +287,7 @@ pub struct UnwindCodeIterator<'a> {
 }
 
 impl<'a> UnwindCodeIterator<'a> {
-    /// The codes of these bytes, for a record's version and frame register.
+    /// The codes of these bytes, which are read by the version and the frame register of their record.
     pub fn new(bytes: &'a [u8], version: u8, frame_register: Register) -> Self
         ensures { stream_of result ≡ record { content = bytes.entry.now; version = version; frame = frame_register.0 } }
     {
@@ -305,7 +313,7 @@ impl<'a> Iterator for UnwindCodeIterator<'a> {
 
     ghost remaining = { λ s. at_most (slots_left (stream_of s)) };
 
-    /// No code with nothing left, else at least one; at most one for each slot that is left.
+    /// 0 items if nothing is left, else at least one; at most one for each slot that is left.
     fn size_hint(&self) -> (usize, Option<usize>)
         ensures lower { IsWithinCount result.0 (at_most (slots_left (stream_of self.now))) }
         ensures upper { IfSome result.1 (UpTo (at_most (slots_left (stream_of self.now)))) }
@@ -327,6 +335,7 @@ impl<'a> Iterator for UnwindCodeIterator<'a> {
                 Some(Ok(code))
             }
             Err(error) => {
+                // After an error nothing is left, so the iterator is over.
                 self.bytes = bytes.split_at(bytes.len()).1;
                 Some(Err(error))
             }

@@ -1,4 +1,6 @@
-//! Unwind records.
+//! x64 unwind records (`UNWIND_INFO`): a header of 4 bytes, the unwind codes, and by the flags a chained function or a
+//! handler. A caller undoes the codes of the record, then those of the function to which it is chained. See
+//! [x64 exception handling](https://learn.microsoft.com/cpp/build/exception-handling-x64).
 
 ghost use Rattle.std.specs.Prelude.{◌≡◌, [], ◌∷◌};
 ghost use Rattle.std.specs.Option.{option_map};
@@ -13,35 +15,36 @@ use crate::scope_table::{SIZE_OF_SCOPE, ScopeTableIterator};
 use crate::unwind_code::{UnwindCode, UnwindCodeIterator};
 use pe_core::{Error, Reason, Result, number8, number32, require_bytes, slice_at, u8_at, u32_at};
 
-/// What is called when an exception passes through a function: the address of the handler and all bytes behind it, to
-/// the end of the file.
+/// The handler of a function, called when an exception passes through it: its RVA, and the handler's data, which are
+/// all bytes after that RVA in the record, up to the end of the file.
 #[derive(Clone, Copy, Debug, PartialEq)]
 pub enum UnwindHandler<'a> {
-    /// Called to find out who handles the exception.
+    /// Called to find out who handles the exception (`UNW_FLAG_EHANDLER`).
     ExceptionHandler(u32, &'a [u8]),
-    /// Called when the frame is unwound.
+    /// Called when the frame is unwound (`UNW_FLAG_UHANDLER`).
     TerminationHandler(u32, &'a [u8]),
 }
 
-/// How the frame of a function, or of a part of one, is unwound.
+/// An unwind record: how the frame of a function, or of a part of one, is unwound.
 #[derive(Clone, Debug, Drop)]
 pub struct UnwindInfo<'a> {
     /// The version of the record, 1 or 2.
     pub version: u8,
-    /// The length of the prolog in bytes.
+    /// The size of the prolog in bytes.
     pub size_of_prolog: u8,
-    /// The register that holds the frame; register 0 means that none does.
+    /// The frame register; register 0 means that there is none.
     pub frame_register: Register,
-    /// How far the frame register was set above the stack pointer, in bytes.
+    /// How far above the stack pointer the frame register was set, in bytes: 16 * the frame offset in the file.
+    /// Subtract it from the frame register to get the address from which `FP` offsets count.
     pub frame_register_offset: u32,
-    /// The function whose record goes on with this one.
+    /// The function to which the record is chained (`UNW_FLAG_CHAININFO`): its record continues this one.
     pub chained_info: Option<RuntimeFunction>,
-    /// The handler, if there is one.
+    /// The handler, if there is one. A chained record has none; if both flags are set, it is the exception handler.
     pub handler: Option<UnwindHandler<'a>>,
     code_bytes: &'a [u8],
 }
 
-/// What stands behind the codes of a record with these flags: a chained function, a handler or nothing.
+/// What follows the codes of a record with these flags: a chained function, a handler or nothing. Errors: `Short`.
 #[tactic(auto, unfolding(crate::specs::UnwindRecord::ending_holds, crate::specs::UnwindRecord::ending_at))]
 fn ending(
     bytes: &[u8],
@@ -68,8 +71,8 @@ fn ending(
     Ok((None, Some(handler)))
 }
 
-/// How many bytes of entries stand behind the count of a scope table that begins a handler's data. `None` where they are
-/// not all there.
+/// The size in bytes of the entries of the scope table at the start of a handler's data, after its count of 4 bytes.
+/// `None` if the count or the entries are truncated.
 pub fn scope_table_size(handler_data: &[u8]) -> Option<usize>
     ensures { result ≡ scope_table_size handler_data.now }
 {
@@ -79,7 +82,7 @@ pub fn scope_table_size(handler_data: &[u8]) -> Option<usize>
     Some(size)
 }
 
-/// The scope table in a handler's data: a count, and that many entries. `None` where they are not all there.
+/// The scope table at the start of a handler's data: a count, and that many entries. `None` if it is truncated.
 #[tactic(auto, unfolding(crate::specs::UnwindRecord::scope_table_at))]
 fn scope_table(handler_data: &[u8]) -> Option<ScopeTableIterator<'_>>
     ensures { option_map scopes_left result ≡ scope_table_at handler_data.now }
@@ -90,7 +93,10 @@ fn scope_table(handler_data: &[u8]) -> Option<ScopeTableIterator<'_>>
 }
 
 impl<'a> UnwindInfo<'a> {
-    /// The record at a place of the bytes.
+    /// The record at an offset in the bytes. Its handler's data reach to the end of `bytes`.
+    ///
+    /// Errors, in this order: `Short` if the first byte is missing; `UnwindVersion` unless the version is 1 or 2;
+    /// `Short` if the rest of the header, the codes, or the chained function or the handler's RVA are truncated.
     #[tactic(auto, unfolding(crate::specs::UnwindRecord::unwind_tests, crate::specs::UnwindRecord::unwind_record))]
     pub fn parse(bytes: &'a [u8], offset: usize) -> Result<UnwindInfo<'a>>
         ensures { Gives unwind_view result (outcome (unwind_tests bytes.entry.now offset) (unwind_record bytes.entry.now offset)) }
@@ -104,6 +110,7 @@ impl<'a> UnwindInfo<'a> {
         let count = usize::from(number8(bytes, offset + 2));
         let frame = number8(bytes, offset + 3);
         let code_bytes = slice_at(bytes, offset + 4, 2 * count)?;
+        // The codes are padded to an even number of slots.
         let behind = offset + 4 + 2 * (count + count % 2);
         let (chained_info, handler) = ending(bytes, behind, first / 8)?;
         Ok(UnwindInfo {
@@ -117,22 +124,23 @@ impl<'a> UnwindInfo<'a> {
         })
     }
 
-    /// The codes, the last step of the prolog first. Those of `chained_info` come behind them.
+    /// The codes, the last operation of the prolog first. The codes of `chained_info` come after them.
     pub fn unwind_codes(&self) -> UnwindCodeIterator<'a>
         ensures { stream_of result ≡ code_stream (unwind_view self.now) }
     {
         UnwindCodeIterator::new(self.code_bytes, self.version, self.frame_register)
     }
 
-    /// The bytes of its codes, two for each slot. Where the record was read at a place they stand four bytes behind it.
+    /// The bytes of the codes, two for each slot. They start four bytes after the offset at which the record was read.
     pub fn code_bytes(&self) -> &'a [u8]
         ensures { result.now ≡ (unwind_view self.now).codes }
     {
         self.code_bytes
     }
 
-    /// The scope table that an exception handler for C has as its data: a count of four bytes, and that many entries.
-    /// `None` without an exception handler, or where the table is not all there.
+    /// The entries of the scope table that an exception handler for C has as its data: a count of four bytes, and that
+    /// many entries. `None` without an exception handler, or if the table is truncated. The record does not say
+    /// whether its handler is the one for C.
     pub fn c_scope_table_entries(&self) -> Option<ScopeTableIterator<'a>>
         ensures { option_map scopes_left result ≡ scope_table_of (unwind_view self.now) }
     {

@@ -1,4 +1,5 @@
-//! CodeView records, which name the file of debugging symbols that belongs to an image.
+//! CodeView records (`IMAGE_DEBUG_TYPE_CODEVIEW`): which PDB file has the symbols of an image, by a GUID or number, an
+//! age and a file name. A caller matches them with a PDB, or asks a symbol server by them.
 
 ghost use Rattle.std.specs.Prelude.{◌≡◌, ◌+◌, ◌-◌, ◌≤◌, length};
 ghost use Rattle.std.specs.Option.{option_map};
@@ -12,34 +13,37 @@ use pe_core::{
     Error, ParseMode, ParseOptions, Reason, Result, data_at, number32, require_bytes, u32_at,
 };
 
-/// A PDB 7.0 record.
+/// A PDB 7.0 record: 24 bytes and a file name.
 #[derive(Clone, Copy, Debug, Default, PartialEq)]
 pub struct CodeviewPDB70DebugInfo<'a> {
-    /// 0x53445352, `RSDS`.
+    /// `CODEVIEW_PDB70_MAGIC`: 0x53445352, `RSDS`.
     pub codeview_signature: u32,
-    /// The GUID under which a symbol server keeps the symbols.
+    /// The GUID by which a symbol server finds the symbols, as it stands in the file.
     pub signature: [u8; 16],
-    /// How often the symbols were written since they have this GUID.
+    /// The age: how often the symbols were written since they have this GUID.
     pub age: u32,
-    /// The name of the file of symbols, with the zeros behind it.
+    /// The name of the PDB file, with the zeros after it: all bytes up to the end of the record.
     pub filename: &'a [u8],
 }
 
-/// A PDB 2.0 record.
+/// A PDB 2.0 record: 16 bytes and a file name.
 #[derive(Clone, Copy, Debug, Default, PartialEq)]
 pub struct CodeviewPDB20DebugInfo<'a> {
-    /// 0x3031424E, `NB10`.
+    /// `CODEVIEW_PDB20_MAGIC`: 0x3031424E, `NB10`.
     pub codeview_signature: u32,
+    /// The offset of CodeView data, normally 0, since the symbols are in a file of their own.
     pub codeview_offset: u32,
-    /// The number under which a symbol server keeps the symbols.
+    /// The number by which a symbol server finds the symbols.
     pub signature: u32,
-    /// How often the symbols were written since they have this signature.
+    /// The age: how often the symbols were written since they have this signature.
     pub age: u32,
-    /// The name of the file of symbols, with the zeros behind it.
+    /// The name of the PDB file, with the zeros after it: all bytes up to the end of the record.
     pub filename: &'a [u8],
 }
 
 impl<'a> CodeviewPDB70DebugInfo<'a> {
+    /// The PDB 7.0 record at a file offset, in `size` bytes. A record with another signature is `None`, even if the
+    /// rest is truncated.
     #[tactic(auto, unfolding(crate::specs::DebugRecords::pdb70_record, crate::specs::DebugRecords::pdb70_at))]
     fn at(bytes: &'a [u8], place: usize, size: u32, mode: ParseMode) -> Result<Option<Self>>
         ensures { Gives (option_map pdb70_view) result (pdb70_record mode bytes.entry.now place size) }
@@ -64,15 +68,17 @@ impl<'a> CodeviewPDB70DebugInfo<'a> {
         }))
     }
 
-    /// The PDB 7.0 record of the entry, by the default options.
+    /// The PDB 7.0 record of the entry, with the default options. Errors: those of `parse_with_opts`.
     pub fn parse(bytes: &'a [u8], idd: &ImageDebugDirectory) -> Result<Option<Self>>
         ensures { Gives (option_map pdb70_view) result (pdb70_of default_options bytes.entry.now idd.now) }
     {
         CodeviewPDB70DebugInfo::parse_with_opts(bytes, idd, &ParseOptions::default())
     }
 
-    /// The PDB 7.0 record of the entry, `None` under another signature. Refusals in this order: `DebugSize` for a
-    /// size below 24, which is `None` in permissive mode; `Short`; `DebugData` where the file name isn't all there.
+    /// The PDB 7.0 record of the entry. `None` if the record has another signature. `bytes` is the whole file.
+    ///
+    /// Errors, in this order: `DebugSize` if the entry's size is below 24, which is `None` in permissive mode; `Short`
+    /// if the first 24 bytes are not in the file; `DebugData` if the file name is not.
     pub fn parse_with_opts(
         bytes: &'a [u8],
         idd: &ImageDebugDirectory,
@@ -86,6 +92,8 @@ impl<'a> CodeviewPDB70DebugInfo<'a> {
 }
 
 impl<'a> CodeviewPDB20DebugInfo<'a> {
+    /// The PDB 2.0 record at a file offset, in `size` bytes. A record with another signature is `None`, even if the
+    /// rest is truncated.
     #[tactic(auto, unfolding(crate::specs::DebugRecords::pdb20_record, crate::specs::DebugRecords::pdb20_at))]
     fn at(bytes: &'a [u8], place: usize, size: u32, mode: ParseMode) -> Result<Option<Self>>
         ensures { Gives (option_map pdb20_view) result (pdb20_record mode bytes.entry.now place size) }
@@ -109,15 +117,17 @@ impl<'a> CodeviewPDB20DebugInfo<'a> {
         }))
     }
 
-    /// The PDB 2.0 record of the entry, by the default options.
+    /// The PDB 2.0 record of the entry, with the default options. Errors: those of `parse_with_opts`.
     pub fn parse(bytes: &'a [u8], idd: &ImageDebugDirectory) -> Result<Option<Self>>
         ensures { Gives (option_map pdb20_view) result (pdb20_of default_options bytes.entry.now idd.now) }
     {
         CodeviewPDB20DebugInfo::parse_with_opts(bytes, idd, &ParseOptions::default())
     }
 
-    /// The PDB 2.0 record of the entry, `None` under another signature. Refusals in this order: `DebugSize` for a
-    /// size below 16, which is `None` in permissive mode; `Short`; `DebugData` where the file name isn't all there.
+    /// The PDB 2.0 record of the entry. `None` if the record has another signature. `bytes` is the whole file.
+    ///
+    /// Errors, in this order: `DebugSize` if the entry's size is below 16, which is `None` in permissive mode; `Short`
+    /// if the first 16 bytes are not in the file; `DebugData` if the file name is not.
     pub fn parse_with_opts(
         bytes: &'a [u8],
         idd: &ImageDebugDirectory,

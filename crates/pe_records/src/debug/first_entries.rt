@@ -1,4 +1,5 @@
-//! The entries that the records of debug data are read from: the first of each type.
+//! The entries from which the records of debug data are read: the first whole entry of each type. One pass over the
+//! table finds them all.
 
 ghost use Rattle.std.specs.Prelude.{◌≡◌, ◌==◌, [], ◌∷◌};
 ghost use Rattle.std.specs.Option.{option_or};
@@ -11,7 +12,7 @@ use crate::debug::constants::{
     IMAGE_DEBUG_TYPE_POGO, IMAGE_DEBUG_TYPE_REPRO, IMAGE_DEBUG_TYPE_VC_FEATURE,
 };
 
-/// The first whole entry of each type that has a record.
+/// The first whole entry of each type whose record is read.
 #[derive(Clone, Copy)]
 pub(crate) struct FirstEntries {
     pub(crate) codeview: Option<ImageDebugDirectory>,
@@ -21,7 +22,7 @@ pub(crate) struct FirstEntries {
     pub(crate) pogo: Option<ImageDebugDirectory>,
 }
 
-/// Keeps the entry if it is of the type and none is kept so far.
+/// Keeps the entry if it has the type and none is kept so far.
 fn keep_first(kept: &mut Option<ImageDebugDirectory>, entry: &ImageDebugDirectory, data_type: u32)
     ensures { kept.new ≡ option_or kept.old (find (λ e. e.data_type == data_type) (entry.now ∷ [])) }
 {
@@ -31,7 +32,7 @@ fn keep_first(kept: &mut Option<ImageDebugDirectory>, entry: &ImageDebugDirector
 }
 
 impl FirstEntries {
-    /// Those of a table, whose entries are read once, from the first to the last.
+    /// The first entries of a table, whose entries are read once, from the first to the last.
     #[tactic(auto, unfolding(crate::specs::DebugDirectory::whole_entries, pe_core::specs::Rows::each))]
     pub(crate) fn of_table(table: &[u8], fixup: u32) -> FirstEntries
         ensures codeview { result.codeview ≡ first_of_type fixup 2 table.now }

@@ -1,4 +1,5 @@
-//! The record of profile-guided optimization, and its entries.
+//! The record of profile-guided optimization (`IMAGE_DEBUG_TYPE_POGO`): a signature and entries, each the RVA, size
+//! and name of a part of the image. A caller iterates over them to see which parts the linker arranged.
 
 ghost use Rattle.std.specs.Prelude.{◌≡◌, ◌≢◌, ◌+◌, ◌-◌, ◌*◌, ◌/◌, ◌<◌, ◌≤◌, ℕ, List, [], Result, length, slice_index, IfSome, IfNone};
 ghost use Rattle.std.specs.Iterator.{at_most};
@@ -14,19 +15,21 @@ use pe_core::{
     Error, ParseOptions, Reason, Result, data_at, number32, require_bytes, rounded_up, u32_at,
 };
 
-/// The bytes that entries are rounded up to a multiple of.
+/// Entries are rounded up to a multiple of this many bytes.
 const UNIT: usize = 4;
 
 /// A record of profile-guided optimization.
 #[derive(Clone, Copy, Debug, Default, PartialEq)]
 pub struct POGOInfo<'a> {
-    /// 0x4C544347, `LTCG`, or 0x50475500, `PGU`.
+    /// 0x4C544347, `LTCG` (`IMAGE_DEBUG_POGO_SIGNATURE_LTCG`), or 0x50475500, `PGU`
+    /// (`IMAGE_DEBUG_POGO_SIGNATURE_PGU`).
     pub signature: u32,
-    /// The bytes behind the signature.
+    /// The bytes after the signature: the entries.
     pub bytes: &'a [u8],
 }
 
 impl<'a> POGOInfo<'a> {
+    /// The record at a file offset, in `size` bytes. A record with another signature is `None`, whatever its size.
     #[tactic(auto, unfolding(crate::specs::DebugRecords::pogo_record))]
     fn at(bytes: &'a [u8], place: usize, size: u32) -> Result<Option<Self>>
         ensures { Gives (option_map pogo_view) result (pogo_record bytes.entry.now place size) }
@@ -44,15 +47,17 @@ impl<'a> POGOInfo<'a> {
         Ok(Some(POGOInfo { signature, bytes }))
     }
 
-    /// The record of the entry, by the default options.
+    /// The POGO record of the entry, with the default options. Errors: those of `parse_with_opts`.
     pub fn parse(bytes: &'a [u8], idd: &ImageDebugDirectory) -> Result<Option<Self>>
         ensures { Gives (option_map pogo_view) result (pogo_of default_options bytes.entry.now idd.now) }
     {
         POGOInfo::parse_with_opts(bytes, idd, &ParseOptions::default())
     }
 
-    /// The record of the entry, `None` under another signature. Refusals in this order: `Short`; `PogoSize` for a
-    /// size of at most 4; `DebugData` where its bytes aren't all there.
+    /// The POGO record of the entry. `None` if it has another signature. `bytes` is the whole file.
+    ///
+    /// Errors, in this order: `Short` if the signature is not in the file; `PogoSize` if the entry's size is at most
+    /// 4; `DebugData` if the bytes after the signature are not in the file.
     pub fn parse_with_opts(
         bytes: &'a [u8],
         idd: &ImageDebugDirectory,
@@ -71,18 +76,18 @@ impl<'a> POGOInfo<'a> {
     }
 }
 
-/// A part of the image, and its name.
+/// An entry of a POGO record: a part of the image, and its name.
 #[derive(Clone, Copy, Debug, Default, PartialEq)]
 pub struct POGOInfoEntry<'a> {
-    /// The part's relative virtual address.
+    /// The RVA of the part.
     pub rva: u32,
-    /// In bytes.
+    /// The size of the part in bytes.
     pub size: u32,
-    /// The name with the zero byte that ends it.
+    /// The name, with the zero byte that ends it.
     pub name: &'a [u8],
 }
 
-/// Where the first zero byte is.
+/// The index of the first zero byte. `None` if there is none.
 fn first_zero(bytes: &[u8]) -> Option<usize>
     ensures within { IfSome result (λ k. k < length bytes.now) }
     ensures here { IfSome result (λ k. slice_index bytes.now k ≡ 0) }
@@ -97,7 +102,8 @@ fn first_zero(bytes: &[u8]) -> Option<usize>
     None
 }
 
-/// The entry that the bytes begin with, and how many bytes it has.
+/// The entry at the start of the bytes, and its size with the padding, in bytes. Errors, in this order: `Short` if
+/// there are fewer than eight bytes; `PogoName` if the name is not NUL-terminated or the padding is truncated.
 #[tactic(auto, using(crate::proofs::PogoNames::begins_from, crate::proofs::PogoNames::none_short, crate::proofs::PogoNames::none_unended, crate::proofs::PogoNames::none_cut))]
 fn entry_at<'a>(bytes: &'a [u8]) -> Result<(POGOInfoEntry<'a>, usize)>
     ensures entry { Reads bytes.entry.now result }
@@ -125,14 +131,15 @@ fn entry_at<'a>(bytes: &'a [u8]) -> Result<(POGOInfoEntry<'a>, usize)>
     Ok((entry, end))
 }
 
-/// The entries that are left of a record. A rest that begins with no entry is one item, an error.
+/// The entries that are left of a record. A rest that starts with no entry is one item: `Short` if it has fewer than
+/// eight bytes, else `PogoName`.
 #[derive(Clone, Copy, Debug)]
 pub struct POGOEntryIterator<'a> {
     bytes: &'a [u8],
 }
 
 impl<'a> POGOEntryIterator<'a> {
-    /// The entries of these bytes, which stand behind a record's signature.
+    /// The entries of these bytes, which follow the signature of a record.
     pub fn new(bytes: &'a [u8]) -> Self
         ensures { stream_of result ≡ bytes.entry.now }
     {

@@ -1,4 +1,5 @@
-//! Records of fixed size, and the record of reproducible builds.
+//! The debug records of fixed size, VC feature and extended DLL characteristics, and the Repro record of a
+//! reproducible build. A caller gets them by `DebugData`, or parses one of an entry.
 
 ghost use Rattle.std.specs.Prelude.{◌≡◌, ◌+◌, ◌≤◌, length};
 ghost use Rattle.pe_core.specs.Options.{default_options};
@@ -8,24 +9,25 @@ ghost use Rattle.pe_records.specs.DebugRecords.{features_at, features_of, charac
 use crate::debug::ImageDebugDirectory;
 use pe_core::{ParseOptions, Reason, Result, data_at, number32, require_bytes, u32_at};
 
-/// How many functions of an image were compiled with which features of Visual C++.
+/// A VC feature record (`IMAGE_DEBUG_TYPE_VC_FEATURE`), 20 bytes: how many functions of an image were compiled with
+/// which features of Visual C++.
 #[repr(C)]
 #[derive(Clone, Copy, Debug, Default, PartialEq)]
 pub struct VCFeatureInfo {
-    /// By a compiler before Visual C++ 11.
+    /// Compiled by a compiler before Visual C++ 11.
     pub pre_vc_plusplus_count: u32,
-    /// From C and C++.
+    /// Compiled from C and C++.
     pub c_and_cplusplus_count: u32,
-    /// With checks of the stack (`/GS`).
+    /// Compiled with checks of the stack (`/GS`).
     pub guard_stack_count: u32,
-    /// With the checks of `/sdl`.
+    /// Compiled with the checks of `/sdl`.
     pub sdl_count: u32,
-    /// With guards of control flow.
+    /// Compiled with guards of control flow.
     pub guard_count: u32,
 }
 
 impl VCFeatureInfo {
-    /// The counts at a place where their 20 bytes are known to be there.
+    /// Reads the counts at an offset where their 20 bytes are known to be.
     #[tactic(auto, unfolding(crate::specs::DebugRecords::features_at))]
     fn at(bytes: &[u8], place: usize) -> VCFeatureInfo
         requires { place + 20 ≤ length bytes.now }
@@ -40,14 +42,15 @@ impl VCFeatureInfo {
         }
     }
 
-    /// The counts of the entry, by the default options.
+    /// The counts of the entry, with the default options. Errors: those of `parse_with_opts`.
     pub fn parse(bytes: &[u8], idd: &ImageDebugDirectory) -> Result<VCFeatureInfo>
         ensures { Gives (λ r. r) result (features_of default_options bytes.now idd.now) }
     {
         VCFeatureInfo::parse_with_opts(bytes, idd, &ParseOptions::default())
     }
 
-    /// The counts of the entry, whatever its size: 20 bytes, or `Short`.
+    /// The counts of the entry, whatever its size says. `bytes` is the whole file. Errors: `Short` if the 20 bytes are
+    /// not in the file.
     pub fn parse_with_opts(
         bytes: &[u8],
         idd: &ImageDebugDirectory,
@@ -61,22 +64,24 @@ impl VCFeatureInfo {
     }
 }
 
-/// Characteristics of a library beyond those of the optional header.
+/// Extended DLL characteristics (`IMAGE_DEBUG_TYPE_EX_DLLCHARACTERISTICS`), 4 bytes: more flags than the optional
+/// header has.
 #[derive(Clone, Copy, Debug, Default, PartialEq)]
 pub struct ExDllCharacteristicsInfo {
-    /// A sum of the flags `IMAGE_DLLCHARACTERISTICS_EX_..`.
+    /// A combination of the flags `IMAGE_DLLCHARACTERISTICS_EX_*`.
     pub characteristics_ex: u32,
 }
 
 impl ExDllCharacteristicsInfo {
-    /// The characteristics of the entry, by the default options.
+    /// The characteristics of the entry, with the default options. Errors: those of `parse_with_opts`.
     pub fn parse(bytes: &[u8], idd: &ImageDebugDirectory) -> Result<ExDllCharacteristicsInfo>
         ensures { Gives (λ r. r) result (characteristics_of default_options bytes.now idd.now) }
     {
         ExDllCharacteristicsInfo::parse_with_opts(bytes, idd, &ParseOptions::default())
     }
 
-    /// The characteristics of the entry, whatever its size: 4 bytes, or `Short`.
+    /// The characteristics of the entry, whatever its size says. `bytes` is the whole file. Errors: `Short` if the 4
+    /// bytes are not in the file.
     pub fn parse_with_opts(
         bytes: &[u8],
         idd: &ImageDebugDirectory,
@@ -89,20 +94,22 @@ impl ExDllCharacteristicsInfo {
     }
 }
 
-/// What a reproducible build is known by.
+/// A Repro record (`IMAGE_DEBUG_TYPE_REPRO`): the identity of a reproducible build.
 #[derive(Clone, Copy, Debug, PartialEq)]
 pub enum ReproInfo<'a> {
-    /// The entry's time stamp, which is a hash then.
+    /// The time stamp of the entry, which is a hash here.
     TimeDateStamp(u32),
-    /// A hash of its own.
+    /// A hash of its own, in the record.
     Buffer {
-        /// In bytes.
+        /// The size of the hash in bytes.
         length: u32,
+        /// The hash.
         buffer: &'a [u8],
     },
 }
 
 impl<'a> ReproInfo<'a> {
+    /// The Repro record of the entry, at a file offset.
     #[tactic(auto, unfolding(crate::specs::DebugRecords::repro_record))]
     fn at(bytes: &'a [u8], place: usize, idd: &ImageDebugDirectory) -> Result<Self>
         ensures { Gives repro_view result (repro_record bytes.entry.now place idd.now) }
@@ -116,15 +123,17 @@ impl<'a> ReproInfo<'a> {
         Ok(ReproInfo::Buffer { length, buffer })
     }
 
-    /// What the entry's build is known by, by the default options.
+    /// The Repro record of the entry, with the default options. Errors: those of `parse_with_opts`.
     pub fn parse(bytes: &'a [u8], idd: &ImageDebugDirectory) -> Result<Self>
         ensures { Gives repro_view result (repro_of default_options bytes.entry.now idd.now) }
     {
         ReproInfo::parse_with_opts(bytes, idd, &ParseOptions::default())
     }
 
-    /// What the entry's build is known by: its time stamp if its size is 0, else a length of 4 bytes (`Short`) and
-    /// so many bytes (`DebugData`). The size isn't used further.
+    /// The Repro record of the entry: its time stamp if its size is 0, else a length of 4 bytes and that many bytes.
+    /// The size is not used further. `bytes` is the whole file.
+    ///
+    /// Errors, in this order: `Short` if the length is not in the file; `DebugData` if the hash is not.
     pub fn parse_with_opts(
         bytes: &'a [u8],
         idd: &ImageDebugDirectory,

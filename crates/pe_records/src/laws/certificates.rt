@@ -7,7 +7,7 @@ ghost use Rattle.pe_records.specs.Certificates.{CertificateView, certificate_at,
 ghost use Rattle.pe_core.specs.Places.{StandAt};
 ghost use Rattle.pe_records.specs.CertificateWriting.{IsWhole, spell_certificate, padding, written_length, written_certificate, written_certificates};
 
-/// A table has one listing or one refusal, and never both: what the function gives.
+/// A table has one listing or one error, never both; `certificates_at` returns that one.
 pub fn tables_have_one_listing()
     ensures listing { (b : List ℕ) (address size : ℕ) (cs : List CertificateView) → IsListing b address size cs ↔ (certificates_at b address size ≡ Ok cs) }
     ensures refusal { (b : List ℕ) (address size : ℕ) (r : Refusal) → IsRefused b address size r ↔ (certificates_at b address size ≡ Err r) }
@@ -23,29 +23,29 @@ pub fn written_certificates_are_read_again()
         certificate_at (splice b p (written_certificate c)) p ≡ Ok (c, p + written_length c) }
 {}
 
-/// A written certificate is its three pieces put in turn: the header, the body and the zeros.
+/// A written certificate is its three pieces, written in turn: the header, the body and the zeros.
 #[tactic(auto, using(crate::proofs::CertificatePieces::three_pieces))]
 pub fn certificates_are_three_pieces()
     ensures { (b : List ℕ) (p : ℕ) (c : CertificateView) → p ≤ length b →
         splice b p (written_certificate c) ≡ splice (splice (splice b p (spell_certificate c)) (p + 8) c.body) (p + 8 + length c.body) (padding c) }
 {}
 
-/// The body of a certificate that is read stands behind the eight bytes of its header.
+/// The body of a certificate that is read follows the eight bytes of its header.
 #[tactic(auto, using(crate::proofs::PartsInPlace::body_stands))]
 pub fn bodies_stand_behind_their_headers()
     ensures { (b : List ℕ) (p : ℕ) (c : CertificateView) (next : ℕ) → certificate_at b p ≡ Ok (c, next) → StandAt b (p + 8) c.body }
 {}
 
-/// A certificate that is read has the body that its length says; at a multiple of eight it takes as many bytes as it
-/// does when it is written, up to the place behind it.
+/// A certificate that is read has the body that its length says. At a multiple of eight it takes as many bytes as when
+/// it is written, up to the offset after it.
 #[tactic(auto, using(crate::proofs::CertificatesReadAgain::whole, crate::proofs::CertificatesReadAgain::next_place))]
 pub fn certificates_that_are_read_are_whole()
     ensures whole { (b : List ℕ) (p : ℕ) (c : CertificateView) (next : ℕ) → AreBytes b → certificate_at b p ≡ Ok (c, next) → IsWhole c }
     ensures next { (b : List ℕ) (p : ℕ) (c : CertificateView) (next : ℕ) → AreBytes b → p % 8 ≡ 0 → certificate_at b p ≡ Ok (c, next) → next ≡ p + written_length c }
 {}
 
-/// Listed certificates that are written one behind the other from the table's address on, a multiple of eight, into any
-/// buffer that has the table and room for them, are listed there again.
+/// Listed certificates are listed again once they are written one after the other, from the table's offset on, which
+/// is a multiple of eight, into any buffer that has the table and room for them.
 pub fn written_listings_are_listed_again()
     ensures again { (b buffer : List ℕ) (address size : ℕ) (cs : List CertificateView) → AreBytes b → address % 8 ≡ 0 → IsListing b address size cs →
         address + size ≤ length buffer → address + length (written_certificates cs) ≤ length buffer →

@@ -21,8 +21,8 @@ ghost use Rattle.pe_records.specs.Pogo.{Entry, Entries, stream_of, stream_item_o
 
 use crate::debug::{ImageDebugDirectoryIterator, POGOEntryIterator};
 
-/// The items that an iterator of debug entries gives are the entries of its bytes, as many as it tells, and it is
-/// over after a fault and after `None`.
+/// The items that an iterator of debug entries returns are the entries of its bytes, as many as it reports. It is over
+/// after an error and after `None`.
 pub fn debug_iterators_give_the_entries()
     ensures items { (s : ImageDebugDirectoryIterator) (xs : List (Result ImageDebugDirectory Error)) →
         Drains ⟦<ImageDebugDirectoryIterator<'static> as Iterator>⟧.next_gives s xs → map item_of xs ≡ entries (fixup_of s) (rest_of s) }
@@ -35,8 +35,8 @@ pub fn debug_iterators_give_the_entries()
         ⟦<ImageDebugDirectoryIterator<'static> as Iterator>⟧.next_gives t r u → r ≡ None }
 {}
 
-/// The items that an iterator of POGO entries gives are the entries of its bytes. Every byte string has a reading as a
-/// stream of entries, and one alone. The iterator is over after a fault and after `None`.
+/// The items that an iterator of POGO entries returns are the entries of its bytes. Every byte string has a reading as
+/// a stream of entries, and only one. The iterator is over after an error and after `None`.
 pub fn pogo_streams_have_one_reading()
     ensures items { (s : POGOEntryIterator) (xs : List (Result POGOInfoEntry Error)) →
         Drains ⟦<POGOEntryIterator<'static> as Iterator>⟧.next_gives s xs → Entries (stream_of s) (map stream_item_of xs) }
@@ -51,7 +51,7 @@ pub fn pogo_streams_have_one_reading()
         ⟦<POGOEntryIterator<'static> as Iterator>⟧.next_gives t r u → r ≡ None }
 {}
 
-/// Debug data and records that strict mode gives are those that permissive mode gives.
+/// Debug data and records that strict mode returns, permissive mode returns too.
 #[tactic(auto, using(crate::proofs::DebugModes::strict_pdb70, crate::proofs::DebugModes::strict_pdb20, crate::proofs::DebugModes::strict_debug_data))]
 pub fn strict_debug_data_is_permissive()
     ensures pdb70 { (o : ParseOptions) (b : List ℕ) (e : ImageDebugDirectory) (x : Option Pdb70) →
@@ -65,7 +65,8 @@ pub fn strict_debug_data_is_permissive()
         debug_data (record o { parse_mode = ParseMode.Permissive }) b d sections alignment fixup ≡ Ok x }
 {}
 
-/// A record that is given spells the bytes of its place, as many as its entry says.
+/// A record that is read spells the bytes at its offset: as many as its entry says for CodeView and POGO, 20 for VC
+/// feature, and as many as its own length says for Repro.
 #[tactic(auto, using(crate::proofs::SpelledDebug::spelled_pdb70, crate::proofs::SpelledDebug::spelled_pdb20, crate::proofs::SpelledDebug::spelled_features, crate::proofs::SpelledDebug::spelled_pogo, crate::proofs::SpelledDebug::spelled_repro))]
 pub fn debug_records_spell_their_bytes()
     ensures pdb70 { (mode : ParseMode) (b : List ℕ) (p size : ℕ) (r : Pdb70) → AreBytes b → pdb70_record mode b p size ≡ Ok (Some r) → spell_pdb70 r ≡ range b p size }
@@ -75,8 +76,8 @@ pub fn debug_records_spell_their_bytes()
     ensures pogo { (b : List ℕ) (p size : ℕ) (r : Pogo) → AreBytes b → pogo_record b p size ≡ Ok (Some r) → spell_pogo r ≡ range b p size }
 {}
 
-/// The file names, the hash and the entries of POGO that debug data have are ranges of the bytes: they stand so many bytes
-/// behind the place where the first entry of their type leads.
+/// The file names, the hash and the POGO entries of debug data are ranges of the bytes. Each stands at a fixed
+/// distance after the offset to which the first entry of its type leads.
 pub fn parts_of_debug_data_stand_in_the_bytes()
     ensures { (o : ParseOptions) (b : List ℕ) (d : DataDirectory) (sections : List SectionTable) (alignment fixup : ℕ) (x : DebugFields) →
         debug_data o b d sections alignment fixup ≡ Ok x → DebugPartsStand o b x }

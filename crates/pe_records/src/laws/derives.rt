@@ -1,5 +1,5 @@
-//! What `==`, `default` and `clone` mean: values are equal if all their fields are, slices by their bytes; a default has
-//! zeros and empty slices; a clone is its original.
+//! Laws of derived traits: values are equal if all their fields are, slices by their bytes; a default has zeros and
+//! empty slices; a clone is its original.
 
 ghost use Rattle.std.specs.Prelude.{◌≡◌, [], replicate};
 ghost use Rattle.pe_core.specs.Traits.{IsEquality, ComparesBy, Copies};

@@ -1,4 +1,6 @@
-//! ARM64 unwind codes: what a prolog or an epilog did, an instruction a code.
+//! ARM64 unwind codes: what a prolog or an epilog did, one code for each instruction. A code has 1 to 5 bytes; its
+//! numbers have their highest byte first. A caller iterates over the codes of a record up to `End` and undoes them.
+//! The table of codes: [ARM64 exception handling](https://learn.microsoft.com/cpp/build/arm64-exception-handling).
 
 ghost use Rattle.std.specs.Prelude.{◌≡◌, ◌≢◌, ◌+◌, ◌-◌, ◌*◌, ◌/◌, ◌%◌, ◌^◌, ◌<◌, ◌≤◌, ◌⊎◌, ℕ, [], ◌∷◌, length, IfSome, IfNone, Some};
 ghost use Rattle.std.specs.Iterator.{at_most, UpTo};
@@ -11,178 +13,178 @@ use pe_core::{Error, Reason, Result};
 /// What the operating system put on the stack.
 #[derive(Clone, Copy, Debug, PartialEq, Eq)]
 pub enum Arm64CustomStackCase {
-    /// A trap frame.
+    /// A trap frame (`MSFT_OP_TRAP_FRAME`).
     TrapFrame,
-    /// A machine frame.
+    /// A machine frame (`MSFT_OP_MACHINE_FRAME`).
     MachineFrame,
-    /// A context record.
+    /// A context record (`MSFT_OP_CONTEXT`).
     Context,
-    /// A context record of ARM64EC.
+    /// A context record of ARM64EC (`MSFT_OP_EC_CONTEXT`).
     EcContext,
-    /// What clears the mark of an unwind to a call.
+    /// Clears the mark of an unwind to a call (`MSFT_OP_CLEAR_UNWOUND_TO_CALL`).
     ClearUnwoundToCall,
 }
 
-/// What one instruction did. Integer registers are counted from `x0`, floating-point registers from `d0`; sizes and
-/// offsets are in bytes. A preindexed store moves the stack pointer down by its offset first; of `SaveAnyReg` its field
-/// tells more.
+/// What one instruction did. Integer registers count from `x0`, floating-point registers from `d0`. Sizes and offsets
+/// are in bytes; an offset counts from the stack pointer. A preindexed store first moves the stack pointer down by its
+/// offset; `SaveAnyReg` says more on its own offset. Names in parentheses are those of Microsoft's table.
 #[derive(Clone, Copy, Debug, PartialEq, Eq)]
 pub enum Arm64UnwindCode {
-    /// Made room on the stack, below 512 bytes.
+    /// Allocated stack, less than 512 bytes (`alloc_s`).
     AllocSmall {
-        /// How many bytes: a multiple of 16.
+        /// The size in bytes, a multiple of 16.
         size_bytes: u32,
     },
-    /// Saved `x19` and `x20`, preindexed.
+    /// Saved `x19` and `x20`, preindexed (`save_r19r20_x`).
     SaveR19R20Preindexed {
-        /// A multiple of 8, at most 248.
+        /// In bytes: a multiple of 8, at most 248.
         offset_bytes: u32,
     },
-    /// Saved `x29` and the link register.
+    /// Saved `x29` and the link register (`save_fplr`).
     SaveFpLr {
-        /// A multiple of 8, at most 504.
+        /// In bytes: a multiple of 8, at most 504.
         offset_bytes: u32,
     },
-    /// Saved `x29` and the link register, preindexed.
+    /// Saved `x29` and the link register, preindexed (`save_fplr_x`).
     SaveFpLrPreindexed {
-        /// A multiple of 8, from 8 to 512.
+        /// In bytes: a multiple of 8, from 8 to 512.
         offset_bytes: u32,
     },
-    /// Made room on the stack, below 32,768 bytes.
+    /// Allocated stack, less than 32,768 bytes (`alloc_m`).
     AllocMedium {
-        /// How many bytes: a multiple of 16.
+        /// The size in bytes, a multiple of 16.
         size_bytes: u32,
     },
-    /// Saved an integer register and the one behind it.
+    /// Saved an integer register and the next one (`save_regp`).
     SaveRegPair {
         /// The first of the two, from 19 to 34.
         first_reg: u8,
-        /// A multiple of 8, at most 504.
+        /// In bytes: a multiple of 8, at most 504.
         offset_bytes: u32,
     },
-    /// Saved an integer register and the one behind it, preindexed.
+    /// Saved an integer register and the next one, preindexed (`save_regp_x`).
     SaveRegPairPreindexed {
         /// The first of the two, from 19 to 34.
         first_reg: u8,
-        /// A multiple of 8, from 8 to 512.
+        /// In bytes: a multiple of 8, from 8 to 512.
         offset_bytes: u32,
     },
-    /// Saved an integer register.
+    /// Saved an integer register (`save_reg`).
     SaveReg {
         /// The register, from 19 to 34.
         reg: u8,
-        /// A multiple of 8, at most 504.
+        /// In bytes: a multiple of 8, at most 504.
         offset_bytes: u32,
     },
-    /// Saved an integer register, preindexed.
+    /// Saved an integer register, preindexed (`save_reg_x`).
     SaveRegPreindexed {
         /// The register, from 19 to 34.
         reg: u8,
-        /// A multiple of 8, from 8 to 256.
+        /// In bytes: a multiple of 8, from 8 to 256.
         offset_bytes: u32,
     },
-    /// Saved an integer register and the link register.
+    /// Saved an integer register and the link register (`save_lrpair`).
     SaveLrPair {
         /// The integer register: 19, 21 and so on to 33.
         first_reg: u8,
-        /// A multiple of 8, at most 504.
+        /// In bytes: a multiple of 8, at most 504.
         offset_bytes: u32,
     },
-    /// Saved a floating-point register and the one behind it.
+    /// Saved a floating-point register and the next one (`save_fregp`).
     SaveFRegPair {
         /// The first of the two, from 8 to 15.
         first_reg: u8,
-        /// A multiple of 8, at most 504.
+        /// In bytes: a multiple of 8, at most 504.
         offset_bytes: u32,
     },
-    /// Saved a floating-point register and the one behind it, preindexed.
+    /// Saved a floating-point register and the next one, preindexed (`save_fregp_x`).
     SaveFRegPairPreindexed {
         /// The first of the two, from 8 to 15.
         first_reg: u8,
-        /// A multiple of 8, from 8 to 512.
+        /// In bytes: a multiple of 8, from 8 to 512.
         offset_bytes: u32,
     },
-    /// Saved a floating-point register.
+    /// Saved a floating-point register (`save_freg`).
     SaveFReg {
         /// The register, from 8 to 15.
         reg: u8,
-        /// A multiple of 8, at most 504.
+        /// In bytes: a multiple of 8, at most 504.
         offset_bytes: u32,
     },
-    /// Saved a floating-point register, preindexed.
+    /// Saved a floating-point register, preindexed (`save_freg_x`).
     SaveFRegPreindexed {
         /// The register, from 8 to 15.
         reg: u8,
-        /// A multiple of 8, from 8 to 256.
+        /// In bytes: a multiple of 8, from 8 to 256.
         offset_bytes: u32,
     },
-    /// Made room on the stack for vectors of scalable length.
+    /// Allocated stack for scalable vectors (`alloc_z`).
     AllocZ {
         /// How many vectors.
         count: u8,
     },
-    /// Made room on the stack, below 268,435,456 bytes.
+    /// Allocated stack, less than 268,435,456 bytes (`alloc_l`).
     AllocLarge {
-        /// How many bytes: a multiple of 16.
+        /// The size in bytes, a multiple of 16.
         size_bytes: u32,
     },
-    /// Set `x29` to the stack pointer.
+    /// Set `x29` to the stack pointer (`set_fp`).
     SetFp,
-    /// Set `x29` to a place above the stack pointer.
+    /// Set `x29` to an address above the stack pointer (`add_fp`).
     AddFp {
         /// The code's second byte.
         imm8: u8,
-        /// How far above: 8 times that byte.
+        /// How far above, in bytes: 8 times that byte.
         offset_bytes: u32,
     },
-    /// Nothing that is to be undone.
+    /// Did nothing that is to be undone (`nop`).
     Nop,
-    /// Ends the codes of a function or an epilog.
+    /// The end of the codes of a function or an epilog (`end`).
     End,
-    /// Ends the codes of this part of a function that is chained to another.
+    /// The end of the codes of this part of a function that is chained to another (`end_c`).
     EndC,
-    /// Saved the pair of registers behind the pair that the instruction before it saved, whose code stands behind this
-    /// one.
+    /// Saved the next pair of registers (`save_next`): the pair after that of the instruction before it, whose code
+    /// follows this one.
     SaveNext,
-    /// Saved any register, or a pair.
+    /// Saved any register, or a pair (`save_any_reg`).
     SaveAnyReg {
-        /// Of which kind: 0 integer (`x`), 1 floating-point (`d`), 2 vector (`q`).
+        /// The kind of register: 0 integer (`x`), 1 floating-point (`d`), 2 vector (`q`).
         kind: u8,
-        /// Whether the register behind it was saved, too.
+        /// Whether the next register was saved too.
         pair: bool,
         /// Whether the store was preindexed.
         preindexed: bool,
         /// The register, from 0 to 31.
         reg: u8,
-        /// The number in the code times 16 for a pair, a preindexed store or a vector, else times 8. Assemblers that
-        /// count that number from one where the store is preindexed, as LLVM's does, mean 16 bytes more there.
+        /// In bytes: the number in the code times 16 for a pair, a preindexed store or a vector, else times 8.
+        /// Assemblers that count that number from one in a preindexed store, as LLVM's does, mean 16 bytes more there.
         offset_bytes: u32,
     },
-    /// Saved a scalable vector.
+    /// Saved a scalable vector (`save_zreg`).
     SaveZReg {
         /// The register's number, from 0 to 15, as the code has it.
         r: u8,
         /// The offset's number, from 0 to 255, as the code has it.
         o: u16,
     },
-    /// Saved a scalable predicate.
+    /// Saved a scalable predicate (`save_preg`).
     SavePReg {
         /// The register's number, from 0 to 15, as the code has it.
         r: u8,
         /// The offset's number, from 0 to 255, as the code has it.
         o: u16,
     },
-    /// The operating system's own frame.
+    /// A frame of the operating system's own.
     CustomStack(Arm64CustomStackCase),
-    /// Signed the link register.
+    /// Signed the link register (`pac_sign_lr`).
     PacSignLr,
-    /// A code with no meaning as yet.
+    /// A reserved code, without a meaning so far.
     Reserved {
         /// The code's first byte.
         opcode: u8,
-        /// The number in the bytes behind it, the greatest first.
+        /// The number in the bytes after the opcode, the highest byte first.
         value: u32,
-        /// How many bytes that number has, from 0 to 4.
+        /// The size of that number in bytes, from 0 to 4.
         data_len: u8,
     },
 }
@@ -229,7 +231,7 @@ fn one_byte_code(first: u8) -> Arm64UnwindCode
     }
 }
 
-/// The code of two bytes that tells where integer registers are saved.
+/// The code of two bytes that saves integer registers.
 fn integer_register_code(first: u8, second: u8) -> Arm64UnwindCode
     requires low { 0xC8 ≤ first }
     requires high { first < 0xD8 }
@@ -261,7 +263,7 @@ fn integer_register_code(first: u8, second: u8) -> Arm64UnwindCode
     }
 }
 
-/// The code of two bytes that tells where floating-point registers are saved.
+/// The code of two bytes that saves floating-point registers.
 fn float_register_code(first: u8, second: u8) -> Arm64UnwindCode
     requires low { 0xD8 ≤ first }
     requires high { first < 0xDF }
@@ -313,7 +315,7 @@ fn two_byte_code(first: u8, second: u8) -> Arm64UnwindCode
     }
 }
 
-/// The code of E7h and two more bytes, of which the second is below 128.
+/// The code of E7h and two more bytes, of which the first is below 128.
 fn any_register_code(second: u8, third: u8) -> Arm64UnwindCode
     requires { second < 128 }
     ensures { Encodes (0xE7 ∷ second ∷ third ∷ []) result }
@@ -393,7 +395,7 @@ fn five_byte_code(second: u8, third: u8, fourth: u8, fifth: u8) -> Arm64UnwindCo
     }
 }
 
-/// How many bytes the code has that begins with these two.
+/// The size in bytes of the code that starts with these two bytes.
 fn code_len(first: u8, second: u8) -> usize
     ensures { result ≡ len_at first second }
 {
@@ -410,7 +412,7 @@ fn code_len(first: u8, second: u8) -> usize
     }
 }
 
-/// The code that the bytes begin with, and how many bytes it has. `None` with no bytes, and for a code that is cut.
+/// The code at the start of the bytes, and its size in bytes. `None` without bytes, and if the code is truncated.
 fn code_at(bytes: &[u8]) -> Option<(Arm64UnwindCode, usize)>
     ensures some { IfSome result (λ x. BeginsWithArm64Code bytes.now x.0) }
     ensures len { IfSome result (λ x. x.1 ≡ length (encoding x.0)) }
@@ -437,8 +439,8 @@ fn code_at(bytes: &[u8]) -> Option<(Arm64UnwindCode, usize)>
 }
 
 impl Arm64UnwindCode {
-    /// The code that the bytes begin with, and how many bytes it has, from 1 to 5. `None` with no bytes, and for a code
-    /// that is cut.
+    /// The code at the start of the bytes, and its size in bytes, from 1 to 5. `None` without bytes, and if the code
+    /// is truncated.
     pub fn parse(bytes: &[u8]) -> Option<(Arm64UnwindCode, usize)>
         ensures some { IfSome result (λ x. BeginsWithArm64Code bytes.now x.0) }
         ensures len { IfSome result (λ x. x.1 ≡ length (encoding x.0)) }
@@ -449,21 +451,22 @@ impl Arm64UnwindCode {
     }
 }
 
-/// A code, and which bytes of its stream it is.
+/// A code, and where it stands in its stream.
 #[derive(Clone, Copy, Debug, PartialEq, Eq)]
 pub struct Arm64UnwindCodeData {
-    /// Where it begins, in bytes from the stream's start.
+    /// The offset of the code in bytes, from the start of the stream.
     pub offset: u32,
-    /// What was done.
+    /// What the instruction did.
     pub code: Arm64UnwindCode,
-    /// How many bytes it has, from 1 to 5.
+    /// The size of the code in bytes, from 1 to 5.
     pub len: u8,
 }
 
-/// The bytes of the longest stream: each place fits 32 bits.
+/// The size of the longest stream in bytes: each offset in it fits 32 bits.
 const LONGEST_STREAM: usize = 0xFFFF_FFFC;
 
-/// The codes of a stream from a place on, also those behind an `End`. `Arm64Cut` where a code is cut, and then over.
+/// The codes of a stream from an offset on, also those after an `End`. A truncated code is one item, `Arm64Cut`, and
+/// then the iterator is over.
 #[derive(Drop)]
 pub struct Arm64UnwindCodeIterator<'a> {
     bytes: &'a [u8],
@@ -475,8 +478,8 @@ impl<'a> Arm64UnwindCodeIterator<'a> {
     ghost use Rattle.pe_core.specs.Refusals.{Gives};
     ghost use Rattle.pe_unwind.specs.Arm64Tiling.{stream_place, stream_at};
 
-    /// The codes of these bytes from a place on. `Arm64Stream` if the bytes are no whole words of four, the place is past
-    /// their end, or there are more than 4,294,967,292.
+    /// The codes of these bytes from an offset on. Errors: `Arm64Stream` if the length of the bytes is not a multiple
+    /// of 4, if the offset is past their end, or if there are more than 4,294,967,292 bytes.
     pub fn new(bytes: &'a [u8], start: usize) -> Result<Self>
         ensures { Gives stream_place result (stream_at bytes.entry.now start) }
     {
@@ -502,7 +505,7 @@ impl<'a> Iterator for Arm64UnwindCodeIterator<'a> {
 
     ghost remaining = { λ s. at_most (left_at (stream_place s)) };
 
-    /// At least one item for each five bytes that are left, at most one for each.
+    /// At least one item for each five bytes that are left, at most one for each byte.
     fn size_hint(&self) -> (usize, Option<usize>)
         ensures lower { IsWithinCount result.0 (at_most (left_at (stream_place self.now))) }
         ensures upper { IfSome result.1 (UpTo (at_most (left_at (stream_place self.now)))) }

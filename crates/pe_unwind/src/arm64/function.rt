@@ -1,4 +1,7 @@
-//! The ARM64 function table: its entries, and what is packed in them.
+//! The ARM64 function table (`.pdata`): entries of 8 bytes, each the start RVA of a function and its unwind data.
+//! These are packed into the entry, or the RVA of an unwind record. A caller tests `is_packed`, then reads the packed
+//! fields or the record. See
+//! [ARM64 exception handling](https://learn.microsoft.com/cpp/build/arm64-exception-handling).
 
 ghost use Rattle.std.specs.Prelude.{◌≡◌, ◌+◌, ◌*◌, ◌≤◌, ◌==◌, length, IfSome, Some};
 ghost use Rattle.std.specs.Iterator.{UpTo, YieldsFirstBy, item_count};
@@ -11,102 +14,103 @@ ghost use Rattle.pe_unwind.specs.Arm64Functions.{is_packed, arm64_function_of, a
 use super::words::bits;
 use pe_core::{Error, Reason, Result, number32, split_entry};
 
-/// The flag of an entry whose unwind data are the address of an unwind record.
+/// The `flag` of an entry whose unwind data are the RVA of an unwind record.
 pub const ARM64_PDATA_REF_TO_FULL_XDATA: u32 = 0;
 
-/// The flag of an entry with the packed unwind data of a function.
+/// The `flag` of an entry with the packed unwind data of a function.
 pub const ARM64_PDATA_PACKED_UNWIND_FUNCTION: u32 = 1;
 
-/// The flag of an entry with the packed unwind data of a part of a function, which has no prolog.
+/// The `flag` of an entry with the packed unwind data of a part of a function, which has no prolog.
 pub const ARM64_PDATA_PACKED_UNWIND_FRAGMENT: u32 = 2;
 
-/// No frame chain, and the link register is not saved.
+/// `cr`: no frame chain, and the link register is not saved.
 pub const ARM64_PDATA_CR_UNCHAINED: u32 = 0;
 
-/// No frame chain; the link register is saved.
+/// `cr`: no frame chain; the link register is saved.
 pub const ARM64_PDATA_CR_UNCHAINED_SAVED_LR: u32 = 1;
 
-/// A frame chain, with a return address that is signed.
+/// `cr`: a frame chain, with a signed return address.
 pub const ARM64_PDATA_CR_CHAINED_WITH_PAC: u32 = 2;
 
-/// A frame chain.
+/// `cr`: a frame chain.
 pub const ARM64_PDATA_CR_CHAINED: u32 = 3;
 
-/// The bytes of one entry.
+/// The size of an entry in bytes.
 pub(crate) const SIZE_OF_ARM64_FUNCTION: usize = 8;
 
-/// An entry of the ARM64 function table: where a function begins, and how its frame is unwound.
+/// An entry of the ARM64 function table: the start of a function, and how its frame is unwound.
 #[repr(C)]
 #[derive(Clone, Copy, Debug, Default, PartialEq)]
 pub struct Arm64RuntimeFunction {
-    /// The address of the first byte.
+    /// The start: RVA of the first byte.
     pub begin_address: u32,
-    /// The address of the unwind record or, by the two lowest bits, the unwind data themselves, packed.
+    /// The RVA of the unwind record or, by the two lowest bits, the packed unwind data themselves. Read it by the
+    /// methods.
     pub unwind_data: u32,
 }
 
 impl Arm64RuntimeFunction {
-    /// How the unwind data are given: 0 by the address of an unwind record; else packed, 1 of a whole function, 2 of a
-    /// part of one that has no prolog. 3 is reserved. (`ARM64_PDATA_REF_TO_FULL_XDATA`,
-    /// `ARM64_PDATA_PACKED_UNWIND_FUNCTION`, `ARM64_PDATA_PACKED_UNWIND_FRAGMENT`.)
+    /// The two lowest bits of the unwind data: `ARM64_PDATA_REF_TO_FULL_XDATA` (0) if the rest is the RVA of an unwind
+    /// record, `ARM64_PDATA_PACKED_UNWIND_FUNCTION` (1) if it is packed data of a whole function,
+    /// `ARM64_PDATA_PACKED_UNWIND_FRAGMENT` (2) if it is packed data of a part that has no prolog. 3 is reserved.
     pub fn flag(&self) -> u32
         ensures { result ≡ bits self.now.unwind_data 0 2 }
     {
         bits(self.unwind_data, 0, 2)
     }
 
-    /// Packed: the length of the function in bytes.
+    /// Packed data: the length of the function in bytes.
     pub fn function_length(&self) -> u32
         ensures { result ≡ 4 * bits self.now.unwind_data 2 11 }
     {
         bits(self.unwind_data, 2, 11) * 4
     }
 
-    /// Packed: how many floating-point registers are saved, from d8 on, less one; 0 where none is (RegF).
+    /// Packed data: how many floating-point registers are saved, from d8 on, minus one; 0 if none is saved (RegF).
     pub fn reg_f(&self) -> u32
         ensures { result ≡ bits self.now.unwind_data 13 3 }
     {
         bits(self.unwind_data, 13, 3)
     }
 
-    /// Packed: how many integer registers are saved, from x19 on (RegI).
+    /// Packed data: how many integer registers are saved, from x19 on (RegI).
     pub fn reg_i(&self) -> u32
         ensures { result ≡ bits self.now.unwind_data 16 4 }
     {
         bits(self.unwind_data, 16, 4)
     }
 
-    /// Packed: whether the prolog stores the parameter registers x0 to x7 (H).
+    /// Packed data: whether the prolog stores the parameter registers x0 to x7 (H).
     pub fn h(&self) -> bool
         ensures { result ≡ (bits self.now.unwind_data 20 1 == 1) }
     {
         bits(self.unwind_data, 20, 1) == 1
     }
 
-    /// Packed: whether the function sets up a frame chain, and how it returns (CR): 0 unchained, 1 unchained with the
-    /// link register saved, 2 chained with a signed return address, 3 chained. (`ARM64_PDATA_CR_UNCHAINED`,
-    /// `ARM64_PDATA_CR_UNCHAINED_SAVED_LR`, `ARM64_PDATA_CR_CHAINED_WITH_PAC`, `ARM64_PDATA_CR_CHAINED`.)
+    /// Packed data: whether the function sets up a frame chain, and how it returns (CR): `ARM64_PDATA_CR_UNCHAINED`
+    /// (0), `ARM64_PDATA_CR_UNCHAINED_SAVED_LR` (1), unchained with the link register saved,
+    /// `ARM64_PDATA_CR_CHAINED_WITH_PAC` (2), chained with a signed return address, or `ARM64_PDATA_CR_CHAINED` (3).
     pub fn cr(&self) -> u32
         ensures { result ≡ bits self.now.unwind_data 21 2 }
     {
         bits(self.unwind_data, 21, 2)
     }
 
-    /// Packed: the bytes of stack that the function takes.
+    /// Packed data: the size of the frame on the stack in bytes.
     pub fn frame_size(&self) -> u32
         ensures { result ≡ 16 * bits self.now.unwind_data 23 9 }
     {
         bits(self.unwind_data, 23, 9) * 16
     }
 
-    /// Whether the unwind data are packed into the entry.
+    /// Whether the unwind data are packed into the entry: any `flag` but 0.
     pub fn is_packed(&self) -> bool
         ensures { result ≡ is_packed self.now }
     {
         self.flag() != ARM64_PDATA_REF_TO_FULL_XDATA
     }
 
-    /// Not packed: the address of the unwind record, the unwind data without its two lowest bits.
+    /// Data that are not packed: the RVA of the unwind record, which is the unwind data with the two lowest bits 0.
     pub fn unwind_data_rva(&self) -> u32
         ensures { result ≡ 4 * bits self.now.unwind_data 2 30 }
     {
@@ -114,7 +118,7 @@ impl Arm64RuntimeFunction {
     }
 }
 
-/// Reads the entry at a place that is known to have one.
+/// Reads the entry at an offset where one is known to be.
 pub(crate) fn read_arm64_function(bytes: &[u8], place: usize) -> Arm64RuntimeFunction
     requires { place + 8 ≤ length bytes.now }
     ensures { result ≡ arm64_function_at bytes.now place }
@@ -126,8 +130,8 @@ pub(crate) fn read_arm64_function(bytes: &[u8], place: usize) -> Arm64RuntimeFun
 }
 
 impl Arm64RuntimeFunction {
-    /// The entry of a table with this index, which counts entries. `FunctionIndex` where the table has no more than that
-    /// many whole ones.
+    /// The entry of a table with this index, which counts entries. Errors: `FunctionIndex` unless the table has more
+    /// whole entries than that.
     pub fn of_table(table: &[u8], index: usize) -> Result<Arm64RuntimeFunction>
         ensures { Gives (λ f. f) result (arm64_function_of table.now index) }
     {
@@ -139,14 +143,14 @@ impl Arm64RuntimeFunction {
     }
 }
 
-/// The entries that are left of an ARM64 function table. A cut last entry is one item, refused as `Short`.
+/// The entries that are left of an ARM64 function table. A truncated last entry is one item, `Short`.
 #[derive(Debug, Drop)]
 pub struct Arm64RuntimeFunctionIterator<'a> {
     bytes: &'a [u8],
 }
 
 impl<'a> Arm64RuntimeFunctionIterator<'a> {
-    /// The entries of these bytes.
+    /// The entries of these bytes, 8 bytes each.
     pub fn new(bytes: &'a [u8]) -> Self
         ensures { items_of_arm64_functions result ≡ arm64_function_items bytes.entry.now }
     {

@@ -1,4 +1,7 @@
-//! ARM64 unwind records.
+//! ARM64 unwind records (`.xdata`): a header word, an extension word if the header has no counts, epilog scopes, words
+//! of unwind codes, and the RVA of an exception handler with its data. A caller undoes the codes from index 0 on, or
+//! from the index of an epilog. See
+//! [ARM64 exception handling](https://learn.microsoft.com/cpp/build/arm64-exception-handling).
 
 ghost use Rattle.std.specs.Prelude.{◌≡◌, ◌+◌, ◌*◌, ◌≤◌, [], ◌∷◌, length, Result};
 ghost use Rattle.std.specs.Option.{option_map};
@@ -12,32 +15,32 @@ use crate::arm64::codes::Arm64UnwindCodeIterator;
 use crate::arm64::words::{Arm64EpilogScopeIterator, Arm64UnwindExtension, Arm64UnwindHeader};
 use pe_core::{Error, Reason, Result, number32, require_bytes, slice_at, u32_at};
 
-/// The bytes of one word.
+/// The size of a word in bytes.
 const SIZE_OF_WORD: usize = 4;
 
-/// What is called when an exception passes through a function.
+/// The exception handler of a function, called when an exception passes through it.
 #[derive(Clone, Debug, Drop, PartialEq, Eq)]
 pub struct Arm64ExceptionHandler<'a> {
-    /// The address of the handler.
+    /// The RVA of the handler.
     pub rva: u32,
-    /// All bytes behind that address in the record, to the end of the file: the handler's data.
+    /// The handler's data: all bytes after that RVA in the record, to the end of the file.
     pub bytes: &'a [u8],
 }
 
-/// How the frame of an ARM64 function is unwound.
+/// An ARM64 unwind record: how the frame of a function is unwound.
 #[derive(Clone, Debug, Drop)]
 pub struct Arm64UnwindInfo<'a> {
-    /// The first word.
+    /// The header, the first word.
     pub header: Arm64UnwindHeader,
-    /// The second word, where the header has no counts.
+    /// The extension word, if both counts of the header are 0.
     pub extension: Option<Arm64UnwindExtension>,
-    /// The handler, if there is one.
+    /// The exception handler, if there is one.
     pub exception_handler: Option<Arm64ExceptionHandler<'a>>,
     scope_bytes: &'a [u8],
     code_bytes: &'a [u8],
 }
 
-/// The extension word behind a header, if the header has no counts.
+/// The extension word after a header, if the header has no counts. Errors: `Short`.
 fn extension_behind(
     bytes: &[u8],
     place: usize,
@@ -78,7 +81,7 @@ fn count_of_code_words(header: Arm64UnwindHeader, extension: Option<Arm64UnwindE
     }
 }
 
-/// The handler behind the codes, if the header says that there is one.
+/// The handler after the codes, if the header says that there is one. Errors: `Short`.
 fn handler_behind(
     bytes: &[u8],
     place: usize,
@@ -98,7 +101,10 @@ fn handler_behind(
 }
 
 impl<'a> Arm64UnwindInfo<'a> {
-    /// The record at a place of the bytes. `Short` where a part is not all there, `Arm64Version` unless its version is 0.
+    /// The record at an offset in the bytes. Its handler's data reach to the end of `bytes`.
+    ///
+    /// Errors, in this order: `Short` if the header is truncated; `Arm64Version` unless its version is 0; `Short` if
+    /// the extension word, the scopes, the codes or the handler's RVA are truncated.
     #[tactic(auto, unfolding(crate::specs::Arm64Record::info_at))]
     pub fn parse(bytes: &'a [u8], offset: usize) -> Result<Arm64UnwindInfo<'a>>
         ensures { Gives info_view result (info_at bytes.entry.now offset) }
@@ -134,8 +140,9 @@ impl<'a> Arm64UnwindInfo<'a> {
         })
     }
 
-    /// How many bytes the record at the start of these bytes has, up to its handler's data. It reads the header and the
-    /// extension word, and is refused as `Short` where one of them is not there.
+    /// The size in bytes of the record at the start of these bytes, up to its handler's data. It reads the header and
+    /// the extension word alone, so it returns the size of a truncated record too, and of one of any version. Errors:
+    /// `Short` if one of these words is truncated.
     #[tactic(auto, unfolding(crate::specs::Arm64Record::size_at))]
     pub fn size(bytes: &[u8]) -> Result<usize>
         ensures { Gives (λ n. n) result (size_at bytes.now) }
@@ -154,7 +161,7 @@ impl<'a> Arm64UnwindInfo<'a> {
         Ok(SIZE_OF_WORD * words)
     }
 
-    /// The epilog scopes. `None` where the header describes the one epilog, or where there are no scopes.
+    /// The epilog scopes. `None` if the header describes the only epilog, or if there are no scopes.
     pub fn epilog_scopes(&self) -> Option<Arm64EpilogScopeIterator<'a>>
         ensures { option_map epilog_scopes_left result ≡ scopes_of (info_view self.now) }
     {
@@ -164,21 +171,22 @@ impl<'a> Arm64UnwindInfo<'a> {
         Some(Arm64EpilogScopeIterator::new(self.scope_bytes))
     }
 
-    /// The bytes of its epilog scopes, four for each. Where the record was read at a place they stand behind its words.
+    /// The bytes of the epilog scopes, four for each. They follow the header and the extension word.
     pub fn scope_bytes(&self) -> &'a [u8]
         ensures { result.now ≡ (info_view self.now).scopes }
     {
         self.scope_bytes
     }
 
-    /// The bytes of its codes, which stand behind those of the epilog scopes.
+    /// The bytes of the codes. They follow the epilog scopes.
     pub fn code_bytes(&self) -> &'a [u8]
         ensures { result.now ≡ (info_view self.now).codes }
     {
         self.code_bytes
     }
 
-    /// The unwind codes from this index on, which counts bytes. `Arm64Stream` where it is behind their end.
+    /// The unwind codes from an index on, in bytes from the first code: 0 for the prolog, or the `start_index` of an
+    /// epilog scope. Errors: `Arm64Stream` if the index is past the end of the codes.
     pub fn unwind_codes(&self, start_index: u16) -> Result<Arm64UnwindCodeIterator<'a>>
         ensures { Gives stream_place result (stream_at (info_view self.now).codes start_index) }
     {

@@ -1,4 +1,6 @@
-//! Words of ARM64 exception data, and the fields that are packed into their bits.
+//! The 32-bit words of ARM64 unwind records, and the fields that are packed into their bits; bit 0 is the lowest. A
+//! caller gets them from `Arm64UnwindInfo`. Layouts:
+//! [ARM64 exception handling](https://learn.microsoft.com/cpp/build/arm64-exception-handling).
 
 ghost use Rattle.std.specs.Prelude.{◌≡◌, ◌*◌, ◌<◌, ◌==◌, length, IfSome, Some};
 ghost use Rattle.std.specs.Iterator.{UpTo, YieldsFirstBy, item_count};
@@ -8,10 +10,10 @@ ghost use Rattle.pe_unwind.specs.FunctionTable.{answer_of};
 
 use pe_core::{Result, number32, split_entry};
 
-/// The bytes of one epilog scope.
+/// The size of an epilog scope in bytes.
 const SIZE_OF_EPILOG_SCOPE: usize = 4;
 
-/// The number in so many bits of a word, from bit `first` on.
+/// The number in `count` bits of a word, from bit `first` on.
 pub(crate) fn bits(word: u32, first: u32, count: u32) -> u32
     requires inside { first < 32 }
     requires less { count < 32 }
@@ -20,7 +22,7 @@ pub(crate) fn bits(word: u32, first: u32, count: u32) -> u32
     (word >> first) % (1 << count)
 }
 
-/// The first word of an ARM64 unwind record.
+/// The header of an ARM64 unwind record, its first word.
 #[derive(Clone, Copy, Debug, PartialEq, Eq)]
 pub struct Arm64UnwindHeader(pub u32);
 
@@ -39,35 +41,36 @@ impl Arm64UnwindHeader {
         bits(self.0, 18, 2)
     }
 
-    /// Whether the record ends in the address of a handler (X).
+    /// Whether the record ends in the RVA of an exception handler (X).
     pub fn exception_data_present(&self) -> bool
         ensures { result ≡ has_handler (self.now).0 }
     {
         bits(self.0, 20, 1) == 1
     }
 
-    /// Whether the one epilog is described by this word, and no scopes follow (E).
+    /// Whether this word describes the only epilog, so that no epilog scopes follow (E).
     pub fn epilog_in_header(&self) -> bool
         ensures { result ≡ has_epilog (self.now).0 }
     {
         bits(self.0, 21, 1) == 1
     }
 
-    /// How many epilog scopes follow or, with the epilog in this word, the index of its first unwind code.
+    /// How many epilog scopes follow. If `epilog_in_header`, the index of the first unwind code of the epilog instead,
+    /// in bytes from the first code.
     pub fn epilog_count(&self) -> u32
         ensures { result ≡ bits (self.now).0 22 5 }
     {
         bits(self.0, 22, 5)
     }
 
-    /// How many words of unwind codes follow.
+    /// How many words of unwind codes follow, four bytes each.
     pub fn code_words(&self) -> u32
         ensures { result ≡ bits (self.now).0 27 5 }
     {
         bits(self.0, 27, 5)
     }
 
-    /// Whether an extension word follows, which has the two counts in place of this one.
+    /// Whether an extension word follows, which has both counts instead of this word: both are 0 here.
     pub fn has_extension(&self) -> bool
         ensures { result ≡ has_extension (self.now).0 }
     {
@@ -75,7 +78,7 @@ impl Arm64UnwindHeader {
     }
 }
 
-/// The second word of an ARM64 unwind record whose header has no counts.
+/// The extension word of an ARM64 unwind record: its second word, if both counts of the header are 0.
 #[derive(Clone, Copy, Debug, PartialEq, Eq)]
 pub struct Arm64UnwindExtension(pub u32);
 
@@ -87,7 +90,7 @@ impl Arm64UnwindExtension {
         bits(self.0, 0, 16)
     }
 
-    /// How many words of unwind codes follow.
+    /// How many words of unwind codes follow, four bytes each.
     pub fn code_words(&self) -> u32
         ensures { result ≡ bits (self.now).0 16 8 }
     {
@@ -95,26 +98,28 @@ impl Arm64UnwindExtension {
     }
 }
 
-/// Where an epilog begins, and which unwind codes describe it.
+/// An epilog scope: where an epilog starts, and which unwind codes describe it.
 #[derive(Clone, Copy, Debug, PartialEq, Eq)]
 pub struct Arm64EpilogScope(pub u32);
 
 impl Arm64EpilogScope {
-    /// How far behind the start of the function the epilog begins, in bytes.
+    /// The start of the epilog in bytes, from the start of the function. The field counts words of four bytes; this is
+    /// already multiplied.
     pub fn start_offset_words(&self) -> u32
         ensures { result ≡ 4 * bits (self.now).0 0 18 }
     {
         4 * bits(self.0, 0, 18)
     }
 
-    /// The four bits behind the offset: reserved for ARM64, a condition in the records of ARM.
+    /// The four bits after the offset: reserved for ARM64, a condition in the records of ARM.
     pub fn condition(&self) -> u32
         ensures { result ≡ bits (self.now).0 18 4 }
     {
         bits(self.0, 18, 4)
     }
 
-    /// The index of the epilog's first unwind code, in bytes.
+    /// The index of the epilog's first unwind code, in bytes from the first code. Pass it to
+    /// `Arm64UnwindInfo::unwind_codes`.
     pub fn start_index(&self) -> u32
         ensures { result ≡ bits (self.now).0 22 10 }
     {
@@ -122,14 +127,14 @@ impl Arm64EpilogScope {
     }
 }
 
-/// The epilog scopes that are left. A cut last one is one item, refused as `Short`.
+/// The epilog scopes that are left. A truncated last scope is one item, `Short`.
 #[derive(Debug, Drop)]
 pub struct Arm64EpilogScopeIterator<'a> {
     bytes: &'a [u8],
 }
 
 impl<'a> Arm64EpilogScopeIterator<'a> {
-    /// The epilog scopes of these bytes.
+    /// The epilog scopes of these bytes, four bytes each.
     pub fn new(bytes: &'a [u8]) -> Self
         ensures { epilog_scopes_left result ≡ epilog_scope_items bytes.entry.now }
     {

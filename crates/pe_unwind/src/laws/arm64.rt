@@ -1,4 +1,4 @@
-//! Laws of ARM64: unwind codes, their streams, and records.
+//! Laws of ARM64: unwind codes, their streams, and unwind records.
 
 ghost use Rattle.std.specs.Prelude.{◌≡◌, ◌+◌, ◌-◌, ◌/◌, ◌<◌, ◌≤◌, ◌↔◌, ◌⊎◌, ℕ, All, List, length, drop, Result, Ok, IfSome, map};
 ghost use Rattle.std.specs.Iterator.{Drains};
@@ -20,8 +20,8 @@ use crate::arm64::function::{
     ARM64_PDATA_PACKED_UNWIND_FUNCTION, ARM64_PDATA_REF_TO_FULL_XDATA,
 };
 
-/// Legal ARM64 codes are equal exactly if their bytes are. Each has 1 to 5 bytes. Bytes begin with one code at most, and
-/// where they are a proper beginning of a code's, with none; all others that are not empty begin with one.
+/// Legal ARM64 codes are equal exactly if their bytes are. Each has 1 to 5 bytes. Bytes start with at most one code.
+/// Nonempty bytes start with none exactly if they are a truncated code.
 pub fn arm64_codes_and_bytes()
     ensures equal { (c d : Arm64UnwindCode) → Legal c → Legal d → ((c ≡ d) ↔ (encoding c ≡ encoding d)) }
     ensures sizes { (c : Arm64UnwindCode) → Legal c → (1 ≤ length (encoding c)) × (length (encoding c) ≤ 5) }
@@ -31,10 +31,10 @@ pub fn arm64_codes_and_bytes()
     ensures every { (b : List ℕ) → 0 < length b → All (λ x. x < 256) b → ((c : Arm64UnwindCode) × BeginsWithArm64Code b c) ⊎ IsCutArm64Code b }
 {}
 
-/// The items that an iterator of ARM64 codes gives tile its stream from where it stands. Every byte string has a tiling
-/// from each place on, and one alone, up to the numbers in a refusal: all its codes' bytes, one behind the other, and then
-/// a rest that begins with none, for which there is a cut if it is not empty. It has an item for each five bytes at least,
-/// and for each byte at most.
+/// The items that an iterator of ARM64 codes returns tile its stream from the iterator's offset on. Every byte string
+/// has a tiling from each offset on, and only one, up to the numbers in an error. A tiling is the bytes of all its
+/// codes, one after the other, and then a rest that starts with no code; if the rest is not empty, an `Arm64Cut`
+/// stands for it. There is at least one item for each five bytes, and at most one for each byte.
 pub fn one_tiling_of_arm64_codes()
     ensures whole { (s : Arm64UnwindCodeIterator) (xs : List (Result Arm64UnwindCodeData Error)) →
         Drains ⟦<Arm64UnwindCodeIterator<'static> as Iterator>⟧.next_gives s xs → Tiles (stream_place s).content (stream_place s).at xs }
@@ -45,15 +45,15 @@ pub fn one_tiling_of_arm64_codes()
         ((length b - at + 4) / 5 ≤ length xs) × (length xs ≤ length b - at) }
 {}
 
-/// An ARM64 unwind record that is given is the concatenation of its parts: header, extension word, scopes, codes, address
-/// of the handler, rest. And bytes that are such a concatenation are read as that record.
+/// An ARM64 unwind record that is read is the concatenation of its parts: header, extension word, scopes, codes, RVA
+/// of the handler, rest. Bytes that are such a concatenation are read as that record.
 pub fn arm64_records_are_concatenations()
     ensures given { (b : List ℕ) (p : ℕ) (i : Arm64InfoView) → AreBytes b → info_at b p ≡ Ok i → AreRecord (drop p b) i (drop (p + record_size i.header i.extension) b) }
     ensures read { (b rest : List ℕ) (p : ℕ) (i : Arm64InfoView) → AreRecord (drop p b) i rest → HasWords i → info_at b p ≡ Ok i }
 {}
 
-/// Where an ARM64 unwind record is given, its size is too, and is that of its words; the record ends in the bytes, and a
-/// handler's data are all bytes behind it.
+/// Where an ARM64 unwind record is read, `size` returns its size, which is that of its words. The record ends in the
+/// bytes, and a handler's data are all bytes after it.
 #[tactic(auto, using(crate::proofs::Arm64Records::sized, crate::proofs::Arm64Records::inside))]
 pub fn arm64_records_have_their_size()
     ensures size { (b : List ℕ) (i : Arm64InfoView) → info_at b 0 ≡ Ok i → size_at b ≡ Ok (record_size i.header i.extension) }
@@ -61,13 +61,13 @@ pub fn arm64_records_have_their_size()
     ensures handler { (b : List ℕ) (p : ℕ) (i : Arm64InfoView) → info_at b p ≡ Ok i → IfSome i.handler (λ h. h.bytes ≡ drop (p + record_size i.header i.extension) b) }
 {}
 
-/// The scopes of an ARM64 unwind record stand behind its words, its codes behind them, and its handler's data are the last
-/// of the bytes.
+/// The scopes of an ARM64 unwind record follow its header and extension word, its codes follow the scopes, and its
+/// handler's data are the last of the bytes.
 pub fn parts_of_arm64_records_stand()
     ensures { (b : List ℕ) (p : ℕ) (i : Arm64InfoView) → info_at b p ≡ Ok i → Arm64PartsStand b p i }
 {}
 
-/// The numbers of the constants for packed unwind data.
+/// The values of the constants for packed unwind data.
 pub fn packed_data_constants()
     ensures full { ARM64_PDATA_REF_TO_FULL_XDATA ≡ 0 }
     ensures function { ARM64_PDATA_PACKED_UNWIND_FUNCTION ≡ 1 }

@@ -1,4 +1,4 @@
-//! Laws of the traits that types have: `==` is equality of all fields, a default has zeros, a clone is its original.
+//! Laws of derived traits: `==` is equality of all fields, a default has zeros, a clone is its original.
 
 ghost use Rattle.std.specs.Prelude.{◌≡◌};
 ghost use Rattle.pe_unwind.specs.declared.register.Register.{Register};

@@ -30,15 +30,15 @@ use crate::scope_table::ScopeTableEntry;
 use crate::unwind_code::UnwindCodeIterator;
 use std::hash::Hash;
 
-/// Where begins never fall and no end passes the next begin, lookup finds an entry exactly where some entry covers the
-/// address.
+/// In a table that is sorted by start RVA and in which no end passes the next start, lookup finds an entry exactly if
+/// some entry covers the RVA.
 #[tactic(auto, using(crate::proofs::Disjoint::finds_covering))]
 pub fn disjoint_functions()
     ensures { (fs : List RuntimeFunction) (a : ℕ) (found : Option RuntimeFunction) →
         NeverFalls fs → NoEndPassesNext fs → Finds fs a found → (IsSome found ↔ Any (Covers a) fs) }
 {}
 
-/// The order of registers is that of their numbers, and its equality is theirs.
+/// Registers are ordered, and equal, by their numbers.
 pub fn registers_in_order()
     ensures order { (r s : Register) → ⟦<Register as Ord>⟧.cmp r s ≡ nat_cmp r.0 s.0 }
     ensures partial { (r s : Register) → ⟦<Register as PartialOrd>⟧.partial_cmp r s ≡ Some (nat_cmp r.0 s.0) }
@@ -52,8 +52,8 @@ pub fn equal_scopes_hash_alike()
         ⟦<ScopeTableEntry as Hash>⟧.hash_input x ≡ ⟦<ScopeTableEntry as Hash>⟧.hash_input y }
 {}
 
-/// The items that an iterator of unwind codes gives are the items of its stream. Each stream has a list of items. Bytes begin
-/// with one code at most, so it is one list, up to the numbers in a refusal.
+/// The items that an iterator of unwind codes returns are the items of its stream. Every stream has a list of items.
+/// Bytes start with at most one code, so there is only one such list, up to the numbers in an error.
 #[tactic(auto, using(crate::proofs::Streams::one_code, crate::proofs::Streams::one_reading, crate::proofs::Streams::some_items))]
 pub fn one_stream_of_codes()
     ensures whole { (s : UnwindCodeIterator) (xs : List (Result UnwindCode Error)) →
@@ -63,15 +63,15 @@ pub fn one_stream_of_codes()
     ensures items { (s : CodeStream) (xs ys : List (Result UnwindCode Error)) → AreItems s xs → AreItems s ys → map answer_of xs ≡ map answer_of ys }
 {}
 
-/// A chain of links has an answer, and one alone.
+/// Following links has a result, and only one.
 #[tactic(auto, using(crate::proofs::OneChain::one_answer, crate::proofs::SomeAnswer::some_answer))]
 pub fn one_answer_of_links()
     ensures exists { (t : Table) (u : ℕ) → (a : Result ℕ Refusal) × Follows t u a }
     ensures one { (t : Table) (u : ℕ) (a b : Result ℕ Refusal) → Follows t u a → Follows t u b → a ≡ b }
 {}
 
-/// An unwind address has a record or a refusal, and one alone, which is a cycle exactly where its links never end, and never want of
-/// memory.
+/// An unwind RVA has a record or an error, and only one of them. It is `FunctionCycle` exactly if the links never end,
+/// and it is never `Memory`.
 pub fn one_record_of_addresses()
     ensures exists { (t : Table) (b : List ℕ) (u : ℕ) → (x : Result UnwindInfoView Refusal) × Unwinds t b u x }
     ensures one { (t : Table) (b : List ℕ) (u : ℕ) (x y : Result UnwindInfoView Refusal) → Unwinds t b u x → Unwinds t b u y → x ≡ y }
@@ -79,13 +79,13 @@ pub fn one_record_of_addresses()
     ensures no_memory { (t : Table) (b : List ℕ) (u : ℕ) → Unwinds t b u (Err Memory) → ⊥ }
 {}
 
-/// The codes of an unwind record stand four bytes behind its beginning, and its handler's data are the last of the bytes.
+/// The codes of an unwind record start four bytes after its start, and its handler's data are the last of the bytes.
 pub fn parts_of_records_stand()
     ensures { (b : List ℕ) (p : ℕ) (i : UnwindInfoView) → outcome (unwind_tests b p) (unwind_record b p) ≡ Ok i → UnwindPartsStand b p i }
 {}
 
-/// Exception data are of the bytes that they were read from, and map RVAs by the alignment that was passed. Their table lies in
-/// these bytes, and a table of x64 has a twelfth of its size in entries.
+/// Exception data keep the bytes that they were read from, and map RVAs by the file alignment that was passed. Their
+/// table lies in these bytes, and an x64 table has one entry for each 12 bytes of its size.
 #[tactic(auto, using(crate::proofs::ExceptionBytes::content_of_bytes, crate::proofs::ExceptionBytes::alignment_of_image, crate::proofs::ExceptionBytes::inside_directory, crate::proofs::Searches::length_functions))]
 pub fn exception_data_are_of_their_bytes()
     ensures content { (width : ℕ) (b : List ℕ) (d : DataDirectory) (sections : List SectionTable) (unit : ℕ) (o : ParseOptions) (v : ExceptionView) →
@@ -97,7 +97,7 @@ pub fn exception_data_are_of_their_bytes()
     ensures entries { (b : List ℕ) → length (functions b) ≡ length b / 12 }
 {}
 
-/// The opcodes of unwind codes, as the format numbers them.
+/// The opcodes of unwind codes, as winnt.h numbers them.
 pub fn opcode_constants()
     ensures push_nonvol { UWOP_PUSH_NONVOL ≡ 0 }
     ensures alloc_large { UWOP_ALLOC_LARGE ≡ 1 }
