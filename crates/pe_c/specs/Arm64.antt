@@ -64,7 +64,7 @@ abbrev pub has_arm64_handler : Option Arm64HandlerView → ℕ
 has_arm64_handler None = 0
 has_arm64_handler (Some h) = 1
 
--- the field for the count of scopes, of the extension word if there is one
+-- the field for the count of scopes, of the extension word if there is one, else of the header
 abbrev pub first_count : ℕ → Option ℕ → ℕ
 first_count header None = bits header 22 5
 first_count header (Some extension) = bits extension 0 16

@@ -28,7 +28,7 @@ image_debug b image sections mode =
     if is_absent image.debug then Ok None
     else debug_data (options_of mode) b image.debug sections image.file_alignment 0 >>= λ d. Ok (Some d)
 
--- what is read of debug data, if there is any and it has this
+-- a result that is read from debug data, if there is any and it has one
 abbrev pub told_of : {Y : Type 0} → (DebugFields → Option Y) → List ℕ → Image → List SectionTable → ℕ → Result (Option Y) Refusal
 told_of told b image sections mode = image_debug b image sections mode >>= λ d. Ok (option_and_then told d)
 

@@ -47,8 +47,7 @@ told w (Some (Err e)) = Err (kind_of e)
 abbrev pub StepsPogoEntries : List ℕ → Range → Result (Option PogoEntry) Refusal → Range → Type 0
 StepsPogoEntries b w answer new = (given : Option (Result POGOInfoEntry Error)) × StepsPogo b w given new × (answer ≡ told w given)
 
--- the entries of a stream as a walk over it returns them: each takes its two numbers and its name, padded to a multiple
--- of 4
+-- the entries of a stream as a walk returns them: each takes two numbers and its name, padded to a multiple of 4
 abbrev pub entries_told : Range → List (Result Entry Refusal) → List (Result PogoEntry Refusal)
 entries_told w [] = []
 entries_told w (Ok e ∷ items) =

@@ -73,11 +73,12 @@ tables_or_short b w = do
   addresses ← bytes_at b w.addresses
   Ok (with_tables names ordinals addresses)
 
--- an offset or 0, and 1 where there is one
+-- an offset, 0 without one
 abbrev pub or_zero : Option ℕ → ℕ
 or_zero None = 0
 or_zero (Some p) = p
 
+-- 1 for a value, 0 without one
 abbrev pub one_if_some : {X : Type 0} → Option X → ℕ
 one_if_some None = 0
 one_if_some (Some x) = 1
@@ -123,8 +124,7 @@ abbrev pub StepsExportsIf : Bool → (ℕ → Option ℕ) → List ℕ → Expor
 StepsExportsIf true place b w answer new = (answer ≡ Ok None) × (new ≡ w)
 StepsExportsIf false place b w answer new = StepsOverExports place b (tables_or_short b w) w answer new
 
--- a step: nothing at the end of the name table; `Short`, and then the walk is over, where the tables are not inside the
--- bytes
+-- a step: nothing at the end of the name table; `Short`, and the walk is over, where a table is not inside the bytes
 abbrev pub StepsExports : (ℕ → Option ℕ) → List ℕ → Exports → Result (Option Export) Refusal → Exports → Type 0
 StepsExports place b w answer new = StepsExportsIf (nat_le (count_of w) w.next) place b w answer new
 

@@ -68,8 +68,7 @@ map_of_image image sections = section_map default_options sections image.file_al
 abbrev pub image_at : List ℕ → ℕ → Result Image Refusal
 image_at b mode = header_at b (mode_of mode) >>= λ h. Ok (image_of h)
 
--- the section headers are at the start of the room, and the rest is unchanged; or they are refused, and all is
--- unchanged
+-- the section headers are at the start of the room and the rest is unchanged; or they are refused and all is unchanged
 abbrev pub PutsRows : ℕ → List SectionTable → List SectionTable → Result (List SectionTable) Refusal → Type 0
 PutsRows number old new (Ok sections) = (number ≡ 0) × (new ≡ sections ++ drop (length sections) old)
 PutsRows number old new (Err refusal) = (number ≡ number_of refusal) × (new ≡ old)

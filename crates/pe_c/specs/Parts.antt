@@ -25,13 +25,13 @@ abbrev pub IsPart : List ℕ → Range → Option (List ℕ) → Type 0
 IsPart b r None = r ≡ no_bytes
 IsPart b r (Some part) = IsRange b r part
 
--- where debug data has this result, its range is this part of the data
+-- a result that is read from debug data has the range of this part of the data
 abbrev pub TellsPart : {Y : Type 0} → (DebugFields → Option Y) → (Y → Range) → (DebugFields → Option (List ℕ)) → Type 0
 TellsPart {Y} told range_of part_of =
     (b : List ℕ) (image : Image) (sections : List SectionTable) (mode : ℕ) (y : Y) → told_of told b image sections mode ≡ Ok (Some y) →
     (d : DebugFields) × (image_debug b image sections mode ≡ Ok (Some d)) × (told d ≡ Some y) × IsPart b (range_of y) (part_of d)
 
--- where debug data has a record, a result is returned
+-- where debug data has a record, there is a result
 abbrev pub TellsRecord : {X Y : Type 0} → (DebugFields → Option Y) → (DebugFields → Option X) → Type 0
 TellsRecord told record_of =
     (b : List ℕ) (image : Image) (sections : List SectionTable) (mode : ℕ) (d : DebugFields) → image_debug b image sections mode ≡ Ok (Some d) → IsSome (record_of d) → IsSome (told d)

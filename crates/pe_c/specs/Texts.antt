@@ -1,5 +1,5 @@
 -- The texts of results.
--- Its list of errors is written by tools/make_errors.
+-- `tools/make_errors` writes the list of errors.
 use Rattle.std.specs.Prelude.{ℕ, ◌==◌, List, [], ◌∷◌, slice_index_or, codes, if◌then◌else◌}
 
 -- the texts of 0 and of the refusals, in the order of their numbers

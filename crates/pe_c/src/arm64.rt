@@ -27,7 +27,7 @@ use pe_unwind::{
 /// The size of an epilog scope in bytes.
 const SIZE_OF_SCOPE: usize = 4;
 
-/// The most bytes that a stream of codes can have.
+/// The most bytes that a stream of codes can have: the largest multiple of 4 that fits 32 bits.
 const LONGEST_STREAM: u64 = 4_294_967_292;
 
 /// Packed unwind data, as `pe_c_arm64_packed_fields` reads it from an entry of the function table.

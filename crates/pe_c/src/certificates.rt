@@ -65,6 +65,7 @@ fn walk_from(walk: Range, next: u64) -> Range
 fn step(bytes: &[u8], walk: Range) -> (Result<Option<Certificate>>, Range)
     ensures { (answer_by (λ x. x) result.0, result.1) ≡ step bytes.now walk }
 {
+    // This test comes first: an empty walk outside of the bytes is an error too.
     if slice_of(bytes, &walk).is_err() {
         let end = walk.place.saturating_add(walk.length);
         return (

@@ -148,6 +148,7 @@ fn part_behind(debug: &DebugData, data_type: u32, header: u32, part: &[u8]) -> O
     ensures { result ≡ part_behind (debug_view debug.now) data_type header part.now }
 {
     let entry = debug.find_type(data_type)?;
+    // A mode does not change where records are.
     let place = entry.record_place(&ParseOptions::default());
     Some(Range {
         place: u64::from(place) + u64::from(header),

@@ -190,6 +190,7 @@ pub extern "C" fn pe_c_sections(bytes: &[u8], image: &Image, room: &mut [Section
     if room.len() < count {
         return ROOM;
     }
+    // Without sections it does not matter where their headers would be.
     if count == 0 {
         return DONE;
     }

@@ -320,6 +320,7 @@ fn import_step(
     let entry = lookup_number(left, 0, is_64);
     match import_at(bytes, entry, walk.rva, image, sections) {
         Ok(import) => {
+            // A caller may pass any RVA.
             walk.rva = walk.rva.wrapping_add(size as u64);
             Ok(Some(import))
         }
