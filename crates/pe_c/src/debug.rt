@@ -31,7 +31,7 @@ pub struct SymbolKey {
     pub age: u32,
     /// 0.
     pub spare: u32,
-    /// The name of the PDB file, with the zeros after it.
+    /// The rest of the record: the name of the PDB file, with the zeros after it.
     pub name: Range,
 }
 
@@ -39,7 +39,7 @@ pub struct SymbolKey {
 #[repr(C)]
 #[derive(Clone, Copy)]
 pub struct Pdb20 {
-    /// The name of the PDB file, with the zeros after it.
+    /// The rest of the record: the name of the PDB file, with the zeros after it.
     pub name: Range,
     /// 0 where the symbols are in a file of their own.
     pub offset: u32,
