@@ -34,7 +34,7 @@ use Rattle.pe_c.specs.declared.ranges.Range.{Range}
 abbrev pub arm64_function_in : List ℕ → Range → ℕ → Result Arm64RuntimeFunction Refusal
 arm64_function_in b table index = bytes_at b table >>= λ entries. arm64_function_of entries index
 
--- the fields of an entry's unwind data, as if they were packed
+-- the fields of an entry's unwind data, read as packed
 abbrev pub packed_fields : Arm64RuntimeFunction → Arm64Packed
 packed_fields f = record {
   flag = bits f.unwind_data 0 2;
@@ -49,24 +49,27 @@ packed_fields f = record {
 
 -- ---- unwind records
 
+-- the range of a handler's data, empty without a handler
 abbrev pub arm64_handler_range : List ℕ → Option Arm64HandlerView → Range
 arm64_handler_range b None = no_bytes
 arm64_handler_range b (Some h) = last_range b h.bytes
 
+-- the RVA of a handler, 0 without one
 abbrev pub arm64_handler_address : Option Arm64HandlerView → ℕ
 arm64_handler_address None = 0
 arm64_handler_address (Some h) = h.rva
 
+-- 1 with a handler, else 0
 abbrev pub has_arm64_handler : Option Arm64HandlerView → ℕ
 has_arm64_handler None = 0
 has_arm64_handler (Some h) = 1
 
--- the count that the header or the extension word has in the place of a count of scopes
+-- the field for the count of scopes, of the extension word if there is one, else of the header
 abbrev pub first_count : ℕ → Option ℕ → ℕ
 first_count header None = bits header 22 5
 first_count header (Some extension) = bits extension 0 16
 
--- a record that stands at p, as numbers: its scopes are behind its words, and its codes behind them
+-- the record at offset p, as numbers: its scopes follow its words, and its codes follow the scopes
 abbrev pub flat_info : List ℕ → ℕ → Arm64InfoView → Arm64Record
 flat_info b p i = record {
   scopes = record { place = scopes_place p i.header; length = length i.scopes };
@@ -80,16 +83,16 @@ flat_info b p i = record {
   version = bits i.header 18 2;
 }
 
--- the record at p as numbers, or what refuses it
+-- the record at offset p as numbers, or what refuses it
 abbrev pub flat_info_at : List ℕ → ℕ → Result Arm64Record Refusal
 flat_info_at b p = info_at b p >>= λ i. Ok (flat_info b p i)
 
--- the record at a place that may be refused; none where there is no place
+-- the record at an offset that may be refused; none without an offset
 abbrev pub info_in : List ℕ → Option (Result ℕ Refusal) → Result (Option Arm64Record) Refusal
 info_in b None = Ok None
 info_in b (Some place) = place >>= λ p. flat_info_at b p >>= λ r. Ok (Some r)
 
--- the record of a function, or none where its unwind data are packed
+-- the record of a function, or none where its unwind data is packed
 abbrev pub arm64_record_of : List ℕ → Image → List SectionTable → ℕ → Arm64RuntimeFunction → Result (Option Arm64Record) Refusal
 arm64_record_of b image sections mode f =
     exception_at 8 b image.exceptions sections image.file_alignment (options_of mode)
@@ -106,13 +109,13 @@ flat_scope word = record {
   word = word;
 }
 
--- the epilog scope of 4 bytes at p
+-- the epilog scope of 4 bytes at offset p
 abbrev pub flat_scope_at : List ℕ → ℕ → Arm64Scope
 flat_scope_at b p = flat_scope (le b p 4)
 
 -- ---- unwind codes
 
--- the cases of a custom stack in their order
+-- the numbers of the cases of a custom stack
 abbrev pub case_number : Arm64CustomStackCase → ℕ
 case_number TrapFrame = 0
 case_number MachineFrame = 1
@@ -151,37 +154,40 @@ numbers_of (CustomStack what) = (25, case_number what, 0, 0)
 numbers_of PacSignLr = (26, 0, 0, 0)
 numbers_of (Reserved opcode value n) = (27, opcode, value, 0)
 
+-- a code at this offset with this length, by its kind, operand, value and flags
 abbrev pub by_numbers : ℕ → ℕ → (ℕ × ℕ × ℕ × ℕ) → Arm64Code
 by_numbers offset count n = record { offset = offset; length = count; kind = n.0; operand = n.1; value = n.2; flags = n.3 }
 
--- a code that begins at this offset, as numbers
+-- a code at this offset, as numbers
 abbrev pub flat_arm64 : ℕ → Arm64UnwindCode → Arm64Code
 flat_arm64 offset c = by_numbers offset (length (encoding c)) (numbers_of c)
 
+-- a walk after n bytes of codes
 abbrev pub moved : Arm64CodeWalk → ℕ → Arm64CodeWalk
 moved w n = record { left = behind w.left n; offset = w.offset + n }
 
+-- a walk that is over
 abbrev pub over_arm64 : Arm64CodeWalk
 over_arm64 = record { left = no_bytes; offset = 0 }
 
--- a walk over the codes of these bytes from a place in them on; or why they are no stream, or can't be read from there
+-- a walk over the codes of these bytes from a start on; or why they can be no stream, or cannot be read from there
 abbrev pub arm64_walk_at : List ℕ → Range → ℕ → Result Arm64CodeWalk Refusal
 arm64_walk_at b codes start = bytes_at b codes >>= λ d. stream_at d start >>= λ s. Ok (record { left = behind codes start; offset = start })
 
--- the bytes that a walk has left, if they and those before them can be a stream
+-- the bytes that a walk has left, if together with those before them they can be a stream
 abbrev pub left_of_stream : List ℕ → Arm64CodeWalk → Result (List ℕ) Refusal
 left_of_stream b w =
     bytes_at b w.left
     >>= λ d. outcome (((w.offset + w.left.length) % 4 == 0, Arm64Stream) ∷ (nat_le (w.offset + w.left.length) 4294967292, Arm64Stream) ∷ []) d
 
--- one step over these bytes: the code that they begin with, and the walk behind it; or a cut, and the walk is over
+-- one step over these bytes: their first code, and the walk after it; or a truncated code, and the walk is over
 abbrev pub StepsOverArm64 : List ℕ → Arm64CodeWalk → Result (Option Arm64Code) Refusal → Arm64CodeWalk → Type 0
 StepsOverArm64 bytes old (Ok None) new = (bytes ≡ []) × (new ≡ old)
 StepsOverArm64 bytes old (Ok (Some code)) new =
     (c : Arm64UnwindCode) × BeginsWithArm64Code bytes c × (code ≡ flat_arm64 old.offset c) × (new ≡ moved old (length (encoding c)))
 StepsOverArm64 bytes old (Err refusal) new = (refusal ≡ Arm64Cut) × (0 < length bytes) × BeginsWithNoArm64Code bytes × (new ≡ over_arm64)
 
--- a step of a walk; where it has no stream's bytes left it is refused, and over
+-- a step of a walk: where the bytes that are left can be no stream, it is refused and the walk is over
 abbrev pub WalksInArm64 : Result (List ℕ) Refusal → Arm64CodeWalk → Result (Option Arm64Code) Refusal → Arm64CodeWalk → Type 0
 WalksInArm64 (Ok bytes) old answer new = StepsOverArm64 bytes old answer new
 WalksInArm64 (Err refusal) old answer new = (answer ≡ Err refusal) × (new ≡ over_arm64)
@@ -190,11 +196,12 @@ WalksInArm64 (Err refusal) old answer new = (answer ≡ Err refusal) × (new ≡
 abbrev pub StepsArm64Codes : List ℕ → Arm64CodeWalk → Result (Option Arm64Code) Refusal → Arm64CodeWalk → Type 0
 StepsArm64Codes b old answer new = WalksInArm64 (left_of_stream b old) old answer new
 
--- an item of a stream of codes, as it is told
+-- an item of a stream of codes, as numbers
 abbrev pub flat_arm64_item : Result Arm64UnwindCodeData Error → Result Arm64Code Refusal
 flat_arm64_item (Ok item) = Ok (flat_arm64 item.offset item.code)
 flat_arm64_item (Err e) = Err (kind_of e)
 
+-- what a call for the next code returns, and the walk after it
 abbrev pub AnswersArm64Code : List ℕ → Arm64CodeWalk → Arm64CodeWalk → ℕ → Arm64Code → Arm64Code → Type 0
 AnswersArm64Code b old_walk new_walk number old new =
     (answer : Result (Option Arm64Code) Refusal) × StepsArm64Codes b old_walk answer new_walk × AnswersIf number old new answer

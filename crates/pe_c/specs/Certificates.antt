@@ -7,7 +7,7 @@ use Rattle.pe_c.specs.declared.certificates.Certificate.{Certificate}
 use Rattle.pe_c.specs.declared.ranges.Range.{Range}
 use Rattle.pe_c.specs.Ranges.{IsRange, no_bytes}
 
--- the certificate at p: its body stands behind the eight bytes of its header
+-- the certificate at offset p: its body follows the eight bytes of its header
 abbrev pub certificate_told : ℕ → CertificateView → Certificate
 certificate_told p c = record {
   body = record { place = p + 8; length = length c.body };
@@ -16,22 +16,23 @@ certificate_told p c = record {
   certificate_type = type_number c.certificate_type;
 }
 
--- the walk from a place on: over unless the place is before its end
+-- the walk that continues at an offset: it is over unless the offset is before its end
 abbrev pub walk_from : Range → ℕ → Range
 walk_from w next = if nat_lt next (w.place + w.length) then record { place = next; length = w.place + w.length - next } else no_bytes
 
+-- a step by the certificate that is read, or by what refuses it
 abbrev pub step_by : Range → Result (CertificateView × ℕ) Refusal → Result (Option Certificate) Refusal × Range
 step_by w (Ok c) = (Ok (Some (certificate_told w.place c.0)), walk_from w c.1)
 step_by w (Err refusal) = (Err refusal, no_bytes)
 
--- what a step answers, and the walk behind it: the certificate at its place, and behind it from the next place on; nothing
--- at the end; `CertificateTable` where the range does not lie in the bytes
+-- a step's result, and the walk after it: the certificate at the walk's start, and the walk from the next one on;
+-- nothing at the end; `CertificateTable` where the range is not inside the bytes
 unfoldable pub step : List ℕ → Range → Result (Option Certificate) Refusal × Range
 step b w =
     if holds b w.place w.length then (if w.length == 0 then (Ok None, w) else step_by w (certificate_at b w.place))
     else (Err CertificateTable, no_bytes)
 
--- the certificates of the table at a walk
+-- the certificates of the table that a walk starts as
 abbrev pub listed : List ℕ → Range → Result (List CertificateView) Refusal
 listed b w = certificates_at b w.place w.length
 
@@ -39,6 +40,6 @@ listed b w = certificates_at b w.place w.length
 abbrev pub StepsCertificates : List ℕ → Range → Result (Option Certificate) Refusal → Range → Type 0
 StepsCertificates b old answer new = (answer ≡ (step b old).0) × (new ≡ (step b old).1)
 
--- what is told of a certificate is the certificate, and the range of its body is the body
+-- a certificate as numbers is this certificate, and the range of its body is the body
 abbrev pub TellsCertificate : List ℕ → Certificate → CertificateView → Type 0
 TellsCertificate b x c = ((p : ℕ) × (x ≡ certificate_told p c)) × IsRange b x.body c.body

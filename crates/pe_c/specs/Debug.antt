@@ -1,4 +1,4 @@
--- What is told of debug data.
+-- What calls return of debug data.
 use Rattle.std.specs.Prelude.{ℕ, ◌+◌, List, length, true, Option, Some, None, Result, Ok, if◌then◌else◌}
 use Rattle.std.specs.Option.{option_map, option_and_then}
 use Rattle.pe_core.specs.Refusals.{Refusal, ◌>>=◌}
@@ -16,41 +16,41 @@ use Rattle.pe_c.specs.Images.{is_absent}
 use Rattle.pe_c.specs.Modes.{options_of}
 use Rattle.pe_c.specs.Ranges.{no_bytes, range_of}
 
--- where the entries of the debug directory stand, if an image has one; or what refuses their table
+-- the range of the entries of the debug directory, if an image has one; or what refuses their table
 unfoldable pub entries_at : List ℕ → Image → List SectionTable → ℕ → Result (Option Range) Refusal
 entries_at b image sections mode =
     if is_absent image.debug then Ok None
     else directory_range (options_of mode) b image.debug sections image.file_alignment >>= λ r. Ok (Some (range_of r))
 
--- the debug data of an image, if it has any; or what refuses them
+-- the debug data of an image, if it has any; or what refuses it
 unfoldable pub image_debug : List ℕ → Image → List SectionTable → ℕ → Result (Option DebugFields) Refusal
 image_debug b image sections mode =
     if is_absent image.debug then Ok None
     else debug_data (options_of mode) b image.debug sections image.file_alignment 0 >>= λ d. Ok (Some d)
 
--- what is told of debug data, if there are any and they have it
+-- a result that is read from debug data, if there is any and it has one
 abbrev pub told_of : {Y : Type 0} → (DebugFields → Option Y) → List ℕ → Image → List SectionTable → ℕ → Result (Option Y) Refusal
 told_of told b image sections mode = image_debug b image sections mode >>= λ d. Ok (option_and_then told d)
 
--- the range of a part that stands n bytes behind the place where the first entry of this type leads
+-- the range of a part that follows n bytes of the record of the first entry of this type
 abbrev pub part_behind : DebugFields → ℕ → ℕ → List ℕ → Option Range
 part_behind d kind n part = option_map (λ e. record { place = record_place true e + n; length = length part }) (first_of_type d.fixup kind d.table)
 
--- the record of PDB 7.0; its file's name stands behind 24 bytes
+-- the record of PDB 7.0; its name follows 24 bytes
 abbrev pub key_of : DebugFields → Option SymbolKey
 key_of d = option_and_then (λ r. option_map (λ name. record { guid = r.signature; age = r.age; spare = 0; name = name }) (part_behind d 2 24 r.filename)) d.pdb70
 
--- the record of PDB 2.0; its file's name stands behind 16 bytes
+-- the record of PDB 2.0; its name follows 16 bytes
 abbrev pub pdb20_of : DebugFields → Option Pdb20
 pdb20_of d =
     option_and_then (λ r. option_map (λ name. record { name = name; offset = r.codeview_offset; signature = r.signature; age = r.age; spare = 0 }) (part_behind d 2 16 r.filename))
     d.pdb20
 
--- the flags of further characteristics
+-- the extended DLL characteristics
 abbrev pub characteristics_of : DebugFields → Option ℕ
 characteristics_of d = option_map (λ r. r.characteristics_ex) d.characteristics
 
--- what a build is known by: its hash stands behind 4 bytes
+-- a Repro record; its hash follows 4 bytes
 abbrev pub repro_by : DebugFields → records.Repro → Option Repro
 repro_by d (Stamp stamp) = Some (record { hash = no_bytes; has_hash = 0; spare = 0 })
 repro_by d (Buffer count bytes) = option_map (λ hash. record { hash = hash; has_hash = 1; spare = 0 }) (part_behind d 16 4 bytes)
@@ -58,6 +58,6 @@ repro_by d (Buffer count bytes) = option_map (λ hash. record { hash = hash; has
 abbrev pub repro_of : DebugFields → Option Repro
 repro_of d = option_and_then (repro_by d) d.repro
 
--- the record of POGO; its entries stand behind 4 bytes
+-- the record of POGO; its entries follow 4 bytes
 abbrev pub pogo_of : DebugFields → Option Pogo
 pogo_of d = option_and_then (λ r. option_map (λ entries. record { entries = entries; signature = r.signature; spare = 0 }) (part_behind d 13 4 r.bytes)) d.pogo

@@ -10,24 +10,24 @@ use Rattle.pe_c.specs.declared.ranges.Range.{Range}
 use Rattle.pe_c.specs.Answers.{AnswersIf}
 use Rattle.pe_c.specs.Ranges.{IsRange, behind, bytes_at, no_bytes}
 
--- where a walk stands behind a step that took n bytes: it stays at its end, and is over behind a refusal
+-- the walk after a step that took n bytes: it stays at its end, and is over after a refusal
 abbrev pub pogo_behind : Range → ℕ → Option (Result POGOInfoEntry Error) → Range
 pogo_behind w n None = w
 pogo_behind w n (Some (Ok e)) = behind w n
 pogo_behind w n (Some (Err e)) = no_bytes
 
--- a step over these bytes gives the entry that they begin with, and leaves what stands behind it
+-- a step over these bytes returns their first entry, and leaves what follows it
 abbrev pub StepsOverPogo : Result (List ℕ) Refusal → Range → Option (Result POGOInfoEntry Error) → Range → Type 0
 StepsOverPogo (Ok left) w answer new = (rest : List ℕ) × GivesPogoEntry left answer rest × (new ≡ pogo_behind w (length left - length rest) answer)
 StepsOverPogo (Err refusal) w None new = ⊥
 StepsOverPogo (Err refusal) w (Some (Ok e)) new = ⊥
 StepsOverPogo (Err refusal) w (Some (Err e)) new = (kind_of e ≡ refusal) × (new ≡ no_bytes)
 
--- a step over the bytes that a walk has left, or `Short` where the bytes have no such range
+-- a step over the bytes that a walk has left, or `Short` where its range is not inside the bytes
 abbrev pub StepsPogo : List ℕ → Range → Option (Result POGOInfoEntry Error) → Range → Type 0
 StepsPogo b w answer new = StepsOverPogo (bytes_at b w) w answer new
 
--- an entry at the beginning of a walk: its name stands behind two numbers
+-- the entry at the start of a walk: its name follows two numbers
 abbrev pub pogo_entry : Range → POGOInfoEntry → PogoEntry
 pogo_entry w e = record { name = record { place = w.place + 8; length = length e.name.now }; rva = e.rva; size = e.size }
 
@@ -37,25 +37,24 @@ IsNamed b w None = Unit {0}
 IsNamed b w (Some (Ok e)) = IsRange b (pogo_entry w e).name e.name.now
 IsNamed b w (Some (Err e)) = Unit {0}
 
--- what is told of a step
+-- the result of a step, as numbers
 abbrev pub told : Range → Option (Result POGOInfoEntry Error) → Result (Option PogoEntry) Refusal
 told w None = Ok None
 told w (Some (Ok e)) = Ok (Some (pogo_entry w e))
 told w (Some (Err e)) = Err (kind_of e)
 
--- a step of a walk, by what it tells of an entry
+-- a step of a walk, by its result as numbers
 abbrev pub StepsPogoEntries : List ℕ → Range → Result (Option PogoEntry) Refusal → Range → Type 0
 StepsPogoEntries b w answer new = (given : Option (Result POGOInfoEntry Error)) × StepsPogo b w given new × (answer ≡ told w given)
 
--- the entries of a stream that a walk over it tells, one behind the other: each takes its two numbers and its name, filled up to
--- a multiple of four
+-- the entries of a stream as a walk returns them: each takes two numbers and its name, padded to a multiple of 4
 abbrev pub entries_told : Range → List (Result Entry Refusal) → List (Result PogoEntry Refusal)
 entries_told w [] = []
 entries_told w (Ok e ∷ items) =
     Ok (record { name = record { place = w.place + 8; length = length e.name }; rva = e.rva; size = e.size }) ∷ entries_told (behind w (rounded_up (8 + length e.name) 4)) items
 entries_told w (Err refusal ∷ items) = Err refusal ∷ entries_told w items
 
--- what a call answers for a step
+-- what a call returns for a step
 abbrev pub AnswersPogoEntry : List ℕ → Range → Range → ℕ → PogoEntry → PogoEntry → Type 0
 AnswersPogoEntry b w walk number old new =
     (answer : Option (Result POGOInfoEntry Error)) × StepsPogo b w answer walk × IsNamed b w answer × AnswersIf number old new (told w answer)

@@ -1,4 +1,4 @@
--- Exports: where their tables stand, and a walk over those that have a name.
+-- Exports: the tables of the directory, and a walk over the exports that have a name.
 use Rattle.std.specs.Prelude.{◌≡◌, ℕ, ◌+◌, ◌*◌, ◌/◌, ◌-◌, ◌<◌, ◌≤◌, ◌==◌, Bool, true, false, List, length, nat_le, Option, Some, None, Result, Ok, Err, if◌then◌else◌}
 use Rattle.std.specs.List.{filter_map, range_with_len}
 use Rattle.std.specs.Option.{option_map, option_and_then}
@@ -18,11 +18,11 @@ use Rattle.pe_c.specs.Ranges.{bytes_at, no_bytes, range_from}
 
 -- ---- the tables
 
--- the range of a table of n bytes at an address; one of none has no place
+-- the range of a table of n bytes at an RVA; an empty table has the empty range
 abbrev pub export_table : (ℕ → Option ℕ) → ℕ → ℕ → Range
 export_table place rva n = if n == 0 then no_bytes else range_from n (place rva)
 
--- a walk over the exports of a directory, at its beginning
+-- a walk over the exports of a directory, at its start
 abbrev pub walk_over : (ℕ → Option ℕ) → ExportDataView → Exports
 walk_over place d = record {
   names = export_table place d.directory.name_pointer_rva (4 * d.directory.number_of_name_pointers);
@@ -31,7 +31,7 @@ walk_over place d = record {
   next = 0;
 }
 
--- the tables of an image's export directory, if it has one; or what refuses it
+-- the tables of an image's export directory as a walk, if it has one; or what refuses it
 unfoldable pub tables_at : List ℕ → Image → List SectionTable → Result (Option Exports) Refusal
 tables_at b image sections =
     if is_absent image.exports then Ok None
@@ -39,7 +39,7 @@ tables_at b image sections =
 
 -- ---- the walk
 
--- export data of which these tables alone are known: no export is read from anything else
+-- export data of which these tables alone are known: exports are read from nothing else
 abbrev pub with_tables : List ℕ → List ℕ → List ℕ → ExportDataView
 with_tables names ordinals addresses = record {
   directory = record {
@@ -61,10 +61,11 @@ with_tables names ordinals addresses = record {
   ordinals = ordinals;
 }
 
+-- the tables of a walk as export data
 abbrev pub view_of : Tables → ExportDataView
 view_of t = with_tables t.names.now t.ordinals.now t.addresses.now
 
--- the tables of a walk, or `Short` where the bytes have no such ranges
+-- the tables of a walk, or `Short` where one is not inside the bytes
 abbrev pub tables_or_short : List ℕ → Exports → Result ExportDataView Refusal
 tables_or_short b w = do
   names ← bytes_at b w.names
@@ -72,41 +73,42 @@ tables_or_short b w = do
   addresses ← bytes_at b w.addresses
   Ok (with_tables names ordinals addresses)
 
--- the place, if there is one, and whether there is one
+-- an offset, 0 without one
 abbrev pub or_zero : Option ℕ → ℕ
 or_zero None = 0
 or_zero (Some p) = p
 
+-- 1 for a value, 0 without one
 abbrev pub one_if_some : {X : Type 0} → Option X → ℕ
 one_if_some None = 0
 one_if_some (Some x) = 1
 
--- an export whose name stands at p
+-- an export whose name is at offset p
 abbrev pub export_told : ℕ → ExportView → Export
 export_told p e = record { name = record { place = p; length = length e.name }; place = or_zero e.offset; rva = e.rva; has_place = one_if_some e.offset }
 
--- the export of entry i of the name table, if its name has a place and is text, and it has an address
+-- the export of entry i of the name table, if its name is mapped and is text, and its ordinal is in the address table
 abbrev pub told_entry : (ℕ → Option ℕ) → List ℕ → ExportDataView → ℕ → Option Export
 told_entry place b d i = option_and_then (λ p. option_map (export_told p) (option_and_then (named_export place d i) (text_at b p))) (place (le d.names (4 * i) 4))
 
--- the exports of the entries from one on up to another that have one, in their order
+-- the exports of the entries from one index up to another, in their order; an entry may have none
 abbrev pub told_from : (ℕ → Option Export) → ℕ → ℕ → List Export
 told_from told from end = filter_map told (range_with_len from (end - from))
 
--- none of the entries from one on up to another has an export
+-- no entry from one index up to another has an export
 abbrev pub HaveNone : (ℕ → Option Export) → ℕ → ℕ → Type 0
 HaveNone told from end = (k : ℕ) → from ≤ k → k < end → told k ≡ None
 
--- the first entry from one on that has an export, and the index behind it
+-- the first entry from an index on that has an export, and the index after it
 abbrev pub FindsNext : (ℕ → Option Export) → ℕ → ℕ → Option (Export × ℕ) → Type 0
 FindsNext told from end None = HaveNone told from end
 FindsNext told from end (Some x) = (i : ℕ) × (from ≤ i) × (i < end) × HaveNone told from i × (told i ≡ Some x.0) × (x.1 ≡ i + 1)
 
--- how many entries the name table has
+-- the count of entries of the name table
 abbrev pub count_of : Exports → ℕ
 count_of w = w.names.length / 4
 
--- the walk behind what was found: at its end where nothing was
+-- the walk after what was found: at its end where nothing was
 abbrev pub exports_behind : Exports → Option (Export × ℕ) → Exports
 exports_behind w None = record w { next = count_of w }
 exports_behind w (Some x) = record w { next = x.1 }
@@ -117,13 +119,15 @@ StepsOverExports place b (Ok d) w answer new =
     (found : Option (Export × ℕ)) × FindsNext (told_entry place b d) w.next (count_of w) found × (answer ≡ Ok (option_map (λ x. x.0) found)) × (new ≡ exports_behind w found)
 StepsOverExports place b (Err refusal) w answer new = (answer ≡ Err refusal) × (new ≡ record w { names = no_bytes })
 
+-- a step, by whether the walk is at its end
 abbrev pub StepsExportsIf : Bool → (ℕ → Option ℕ) → List ℕ → Exports → Result (Option Export) Refusal → Exports → Type 0
 StepsExportsIf true place b w answer new = (answer ≡ Ok None) × (new ≡ w)
 StepsExportsIf false place b w answer new = StepsOverExports place b (tables_or_short b w) w answer new
 
--- a step: nothing where all entries are behind the walk; `Short`, and then it is over, where the bytes have no such tables
+-- a step: nothing at the end of the name table; `Short`, and the walk is over, where a table is not inside the bytes
 abbrev pub StepsExports : (ℕ → Option ℕ) → List ℕ → Exports → Result (Option Export) Refusal → Exports → Type 0
 StepsExports place b w answer new = StepsExportsIf (nat_le (count_of w) w.next) place b w answer new
 
+-- what a call for the next export returns, and the walk after it
 abbrev pub AnswersExport : (ℕ → Option ℕ) → List ℕ → Exports → Exports → ℕ → Export → Export → Type 0
 AnswersExport place b w walk number old new = (answer : Result (Option Export) Refusal) × StepsExports place b w answer walk × AnswersIf number old new answer

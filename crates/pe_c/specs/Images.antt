@@ -1,4 +1,4 @@
--- What is told of an image.
+-- What calls return of an image.
 use Rattle.std.specs.Prelude.{◌≡◌, ℕ, ◌==◌, ◌&&◌, List, ◌++◌, drop, length, nat_le, Bool, true, false, Option, Some, None, Result, Ok, Err, if◌then◌else◌}
 use Rattle.pe_core.specs.Directories.{present, absent_directory}
 use Rattle.pe_core.specs.Header.{OptionalHeaderView, HeaderView, header_at}
@@ -21,7 +21,7 @@ or_absent (Some d) = d
 abbrev pub is_absent : DataDirectory → Bool
 is_absent d = d.virtual_address == 0 && d.size == 0
 
--- what the headers say; without an optional header zeros
+-- what the headers say; zeros without an optional header
 abbrev pub image_by : HeaderView → Option OptionalHeaderView → Image
 image_by h None = record {
   base = 0;
@@ -56,6 +56,7 @@ image_by h (Some o) = record {
   spare = 0;
 }
 
+-- the image of these headers
 abbrev pub image_of : HeaderView → Image
 image_of h = image_by h h.optional_header
 
@@ -67,17 +68,17 @@ map_of_image image sections = section_map default_options sections image.file_al
 abbrev pub image_at : List ℕ → ℕ → Result Image Refusal
 image_at b mode = header_at b (mode_of mode) >>= λ h. Ok (image_of h)
 
--- the rows stand at the beginning of the room, behind them is what was there; or they are refused and the room is as it was
+-- the section headers are at the start of the room and the rest is unchanged; or they are refused and all is unchanged
 abbrev pub PutsRows : ℕ → List SectionTable → List SectionTable → Result (List SectionTable) Refusal → Type 0
 PutsRows number old new (Ok sections) = (number ≡ 0) × (new ≡ sections ++ drop (length sections) old)
 PutsRows number old new (Err refusal) = (number ≡ number_of refusal) × (new ≡ old)
 
--- 101 where the room is too small
+-- 101 where the room is too small, and it is unchanged
 abbrev pub PutsIf : Bool → ℕ → List SectionTable → List SectionTable → Result (List SectionTable) Refusal → Type 0
 PutsIf false number old new sections = (number ≡ 101) × (new ≡ old)
 PutsIf true number old new sections = PutsRows number old new sections
 
--- what reading the sections of an image answers, with a room of at least as many entries
+-- what reading the sections of an image into a room returns
 abbrev pub PutsSections : List ℕ → Image → ℕ → List SectionTable → List SectionTable → Type 0
 PutsSections b image number old new =
     PutsIf (nat_le image.number_of_sections (length old)) number old new (sections_at b image.sections_place image.number_of_sections)

@@ -18,9 +18,9 @@ use Rattle.pe_c.specs.Images.{is_absent, map_of_image}
 use Rattle.pe_c.specs.Ranges.{behind, no_bytes, range_from}
 use Rattle.pe_c.specs.Walks.{left_entry}
 
--- ---- libraries; `place` maps an address to its place in the file, `w` is how many bytes an entry of a list has
+-- ---- libraries; `place` maps an RVA to its file offset, `w` is the size of an entry of a list in bytes
 
--- a walk whose next record stands at p
+-- a walk whose next record is at offset p
 abbrev pub libraries_from : ℕ → Libraries
 libraries_from p = record { next = p; is_over = 0; spare = 0 }
 
@@ -28,7 +28,7 @@ libraries_from p = record { next = p; is_over = 0; spare = 0 }
 abbrev pub no_libraries : Libraries
 no_libraries = record { next = 0; is_over = 1; spare = 0 }
 
--- the libraries of an image's import directory, if it has one, unless its address has no place
+-- the libraries of an image's import directory, if it has one; its RVA has to be mapped
 abbrev pub libraries_at : Image → List SectionTable → Result (Option Libraries) Refusal
 libraries_at image sections =
     if is_absent image.imports then Ok None
@@ -53,57 +53,57 @@ library_told place r =
 abbrev pub library_of : (ℕ → Option ℕ) → ℕ → List ℕ → ImportDirectoryEntry → Result (Option Library) Refusal
 library_of place w b e = import_record place w b e >>= λ r. Ok (option_map (library_told place) r)
 
--- what stands at p: a library, or none at the record that ends the directory
+-- the library whose record is at offset p, or none where the record ends the directory
 abbrev pub library_at : (ℕ → Option ℕ) → ℕ → List ℕ → ℕ → Result (Option Library) Refusal
 library_at place w b p = import_record_at place w b p >>= λ r. Ok (option_map (library_told place) r)
 
--- what a step over it answers, and the walk behind: over at the end and behind a refusal
+-- a step's result, and the walk after it: over at the end and after a refusal
 abbrev pub library_by : Libraries → Result (Option Library) Refusal → Result (Option Library) Refusal × Libraries
 library_by walk (Ok (Some library)) = (Ok (Some library), libraries_from (walk.next + 20))
 library_by walk (Ok None) = (Ok None, no_libraries)
 library_by walk (Err refusal) = (Err refusal, no_libraries)
 
--- a step over libraries; one that is over stays as it is
+-- a step over libraries; a walk that is over stays as it is
 unfoldable pub library_step : (ℕ → Option ℕ) → ℕ → List ℕ → Libraries → Result (Option Library) Refusal × Libraries
 library_step place w b walk = if walk.is_over == 0 then library_by walk (library_at place w b walk.next) else (Ok None, walk)
 
--- a step by what it answers, and the walk behind it
+-- a step by its result, and the walk after it
 abbrev pub StepsLibraries : (ℕ → Option ℕ) → ℕ → List ℕ → Libraries → Result (Option Library) Refusal → Libraries → Type 0
 StepsLibraries place w b old answer new = (answer, new) ≡ library_step place w b old
 
 -- ---- the imports of a library
 
--- the range of an import's name, if it has one: behind the hint at this place
+-- the range of an import's name, if it has one: the name follows the hint at this offset
 abbrev pub import_name_told : Option ℕ → Option (List ℕ) → Range
 import_name_told hint None = no_bytes
 import_name_told hint (Some name) = range_from (length name) (option_map (λ p. p + 2) hint)
 
--- what an entry imports, its name as a range
+-- an import, its name as a range
 abbrev pub import_told : (ℕ → Option ℕ) → ℕ → ImportView → Import
 import_told place entry i = record { name = import_name_told (place (entry % 2 ^ 31)) i.name; rva = i.rva; ordinal = i.ordinal; has_name = one_if_some i.name }
 
--- an entry with its slot; which library it is of makes no difference to what it imports
+-- an entry with its slot; which library it belongs to makes no difference to its import
 abbrev pub slot_entry : ℕ → ℕ → EntryView
 slot_entry entry rva = record { dll = []; entry = entry; rva = rva }
 
--- what it imports by its name
+-- the import of an entry by name
 abbrev pub named_told : (ℕ → Option ℕ) → List ℕ → ℕ → ℕ → Result Import Refusal
 named_told place b entry rva = (mapped (place (entry % 2 ^ 31)) >>= named_import b (slot_entry entry rva)) >>= λ i. Ok (import_told place entry i)
 
--- what it imports
+-- the import of an entry
 abbrev pub import_at : (ℕ → Option ℕ) → ℕ → List ℕ → ℕ → ℕ → Result Import Refusal
 import_at place w b entry rva = import_of place w b (slot_entry entry rva) >>= λ i. Ok (import_told place entry i)
 
--- a walk that is over
+-- a walk over imports that is over
 abbrev pub no_imports : Imports → Imports
 no_imports walk = record walk { left = no_bytes }
 
--- what a step over an entry answers, and the walk behind: the next slot stands behind this one
+-- a step's result, and the walk after it: its next slot follows this one
 abbrev pub import_by : ℕ → Imports → Result Import Refusal → Result (Option Import) Refusal × Imports
 import_by w walk (Ok import) = (Ok (Some import), record { left = behind walk.left w; rva = (walk.rva + w) % 2 ^ 64 })
 import_by w walk (Err refusal) = (Err refusal, no_imports walk)
 
--- the same of a walk that has these bytes left, which begin with its next entry
+-- the same of a walk with these bytes left, which start with its next entry
 abbrev pub import_left : (ℕ → Option ℕ) → ℕ → List ℕ → Imports → Result (Option (List ℕ)) Refusal → Result (Option Import) Refusal × Imports
 import_left place w b walk (Ok None) = (Ok None, walk)
 import_left place w b walk (Ok (Some left)) = import_by w walk (import_at place w b (le left 0 w) walk.rva)
@@ -113,6 +113,6 @@ import_left place w b walk (Err refusal) = (Err refusal, no_imports walk)
 unfoldable pub import_step : (ℕ → Option ℕ) → ℕ → List ℕ → Imports → Result (Option Import) Refusal × Imports
 import_step place w b walk = import_left place w b walk (left_entry w b walk.left)
 
--- a step by what it answers, and the walk behind it
+-- a step by its result, and the walk after it
 abbrev pub StepsImports : (ℕ → Option ℕ) → ℕ → List ℕ → Imports → Result (Option Import) Refusal → Imports → Type 0
 StepsImports place w b old answer new = (answer, new) ≡ import_step place w b old

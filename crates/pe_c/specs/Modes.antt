@@ -9,5 +9,6 @@ use Rattle.pe_core.specs.declared.options.ParseOptions.{ParseOptions}
 abbrev pub mode_of : ℕ → ParseMode
 mode_of n = if n == 0 then Strict else Permissive
 
+-- the default options in the mode with this number
 abbrev pub options_of : ℕ → ParseOptions
 options_of n = record default_options { parse_mode = mode_of n }

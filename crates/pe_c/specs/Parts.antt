@@ -1,4 +1,4 @@
--- The ranges that are told of records are their parts.
+-- The ranges of results are the parts of what they were read from.
 use Rattle.std.specs.Prelude.{◌≡◌, ℕ, List, [], ◌∷◌, ◌++◌, map, Option, Some, None, Ok, Err}
 use Rattle.std.specs.List.{AllZip}
 use Rattle.std.specs.Option.{IsSome}
@@ -20,43 +20,43 @@ use Rattle.pe_c.specs.Imports.{StepsImports}
 use Rattle.pe_c.specs.Ranges.{IsRange, no_bytes}
 use Rattle.pe_c.specs.Runs.{GivesItems}
 
--- the range of a part, if there is one
+-- the range of a part, empty without the part
 abbrev pub IsPart : List ℕ → Range → Option (List ℕ) → Type 0
 IsPart b r None = r ≡ no_bytes
 IsPart b r (Some part) = IsRange b r part
 
--- whatever is told of debug data, its range is this part of them
+-- a result that is read from debug data has the range of this part of the data
 abbrev pub TellsPart : {Y : Type 0} → (DebugFields → Option Y) → (Y → Range) → (DebugFields → Option (List ℕ)) → Type 0
 TellsPart {Y} told range_of part_of =
     (b : List ℕ) (image : Image) (sections : List SectionTable) (mode : ℕ) (y : Y) → told_of told b image sections mode ≡ Ok (Some y) →
     (d : DebugFields) × (image_debug b image sections mode ≡ Ok (Some d)) × (told d ≡ Some y) × IsPart b (range_of y) (part_of d)
 
--- where debug data have a record, it is told
+-- where debug data has a record, there is a result
 abbrev pub TellsRecord : {X Y : Type 0} → (DebugFields → Option Y) → (DebugFields → Option X) → Type 0
 TellsRecord told record_of =
     (b : List ℕ) (image : Image) (sections : List SectionTable) (mode : ℕ) (d : DebugFields) → image_debug b image sections mode ≡ Ok (Some d) → IsSome (record_of d) → IsSome (told d)
 
--- a walk at its beginning has the tables of these export data
+-- a walk at its start has the tables of these export data
 pub record HasTables (b : List ℕ) (w : Exports) (d : ExportDataView) : Type 0 where
   pub names : IsRange b w.names d.names
   pub ordinals : IsRange b w.ordinals d.ordinals
   pub addresses : IsRange b w.addresses d.addresses
 
--- what is told of an entry of the name table is the export that it has
+-- the result for an entry of the name table is the export that it has
 abbrev pub TellsExport : List ℕ → Option Export → Option ExportView → Type 0
 TellsExport b None None = Unit {0}
 TellsExport b None (Some e) = ⊥
 TellsExport b (Some x) None = ⊥
 TellsExport b (Some x) (Some e) = IsRange b x.name e.name × (x.rva ≡ e.rva) × (x.place ≡ or_zero e.offset) × (x.has_place ≡ one_if_some e.offset)
 
--- what is told of an import is the import
+-- the result for an import is the import
 pub record TellsImport (b : List ℕ) (x : Import) (i : ImportView) : Type 0 where
   pub name : IsPart b x.name i.name
   pub has_name : x.has_name ≡ one_if_some i.name
   pub ordinal : x.ordinal ≡ i.ordinal
   pub rva : x.rva ≡ i.rva
 
--- the numbers of a library's record
+-- the fields of a library's record
 abbrev pub record_of : Library → ImportDirectoryEntry
 record_of x = record {
   lookup_table_rva = x.lookup_table_rva;
@@ -66,8 +66,8 @@ record_of x = record {
   address_table_rva = x.address_table_rva;
 }
 
--- what is told of a record of the import directory is the record, and the walk over its list gives the record's imports, one a
--- step, and then nothing; where they are refused it gives imports and then this refusal
+-- the result for a record of the import directory is the record, and the walk over its list returns the record's
+-- imports, one a step, and then nothing; where they are refused it returns imports and then this refusal
 pub record TellsLibrary (place : ℕ → Option ℕ) (w : ℕ) (b : List ℕ) (x : Library) (r : ImportRecordView) : Type 0 where
   pub name : IsRange b x.name r.name
   pub list : IsRange b x.imports.left r.lookups
@@ -77,7 +77,7 @@ pub record TellsLibrary (place : ℕ → Option ℕ) (w : ℕ) (b : List ℕ) (x
   pub refused : (refusal : Refusal) → imports place w b (r ∷ []) ≡ Err refusal →
       (told : List Import) × (is : List ImportView) × GivesItems (StepsImports place w b) x.imports (map (λ y. Ok y) told ++ Err refusal ∷ []) × AllZip (TellsImport b) told is
 
--- the imports of records are those of the first, and behind them those of the others
+-- the imports of records are those of the first, followed by those of the others
 abbrev pub ImportsInTurn : Type 0
 ImportsInTurn =
     (place : ℕ → Option ℕ) (w : ℕ) (b : List ℕ) (r : ImportRecordView) (rs : List ImportRecordView) →

@@ -1,4 +1,4 @@
--- The records of a function up to the root of its chain, one a step.
+-- The plan of a function: its records up to the root of its chain, one a step.
 use Rattle.std.specs.Prelude.{◌≡◌, ℕ, ◌+◌, ◌*◌, ◌==◌, min, nat_le, Bool, true, false, List, [], ◌∷◌, Option, Some, None, Result, Ok, Err, if◌then◌else◌}
 use Rattle.pe_core.specs.Refusals.{Refusal, FunctionCycle, outcome}
 use Rattle.pe_core.specs.declared.section_table.SectionTable.{SectionTable}
@@ -9,39 +9,44 @@ use Rattle.pe_c.specs.declared.image.Image.{Image}
 use Rattle.pe_c.specs.declared.plan.Plan.{Plan}
 use Rattle.pe_c.specs.declared.unwinding.UnwindRecord.{UnwindRecord}
 
--- the plan that begins at an unwind address
+-- the plan that starts at an unwind RVA
 abbrev pub plan_from : ℕ → Plan
 plan_from unwind = record { unwind = unwind; is_over = 0; saved = unwind; spare = 0; steps = 0; limit = 1 }
 
+-- a plan that is over
 abbrev pub ended : Plan → Plan
 ended p = record p { is_over = 1 }
 
--- a plan that goes on at an address, which is saved if as many records were given as the limit says: then the limit doubles
+-- the plan that continues at an RVA: once as many records were returned as the limit says, it saves the RVA and doubles
+-- the limit
 abbrev pub goes_on : Plan → ℕ → Plan
 goes_on p address =
     if nat_le p.limit (p.steps + 1)
     then record p { unwind = address; saved = address; steps = 0; limit = min (2 * p.limit) 18446744073709551615 }
     else record p { unwind = address; steps = p.steps + 1 }
 
--- what a plan gives whose next record is this one: a record that goes on at the saved address is one of a ring
+-- the result of a plan with this next record: one that continues at the saved RVA is part of a loop
 abbrev pub gives_record : Plan → UnwindRecord → Result (Option UnwindRecord) Refusal
 gives_record p r =
     if r.is_chained == 0 then Ok (Some r) else (if r.chained.unwind_info_address == p.saved then Err FunctionCycle else Ok (Some r))
 
+-- the plan after this record
 abbrev pub behind_record : Plan → UnwindRecord → Plan
 behind_record p r =
     if r.is_chained == 0 then ended p
     else (if r.chained.unwind_info_address == p.saved then ended p else goes_on p r.chained.unwind_info_address)
 
+-- the result of a plan, by its next record or what refuses that
 abbrev pub gives : Plan → Result UnwindRecord Refusal → Result (Option UnwindRecord) Refusal
 gives p (Ok r) = gives_record p r
 gives p (Err refusal) = Err refusal
 
+-- the plan after that: over after a refusal
 abbrev pub leaves : Plan → Result UnwindRecord Refusal → Plan
 leaves p (Ok r) = behind_record p r
 leaves p (Err refusal) = ended p
 
--- one step of a plan: nothing where it is over; else what asking for the record of its address answers decides
+-- one step of a plan: nothing where it is over; else the record of its unwind RVA decides
 abbrev pub StepsIf : Bool → List ℕ → Image → List SectionTable → ℕ → Plan → Result (Option UnwindRecord) Refusal → Plan → Type 0
 StepsIf false b image sections mode old answer new = (answer ≡ Ok None) × (new ≡ old)
 StepsIf true b image sections mode old answer new =
@@ -50,27 +55,28 @@ StepsIf true b image sections mode old answer new =
 abbrev pub StepsPlan : List ℕ → Image → List SectionTable → ℕ → Plan → Result (Option UnwindRecord) Refusal → Plan → Type 0
 StepsPlan b image sections mode old answer new = StepsIf (old.is_over == 0) b image sections mode old answer new
 
+-- what a call for the next record returns, and the plan after it
 abbrev pub AnswersPlan : List ℕ → Image → List SectionTable → ℕ → Plan → Plan → ℕ → UnwindRecord → UnwindRecord → Type 0
 AnswersPlan b image sections mode old_plan new_plan number old new =
     (answer : Result (Option UnwindRecord) Refusal) × StepsPlan b image sections mode old_plan answer new_plan × AnswersIf number old new answer
 
 -- ---- whole plans
 
--- a plan gives these records one after the other, and then stands here
+-- a plan returns these records in turn, and is then this plan
 abbrev pub GivesInTurn : List ℕ → Image → List SectionTable → ℕ → Plan → List UnwindRecord → Plan → Type 0
 GivesInTurn b image sections mode p [] q = p ≡ q
 GivesInTurn b image sections mode p (r ∷ rs) q = (next : Plan) × StepsPlan b image sections mode p (Ok (Some r)) next × GivesInTurn b image sections mode next rs q
 
--- the step of a plan behind all that it gave since it began at an unwind address answers so
+-- the result of a plan's step, after all records that it returned since it started at an unwind RVA
 abbrev pub AnswersBehind : List ℕ → Image → List SectionTable → ℕ → ℕ → List UnwindRecord → Result (Option UnwindRecord) Refusal → Type 0
 AnswersBehind b image sections mode unwind given answer =
     (p : Plan) × (q : Plan) × GivesInTurn b image sections mode (plan_from unwind) given p × StepsPlan b image sections mode p answer q
 
--- what is told of a record that stands somewhere in the bytes
+-- a record as numbers is this record at some offset of the bytes
 abbrev pub TellsUnwindRecord : List ℕ → UnwindRecord → UnwindInfoView → Type 0
 TellsUnwindRecord b r i = (place : ℕ) × (outcome (unwind_tests b place) (unwind_record b place) ≡ Ok i) × (r ≡ flat_record b place i)
 
--- how the steps of a plan end: nothing behind the records, or the refusal
+-- the end of a plan's steps: nothing after the records, or the refusal
 abbrev pub ending_of : Result (List UnwindInfoView) Refusal → Result (Option UnwindRecord) Refusal
 ending_of (Ok records) = Ok None
 ending_of (Err refusal) = Err refusal

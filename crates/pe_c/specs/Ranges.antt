@@ -5,28 +5,28 @@ use Rattle.pe_core.specs.Refusals.{Refusal}
 use Rattle.pe_core.specs.declared.byte_range.ByteRange.{ByteRange}
 use Rattle.pe_c.specs.declared.ranges.Range.{Range}
 
--- the range of no bytes; a walk that is over
+-- the empty range; a walk that is over
 abbrev pub no_bytes : Range
 no_bytes = record { place = 0; length = 0 }
 
--- a range as it goes out
+-- a range as callers get it
 abbrev pub range_of : ByteRange → Range
 range_of r = record { place = r.place; length = r.length }
 
--- n bytes from a place on, or none without a place
+-- n bytes from an offset on, or the empty range without an offset
 abbrev pub range_from : ℕ → Option ℕ → Range
 range_from n None = no_bytes
 range_from n (Some p) = record { place = p; length = n }
 
--- a range without its first bytes
+-- a range without its first n bytes
 abbrev pub behind : Range → ℕ → Range
 behind r n = record { place = r.place + n; length = r.length - n }
 
--- the range of bytes that are the last of these
+-- the range of a part that ends where these bytes end
 abbrev pub last_range : List ℕ → List ℕ → Range
 last_range b part = record { place = length b - length part; length = length part }
 
--- the bytes of a range, or `Short` where they are not all there
+-- the bytes of a range, or `Short` where it is not inside the bytes
 abbrev pub bytes_at : List ℕ → Range → Result (List ℕ) Refusal
 bytes_at b r = record_at b r.place r.length (range b r.place r.length)
 

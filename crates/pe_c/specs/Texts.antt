@@ -1,5 +1,5 @@
--- The texts of answers.
--- Its list of errors is written by tools/make_errors.
+-- The texts of results.
+-- `tools/make_errors` writes the list of errors.
 use Rattle.std.specs.Prelude.{ℕ, ◌==◌, List, [], ◌∷◌, slice_index_or, codes, if◌then◌else◌}
 
 -- the texts of 0 and of the refusals, in the order of their numbers
@@ -45,11 +45,11 @@ texts =
     codes "write does not fit the buffer" ∷
     []
 
--- what 0 or the number of a refusal says
+-- the text of 0 or of the number of a refusal
 unfoldable pub refusal_text : ℕ → List ℕ
 refusal_text n = slice_index_or texts n (codes "another answer")
 
--- what a number says
+-- the text of the number of a result
 unfoldable pub text_of : ℕ → List ℕ
 text_of n =
     if n == 100 then codes "there is nothing of the kind" else (if n == 101 then codes "the array is too small" else refusal_text n)

@@ -30,7 +30,8 @@ use Rattle.pe_c.specs.declared.unwinding.UnwindRecord.{UnwindRecord}
 
 -- ---- function tables
 
--- where the function table of an image for this machine stands, of entries of this width, if it has one; or what refuses it
+-- the range of the function table of an image for this machine, of entries of this width, if it has one; or what
+-- refuses it
 unfoldable pub table_at : ℕ → ℕ → List ℕ → Image → List SectionTable → ℕ → Result (Option Range) Refusal
 table_at machine width b image sections mode =
     if image.machine == machine
@@ -38,12 +39,13 @@ table_at machine width b image sections mode =
     else exception_at width b image.exceptions sections image.file_alignment (options_of mode) >>= λ v. Ok (Some (range_of (table_range v))))
     else Ok None
 
--- what lookup of an address in these entries answers, or in a table that is refused
+-- the result of a lookup of an RVA in these entries, or what refuses the table
 abbrev pub LocatesIn : Result (List ℕ) Refusal → ℕ → Result (Option RuntimeFunction) Refusal → Type 0
 LocatesIn (Err refusal) a answer = answer ≡ Err refusal
 LocatesIn (Ok entries) a (Ok found) = Finds (functions entries) a found
 LocatesIn (Ok entries) a (Err refusal) = ⊥
 
+-- what a call for a lookup returns
 abbrev pub AnswersFound : List ℕ → Range → ℕ → ℕ → RuntimeFunction → RuntimeFunction → Type 0
 AnswersFound b table a number old new =
     (answer : Result (Option RuntimeFunction) Refusal) × LocatesIn (bytes_at b table) a answer × AnswersIf number old new answer
@@ -54,24 +56,29 @@ function_in b table index = bytes_at b table >>= λ entries. function_of entries
 
 -- ---- unwind records
 
+-- 1 for a value, 0 without one
 abbrev pub is_some_number : {X : Type 0} → Option X → ℕ
 is_some_number None = 0
 is_some_number (Some x) = 1
 
+-- a function, or zeros without one
 abbrev pub or_no_function : Option RuntimeFunction → RuntimeFunction
 or_no_function None = record { begin_address = 0; end_address = 0; unwind_info_address = 0 }
 or_no_function (Some f) = f
 
+-- 0 without a handler, 1 for an exception handler, 2 for a termination handler
 abbrev pub handler_kind : Option HandlerView → ℕ
 handler_kind None = 0
 handler_kind (Some (Exception address d)) = 1
 handler_kind (Some (Termination address d)) = 2
 
+-- the RVA of a handler, 0 without one
 abbrev pub handler_address : Option HandlerView → ℕ
 handler_address None = 0
 handler_address (Some (Exception address d)) = address
 handler_address (Some (Termination address d)) = address
 
+-- the range of a handler's data, empty without a handler
 abbrev pub handler_range : List ℕ → Option HandlerView → Range
 handler_range b None = no_bytes
 handler_range b (Some h) = last_range b (data_of h)
@@ -79,7 +86,7 @@ handler_range b (Some h) = last_range b (data_of h)
 abbrev pub six_zeros : List ℕ
 six_zeros = 0 ∷ 0 ∷ 0 ∷ 0 ∷ 0 ∷ 0 ∷ []
 
--- a record that stands at p, as numbers: its codes are behind four bytes
+-- the record at offset p, as numbers: its codes follow four bytes
 abbrev pub flat_record : List ℕ → ℕ → UnwindInfoView → UnwindRecord
 flat_record b p i = record {
   codes = record {
@@ -98,45 +105,51 @@ flat_record b p i = record {
   spare = six_zeros;
 }
 
--- the record at p as numbers, or what refuses it
+-- the record at offset p as numbers, or what refuses it
 abbrev pub flat_record_at : List ℕ → ℕ → Result UnwindRecord Refusal
 flat_record_at b p = outcome (unwind_tests b p) (unwind_record b p) >>= λ i. Ok (flat_record b p i)
 
--- the exception data of an image, with entries of 12 bytes, or what refuses them
+-- the exception data of an image, with entries of 12 bytes, or what refuses it
 abbrev pub image_exceptions : List ℕ → Image → List SectionTable → ℕ → Result ExceptionView Refusal
 image_exceptions b image sections mode = exception_at 12 b image.exceptions sections image.file_alignment (options_of mode)
 
--- the place of the record of an unwind address, in a table that is given; or what refuses the table
+-- the file offset of the record of an unwind RVA in a table, or what refuses the table
 abbrev pub FindsPlaceIn : Result ExceptionView Refusal → List SectionTable → ℕ → ℕ → Result ℕ Refusal → Type 0
 FindsPlaceIn (Err refusal) sections mode address answer = answer ≡ Err refusal
 FindsPlaceIn (Ok v) sections mode address answer = FindsRecord (links_of v sections (options_of mode)) address answer
 
+-- the same in the exception data of an image
 abbrev pub FindsPlace : List ℕ → Image → List SectionTable → ℕ → ℕ → Result ℕ Refusal → Type 0
 FindsPlace b image sections mode address answer = FindsPlaceIn (image_exceptions b image sections mode) sections mode address answer
 
--- what asking for the record of an unwind address answers: the record at its place
+-- the result of reading the record of an unwind RVA: the record at its offset, or what refuses it
 abbrev pub FollowsToRecord : List ℕ → Image → List SectionTable → ℕ → ℕ → Result UnwindRecord Refusal → Type 0
 FollowsToRecord b image sections mode address answer =
     (place : Result ℕ Refusal) × FindsPlace b image sections mode address place × (answer ≡ (place >>= flat_record_at b))
 
+-- what a call for the record of an unwind RVA returns
 abbrev pub AnswersRecord : List ℕ → Image → List SectionTable → ℕ → ℕ → ℕ → UnwindRecord → UnwindRecord → Type 0
 AnswersRecord b image sections mode address number old new =
     (answer : Result UnwindRecord Refusal) × FollowsToRecord b image sections mode address answer × Answers number old new answer
 
 -- ---- unwind codes
 
+-- 1 for an offset from the frame register, 0 for one from the stack pointer
 abbrev pub from_frame : StackFrameOffset → ℕ
 from_frame (RSP n) = 0
 from_frame (FP n) = 1
 
+-- an offset in bytes
 abbrev pub bytes_from : StackFrameOffset → ℕ
 bytes_from (RSP n) = n
 bytes_from (FP n) = n
 
+-- a code that saves a register
 abbrev pub saving : ℕ → ℕ → Register → StackFrameOffset → Code
 saving place operation register offset =
     record { code_offset = place; operation = operation; operand = register.0; from_frame = from_frame offset; value = bytes_from offset }
 
+-- a code of another operation
 abbrev pub plain : ℕ → ℕ → ℕ → ℕ → Code
 plain place operation operand value = record { code_offset = place; operation = operation; operand = operand; from_frame = 0; value = value }
 
@@ -152,10 +165,11 @@ flat_operation place (SaveXMM128 register offset) = saving place 6 register offs
 flat_operation place (PushMachineFrame has_code) = plain place 7 (if has_code then 1 else 0) 0
 flat_operation place Noop = plain place 8 0 0
 
+-- a code as numbers
 abbrev pub flat : UnwindCode → Code
 flat c = flat_operation c.code_offset c.operation
 
--- the stream of code bytes that a walk has left
+-- the stream of the code bytes that a walk has left
 abbrev pub stream_at : List ℕ → CodeWalk → CodeStream
 stream_at bytes w = record { content = bytes; version = w.version; frame = w.frame_register }
 
@@ -163,40 +177,42 @@ stream_at bytes w = record { content = bytes; version = w.version; frame = w.fra
 abbrev pub left_of : List ℕ → CodeWalk → CodeWalk → List ℕ
 left_of bytes old new = drop (length bytes - new.left.length) bytes
 
--- one step over these bytes: what the stream gives, and a walk that ends where it ended
+-- one step over these bytes: what the stream returns, and a walk with the same end
 pub record StepsOver (bytes : List ℕ) (old : CodeWalk) (answer : Option (Result UnwindCode Error)) (new : CodeWalk) : Type 0 where
   pub code : GivesCode (stream_at bytes old) answer (stream_at (left_of bytes old new) new)
   pub shorter : new.left.length ≤ old.left.length
   pub same_end : new.left.place + new.left.length ≡ old.left.place + old.left.length
   pub others : new ≡ record old { left = new.left }
 
--- a step of a walk over the bytes of its range; where they are not there it is refused, and over
+-- a step of a walk over the bytes of its range: where that is not inside the bytes, it is refused and the walk is over
 abbrev pub WalksIn : Result (List ℕ) Refusal → CodeWalk → Option (Result UnwindCode Error) → CodeWalk → Type 0
 WalksIn (Ok bytes) old answer new = StepsOver bytes old answer new
 WalksIn (Err refusal) old None new = ⊥
 WalksIn (Err refusal) old (Some (Ok code)) new = ⊥
 WalksIn (Err refusal) old (Some (Err e)) new = (kind_of e ≡ refusal) × (new ≡ record old { left = no_bytes })
 
+-- the result of a step, as numbers
 abbrev pub flat_answer : Option (Result UnwindCode Error) → Result (Option Code) Refusal
 flat_answer None = Ok None
 flat_answer (Some (Ok code)) = Ok (Some (flat code))
 flat_answer (Some (Err e)) = Err (kind_of e)
 
--- a step of a walk, by what it tells of a code
+-- a step of a walk, by its result as numbers
 abbrev pub StepsCodes : List ℕ → CodeWalk → Result (Option Code) Refusal → CodeWalk → Type 0
 StepsCodes b old answer new = (given : Option (Result UnwindCode Error)) × WalksIn (bytes_at b old.left) old given new × (answer ≡ flat_answer given)
 
--- an item of a stream of codes, as it is told
+-- an item of a stream of codes, as numbers
 abbrev pub flat_item : Result UnwindCode Error → Result Code Refusal
 flat_item (Ok code) = Ok (flat code)
 flat_item (Err e) = Err (kind_of e)
 
+-- what a call for the next code returns, and the walk after it
 abbrev pub AnswersCode : List ℕ → CodeWalk → CodeWalk → ℕ → Code → Code → Type 0
 AnswersCode b old_walk new_walk number old new =
     (answer : Option (Result UnwindCode Error)) × WalksIn (bytes_at b old_walk.left) old_walk answer new_walk × AnswersIf number old new (flat_answer answer)
 
 -- ---- scope tables
 
--- where the scope table in a handler's data stands, behind its count
+-- the range of the scope table in a handler's data, which follows its count
 abbrev pub scopes_at : List ℕ → Range → Result (Option Range) Refusal
 scopes_at b r = bytes_at b r >>= λ d. Ok (option_map (λ n. record { place = r.place + 4; length = n }) (scope_table_size d))

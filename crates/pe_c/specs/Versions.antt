@@ -19,31 +19,32 @@ use Rattle.pe_c.specs.Images.{is_absent}
 use Rattle.pe_c.specs.Modes.{options_of}
 use Rattle.pe_c.specs.Ranges.{range_of, IsRange}
 
--- where the content of the first resource with an id lies, or what refuses it; an image without a resource directory has none
+-- the range of the content of the first resource with an id, or what refuses it; none without a resource directory
 abbrev pub IsContentBy : Bool → ParseOptions → List ℕ → Image → List SectionTable → ℕ → Result (Option ByteRange) Refusal → Type 0
 IsContentBy true o b image sections id r = r ≡ Ok None
 IsContentBy false o b image sections id r = IsResourceRange o b image.resources id sections image.file_alignment r
 
+-- the same of an image in this mode
 abbrev pub IsContentOf : List ℕ → Image → List SectionTable → ℕ → ℕ → Result (Option ByteRange) Refusal → Type 0
 IsContentOf b image sections mode id r = IsContentBy (is_absent image.resources) (options_of mode) b image sections id r
 
--- what is told of a manifest: the content of the resource with the id 24
+-- what a call for the manifest returns: the range of the content of the resource with the id 24
 abbrev pub AnswersManifest : List ℕ → Image → List SectionTable → ℕ → ℕ → Range → Range → Type 0
 AnswersManifest b image sections mode number old new =
     (c : Result (Option ByteRange) Refusal) × IsContentOf b image sections mode 24 c
     × AnswersIf number old new (c >>= λ c. Ok (option_map range_of c))
 
--- the fixed file information in version information that lies there
+-- the fixed file information of the version information at a range
 abbrev pub fixed_at : List ℕ → Option ByteRange → Result (Option VsFixedFileInfo) Refusal
 fixed_at b None = Ok None
 fixed_at b (Some c) = fixed_info_of (bytes_in b c)
 
--- what is told of fixed file information: version information is the content of the resource with the id 16
+-- what a call for fixed file information returns: version information is the content of the resource with the id 16
 abbrev pub AnswersFixed : List ℕ → Image → List SectionTable → ℕ → ℕ → VsFixedFileInfo → VsFixedFileInfo → Type 0
 AnswersFixed b image sections mode number old new =
     (c : Result (Option ByteRange) Refusal) × IsContentOf b image sections mode 16 c × AnswersIf number old new (c >>= fixed_at b)
 
--- the range of the value of a name in version information that lies there
+-- the range of the value of a name in the version information at a range
 abbrev pub value_at : List ℕ → VersionName → Option ByteRange → Result (Option Range) Refusal
 value_at b name None = Ok None
 value_at b name (Some c) = value_range_in name (bytes_in b c) >>= λ r. Ok (option_map (λ r. range_of (inner c r)) r)
@@ -64,7 +65,7 @@ name_at n =
     else (if n == 10 then Some names.ProductVersion
     else (if n == 11 then Some names.SpecialBuild else None)))))))))))
 
--- what is told of the value of a name: no other number names one
+-- what a call for the value of a name returns; any other number is no name
 abbrev pub AnswersText : List ℕ → Image → List SectionTable → ℕ → Option VersionName → ℕ → Range → Range → Type 0
 AnswersText b image sections mode None number old new = (number ≡ 100) × (new ≡ old)
 AnswersText b image sections mode (Some name) number old new =
@@ -82,15 +83,17 @@ abbrev pub TellsRange : List ℕ → ℕ → Range → Option (List ℕ) → Typ
 TellsRange b number out None = number ≡ 100
 TellsRange b number out (Some bytes) = (number ≡ 0) × IsRange b out bytes
 
+-- the fixed file information of version information, if there are both
 abbrev pub fixed_of : Option VersionView → Option VsFixedFileInfo
 fixed_of None = None
 fixed_of (Some v) = v.fixed_info
 
+-- the value of a name in version information, if there are both
 abbrev pub value_of : VersionName → Option VersionView → Option (List ℕ)
 value_of name None = None
 value_of name (Some v) = value_named name v.strings
 
--- what is told of a manifest, of fixed file information and of the value of a name is what the resources hold
+-- what calls return of a manifest, of fixed file information and of the value of a name is what the resources hold
 abbrev pub TellsManifest : Type 0
 TellsManifest =
     (b : List ℕ) (image : Image) (sections : List SectionTable) (mode : ℕ) (x : ResourceView) (number : ℕ) (old new : Range) →

@@ -7,8 +7,8 @@ use Rattle.pe_core.specs.Rows.{entry_items}
 use Rattle.pe_c.specs.Ranges.{no_bytes, behind}
 use Rattle.pe_c.specs.declared.ranges.Range.{Range}
 
--- the bytes that a walk has left, if some are: they begin with its next entry. `Short` where that is cut, or where the range
--- does not lie in the bytes
+-- the bytes that a walk has left, if any are: they start with its next entry. `Short` where that is truncated, or where
+-- the range is not inside the bytes
 abbrev pub left_entry : ℕ → List ℕ → Range → Result (Option (List ℕ)) Refusal
 left_entry width b r =
     if holds b r.place r.length
@@ -19,7 +19,7 @@ left_entry width b r =
 abbrev pub next_of : {X : Type 0} → (List ℕ → ℕ → X) → ℕ → List ℕ → Range → Result (Option X) Refusal
 next_of entry_at width b r = left_entry width b r >>= λ left. Ok (option_map (λ d. entry_at d 0) left)
 
--- where a walk stands behind such a step: it stays at its end, and is over behind a refusal
+-- the walk after such a step: it stays at its end, and is over after a refusal
 abbrev pub walk_behind : ℕ → Result (Option (List ℕ)) Refusal → Range → Range
 walk_behind width (Ok None) r = r
 walk_behind width (Ok (Some left)) r = behind r width
@@ -28,16 +28,18 @@ walk_behind width (Err refusal) r = no_bytes
 abbrev pub walk_of : ℕ → List ℕ → Range → Range
 walk_of width b r = walk_behind width (left_entry width b r) r
 
--- a step: the next entry, and where the walk stands behind it
+-- a step: the next entry, and the walk after it
 abbrev pub StepsEntries : {X : Type 0} → (List ℕ → ℕ → X) → ℕ → List ℕ → Range → Result (Option X) Refusal → Range → Type 0
 StepsEntries entry_at width b old answer new = (answer ≡ next_of entry_at width b old) × (new ≡ walk_of width b old)
 
--- the entries that a walk has left, and one fault where a last one is cut; or one where its range does not lie in the bytes
+-- the entries that a walk has left, and one refusal where the last is truncated; one alone where its range is not
+-- inside the bytes
 abbrev pub entries_left : {X : Type 0} → (List ℕ → ℕ → X) → ℕ → List ℕ → Range → List (Result X Refusal)
 entries_left entry_at width b w = if holds b w.place w.length then entry_items entry_at width (range b w.place w.length) else Err Short ∷ []
 
 -- ---- tables that are read by index
 
+-- an entry, or `FunctionIndex` without one
 abbrev pub or_no_index : {X : Type 0} → Option X → Result X Refusal
 or_no_index None = Err FunctionIndex
 or_no_index (Some x) = Ok x

@@ -1,4 +1,5 @@
-//! The numbers by which calls answer.
+//! The results of calls as numbers: 0, the number of an error of pe_core, or 100 and 101. Callers may store them: the
+//! numbers stay the same from version to version.
 
 ghost use Rattle.std.specs.Prelude.{◌≡◌};
 ghost use Rattle.pe_core.specs.Refusals.{kind_of, kind_of_reason, answer_by};
@@ -7,16 +8,16 @@ ghost use Rattle.pe_c.specs.Modes.{options_of};
 
 use pe_core::{Error, ParseMode, ParseOptions, Reason, Result};
 
-/// The call was answered.
+/// The call succeeded.
 pub const DONE: u32 = 0;
 
-/// There is nothing of the kind that was asked for.
+/// There is nothing of the kind that was asked for, or a walk is over. It is no error.
 pub const NOTHING: u32 = 100;
 
-/// The room that was handed in is too small.
+/// The array that the caller passes is too small.
 pub const ROOM: u32 = 101;
 
-/// The number of a reason. `tools/make_errors` writes its arms.
+/// The number of a reason. `tools/make_errors` writes the arms.
 fn number_of_reason(reason: Reason) -> u32
     ensures { result ≡ number_of (kind_of_reason reason) }
 {
@@ -58,7 +59,7 @@ fn number_of_reason(reason: Reason) -> u32
     }
 }
 
-/// The number of a refusal. It stays the same from version to version.
+/// The number of an error. It stays the same from version to version.
 pub fn number_of(error: &Error) -> u32
     ensures { result ≡ number_of (kind_of error.now) }
 {
@@ -82,7 +83,7 @@ pub fn options(mode: u32) -> ParseOptions
     ParseOptions::default().with_parse_mode(parse_mode)
 }
 
-/// Hands out what was given, or its refusal's number.
+/// Writes a value to `out` and returns `DONE`, or returns the number of an error and leaves `out` unchanged.
 pub fn hand_out<T: Copy>(given: Result<T>, out: &mut T) -> u32
     ensures { Answers result out.old out.new (answer_by (λ x. x) given) }
 {
@@ -95,7 +96,7 @@ pub fn hand_out<T: Copy>(given: Result<T>, out: &mut T) -> u32
     }
 }
 
-/// Hands out what was given if there is something, or its refusal's number.
+/// The same of a value that may be absent: then returns `NOTHING` and leaves `out` unchanged.
 pub fn hand_out_some<T: Copy>(given: Result<Option<T>>, out: &mut T) -> u32
     ensures { AnswersIf result out.old out.new (answer_by (λ x. x) given) }
 {

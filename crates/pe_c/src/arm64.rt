@@ -1,4 +1,7 @@
-//! The functions of ARM64 images, and how their frames are unwound.
+//! The functions of ARM64 images, and how their frames are unwound. An entry of the function table has the start RVA of
+//! a function and its unwind data: packed into the entry, or the RVA of a record with a stream of unwind codes. Undo
+//! the codes to find the caller's frame.
+//! https://learn.microsoft.com/cpp/build/arm64-exception-handling
 
 ghost use Rattle.std.specs.Prelude.{◌≡◌, ◌+◌, ◌*◌, ◌≤◌, ◌^◌, ◌==◌, length};
 ghost use Rattle.pe_core.specs.Refusals.{answer_by};
@@ -21,65 +24,70 @@ use pe_unwind::{
     ExceptionData,
 };
 
-/// The bytes of one epilog scope.
+/// The size of an epilog scope in bytes.
 const SIZE_OF_SCOPE: usize = 4;
 
-/// The bytes of the longest stream of codes.
+/// The most bytes that a stream of codes can have: the largest multiple of 4 that fits 32 bits.
 const LONGEST_STREAM: u64 = 4_294_967_292;
 
-/// The fields of unwind data that are packed into an entry of the function table.
+/// Packed unwind data, as `pe_c_arm64_packed_fields` reads it from an entry of the function table.
 #[repr(C)]
 #[derive(Clone, Copy)]
 pub struct Arm64Packed {
-    /// 0 where the unwind data are the address of a record, and the fields mean nothing; 1 of a function, 2 of a part of
-    /// one; 3 is reserved.
+    /// 0 where the unwind data is the RVA of a record, and the other fields mean nothing; 1 for a function, 2 for a
+    /// fragment of one; 3 is reserved.
     pub flag: u32,
     /// In bytes.
     pub function_length: u32,
-    /// In bytes.
+    /// Bytes of stack that the function allocates.
     pub frame_size: u32,
+    /// RegF: 0, or the number of saved registers from d8 on, less 1.
     pub reg_f: u32,
+    /// RegI: the number of saved registers from x19 on.
     pub reg_i: u32,
+    /// H: 1 where x0 to x7 are stored at the start of the function, else 0.
     pub h: u32,
+    /// CR: 0 where x29 and lr are not saved, 1 where lr is, 2 and 3 where both are; with 2 lr is signed.
     pub cr: u32,
     /// 0 where `flag` is 0, else 1.
     pub is_packed: u32,
 }
 
-/// An ARM64 unwind record.
+/// An ARM64 unwind record (`.xdata`).
 #[repr(C)]
 #[derive(Clone, Copy)]
 pub struct Arm64Record {
-    /// A walk over its epilog scopes, at their beginning.
+    /// A walk for `pe_c_next_arm64_scope`, at its start.
     pub scopes: Range,
-    /// Its code bytes.
+    /// The code bytes, for `pe_c_arm64_codes`.
     pub codes: Range,
-    /// What the handler finds behind its address, to the end of the bytes. Empty without a handler.
+    /// What follows the handler's RVA, up to the end of the file. Empty without a handler.
     pub handler_data: Range,
-    /// The address of the handler, or 0.
+    /// RVA of the handler, or 0.
     pub handler: u32,
-    /// 1 where it has a handler.
+    /// 1 where the record has a handler, else 0.
     pub has_handler: u32,
     /// In bytes.
     pub function_length: u32,
-    /// 1 where the record has one epilog, whose codes begin at `epilog_start`.
+    /// 1 where the record has one epilog and no scope for it: its codes start at `epilog_start`. Else 0.
     pub epilog_in_header: u32,
-    /// The index of that epilog's first code byte; else 0.
+    /// Index of that epilog's first code byte; else 0.
     pub epilog_start: u32,
-    /// 0.
+    /// 0: a record of another version is an error.
     pub version: u32,
 }
 
-/// An epilog scope.
+/// An epilog scope: where an epilog is in the function, and where its codes start.
 #[repr(C)]
 #[derive(Clone, Copy)]
 pub struct Arm64Scope {
-    /// How far behind the start of the function the epilog begins, in bytes.
+    /// Bytes, from the start of the function to the start of the epilog.
     pub start_offset: u32,
-    /// The index of its first code byte.
+    /// Index of the epilog's first code byte, for `pe_c_arm64_codes`.
     pub start_index: u32,
-    /// Four bits that are reserved.
+    /// Bits 18 to 21 of the entry, which are reserved.
     pub reserved: u32,
+    /// The whole entry.
     pub word: u32,
 }
 
@@ -89,7 +97,7 @@ pub struct Arm64Scope {
 pub struct Arm64CodeWalk {
     /// The code bytes that are left.
     pub left: Range,
-    /// Where they begin, counted from the beginning of the stream.
+    /// Bytes, from the start of the stream to those that are left.
     pub offset: u64,
 }
 
@@ -97,19 +105,20 @@ pub struct Arm64CodeWalk {
 #[repr(C)]
 #[derive(Clone, Copy)]
 pub struct Arm64Code {
-    /// Where it begins, counted from the beginning of the stream.
+    /// Bytes, from the start of the stream to this code.
     pub offset: u32,
-    /// Its bytes, from 1 to 5.
+    /// Bytes of the code, 1 to 5.
     pub length: u32,
-    /// Its number in the order of `Arm64UnwindCode`, from 0.
+    /// The index of its variant of `Arm64UnwindCode`, from 0.
     pub kind: u32,
-    /// The register, the first of two registers, a count of vectors, the byte of an `AddFp`, the case of a custom stack in
-    /// their order from 0, or the first byte of a reserved code; else 0.
+    /// The register, the first of two registers, a count of vectors, the byte of an `AddFp`, the case of a custom stack
+    /// as the index of its variant of `Arm64CustomStackCase`, or the first byte of a reserved code; else 0.
     pub operand: u32,
-    /// Bytes that are allocated, or the offset of what is saved; of a scalable register the offset's number, of a reserved
-    /// code the number in the bytes behind its first; else 0.
+    /// Bytes that are allocated, or the offset of what is saved or of an `AddFp` in bytes. For a scalable register the
+    /// number in the code, for a reserved code the number in the bytes after its first. Else 0.
     pub value: u32,
-    /// Of a save of any register: 1 for a pair, 2 for a preindexed store, and four times the kind of register. Else 0.
+    /// For a save of any register: bit 0 for a pair, bit 1 for a preindexed store, and from bit 2 on the kind of
+    /// register. Else 0.
     pub flags: u32,
 }
 
@@ -134,8 +143,10 @@ fn table_of(
     Ok(Some(range_of(exceptions.table_range())))
 }
 
-/// Finds the function table of an ARM64 image: `NOTHING` where it has none, or is for another machine. Else what refuses the
-/// exception directory.
+/// Returns the range of the function table of an ARM64 image, entries of 8 bytes: `NOTHING` where it has none, or is
+/// for another machine.
+///
+/// Errors: `EXCEPTION_SIZE`, `UNMAPPED`, `EXCEPTION_OFFSET`, `EXCEPTION_BOUNDS`.
 #[unsafe(no_mangle)]
 pub extern "C" fn pe_c_arm64_table(
     bytes: &[u8],
@@ -156,8 +167,9 @@ fn function_in(bytes: &[u8], table: &Range, index: u64) -> Result<Arm64RuntimeFu
     Arm64RuntimeFunction::of_table(entries, index as usize)
 }
 
-/// Reads the entry with this index of the function table at this range: `FUNCTION_INDEX` where the table has no more than
-/// that many, `SHORT` where the bytes have no such range.
+/// Reads the entry with an index, from 0, of the function table at this range.
+///
+/// Errors: `SHORT` where the range is not inside the bytes; `FUNCTION_INDEX` where the table has no such entry.
 #[unsafe(no_mangle)]
 pub extern "C" fn pe_c_arm64_function_at(
     bytes: &[u8],
@@ -170,7 +182,8 @@ pub extern "C" fn pe_c_arm64_function_at(
     hand_out(function_in(bytes, table, index), out)
 }
 
-/// Reads the fields of unwind data that are packed into an entry. It is always `DONE`.
+/// Reads the fields of packed unwind data from an entry. Always returns `DONE`: where the data is not packed, the
+/// fields mean nothing.
 #[unsafe(no_mangle)]
 pub extern "C" fn pe_c_arm64_packed_fields(
     function: &Arm64RuntimeFunction,
@@ -192,7 +205,7 @@ pub extern "C" fn pe_c_arm64_packed_fields(
     DONE
 }
 
-/// The address of a record's handler, whether it has one, and its data.
+/// The RVA of a record's handler, whether it has one, and its data.
 fn handler_of(info: &Arm64UnwindInfo, bytes: &[u8], place: usize) -> (u32, u32, Range)
     requires { Arm64PartsStand bytes.now place (info_view info.now) }
     ensures address { result.0 ≡ arm64_handler_address (info_view info.now).handler }
@@ -205,7 +218,8 @@ fn handler_of(info: &Arm64UnwindInfo, bytes: &[u8], place: usize) -> (u32, u32, 
     }
 }
 
-/// The count that the header or the extension word has in the place of a count of scopes.
+/// The field for the count of epilog scopes, of the extension word if there is one, else of the header. With the epilog
+/// in the header it is the index of the epilog's first code.
 fn first_count(header: Arm64UnwindHeader, extension: Option<Arm64UnwindExtension>) -> u32
     ensures { result ≡ first_count header.0 (extension_view extension) }
 {
@@ -215,7 +229,7 @@ fn first_count(header: Arm64UnwindHeader, extension: Option<Arm64UnwindExtension
     }
 }
 
-/// The record that was read at a place of the bytes, as numbers.
+/// The record at a file offset, as numbers and ranges.
 fn flat_info(info: &Arm64UnwindInfo, bytes: &[u8], place: usize) -> Arm64Record
     requires { Arm64PartsStand bytes.now place (info_view info.now) }
     ensures { result ≡ flat_info bytes.now place (info_view info.now) }
@@ -251,7 +265,7 @@ fn flat_info(info: &Arm64UnwindInfo, bytes: &[u8], place: usize) -> Arm64Record
     }
 }
 
-/// The unwind record at a place of the bytes.
+/// The unwind record at a file offset.
 fn info_at(bytes: &[u8], place: usize) -> Result<Arm64Record>
     ensures { answer_by (λ x. x) result ≡ flat_info_at bytes.now place }
 {
@@ -280,9 +294,10 @@ fn read_record(
     }
 }
 
-/// Reads the unwind record of a function: `NOTHING` where its unwind data are packed, `UNMAPPED` where their address has no
-/// place, `ARM64_VERSION` unless its version is 0, `SHORT` where it is not all there; else what refuses the exception
-/// directory.
+/// Reads the unwind record of a function: `NOTHING` where its unwind data is packed.
+///
+/// Errors: those of `pe_c_arm64_table`, also where the data is packed; `UNMAPPED` of the record's RVA; `SHORT` and
+/// `ARM64_VERSION` of the record, whose version has to be 0.
 #[unsafe(no_mangle)]
 pub extern "C" fn pe_c_arm64_unwind_record(
     bytes: &[u8],
@@ -319,8 +334,9 @@ fn next_scope(bytes: &[u8], walk: &mut Range) -> Result<Option<Arm64Scope>>
     }
 }
 
-/// The next epilog scope of a walk: `NOTHING` at its end. `SHORT` where a scope is cut or the bytes have no such range:
-/// behind it the walk is over.
+/// Reads the next epilog scope of a walk: `NOTHING` at its end.
+///
+/// Errors: `SHORT` where the walk is not inside the bytes, or a scope is truncated. After it the walk is over.
 #[unsafe(no_mangle)]
 pub extern "C" fn pe_c_next_arm64_scope(bytes: &[u8], walk: &mut Range, out: &mut Arm64Scope) -> u32
     ensures scope { AnswersIf result out.old out.new (next_of flat_scope_at 4 bytes.now walk.old) }
@@ -343,8 +359,11 @@ fn codes_at(bytes: &[u8], codes: &Range, start: u64) -> Result<Arm64CodeWalk>
     })
 }
 
-/// Begins a walk over the codes of a record from a code byte on, by its index: `ARM64_STREAM` where it is behind their end,
-/// or the bytes are no whole words of four or more than 4,294,967,292; `SHORT` where the bytes have no such range.
+/// Returns a walk over the codes of a record that starts at a code byte, by its index: 0 for the prolog, `start_index`
+/// of a scope or `epilog_start` for an epilog.
+///
+/// Errors: `SHORT` where the codes are not inside the bytes; `ARM64_STREAM` where their length is not a multiple of 4,
+/// is below the start, or is above 4,294,967,292.
 #[unsafe(no_mangle)]
 pub extern "C" fn pe_c_arm64_codes(
     bytes: &[u8],
@@ -383,7 +402,7 @@ fn any_register(
     (22, u32::from(register), offset, flags)
 }
 
-/// Kind, operand, value and flags of a code.
+/// The kind, operand, value and flags of a code.
 fn numbers_of(code: Arm64UnwindCode) -> (u32, u32, u32, u32)
     ensures { result ≡ numbers_of code }
 {
@@ -450,7 +469,7 @@ fn numbers_of(code: Arm64UnwindCode) -> (u32, u32, u32, u32)
     }
 }
 
-/// The bytes that a walk has left, if they and those before them can be a stream.
+/// The bytes that a walk has left, if together with those before them they can be a stream. A caller may make any walk.
 fn left_of_stream<'a>(bytes: &'a [u8], walk: &Arm64CodeWalk) -> Result<&'a [u8]>
     ensures { answer_by (λ s. s.now) result ≡ left_of_stream bytes.entry.now walk.now }
 {
@@ -465,7 +484,7 @@ fn left_of_stream<'a>(bytes: &'a [u8], walk: &Arm64CodeWalk) -> Result<&'a [u8]>
     Ok(left)
 }
 
-/// One step of a walk whose bytes are there.
+/// One step over the bytes that a walk has left.
 fn step(left: &[u8], walk: &mut Arm64CodeWalk) -> Result<Option<Arm64Code>>
     requires length { length left.now ≡ walk.old.left.length }
     requires end { walk.old.left.place + walk.old.left.length ≤ 2 ^ 63 }
@@ -489,6 +508,7 @@ fn step(left: &[u8], walk: &mut Arm64CodeWalk) -> Result<Option<Arm64Code>>
             };
             let (kind, operand, value, flags) = numbers_of(code);
             Ok(Some(Arm64Code {
+                // A stream has fewer than 2^32 bytes.
                 offset: offset as u32,
                 length: length as u32,
                 kind,
@@ -504,6 +524,7 @@ fn step(left: &[u8], walk: &mut Arm64CodeWalk) -> Result<Option<Arm64Code>>
     }
 }
 
+/// A walk that is over.
 const OVER: Arm64CodeWalk = Arm64CodeWalk {
     left: NO_BYTES,
     offset: 0,
@@ -521,8 +542,12 @@ fn next_code(bytes: &[u8], walk: &mut Arm64CodeWalk) -> Result<Option<Arm64Code>
     }
 }
 
-/// The next code of a walk: `NOTHING` at its end. `ARM64_CUT` where a code is cut, `ARM64_STREAM` where the bytes that are
-/// left and those before them can be no stream, `SHORT` where the bytes have no such range: behind these the walk is over.
+/// Reads the next code of a walk: `NOTHING` at its end. `End` and `EndC` do not end a walk, since the codes of epilogs
+/// follow those of the prolog: the caller stops there.
+///
+/// Errors: `SHORT` where the walk is not inside the bytes; `ARM64_STREAM` where its offset and the bytes left add up to
+/// no multiple of 4, or to more than 4,294,967,292; `ARM64_CUT` where a code is truncated. After an error the walk is
+/// over.
 #[unsafe(no_mangle)]
 pub extern "C" fn pe_c_next_arm64_code(
     bytes: &[u8],

@@ -1,4 +1,7 @@
-//! A walk over the certificates of a table.
+//! Attribute certificates, which hold Authenticode signatures. Their table has one after the other: a header of 8
+//! bytes, then the body, aligned to 8 bytes. The table is not mapped: its directory has a file offset. A caller starts
+//! a walk as the range of the directory.
+//! https://learn.microsoft.com/windows/win32/debug/pe-format#the-attribute-certificate-table-image-only
 
 ghost use Rattle.std.specs.Prelude.{◌≡◌, ◌+◌, ◌≤◌, ◌^◌};
 ghost use Rattle.pe_core.specs.Refusals.{answer_by};
@@ -11,20 +14,21 @@ use crate::ranges::{NO_BYTES, Range, slice_of};
 use pe_core::{Error, Reason, Result};
 use pe_records::AttributeCertificate;
 
-/// A certificate.
+/// A certificate (`WIN_CERTIFICATE`).
 #[repr(C)]
 #[derive(Clone, Copy)]
 pub struct Certificate {
+    /// What follows the header of 8 bytes.
     pub body: Range,
-    /// The bytes of header and body, as the header says.
+    /// Bytes of header and body, as the header says.
     pub length: u32,
-    /// 0x100 or 0x200.
+    /// `WIN_CERT_REVISION_1_0` (0x100) or `WIN_CERT_REVISION_2_0` (0x200).
     pub revision: u16,
-    /// 1 for an X.509 certificate, 2 for signed data of PKCS #7, 3 reserved, 4 for a terminal server's.
+    /// 1 for an X.509 certificate, 2 for PKCS #7 signed data, 3 reserved, 4 for a terminal server's certificate.
     pub certificate_type: u16,
 }
 
-/// The certificate that was read at a place.
+/// The certificate at a file offset, as numbers and a range.
 fn certificate_told(place: u64, certificate: &AttributeCertificate) -> Certificate
     requires { place ≤ 2 ^ 63 }
     ensures { result ≡ certificate_told place (certificate_view certificate.now) }
@@ -40,7 +44,7 @@ fn certificate_told(place: u64, certificate: &AttributeCertificate) -> Certifica
     }
 }
 
-/// The walk from a place on.
+/// The walk that continues at a file offset: it is over where the offset is not before the walk's end.
 fn walk_from(walk: Range, next: u64) -> Range
     requires { walk.place + walk.length ≤ 2 ^ 63 }
     ensures { result ≡ walk_from walk next }
@@ -56,11 +60,12 @@ fn walk_from(walk: Range, next: u64) -> Range
     }
 }
 
-/// One step: what it gives, and the walk behind it.
+/// One step: its result, and the walk after it.
 #[tactic(auto, unfolding(crate::specs::Certificates::step))]
 fn step(bytes: &[u8], walk: Range) -> (Result<Option<Certificate>>, Range)
     ensures { (answer_by (λ x. x) result.0, result.1) ≡ step bytes.now walk }
 {
+    // This test comes first: an empty walk outside of the bytes is an error too.
     if slice_of(bytes, &walk).is_err() {
         let end = walk.place.saturating_add(walk.length);
         return (
@@ -81,10 +86,12 @@ fn step(bytes: &[u8], walk: Range) -> (Result<Option<Certificate>>, Range)
     }
 }
 
-/// Reads the next certificate of a table, whose range the walk begins as: `NOTHING` at its end; `CERTIFICATE_TABLE` where
-/// the bytes have no such range; or as the certificate is refused, `SHORT`, `CERTIFICATE_SIZE`, `CERTIFICATE_REVISION` or
-/// `CERTIFICATE_TYPE`. The walk moves to the certificate's end, rounded up to a multiple of eight; it is over where that
-/// is not before its own end, and behind a refusal. The last body may run past the walk's end.
+/// Reads the next certificate of a table: `NOTHING` at the end of the walk. The walk starts as the range of the table
+/// and moves to the certificate's end, rounded up to a multiple of 8; it is over where that is not before its own end.
+/// The last body may end past the walk's end.
+///
+/// Errors: `CERTIFICATE_TABLE` where the walk is not inside the bytes; `SHORT` of the header; `CERTIFICATE_SIZE`,
+/// `CERTIFICATE_REVISION`, `CERTIFICATE_TYPE`. After an error the walk is over.
 #[unsafe(no_mangle)]
 pub extern "C" fn pe_c_next_certificate(
     bytes: &[u8],

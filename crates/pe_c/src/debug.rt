@@ -1,4 +1,9 @@
-//! Debug data: the entries of the debug directory, and the records that they lead to.
+//! Debug data. The debug directory is a table of entries of 28 bytes; each says which type of record it leads to, and
+//! where that is. Debuggers get the name and key of an image's PDB file from the CodeView record.
+//! https://learn.microsoft.com/windows/win32/debug/pe-format#the-debug-section
+//!
+//! A call that returns a record reads all debug data, so what damages one record is an error of each call. The record
+//! is that of the first entry of its type.
 
 ghost use Rattle.std.specs.Prelude.{◌≡◌};
 ghost use Rattle.std.specs.Option.{option_map};
@@ -16,57 +21,70 @@ use pe_records::{
     VCFeatureInfo,
 };
 
-/// The GUID and age under which a symbol server files an image's symbols, and the name of their file.
+/// A CodeView record of PDB 7.0 ("RSDS"): a symbol server files an image's PDB under its name, GUID and age.
 #[repr(C)]
 #[derive(Clone, Copy)]
 pub struct SymbolKey {
+    /// As in the file: little-endian `u32`, `u16`, `u16`, then 8 bytes.
     pub guid: [u8; 16],
+    /// Grows by one each time the PDB is written.
     pub age: u32,
+    /// 0.
     pub spare: u32,
-    /// With the zeros behind it.
+    /// The rest of the record: the name of the PDB file, with the zeros after it.
     pub name: Range,
 }
 
-/// A record of PDB 2.0.
+/// A CodeView record of PDB 2.0 ("NB10").
 #[repr(C)]
 #[derive(Clone, Copy)]
 pub struct Pdb20 {
-    /// The name of the file of symbols, with the zeros behind it.
+    /// The rest of the record: the name of the PDB file, with the zeros after it.
     pub name: Range,
+    /// 0 where the symbols are in a file of their own.
     pub offset: u32,
+    /// Time stamp of the PDB, in seconds since 1970.
     pub signature: u32,
+    /// Grows by one each time the PDB is written.
     pub age: u32,
+    /// 0.
     pub spare: u32,
 }
 
-/// What a reproducible build is known by.
+/// A Repro record, which marks a reproducible build: the same sources build the same image.
 #[repr(C)]
 #[derive(Clone, Copy)]
 pub struct Repro {
-    /// Empty without one.
+    /// Empty where `has_hash` is 0.
     pub hash: Range,
-    /// 1 where there is a hash; else 0, and the entry's time stamp is one.
+    /// 1 where there is a hash; else 0, and the entry's time stamp is a hash.
     pub has_hash: u32,
+    /// 0.
     pub spare: u32,
 }
 
-/// A record of profile-guided optimization.
+/// A POGO record, of profile-guided optimization: the parts of the image's sections.
 #[repr(C)]
 #[derive(Clone, Copy)]
 pub struct Pogo {
-    /// A walk over its entries, at their beginning.
+    /// A walk for `pe_c_next_pogo_entry`, at its start.
     pub entries: Range,
-    /// 0x4C544347 or 0x50475500.
+    /// 0x4C544347 (LTCG) or 0x50475500 (PGU).
     pub signature: u32,
+    /// 0.
     pub spare: u32,
 }
 
+/// Bytes before the name in a record of PDB 7.0.
 const PDB70_HEADER: u32 = 24;
 
+/// Bytes before the name in a record of PDB 2.0.
 const PDB20_HEADER: u32 = 16;
 
+/// Bytes before the hash in a Repro record.
 const REPRO_HEADER: u32 = 4;
 
+/// Bytes before the entries in a POGO record.
 const POGO_HEADER: u32 = 4;
 
 #[tactic(auto, unfolding(crate::specs::Debug::entries_at))]
@@ -88,9 +106,11 @@ fn table_of(
     Ok(Some(range_of(range)))
 }
 
-/// Finds the debug directory's entries, a walk for `pe_c_next_debug_entry`: `NOTHING` where the directory is absent;
-/// `UNMAPPED`; `DEBUG_BOUNDS` where they go on past the end of the bytes, where permissive mode cuts them. The records
-/// that they lead to are not read.
+/// Returns the entries of the debug directory as a walk for `pe_c_next_debug_entry`: `NOTHING` where the directory is
+/// absent. The records that the entries lead to are not read.
+///
+/// Errors: `UNMAPPED`; `DEBUG_BOUNDS` where the entries end past the end of the bytes. Permissive mode truncates them
+/// there.
 #[unsafe(no_mangle)]
 pub extern "C" fn pe_c_debug_entries(
     bytes: &[u8],
@@ -123,11 +143,12 @@ fn read_debug<'a>(
     Ok(Some(debug))
 }
 
-/// The part of a record that stands so many bytes behind the place where the first entry of the type leads.
+/// The range of a part, which follows a header of so many bytes in the record of the first entry of this type.
 fn part_behind(debug: &DebugData, data_type: u32, header: u32, part: &[u8]) -> Option<Range>
     ensures { result ≡ part_behind (debug_view debug.now) data_type header part.now }
 {
     let entry = debug.find_type(data_type)?;
+    // A mode does not change where records are.
     let place = entry.record_place(&ParseOptions::default());
     Some(Range {
         place: u64::from(place) + u64::from(header),
@@ -153,9 +174,15 @@ fn key_of(debug: &DebugData) -> Option<SymbolKey>
     })
 }
 
-/// Finds the key by which a symbol server files an image's symbols: `NOTHING` where there are no debug data, or their
-/// first CodeView record is not one of PDB 7.0. Any other answer is what refuses the debug data: `UNMAPPED`,
-/// `DEBUG_BOUNDS`, `DEBUG_SIZE`, `SHORT`, `DEBUG_DATA` or `POGO_SIZE`.
+/// Returns the key under which a symbol server files an image's symbols: `NOTHING` where there is no debug data, or its
+/// first CodeView record is not one of PDB 7.0.
+///
+/// Errors are those of the debug data, in this order:
+/// - the directory: `UNMAPPED`; `DEBUG_BOUNDS` in strict mode;
+/// - PDB 7.0, then PDB 2.0: `DEBUG_SIZE` in strict mode; `SHORT`, `DEBUG_DATA`;
+/// - VC features, then characteristics: `SHORT`;
+/// - Repro: `SHORT`, `DEBUG_DATA`;
+/// - POGO: `SHORT`, `POGO_SIZE`, `DEBUG_DATA`.
 #[unsafe(no_mangle)]
 pub extern "C" fn pe_c_symbol_key(
     bytes: &[u8],
@@ -192,8 +219,8 @@ fn pdb20_of(debug: &DebugData) -> Option<Pdb20>
     })
 }
 
-/// Reads the first CodeView entry's record: `NOTHING` where there are no debug data, or it is not one of PDB 2.0; or what
-/// refuses the debug data, as for `pe_c_symbol_key`.
+/// Reads the record of the first CodeView entry: `NOTHING` where there is no debug data, or the record is not one of
+/// PDB 2.0. Errors are those of `pe_c_symbol_key`.
 #[unsafe(no_mangle)]
 pub extern "C" fn pe_c_debug_pdb20(
     bytes: &[u8],
@@ -211,8 +238,8 @@ pub extern "C" fn pe_c_debug_pdb20(
     }
 }
 
-/// Reads the first VC feature entry's record: `NOTHING` where there are no debug data, or no such entry; or what refuses
-/// the debug data, as for `pe_c_symbol_key`.
+/// Reads the record of the first VC feature entry: `NOTHING` where there is no debug data, or no such entry. Errors are
+/// those of `pe_c_symbol_key`.
 #[unsafe(no_mangle)]
 pub extern "C" fn pe_c_debug_vc_features(
     bytes: &[u8],
@@ -237,8 +264,8 @@ fn characteristics_of(debug: &DebugData) -> Option<u32>
     Some(record.characteristics_ex)
 }
 
-/// Reads the flags of the first entry of further characteristics: `NOTHING` where there are no debug data, or no such
-/// entry; or what refuses the debug data, as for `pe_c_symbol_key`.
+/// Reads the extended DLL characteristics, `IMAGE_DLLCHARACTERISTICS_EX_` flags, of the first entry that has them:
+/// `NOTHING` where there is no debug data, or no such entry. Errors are those of `pe_c_symbol_key`.
 #[unsafe(no_mangle)]
 pub extern "C" fn pe_c_debug_characteristics(
     bytes: &[u8],
@@ -273,8 +300,8 @@ fn repro_of(debug: &DebugData) -> Option<Repro>
     }
 }
 
-/// Reads the first Repro entry's record: `NOTHING` where there are no debug data, or no such entry; or what refuses the
-/// debug data, as for `pe_c_symbol_key`.
+/// Reads the record of the first Repro entry: `NOTHING` where there is no debug data, or no such entry. Errors are
+/// those of `pe_c_symbol_key`.
 #[unsafe(no_mangle)]
 pub extern "C" fn pe_c_debug_repro(
     bytes: &[u8],
@@ -304,8 +331,8 @@ fn pogo_of(debug: &DebugData) -> Option<Pogo>
     })
 }
 
-/// Reads the first POGO entry's record: `NOTHING` where there are no debug data, no such entry, or its record has another
-/// signature; or what refuses the debug data, as for `pe_c_symbol_key`.
+/// Reads the record of the first POGO entry: `NOTHING` where there is no debug data, no such entry, or its record has
+/// another signature. Errors are those of `pe_c_symbol_key`.
 #[unsafe(no_mangle)]
 pub extern "C" fn pe_c_debug_pogo(
     bytes: &[u8],

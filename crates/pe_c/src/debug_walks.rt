@@ -1,4 +1,6 @@
-//! Walks over debug entries, and over the entries of a POGO record.
+//! Walks over the entries of the debug directory, 28 bytes each, and over those of a POGO record: the RVA and the size
+//! of a part of the image, then its name, padded to a multiple of 4 bytes.
+//! https://learn.microsoft.com/windows/win32/debug/pe-format#the-debug-section
 
 ghost use Rattle.std.specs.Prelude.{◌≡◌, ◌+◌, ◌≤◌, ◌^◌, length, Ok};
 ghost use Rattle.pe_core.specs.Refusals.{answer_by};
@@ -20,15 +22,15 @@ use pe_records::{
 #[repr(C)]
 #[derive(Clone, Copy)]
 pub struct PogoEntry {
-    /// With the zero byte that ends it.
+    /// The name of the part, with its final zero.
     pub name: Range,
-    /// The part's relative virtual address.
+    /// RVA of the part.
     pub rva: u32,
-    /// In bytes.
+    /// Bytes of the part.
     pub size: u32,
 }
 
-/// The entry that the bytes begin with.
+/// The entry at the start of the bytes.
 #[tactic(auto, using(crate::proofs::Steps::first_entry))]
 fn first_entry(left: &[u8]) -> ImageDebugDirectory
     requires { 28 ≤ length left.now }
@@ -50,8 +52,9 @@ fn next_debug_entry(bytes: &[u8], walk: &mut Range) -> Result<Option<ImageDebugD
     }
 }
 
-/// Reads the next entry of a debug directory's table: `NOTHING` at its end. `SHORT` where the entry is cut or the bytes
-/// have no such range: behind it the walk is over.
+/// Reads the next entry of the debug directory: `NOTHING` at the end of the walk.
+///
+/// Errors: `SHORT` where the walk is not inside the bytes, or an entry is truncated. After it the walk is over.
 #[unsafe(no_mangle)]
 pub extern "C" fn pe_c_next_debug_entry(
     bytes: &[u8],
@@ -114,8 +117,10 @@ fn pogo_entry(walk: &Range, entry: &POGOInfoEntry) -> PogoEntry
     }
 }
 
-/// Reads the next entry of a POGO record: `NOTHING` at the end; `SHORT` where the bytes have no such range, or too few are
-/// left for an entry; `POGO_NAME` where its name does not end or its end is cut. Behind a refusal the walk is over.
+/// Reads the next entry of a POGO record: `NOTHING` at the end of the walk.
+///
+/// Errors: `SHORT` where the walk is not inside the bytes, or too few are left for an entry; `POGO_NAME` where the name
+/// is not NUL-terminated, or its padding is truncated. After an error the walk is over.
 #[unsafe(no_mangle)]
 pub extern "C" fn pe_c_next_pogo_entry(bytes: &[u8], walk: &mut Range, out: &mut PogoEntry) -> u32
     ensures { AnswersPogoEntry bytes.now walk.old walk.new result out.old out.new }

@@ -1,4 +1,7 @@
-//! Exports: where their tables stand, and a walk over those that have a name.
+//! Exports. The export directory has three tables: the RVAs of what is exported, the RVAs of names, and for each name
+//! the index of its RVA in the first table. A walk returns the exports that have a name. An RVA inside the directory is
+//! that of a forwarder, and is returned as any other.
+//! https://learn.microsoft.com/windows/win32/debug/pe-format#the-edata-section-image-only
 
 ghost use Rattle.std.specs.Prelude.{◌≡◌, ◌+◌, ◌*◌, ◌/◌, ◌≤◌, length};
 ghost use Rattle.pe_core.specs.Exports.{export_data_view};
@@ -16,12 +19,13 @@ use pe_core::{ExportData, Result, SectionTable, number32, text_at, u16_at, u32_a
 #[repr(C)]
 #[derive(Clone, Copy)]
 pub struct Exports {
-    /// Addresses of names, 4 bytes each.
+    /// RVAs of names, 4 bytes each.
     pub names: Range,
-    /// For each name the index of its address, 2 bytes each.
+    /// For each name the index of its RVA in `addresses`, 2 bytes each.
     pub ordinals: Range,
-    /// Addresses of what is exported, 4 bytes each.
+    /// RVAs of what is exported, 4 bytes each.
     pub addresses: Range,
+    /// Index of the next name.
     pub next: u64,
 }
 
@@ -29,16 +33,17 @@ pub struct Exports {
 #[repr(C)]
 #[derive(Clone, Copy)]
 pub struct Export {
+    /// UTF-8, without its final zero.
     pub name: Range,
-    /// Its place in the file; 0 where `has_place` is 0.
+    /// File offset of what is exported; 0 where `has_place` is 0.
     pub place: u64,
-    /// Its relative virtual address.
+    /// RVA of what is exported.
     pub rva: u32,
-    /// 1 where a section maps its address, else 0.
+    /// 1 where a section maps the RVA, else 0.
     pub has_place: u32,
 }
 
-/// The range of a table of so many bytes at an address.
+/// The range of a table of so many bytes at an RVA. An empty table needs no mapped RVA.
 fn export_table(rva: u32, size: u64, image: &Image, sections: &[SectionTable]) -> Range
     ensures { result ≡ export_table (map_of_image image.now sections.now) rva size }
 {
@@ -81,8 +86,10 @@ fn tables_at(
     Ok(Some(walk_over(&export_data, image, sections)))
 }
 
-/// Finds the tables of an image's export directory, a walk at its beginning: `NOTHING` where the directory is absent;
-/// `UNMAPPED` or `SHORT` of the directory and of each table. No mode makes a difference.
+/// Returns the tables of an image's export directory as a walk at its start: `NOTHING` where the directory is absent.
+/// The mode makes no difference.
+///
+/// Errors: `UNMAPPED`, `SHORT` of the directory; `UNMAPPED`, `SHORT` of each table: of RVAs, of names, of ordinals.
 #[unsafe(no_mangle)]
 pub extern "C" fn pe_c_export_tables(
     bytes: &[u8],
@@ -104,7 +111,8 @@ struct Tables<'a> {
     addresses: &'a [u8],
 }
 
-/// The export of entry `i` of the name table, if its name has a place and is text, and it has an address.
+/// The export of entry `i` of the name table, if its name is mapped and is text, and its ordinal is in the address
+/// table.
 fn told_entry(
     bytes: &[u8],
     tables: &Tables<'_>,
@@ -131,7 +139,7 @@ fn told_entry(
     })
 }
 
-/// The first entry of the name table, from one on, that has an export, and the index behind it.
+/// The first entry of the name table, from `from` on, that has an export, and the index after it.
 fn find_next(
     bytes: &[u8],
     tables: &Tables<'_>,
@@ -149,7 +157,7 @@ fn find_next(
     None
 }
 
-/// The tables of a walk. `Short` where they are not all there.
+/// The tables of a walk. `Short` where one is not inside the bytes.
 fn tables_of<'a>(bytes: &'a [u8], walk: &Exports) -> Result<Tables<'a>>
     ensures { Gives view_of result (tables_or_short bytes.entry.now walk.now) }
 {
@@ -176,6 +184,7 @@ fn step(
     let tables = match tables_of(bytes, walk) {
         Ok(tables) => tables,
         Err(error) => {
+            // Without names the walk is over.
             walk.names = NO_BYTES;
             return Err(error);
         }
@@ -192,10 +201,11 @@ fn step(
     }
 }
 
-/// Reads the next export that has a name, in the order of the name table: `NOTHING` behind the last; `SHORT` where the bytes
-/// have no such tables, and then the walk is over. Entries are passed by whose name has no place, no end or is not UTF-8, or
-/// whose ordinal is not in the address table. No mode makes a difference. Each name is read to its end, so names that
-/// overlap are read once each.
+/// Reads the next export that has a name, in the order of the name table: `NOTHING` after the last. Entries are skipped
+/// whose name is unmapped, not NUL-terminated or not UTF-8, or whose ordinal is not in the address table. No mode makes
+/// a difference. Each name is read to its end, so names that overlap are read once each.
+///
+/// Errors: `SHORT` where the tables are not inside the bytes. After it the walk is over.
 #[unsafe(no_mangle)]
 pub extern "C" fn pe_c_next_export(
     bytes: &[u8],

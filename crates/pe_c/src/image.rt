@@ -1,4 +1,7 @@
-//! The headers of an image, and its sections.
+//! The headers of an image, and its sections. The DOS header has the file offset of the PE header: the COFF header, the
+//! optional header with the data directories, and the section headers, which map RVAs to file offsets. A caller reads
+//! these first, and passes them to the other calls.
+//! https://learn.microsoft.com/windows/win32/debug/pe-format
 
 ghost use Rattle.std.specs.Prelude.{◌≡◌, ◌+◌, ◌*◌, ◌≤◌, ◌++◌, drop, length, true, Ok};
 ghost use Rattle.pe_core.specs.Header.{header_view};
@@ -15,33 +18,38 @@ use pe_core::{
     DataDirectory, Header, MAGIC_64, ParseOptions, Result, SectionTable, find_offset, require_bytes,
 };
 
-/// What the other calls want to know of an image. Where there is no optional header, what it would say is 0; so is a
-/// directory that is absent.
+/// What the other calls need of the headers of an image. Without an optional header its fields are 0; so is a directory
+/// that is absent.
 #[repr(C)]
 #[derive(Clone, Copy)]
 pub struct Image {
-    /// The preferred address of the first byte in memory.
+    /// `ImageBase`: the preferred virtual address of the first byte. Add RVAs to it.
     pub base: u64,
-    /// The place of the section headers.
+    /// File offset of the section headers.
     pub sections_place: u64,
-    /// The relative virtual address where the program starts.
+    /// RVA of the entry point, or 0.
     pub entry: u32,
+    /// In bytes. If it is not a power of two, no RVA is mapped.
     pub file_alignment: u32,
     pub exports: DataDirectory,
     pub imports: DataDirectory,
     pub resources: DataDirectory,
+    /// The function table.
     pub exceptions: DataDirectory,
-    /// Its address is a place in the file.
+    /// Its `virtual_address` is a file offset, not an RVA.
     pub certificates: DataDirectory,
     pub debug: DataDirectory,
-    /// 0x8664 for x64, 0xAA64 for ARM64, 0x14C for x86.
+    /// `IMAGE_FILE_MACHINE_AMD64` (0x8664), `IMAGE_FILE_MACHINE_ARM64` (0xAA64), `IMAGE_FILE_MACHINE_I386` (0x14C) or
+    /// another.
     pub machine: u16,
-    /// 32, 64, or 0 without an optional header.
+    /// 64 for PE32+, 32 for PE32, 0 without an optional header.
     pub width: u16,
     pub number_of_sections: u16,
+    /// 0.
     pub spare: u16,
 }
 
+/// A directory that is absent.
 const ABSENT: DataDirectory = DataDirectory {
     virtual_address: 0,
     size: 0,
@@ -56,7 +64,7 @@ fn or_absent(directory: Option<DataDirectory>) -> DataDirectory
     }
 }
 
-/// Whether a directory is absent.
+/// Whether a directory is absent: both its fields are 0.
 pub fn is_absent(directory: DataDirectory) -> bool
     ensures { result ≡ is_absent directory }
 {
@@ -134,7 +142,11 @@ fn read_image(bytes: &[u8], mode: u32) -> Result<Image>
     Ok(image_of(&header))
 }
 
-/// Reads the headers of an image, as the first refusal of its headers says where they are refused.
+/// Reads the headers of an image.
+///
+/// Errors: `SHORT`, `BAD_MAGIC` of the DOS header; `HEADER_POINTER` in strict mode; `SHORT`, `BAD_MAGIC` of the PE
+/// signature; `SHORT` of the COFF header; `SHORT`, `BAD_MAGIC` of the optional header; `SHORT` of its fields and
+/// directories.
 #[unsafe(no_mangle)]
 pub extern "C" fn pe_c_image(bytes: &[u8], mode: u32, out: &mut Image) -> u32
     ensures { Answers result out.old out.new (image_at bytes.now mode) }
@@ -142,7 +154,7 @@ pub extern "C" fn pe_c_image(bytes: &[u8], mode: u32, out: &mut Image) -> u32
     hand_out(read_image(bytes, mode), out)
 }
 
-/// The section header at a place where its 40 bytes are known to be there.
+/// The section header at a file offset, whose 40 bytes are known to be inside the bytes.
 fn section(bytes: &[u8], place: usize) -> SectionTable
     requires { place + 40 ≤ length bytes.now }
     ensures { result ≡ section_table bytes.now place }
@@ -153,7 +165,7 @@ fn section(bytes: &[u8], place: usize) -> SectionTable
     }
 }
 
-/// Puts the section headers from the place on at the beginning of the room.
+/// Writes so many section headers, which start at a file offset, to the start of `room`.
 #[tactic(auto, using(std::proofs::lemmas::List::take_more_set, crate::proofs::Rooms::kept_more, crate::proofs::Rooms::joined), unfolding(pe_core::specs::Rows::each))]
 fn put_sections(bytes: &[u8], place: usize, count: usize, room: &mut [SectionTable])
     requires there { place + 40 * count ≤ length bytes.now }
@@ -165,8 +177,10 @@ fn put_sections(bytes: &[u8], place: usize, count: usize, room: &mut [SectionTab
     }
 }
 
-/// Reads the section headers into the room, which has to have as many entries as the image has sections: `ROOM` where it
-/// has fewer, `SHORT` where the headers are not all there.
+/// Writes the section headers to the start of `room`. The rest of `room` is unchanged, and all of it after an error.
+///
+/// Errors: `ROOM` where `room` has fewer entries than the image has sections; `SHORT` where the section headers are
+/// truncated.
 #[unsafe(no_mangle)]
 pub extern "C" fn pe_c_sections(bytes: &[u8], image: &Image, room: &mut [SectionTable]) -> u32
     ensures { PutsSections bytes.now image.now result room.old room.new }
@@ -176,6 +190,7 @@ pub extern "C" fn pe_c_sections(bytes: &[u8], image: &Image, room: &mut [Section
     if room.len() < count {
         return ROOM;
     }
+    // Without sections it does not matter where their headers would be.
     if count == 0 {
         return DONE;
     }
@@ -188,8 +203,8 @@ pub extern "C" fn pe_c_sections(bytes: &[u8], image: &Image, room: &mut [Section
     }
 }
 
-/// Finds the place in the file of a relative virtual address: `NOTHING` where no section covers it, or the file alignment
-/// is no power of two.
+/// Returns the file offset of an RVA, by the first section that covers it: `NOTHING` where none does, or the file
+/// alignment is not a power of two. The offset may be past the end of the file.
 #[unsafe(no_mangle)]
 pub extern "C" fn pe_c_place(
     sections: &[SectionTable],

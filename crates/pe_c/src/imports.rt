@@ -1,4 +1,7 @@
-//! Imports: a walk over the libraries of an import directory, and a walk over the imports of each.
+//! Imports. The import directory has a record of 20 bytes for each DLL (here a library), which leads to the DLL's name
+//! and to the list of its imports, by name or by ordinal. One walk steps over the libraries, another over the imports
+//! of each.
+//! https://learn.microsoft.com/windows/win32/debug/pe-format#the-idata-section
 
 ghost use Rattle.std.specs.Prelude.{◌≡◌, ◌==◌, ◌+◌, ◌≤◌, length, Some, IfOk, IfSome};
 ghost use Rattle.pe_core.specs.Imports.{entry_size, lookups_at, name_or_refusal};
@@ -21,17 +24,18 @@ use pe_core::{
 /// The size of a record of the import directory in bytes.
 const SIZE_OF_RECORD: u64 = 20;
 
-/// The size of the hint in front of an import's name in bytes.
+/// The size of the hint before an import's name in bytes.
 const SIZE_OF_HINT: usize = 2;
 
 /// A walk over the libraries of an import directory.
 #[repr(C)]
 #[derive(Clone, Copy)]
 pub struct Libraries {
-    /// The place of the next record of the directory.
+    /// File offset of the next record of the directory.
     pub next: u64,
-    /// 1 behind the last library or a refusal, else 0.
+    /// 1 after the last library or an error, else 0.
     pub is_over: u32,
+    /// 0.
     pub spare: u32,
 }
 
@@ -39,27 +43,31 @@ pub struct Libraries {
 #[repr(C)]
 #[derive(Clone, Copy)]
 pub struct Imports {
-    /// The entries of its list that are left, without the zero one that ends it: 8 bytes each in PE32+, else 4.
+    /// The entries of its list that are left, without the zero entry that ends it: 8 bytes each in PE32+, else 4.
     pub left: Range,
-    /// The address of the slot of the next one.
+    /// RVA of the next import's slot in the address table.
     pub rva: u64,
 }
 
-/// A library that an image imports from, and the numbers of its record.
+/// A library (DLL) that an image imports from, and the numbers of its record (`IMAGE_IMPORT_DESCRIPTOR`).
 #[repr(C)]
 #[derive(Clone, Copy)]
 pub struct Library {
+    /// UTF-8, without its final zero.
     pub name: Range,
-    /// A walk over its imports, at their beginning.
+    /// A walk for `pe_c_next_import`, at its start.
     pub imports: Imports,
-    /// The address of its lookup table, or 0.
+    /// RVA of its lookup table, or 0: then the address table is the list of its imports.
     pub lookup_table_rva: u32,
-    /// 0, or a mark that the imports are bound.
+    /// Not 0 where the imports are bound.
     pub time_date_stamp: u32,
+    /// Index of the first forwarder, or -1.
     pub forwarder_chain: u32,
+    /// RVA of the library's name.
     pub name_rva: u32,
-    /// The address of its address table, whose slots the loader fills.
+    /// RVA of its address table, whose slots the loader fills.
     pub address_table_rva: u32,
+    /// 0.
     pub spare: u32,
 }
 
@@ -67,13 +75,13 @@ pub struct Library {
 #[repr(C)]
 #[derive(Clone, Copy)]
 pub struct Import {
-    /// Empty where `has_name` is 0.
+    /// UTF-8, without its final zero. Empty where `has_name` is 0.
     pub name: Range,
-    /// The address of the slot that the loader fills.
+    /// RVA of the slot that the loader fills.
     pub rva: u64,
-    /// The ordinal, or the hint for a name.
+    /// The ordinal, or the hint for a name: an index into the library's table of names.
     pub ordinal: u32,
-    /// 1 where the import is by its name, else 0.
+    /// 1 where the import is by name, else 0.
     pub has_name: u32,
 }
 
@@ -96,7 +104,7 @@ fn require_offset(rva: u32, image: &Image, sections: &[SectionTable]) -> Result<
     )
 }
 
-/// The name at a place, to which an address leads: `ImportName` where there is no text.
+/// The name at a file offset, to which an RVA leads: `ImportName` where it is not NUL-terminated or not UTF-8.
 fn name_at(bytes: &[u8], place: usize, rva: u32) -> Result<&str>
     ensures { Gives (λ s. s.now) result (name_or_refusal (text_at bytes.now place)) }
 {
@@ -120,8 +128,10 @@ fn libraries_at(image: &Image, sections: &[SectionTable]) -> Result<Option<Libra
     }))
 }
 
-/// Finds the import directory of an image, a walk over its libraries at its beginning: `NOTHING` where the directory is
-/// absent, `UNMAPPED` where its address has no place. No mode makes a difference.
+/// Returns the import directory of an image as a walk over its libraries, at its start: `NOTHING` where the directory
+/// is absent. No mode makes a difference.
+///
+/// Errors: `UNMAPPED`.
 #[unsafe(no_mangle)]
 pub extern "C" fn pe_c_import_libraries(
     _bytes: &[u8],
@@ -135,7 +145,7 @@ pub extern "C" fn pe_c_import_libraries(
     hand_out_some(libraries_at(image, sections), out)
 }
 
-/// The entries of the list at a place: none without a place, `Short` where no zero entry ends them.
+/// The entries of the list at a file offset, none without an offset. `Short` where no zero entry ends them.
 fn list_at(bytes: &[u8], place: Option<usize>, is_64: bool) -> Result<&[u8]>
     ensures { Gives (λ s. s.now) result (lookups_at (entry_size is_64) bytes.now place) }
 {
@@ -145,7 +155,7 @@ fn list_at(bytes: &[u8], place: Option<usize>, is_64: bool) -> Result<&[u8]>
     }
 }
 
-/// The library of a record: `Unmapped` or `ImportName` of its name, then `Short` of its list.
+/// The library of a record. Errors: `Unmapped`, `ImportName` of its name, then `Short` of its list.
 #[tactic(auto, unfolding(pe_core::specs::Imports::import_record))]
 fn library_of(
     bytes: &[u8],
@@ -174,7 +184,7 @@ fn library_of(
     })
 }
 
-/// What stands at a place: a library, or none at the record that ends the directory.
+/// The library whose record is at a file offset, or none where the record ends the directory.
 #[tactic(auto, unfolding(pe_core::specs::Imports::import_record_at))]
 fn library_at(
     bytes: &[u8],
@@ -193,7 +203,7 @@ fn library_at(
     Ok(Some(library))
 }
 
-/// One step over libraries: what it gives, and the walk behind it.
+/// One step over libraries: its result, and the walk after it.
 #[tactic(auto, unfolding(crate::specs::Imports::library_step))]
 fn library_step(
     bytes: &[u8],
@@ -219,10 +229,12 @@ fn library_step(
     }
 }
 
-/// Reads the next library of an import directory: `NOTHING` behind the last; `SHORT` of its record, which ends the walk
-/// where its name or its address table has the address 0; `UNMAPPED` or `IMPORT_NAME` of its name; `SHORT` of its list.
-/// A list whose address has no place is empty. Behind the last and behind a refusal the walk is over. Each name and
-/// each list is read to its end, so those that overlap are read once each. No mode makes a difference.
+/// Reads the next library of an import directory: `NOTHING` after the last. The directory ends at a record whose name
+/// or address table has the RVA 0. A list whose RVA is unmapped is empty. Each name and each list is read to its end,
+/// so those that overlap are read once each. No mode makes a difference.
+///
+/// Errors: `SHORT` where the record is truncated; `UNMAPPED`, `IMPORT_NAME` of its name; `SHORT` where no zero entry
+/// ends its list. After the last and after an error the walk is over.
 #[unsafe(no_mangle)]
 pub extern "C" fn pe_c_next_library(
     bytes: &[u8],
@@ -240,7 +252,7 @@ pub extern "C" fn pe_c_next_library(
     hand_out_some(told, out)
 }
 
-/// What an entry imports by its name: `Unmapped`, `Short` of the hint, `ImportName`.
+/// The import by name of an entry. Errors: `Unmapped` of the entry's RVA, `Short` of the hint, `ImportName`.
 fn named_import(
     bytes: &[u8],
     entry: u64,
@@ -262,7 +274,8 @@ fn named_import(
     })
 }
 
-/// What an entry with its slot imports: its highest bit says that its low 16 bits are an ordinal.
+/// The import of an entry and its slot. With its highest bit set the low 16 bits of an entry are an ordinal; else its
+/// low 31 bits are the RVA of a hint and a name.
 #[tactic(auto, unfolding(pe_core::specs::Imports::import_of))]
 fn import_at(
     bytes: &[u8],
@@ -307,6 +320,7 @@ fn import_step(
     let entry = lookup_number(left, 0, is_64);
     match import_at(bytes, entry, walk.rva, image, sections) {
         Ok(import) => {
+            // A caller may pass any RVA.
             walk.rva = walk.rva.wrapping_add(size as u64);
             Ok(Some(import))
         }
@@ -317,9 +331,11 @@ fn import_step(
     }
 }
 
-/// Reads the next import of a library: `NOTHING` behind the last; `SHORT` where its entry is cut or the bytes have no such
-/// list; `UNMAPPED`, `SHORT` or `IMPORT_NAME` of its hint and its name. Behind a refusal the walk is over. Each name is
-/// read to its end, so names that overlap are read once each. No mode makes a difference.
+/// Reads the next import of a library: `NOTHING` after the last. Each name is read to its end, so names that overlap
+/// are read once each. No mode makes a difference.
+///
+/// Errors: `SHORT` where the walk is not inside the bytes, or its entry is truncated; `UNMAPPED` of the entry's RVA;
+/// `SHORT` of the hint there; `IMPORT_NAME` of the name. After an error the walk is over.
 #[unsafe(no_mangle)]
 pub extern "C" fn pe_c_next_import(
     bytes: &[u8],

@@ -1,4 +1,5 @@
-//! Laws over the definitions. Each is the contract of a function that does nothing.
+//! Laws over the definitions of `specs/`. Each is the contract of a function that does nothing, so that a caller's
+//! proof can cite it by calling the function.
 
 ghost use Rattle.pe_c.specs.Arm64.{StepsArm64Codes, arm64_function_in, arm64_walk_at, flat_arm64_item, flat_info, flat_scope_at, left_of_stream};
 ghost use Rattle.pe_c.specs.Certificates.{StepsCertificates, TellsCertificate, listed};
@@ -54,7 +55,7 @@ ghost use Rattle.std.specs.List.{AllZip};
 ghost use Rattle.std.specs.Option.{option_map};
 ghost use Rattle.std.specs.Prelude.{◌≡◌, ℕ, List, Option, Ok, Err, IfSome, ◌⊎◌, ◌*◌, ◌==◌, ◌^◌, ◌<◌, ◌≤◌, length, Some, Result, true, false, [], ◌∷◌, ◌++◌, ◌≢◌, map};
 
-/// The ranges of an unwind record that is given lie in the bytes, and are its codes and its handler's data.
+/// The ranges of an unwind record lie in the bytes, and are its codes and its handler's data.
 pub fn ranges_of_records()
     ensures codes { (b : List ℕ) (p : ℕ) (i : UnwindInfoView) → outcome (unwind_tests b p) (unwind_record b p) ≡ Ok i →
         IsRange b (flat_record b p i).codes.left i.codes }
@@ -62,8 +63,7 @@ pub fn ranges_of_records()
         IfSome i.handler (λ h. IsRange b (flat_record b p i).handler_data (data_of h)) }
 {}
 
-/// The ranges of an ARM64 unwind record that is given lie in the bytes, and are its epilog scopes, its codes and its
-/// handler's data.
+/// The ranges of an ARM64 unwind record lie in the bytes, and are its epilog scopes, its codes and its handler's data.
 pub fn ranges_of_arm64_records()
     ensures scopes { (b : List ℕ) (p : ℕ) (i : Arm64InfoView) → info_at b p ≡ Ok i → IsRange b (flat_info b p i).scopes i.scopes }
     ensures codes { (b : List ℕ) (p : ℕ) (i : Arm64InfoView) → info_at b p ≡ Ok i → IsRange b (flat_info b p i).codes i.codes }
@@ -71,10 +71,10 @@ pub fn ranges_of_arm64_records()
         IfSome i.handler (λ h. IsRange b (flat_info b p i).handler_data h.bytes) }
 {}
 
-/// The plan of a function, one record a step, is that of pe_plan: where a step gives nothing, the records before it tell
-/// those of the function's plan, one for one; what refuses a step refuses the plan, so it is a cycle only where the
-/// function's chain never ends. And each step gives a record, or ends as the plan of pe_plan does. Where the exception data
-/// are refused, the first step is refused so.
+/// The plan of a function, one record a step, is that of pe_plan. Where a step returns nothing, the records before it
+/// are those of the function's plan, one for one. The error of a step is the error of the plan, so it is a cycle only
+/// where the function's chain never ends. Each step returns a record, or ends as the plan of pe_plan does. Where
+/// reading the exception data fails, the first step returns that error.
 pub fn plans_are_those_of_functions()
     ensures records { (b : List ℕ) (image : Image) (sections : List SectionTable) (mode : ℕ) (v : ExceptionView) (f : RuntimeFunction) (given : List UnwindRecord) →
         image_exceptions b image sections mode ≡ Ok v → AnswersBehind b image sections mode f.unwind_info_address given (Ok None) →
@@ -92,15 +92,15 @@ pub fn plans_are_those_of_functions()
     pe_unwind::laws::x64::one_record_of_addresses();
 }
 
-/// A plan that began at an unwind address gives at most three times as many records as there are addresses: so it comes to
-/// the root, or is refused.
+/// A plan that starts at an unwind RVA returns at most three times as many records as there are RVAs: so it comes to
+/// the root, or to an error.
 pub fn plans_end()
     ensures { (b : List ℕ) (image : Image) (sections : List SectionTable) (mode unwind : ℕ) (given : List UnwindRecord) (p : Plan) →
         AreBytes b → unwind < 2 ^ 32 → GivesInTurn b image sections mode (plan_from unwind) given p → length given ≤ 3 * 2 ^ 32 }
 {}
 
-/// The ranges that are told of debug data lie in the bytes, and are the file names, the hash and the entries of POGO that
-/// the debug data have.
+/// The ranges that calls return for debug data lie in the bytes, and are the file names, the hash and the POGO entries
+/// that the debug data has.
 #[tactic(auto, using(crate::proofs::Parts::key_tells, crate::proofs::Parts::pdb20_tells, crate::proofs::Parts::repro_tells, crate::proofs::Parts::pogo_tells))]
 pub fn ranges_of_debug_data_are_their_parts()
     ensures key { TellsPart key_of (λ k. k.name) (λ d. option_map (λ r. r.filename) d.pdb70) }
@@ -109,7 +109,7 @@ pub fn ranges_of_debug_data_are_their_parts()
     ensures pogo { TellsPart pogo_of (λ r. r.entries) (λ d. option_map (λ r. r.bytes) d.pogo) }
 {}
 
-/// Each record that the debug data have is told.
+/// Each record that the debug data has is returned.
 #[tactic(auto, using(crate::proofs::Parts::key_is_told, crate::proofs::Parts::pdb20_is_told, crate::proofs::Parts::repro_is_told, crate::proofs::Parts::pogo_is_told))]
 pub fn records_of_debug_data_are_told()
     ensures key { TellsRecord key_of (λ d. d.pdb70) }
@@ -125,9 +125,9 @@ pub fn indices_give_the_functions()
     ensures arm64 { (b : List ℕ) (table : Range) (bytes : List ℕ) (i : ℕ) → bytes_at b table ≡ Ok bytes → arm64_function_in b table i ≡ indexed (arm64_functions bytes) i }
 {}
 
-/// A walk over entries of one width gives those of its range, one a step and in their order: each whole entry, one fault
-/// where a last one is cut, and then nothing. A range that does not lie in the bytes gives one fault alone. So the walks over
-/// scope tables, over epilog scopes and over debug entries leave nothing out, and end.
+/// A walk over entries of one width returns those of its range, one a step and in their order: each whole entry, one
+/// error where the last is truncated, and then nothing. A range that is not inside the bytes is one error alone. So the
+/// walks over scope tables, over epilog scopes and over debug entries leave nothing out, and end.
 #[tactic(auto, using(crate::proofs::EntryRuns::scopes_in_turn, crate::proofs::EntryRuns::arm64_scopes_in_turn, crate::proofs::EntryRuns::debug_entries_in_turn))]
 pub fn walks_give_their_entries()
     ensures scopes { (b : List ℕ) (walk : Range) → GivesItems (StepsEntries scope_at 16 b) walk (entries_left scope_at 16 b walk) }
@@ -135,9 +135,9 @@ pub fn walks_give_their_entries()
     ensures debug_entries { (b : List ℕ) (walk : Range) → GivesItems (StepsEntries (entry_at 0) 28 b) walk (entries_left (entry_at 0) 28 b walk) }
 {}
 
-/// A walk over unwind codes gives, one a step, the items of the stream of its bytes, and then nothing: the codes that follow
-/// one another, and one fault where no code begins what is left. So the walk of an unwind record gives the codes of the
-/// record. A range that does not lie in the bytes gives one fault alone.
+/// A walk over unwind codes returns, one a step, the items of the stream of its bytes, and then nothing: the codes that
+/// follow one another, and one error where no code starts what is left. So the walk of an unwind record returns the
+/// codes of the record. A range that is not inside the bytes is one error alone.
 #[tactic(auto, using(crate::proofs::CodeRuns::codes_in_turn, crate::proofs::CodeRuns::codes_of_record_in_turn, crate::proofs::CodeRuns::lies_once))]
 pub fn walks_give_the_codes()
     ensures items { (b : List ℕ) (walk : CodeWalk) (bytes : List ℕ) (items : List (Result UnwindCode Error)) → bytes_at b walk.left ≡ Ok bytes → AreItems (stream_at bytes walk) items →
@@ -147,8 +147,9 @@ pub fn walks_give_the_codes()
     ensures outside { (b : List ℕ) (walk : CodeWalk) (refusal : Refusal) → bytes_at b walk.left ≡ Err refusal → GivesItems (StepsCodes b) walk (Err refusal ∷ []) }
 {}
 
-/// A walk over ARM64 unwind codes gives, one a step, the items that tile its stream from its start on, and then nothing. So
-/// the walk over the codes of an unwind record gives those of the record. Bytes that are no stream's give one fault alone.
+/// A walk over ARM64 unwind codes returns, one a step, the items that tile its stream from its start on, and then
+/// nothing. So the walk over the codes of an unwind record returns those of the record. Bytes that can be no stream are
+/// one error alone.
 #[tactic(auto, using(crate::proofs::Arm64CodeRuns::codes_in_turn, crate::proofs::Arm64CodeRuns::codes_of_info_in_turn))]
 pub fn walks_give_the_arm64_codes()
     ensures items { (b : List ℕ) (codes : Range) (start : ℕ) (stream : List ℕ) (walk : Arm64CodeWalk) (items : List (Result Arm64UnwindCodeData Error)) →
@@ -158,8 +159,9 @@ pub fn walks_give_the_arm64_codes()
     ensures outside { (b : List ℕ) (walk : Arm64CodeWalk) (refusal : Refusal) → left_of_stream b walk ≡ Err refusal → GivesItems (StepsArm64Codes b) walk (Err refusal ∷ []) }
 {}
 
-/// A walk over the entries of a POGO record gives, one a step, the entries of the stream of its bytes, and then nothing; the
-/// range of each name stands behind the entry's two numbers. A range that does not lie in the bytes gives one fault alone.
+/// A walk over the entries of a POGO record returns, one a step, the entries of the stream of its bytes, and then
+/// nothing; the range of each name follows the entry's two numbers. A range that is not inside the bytes is one error
+/// alone.
 #[tactic(auto, using(crate::proofs::PogoRuns::entries_in_turn, crate::proofs::PogoRuns::lies_once))]
 pub fn walks_give_the_pogo_entries()
     ensures items { (b : List ℕ) (walk : Range) (bytes : List ℕ) (items : List (Result Entry Refusal)) → bytes_at b walk ≡ Ok bytes → Entries bytes items →
@@ -167,8 +169,9 @@ pub fn walks_give_the_pogo_entries()
     ensures outside { (b : List ℕ) (walk : Range) (refusal : Refusal) → bytes_at b walk ≡ Err refusal → GivesItems (StepsPogoEntries b) walk (Err refusal ∷ []) }
 {}
 
-/// A walk over certificates gives, one a step and in their order, exactly the certificates that its table lists, each with
-/// the range of its body, and then nothing; where the table is refused it gives certificates and then this refusal.
+/// A walk over certificates returns, one a step and in their order, exactly the certificates that its table lists, each
+/// with the range of its body, and then nothing; where reading the table fails, it returns certificates and then that
+/// error.
 #[tactic(auto, using(crate::proofs::CertificateRuns::certificates_in_turn, crate::proofs::CertificateRuns::refused_in_turn))]
 pub fn walks_give_the_certificates()
     ensures certificates { (b : List ℕ) (walk : Range) (cs : List CertificateView) → listed b walk ≡ Ok cs →
@@ -178,8 +181,8 @@ pub fn walks_give_the_certificates()
         AllZip (TellsCertificate b) told cs }
 {}
 
-/// The ranges of a walk over exports are the tables of the export data, and what the walk tells of an entry of the name
-/// table is the export that the entry has.
+/// The ranges of a walk over exports are the tables of the export data, and what the walk returns for an entry of the
+/// name table is the export that the entry has.
 #[tactic(auto, using(crate::proofs::ExportParts::tells))]
 pub fn walks_tell_the_exports()
     ensures tables { (place : ℕ → Option ℕ) (b : List ℕ) (rva : ℕ) (d : ExportDataView) → export_data_at place b rva ≡ Ok d → HasTables b (walk_over place d) d }
@@ -187,9 +190,10 @@ pub fn walks_tell_the_exports()
         TellsExport b (told_entry place b (with_tables d.names d.ordinals d.addresses) i) (export_at place b d i) }
 {}
 
-/// A walk over the libraries of an image gives, one a step and in their order, the records of its import directory, and then
-/// nothing; where the directory is refused it gives libraries and then this refusal. The walk over each library's imports
-/// gives the record's imports so. The imports of records are those of each record in turn.
+/// A walk over the libraries of an image returns, one a step and in their order, the records of its import directory,
+/// and then nothing; where reading the directory fails, it returns libraries and then that error. The walk over each
+/// library's imports returns the record's imports in the same way. The imports of records are those of each record in
+/// turn.
 #[tactic(auto, using(crate::proofs::ImportRuns::libraries_in_turn, crate::proofs::ImportRuns::refused_in_turn, crate::proofs::ImportRuns::imports_in_turn))]
 pub fn walks_tell_the_imports()
     ensures libraries { (b : List ℕ) (image : Image) (sections : List SectionTable) (walk : Libraries) (rs : List ImportRecordView) →
@@ -206,9 +210,9 @@ pub fn walks_tell_the_imports()
     ensures in_turn { ImportsInTurn }
 {}
 
-/// A walk over exports gives, one a step and in their order, the exports that the entries of its name table have from its next
-/// index on, and then nothing. So the walk over an export directory gives exactly the exports that the directory lists. Where
-/// entries are left of tables that do not lie in the bytes it gives one fault alone.
+/// A walk over exports returns, one a step and in their order, the exports that the entries of its name table have from
+/// its next index on, and then nothing. So the walk over an export directory returns exactly the exports that the
+/// directory lists. Where entries are left of tables that are not inside the bytes it returns one error alone.
 #[tactic(auto, using(crate::proofs::ExportRuns::exports_in_turn, crate::proofs::ExportRuns::directory_in_turn, crate::proofs::ExportRuns::lies_once))]
 pub fn walks_give_the_exports()
     ensures entries { (place : ℕ → Option ℕ) (b : List ℕ) (walk : Exports) (d : ExportDataView) → tables_or_short b walk ≡ Ok d →
@@ -219,8 +223,8 @@ pub fn walks_give_the_exports()
         GivesItems (StepsExports place b) walk (Err refusal ∷ []) }
 {}
 
-/// Where the resources of an image are not refused, what is told of their manifest and version information is what they
-/// hold, and the ranges lie in the bytes.
+/// Where the resources of an image can be read, what calls return of their manifest and version information is what
+/// they hold, and the ranges lie in the bytes.
 pub fn versions_are_those_of_resources()
     ensures manifest { TellsManifest }
     ensures fixed { TellsFixed }

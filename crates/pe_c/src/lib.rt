@@ -1,9 +1,13 @@
-//! The library for programs that are not Rattle: functions of the C ABI over headers, directories and exception data.
+//! The library for C and other languages: functions of the C ABI that read headers, directories and exception data of
+//! PE images (https://learn.microsoft.com/windows/win32/debug/pe-format). `bindings/pe.h` declares them.
 //!
-//! No call allocates, keeps anything or calls back. What a caller hands in is bytes, plain records and room for answers;
-//! what it gets is a number, which is 0 or says why there is no answer, plain records, and ranges of its bytes. Each call
-//! is proved to answer what its definition in `specs/` answers, for every byte string and for every value of every field
-//! that is handed in: no call has a `requires`.
+//! A caller passes the bytes of the file, plain records, and an `out` to write to. A call returns 0 (`DONE`) with the
+//! value in `out`, or a number that says why there is none, with `out` unchanged. Comments name errors as `pe.h` does,
+//! without `PE_C_`. Records hold numbers and ranges of the caller's bytes. No call allocates, keeps state or calls
+//! back.
+//!
+//! Each call is proved to return what its definition in `specs/` says, for every byte string and for every value of
+//! every field that is passed: no call has a `requires`.
 #![tactic(auto)]
 
 mod answers;

@@ -1,4 +1,7 @@
-//! The records of a function up to the root of its chain, one a step.
+//! The plan of a function: its unwind record and those of the functions to which it is chained, up to the root, one a
+//! step. A stack walk undoes the codes of each. A plan takes no memory: it finds a loop by an unwind RVA that it saves
+//! on the way.
+//! https://learn.microsoft.com/cpp/build/exception-handling-x64
 
 ghost use Rattle.std.specs.Prelude.{◌≡◌};
 ghost use Rattle.pe_core.specs.Refusals.{answer_by};
@@ -9,24 +12,27 @@ use crate::image::Image;
 use crate::unwinding::{UnwindRecord, read_record};
 use pe_core::{Error, Reason, Result, SectionTable};
 
-/// The records that are left from a function to the root of its chain.
+/// The records that are left from a function to the root of its chain. At its start `unwind` and `saved` are the
+/// function's unwind RVA, `limit` is 1, and the other fields are 0.
 #[repr(C)]
 #[derive(Clone, Copy)]
 pub struct Plan {
-    /// The unwind address of the next record.
+    /// Unwind RVA of the next record.
     pub unwind: u32,
-    /// Not 0 behind the root or a refusal.
+    /// Not 0 after the root or an error.
     pub is_over: u32,
-    /// An unwind address that was passed: where it comes again the chain never ends.
+    /// An unwind RVA on the way: where it comes again the chain never ends.
     pub saved: u32,
+    /// 0.
     pub spare: u32,
-    /// How many records were given since the address was saved.
+    /// How many records were returned since `saved` was set.
     pub steps: u64,
-    /// After how many another is saved.
+    /// After how many records another RVA is saved.
     pub limit: u64,
 }
 
-/// The plan that goes on at an address.
+/// The plan that continues at an unwind RVA. After `limit` records it saves the RVA and doubles the limit, so that the
+/// limit reaches the length of any loop.
 fn goes_on(plan: Plan, address: u32) -> Plan
     ensures { result ≡ goes_on plan address }
 {
@@ -47,7 +53,7 @@ fn goes_on(plan: Plan, address: u32) -> Plan
     }
 }
 
-/// What a plan gives whose next record is this one, and how it moves.
+/// Returns the next record of a plan, and moves the plan. A record that continues at the saved RVA is part of a loop.
 fn give(plan: &mut Plan, next: UnwindRecord) -> Result<Option<UnwindRecord>>
     ensures gives { answer_by (λ x. x) result ≡ gives_record plan.old next }
     ensures leaves { plan.new ≡ behind_record plan.old next }
@@ -58,6 +64,7 @@ fn give(plan: &mut Plan, next: UnwindRecord) -> Result<Option<UnwindRecord>>
         Ok(Some(next))
     } else if address == plan.saved {
         plan.is_over = 1;
+        // Callers get the error's number alone, so the count of steps is left at 0.
         Err(Error::Malformed(Reason::FunctionCycle(0)))
     } else {
         *plan = goes_on(*plan, address);
@@ -86,8 +93,10 @@ fn next_record(
     }
 }
 
-/// The next record of a plan: `NOTHING` behind the root. `FUNCTION_CYCLE` where the record goes on at the saved address, or
-/// its links never end; else what refuses the record, as `pe_c_unwind_record` answers it: behind these the plan is over.
+/// Reads the next record of a plan: `NOTHING` after the root.
+///
+/// Errors: those of `pe_c_unwind_record` for the next record; `FUNCTION_CYCLE` where it continues at the saved RVA.
+/// After an error the plan is over.
 #[unsafe(no_mangle)]
 pub extern "C" fn pe_c_next_record(
     bytes: &[u8],

@@ -1,4 +1,4 @@
-//! Ranges of the bytes, which go out and come back as two numbers.
+//! Ranges of the caller's bytes: results have them in place of pointers, and callers pass them back to other calls.
 
 ghost use Rattle.std.specs.Prelude.{◌≡◌, ◌+◌, ◌≤◌};
 ghost use Rattle.pe_core.specs.Refusals.{Gives};
@@ -6,28 +6,30 @@ ghost use Rattle.pe_c.specs.Ranges.{bytes_at, range_of, range_from};
 
 use pe_core::{ByteRange, Result, slice_at};
 
-/// So many bytes from a place on.
+/// A range of the bytes of the file.
 #[repr(C)]
 #[derive(Clone, Copy)]
 pub struct Range {
+    /// File offset.
     pub place: u64,
+    /// In bytes.
     pub length: u64,
 }
 
-/// The range of no bytes, where there is nothing to tell a place of.
+/// The empty range, of what is absent. A walk over it is over.
 pub const NO_BYTES: Range = Range {
     place: 0,
     length: 0,
 };
 
-/// The bytes of a range that a caller handed in. `Short` where they are not all there.
+/// The bytes of a range that a caller passes. `Short` where it is not inside the bytes.
 pub fn slice_of<'a>(bytes: &'a [u8], range: &Range) -> Result<&'a [u8]>
     ensures { Gives (λ s. s.now) result (bytes_at bytes.entry.now range.now) }
 {
     slice_at(bytes, range.place as usize, range.length as usize)
 }
 
-/// A range as it goes out.
+/// A range as callers get it.
 pub fn range_of(range: ByteRange) -> Range
     ensures { result ≡ range_of range }
 {
@@ -37,7 +39,7 @@ pub fn range_of(range: ByteRange) -> Range
     }
 }
 
-/// So many bytes from a place on, or none without a place.
+/// So many bytes from a file offset on, or the empty range without an offset.
 pub fn range_from(length: u64, place: Option<usize>) -> Range
     ensures { result ≡ range_from length place }
 {
@@ -50,7 +52,7 @@ pub fn range_from(length: u64, place: Option<usize>) -> Range
     }
 }
 
-/// The last so many bytes of a total, as a range.
+/// The range of the last `length` of `total` bytes.
 pub fn last_range(total: usize, length: usize) -> Range
     requires { length ≤ total }
     ensures place { result.place + length ≡ total }

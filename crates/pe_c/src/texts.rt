@@ -1,11 +1,11 @@
-//! The texts of answers.
+//! The texts of the results of calls, for a caller's messages.
 
 ghost use Rattle.std.specs.Prelude.{◌≡◌, length, take, drop, ◌++◌};
 ghost use Rattle.pe_c.specs.Texts.{refusal_text, text_of};
 
 use crate::answers::{NOTHING, ROOM};
 
-/// What 0 or the number of a refusal says. `tools/make_errors` writes its arms.
+/// The text of 0 or of the number of an error. `tools/make_errors` writes the arms.
 #[tactic(auto, unfolding(crate::specs::Texts::refusal_text))]
 fn refusal_text(number: u32) -> &'static str
     ensures { result.now ≡ refusal_text number }
@@ -53,7 +53,7 @@ fn refusal_text(number: u32) -> &'static str
     }
 }
 
-/// What a number says.
+/// The text of the number of a result.
 #[tactic(auto, unfolding(crate::specs::Texts::text_of))]
 fn text_of(number: u32) -> &'static str
     ensures { result.now ≡ text_of number }
@@ -65,8 +65,8 @@ fn text_of(number: u32) -> &'static str
     }
 }
 
-/// Puts the text of an answer at the beginning of the room, as much of it as the room holds, in UTF-8 and with no zero
-/// behind it. Gives how many bytes the whole text has.
+/// Writes the text of a result to the start of `room`, in UTF-8, truncated at the end of `room` and not NUL-terminated.
+/// Returns the length of the whole text in bytes.
 #[unsafe(no_mangle)]
 pub extern "C" fn pe_c_text(answer: u32, room: &mut [u8]) -> usize
     ensures whole { result ≡ length (text_of answer) }

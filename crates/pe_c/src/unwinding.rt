@@ -1,4 +1,7 @@
-//! The functions of x64 images, and how their frames are unwound.
+//! The functions of x64 images, and how their frames are unwound. The exception directory is a table of functions,
+//! sorted by start RVA. Each leads to an unwind record, whose codes say what the prolog did to the stack: undo them to
+//! find the caller's frame.
+//! https://learn.microsoft.com/cpp/build/exception-handling-x64
 
 ghost use Rattle.std.specs.Prelude.{◌≡◌, ◌+◌, ◌^◌, ◌≤◌, length};
 ghost use Rattle.pe_core.specs.Refusals.{answer_by};
@@ -21,59 +24,72 @@ use pe_unwind::{
     UnwindCodeIterator, UnwindHandler, UnwindInfo, UnwindOperation, scope_table_size, search,
 };
 
-/// The bytes of one entry of a scope table.
+/// The size of an entry of a scope table in bytes.
 const SIZE_OF_SCOPE: usize = 16;
 
-/// A walk over unwind codes: the code bytes that are left, two for each slot, and how they are read.
+/// A walk over unwind codes, and what else it takes to read them.
 #[repr(C)]
 #[derive(Clone, Copy)]
 pub struct CodeWalk {
+    /// The code bytes that are left, 2 for each slot.
     pub left: Range,
-    /// The version of the record, 1 or 2.
+    /// The version of the unwind record, 1 or 2.
     pub version: u8,
-    /// The register that holds the frame; 0 means that none does.
+    /// The number of the frame register; 0 without one.
     pub frame_register: u8,
+    /// 0.
     pub spare: [u8; 6],
 }
 
-/// An unwind record.
+/// An unwind record (`UNWIND_INFO`).
 #[repr(C)]
 #[derive(Clone, Copy)]
 pub struct UnwindRecord {
-    /// A walk over its codes, at their beginning.
+    /// A walk for `pe_c_next_code`, at its start.
     pub codes: CodeWalk,
-    /// What the handler finds behind its address, to the end of the bytes. Empty without a handler.
+    /// What follows the handler's RVA, up to the end of the file. Empty without a handler.
     pub handler_data: Range,
-    /// The address of the handler, or 0.
+    /// RVA of the handler, or 0.
     pub handler: u32,
-    /// The function whose record goes on with this one. All 0 where `is_chained` is 0.
+    /// The function to which the record is chained: its record continues this one. All 0 where `is_chained` is 0.
     pub chained: RuntimeFunction,
-    /// 1 where `chained` is a function.
+    /// 1 where the record is chained, else 0.
     pub is_chained: u32,
-    /// How far the frame register was set above the stack pointer, in bytes.
+    /// How far above the stack pointer the frame register was set, in bytes: subtract it from the frame register to get
+    /// the base of saves.
     pub frame_register_offset: u32,
     /// The length of the prolog in bytes.
     pub size_of_prolog: u8,
-    /// 0 for no handler, 1 for one of exceptions, 2 for one of termination.
+    /// 0 without a handler, 1 for an exception handler, also where it has both flags, 2 for a termination handler.
     pub handler_kind: u8,
+    /// 0.
     pub spare: [u8; 6],
 }
 
-/// An unwind code.
+/// An unwind code (`UNWIND_CODE`).
 #[repr(C)]
 #[derive(Clone, Copy)]
 pub struct Code {
-    /// The place behind the instruction, from the start of the prolog.
+    /// Bytes, from the start of the prolog to the end of the instruction.
     pub code_offset: u8,
-    /// 0 push, 1 alloc, 2 set the frame register, 3 save an integer register, 4 save an XMM register's low half,
-    /// 5 epilog, 6 save an XMM register, 7 machine frame, 8 nothing.
+    /// What the instruction did:
+    /// - 0 `UWOP_PUSH_NONVOL`: pushed the register `operand`;
+    /// - 1 `UWOP_ALLOC_SMALL`, `UWOP_ALLOC_LARGE`: allocated `value` bytes on the stack;
+    /// - 2 `UWOP_SET_FPREG`: set the frame register;
+    /// - 3 `UWOP_SAVE_NONVOL`, `UWOP_SAVE_NONVOL_FAR`: saved an integer register;
+    /// - 4 opcode 6 of version 1: saved the low half of an XMM register;
+    /// - 5 `UWOP_EPILOG` of version 2: where an epilog is;
+    /// - 6 `UWOP_SAVE_XMM128`, `UWOP_SAVE_XMM128_FAR`, opcode 7 of version 1: saved an XMM register;
+    /// - 7 `UWOP_PUSH_MACHFRAME`: the processor pushed a machine frame;
+    /// - 8 opcode 7 of version 2: nothing.
     pub operation: u8,
-    /// The register that is pushed or saved; of an epilog the flags or the high part of the offset; of a machine frame 1
-    /// if it has an error code; else 0.
+    /// The register that is pushed or saved; for an epilog its flags or the high part of its offset; for a machine
+    /// frame 1 if it has an error code; else 0.
     pub operand: u8,
     /// 1 where `value` counts from the frame register, else 0.
     pub from_frame: u8,
-    /// Bytes that are allocated, or the offset of what is saved; of an epilog the size or the low part of the offset.
+    /// Bytes that are allocated, or the offset of what is saved in bytes; for an epilog its size or the low part of its
+    /// offset; else 0.
     pub value: u32,
 }
 
@@ -101,8 +117,10 @@ fn table_of(
     Ok(Some(range_of(exceptions.table_range())))
 }
 
-/// Finds the function table of an x64 image: `NOTHING` where it has none, or is for another machine. Else what refuses the
-/// exception directory.
+/// Returns the range of the function table of an x64 image, entries of 12 bytes: `NOTHING` where it has none, or is for
+/// another machine.
+///
+/// Errors: `EXCEPTION_SIZE`, `UNMAPPED`, `EXCEPTION_OFFSET`, `EXCEPTION_BOUNDS`.
 #[unsafe(no_mangle)]
 pub extern "C" fn pe_c_function_table(
     bytes: &[u8],
@@ -123,8 +141,11 @@ fn find(bytes: &[u8], table: &Range, rva: u32) -> Result<Option<RuntimeFunction>
     Ok(search(&mut counted, rva))
 }
 
-/// Finds the function that covers an address, in the function table at this range: `NOTHING` where none does, `SHORT` where
-/// the bytes have no such range. It is one `search` of pe_unwind.
+/// Returns the function that covers an RVA, by one `search` of pe_unwind in the function table at this range: `NOTHING`
+/// where it finds none. In a table sorted by start RVA it finds what a linear scan finds; in any other it finds some
+/// function that covers the RVA, or none.
+///
+/// Errors: `SHORT` where the range is not inside the bytes.
 #[unsafe(no_mangle)]
 pub extern "C" fn pe_c_find_function(
     bytes: &[u8],
@@ -144,8 +165,9 @@ fn function_in(bytes: &[u8], table: &Range, index: u64) -> Result<RuntimeFunctio
     RuntimeFunction::of_table(entries, index as usize)
 }
 
-/// Reads the entry with this index of the function table at this range: `FUNCTION_INDEX` where the table has no more than
-/// that many, `SHORT` where the bytes have no such range.
+/// Reads the entry with an index, from 0, of the function table at this range.
+///
+/// Errors: `SHORT` where the range is not inside the bytes; `FUNCTION_INDEX` where the table has no such entry.
 #[unsafe(no_mangle)]
 pub extern "C" fn pe_c_function_at(
     bytes: &[u8],
@@ -158,13 +180,14 @@ pub extern "C" fn pe_c_function_at(
     hand_out(function_in(bytes, table, index), out)
 }
 
+/// The field `chained` of a record that is not chained.
 const NO_FUNCTION: RuntimeFunction = RuntimeFunction {
     begin_address: 0,
     end_address: 0,
     unwind_info_address: 0,
 };
 
-/// The chained function of a record, and whether it has one.
+/// Whether a record is chained, and the function to which it is.
 fn chained_of(info: &UnwindInfo) -> (u32, RuntimeFunction)
     ensures some { result.0 ≡ is_some_number (unwind_view info.now).chained_info }
     ensures function { result.1 ≡ or_no_function (unwind_view info.now).chained_info }
@@ -175,7 +198,7 @@ fn chained_of(info: &UnwindInfo) -> (u32, RuntimeFunction)
     }
 }
 
-/// The kind, address and data of a record's handler.
+/// The kind, RVA and data of a record's handler.
 fn handler_of(info: &UnwindInfo, bytes: &[u8], place: usize) -> (u8, u32, Range)
     requires { UnwindPartsStand bytes.now place (unwind_view info.now) }
     ensures kind { result.0 ≡ handler_kind (unwind_view info.now).handler }
@@ -194,7 +217,7 @@ fn handler_of(info: &UnwindInfo, bytes: &[u8], place: usize) -> (u8, u32, Range)
     }
 }
 
-/// The record that was read at a place of the bytes, as numbers.
+/// The record at a file offset, as numbers and ranges.
 fn flat_record(info: &UnwindInfo, bytes: &[u8], place: usize) -> UnwindRecord
     requires { UnwindPartsStand bytes.now place (unwind_view info.now) }
     ensures { result ≡ flat_record bytes.now place (unwind_view info.now) }
@@ -222,7 +245,7 @@ fn flat_record(info: &UnwindInfo, bytes: &[u8], place: usize) -> UnwindRecord
     }
 }
 
-/// The unwind record at a place of the bytes.
+/// The unwind record at a file offset.
 fn record_at(bytes: &[u8], place: usize) -> Result<UnwindRecord>
     ensures { answer_by (λ x. x) result ≡ flat_record_at bytes.now place }
 {
@@ -230,7 +253,7 @@ fn record_at(bytes: &[u8], place: usize) -> Result<UnwindRecord>
     Ok(flat_record(&info, bytes, place))
 }
 
-/// The place of the record of an unwind address.
+/// The file offset of the record of an unwind RVA.
 fn find_place(
     bytes: &[u8],
     image: &Image,
@@ -247,7 +270,7 @@ fn find_place(
     exceptions.record_place(unwind, sections, &opts)
 }
 
-/// The unwind record of an unwind address, as `pe_c_unwind_record` hands it out.
+/// The unwind record of an unwind RVA, as `pe_c_unwind_record` returns it.
 pub fn read_record(
     bytes: &[u8],
     image: &Image,
@@ -261,9 +284,11 @@ pub fn read_record(
     record_at(bytes, place)
 }
 
-/// Reads the unwind record of an unwind address, as a function of the table has it. An odd address is a link to another
-/// entry, and is followed to the end of its chain: `FUNCTION_LINK` where no entry stands there, `FUNCTION_CYCLE` where the
-/// links never end. `UNMAPPED` for an address with no place; else what refuses the exception directory or the record.
+/// Reads the unwind record of an unwind RVA, which is a field of a function. An odd RVA is a link to another entry of
+/// the table; links are followed to their end.
+///
+/// Errors: those of `pe_c_function_table`; `UNMAPPED`, `FUNCTION_LINK` where a link leads to no entry, `FUNCTION_CYCLE`
+/// where the links never end; `UNMAPPED` of the record's RVA; `SHORT`, `UNWIND_VERSION` of the record.
 #[unsafe(no_mangle)]
 pub extern "C" fn pe_c_unwind_record(
     bytes: &[u8],
@@ -278,7 +303,7 @@ pub extern "C" fn pe_c_unwind_record(
     hand_out(read_record(bytes, image, sections, mode, unwind), out)
 }
 
-/// What an offset is, and whether it counts from the frame register.
+/// Whether an offset counts from the frame register, and the offset in bytes.
 fn from_offset(offset: StackFrameOffset) -> (u8, u32)
     ensures { result ≡ (from_frame offset, bytes_from offset) }
 {
@@ -288,7 +313,7 @@ fn from_offset(offset: StackFrameOffset) -> (u8, u32)
     }
 }
 
-/// A code of one of the operations that save a register.
+/// A code that saves a register.
 fn saving(code_offset: u8, operation: u8, register: Register, offset: StackFrameOffset) -> Code
     ensures { result ≡ saving code_offset operation register offset }
 {
@@ -302,7 +327,7 @@ fn saving(code_offset: u8, operation: u8, register: Register, offset: StackFrame
     }
 }
 
-/// A code of one of the other operations.
+/// A code of another operation.
 fn plain(code_offset: u8, operation: u8, operand: u8, value: u32) -> Code
     ensures { result ≡ plain code_offset operation operand value }
 {
@@ -340,7 +365,7 @@ fn flat(code: UnwindCode) -> Code
     }
 }
 
-/// One step of a walk whose bytes are there.
+/// One step over the bytes that a walk has left.
 fn step(left: &[u8], walk: &mut CodeWalk) -> Option<Result<UnwindCode>>
     requires length { length left.now ≡ walk.old.left.length }
     requires end { walk.old.left.place + walk.old.left.length ≤ 2 ^ 63 }
@@ -368,9 +393,11 @@ fn next_code(bytes: &[u8], walk: &mut CodeWalk) -> Option<Result<UnwindCode>>
     }
 }
 
-/// The next code of a walk: `NOTHING` at its end. `UNWIND_CODE` where no code begins so, `SHORT` where one is cut or the
-/// bytes have no such range: behind these the walk is over. The codes of the chained function come behind those of the
-/// record.
+/// Reads the next code of a walk: `NOTHING` at its end. The codes of the function to which the record is chained are
+/// undone after those of the record.
+///
+/// Errors: `SHORT` where the walk is not inside the bytes, or a code is truncated; `UNWIND_CODE` for an invalid code.
+/// After an error the walk is over.
 #[unsafe(no_mangle)]
 pub extern "C" fn pe_c_next_code(bytes: &[u8], walk: &mut CodeWalk, out: &mut Code) -> u32
     ensures { AnswersCode bytes.now walk.old walk.new result out.old out.new }
@@ -398,8 +425,10 @@ fn scopes_in(bytes: &[u8], handler_data: &Range) -> Result<Option<Range>>
     }
 }
 
-/// Finds the scope table that an exception handler for C has as its data, as a walk over its entries: `NOTHING` where it is
-/// not all there, `SHORT` where the bytes have no such range.
+/// Returns the scope table in the data of an exception handler for C as a walk over its entries: `NOTHING` where it is
+/// truncated. Any data is read as a scope table: the caller knows by the handler that it is one.
+///
+/// Errors: `SHORT` where the range is not inside the bytes.
 #[unsafe(no_mangle)]
 pub extern "C" fn pe_c_scope_table(bytes: &[u8], handler_data: &Range, out: &mut Range) -> u32
     ensures { AnswersIf result out.old out.new (scopes_at bytes.now handler_data.now) }
@@ -417,8 +446,9 @@ fn next_scope(bytes: &[u8], walk: &mut Range) -> Result<Option<ScopeTableEntry>>
     }
 }
 
-/// The next entry of a scope table: `NOTHING` at its end. `SHORT` where an entry is cut or the bytes have no such range:
-/// behind it the walk is over.
+/// Reads the next entry of a scope table: `NOTHING` at the end of the walk.
+///
+/// Errors: `SHORT` where the walk is not inside the bytes, or an entry is truncated. After it the walk is over.
 #[unsafe(no_mangle)]
 pub extern "C" fn pe_c_next_scope(bytes: &[u8], walk: &mut Range, out: &mut ScopeTableEntry) -> u32
     ensures scope { AnswersIf result out.old out.new (next_of scope_at 16 bytes.now walk.old) }

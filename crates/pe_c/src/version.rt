@@ -1,4 +1,7 @@
-//! The version information of an image, and its manifest.
+//! The version information of an image, and its manifest. Resources are a tree of directories: type, name, language.
+//! Version information is the content of the first resource of type 16 (`RT_VERSION`), the manifest that of type 24
+//! (`RT_MANIFEST`).
+//! https://learn.microsoft.com/windows/win32/menurc/vs-versioninfo
 
 ghost use Rattle.std.specs.Prelude.{◌≡◌, IfOk, IfSome};
 ghost use Rattle.std.specs.Option.{option_map};
@@ -13,7 +16,7 @@ use crate::ranges::{Range, range_of};
 use pe_core::{ByteRange, Result, SectionTable};
 use pe_resource::{RT_MANIFEST, RT_VERSION, ResourceData, VersionName, VsFixedFileInfo};
 
-/// Where the content of the first resource with an id lies, if the image has resources.
+/// The range of the content of the first resource with an id, if the image has resources and this one.
 fn content_of(
     bytes: &[u8],
     image: &Image,
@@ -32,7 +35,8 @@ fn content_of(
     ResourceData::content_range(bytes, directory, id, sections, alignment, &options(mode))
 }
 
-/// Tells where the manifest lies: `NOTHING` without one. What the version information says doesn't matter.
+/// Returns the range of the manifest: `NOTHING` without one. What the version information says makes no difference.
+/// Errors are those of `ResourceData::content_range`.
 #[unsafe(no_mangle)]
 pub extern "C" fn pe_c_manifest(
     bytes: &[u8],
@@ -49,7 +53,7 @@ pub extern "C" fn pe_c_manifest(
     }
 }
 
-/// The fixed file information in version information that lies there.
+/// The fixed file information of the version information at a range.
 fn fixed_at(bytes: &[u8], content: Option<ByteRange>) -> Result<Option<VsFixedFileInfo>>
     requires { IfSome content (IsWithin bytes.now) }
     ensures { answer_by (λ f. f) result ≡ fixed_at bytes.now content }
@@ -60,7 +64,8 @@ fn fixed_at(bytes: &[u8], content: Option<ByteRange>) -> Result<Option<VsFixedFi
     }
 }
 
-/// Reads the fixed file information: `NOTHING` without version information, or where this has none.
+/// Reads the fixed file information: `NOTHING` without version information, or where it has none. Errors are those of
+/// `ResourceData::content_range`, then those of `VsFixedFileInfo::of_strings`.
 #[unsafe(no_mangle)]
 pub extern "C" fn pe_c_fixed_version(
     bytes: &[u8],
@@ -77,7 +82,7 @@ pub extern "C" fn pe_c_fixed_version(
     }
 }
 
-/// The range of the value of a name in version information that lies there.
+/// The range of the value of a name in the version information at a range.
 fn value_at(bytes: &[u8], name: VersionName, content: Option<ByteRange>) -> Result<Option<Range>>
     requires { IfSome content (IsWithin bytes.now) }
     ensures { answer_by (λ r. r) result ≡ value_at bytes.now name content }
@@ -94,7 +99,7 @@ fn value_at(bytes: &[u8], name: VersionName, content: Option<ByteRange>) -> Resu
     }
 }
 
-/// The name with a number.
+/// The name with a number, from 0 to 11.
 fn name_at(number: u32) -> Option<VersionName>
     ensures { result ≡ name_at number }
 {
@@ -115,8 +120,9 @@ fn name_at(number: u32) -> Option<VersionName>
     }
 }
 
-/// Tells where the value of a name lies, by the name's number: units of UTF-16, with the zeros behind it. `NOTHING` without
-/// version information, where this has no string of that name, and for a number above 11.
+/// Returns the range of the value of a name, by its number from 0 (`Comments`) to 11 (`SpecialBuild`): UTF-16 code
+/// units with the zeros after the text. `NOTHING` without version information, where it has no string of that name, and
+/// for a number above 11. Errors are those of `ResourceData::content_range`, then those of `VersionName::value_range`.
 #[unsafe(no_mangle)]
 pub extern "C" fn pe_c_version_text(
     bytes: &[u8],

@@ -1,4 +1,4 @@
--- What is said behind the refusal of an image.
+-- The end of the message that an image is refused.
 use Rattle.std.specs.Prelude.{◌≡◌, ℕ, List, Result, Ok, Err, IsOk, codes}
 use Rattle.std.specs.Borrow.{Bor}
 use Rattle.pe_core.specs.Options.{default_options}
@@ -9,16 +9,17 @@ use Rattle.pe_core.specs.declared.options.ParseOptions.{ParseOptions}
 use Rattle.pe_image.specs.Core.{sections_read}
 use Rattle.pe_image.specs.Image.{ImageView, IsImage}
 
+-- the default options in permissive mode
 abbrev pub permissive_options : ParseOptions
 permissive_options = record default_options { parse_mode = Permissive }
 
--- the word that helps is said exactly where permissive mode gives the image
+-- the option `--permissive` is named exactly where permissive mode reads the image
 abbrev pub IsAdvice : List ℕ → Result ImageView Refusal → Type 0
 IsAdvice text (Ok image) = text ≡ codes "; --permissive lists the rest"
 IsAdvice text (Err refusal) = text ≡ codes ""
 
--- the advice on an image that is refused in this mode: none in permissive mode, else by what permissive mode gives. Memory
--- is asked for once the headers and the section headers are there
+-- the advice on an image that is refused in this mode: none in permissive mode, else by what permissive mode returns.
+-- An allocation can fail only once the headers and the section headers are read
 abbrev pub GivesAdvice : {E : Type 0} → List ℕ → ParseMode → Result (Bor (List ℕ)) E → Type 0
 GivesAdvice b Permissive (Ok text) = text.now ≡ codes ""
 GivesAdvice b Strict (Ok text) = (image : Result ImageView Refusal) × IsImage b permissive_options image × IsAdvice text.now image

@@ -1,4 +1,4 @@
--- What the words of the command line ask for.
+-- What the arguments of the command line ask for.
 use Rattle.std.specs.Prelude.{ℕ, ◌+◌, ◌-◌, ◌*◌, ◌&&◌, Bool, List, [], ◌∷◌, length, Option, Some, None, codes, nat_le, option_and_then, if◌then◌else◌}
 use Rattle.std.specs.Option.{option_map}
 use Rattle.std.specs.Str.{bytes_eq}
@@ -7,14 +7,15 @@ use Rattle.pe_core.specs.declared.options.ParseMode.TheVariants.{Strict, Permiss
 use Rattle.peinfo.specs.declared.command.Command.{Command}
 use Rattle.peinfo.specs.declared.command.Command.TheVariants as commands
 
--- the image of a file is to be shown in a mode, or the function that covers an address of it, or this with its records, or
--- it is to be written anew to another file
+-- the image in a file in a mode; the function that covers an RVA of it; that function with its unwind records; or the
+-- image written anew to another file
 pub data Asked : Type 0 where
   ListOf : List ℕ → ParseMode → Asked
   FunctionAt : List ℕ → ℕ → Asked
   RecordsAt : List ℕ → ℕ → Asked
   RewriteTo : List ℕ → List ℕ → Asked
 
+-- what a command asks for
 abbrev pub asked_by : Command → Asked
 asked_by (commands.List file mode) = ListOf file.now mode
 asked_by (commands.At file rva) = FunctionAt file.now rva
@@ -28,13 +29,13 @@ file_of (commands.At file rva) = file.now
 file_of (commands.ChainAt file rva) = file.now
 file_of (commands.Rewrite file out) = file.now
 
--- nothing after the file, or `--permissive`
+-- no argument after the file, or `--permissive`
 abbrev pub mode_of : List (List ℕ) → Option ParseMode
 mode_of [] = Some Strict
 mode_of (word ∷ []) = if bytes_eq word (codes "--permissive") then Some Permissive else None
 mode_of (word ∷ more ∷ rest) = None
 
--- a code is one of these, from the first to the last
+-- the code is at least the first of these, and at most the last
 abbrev pub is_between : ℕ → ℕ → ℕ → Bool
 is_between first last code = nat_le first code && nat_le code last
 
@@ -45,23 +46,23 @@ digit_of code =
     else (if is_between 65 70 code then Some (code - 55)
     else (if is_between 97 102 code then Some (code - 87) else None))
 
--- the number that these digits make behind a number that others made
+-- the number of these digits, after others that make the number `front`
 unfoldable pub number_behind : ℕ → List ℕ → Option ℕ
 number_behind front [] = Some front
 number_behind front (code ∷ codes) = option_and_then (λ digit. number_behind (16 * front + digit) codes) (digit_of code)
 
--- one to eight hexadecimal digits
+-- the RVA of one to eight hexadecimal digits
 abbrev pub rva_of : List ℕ → Option ℕ
 rva_of word = if nat_le 1 (length word) && nat_le (length word) 8 then number_behind 0 word else None
 
--- an address after the file, and nothing more or `--chain`
+-- an RVA after the file, and nothing more or `--chain`
 abbrev pub asked_at : List ℕ → List (List ℕ) → Option Asked
 asked_at file [] = None
 asked_at file (word ∷ []) = option_map (λ rva. FunctionAt file rva) (rva_of word)
 asked_at file (word ∷ flag ∷ []) = if bytes_eq flag (codes "--chain") then option_map (λ rva. RecordsAt file rva) (rva_of word) else None
 asked_at file (word ∷ flag ∷ more ∷ rest) = None
 
--- the word after the file, if it is the only one
+-- the argument after the file, if it is the only one
 abbrev pub one_word : List (List ℕ) → Option (List ℕ)
 one_word [] = None
 one_word (word ∷ []) = Some word

@@ -1,4 +1,4 @@
--- The lines that are shown of debug entries.
+-- The `debug` lines of `list`.
 use Rattle.std.specs.Prelude.{ℕ, ◌++◌, List, [], Option, Some, None, Result, Ok, Err, codes}
 use Rattle.std.specs.List.{flat_map}
 use Rattle.std.specs.Fmt.{decimal}
@@ -8,12 +8,13 @@ use Rattle.pe_records.specs.DebugRecords.{DebugFields}
 use Rattle.pe_records.specs.declared.debug.ImageDebugDirectory.{ImageDebugDirectory}
 use Rattle.peinfo.specs.Hex.{hex}
 
+-- the line of an entry: its type, the size of its record, and the record's RVA and file offset
 unfoldable pub entry_line : ImageDebugDirectory → List ℕ
 entry_line e =
     codes "debug " ++ decimal e.data_type ++ codes " " ++ decimal e.size_of_data
     ++ codes " " ++ hex 8 e.address_of_raw_data ++ codes " " ++ hex 8 e.pointer_to_raw_data ++ codes "\n"
 
--- a line for an entry, and one for an entry that is cut
+-- a line for an entry, and one for a truncated entry
 abbrev pub item_line : Result ImageDebugDirectory Refusal → List ℕ
 item_line (Ok e) = entry_line e
 item_line (Err refusal) = codes "debug cut\n"
@@ -22,10 +23,12 @@ item_line (Err refusal) = codes "debug cut\n"
 abbrev pub entry_lines : ℕ → List ℕ → List ℕ
 entry_lines fixup table = flat_map item_line (entries fixup table)
 
+-- the lines of debug data, if there is any
 abbrev pub debug_lines : Option DebugFields → List ℕ
 debug_lines None = []
 debug_lines (Some debug) = entry_lines debug.fixup debug.table
 
+-- the count of these lines
 abbrev pub line_count : Option DebugFields → ℕ
 line_count None = 0
 line_count (Some debug) = count debug.table

@@ -1,4 +1,4 @@
--- What `at` shows: the function that covers an address.
+-- The line of `at`: the function that covers an RVA.
 use Rattle.std.specs.Prelude.{◌≡◌, ℕ, ◌==◌, List, [], Option, Some, None, Result, Ok, Err, IsOk, Vec, codes, if◌then◌else◌}
 use Rattle.pe_core.specs.Options.{default_options}
 use Rattle.pe_core.specs.Refusals.{UnlessMemory, IfMemory, kind_of}
@@ -10,16 +10,17 @@ use Rattle.pe_unwind.specs.FunctionTable.{functions, Finds}
 use Rattle.pe_unwind.specs.declared.function_table.RuntimeFunction.{RuntimeFunction}
 use Rattle.peinfo.specs.FunctionLines.{function_line}
 
--- the x64 functions of an image of this machine; without exception data, and for another machine, there are none
+-- the x64 functions of an image of this machine: none without exception data, and none for another machine
 abbrev pub functions_of : ℕ → Option ExceptionView → List RuntimeFunction
 functions_of machine None = []
 functions_of machine (Some exceptions) = if machine == 0x8664 then functions (table_of exceptions) else []
 
+-- the line of a function that is found, or `none`
 abbrev pub found_line : Option RuntimeFunction → List ℕ
 found_line None = codes "none\n"
 found_line (Some f) = function_line f
 
--- the line of what lookup finds among the functions of the image, which is read strictly
+-- the line of the function that lookup finds in the image, which is read in strict mode
 pub record IsFindText (b : List ℕ) (address : ℕ) (text : List ℕ) : Type 0 where
   pub image : ImageView
   pub given : IsImage b default_options (Ok image)
@@ -27,11 +28,11 @@ pub record IsFindText (b : List ℕ) (address : ℕ) (text : List ℕ) : Type 0 
   pub finds : Finds (functions_of image.header.coff_header.machine image.exception_data) address found
   pub shown : text ≡ found_line found
 
--- the refusal in its place, or want of memory, which is asked for once the headers and the section headers are there
+-- the refusal of the image, or `Memory`: an allocation can fail only once the headers and the section headers are read
 abbrev pub IsFindRefusal : List ℕ → Error → Type 0
 IsFindRefusal b e = UnlessMemory e (IsImage b default_options (Err (kind_of e))) × IfMemory e (IsOk (sections_read b default_options))
 
--- what making that text of an image answers
+-- the result of making that text of an image
 abbrev pub GivesFindText : {Z : Type 0} → List ℕ → ℕ → Result (Vec ℕ Z) Error → Type 0
 GivesFindText b address (Ok text) = IsFindText b address text.items
 GivesFindText b address (Err e) = IsFindRefusal b e

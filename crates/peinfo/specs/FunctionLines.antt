@@ -1,4 +1,4 @@
--- The lines that are shown of a function table.
+-- The `function` and `function64` lines.
 use Rattle.std.specs.Prelude.{ℕ, ◌++◌, List, [], length, Option, Some, None, Result, Ok, Err, codes, ◌==◌, if◌then◌else◌}
 use Rattle.std.specs.List.{flat_map}
 use Rattle.pe_core.specs.Refusals.{Refusal}
@@ -9,11 +9,12 @@ use Rattle.pe_unwind.specs.declared.arm64.function.Arm64RuntimeFunction.{Arm64Ru
 use Rattle.pe_unwind.specs.declared.function_table.RuntimeFunction.{RuntimeFunction}
 use Rattle.peinfo.specs.Hex.{hex}
 
+-- the line of an x64 entry: its start, its end and its unwind RVA
 unfoldable pub function_line : RuntimeFunction → List ℕ
 function_line f =
     codes "function " ++ hex 8 f.begin_address ++ codes " " ++ hex 8 f.end_address ++ codes " " ++ hex 8 f.unwind_info_address ++ codes "\n"
 
--- of an ARM64 entry, whose length stands in its unwind data
+-- the line of an ARM64 entry, whose length is in its unwind data
 unfoldable pub function64_line : Arm64RuntimeFunction → List ℕ
 function64_line f =
     codes "function64 " ++ hex 8 f.begin_address ++ codes " " ++ hex 8 f.unwind_data ++ codes "\n"
@@ -25,12 +26,13 @@ function_lines machine (Some exceptions) =
     if machine == 0xAA64 then flat_map function64_line (arm64_functions (table_of exceptions))
     else flat_map function_line (functions (table_of exceptions))
 
+-- the count of these lines
 abbrev pub function_count : ℕ → Option ExceptionView → ℕ
 function_count machine None = 0
 function_count machine (Some exceptions) =
     if machine == 0xAA64 then length (arm64_functions (table_of exceptions)) else length (functions (table_of exceptions))
 
--- the lines of an iterator's items; a cut entry has none
+-- the lines of an iterator's items; a truncated entry has none
 abbrev pub item_line : {X : Type 0} → (X → List ℕ) → Result X Refusal → List ℕ
 item_line line (Ok f) = line f
 item_line line (Err refusal) = []

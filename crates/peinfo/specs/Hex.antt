@@ -1,7 +1,7 @@
 -- Hexadecimal digits.
 use Rattle.std.specs.Prelude.{ℕ, zero, suc, ◌+◌, ◌/◌, ◌%◌, ◌^◌, List, [], ◌∷◌, nat_lt, if◌then◌else◌}
 
--- 48 is `0`, and 97 is `a`
+-- the code of a digit: 48 is `0`, and 97 is `a`
 abbrev pub hex_digit : ℕ → ℕ
 hex_digit d = if nat_lt d 10 then 48 + d else 87 + d
 

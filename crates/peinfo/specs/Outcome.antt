@@ -1,4 +1,4 @@
--- What a run came to.
+-- The outcome of a run.
 use Rattle.std.specs.Prelude.{ℕ, Result, Ok, Err}
 use Rattle.peinfo.specs.declared.engine.ReportError.{ReportError}
 use Rattle.peinfo.specs.declared.engine.ReportError.TheVariants.{Parse, Write}
@@ -12,7 +12,7 @@ status_of Refused = 1
 status_of Misused = 2
 status_of Fault = 3
 
--- by what an engine answered
+-- the outcome of an engine's result
 abbrev pub outcome_of : Result (Unit {0}) ReportError → Outcome
 outcome_of (Ok u) = Done
 outcome_of (Err (Parse e)) = Refused

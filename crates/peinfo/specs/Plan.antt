@@ -1,4 +1,5 @@
--- What `at FILE HEXRVA --chain` shows: the function that covers an address, and its records up to the root of their chain.
+-- The lines of `at FILE HEXRVA --chain`: the function that covers an RVA, and its unwind records up to the root of
+-- their chain.
 use Rattle.std.specs.Prelude.{◌≡◌, ◌⊎◌, ℕ, ◌++◌, List, [], Option, Some, None, Result, Ok, Err, IsOk, Vec, codes}
 use Rattle.std.specs.List.{flat_map}
 use Rattle.std.specs.Fmt.{decimal}
@@ -16,7 +17,7 @@ use Rattle.pe_unwind.specs.UnwindRecord.{UnwindInfoView, HandlerView, Exception,
 use Rattle.pe_unwind.specs.declared.function_table.RuntimeFunction.{RuntimeFunction}
 use Rattle.peinfo.specs.Find.{functions_of, found_line}
 
--- a number in decimal, behind a space
+-- a space, and a number in decimal
 unfoldable pub number_text : ℕ → List ℕ
 number_text n = codes " " ++ decimal n
 
@@ -24,13 +25,14 @@ number_text n = codes " " ++ decimal n
 unfoldable pub numbers_text : UnwindInfoView → List ℕ
 numbers_text i = number_text i.version ++ number_text i.size_of_prolog ++ number_text i.frame_register.0 ++ number_text i.frame_register_offset
 
--- the end of its line: the word for what stands behind its codes, by its chained function and its handler
+-- the end of its line: a word for what follows its codes, by its chained function and its handler
 abbrev pub line_end : Option RuntimeFunction → Option HandlerView → List ℕ
 line_end (Some f) handler = codes " chained\n"
 line_end None (Some (Exception address bytes)) = codes " exception\n"
 line_end None (Some (Termination address bytes)) = codes " termination\n"
 line_end None None = codes " plain\n"
 
+-- the line of a record
 unfoldable pub record_line : UnwindInfoView → List ℕ
 record_line i = codes "record" ++ numbers_text i ++ line_end i.chained_info i.handler
 
@@ -38,13 +40,13 @@ record_line i = codes "record" ++ numbers_text i ++ line_end i.chained_info i.ha
 abbrev pub record_lines : List UnwindInfoView → List ℕ
 record_lines records = flat_map record_line records
 
--- what the plan of a function that lookup may have found answers; without a function there are no records
+-- the result of the plan of a function, if lookup found one; without a function there are no records
 abbrev pub PlansRecords : Option ExceptionView → List SectionTable → Option RuntimeFunction → Result (List UnwindInfoView) Refusal → Type 0
 PlansRecords (Some v) sections (Some f) answer = PlansFrom (links_of v sections default_options) v.content f answer
 PlansRecords (Some v) sections None answer = answer ≡ Ok []
 PlansRecords None sections found answer = answer ≡ Ok []
 
--- what the plan of what lookup finds among the functions of the image answers, which is read strictly
+-- the result of the plan of the function that lookup finds in the image, which is read in strict mode
 pub record IsPlanned (b : List ℕ) (address : ℕ) (found : Option RuntimeFunction) (answer : Result (List UnwindInfoView) Refusal) : Type 0 where
   pub image : ImageView
   pub given : IsImage b default_options (Ok image)
@@ -58,14 +60,14 @@ pub record IsPlanText (b : List ℕ) (address : ℕ) (text : List ℕ) : Type 0 
   pub planned : IsPlanned b address found (Ok records)
   pub shown : text ≡ found_line found ++ record_lines records
 
--- the refusal of the image, or else of the plan; or want of memory, which is asked for once the headers and the section
--- headers are there
+-- the refusal of the image, or else of the plan; or `Memory`: an allocation can fail only once the headers and the
+-- section headers are read
 abbrev pub IsPlanRefusal : List ℕ → ℕ → Error → Type 0
 IsPlanRefusal b address e =
     UnlessMemory e (IsImage b default_options (Err (kind_of e)) ⊎ ((found : Option RuntimeFunction) × IsPlanned b address found (Err (kind_of e))))
     × IfMemory e (IsOk (sections_read b default_options))
 
--- what making that text of an image answers
+-- the result of making that text of an image
 abbrev pub GivesPlanText : {Z : Type 0} → List ℕ → ℕ → Result (Vec ℕ Z) Error → Type 0
 GivesPlanText b address (Ok text) = IsPlanText b address text.items
 GivesPlanText b address (Err e) = IsPlanRefusal b address e

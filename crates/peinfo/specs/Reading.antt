@@ -2,7 +2,7 @@
 use Rattle.peinfo.specs.declared.input.ReadError.{ReadError}
 use Rattle.peinfo.specs.declared.input.ReadError.TheVariants as errors
 
--- a fact that is owed where a reader is given up as endless
+-- if the reader was given up as endless, this holds
 abbrev pub IfEndless : ReadError → Type 0 → Type 0
 IfEndless (errors.Failed e) P = Unit {0}
 IfEndless errors.Memory P = Unit {0}

@@ -1,4 +1,4 @@
--- The text that is shown of an image.
+-- The text of `list`.
 use Rattle.std.specs.Prelude.{◌≡◌, ℕ, ◌++◌, Bool, List, Result, Ok, Err, IsOk, Vec, codes, if◌then◌else◌}
 use Rattle.pe_core.specs.Refusals.{UnlessMemory, IfMemory, kind_of}
 use Rattle.pe_core.specs.declared.error.Error.{Error}
@@ -10,10 +10,11 @@ use Rattle.peinfo.specs.DebugEntries.{debug_lines}
 use Rattle.peinfo.specs.FunctionLines.{function_lines}
 use Rattle.peinfo.specs.Hex.{hex}
 
+-- 64 for PE32+, else 32
 abbrev pub width_text : Bool → List ℕ
 width_text is_64 = if is_64 then codes "64" else codes "32"
 
--- the first line: the width, the entry point, the preferred address
+-- the first line: the width, the RVA of the entry point, the preferred base
 unfoldable pub image_line : Bool → ℕ → ℕ → List ℕ
 image_line is_64 entry base = codes "image " ++ width_text is_64 ++ codes " entry " ++ hex 8 entry ++ codes " base " ++ hex 16 base ++ codes "\n"
 
@@ -25,17 +26,17 @@ report_text image =
     ++ certificate_lines image.certificates
     ++ function_lines image.header.coff_header.machine image.exception_data
 
--- what the text of a report has to be
+-- the text of the image that is read from these bytes with these options
 pub record IsReport (b : List ℕ) (opts : ParseOptions) (text : List ℕ) : Type 0 where
   pub image : ImageView
   pub given : IsImage b opts (Ok image)
   pub shown : text ≡ report_text image
 
--- the refusal, or want of memory, which is asked for once the headers and the section headers are there
+-- the refusal of the image, or `Memory`: an allocation can fail only once the headers and the section headers are read
 abbrev pub IsReportRefusal : List ℕ → ParseOptions → Error → Type 0
 IsReportRefusal b opts e = UnlessMemory e (IsImage b opts (Err (kind_of e))) × IfMemory e (IsOk (sections_read b opts))
 
--- what making that text of an image answers
+-- the result of making that text of an image
 abbrev pub GivesReport : {Z : Type 0} → List ℕ → ParseOptions → Result (Vec ℕ Z) Error → Type 0
 GivesReport b opts (Ok text) = IsReport b opts text.items
 GivesReport b opts (Err e) = IsReportRefusal b opts e

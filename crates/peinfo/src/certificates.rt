@@ -1,4 +1,6 @@
-//! The lines of certificates.
+//! The `certificate` lines of `list`: the length of each attribute certificate with its header in decimal, and its
+//! revision and type in hexadecimal.
+//! https://learn.microsoft.com/windows/win32/debug/pe-format#the-attribute-certificate-table-image-only
 
 ghost use Rattle.std.specs.Prelude.{◌≡◌, ◌++◌, map, OnOk};
 ghost use Rattle.pe_records.specs.Certificates.{certificate_view};
@@ -8,7 +10,7 @@ use crate::digits::{hex_4, push_decimal};
 use pe_image::AttributeCertificate;
 use std::alloc::{AllocError, Allocator};
 
-/// The end of a line, from behind the length on.
+/// The end of a line, from after the length on.
 #[tactic(auto, unfolding(crate::specs::CertificateLines::line_end, crate::specs::Hex::hex))]
 fn line_end(revision: u16, certificate_type: u16) -> [u8; 11]
     ensures { result ≡ line_end revision certificate_type }

@@ -1,4 +1,4 @@
-//! What the words of the command line ask for.
+//! The arguments of the command line: which command they ask for, if any.
 
 ghost use Rattle.std.specs.Prelude.{◌≡◌, ◌*◌, ◌<◌, ◌≤◌, ◌^◌, length, map, IfSome};
 ghost use Rattle.std.specs.Option.{option_map};
@@ -6,14 +6,14 @@ ghost use Rattle.std.specs.String.{string_bytes};
 
 use pe_image::ParseMode;
 
-/// What `peinfo` is asked to do.
+/// A command of `peinfo`.
 #[derive(Debug, Drop)]
 pub enum Command<'a> {
     /// Shows the image in a file.
     List { file: &'a str, mode: ParseMode },
-    /// Shows the function that covers an address of the image in a file.
+    /// Shows the function that covers an RVA of the image in a file.
     At { file: &'a str, rva: u32 },
-    /// Shows that function, and its records up to the root of their chain.
+    /// Shows that function, and its unwind records up to the root of their chain.
     ChainAt { file: &'a str, rva: u32 },
     /// Writes the image in a file anew, to another file.
     Rewrite { file: &'a str, out: &'a str },
@@ -37,7 +37,7 @@ impl<'a> Command<'a> {
 
 ghost use Rattle.peinfo.specs.Command.{mode_of, asked_at, asked_of, asked_by, digit_of, number_behind, rva_of, one_word};
 
-/// The mode that the words after the file ask for.
+/// The mode that the arguments after the file ask for.
 #[tactic(auto, using(crate::proofs::Words::shapes))]
 fn mode_of(words: &[String]) -> Option<ParseMode>
     ensures { result ≡ mode_of (map string_bytes words.now) }
@@ -74,10 +74,11 @@ fn number_of(digits: &[u8]) -> Option<u32>
         let digit = digit_of(*code)?;
         number = 16 * number + u64::from(digit);
     }
+    // Eight digits fit 32 bits.
     Some(number as u32)
 }
 
-/// The address that a word of one to eight hexadecimal digits tells.
+/// The RVA in an argument of one to eight hexadecimal digits.
 fn rva_of(word: &[u8]) -> Option<u32>
     ensures { result ≡ rva_of word.now }
 {
@@ -87,7 +88,7 @@ fn rva_of(word: &[u8]) -> Option<u32>
     number_of(word)
 }
 
-/// What the words after `at` and the file ask for.
+/// The command of the arguments after `at` and the file.
 #[tactic(auto, using(crate::proofs::Words::shapes))]
 fn asked_at<'a>(file: &'a str, words: &[String]) -> Option<Command<'a>>
     ensures { option_map asked_by result ≡ asked_at file.entry.now (map string_bytes words.now) }
@@ -105,7 +106,7 @@ fn asked_at<'a>(file: &'a str, words: &[String]) -> Option<Command<'a>>
     }
 }
 
-/// The word after the file, if it is the only one.
+/// The argument after the file, if it is the only one.
 #[tactic(auto, using(crate::proofs::Words::shapes))]
 fn one_word<'a>(words: &'a [String]) -> Option<&'a str>
     ensures { option_map (λ word. word.now) result ≡ one_word (map string_bytes words.now) }
@@ -116,7 +117,7 @@ fn one_word<'a>(words: &'a [String]) -> Option<&'a str>
     }
 }
 
-/// The command of the words after the program's name. None where they are misused.
+/// The command of the arguments after the program's name. `None` where they are misused.
 #[tactic(auto, using(crate::proofs::Words::shapes))]
 pub fn command_of<'a>(words: &'a [String]) -> Option<Command<'a>>
     ensures { option_map asked_by result ≡ asked_of (map string_bytes words.now) }

@@ -1,4 +1,5 @@
-//! A writer that counts its failures.
+//! A writer that counts its failures, so that a contract can say whether a write failed, and that keeps the cause of
+//! the last.
 
 ghost use Rattle.std.specs.Prelude.{◌≡◌, ◌<◌, ◌≤◌, [], length, take, IfSome, IfNone, Some, None};
 ghost use Rattle.std.specs.Option.{option_copied};
@@ -8,7 +9,7 @@ ghost use Rattle.std.specs.Io.KnownBytes.{Appends, Keeps};
 use std::io;
 use std::io::Write;
 
-/// A writer, how many of its writes failed or took nothing, and why the last of them did.
+/// A writer, how many of its writes failed or took nothing, and the cause of the last failure.
 #[derive(Drop)]
 pub struct CountedOut<W> {
     writer: W,
@@ -19,7 +20,7 @@ pub struct CountedOut<W> {
 impl<W: Write> CountedOut<W> {
     ghost use Rattle.peinfo.specs.Output.{writer_of, failures_of, cause_of, one_more};
 
-    /// A writer without failures so far.
+    /// Returns a writer without failures so far.
     pub fn new(writer: W) -> CountedOut<W>
         ensures writer { writer_of result ≡ writer }
         ensures failures { failures_of result ≡ 0 }
@@ -32,7 +33,7 @@ impl<W: Write> CountedOut<W> {
         }
     }
 
-    /// Gives the writer back, with what it holds.
+    /// Returns the writer, with what it holds.
     pub fn into_inner(self) -> W
         ensures { result ≡ writer_of self }
     {
@@ -44,21 +45,22 @@ impl<W: Write> CountedOut<W> {
         writer
     }
 
-    /// How many writes failed or took nothing. It stays at its greatest value.
+    /// How many writes failed or took nothing. The count stays at its greatest value.
     pub fn failures(&self) -> u64
         ensures { result ≡ failures_of self.now }
     {
         self.failures
     }
 
-    /// Why the last failure failed. `None` where it took nothing, and without a failure.
+    /// The cause of the last failure. `None` where its write took nothing, and without a failure.
     pub fn cause(&self) -> Option<&io::Error>
         ensures { option_copied result ≡ cause_of self.now }
     {
         self.cause.as_ref()
     }
 
-    /// One write: how much of the piece was taken. Nothing of a nonempty piece is a failure.
+    /// Writes once, and returns how much of the piece was taken. A write that fails, or takes nothing of a nonempty
+    /// piece, is counted as a failure, and returns `None`.
     pub fn put(&mut self, piece: &[u8]) -> Option<usize>
         ensures empty { piece.now ≡ [] → result ≡ Some 0 }
         ensures bound { IfSome result (λ n. n ≤ length piece.now) }
@@ -87,7 +89,7 @@ impl<W: Write> CountedOut<W> {
 
 ghost use Rattle.peinfo.specs.Output.{writer_of, failures_of, AppendsBeginning, RoseOrFull};
 
-/// Writes the whole text, piece by piece, until a write fails or takes nothing.
+/// Writes the whole text, piece by piece, until a write fails or takes nothing. Returns whether all of it was written.
 #[tactic(auto, using(crate::proofs::Writing::steps))]
 pub fn put_all<W: Write>(out: &mut CountedOut<W>, text: &[u8]) -> bool
     ensures whole { OnTrue result (Appends (W.contents (writer_of out.old))

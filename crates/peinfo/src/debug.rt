@@ -1,4 +1,6 @@
-//! The lines of debug entries.
+//! The `debug` lines of `list`: the type and size of each debug entry in decimal, then the RVA and the file offset of
+//! its record in hexadecimal.
+//! https://learn.microsoft.com/windows/win32/debug/pe-format#the-debug-section
 
 ghost use Rattle.std.specs.Prelude.{◌≡◌, ◌++◌, codes, OnOk};
 ghost use Rattle.std.specs.Option.{option_map};
@@ -11,7 +13,7 @@ use crate::digits::{hex_8, push_decimal};
 use pe_image::{DebugData, ImageDebugDirectory, ImageDebugDirectoryIterator};
 use std::alloc::{AllocError, Allocator};
 
-/// The end of a line, from behind the size on.
+/// The end of a line, from after the size on.
 #[tactic(auto, unfolding(crate::specs::Hex::hex))]
 fn line_end(address: u32, pointer: u32) -> [u8; 19]
     ensures { result ≡ codes " " ++ hex 8 address ++ codes " " ++ hex 8 pointer ++ codes "\n" }
@@ -36,7 +38,7 @@ fn push_line<A: Allocator>(
     text.extend_from_slice(&line_end(entry.address_of_raw_data, entry.pointer_to_raw_data))
 }
 
-/// How many lines debug data have.
+/// How many lines debug data has.
 pub fn line_count(debug: &Option<DebugData>) -> usize
     ensures { result ≡ line_count (option_map debug_view debug.now) }
 {
@@ -46,7 +48,7 @@ pub fn line_count(debug: &Option<DebugData>) -> usize
     }
 }
 
-/// Adds a line for each entry, and one for an entry that is cut.
+/// Adds a line for each entry, and one for a truncated entry.
 #[tactic(auto, using(crate::proofs::Lines::one_more, crate::proofs::Lines::no_more))]
 fn push_entries<A: Allocator>(
     text: &mut Vec<u8, A>,
@@ -64,7 +66,7 @@ fn push_entries<A: Allocator>(
     Ok(())
 }
 
-/// Adds the lines of debug data, if there are any.
+/// Adds the lines of debug data, if there is any.
 pub fn push_lines<A: Allocator>(
     text: &mut Vec<u8, A>,
     debug: &Option<DebugData>,

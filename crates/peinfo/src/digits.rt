@@ -1,4 +1,4 @@
-//! Numbers as digits.
+//! Numbers as decimal and hexadecimal digits.
 
 ghost use Rattle.std.specs.Prelude.{◌≡◌, ◌%◌, ◌++◌, OnOk};
 ghost use Rattle.std.specs.Fmt.{decimal};
@@ -16,7 +16,7 @@ fn last_digit(n: u64) -> u8
     DIGITS[(n % 16) as usize]
 }
 
-/// The four hexadecimal digits, with zeros in front.
+/// The four hexadecimal digits, with leading zeros.
 #[tactic(auto, unfolding(crate::specs::Hex::hex))]
 pub fn hex_4(n: u16) -> [u8; 4]
     ensures { result ≡ hex 4 n }
@@ -30,7 +30,7 @@ pub fn hex_4(n: u16) -> [u8; 4]
     ]
 }
 
-/// The eight hexadecimal digits, with zeros in front.
+/// The eight hexadecimal digits, with leading zeros.
 #[tactic(auto, unfolding(crate::specs::Hex::hex))]
 pub fn hex_8(n: u32) -> [u8; 8]
     ensures { result ≡ hex 8 n }
@@ -48,7 +48,7 @@ pub fn hex_8(n: u32) -> [u8; 8]
     ]
 }
 
-/// The sixteen hexadecimal digits, with zeros in front.
+/// The sixteen hexadecimal digits, with leading zeros.
 #[tactic(auto, unfolding(crate::specs::Hex::hex))]
 pub fn hex_16(n: u64) -> [u8; 16]
     ensures { result ≡ hex 16 n }
@@ -73,7 +73,7 @@ pub fn hex_16(n: u64) -> [u8; 16]
     ]
 }
 
-/// Adds the decimal digits. Where memory is refused a beginning of them may stand there.
+/// Adds the decimal digits. After an allocation failure some of the first digits may have been added.
 #[tactic(auto, using(crate::proofs::DecimalText::steps))]
 pub fn push_decimal<A: Allocator>(text: &mut Vec<u8, A>, n: u32) -> Result<(), AllocError>
     ensures { OnOk result (text.new.items ≡ text.old.items ++ decimal n) }

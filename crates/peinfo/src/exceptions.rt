@@ -1,4 +1,4 @@
-//! The functions of an image, by its machine.
+//! The lines of a function table, by the machine of the image: the entries of x64 and of ARM64 differ.
 
 ghost use Rattle.std.specs.Prelude.{◌≡◌, ◌++◌, OnOk};
 ghost use Rattle.peinfo.specs.FunctionLines.{function_lines, function_count};
@@ -7,7 +7,7 @@ use crate::functions;
 use pe_image::{COFF_MACHINE_ARM64, ExceptionData};
 use std::alloc::{AllocError, Allocator};
 
-/// How many functions the exception data of an image of this machine have.
+/// How many functions the exception data of an image of this machine has.
 pub fn line_count(machine: u16, exceptions: &Option<ExceptionData>) -> usize
     ensures { result ≡ function_count machine exceptions.now }
 {
@@ -18,7 +18,7 @@ pub fn line_count(machine: u16, exceptions: &Option<ExceptionData>) -> usize
     }
 }
 
-/// Adds the lines of the exception data of an image of this machine, if there are any.
+/// Adds the lines of the exception data of an image of this machine, if there is any.
 #[tactic(auto, using(crate::proofs::FunctionItems::whole_items, crate::proofs::FunctionItems::whole_items_64))]
 pub fn push_lines<A: Allocator>(
     text: &mut Vec<u8, A>,

@@ -1,4 +1,4 @@
-//! The function that covers an address.
+//! The command `at`: the line of the x64 function that covers an RVA, or `none`.
 
 ghost use Rattle.std.specs.Prelude.{◌≡◌, ◌++◌, OnOk};
 ghost use Rattle.pe_unwind.specs.FunctionTable.{Finds};
@@ -13,7 +13,7 @@ use pe_image::{COFF_MACHINE_X86_64, ExceptionData, PE, RuntimeFunction};
 use std::alloc::{AllocError, Allocator};
 use std::io;
 
-/// The function that covers the address, if x64 exception data have one.
+/// The function that covers the RVA, if x64 exception data has one.
 #[tactic(auto, using(crate::proofs::FindTexts::nothing_found))]
 pub fn found_in(
     machine: u16,
@@ -44,7 +44,7 @@ pub fn push_found<A: Allocator>(
     }
 }
 
-/// The line of the function that covers the address, or the refusal of the image.
+/// The line of the function that covers the RVA, or the error of the image.
 #[tactic(auto, using(crate::proofs::FindTexts::find_text))]
 fn text_of<A: Allocator + Copy + Drop>(
     alloc: A,
@@ -61,8 +61,8 @@ fn text_of<A: Allocator + Copy + Drop>(
     Ok(text)
 }
 
-/// Shows the x64 function that covers an address of the image, or `none`. The image is read strictly, with the default
-/// options.
+/// Shows the x64 function that covers an RVA of the image, or `none`, also for an image of another machine. The image
+/// is read in strict mode, with the default options.
 #[tactic(auto, using(crate::proofs::Engines::reports))]
 pub fn find<A: Allocator, W: io::Write>(
     alloc: A,

@@ -1,4 +1,6 @@
-//! The functions of an image, and their lines.
+//! The `function` lines of `list` and `at`, and the `function64` lines of ARM64 images: the numbers of an entry of the
+//! function table in hexadecimal.
+//! https://learn.microsoft.com/windows/win32/debug/pe-format#the-pdata-section
 
 ghost use Rattle.std.specs.Prelude.{◌≡◌, ◌++◌, codes, OnOk};
 ghost use Rattle.pe_unwind.specs.Arm64Functions.{items_of_arm64_functions};
@@ -12,7 +14,7 @@ use pe_image::{
 };
 use std::alloc::{AllocError, Allocator};
 
-/// The line of an entry, from behind its first word on.
+/// The end of an entry's line, from after its first word on.
 #[tactic(auto, unfolding(crate::specs::Hex::hex))]
 fn line_end(begin: u32, end: u32, unwind: u32) -> [u8; 27]
     ensures { result ≡ hex 8 begin ++ codes " " ++ hex 8 end ++ codes " " ++ hex 8 unwind ++ codes "\n" }
@@ -41,7 +43,7 @@ pub fn push_line<A: Allocator>(
     text.extend_from_slice(&line_end(begin_address, end_address, unwind_info_address))
 }
 
-/// Adds a line for each entry that is whole.
+/// Adds a line for each whole entry. A truncated entry has none.
 #[tactic(auto, using(crate::proofs::FunctionItems::one_more, crate::proofs::FunctionItems::no_more))]
 pub fn push_lines<A: Allocator>(
     text: &mut Vec<u8, A>,
@@ -57,7 +59,7 @@ pub fn push_lines<A: Allocator>(
     Ok(())
 }
 
-/// The line of an ARM64 entry, from behind its first word on.
+/// The end of an ARM64 entry's line, from after its first word on.
 #[tactic(auto, unfolding(crate::specs::Hex::hex))]
 fn line_end_64(begin: u32, unwind: u32) -> [u8; 18]
     ensures { result ≡ hex 8 begin ++ codes " " ++ hex 8 unwind ++ codes "\n" }
@@ -68,7 +70,7 @@ fn line_end_64(begin: u32, unwind: u32) -> [u8; 18]
     line
 }
 
-/// Adds the line of an ARM64 function.
+/// Adds the line of an ARM64 function. Its length is in its unwind data, so the entry has no end.
 #[tactic(auto, unfolding(crate::specs::FunctionLines::function64_line))]
 fn push_line_64<A: Allocator>(
     text: &mut Vec<u8, A>,
@@ -80,7 +82,7 @@ fn push_line_64<A: Allocator>(
     text.extend_from_slice(&line_end_64(function.begin_address, function.unwind_data))
 }
 
-/// Adds a line for each ARM64 entry that is whole.
+/// Adds a line for each whole ARM64 entry. A truncated entry has none.
 #[tactic(auto, using(crate::proofs::FunctionItems::one_more, crate::proofs::FunctionItems::no_more))]
 pub fn push_lines_64<A: Allocator>(
     text: &mut Vec<u8, A>,

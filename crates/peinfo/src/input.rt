@@ -1,4 +1,5 @@
-//! The bytes of a reader, by a bounded number of reads.
+//! Reads all bytes of a file by a bounded number of reads, so that a file without an end, such as a device, ends in an
+//! error.
 
 ghost use Rattle.std.specs.Prelude.{◌≡◌, ◌+◌, ◌≤◌, length, take, drop, vec_len, IfSome, IfOk, IfErr, OnOk};
 ghost use Rattle.std.specs.Io.KnownBytes.{Consumes, IsAtEnd};
@@ -13,21 +14,24 @@ pub const MOST_READS: u32 = 1_048_576;
 /// How many bytes a read asks for.
 pub const PIECE: usize = 65_536;
 
-/// How many zeros are written at a time: few, so that each lot is one short run of vector code.
+/// How many zeros are written at a time: few, so that each run of them is one short run of vector code.
 const STEP: usize = 1024;
 
 /// Why the bytes could not be read.
 #[derive(Debug, Drop, thiserror::Error)]
 pub enum ReadError {
+    /// A read failed.
     #[error("{0}")]
     Failed(io::Error),
+    /// An allocation failed.
     #[error("out of memory")]
     Memory,
+    /// The end was not met by `MOST_READS` reads.
     #[error("it does not end")]
     Endless,
 }
 
-/// Makes room for a piece behind the bytes that are filled.
+/// Makes room for a piece after the bytes that are filled.
 fn make_room<A: Allocator>(bytes: &mut Vec<u8, A>, filled: usize) -> Result<(), AllocError>
     requires { filled ≤ vec_len bytes.old }
     ensures within { filled ≤ vec_len bytes.new }
@@ -43,7 +47,7 @@ fn make_room<A: Allocator>(bytes: &mut Vec<u8, A>, filled: usize) -> Result<(), 
     Ok(())
 }
 
-/// One read, to behind the bytes that are filled.
+/// One read, to after the bytes that are filled.
 fn read_behind<R: Read>(reader: &mut R, bytes: &mut [u8], filled: usize) -> io::Result<usize>
     requires { filled + 65536 ≤ length bytes.old }
     ensures front { take filled bytes.new ≡ take filled bytes.old }
@@ -57,7 +61,10 @@ fn read_behind<R: Read>(reader: &mut R, bytes: &mut [u8], filled: usize) -> io::
 
 ghost use Rattle.peinfo.specs.Reading.{IfEndless};
 
-/// All bytes of the reader, read straight to where they stay. A read that fails is not tried again.
+/// Reads all bytes of the reader, straight to where they stay. A read that fails is not tried again.
+///
+/// Errors: `Memory` where there is no room for a piece; `Failed` where a read fails; `Endless` after `MOST_READS`
+/// reads.
 pub fn read_all<A: Allocator, R: Read>(alloc: A, reader: &mut R) -> Result<Vec<u8, A>, ReadError>
     ensures bytes { IfOk result (λ bytes. IfSome (R.remaining reader.old) (λ known. bytes.items ≡ known)) }
     ensures endless { IfErr result (λ e. IfEndless e

@@ -1,4 +1,4 @@
-//! Shows what is in PE files.
+//! Shows what is in PE files, finds the function that covers an RVA, and writes images anew.
 #![tactic(auto)]
 
 mod certificates;
@@ -42,7 +42,7 @@ use std::{env, fs, io};
 const USAGE: &str =
     "usage: peinfo list FILE [--permissive] | at FILE HEXRVA [--chain] | rewrite FILE OUT";
 
-/// The bytes of a file, or what comes of a failure to read them.
+/// The bytes of a file, or the outcome of a failure to read them, which is one line on standard error.
 fn bytes_of<R: Files + Eprint + AllocGlobal>(rt: &R, path: &str) -> Result<Vec<u8>, Outcome>
     ensures { IfErr result (λ outcome. outcome ≡ Fault) }
 {
@@ -69,8 +69,8 @@ struct Source<'a> {
     bytes: &'a [u8],
 }
 
-/// What the first bytes of a file that is no PE image say it is, as the end of a message. Objects have no magic number: they
-/// start with their machine.
+/// What a file that is not a PE image is by its first bytes, as the end of a message. Objects have no magic number:
+/// they start with their machine.
 fn other_kind(bytes: &[u8]) -> &'static str
     ensures { result.now ≡ other_kind bytes.now }
 {
@@ -89,7 +89,7 @@ fn other_kind(bytes: &[u8]) -> &'static str
     }
 }
 
-/// Whether the first two bytes are the machine x86, x64 or ARM64.
+/// Whether the first two bytes are `IMAGE_FILE_MACHINE_I386`, `IMAGE_FILE_MACHINE_AMD64` or `IMAGE_FILE_MACHINE_ARM64`.
 fn starts_with_a_machine(bytes: &[u8]) -> bool
     ensures { result ≡ starts_with_a_machine bytes.now }
 {
@@ -98,7 +98,7 @@ fn starts_with_a_machine(bytes: &[u8]) -> bool
         || bytes.starts_with(b"\x64\xaa")
 }
 
-/// Says why an image is refused: the refusal, and what can be done about it.
+/// Prints the error of an image, and what can be done about it.
 fn say_refused<R: Eprint>(rt: &R, source: Source, refusal: &Error, advice: &str) {
     let path = source.path;
     let kind = other_kind(source.bytes);
@@ -117,7 +117,7 @@ enum Target<'a> {
     File(&'a str),
 }
 
-/// Says why a text was not written whole.
+/// Prints why a text was not written whole.
 fn say_unwritten<R: Eprint>(rt: &R, path: &str, target: Target, cause: Option<&io::Error>) {
     let _ = match (target, cause) {
         (Target::Output, Some(error)) => eprintln!(rt;
@@ -135,7 +135,7 @@ fn say_unwritten<R: Eprint>(rt: &R, path: &str, target: Target, cause: Option<&i
     };
 }
 
-/// What comes of an engine's result. A failure is one line on standard error.
+/// The outcome of an engine's result. A failure is one line on standard error.
 fn outcome_of<R: Eprint, W: io::Write>(
     rt: &R,
     source: Source,
@@ -159,7 +159,8 @@ fn outcome_of<R: Eprint, W: io::Write>(
     }
 }
 
-/// The end of the message that an image is refused in this mode: where permissive mode accepts it, the option that helps.
+/// The end of the message that an image has an error in this mode: the option `--permissive`, if permissive mode
+/// accepts it.
 fn advice_on<A: Allocator + Copy + Drop>(
     alloc: A,
     bytes: &[u8],
@@ -187,6 +188,7 @@ fn list<R: Print + Eprint + AllocGlobal>(rt: &R, source: Source, mode: ParseMode
     let answer = report(rt.alloc(), source.bytes, &opts, &mut out);
     let advice = match answer {
         Ok(()) | Err(ReportError::Write | ReportError::Parse(Error::Memory(_))) => "",
+        // The image is read once more, in permissive mode, to know whether the option helps.
         Err(ReportError::Parse(_)) => advice_on(rt.alloc(), source.bytes, mode).unwrap_or(""),
     };
     outcome_of(rt, source, Target::Output, answer, &out, advice)
@@ -210,8 +212,8 @@ fn chain_at<R: Print + Eprint + AllocGlobal>(rt: &R, source: Source, rva: u32) -
     outcome_of(rt, source, Target::Output, answer, &out, "")
 }
 
-/// Writes the image in a file anew, to a file that must not exist. It is made once the image's file is read, and stays
-/// empty where the image is refused.
+/// Writes the image in a file anew, to a file that must not exist. That file is made once the image's file is read, and
+/// stays empty where the image has an error.
 fn rewrite_to<R: Files + Eprint + AllocGlobal>(rt: &R, source: Source, target: &str) -> Outcome
     ensures { result ≢ Misused }
 {
@@ -227,7 +229,7 @@ fn rewrite_to<R: Files + Eprint + AllocGlobal>(rt: &R, source: Source, target: &
     outcome_of(rt, source, Target::File(target), answer, &out, "")
 }
 
-/// Reads the file of a command, and does the command on its bytes.
+/// Reads the file of a command, and runs the command on its bytes.
 fn outcome_of_command<R: Files + Print + Eprint + AllocGlobal>(rt: &R, command: Command) -> Outcome
     ensures { result ≢ Misused }
 {
@@ -248,6 +250,7 @@ fn outcome_of_command<R: Files + Print + Eprint + AllocGlobal>(rt: &R, command: 
     }
 }
 
+/// Prints the usage.
 fn misused<R: Eprint>(rt: &R) -> Outcome
     ensures { result ≡ Misused }
 {
@@ -255,7 +258,7 @@ fn misused<R: Eprint>(rt: &R) -> Outcome
     Outcome::Misused
 }
 
-/// Does what the arguments ask for.
+/// Runs the command of the arguments.
 fn outcome_of_arguments<R: Files + Print + Eprint + AllocGlobal>(
     rt: &R,
     arguments: &[String],
@@ -268,8 +271,8 @@ fn outcome_of_arguments<R: Files + Print + Eprint + AllocGlobal>(
     }
 }
 
-/// Does what the arguments after the program's name ask for, and returns the exit status: 0 done, 1 the image is refused,
-/// 2 the arguments are misused, 3 a file or standard output failed.
+/// Runs the command of the arguments after the program's name, and returns the exit status: 0 done, 1 the image has an
+/// error, 2 the arguments are misused, 3 an error of a file or of standard output.
 pub fn run<R: Files + Print + Eprint + AllocGlobal>(rt: &R, arguments: &[String]) -> u8
     ensures misused { (result ≡ 2) ↔ IsNone (asked_of (map string_bytes arguments.now)) }
     ensures known { result ≤ 3 }
@@ -277,6 +280,7 @@ pub fn run<R: Files + Print + Eprint + AllocGlobal>(rt: &R, arguments: &[String]
     outcome_of_arguments(rt, arguments).status()
 }
 
+/// The arguments after the program's name.
 fn arguments_of(rt: &HostRuntime) -> io::Result<Vec<String>> {
     let mut arguments = Vec::new(rt.alloc());
     for argument in env::args(rt)?.skip(1) {

@@ -1,15 +1,15 @@
-//! What a run came to.
+//! The outcome of a run, and its exit status.
 
 ghost use Rattle.std.specs.Prelude.{◌≡◌};
 
-/// What a run came to.
+/// The outcome of a run.
 #[derive(Clone, Copy, Debug, PartialEq)]
 pub enum Outcome {
     /// The text was written.
     Done,
-    /// The image was refused, or memory for it.
+    /// The image has an error, or memory ran out.
     Refused,
-    /// The words ask for nothing that the program does.
+    /// The arguments ask for no command.
     Misused,
     /// A file or standard output failed.
     Fault,
@@ -18,7 +18,7 @@ pub enum Outcome {
 impl Outcome {
     ghost use Rattle.peinfo.specs.Outcome.{status_of};
 
-    /// The exit status that tells it.
+    /// The exit status: 0, 1, 2 or 3 in the order of the variants.
     pub fn status(self) -> u8
         ensures { result ≡ status_of self }
     {

@@ -1,4 +1,6 @@
-//! The records that unwind the function which covers an address.
+//! The command `at --chain`: the line of the x64 function that covers an RVA, and a line for each of its unwind
+//! records, up to the root of their chain.
+//! https://learn.microsoft.com/cpp/build/exception-handling-x64
 
 ghost use Rattle.std.specs.Prelude.{◌≡◌, ◌++◌, map, OnOk};
 ghost use Rattle.pe_core.specs.Refusals.{answer_by};
@@ -18,7 +20,7 @@ use pe_plan::UnwindPlan;
 use std::alloc::{AllocError, Allocator};
 use std::io;
 
-/// The end of a record's line: the word for what stands behind its codes.
+/// The end of a record's line: a word for what follows its codes.
 fn line_end(info: &UnwindInfo) -> &'static [u8]
     ensures { result.now ≡ line_end (unwind_view info.now).chained_info (unwind_view info.now).handler }
 {
@@ -30,7 +32,7 @@ fn line_end(info: &UnwindInfo) -> &'static [u8]
     }
 }
 
-/// Adds a number, behind a space.
+/// Adds a space and a number in decimal.
 #[tactic(auto, unfolding(crate::specs::Plan::number_text))]
 fn push_number<A: Allocator>(text: &mut Vec<u8, A>, number: u32) -> Result<(), AllocError>
     ensures { OnOk result (text.new.items ≡ text.old.items ++ number_text number) }
@@ -39,7 +41,7 @@ fn push_number<A: Allocator>(text: &mut Vec<u8, A>, number: u32) -> Result<(), A
     push_decimal(text, number)
 }
 
-/// Adds the numbers of a record.
+/// Adds the version of a record, the length of its prolog, and its frame register with the offset.
 #[tactic(auto, unfolding(crate::specs::Plan::numbers_text))]
 fn push_numbers<A: Allocator>(text: &mut Vec<u8, A>, info: &UnwindInfo) -> Result<(), AllocError>
     ensures { OnOk result (text.new.items ≡ text.old.items ++ numbers_text (unwind_view info.now)) }
@@ -92,7 +94,7 @@ fn records_of<'a, A: Allocator>(
     }
 }
 
-/// The line of the function that covers the address and those of its records, or the refusal of the image or of the plan.
+/// The line of the function that covers the RVA and those of its records, or the error of the image or of the plan.
 fn text_of<A: Allocator + Copy + Drop>(
     alloc: A,
     bytes: &[u8],
@@ -110,8 +112,8 @@ fn text_of<A: Allocator + Copy + Drop>(
     Ok(text)
 }
 
-/// Shows the x64 function that covers an address of the image and each of its unwind records up to the root of their
-/// chain, or `none`. The image is read strictly, with the default options.
+/// Shows the x64 function that covers an RVA of the image and each of its unwind records up to the root of their chain,
+/// or `none`. The image is read in strict mode, with the default options.
 #[tactic(auto, using(crate::proofs::Engines::reports))]
 pub fn plan<A: Allocator, W: io::Write>(
     alloc: A,

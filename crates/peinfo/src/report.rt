@@ -1,4 +1,4 @@
-//! The text that is shown of an image.
+//! The command `list`: the `image` line, and a line for each debug entry, certificate and function.
 
 ghost use Rattle.std.specs.Prelude.{◌≡◌, ◌++◌, IfOk, OnOk};
 ghost use Rattle.pe_image.specs.Image.{image_view};
@@ -14,7 +14,7 @@ use pe_image::{PE, ParseOptions};
 use std::alloc::{AllocError, Allocator};
 use std::io;
 
-/// No line is longer: `image`, and `debug` with two numbers of ten digits.
+/// The length of the longest line: `image`, and `debug` with two numbers of ten digits.
 const LONGEST_LINE: usize = 46;
 
 #[tactic(auto, unfolding(crate::specs::Report::image_line))]
@@ -50,6 +50,7 @@ fn text_of_image<A: Allocator + Copy + Drop>(
         .saturating_add(image.certificates.len())
         .saturating_add(exceptions::line_count(machine, &image.exception_data))
         .saturating_add(1);
+    // One allocation for all lines.
     let mut text = Vec::with_capacity(alloc, lines.saturating_mul(LONGEST_LINE))?;
     push_image_line(&mut text, image.is_64, image.entry, image.image_base)?;
     debug::push_lines(&mut text, &image.debug_data)?;
@@ -58,7 +59,7 @@ fn text_of_image<A: Allocator + Copy + Drop>(
     Ok(text)
 }
 
-/// The whole text, or the refusal of the image.
+/// The whole text, or the error of the image.
 fn text_of<A: Allocator + Copy + Drop>(
     alloc: A,
     bytes: &[u8],
@@ -71,8 +72,8 @@ fn text_of<A: Allocator + Copy + Drop>(
     Ok(text)
 }
 
-/// Shows an image: its line, and a line for each debug entry, certificate and function. The whole text
-/// is made before any of it is written.
+/// Shows an image: its line, and a line for each debug entry, certificate and function. The whole text is made before
+/// any of it is written.
 #[tactic(auto, using(crate::proofs::Engines::reports))]
 pub fn report<A: Allocator, W: io::Write>(
     alloc: A,

@@ -1,4 +1,4 @@
-//! An image that is written anew.
+//! The command `rewrite`: an image that is written anew from what was read of it.
 
 ghost use Rattle.peinfo.specs.Engine.{Reports};
 ghost use Rattle.peinfo.specs.Output.{writer_of, failures_of};
@@ -10,7 +10,7 @@ use pe_image::PE;
 use std::alloc::Allocator;
 use std::io;
 
-/// The bytes of the image with its pieces written over them, or the refusal of reading or writing it.
+/// The bytes of the image with its pieces written over them, or the error of reading or writing it.
 fn bytes_of<A: Allocator + Copy + Drop>(alloc: A, bytes: &[u8]) -> pe_image::Result<Vec<u8, A>>
     ensures { GivesRewritten bytes.now result }
 {
@@ -21,8 +21,8 @@ fn bytes_of<A: Allocator + Copy + Drop>(alloc: A, bytes: &[u8]) -> pe_image::Res
     Ok(copy)
 }
 
-/// Writes the image anew: a copy of its bytes, over which its headers, sections and certificates are written as they were
-/// read. The image is read strictly, with the default options.
+/// Writes the image anew: a copy of its bytes, over which its headers, sections and certificates are written as they
+/// were read. The image is read in strict mode, with the default options.
 #[tactic(auto, using(crate::proofs::Engines::reports))]
 pub fn rewrite<A: Allocator, W: io::Write>(
     alloc: A,
