@@ -212,12 +212,12 @@ typedef struct {
     uint8_t guid[16];               /* as in the file: little-endian u32, u16, u16, then 8 bytes */
     uint32_t age;                   /* grows by one each time the PDB is written */
     uint32_t spare;                 /* 0 */
-    pe_c_range name;                /* the PDB file's name, up to the end of the record: it ends at the first zero */
+    pe_c_range name;                /* the rest of the record: the PDB file's name, as a rule with a zero after it */
 } pe_c_key;
 
 /* A CodeView record of PDB 2.0 ("NB10"). */
 typedef struct {
-    pe_c_range name;                /* the PDB file's name, up to the end of the record: it ends at the first zero */
+    pe_c_range name;                /* the rest of the record: the PDB file's name, as a rule with a zero after it */
     uint32_t offset;                /* 0 where the symbols are in a file of their own */
     uint32_t signature;             /* time stamp of the PDB, seconds since 1970 */
     uint32_t age;                   /* grows by one each time the PDB is written */
@@ -369,7 +369,7 @@ enum {
     PE_C_SAVE_XMM = 4,              /* opcode 6 of version 1: saved the low 8 bytes of `operand` at offset `value` */
     PE_C_EPILOG = 5,                /* UWOP_EPILOG of version 2: `value` is the epilog's size or the low part of its
                                        offset, `operand` its flags or the high part */
-    PE_C_SAVE_XMM128 = 6,           /* UWOP_SAVE_XMM128, _FAR: saved the register `operand` at offset `value` */
+    PE_C_SAVE_XMM128 = 6,           /* UWOP_SAVE_XMM128, _FAR, opcode 7 of version 1: saved `operand` at offset `value` */
     PE_C_MACHINE_FRAME = 7,         /* UWOP_PUSH_MACHFRAME: the processor's frame; `operand` is 1 with an error code */
     PE_C_NOOP = 8                   /* opcode 7 of version 2: nothing to undo */
 };

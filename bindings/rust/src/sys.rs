@@ -123,13 +123,13 @@ Key, 40 {
     age: u32,
     /// 0.
     spare: u32,
-    /// The PDB file's name, up to the end of the record: it ends at the first zero.
+    /// The rest of the record: the PDB file's name, as a rule with a zero after it.
     name: Range,
 });
 record!(
 /// A CodeView record of PDB 2.0 ("NB10"). See [`Pdb20`](crate::Pdb20).
 Pdb20, 32 {
-    /// The PDB file's name, up to the end of the record: it ends at the first zero.
+    /// The rest of the record: the PDB file's name, as a rule with a zero after it.
     name: Range,
     /// 0 where the symbols are in a file of their own.
     offset: u32,
