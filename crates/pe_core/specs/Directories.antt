@@ -5,22 +5,23 @@ use Rattle.pe_core.specs.Rows.{rows}
 use Rattle.pe_core.specs.declared.data_directories.DataDirectory.{DataDirectory}
 use Rattle.pe_core.specs.declared.data_directories.DataDirectories.{DataDirectories}
 
--- how many rows are kept of so many: there are sixteen directories
+-- the number of directories that are kept: the count, and at most 16
 abbrev pub kept : ℕ → ℕ
 kept count = min count 16
 
--- the rows that are kept of so many from place p on
+-- the directories that are kept, from offset p on
 abbrev pub directories : List ℕ → ℕ → ℕ → List DataDirectory
 directories b p count = rows (data_directory b) 8 p (kept count)
 
--- the rows that these directories keep
+-- the entries that these directories keep
 abbrev pub kept_rows : DataDirectories → List DataDirectory
 kept_rows d = take d.count d.rows
 
+-- a directory of two zeros, which is absent
 abbrev pub absent_directory : DataDirectory
 absent_directory = record { virtual_address = 0; size = 0 }
 
--- the directory of this number, if its row is kept and is not all zero
+-- the directory with this index, if its entry is kept and is not all zero
 abbrev pub present : List DataDirectory → ℕ → Option DataDirectory
 present rows number =
     let row = slice_index_or rows number absent_directory in

@@ -1,8 +1,8 @@
--- Lists of results as one result.
+-- A list of results as one result.
 use Rattle.std.specs.Prelude.{List, [], ◌∷◌, ◌++◌, Option, Some, None, Result, Ok, Err}
 use Rattle.pe_core.specs.Refusals.{Refusal}
 
--- these values and those of the rest, unless the rest is refused
+-- these values and those of the rest, or the rest's refusal
 abbrev pub with_rest : {X : Type 0} → List X → Result (List X) Refusal → Result (List X) Refusal
 with_rest xs (Ok ys) = Ok (xs ++ ys)
 with_rest xs (Err e) = Err e
@@ -13,7 +13,7 @@ all_or_refusal [] = Ok []
 all_or_refusal (Ok x ∷ rest) = with_rest (x ∷ []) (all_or_refusal rest)
 all_or_refusal (Err e ∷ rest) = Err e
 
--- the values in front of the first that is none, or the first refusal in front of it
+-- the values before the first `None`, or the first refusal if it comes earlier
 abbrev pub up_to_none : {X : Type 0} → List (Result (Option X) Refusal) → Result (List X) Refusal
 up_to_none [] = Ok []
 up_to_none (Ok None ∷ rest) = Ok []

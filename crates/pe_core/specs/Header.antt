@@ -1,5 +1,6 @@
--- The headers of an image: the tests in their order, and the value if none fails.
--- (PE format: MS-DOS stub, signature, COFF file header, optional header; the order of refusals is this project's profile.)
+-- The headers of an image: the tests in their order, and the value if all pass.
+-- (PE format: MS-DOS stub, signature, COFF file header, optional header. The order of errors is this project's
+-- profile.)
 use Rattle.std.specs.Prelude.{ℕ, ◌+◌, ◌*◌, ◌==◌, ◌||◌, List, [], ◌∷◌, ◌++◌, Bool, Option, Some, None, Result, nat_le, slice_range, if◌then◌else◌}
 use Rattle.pe_core.specs.Bytes.{le, holds}
 use Rattle.pe_core.specs.Directories.{kept, kept_rows, directories}
@@ -15,13 +16,13 @@ use Rattle.pe_core.specs.declared.optional_header.WindowsFields.{WindowsFields}
 use Rattle.pe_core.specs.declared.optional_header.OptionalHeader.{OptionalHeader}
 use Rattle.pe_core.specs.declared.options.ParseMode.{ParseMode}
 
--- an optional header: its fields and the directories that it keeps
+-- what is seen of an optional header: its fields, and the directories that it keeps
 pub record OptionalHeaderView : Type 0 where
   pub standard_fields : StandardFields
   pub windows_fields : WindowsFields
   pub data_directories : List DataDirectory
 
--- a header, its stub as bytes
+-- what is seen of all headers, with the stub as bytes
 pub record HeaderView : Type 0 where
   pub dos_header : DosHeader
   pub dos_stub : List ℕ
@@ -29,26 +30,30 @@ pub record HeaderView : Type 0 where
   pub coff_header : CoffHeader
   pub optional_header : Option OptionalHeaderView
 
+-- what is seen of `OptionalHeader`
 abbrev pub optional_header_view : OptionalHeader → OptionalHeaderView
 optional_header_view h = record { standard_fields = h.standard_fields; windows_fields = h.windows_fields; data_directories = kept_rows h.data_directories }
 
+-- the same, if there is one
 abbrev pub optional_view : Option OptionalHeader → Option OptionalHeaderView
 optional_view None = None
 optional_view (Some h) = Some (optional_header_view h)
 
+-- what is seen of `Header`
 abbrev pub header_view : Header → HeaderView
 header_view h = record { dos_header = h.dos_header; dos_stub = h.dos_stub.now; signature = h.signature; coff_header = h.coff_header; optional_header = optional_view h.optional_header }
 
--- ---- the optional header at p
+-- ---- the optional header at offset p
 
--- its magic is that of PE32+
+-- its magic number is that of PE32+
 abbrev pub is_wide : List ℕ → ℕ → Bool
 is_wide b p = le b p 2 == 0x20B
 
--- where the directories begin in it
+-- the offset of the data directories in the optional header
 abbrev pub directories_place : Bool → ℕ
 directories_place wide = if wide then 112 else 96
 
+-- the optional header at offset p: its fields by its magic number, then the directories that are kept
 unfoldable pub optional_header : List ℕ → ℕ → OptionalHeaderView
 optional_header b p =
     let windows = if is_wide b p then windows64 b (p + 24) else windows32 b (p + 28) in
@@ -58,6 +63,7 @@ optional_header b p =
       data_directories = directories b (p + directories_place (is_wide b p)) windows.number_of_rva_and_sizes;
     }
 
+-- its tests: magic number, fields, directories
 unfoldable pub optional_header_tests : List ℕ → ℕ → List (Bool × Refusal)
 optional_header_tests b p =
     (holds b p 2, Short)
@@ -66,13 +72,13 @@ optional_header_tests b p =
     ∷ (holds b (p + directories_place (is_wide b p)) (8 * kept (optional_header b p).windows_fields.number_of_rva_and_sizes), Short)
     ∷ []
 
--- the optional header at p, or the first refusal
+-- the optional header at offset p, or the first refusal
 abbrev pub optional_header_at : List ℕ → ℕ → Result OptionalHeaderView Refusal
 optional_header_at b p = outcome (optional_header_tests b p) (optional_header b p)
 
 -- ---- all headers
 
--- the headers of these bytes; the stub is what stands between the DOS header and the PE signature
+-- the headers of these bytes; the stub is what is between the DOS header and the PE signature
 unfoldable pub header : List ℕ → HeaderView
 header b =
     let dos = dos_header b 0 in
@@ -86,6 +92,7 @@ header b =
       optional_header = if coff.size_of_optional_header == 0 then None else Some (optional_header b (p + 24));
     }
 
+-- their tests: DOS header, PE signature, COFF header, optional header unless there is none
 unfoldable pub header_tests : List ℕ → ParseMode → List (Bool × Refusal)
 header_tests b mode =
     let dos = dos_header b 0 in

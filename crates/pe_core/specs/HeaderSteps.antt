@@ -1,4 +1,4 @@
--- The headers read from left to right, as the parser reads them. `proofs/Steps` proves that this is `header_at`.
+-- The headers in the order in which the parser reads them. `proofs/Steps` proves that this is `header_at`.
 use Rattle.std.specs.Prelude.{ℕ, ◌+◌, ◌==◌, ◌||◌, Bool, Some, None, List, Result, Ok, Err, nat_le, slice_range, if◌then◌else◌}
 use Rattle.pe_core.specs.Bytes.{le, record_at}
 use Rattle.pe_core.specs.Options.{is_permissive}
@@ -7,10 +7,11 @@ use Rattle.pe_core.specs.Records.{dos_header, coff_header}
 use Rattle.pe_core.specs.Header.{HeaderView, optional_header_at}
 use Rattle.pe_core.specs.declared.options.ParseMode.{ParseMode}
 
--- goes on only if the test holds
+-- goes on only if the test passes
 abbrev pub demand : Bool → Refusal → Result (Unit {0}) Refusal
 demand test refusal = if test then Ok tt else Err refusal
 
+-- the headers of these bytes, each read and tested before the next is read
 unfoldable pub header_in_steps : List ℕ → ParseMode → Result HeaderView Refusal
 header_in_steps b mode = do
   dos ← record_at b 0 64 (dos_header b 0)

@@ -1,4 +1,4 @@
--- How the readers of imports go on: private contracts alone cite these.
+-- How the imports are read, step by step. Only private contracts cite this.
 use Rattle.std.specs.Prelude.{◌≡◌, ℕ, ◌+◌, ◌*◌, ◌-◌, ◌%◌, ◌^◌, ◌<◌, ◌≤◌, true, false, min, List, length, Option, slice_index_or, if◌then◌else◌}
 use Rattle.std.specs.Borrow.{Bor}
 use Rattle.std.specs.Option.{option_and_then, option_map}
@@ -8,23 +8,25 @@ use Rattle.pe_core.specs.Imports.{EntryView, is_last, is_ordinal}
 use Rattle.pe_core.specs.SectionIndex.{offset_or_end}
 use Rattle.pe_core.specs.Text.{text_at}
 
--- so many records stand from p on in front of the one that ends the directory, or of the end of the bytes
+-- exactly `count` whole records stand from offset p on, before the one that ends the directory or before the end of the
+-- bytes
 pub record StandInFront (b : List ℕ) (p count : ℕ) : Type 0 where
   pub there : (k : ℕ) → k < count → p + 20 * k + 20 ≤ length b
   pub go_on : (k : ℕ) → k < count → is_last (import_entry b (p + 20 * k)) ≡ false
   pub last : p + 20 * count + 20 ≤ length b → is_last (import_entry b (p + 20 * count)) ≡ true
 
--- these are the names of the first records from p on
+-- these are the names of the first records from offset p on
 pub record AreNames (place : ℕ → Option ℕ) (b : List ℕ) (p : ℕ) (names : List (Option (Bor (List ℕ)))) : Type 0 where
   pub are : (i : ℕ) (d : Option (Bor (List ℕ))) → i < length names → option_map (λ s. s.now) (slice_index_or names i d) ≡ option_and_then (text_at b) (place (import_entry b (p + 20 * i)).name_rva)
 
+-- what is seen of a lookup entry
 abbrev pub entry_view : Entry → EntryView
 entry_view e = record { dll = e.dll.now; entry = e.entry; rva = e.rva }
 
--- where the name of an entry stands, behind its hint; where no byte stands if it has none
+-- the offset of an entry's name, after its hint; for an ordinal an offset at which no byte is
 abbrev pub name_place : (ℕ → Option ℕ) → ℕ → EntryView → ℕ
 name_place place w e = if is_ordinal w e then 2 ^ 64 - 1 else min (offset_or_end (place (e.entry % 2 ^ 31)) + 2) (2 ^ 64 - 1)
 
--- these are the texts at those places
+-- these are the texts at the offsets of the entries' names
 pub record AreEntryNames (place : ℕ → Option ℕ) (w : ℕ) (b : List ℕ) (entries : List Entry) (names : List (Option (Bor (List ℕ)))) : Type 0 where
   pub are : (i : ℕ) (d : Option (Bor (List ℕ))) (e : Entry) → i < length names → option_map (λ s. s.now) (slice_index_or names i d) ≡ text_at b (name_place place w (entry_view (slice_index_or entries i e)))

@@ -1,4 +1,4 @@
--- Imports: the import directory, and the entries of the lists that its records lead to. (PE format: the .idata section.)
+-- Imports: the import directory, and the lookup entries of its records. (PE format: the .idata section.)
 use Rattle.std.specs.Prelude.{ℕ, suc, ◌+◌, ◌-◌, ◌*◌, ◌/◌, ◌%◌, ◌^◌, ◌==◌, ◌||◌, Bool, List, [], map, flat_map, length, nat_le, Option, Some, None, Result, Ok, Err, if◌then◌else◌}
 use Rattle.std.specs.Cmp.Lexicographic.{slice_cmp}
 use Rattle.std.specs.List.{All, Contains}
@@ -17,61 +17,64 @@ use Rattle.pe_core.specs.declared.import.ImportData.{ImportData}
 use Rattle.pe_core.specs.declared.import.ImportDirectoryEntry.{ImportDirectoryEntry}
 use Rattle.pe_core.specs.declared.import.SyntheticImportDirectoryEntry.{SyntheticImportDirectoryEntry}
 
--- a record of the import directory, the library's name and the entries of its list as bytes
+-- what is seen of a record of the import directory, with the DLL's name and the lookup entries as bytes
 pub record ImportRecordView : Type 0 where
   pub import_directory_entry : ImportDirectoryEntry
   pub name : List ℕ
   pub lookups : List ℕ
 
+-- what is seen of `SyntheticImportDirectoryEntry`
 abbrev pub import_record_view : SyntheticImportDirectoryEntry → ImportRecordView
 import_record_view r = record { import_directory_entry = r.import_directory_entry; name = r.name.now; lookups = r.lookups.now }
 
+-- what is seen of `ImportData`: its records
 abbrev pub import_data_view : {Z : Type 0} → ImportData Z → List ImportRecordView
 import_data_view d = map import_record_view d.import_data.items
 
--- an import, its names as bytes
+-- what is seen of an import, with its names as bytes
 pub record ImportView : Type 0 where
   pub name : Option (List ℕ)
   pub dll : List ℕ
   pub ordinal : ℕ
   pub rva : ℕ
 
+-- what is seen of `Import`
 abbrev pub import_view : Import → ImportView
 import_view i = record { name = option_map (λ s. s.now) i.name; dll = i.dll.now; ordinal = i.ordinal; rva = i.rva }
 
--- ---- the directory; `place` maps an address to its place in the file
+-- ---- the directory; `place` maps an RVA to its file offset
 
--- how many bytes an entry of a list has: by the width of the image
+-- the size of a lookup entry in bytes: 8 in PE32+, 4 in PE32
 abbrev pub entry_size : Bool → ℕ
 entry_size wide = if wide then 8 else 4
 
--- a name at p
+-- the name, or `ImportName` if there is none
 abbrev pub name_or_refusal : Option (List ℕ) → Result (List ℕ) Refusal
 name_or_refusal None = Err ImportName
 name_or_refusal (Some name) = Ok name
 
--- an entry of w bytes at p: none if it is zero, which ends the list
+-- a lookup entry of w bytes at offset p; a zero entry is `None`, and ends the entries
 abbrev pub lookup_at : ℕ → List ℕ → ℕ → Result (Option ℕ) Refusal
 lookup_at w b p = record_at b p w (if le b p w == 0 then None else Some (le b p w))
 
--- the entries from p on, up to a zero one; there are fewer than bytes
+-- the lookup entries from offset p on, up to a zero one; there are fewer of them than bytes
 unfoldable pub lookup_entries : ℕ → List ℕ → ℕ → Result (List ℕ) Refusal
 lookup_entries w b p = up_to_none (each (λ k. lookup_at w b (p + w * k)) (suc (length b)))
 
--- the bytes of the list at a place, if there is one
+-- the bytes of the lookup entries at an offset, and none if there is no offset
 abbrev pub lookups_at : ℕ → List ℕ → Option ℕ → Result (List ℕ) Refusal
 lookups_at w b None = Ok []
 lookups_at w b (Some p) = lookup_entries w b p >>= λ entries. Ok (range b p (w * length entries))
 
--- the address of the record's list: that of the lookup table, or else of the address table
+-- the RVA of the lookup entries: that of the lookup table, or if that is 0 of the address table
 abbrev pub lookups_rva : ImportDirectoryEntry → ℕ
 lookups_rva e = if e.lookup_table_rva == 0 then e.address_table_rva else e.lookup_table_rva
 
--- a record ends the directory
+-- the record ends the directory
 abbrev pub is_last : ImportDirectoryEntry → Bool
 is_last e = e.name_rva == 0 || e.address_table_rva == 0
 
--- a record: its name, then its list
+-- a record with its name, then its lookup entries
 unfoldable pub import_record : (ℕ → Option ℕ) → ℕ → List ℕ → ImportDirectoryEntry → Result (Option ImportRecordView) Refusal
 import_record place w b e = do
   p ← mapped (place e.name_rva)
@@ -79,19 +82,19 @@ import_record place w b e = do
   lookups ← lookups_at w b (place (lookups_rva e))
   Ok (Some (record { import_directory_entry = e; name = name; lookups = lookups }))
 
--- what stands at p: a record, or none at the one that ends the directory
+-- the record at offset p, or `None` if it ends the directory
 unfoldable pub import_record_at : (ℕ → Option ℕ) → ℕ → List ℕ → ℕ → Result (Option ImportRecordView) Refusal
 import_record_at place w b p = record_at b p 20 (import_entry b p) >>= λ e. if is_last e then Ok None else import_record place w b e
 
--- the records from p on, up to the one that ends the directory; there are fewer than bytes
+-- the records from offset p on, up to the one that ends the directory; there are fewer of them than bytes
 unfoldable pub import_records : (ℕ → Option ℕ) → ℕ → List ℕ → ℕ → Result (List ImportRecordView) Refusal
 import_records place w b p = up_to_none (each (λ i. import_record_at place w b (p + 20 * i)) (suc (length b)))
 
--- those of the directory at an address
+-- the records of the directory at an RVA
 abbrev pub import_data_at : (ℕ → Option ℕ) → ℕ → List ℕ → ℕ → Result (List ImportRecordView) Refusal
 import_data_at place w b rva = mapped (place rva) >>= import_records place w b
 
--- these are the names of the libraries, each once, in the order of their bytes
+-- these are the names of the DLLs, sorted by their bytes, each once
 pub record AreLibraries (names libraries : List (List ℕ)) : Type 0 where
   pub in_order : IsStrictlySortedBy (slice_cmp nat_cmp) libraries
   pub named : All (Contains names) libraries
@@ -99,32 +102,32 @@ pub record AreLibraries (names libraries : List (List ℕ)) : Type 0 where
 
 -- ---- the list
 
--- an entry, with the library's name and the address of the entry's slot
+-- a lookup entry, with the DLL's name and the RVA of its entry of the address table
 pub record EntryView : Type 0 where
   pub dll : List ℕ
   pub entry : ℕ
   pub rva : ℕ
 
--- entry k of a record
+-- lookup entry k of a record
 abbrev pub entry_at : ℕ → ImportRecordView → ℕ → EntryView
 entry_at w r k = record { dll = r.name; entry = le r.lookups (w * k) w; rva = r.import_directory_entry.address_table_rva + w * k }
 
--- the entries of all records, in their order
+-- the lookup entries of all records, in order
 unfoldable pub entries : ℕ → List ImportRecordView → List EntryView
 entries w records = flat_map (λ r. each (entry_at w r) (length r.lookups / w)) records
 
--- an import by its name: a hint of two bytes stands at the place, and behind it the name
+-- an import by name: a hint of 2 bytes is at offset p, and the name follows it
 abbrev pub named_import : List ℕ → EntryView → ℕ → Result ImportView Refusal
 named_import b e p = do
   hint ← record_at b p 2 (le b p 2)
   name ← name_or_refusal (text_at b (p + 2))
   Ok (record { name = Some name; dll = e.dll; ordinal = hint; rva = e.rva })
 
--- the highest bit of an entry says that it is an ordinal
+-- the highest bit of the entry is set: it is an ordinal
 abbrev pub is_ordinal : ℕ → EntryView → Bool
 is_ordinal w e = nat_le (2 ^ (8 * w - 1)) e.entry
 
--- what an entry imports: its low 16 bits are the ordinal, or its low 31 the address of a hint and a name
+-- the import of an entry: by the ordinal in its low 16 bits, or by the hint and name at the RVA in its low 31 bits
 unfoldable pub import_of : (ℕ → Option ℕ) → ℕ → List ℕ → EntryView → Result ImportView Refusal
 import_of place w b e =
     if is_ordinal w e

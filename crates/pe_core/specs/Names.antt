@@ -1,8 +1,9 @@
--- The name of each kind of refusal, for logs and bindings.
--- Its list of errors is written by tools/make_errors.
+-- The name of each error, for logs and bindings.
+-- The list of errors is written by tools/make_errors.
 use Rattle.std.specs.Prelude.{ℕ, List, codes}
 use Rattle.pe_core.specs.Refusals.{Refusal, Memory, Short, BadMagic, HeaderPointer, ImportName, StringTable, CertificateRevision, CertificateType, CertificateSize, CertificateTable, Unmapped, DebugBounds, DebugSize, DebugData, PogoSize, PogoName, ExceptionSize, ExceptionOffset, ExceptionBounds, FunctionIndex, FunctionLink, FunctionCycle, UnwindVersion, UnwindCode, Arm64Version, Arm64Stream, Arm64Cut, ResourceBounds, ResourceCycle, ResourceString, TeSize, NoOptionalHeader, WriteAlignment, WriteSymbols, WriteOverlap, WriteSection, WriteFit}
 
+-- the name of an error
 abbrev pub name_of : Refusal → List ℕ
 name_of Memory = codes "Memory"
 name_of Short = codes "Short"

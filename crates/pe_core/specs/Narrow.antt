@@ -1,8 +1,8 @@
--- What holds of the Windows fields of PE32, which have four bytes where PE32+ has eight.
+-- The fields of Windows in PE32: those of 8 bytes have 4.
 use Rattle.std.specs.Prelude.{◌<◌, ◌^◌}
 use Rattle.pe_core.specs.declared.optional_header.WindowsFields.{WindowsFields}
 
--- these fields fit four bytes
+-- these fields fit in 4 bytes
 pub record IsNarrow (w : WindowsFields) : Type 0 where
   pub image_base : w.image_base < 2 ^ 32
   pub stack_reserve : w.size_of_stack_reserve < 2 ^ 32

@@ -1,4 +1,5 @@
--- Records of fixed size, at a place of the bytes. (PE format: DOS header, COFF file header, optional header, section table.)
+-- Records of fixed size at offset p.
+-- (PE format: DOS header, COFF file header, optional header, section table, .edata section, .idata section.)
 use Rattle.std.specs.Prelude.{ℕ, ◌+◌, List}
 use Rattle.pe_core.specs.Bytes.{le, range}
 use Rattle.pe_core.specs.declared.data_directories.DataDirectory.{DataDirectory}
@@ -55,7 +56,7 @@ standard64 b p = record {
   base_of_data = 0;
 }
 
--- the Windows fields of PE32, 68 bytes
+-- the fields of Windows in PE32, 68 bytes
 unfoldable pub windows32 : List ℕ → ℕ → WindowsFields
 windows32 b p = record {
   image_base = le b p 4;
@@ -81,7 +82,7 @@ windows32 b p = record {
   number_of_rva_and_sizes = le b (p + 64) 4;
 }
 
--- the Windows fields of PE32+, 88 bytes
+-- the fields of Windows in PE32+, 88 bytes
 unfoldable pub windows64 : List ℕ → ℕ → WindowsFields
 windows64 b p = record {
   image_base = le b p 8;
@@ -129,7 +130,7 @@ section_table b p = record {
   characteristics = le b (p + 36) 4;
 }
 
--- the header of a terse image, 40 bytes (this project's profile)
+-- the header of a TE image, 40 bytes (this project's profile)
 unfoldable pub te_header : List ℕ → ℕ → TeHeader
 te_header b p = record {
   signature = le b p 2;
@@ -144,7 +145,7 @@ te_header b p = record {
   debug_dir = data_directory b (p + 32);
 }
 
--- an export directory, 40 bytes
+-- the export directory, 40 bytes
 unfoldable pub export_directory : List ℕ → ℕ → ExportDirectoryTable
 export_directory b p = record {
   characteristics = le b p 4;

@@ -1,5 +1,5 @@
--- What a refusal is about: its kind, without the numbers in it and without its text.
--- Its list of errors is written by tools/make_errors.
+-- What an error is, without its numbers and its text: its `Refusal`, also called its kind.
+-- The list of errors is written by tools/make_errors.
 use Rattle.std.specs.Prelude.{◌≡◌, List, [], ◌∷◌, Bool, Result, Ok, Err, if◌then◌else◌}
 use Rattle.std.specs.Result.{IsOk}
 use Rattle.pe_core.specs.declared.error.Error.{Error}
@@ -7,6 +7,7 @@ use Rattle.pe_core.specs.declared.error.Error.TheVariants as errors
 use Rattle.pe_core.specs.declared.error.Reason.{Reason}
 use Rattle.pe_core.specs.declared.error.Reason.TheVariants as reasons
 
+-- the kinds of errors
 pub data Refusal : Type 0 where
   Memory : Refusal
   Short : Refusal
@@ -46,6 +47,7 @@ pub data Refusal : Type 0 where
   WriteSection : Refusal
   WriteFit : Refusal
 
+-- the kind of a reason
 abbrev pub kind_of_reason : Reason → Refusal
 kind_of_reason (reasons.HeaderPointer pointer) = HeaderPointer
 kind_of_reason (reasons.ImportName rva) = ImportName
@@ -82,52 +84,53 @@ kind_of_reason (reasons.WriteOverlap first second) = WriteOverlap
 kind_of_reason (reasons.WriteSection index) = WriteSection
 kind_of_reason (reasons.WriteFit end length) = WriteFit
 
+-- the kind of an error
 abbrev pub kind_of : Error → Refusal
 kind_of (errors.Malformed reason) = kind_of_reason reason
 kind_of (errors.BadMagic magic) = BadMagic
 kind_of (errors.Short at needed) = Short
 kind_of (errors.Memory e) = Memory
 
--- a fact that is owed unless memory has run out
+-- P holds, unless the error is `Memory`
 abbrev pub UnlessMemory : Error → Type 0 → Type 0
 UnlessMemory (errors.Malformed reason) P = P
 UnlessMemory (errors.BadMagic magic) P = P
 UnlessMemory (errors.Short at needed) P = P
 UnlessMemory (errors.Memory e) P = Unit {0}
 
--- an answer with its value seen by view, and the kind of its refusal
+-- the result of a call: its value seen by view, or the kind of its error
 abbrev pub answer_by : {X Y : Type 0} → (X → Y) → Result X Error → Result Y Refusal
 answer_by view (Ok x) = Ok (view x)
 answer_by view (Err e) = Err (kind_of e)
 
--- a call that takes no memory gave this value, seen by view, or this kind of refusal
+-- a call that does not allocate returned the defined value, seen by view, or an error of the defined kind
 abbrev pub Gives : {X Y : Type 0} → (X → Y) → Result X Error → Result Y Refusal → Type 0
 Gives view (Ok x) defined = defined ≡ Ok (view x)
 Gives view (Err e) defined = defined ≡ Err (kind_of e)
 
--- the same of a call that takes memory: it may run out
+-- the same for a call that allocates, which may also return `Memory`
 abbrev pub GivesUnlessMemory : {X Y : Type 0} → (X → Y) → Result X Error → Result Y Refusal → Type 0
 GivesUnlessMemory view (Ok x) defined = defined ≡ Ok (view x)
 GivesUnlessMemory view (Err e) defined = UnlessMemory e (defined ≡ Err (kind_of e))
 
--- a fact that is owed if memory has run out
+-- P holds if the error is `Memory`
 abbrev pub IfMemory : Error → Type 0 → Type 0
 IfMemory (errors.Malformed reason) P = Unit {0}
 IfMemory (errors.BadMagic magic) P = Unit {0}
 IfMemory (errors.Short at needed) P = Unit {0}
 IfMemory (errors.Memory e) P = P
 
--- the same, and memory is asked for only once these tests have passed: where it runs out none of them fails
+-- the same, and memory is asked for only after these tests: if the call returns `Memory`, they have all passed
 abbrev pub GivesUnlessMemoryAfter : {X Y Z : Type 0} → Result Z Refusal → (X → Y) → Result X Error → Result Y Refusal → Type 0
 GivesUnlessMemoryAfter tested view (Ok x) defined = defined ≡ Ok (view x)
 GivesUnlessMemoryAfter tested view (Err e) defined = UnlessMemory e (defined ≡ Err (kind_of e)) × IfMemory e (IsOk tested)
 
--- the value, unless a test fails: then it is refused as the first test that fails
+-- the value if all tests pass, or the refusal of the first test that fails
 abbrev pub outcome : {Y : Type 0} → List (Bool × Refusal) → Y → Result Y Refusal
 outcome [] value = Ok value
 outcome (test ∷ tests) value = if test.0 then outcome tests value else Err test.1
 
--- one step after the other: the first refusal ends it
+-- two steps in turn; a refusal of the first is the result
 infixl 10 ◌>>=◌
 abbrev pub ◌>>=◌ : {A B : Type 0} → Result A Refusal → (A → Result B Refusal) → Result B Refusal
 (Ok x) >>= f = f x

@@ -1,4 +1,4 @@
--- Records of one width that stand one after the other.
+-- Tables: records of one width, one after the other.
 use Rattle.std.specs.Prelude.{◌≡◌, ℕ, zero, suc, ◌+◌, ◌*◌, ◌/◌, ◌%◌, ◌<◌, ◌==◌, ◌||◌, List, [], ◌∷◌, ◌++◌, length, map, drop, Option, Some, None, Result, Ok, Err, if◌then◌else◌}
 use Rattle.pe_core.specs.Bytes.{holds}
 use Rattle.pe_core.specs.Refusals.{Refusal, Short, kind_of, outcome}
@@ -9,11 +9,11 @@ unfoldable pub each : {X : Type 0} → (ℕ → X) → ℕ → List X
 each f zero = []
 each f (suc n) = each f n ++ f n ∷ []
 
--- n records of this width from place p on, read by `record_of`
+-- the n records of this width from offset p on, each read by `record_of`
 abbrev pub rows : {X : Type 0} → (ℕ → X) → ℕ → ℕ → ℕ → List X
 rows record_of width p n = each (λ i. record_of (p + width * i)) n
 
--- n records of this width from place p on, or `Short` where they are not all there: no records are no read
+-- the same, or `Short` if they are truncated; no records are no read, at any offset
 abbrev pub rows_at : {X : Type 0} → (List ℕ → ℕ → X) → ℕ → List ℕ → ℕ → ℕ → Result (List X) Refusal
 rows_at record_at width b p n = outcome ((n == 0 || holds b p (width * n), Short) ∷ []) (rows (record_at b) width p n)
 
@@ -21,12 +21,12 @@ rows_at record_at width b p n = outcome ((n == 0 || holds b p (width * n), Short
 abbrev pub whole_entries : {X : Type 0} → (List ℕ → ℕ → X) → ℕ → List ℕ → List X
 whole_entries entry_at width b = each (λ i. entry_at b (width * i)) (length b / width)
 
--- the whole entries, and one fault where a last one is cut
+-- the whole entries, then one `Short` if the last entry is truncated
 abbrev pub entry_items : {X : Type 0} → (List ℕ → ℕ → X) → ℕ → List ℕ → List (Result X Refusal)
 entry_items entry_at width b = map (λ x. Ok x) (whole_entries entry_at width b) ++ (if length b % width == 0 then [] else Err Short ∷ [])
 
--- what splitting an entry off the front of these bytes gives, seen by view, and what it leaves: the bytes that begin
--- with the entry, or one fault where it is cut
+-- splitting an entry off the front of b returns the bytes from its start on, seen by view, and leaves those after it;
+-- it returns one `Short` if the entry is truncated, and leaves none
 abbrev pub SplitsEntry : {X : Type 0} → (X → List ℕ) → ℕ → List ℕ → Option (Result X Error) → List ℕ → Type 0
 SplitsEntry view width b None left = (b ≡ []) × (left ≡ [])
 SplitsEntry view width b (Some (Ok entry)) left = (length b ≡ width + length left) × (view entry ≡ b) × (left ≡ drop width b)

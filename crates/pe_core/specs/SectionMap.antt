@@ -7,23 +7,25 @@ use Rattle.pe_core.specs.Sections.{raw_end}
 use Rattle.pe_core.specs.declared.options.ParseOptions.{ParseOptions}
 use Rattle.pe_core.specs.declared.section_table.SectionTable.{SectionTable}
 
--- n rounded down and up to a multiple of the unit
+-- n rounded down to a multiple of the unit
 abbrev pub rounded_down : ℕ → ℕ → ℕ
 rounded_down n unit = n / unit * unit
 
+-- n rounded up to a multiple of the unit
 abbrev pub rounded_up : ℕ → ℕ → ℕ
 rounded_up n unit = (n + (unit - 1)) / unit * unit
 
--- the file offset of the section's bytes when it is mapped
+-- the file offset of the section's data as mapped: its raw pointer rounded down to 512
 abbrev pub raw_start : SectionTable → ℕ
 raw_start s = rounded_down s.pointer_to_raw_data 512
 
--- how many RVAs the section covers
+-- the number of RVAs that the section covers
 unfoldable pub reach : ℕ → SectionTable → ℕ
 reach alignment s =
     let raw = min (rounded_up (raw_end s) alignment - raw_start s) (rounded_up s.size_of_raw_data 4096) in
     if s.virtual_size == 0 then raw else min raw (rounded_up s.virtual_size 4096)
 
+-- the section covers the RVA: it starts at or before it, and reaches past it
 abbrev pub covers : ℕ → ℕ → SectionTable → Bool
 covers alignment rva s = nat_le s.virtual_address rva && nat_lt rva (s.virtual_address + reach alignment s)
 
@@ -32,7 +34,7 @@ abbrev pub first : {X : Type 0} → List X → Option X
 first [] = None
 first (x ∷ xs) = Some x
 
--- the file offset of an RVA, by the first section that covers it; where RVAs are not resolved, they are file offsets
+-- the file offset of an RVA, by the first section that covers it; if RVAs are not resolved, they are file offsets
 unfoldable pub offset_of : Bool → ℕ → List SectionTable → ℕ → Option ℕ
 offset_of resolve alignment sections rva =
     if not resolve then Some rva
@@ -44,12 +46,13 @@ offset_of resolve alignment sections rva =
 abbrev pub section_map : ParseOptions → List SectionTable → ℕ → ℕ → Option ℕ
 section_map opts sections alignment = offset_of opts.resolve_rva alignment sections
 
--- what a section map is of
+-- what a section map is made of
 pub record SectionMapView : Type 0 where
   pub resolve : Bool
   pub alignment : ℕ
   pub sections : List SectionTable
 
+-- what the section map of an image is made of
 abbrev pub map_view : ParseOptions → List SectionTable → ℕ → SectionMapView
 map_view opts sections alignment = record { resolve = opts.resolve_rva; alignment = alignment; sections = sections }
 
@@ -57,7 +60,7 @@ map_view opts sections alignment = record { resolve = opts.resolve_rva; alignmen
 abbrev pub offset_in : SectionMapView → ℕ → Option ℕ
 offset_in m = offset_of m.resolve m.alignment m.sections
 
--- the file offset that an RVA has, or `Unmapped`
+-- the file offset, or `Unmapped` if there is none
 abbrev pub mapped : Option ℕ → Result ℕ Refusal
 mapped None = Err Unmapped
 mapped (Some offset) = Ok offset

@@ -9,11 +9,12 @@ use Rattle.pe_core.specs.Rows.{rows_at}
 use Rattle.pe_core.specs.Text.{text_of}
 use Rattle.pe_core.specs.declared.section_table.SectionTable.{SectionTable}
 
--- n section headers, one after the other from p on, or `Short`; none of them are none at any place
+-- n section headers from offset p on, or `Short` if they are truncated; with n = 0 they are none, at any offset
 abbrev pub sections_at : List ℕ → ℕ → ℕ → Result (List SectionTable) Refusal
 sections_at b p n = rows_at section_table 40 b p n
 
--- where the section headers of an image begin: behind the PE signature, the COFF header and so many bytes as that says
+-- the file offset of the section headers: after the PE signature, the COFF header, and as many bytes as it says of the
+-- optional header
 abbrev pub sections_place : HeaderView → ℕ
 sections_place h = h.dos_header.pe_pointer + 24 + h.coff_header.size_of_optional_header
 
@@ -21,19 +22,19 @@ sections_place h = h.dos_header.pe_pointer + 24 + h.coff_header.size_of_optional
 abbrev pub sections_of : List ℕ → HeaderView → Result (List SectionTable) Refusal
 sections_of b h = sections_at b (sections_place h) h.coff_header.number_of_sections
 
--- where a section's bytes end in the file
+-- the file offset at which the section's data ends
 abbrev pub raw_end : SectionTable → ℕ
 raw_end s = s.pointer_to_raw_data + s.size_of_raw_data
 
--- the section's name: its bytes up to the first zero, if they are text
+-- the section's name: its bytes up to the first zero, if they are UTF-8
 abbrev pub name_of : SectionTable → Option (List ℕ)
 name_of s = text_of (before_first (λ c. c == 0) s.name)
 
--- the section's bytes in the file, if they are there
+-- the section's data in the file, if they are all there
 abbrev pub data_of : List ℕ → SectionTable → Option (List ℕ)
 data_of b s = if holds b s.pointer_to_raw_data s.size_of_raw_data then Some (range b s.pointer_to_raw_data s.size_of_raw_data) else None
 
--- the byte at place q of the file is one of the section's
+-- the byte at file offset q is one of the section's data
 abbrev pub HasRawByte : SectionTable → ℕ → Type 0
 HasRawByte s q = (s.pointer_to_raw_data ≤ q) × (q < raw_end s)
 

@@ -1,5 +1,6 @@
--- The header of a terse image and its sections: what places counted before the image was stripped is reduced by the bytes that
--- were dropped. (This project's profile.)
+-- The header of a TE image and its sections. RVAs and file offsets that count the dropped headers are reduced by their
+-- size.
+-- (This project's profile.)
 use Rattle.std.specs.Prelude.{ℕ, ◌+◌, ◌-◌, ◌%◌, ◌^◌, ◌==◌, ◌&&◌, List, [], ◌∷◌, Bool, Result, nat_le, if◌then◌else◌}
 use Rattle.pe_core.specs.Bytes.{le, holds}
 use Rattle.pe_core.specs.Records.{section_table, te_header}
@@ -13,22 +14,23 @@ use Rattle.pe_core.specs.declared.section_table.SectionTable.{SectionTable}
 abbrev pub reduced : ℕ → ℕ → ℕ
 reduced offset number = (number + (2 ^ 32 - offset)) % 2 ^ 32
 
--- how many more bytes were stripped than the header itself has
+-- the number of dropped bytes beyond the 40 of the header itself
 abbrev pub rva_offset : TeHeader → ℕ
 rva_offset t = t.stripped_size - 40
 
--- the same, unless fewer bytes were stripped than the header has
+-- the same, or `TeSize` if fewer than 40 bytes were dropped
 abbrev pub rva_offset_of : TeHeader → Result ℕ Refusal
 rva_offset_of t = outcome ((nat_le 40 t.stripped_size, TeSize) ∷ []) (rva_offset t)
 
+-- a directory with its RVA reduced
 abbrev pub reduced_directory : ℕ → DataDirectory → DataDirectory
 reduced_directory offset d = record { virtual_address = reduced offset d.virtual_address; size = d.size }
 
--- a debug directory of two zeros is absent and stays so
+-- a debug directory of two zeros is absent, and stays so
 abbrev pub reduced_debug : ℕ → DataDirectory → DataDirectory
 reduced_debug offset d = if d.virtual_address == 0 && d.size == 0 then d else reduced_directory offset d
 
--- the header with its addresses reduced
+-- the header with its RVAs reduced
 unfoldable pub reduced_header : TeHeader → TeHeader
 reduced_header t = record {
   signature = t.signature;
@@ -43,6 +45,7 @@ reduced_header t = record {
   debug_dir = reduced_debug (rva_offset t) t.debug_dir;
 }
 
+-- the tests of the header: its size, its signature, the dropped bytes
 unfoldable pub te_tests : List ℕ → List (Bool × Refusal)
 te_tests b =
     (holds b 0 40, Short)
@@ -54,7 +57,7 @@ te_tests b =
 unfoldable pub te_header_of : List ℕ → Result TeHeader Refusal
 te_header_of b = outcome (te_tests b) (reduced_header (te_header b 0))
 
--- a section header with its address and its raw pointer reduced, and nothing else
+-- a section header with its RVA and its raw pointer reduced, and nothing else
 unfoldable pub reduced_section : ℕ → SectionTable → SectionTable
 reduced_section offset s = record {
   name = s.name;
@@ -69,6 +72,6 @@ reduced_section offset s = record {
   characteristics = s.characteristics;
 }
 
--- the section headers behind the header, each reduced
+-- the section headers that follow the header, each reduced
 unfoldable pub te_sections_of : List ℕ → TeHeader → Result (List SectionTable) Refusal
 te_sections_of b t = rva_offset_of t >>= λ offset. rows_at (λ c p. reduced_section offset (section_table c p)) 40 b 40 t.number_of_sections

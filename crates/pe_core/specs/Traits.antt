@@ -1,11 +1,11 @@
--- What equality and clones of a type mean.
+-- Equality and clones of a type.
 use Rattle.std.specs.Prelude.{◌≡◌, ◌↔◌, Bool, IsTrue}
 
--- two values are equal if they are the same
+-- two values are equal exactly if they are the same
 abbrev pub IsEquality : {X : Type 0} → (X → X → Bool) → Type 0
 IsEquality {X} eq = (x y : X) → IsTrue (eq x y) ↔ (x ≡ y)
 
--- it compares two values by what is seen of them
+-- two values are equal exactly if their views are the same
 abbrev pub ComparesBy : {X Y : Type 0} → (X → Y) → (X → X → Bool) → Type 0
 ComparesBy {X} view eq = (x y : X) → IsTrue (eq x y) ↔ (view x ≡ view y)
 

@@ -1,8 +1,8 @@
--- Bytes before the first zero, some at a time: private contracts alone cite these.
+-- The bytes before the first zero, 16 at a time. Only private contracts cite this.
 use Rattle.std.specs.Prelude.{◌≡◌, ℕ, ◌+◌, ◌≤◌, ◌<◌, ◌==◌, true, false, List, slice_index_or, if◌then◌else◌}
 use Rattle.std.specs.Int.{w64, trailing_zeros}
 
--- the number of the lowest bit that is set, or 16
+-- the index of the lowest bit that is set, or 16 if none is
 abbrev pub lowest_bit : ℕ → ℕ
 lowest_bit mask = if mask == 0 then 16 else trailing_zeros w64 mask
 
@@ -10,7 +10,7 @@ lowest_bit mask = if mask == 0 then 16 else trailing_zeros w64 mask
 abbrev pub HasNoZero : List ℕ → ℕ → ℕ → Type 0
 HasNoZero b i j = (k : ℕ) → i ≤ k → k < j → (slice_index_or b k 0 == 0) ≡ false
 
--- of the 16 bytes from i on so many come before the first zero
+-- `run` of the 16 bytes from i on come before the first zero
 pub record IsZeroRun (b : List ℕ) (i run : ℕ) : Type 0 where
   pub few : run ≤ 16
   pub passes : HasNoZero b i (i + run)

@@ -1,19 +1,19 @@
-//! Ranges of bytes.
+//! Ranges of a byte slice: an offset and a length.
 
 ghost use Rattle.std.specs.Prelude.{◌≡◌};
 ghost use Rattle.pe_core.specs.Places.{bytes_in, IsWithin};
 
-/// Some of the bytes that were handed in.
+/// A range of the bytes that were passed.
 #[derive(Clone, Copy, Debug, Default, PartialEq)]
 pub struct ByteRange {
-    /// Where they begin.
+    /// The offset of the first byte, from the start of those bytes.
     pub place: usize,
-    /// How many they are.
+    /// The length in bytes.
     pub length: usize,
 }
 
 impl ByteRange {
-    /// The bytes of a range that is known to be there.
+    /// The bytes of the range, which the caller knows to lie in `bytes`.
     pub fn of<'a>(self, bytes: &'a [u8]) -> &'a [u8]
         requires { IsWithin bytes.now self }
         ensures { result.now ≡ bytes_in bytes.entry.now self }

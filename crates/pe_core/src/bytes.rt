@@ -1,4 +1,5 @@
-//! Numbers and slices at a place of the bytes, read and written. All numbers are little-endian.
+//! Little-endian numbers and slices at an offset, read and written with bounds checks. Every offset (`place`) counts
+//! from the start of the slice that is passed.
 
 ghost use Rattle.std.specs.Prelude.{◌≡◌, ◌+◌, ◌<◌, ◌≤◌, length};
 ghost use Rattle.pe_core.specs.Bytes.{le, range, bytes_of, put, record_at, data_at, fit_at};
@@ -7,10 +8,12 @@ ghost use Rattle.pe_core.specs.Rows.{SplitsEntry};
 
 use crate::error::{Error, Reason, Result};
 
-/// Refuses as `Short` unless `n` bytes are there from the place on. No bytes are there up to the very end.
+/// Returns `Short` unless `n` bytes follow offset `place`. A read of 0 bytes succeeds at every offset up to
+/// `bytes.len()`.
 pub fn require_bytes(bytes: &[u8], place: usize, n: usize) -> Result<()>
     ensures { Gives (λ u. u) result (record_at bytes.now place n tt) }
 {
+    // Subtracted, not added: `place + n` may overflow.
     if n <= bytes.len() && place <= bytes.len() - n {
         Ok(())
     } else {
@@ -21,7 +24,7 @@ pub fn require_bytes(bytes: &[u8], place: usize, n: usize) -> Result<()>
     }
 }
 
-/// The `n` bytes from the place on.
+/// The `n` bytes from offset `place` on. Error: `Short`.
 pub fn slice_at(bytes: &[u8], place: usize, n: usize) -> Result<&[u8]>
     ensures { Gives (λ s. s.now) result (record_at bytes.now place n (range bytes.now place n)) }
 {
@@ -29,7 +32,7 @@ pub fn slice_at(bytes: &[u8], place: usize, n: usize) -> Result<&[u8]>
     Ok(&bytes[place..place + n])
 }
 
-/// The `n` bytes from the place on, or the refusal that is handed in where they are not all there.
+/// The `n` bytes from offset `place` on. Error: `Malformed` with the reason that is passed, if they are truncated.
 pub fn data_at<'a>(bytes: &'a [u8], place: usize, n: usize, refusal: Reason) -> Result<&'a [u8]>
     ensures { Gives (λ s. s.now) result (data_at bytes.entry.now place n refusal) }
 {
@@ -39,8 +42,10 @@ pub fn data_at<'a>(bytes: &'a [u8], place: usize, n: usize, refusal: Reason) -> 
     }
 }
 
-/// Takes an entry of this width off the front of the bytes that are left, and gives the bytes that begin with it.
-/// `None` where no bytes are left; `Short`, and then none are left, where the entry is cut.
+/// Splits an entry of `width` bytes off the front of `left`, and returns the bytes from the start of that entry on, so
+/// that the entry is at their offset 0.
+///
+/// `None` if `left` is empty. `Short` if fewer than `width` bytes are left; `left` is then empty.
 pub fn split_entry<'a>(left: &mut &'a [u8], width: usize) -> Option<Result<&'a [u8]>>
     requires { 0 < width }
     ensures { SplitsEntry (λ s. s.now) width left.old.now result left.new.now }
@@ -60,7 +65,7 @@ pub fn split_entry<'a>(left: &mut &'a [u8], width: usize) -> Option<Result<&'a [
     Some(Ok(bytes))
 }
 
-/// The byte at a place that is known to be there.
+/// The byte at offset `place`, which the caller knows to lie in `bytes`.
 #[tactic(auto, unfolding(crate::specs::Bytes::le))]
 pub fn number8(bytes: &[u8], place: usize) -> u8
     requires { place + 1 ≤ length bytes.now }
@@ -69,7 +74,7 @@ pub fn number8(bytes: &[u8], place: usize) -> u8
     u8::from_le_bytes([bytes[place]])
 }
 
-/// The number of two bytes at a place where they are known to be there.
+/// The `u16` at offset `place`, whose 2 bytes the caller knows to lie in `bytes`.
 #[tactic(auto, unfolding(crate::specs::Bytes::le))]
 pub fn number16(bytes: &[u8], place: usize) -> u16
     requires { place + 2 ≤ length bytes.now }
@@ -78,7 +83,7 @@ pub fn number16(bytes: &[u8], place: usize) -> u16
     u16::from_le_bytes([bytes[place], bytes[place + 1]])
 }
 
-/// The number of four bytes at a place where they are known to be there.
+/// The `u32` at offset `place`, whose 4 bytes the caller knows to lie in `bytes`.
 #[tactic(auto, unfolding(crate::specs::Bytes::le))]
 pub fn number32(bytes: &[u8], place: usize) -> u32
     requires { place + 4 ≤ length bytes.now }
@@ -92,7 +97,7 @@ pub fn number32(bytes: &[u8], place: usize) -> u32
     ])
 }
 
-/// The number of eight bytes at a place where they are known to be there.
+/// The `u64` at offset `place`, whose 8 bytes the caller knows to lie in `bytes`.
 #[tactic(auto, unfolding(crate::specs::Bytes::le))]
 pub fn number64(bytes: &[u8], place: usize) -> u64
     requires { place + 8 ≤ length bytes.now }
@@ -110,7 +115,7 @@ pub fn number64(bytes: &[u8], place: usize) -> u64
     ])
 }
 
-/// The byte at the place.
+/// The byte at offset `place`. Error: `Short`.
 pub fn u8_at(bytes: &[u8], place: usize) -> Result<u8>
     ensures { Gives (λ n. n) result (record_at bytes.now place 1 (le bytes.now place 1)) }
 {
@@ -118,7 +123,7 @@ pub fn u8_at(bytes: &[u8], place: usize) -> Result<u8>
     Ok(number8(bytes, place))
 }
 
-/// The number of two bytes at the place.
+/// The `u16` at offset `place`. Error: `Short`.
 pub fn u16_at(bytes: &[u8], place: usize) -> Result<u16>
     ensures { Gives (λ n. n) result (record_at bytes.now place 2 (le bytes.now place 2)) }
 {
@@ -126,7 +131,7 @@ pub fn u16_at(bytes: &[u8], place: usize) -> Result<u16>
     Ok(number16(bytes, place))
 }
 
-/// The number of four bytes at the place.
+/// The `u32` at offset `place`. Error: `Short`.
 pub fn u32_at(bytes: &[u8], place: usize) -> Result<u32>
     ensures { Gives (λ n. n) result (record_at bytes.now place 4 (le bytes.now place 4)) }
 {
@@ -134,7 +139,7 @@ pub fn u32_at(bytes: &[u8], place: usize) -> Result<u32>
     Ok(number32(bytes, place))
 }
 
-/// The number of eight bytes at the place.
+/// The `u64` at offset `place`. Error: `Short`.
 pub fn u64_at(bytes: &[u8], place: usize) -> Result<u64>
     ensures { Gives (λ n. n) result (record_at bytes.now place 8 (le bytes.now place 8)) }
 {
@@ -142,10 +147,11 @@ pub fn u64_at(bytes: &[u8], place: usize) -> Result<u64>
     Ok(number64(bytes, place))
 }
 
-/// Refuses as `WriteFit` unless `n` bytes can be written from the place on.
+/// Returns `WriteFit` unless `buffer` has `n` bytes from offset `place` on.
 pub fn require_room(buffer: &[u8], place: usize, n: usize) -> Result<()>
     ensures { Gives (λ u. u) result (fit_at buffer.now place n) }
 {
+    // Subtracted, not added: `place + n` may overflow.
     if n <= buffer.len() && place <= buffer.len() - n {
         Ok(())
     } else {
@@ -156,7 +162,7 @@ pub fn require_room(buffer: &[u8], place: usize, n: usize) -> Result<()>
     }
 }
 
-/// Puts the piece in place of the bytes from the place on, or refuses as `WriteFit` and changes nothing.
+/// Writes `piece` at offset `place`. Error: `WriteFit`; `buffer` is then unchanged.
 #[tactic(auto, unfolding(crate::specs::Bytes::splice))]
 pub fn put_slice(buffer: &mut [u8], place: usize, piece: &[u8]) -> Result<()>
     ensures fit { Gives (λ u. u) result (fit_at buffer.old place (length piece.now)) }
@@ -167,7 +173,7 @@ pub fn put_slice(buffer: &mut [u8], place: usize, piece: &[u8]) -> Result<()>
     Ok(())
 }
 
-/// Puts the byte at the place, or refuses as `WriteFit` and changes nothing.
+/// Writes a byte at offset `place`. Error: `WriteFit`; `buffer` is then unchanged.
 #[tactic(auto, unfolding(crate::specs::Bytes::bytes_of))]
 pub fn put_u8(buffer: &mut [u8], place: usize, n: u8) -> Result<()>
     ensures fit { Gives (λ u. u) result (fit_at buffer.old place 1) }
@@ -176,7 +182,7 @@ pub fn put_u8(buffer: &mut [u8], place: usize, n: u8) -> Result<()>
     put_slice(buffer, place, &u8::to_le_bytes(n))
 }
 
-/// Puts the number's two bytes at the place, or refuses as `WriteFit` and changes nothing.
+/// Writes a `u16` at offset `place`. Error: `WriteFit`; `buffer` is then unchanged.
 #[tactic(auto, unfolding(crate::specs::Bytes::bytes_of))]
 pub fn put_u16(buffer: &mut [u8], place: usize, n: u16) -> Result<()>
     ensures fit { Gives (λ u. u) result (fit_at buffer.old place 2) }
@@ -185,7 +191,7 @@ pub fn put_u16(buffer: &mut [u8], place: usize, n: u16) -> Result<()>
     put_slice(buffer, place, &u16::to_le_bytes(n))
 }
 
-/// Puts the number's four bytes at the place, or refuses as `WriteFit` and changes nothing.
+/// Writes a `u32` at offset `place`. Error: `WriteFit`; `buffer` is then unchanged.
 #[tactic(auto, unfolding(crate::specs::Bytes::bytes_of))]
 pub fn put_u32(buffer: &mut [u8], place: usize, n: u32) -> Result<()>
     ensures fit { Gives (λ u. u) result (fit_at buffer.old place 4) }
@@ -194,7 +200,7 @@ pub fn put_u32(buffer: &mut [u8], place: usize, n: u32) -> Result<()>
     put_slice(buffer, place, &u32::to_le_bytes(n))
 }
 
-/// Puts the number's eight bytes at the place, or refuses as `WriteFit` and changes nothing.
+/// Writes a `u64` at offset `place`. Error: `WriteFit`; `buffer` is then unchanged.
 #[tactic(auto, unfolding(crate::specs::Bytes::bytes_of))]
 pub fn put_u64(buffer: &mut [u8], place: usize, n: u64) -> Result<()>
     ensures fit { Gives (λ u. u) result (fit_at buffer.old place 8) }

@@ -1,4 +1,5 @@
-//! A table of numbers that counts how often it is read.
+//! A table of `u32` fields that counts its reads. The lookup of functions in `pe_unwind` reads one, so its contract
+//! bounds how many entries it reads.
 
 ghost use Rattle.std.specs.Prelude.{◌≡◌, length};
 ghost use Rattle.pe_core.specs.CountedTable.{Counted, u32_of, triple_of, one_more, after_read};
@@ -6,8 +7,8 @@ ghost use Rattle.pe_core.specs.CountedTable.{Counted, u32_of, triple_of, one_mor
 use crate::bytes::{number32, require_bytes};
 use std::marker::Model;
 
-/// A table whose bytes are reached by its two reading calls alone, each of which counts. It can't be cloned, so the
-/// count of a table tells all its reads.
+/// A table whose bytes are read by `u32_at` and `triple_at` alone, each of which counts. It can't be cloned, so its
+/// count includes every read.
 #[derive(Drop)]
 pub struct CountedTable<'a> {
     bytes: &'a [u8],
@@ -20,7 +21,7 @@ impl<'a> Model for CountedTable<'a> {
     ghost view = { λ t. record { content = t.bytes.now; count = t.reads } };
 }
 
-/// One more read, up to the greatest count.
+/// Counts one read, up to `u64::MAX`.
 fn count_one(reads: &mut u64)
     ensures { reads.new ≡ one_more reads.old }
 {
@@ -28,28 +29,28 @@ fn count_one(reads: &mut u64)
 }
 
 impl<'a> CountedTable<'a> {
-    /// A table of these bytes, with no reads so far.
+    /// A table of these bytes, with a count of 0.
     pub fn new(bytes: &'a [u8]) -> Self
         ensures { result ≡ record { content = bytes.entry.now; count = 0 } }
     {
         CountedTable { bytes, reads: 0 }
     }
 
-    /// How many bytes the table has.
+    /// The length of the table in bytes.
     pub fn len(&self) -> usize
         ensures { result ≡ length self.now.content }
     {
         self.bytes.len()
     }
 
-    /// How many reads there were. The count stays at the greatest `u64`.
+    /// The number of reads so far. It stays at `u64::MAX`.
     pub fn reads(&self) -> u64
         ensures { result ≡ self.now.count }
     {
         self.reads
     }
 
-    /// The number of four bytes at the place, if they are there. One read, whether they are or not.
+    /// The `u32` at offset `place` of the table, or `None` if it is truncated. Counts one read in either case.
     pub fn u32_at(&mut self, place: usize) -> Option<u32>
         ensures value { result ≡ u32_of self.old.content place }
         ensures counts { self.new ≡ after_read self.old }
@@ -61,7 +62,8 @@ impl<'a> CountedTable<'a> {
         }
     }
 
-    /// The three numbers of four bytes at the place, if they are all there. One read, whether they are or not.
+    /// Three `u32`s, one after the other, at offset `place` of the table, or `None` if they are truncated. Counts one
+    /// read in either case.
     pub fn triple_at(&mut self, place: usize) -> Option<[u32; 3]>
         ensures value { result ≡ triple_of self.old.content place }
         ensures counts { self.new ≡ after_read self.old }

@@ -1,4 +1,7 @@
-//! The data directories of the optional header.
+//! The data directories: the last part of the optional header, where each entry has the RVA and the size of one table
+//! of the image
+//! ([layout](https://learn.microsoft.com/windows/win32/debug/pe-format#optional-header-data-directories-image-only)). A
+//! caller takes an entry from `DataDirectories` and passes it to the reader of its table.
 
 ghost use Rattle.std.specs.Prelude.{◌≡◌, ◌+◌, ◌*◌, ◌≤◌, length};
 ghost use Rattle.pe_core.specs.Refusals.{Gives};
@@ -8,9 +11,10 @@ use crate::bytes::{number32, require_bytes};
 use crate::error::Result;
 use std::fmt;
 
-/// How many directories a PE image has at most.
+/// The number of directories that a PE image has at most.
 pub const MOST_DIRECTORIES: usize = 16;
 
+// The indices of the directories, `IMAGE_DIRECTORY_ENTRY_*` of winnt.h. The last, 15, is reserved.
 const EXPORT_TABLE: usize = 0;
 
 const IMPORT_TABLE: usize = 1;
@@ -41,16 +45,17 @@ const DELAY_IMPORT_DESCRIPTOR: usize = 13;
 
 const CLR_RUNTIME_HEADER: usize = 14;
 
-/// Where a directory stands and how large it is.
+/// A data directory (`IMAGE_DATA_DIRECTORY`), 8 bytes: where a table is, and its size.
 #[repr(C)]
 #[derive(Clone, Copy, Debug, PartialEq)]
 pub struct DataDirectory {
-    /// Its relative virtual address.
+    /// The RVA of the table. For the certificate table it is a file offset.
     pub virtual_address: u32,
-    /// Its size in bytes.
+    /// The size of the table in bytes.
     pub size: u32,
 }
 
+/// An entry of two zeros: the image has no such table.
 const ABSENT: DataDirectory = DataDirectory {
     virtual_address: 0,
     size: 0,
@@ -59,7 +64,7 @@ const ABSENT: DataDirectory = DataDirectory {
 impl DataDirectory {
     ghost use Rattle.pe_core.specs.Records.{data_directory};
 
-    /// The directory at a place where its 8 bytes are known to be there.
+    /// The directory at offset `place`, whose 8 bytes the caller knows to lie in `bytes`.
     #[tactic(auto, unfolding(crate::specs::Records::data_directory))]
     pub(crate) fn at(bytes: &[u8], place: usize) -> DataDirectory
         requires { place + 8 ≤ length bytes.now }
@@ -71,7 +76,7 @@ impl DataDirectory {
         }
     }
 
-    /// The directory at the place, 8 bytes.
+    /// The directory at offset `place`, 8 bytes. Error: `Short`.
     pub fn parse(bytes: &[u8], place: usize) -> Result<DataDirectory>
         ensures { Gives (λ d. d) result (record_at bytes.now place 8 (data_directory bytes.now place)) }
     {
@@ -80,8 +85,8 @@ impl DataDirectory {
     }
 }
 
-/// The directories that an optional header keeps: the least of its count and 16. Rows that are not kept are seen by
-/// nothing, `==` and `Debug` included.
+/// The directories of an optional header: as many as it counts, and at most 16. No call sees the entries after them,
+/// `==` and `Debug` included.
 #[derive(Clone, Copy)]
 pub struct DataDirectories {
     rows: [DataDirectory; MOST_DIRECTORIES],
@@ -117,7 +122,8 @@ impl DataDirectories {
     ghost use Rattle.std.specs.Prelude.{min};
     ghost use Rattle.pe_core.specs.Directories.{directories, kept, kept_rows, present};
 
-    /// The directories at a place where they are known to be there, of so many that the header counts.
+    /// The directories at offset `place`, where the header counts `count` of them. The caller knows those that are kept
+    /// to lie in `bytes`.
     #[tactic(auto, using(std::proofs::lemmas::List::take_more_set), unfolding(crate::specs::Rows::each))]
     pub(crate) fn at(bytes: &[u8], place: usize, count: u32) -> DataDirectories
         requires { place + 8 * kept count ≤ length bytes.now }
@@ -131,14 +137,14 @@ impl DataDirectories {
         DataDirectories { rows, count }
     }
 
-    /// The rows that are kept, absent ones included.
+    /// The entries that are kept, absent ones included.
     pub fn rows(&self) -> &[DataDirectory]
         ensures { result.now ≡ kept_rows self.now }
     {
         &self.rows[..self.count]
     }
 
-    /// The directory of this number. `None` if it isn't kept or is all zero.
+    /// The directory with this index. `None` if it is not kept, or if its RVA and size are both 0.
     pub fn get(&self, number: usize) -> Option<DataDirectory>
         ensures { result ≡ present (kept_rows self.now) number }
     {
@@ -150,105 +156,106 @@ impl DataDirectories {
         }
     }
 
-    /// The export directory: the exported functions.
+    /// The export directory, index 0: the exported functions.
     pub fn get_export_table(&self) -> Option<DataDirectory>
         ensures { result ≡ present (kept_rows self.now) 0 }
     {
         self.get(EXPORT_TABLE)
     }
 
-    /// The import directory: the imported libraries.
+    /// The import directory, index 1: the imported DLLs and functions.
     pub fn get_import_table(&self) -> Option<DataDirectory>
         ensures { result ≡ present (kept_rows self.now) 1 }
     {
         self.get(IMPORT_TABLE)
     }
 
-    /// The resource directory: the resources.
+    /// The resource directory, index 2: the root of the resource tree.
     pub fn get_resource_table(&self) -> Option<DataDirectory>
         ensures { result ≡ present (kept_rows self.now) 2 }
     {
         self.get(RESOURCE_TABLE)
     }
 
-    /// The exception directory: the function table for unwinding.
+    /// The exception directory, index 3: the function table for unwinding.
     pub fn get_exception_table(&self) -> Option<DataDirectory>
         ensures { result ≡ present (kept_rows self.now) 3 }
     {
         self.get(EXCEPTION_TABLE)
     }
 
-    /// The certificate directory: the attribute certificates; its address is a place in the file.
+    /// The certificate directory, index 4: the attribute certificates. Its `virtual_address` is a file offset, not an
+    /// RVA.
     pub fn get_certificate_table(&self) -> Option<DataDirectory>
         ensures { result ≡ present (kept_rows self.now) 4 }
     {
         self.get(CERTIFICATE_TABLE)
     }
 
-    /// The base relocation directory: the base relocations.
+    /// The base relocation directory, index 5: the RVAs to change if the image is not loaded at its image base.
     pub fn get_base_relocation_table(&self) -> Option<DataDirectory>
         ensures { result ≡ present (kept_rows self.now) 5 }
     {
         self.get(BASE_RELOCATION_TABLE)
     }
 
-    /// The debug directory: the debug entries.
+    /// The debug directory, index 6: the debug entries.
     pub fn get_debug_table(&self) -> Option<DataDirectory>
         ensures { result ≡ present (kept_rows self.now) 6 }
     {
         self.get(DEBUG_TABLE)
     }
 
-    /// The architecture directory: data of the architecture.
+    /// The architecture directory, index 7: data of the architecture.
     pub fn get_architecture(&self) -> Option<DataDirectory>
         ensures { result ≡ present (kept_rows self.now) 7 }
     {
         self.get(ARCHITECTURE)
     }
 
-    /// The global pointer directory: the global pointer register's value.
+    /// The global pointer directory, index 8: the RVA of the value for the global pointer register.
     pub fn get_global_ptr(&self) -> Option<DataDirectory>
         ensures { result ≡ present (kept_rows self.now) 8 }
     {
         self.get(GLOBAL_PTR)
     }
 
-    /// The TLS directory: thread local storage.
+    /// The TLS directory, index 9: thread-local storage.
     pub fn get_tls_table(&self) -> Option<DataDirectory>
         ensures { result ≡ present (kept_rows self.now) 9 }
     {
         self.get(TLS_TABLE)
     }
 
-    /// The load config directory: the load configuration.
+    /// The load config directory, index 10: the load configuration.
     pub fn get_load_config_table(&self) -> Option<DataDirectory>
         ensures { result ≡ present (kept_rows self.now) 10 }
     {
         self.get(LOAD_CONFIG_TABLE)
     }
 
-    /// The bound import directory: the bound imports.
+    /// The bound import directory, index 11: the bound imports.
     pub fn get_bound_import_table(&self) -> Option<DataDirectory>
         ensures { result ≡ present (kept_rows self.now) 11 }
     {
         self.get(BOUND_IMPORT_TABLE)
     }
 
-    /// The import address directory: the import addresses.
+    /// The import address directory, index 12: the import address table.
     pub fn get_import_address_table(&self) -> Option<DataDirectory>
         ensures { result ≡ present (kept_rows self.now) 12 }
     {
         self.get(IMPORT_ADDRESS_TABLE)
     }
 
-    /// The delay import directory: the imports that are delayed.
+    /// The delay import directory, index 13: the delay-loaded imports.
     pub fn get_delay_import_descriptor(&self) -> Option<DataDirectory>
         ensures { result ≡ present (kept_rows self.now) 13 }
     {
         self.get(DELAY_IMPORT_DESCRIPTOR)
     }
 
-    /// The CLR directory: the header of the common language runtime.
+    /// The CLR directory, index 14: the header of the .NET runtime.
     pub fn get_clr_runtime_header(&self) -> Option<DataDirectory>
         ensures { result ≡ present (kept_rows self.now) 14 }
     {

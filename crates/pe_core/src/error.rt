@@ -1,5 +1,6 @@
-//! Why bytes are refused. The variants of `Reason`, their names and their texts are written by `tools/make_errors` from
-//! `tools/errors.toml`, as are all other lists of errors.
+//! The errors of the readers and writers: an `Error` is `Short`, `BadMagic`, `Memory`, or `Malformed` with a `Reason`.
+//! The variants of `Reason`, their names and their texts are written by `tools/make_errors` from `tools/errors.toml`,
+//! as are all other lists of errors.
 
 ghost use Rattle.std.specs.Prelude.{◌≡◌};
 ghost use Rattle.pe_core.specs.declared.error.Error.TheVariants.{Memory};
@@ -7,7 +8,7 @@ ghost use Rattle.pe_core.specs.declared.error.Error.TheVariants.{Memory};
 use std::alloc::{AllocError, AllocFailed};
 use std::fmt;
 
-/// What is wrong with bytes that are long enough and carry the right magic.
+/// What is wrong with a value in the bytes, or with an argument.
 ///
 /// Offsets, RVAs and magic numbers are as the file has them; sizes and counts are in bytes or entries.
 #[derive(Clone, Copy, Debug, PartialEq)]
@@ -93,7 +94,7 @@ impl Reason {
     ghost use Rattle.pe_core.specs.Names.{name_of};
     ghost use Rattle.pe_core.specs.Refusals.{kind_of_reason};
 
-    /// The name of its kind, as `ExceptionSize`.
+    /// The name of the variant, for instance `ExceptionSize`, for logs and bindings.
     pub fn name(&self) -> &'static str
         ensures { result.now ≡ name_of (kind_of_reason self.now) }
     {
@@ -136,7 +137,7 @@ impl Reason {
     }
 }
 
-/// A number in a text, and its base.
+/// A number in an error text, with its base.
 #[derive(Clone, Copy)]
 enum Number {
     Hex(u64),
@@ -153,8 +154,8 @@ impl fmt::Display for Number {
 }
 
 impl Reason {
-    /// The text before the number of the reason, the number, and the text after it. `None` if the reason has no number, or
-    /// two. One `write!` writes them all: with a `write!` in each arm the proof takes three times as long.
+    /// The text before the number of the reason, the number, and the text after it. `None` if the reason has no number,
+    /// or two. One `write!` writes them all: with a `write!` in each arm the proof takes three times as long.
     fn text_around_number(&self) -> Option<(&'static str, Number, &'static str)> {
         Some(match self {
             Reason::HeaderPointer(pointer) => (
@@ -336,20 +337,20 @@ impl fmt::Display for Reason {
     }
 }
 
-/// Why a call refuses.
+/// Why a call failed.
 #[derive(Debug, Drop, thiserror::Error)]
 pub enum Error {
-    /// The bytes are there, and say what they may not say.
+    /// A value in the bytes, or an argument, is invalid; the reason says which.
     #[error("{0}")]
     Malformed(Reason),
-    /// The number where the magic number of a header is to stand.
+    /// Invalid magic number: the number that the file has instead.
     #[error("invalid magic number {0:#x}")]
     BadMagic(u64),
-    /// The place of a read, counted from the beginning of the bytes that were handed in, and the bytes that it needs.
-    /// For an iterator's item these are the bytes that the iterator has left.
+    /// Truncated: `needed` bytes do not follow offset `at`, which counts from the start of the bytes that were passed.
+    /// For an item of an iterator it counts from the start of the bytes that the iterator has left.
     #[error("truncated: {needed} bytes needed at offset {at:#x}")]
     Short { at: usize, needed: usize },
-    /// A request for memory was refused.
+    /// Out of memory: an allocation failed.
     #[error("out of memory")]
     Memory(AllocError),
 }
@@ -359,7 +360,8 @@ impl Error {
     ghost use Rattle.pe_core.specs.Names.{name_of};
     ghost use Rattle.pe_core.specs.Refusals.{kind_of};
 
-    /// The name of its kind, that of its reason if it has one: `Short`, `BadMagic`, `Memory`, or as `ExceptionSize`.
+    /// The name of the error, for logs and bindings: `Short`, `BadMagic`, `Memory`, or the name of its reason, for
+    /// instance `ExceptionSize`.
     pub fn name(&self) -> &'static str
         ensures { result.now ≡ name_of (kind_of self.now) }
     {
@@ -372,6 +374,7 @@ impl Error {
     }
 }
 
+// So that `?` returns an allocation failure as `Memory`.
 impl From<AllocError> for Error {
     ghost from_gives = { λ _ e. e ≡ Memory record {} };
 
@@ -388,5 +391,5 @@ impl<T: Drop> From<AllocFailed<T>> for Error {
     }
 }
 
-/// A value, or why there is none.
+/// The result of a call that may fail with `Error`.
 pub type Result<T> = std::result::Result<T, Error>;

@@ -1,4 +1,7 @@
-//! Exports: the export directory, and the list of what it names.
+//! Exports: the export directory with its three tables, and the list of the exports that have names
+//! ([layout](https://learn.microsoft.com/windows/win32/debug/pe-format#the-edata-section-image-only)). The name table
+//! and the ordinal table go in parallel: one has the RVA of a name, the other its index into the address table. A
+//! caller parses `ExportData` from data directory 0, and lists it by `Export::parse_with_opts`.
 
 ghost use Rattle.std.specs.Prelude.{◌≡◌, ◌*◌, ◌+◌, ◌/◌, ◌≤◌, length, map, IfOk, Ok};
 ghost use Rattle.std.specs.Option.{option_and_then, option_map};
@@ -25,35 +28,38 @@ use std::alloc::{AllocError, Allocator};
 /// The size of an export directory in bytes.
 const SIZE_OF_EXPORT_DIRECTORY: usize = 40;
 
-/// The export directory, 40 bytes.
+/// The export directory (`IMAGE_EXPORT_DIRECTORY`), 40 bytes.
 #[derive(Clone, Copy, Debug, PartialEq)]
 pub struct ExportDirectoryTable {
     /// Reserved.
     pub characteristics: u32,
-    /// In seconds since the beginning of 1970, or a hash.
+    /// Seconds since the start of 1970, or a hash.
     pub time_date_stamp: u32,
+    /// The major version number.
     pub major: u16,
+    /// The minor version number.
     pub minor: u16,
-    /// The relative virtual address of the image's name, or 0.
+    /// The RVA of the image's name, or 0.
     pub name_rva: u32,
-    /// The ordinal of the first entry of the address table.
+    /// The ordinal of the first entry of the address table. Add it to an index into that table for the ordinal of an
+    /// export.
     pub ordinal_base: u32,
-    /// How many entries of 4 bytes the address table has.
+    /// The number of entries of the address table, 4 bytes each.
     pub address_table_entries: u32,
-    /// How many entries the name table, of 4 bytes each, and the ordinal table, of 2, have.
+    /// The number of entries of the name table, 4 bytes each, and of the ordinal table, 2 bytes each.
     pub number_of_name_pointers: u32,
-    /// A relative virtual address.
+    /// The RVA of the address table.
     pub address_table_rva: u32,
-    /// A relative virtual address.
+    /// The RVA of the name table.
     pub name_pointer_rva: u32,
-    /// A relative virtual address.
+    /// The RVA of the ordinal table.
     pub ordinal_table_rva: u32,
 }
 
 impl ExportDirectoryTable {
     ghost use Rattle.pe_core.specs.Records.{export_directory};
 
-    /// The export directory at a place where its 40 bytes are known to be there.
+    /// The export directory at offset `place`, whose 40 bytes the caller knows to lie in `bytes`.
     #[tactic(auto, unfolding(crate::specs::Records::export_directory))]
     fn at(bytes: &[u8], place: usize) -> ExportDirectoryTable
         requires { place + 40 ≤ length bytes.now }
@@ -86,7 +92,7 @@ fn image_name<'a>(bytes: &'a [u8], rva: u32, sections: &SectionMap<'_>) -> Optio
     text_at(bytes, place)
 }
 
-/// The table of so many bytes at the address.
+/// The table of `size` bytes at this RVA. An empty table has no RVA to map.
 fn table_at<'a>(
     bytes: &'a [u8],
     rva: u32,
@@ -105,19 +111,21 @@ fn table_at<'a>(
 /// The export directory of an image and its three tables.
 #[derive(Debug, Drop)]
 pub struct ExportData<'a> {
+    /// The 40 bytes of the directory itself.
     pub directory: ExportDirectoryTable,
-    /// The image's name. `None` if its address is 0 or has no place, if no zero ends it, or if it is not UTF-8.
+    /// The image's name. `None` if its RVA is 0 or unmapped, or if it is not NUL-terminated or not UTF-8.
     pub name: Option<&'a str>,
-    /// The address table, 4 bytes an entry.
+    /// The address table: 4 bytes an entry, the RVA of an export.
     pub addresses: &'a [u8],
-    /// The name table, 4 bytes an entry.
+    /// The name table: 4 bytes an entry, the RVA of a name.
     pub names: &'a [u8],
-    /// The ordinal table, 2 bytes an entry.
+    /// The ordinal table: 2 bytes an entry, the index into the address table that belongs to the name of the same
+    /// index.
     pub ordinals: &'a [u8],
 }
 
 impl<'a> ExportData<'a> {
-    /// The export directory, with the default options.
+    /// The export directory, with the default options. Errors: those of `parse_with_opts`.
     pub fn parse(
         bytes: &'a [u8],
         directory: DataDirectory,
@@ -135,8 +143,10 @@ impl<'a> ExportData<'a> {
         )
     }
 
-    /// The export directory: 40 bytes at the directory's address, `Unmapped` or `Short`; then the tables of addresses,
-    /// names and ordinals, each `Unmapped` or `Short` unless it has no entries. The directory's size isn't used.
+    /// The export directory. The size of `directory` isn't used. Errors, in order:
+    /// - `Unmapped`, `Short`: the 40 bytes at the RVA of `directory`;
+    /// - `Unmapped`, `Short`: the address table, then the name table, then the ordinal table. A table without entries
+    ///   is empty, whatever its RVA.
     pub fn parse_with_opts(
         bytes: &'a [u8],
         directory: DataDirectory,
@@ -150,7 +160,7 @@ impl<'a> ExportData<'a> {
         ExportData::parse_with_map(bytes, directory, &sections)
     }
 
-    /// The export directory, as `parse_with_opts` reads it, by a section map.
+    /// The export directory, as `parse_with_opts` returns it, by a section map.
     #[tactic(auto, unfolding(crate::specs::Exports::export_data_at))]
     pub fn parse_with_map(
         bytes: &'a [u8],
@@ -183,14 +193,16 @@ impl<'a> ExportData<'a> {
 /// An export that has a name.
 #[derive(Debug, Drop)]
 pub struct Export<'a> {
+    /// The name, without its NUL.
     pub name: &'a str,
-    /// A relative virtual address.
+    /// The RVA of what is exported. Of a forwarder it is the RVA of the forwarder's text, which lies in the export
+    /// directory.
     pub rva: u32,
-    /// Its place in the file. `None` if no section maps it.
+    /// The file offset of `rva`. `None` if it is unmapped.
     pub offset: Option<usize>,
 }
 
-/// The ordinal of entry `i` of the name table.
+/// The index into the address table for entry `i` of the name table.
 fn ordinal_of(ordinals: &[u8], i: usize) -> Option<u16>
     ensures { result ≡ entry_of 2 ordinals.now i }
 {
@@ -201,14 +213,14 @@ fn ordinal_of(ordinals: &[u8], i: usize) -> Option<u16>
     }
 }
 
-/// The address that an ordinal stands for.
+/// The RVA at this index of the address table.
 fn address_of(addresses: &[u8], ordinal: u16) -> Option<u32>
     ensures { result ≡ entry_of 4 addresses.now ordinal }
 {
     u32_at(addresses, 4 * ordinal as usize).ok()
 }
 
-/// The export of entry `i` of the name table, whose name this is.
+/// The export of entry `i` of the name table, which has this name.
 fn named_export<'a>(
     name: Option<&'a str>,
     i: usize,
@@ -227,7 +239,7 @@ fn named_export<'a>(
     })
 }
 
-/// The exports of all these names.
+/// The exports of the entries of the name table, which have these names.
 fn named_exports<'a, A: Allocator>(
     alloc: A,
     names: &[Option<&'a str>],
@@ -245,7 +257,7 @@ fn named_exports<'a, A: Allocator>(
     Ok(exports)
 }
 
-/// The places of all names, by the name table.
+/// The offsets of the names, by the name table.
 #[tactic(auto, unfolding(crate::specs::Rows::each))]
 fn name_places<A: Allocator>(
     alloc: A,
@@ -263,9 +275,8 @@ fn name_places<A: Allocator>(
 }
 
 impl<'a> Export<'a> {
-    /// The exports that have names, in the order of the name table: of each entry the name at its address, and by its
-    /// ordinal the address of what is exported. Entries are left out whose name has no place, no end or is not UTF-8,
-    /// or whose ordinal is not in the address table. Refused for want of memory alone.
+    /// The exports that have names, in the order of the name table. An entry is skipped if its name is unmapped, not
+    /// NUL-terminated or not UTF-8, or if its index in the ordinal table is past the address table. Error: `Memory`.
     pub fn parse_with_opts<A: Allocator + Copy + Drop>(
         alloc: A,
         bytes: &'a [u8],
@@ -291,6 +302,7 @@ impl<'a> Export<'a> {
         ensures { GivesUnlessMemory (λ v. map export_view v.items) result (Ok (exports (offset_in sections.now) bytes.entry.now (export_data_view export_data.now))) }
     {
         let places = name_places(alloc, export_data.names, sections)?;
+        // All names at once: many of them may lie in one long text.
         let names = texts_at(alloc, bytes, &places)?;
         named_exports(alloc, &names, export_data, sections)
     }

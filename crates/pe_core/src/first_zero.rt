@@ -1,14 +1,14 @@
-//! The first zero of bytes, 16 bytes at a time.
+//! The first zero of a byte slice, 16 bytes at a time: the names in an image are NUL-terminated.
 
 ghost use Rattle.std.specs.Prelude.{◌≡◌, ◌+◌, ◌≤◌, ◌==◌, length, position};
 ghost use Rattle.pe_core.specs.ZeroRuns.{IsZeroRun, lowest_bit};
 
 use std::simd::prelude::*;
 
-/// How many bytes one load has.
+/// The number of bytes of one vector load.
 const LANES: usize = 16;
 
-/// The number of the lowest bit that is set, or if none is that of the lanes.
+/// The index of the lowest bit that is set, or 16 if none is.
 #[inline(always)]
 fn lowest_bit(mask: u64) -> usize
     ensures { result ≡ lowest_bit mask }
@@ -20,7 +20,7 @@ fn lowest_bit(mask: u64) -> usize
     }
 }
 
-/// How many of the 16 bytes from a place on come before the first zero: 16 if none is zero.
+/// The number of bytes before the first zero among the 16 bytes from `at` on: 16 if none is zero.
 #[inline(always)]
 fn zero_run(bytes: &[u8], at: usize) -> usize
     requires { at + 16 ≤ length bytes.now }
@@ -30,14 +30,14 @@ fn zero_run(bytes: &[u8], at: usize) -> usize
     lowest_bit(zeros.to_bitmask())
 }
 
-/// The same byte by byte.
+/// The index of the first zero, byte by byte, for the last few bytes.
 fn first_zero_of_few(bytes: &[u8]) -> Option<usize>
     ensures { result ≡ position (λ c. c == 0) bytes.now }
 {
     bytes.iter().position(|byte| *byte == 0)
 }
 
-/// Where the first zero is.
+/// The index of the first zero.
 #[tactic(auto, using(crate::proofs::FirstZero::zeros))]
 pub(crate) fn first_zero(bytes: &[u8]) -> Option<usize>
     ensures { result ≡ position (λ c. c == 0) bytes.now }

@@ -1,4 +1,7 @@
-//! The headers of an image: DOS, COFF and optional header, and the header of a terse image.
+//! The headers of an image: DOS header, PE signature, COFF header and optional header
+//! ([layout](https://learn.microsoft.com/windows/win32/debug/pe-format#ms-dos-stub-image-only)), and the header of a TE
+//! image. A caller parses a `Header` first; it says where the section headers are, and its data directories where the
+//! tables are.
 
 ghost use Rattle.std.specs.Prelude.{◌≡◌, ◌+◌, ◌≤◌, length};
 ghost use Rattle.pe_core.specs.Bytes.{record_at};
@@ -11,28 +14,28 @@ use crate::error::{Error, Reason, Result};
 use crate::optional_header::OptionalHeader;
 use crate::options::{ParseMode, ParseOptions};
 
-/// The signature of a DOS header, `MZ`.
+/// The signature of a DOS header: `MZ`.
 pub const DOS_MAGIC: u16 = 0x5A4D;
 
-/// The signature in front of a COFF header, `PE` and two zero bytes.
+/// The signature before a COFF header: `PE` and two zero bytes.
 pub const PE_MAGIC: u32 = 0x4550;
 
 /// The size of a DOS header in bytes.
 pub const SIZE_OF_DOS_HEADER: u32 = 64;
 
-/// The signature of a terse image, `VZ`.
+/// The signature of a TE image: `VZ`.
 pub const TE_MAGIC: u16 = 0x5A56;
 
-/// The size of the header of a terse image in bytes.
+/// The size of the header of a TE image in bytes.
 pub const SIZE_OF_TE_HEADER: u16 = 40;
 
-/// `IMAGE_FILE_MACHINE_AMD64`: x64, in the COFF header's `machine`.
+/// x64, in `machine` of the COFF header: `IMAGE_FILE_MACHINE_AMD64`.
 pub const COFF_MACHINE_X86_64: u16 = 0x8664;
 
-/// `IMAGE_FILE_MACHINE_ARM64`: ARM64, in the COFF header's `machine`.
+/// ARM64, in `machine` of the COFF header: `IMAGE_FILE_MACHINE_ARM64`.
 pub const COFF_MACHINE_ARM64: u16 = 0xAA64;
 
-/// The flag of a DLL in the COFF header's `characteristics`.
+/// The flag of a DLL in `characteristics` of the COFF header.
 pub const IMAGE_FILE_DLL: u16 = 0x2000;
 
 /// The size of the PE signature in bytes.
@@ -41,21 +44,21 @@ pub(crate) const SIZE_OF_PE_SIGNATURE: usize = 4;
 /// The size of a COFF header in bytes.
 pub(crate) const SIZE_OF_COFF_HEADER: usize = 20;
 
-/// The header that an image begins with, 64 bytes.
+/// The DOS header at the start of an image (`IMAGE_DOS_HEADER`), 64 bytes.
 #[derive(Clone, Copy, Debug, PartialEq)]
 pub struct DosHeader {
-    /// 0x5A4D, `MZ`.
+    /// `DOS_MAGIC`, if the header was read as part of a `Header`.
     pub signature: u16,
-    /// What DOS reads, which Windows doesn't.
+    /// The fields between, which DOS reads and Windows doesn't.
     pub rest: [u8; 58],
-    /// The place of the PE signature.
+    /// The file offset of the PE signature.
     pub pe_pointer: u32,
 }
 
 impl DosHeader {
     ghost use Rattle.pe_core.specs.Records.{dos_header};
 
-    /// The DOS header at the beginning of the bytes, whatever its signature.
+    /// The DOS header at the start of `bytes`, whatever its signature. Error: `Short`.
     #[tactic(auto, unfolding(crate::specs::Records::dos_header))]
     pub fn parse(bytes: &[u8]) -> Result<DosHeader>
         ensures { Gives (λ d. d) result (record_at bytes.now 0 64 (dos_header bytes.now 0)) }
@@ -71,27 +74,30 @@ impl DosHeader {
     }
 }
 
-/// The COFF file header, 20 bytes.
+/// The COFF file header (`IMAGE_FILE_HEADER`), 20 bytes.
 #[derive(Clone, Copy, Debug, PartialEq)]
 pub struct CoffHeader {
-    /// The processor, as `COFF_MACHINE_X86_64` or `COFF_MACHINE_ARM64`.
+    /// The processor, for instance `COFF_MACHINE_X86_64` or `COFF_MACHINE_ARM64`.
     pub machine: u16,
+    /// The number of section headers.
     pub number_of_sections: u16,
-    /// In seconds since the beginning of 1970, or a hash.
+    /// Seconds since the start of 1970, or a hash.
     pub time_date_stamp: u32,
-    /// The place of the COFF symbols, or 0.
+    /// The file offset of the COFF symbol table. 0 if there is none.
     pub pointer_to_symbol_table: u32,
-    /// How many rows of 18 bytes the COFF symbols have.
+    /// The number of entries of the COFF symbol table, 18 bytes each, auxiliary records included.
     pub number_of_symbol_table: u32,
-    /// In bytes. 0 says that there is no optional header.
+    /// The size of the optional header in bytes: it says where the section headers start. 0 if there is no optional
+    /// header.
     pub size_of_optional_header: u16,
+    /// Flags, `IMAGE_FILE_*` of winnt.h, for instance `IMAGE_FILE_DLL`.
     pub characteristics: u16,
 }
 
 impl CoffHeader {
     ghost use Rattle.pe_core.specs.Records.{coff_header};
 
-    /// The COFF header at the place.
+    /// The COFF header at offset `place`. Error: `Short`.
     #[tactic(auto, unfolding(crate::specs::Records::coff_header))]
     pub fn parse(bytes: &[u8], place: usize) -> Result<CoffHeader>
         ensures { Gives (λ c. c) result (record_at bytes.now place 20 (coff_header bytes.now place)) }
@@ -109,30 +115,33 @@ impl CoffHeader {
     }
 }
 
-/// The header of a terse image, which firmware uses: 40 bytes in place of all other headers.
+/// The header of a TE image, 40 bytes. Firmware drops all other headers and puts this one instead; the RVAs and file
+/// offsets in the file still count what was dropped. `TeHeader::parse` corrects those of the header.
 #[derive(Clone, Copy, Debug, PartialEq)]
 pub struct TeHeader {
-    /// 0x5A56, `VZ`.
+    /// `TE_MAGIC`.
     pub signature: u16,
-    /// The processor.
+    /// The processor, as in the COFF header.
     pub machine: u16,
+    /// The number of section headers.
     pub number_of_sections: u8,
+    /// The subsystem, as in the optional header.
     pub subsystem: u8,
-    /// How many bytes of headers were dropped.
+    /// The number of bytes of headers that were dropped.
     pub stripped_size: u16,
-    /// A relative virtual address.
+    /// The RVA of the entry point, reduced by `parse`.
     pub entry_point: u32,
-    /// A relative virtual address.
+    /// The RVA of the code, reduced by `parse`.
     pub base_of_code: u32,
-    /// The preferred address of the first byte in memory.
+    /// The preferred virtual address of the first byte of the image.
     pub image_base: u64,
-    /// The base relocations.
+    /// The base relocation directory, its RVA reduced by `parse`.
     pub reloc_dir: DataDirectory,
-    /// The debug entries.
+    /// The debug directory, its RVA reduced by `parse`. RVA and size are 0 if there is none.
     pub debug_dir: DataDirectory,
 }
 
-/// The number less the offset, modulo 2^32.
+/// `number` less `offset`, modulo 2^32.
 pub(crate) fn reduced(number: u32, offset: u32) -> u32
     ensures { result ≡ reduced offset number }
 {
@@ -142,7 +151,7 @@ pub(crate) fn reduced(number: u32, offset: u32) -> u32
 impl DataDirectory {
     ghost use Rattle.pe_core.specs.TerseHeader.{reduced_directory, reduced_debug};
 
-    /// The directory with its address reduced.
+    /// The directory with its RVA reduced.
     fn reduced(self, offset: u32) -> DataDirectory
         ensures { result ≡ reduced_directory offset self }
     {
@@ -152,7 +161,7 @@ impl DataDirectory {
         }
     }
 
-    /// The same, unless the directory is absent.
+    /// The directory with its RVA reduced, unless it is absent.
     fn reduced_if_present(self, offset: u32) -> DataDirectory
         ensures { result ≡ reduced_debug offset self }
     {
@@ -168,7 +177,7 @@ impl TeHeader {
     ghost use Rattle.pe_core.specs.Records.{te_header};
     ghost use Rattle.pe_core.specs.TerseHeader.{rva_offset, rva_offset_of, reduced_header, te_header_of};
 
-    /// The header at the beginning of the bytes, where its 40 bytes are known to be there.
+    /// The header at the start of `bytes`, whose 40 bytes the caller knows to be there.
     #[tactic(auto, unfolding(crate::specs::Records::te_header))]
     fn at_start(bytes: &[u8]) -> TeHeader
         requires { 40 ≤ length bytes.now }
@@ -188,8 +197,8 @@ impl TeHeader {
         }
     }
 
-    /// How many more bytes of headers were dropped than this header has, which is what addresses and raw pointers are
-    /// reduced by. `TeSize` if fewer than 40 were dropped.
+    /// The number of dropped bytes beyond the 40 of this header, which `parse` and `sections` subtract from RVAs and
+    /// raw pointers. Error: `TeSize` if fewer than 40 bytes were dropped.
     pub fn rva_offset(&self) -> Result<u32>
         ensures { Gives (λ n. n) result (rva_offset_of self.now) }
     {
@@ -199,7 +208,7 @@ impl TeHeader {
         Ok(u32::from(self.stripped_size - SIZE_OF_TE_HEADER))
     }
 
-    /// The header with its addresses reduced by the offset.
+    /// The header with its RVAs reduced by the offset.
     #[tactic(auto, unfolding(crate::specs::TerseHeader::reduced_header))]
     fn reduced(self, offset: u32) -> TeHeader
         requires { offset ≡ rva_offset self }
@@ -214,9 +223,11 @@ impl TeHeader {
         }
     }
 
-    /// The header at the beginning of the bytes. Its entry point, its base of code and the addresses of its two
-    /// directories are reduced by the bytes of headers that were dropped, beyond its own 40, modulo 2^32; a debug directory
-    /// of two zeros stays so. Refusals in this order: `Short`, `BadMagic`, `TeSize` if fewer than 40 bytes were dropped.
+    /// The header at the start of `bytes`. Its entry point, its base of code and the RVAs of its two directories are
+    /// reduced by `rva_offset`, modulo 2^32; a debug directory of two zeros stays so. Errors, in order:
+    /// - `Short`: fewer than 40 bytes;
+    /// - `BadMagic`: the signature is not `TE_MAGIC`;
+    /// - `TeSize`: fewer than 40 bytes were dropped.
     #[tactic(auto, unfolding(crate::specs::TerseHeader::te_header_of, crate::specs::TerseHeader::te_tests, crate::specs::Records::te_header))]
     pub fn parse(bytes: &[u8]) -> Result<TeHeader>
         ensures { Gives (λ t. t) result (te_header_of bytes.now) }
@@ -231,16 +242,18 @@ impl TeHeader {
     }
 }
 
-/// All headers of an image in front of its sections.
+/// All headers of an image before its section headers.
 #[derive(Clone, Copy, Debug, PartialEq)]
 pub struct Header<'a> {
+    /// The DOS header.
     pub dos_header: DosHeader,
-    /// The bytes from 64 up to the PE signature. None if the pointer is below 64.
+    /// The bytes from file offset 64 to the PE signature. Empty if the PE signature starts before 64.
     pub dos_stub: &'a [u8],
-    /// 0x4550.
+    /// `PE_MAGIC`.
     pub signature: u32,
+    /// The COFF header, which follows the PE signature.
     pub coff_header: CoffHeader,
-    /// `None` where the COFF header gives it no bytes.
+    /// `None` if the COFF header says that it has 0 bytes.
     pub optional_header: Option<OptionalHeader>,
 }
 
@@ -248,6 +261,7 @@ impl<'a> Header<'a> {
     ghost use Rattle.pe_core.specs.Header.{header_view, header_at};
     ghost use Rattle.pe_core.specs.HeaderSteps.{header_in_steps};
 
+    /// The headers, in the order in which they are read. The contract of `parse_with_opts` lists the tests instead.
     #[tactic(auto, unfolding(crate::specs::HeaderSteps::header_in_steps))]
     fn parse_in_steps(bytes: &'a [u8], opts: &ParseOptions) -> Result<Header<'a>>
         ensures { Gives header_view result (header_in_steps bytes.now opts.now.parse_mode) }
@@ -280,9 +294,12 @@ impl<'a> Header<'a> {
         })
     }
 
-    /// The headers of these bytes. Refusals in this order: `Short` without a DOS header, `BadMagic`,
-    /// `HeaderPointer` for a pointer below 64 in strict mode, `Short` and `BadMagic` at the PE signature, then those
-    /// of the COFF header and the optional header.
+    /// The headers of the image at the start of `bytes`. Errors, in order:
+    /// - `Short`: the DOS header's 64 bytes; `BadMagic`: its signature is not `DOS_MAGIC`;
+    /// - `HeaderPointer`: in strict mode, the PE signature's offset is below 64;
+    /// - `Short`: the PE signature; `BadMagic`: it is not `PE_MAGIC`;
+    /// - `Short`: the COFF header;
+    /// - those of `OptionalHeader::parse`, unless the COFF header says that there is no optional header.
     #[tactic(auto, using(crate::proofs::Steps::same))]
     pub fn parse_with_opts(bytes: &'a [u8], opts: &ParseOptions) -> Result<Header<'a>>
         ensures { Gives header_view result (header_at bytes.now opts.now.parse_mode) }

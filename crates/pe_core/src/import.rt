@@ -1,4 +1,6 @@
-//! The import directory: its records, what each names, and the libraries.
+//! The import directory: a table of records, one for each DLL, each with the DLL's name and a table of lookup entries
+//! ([layout](https://learn.microsoft.com/windows/win32/debug/pe-format#the-idata-section)). A caller parses
+//! `ImportData` from data directory 1, and passes it to `Import::parse_with_opts` for the list of imports.
 
 ghost use Rattle.std.specs.Prelude.{◌≡◌, ◌*◌, ◌+◌, ◌/◌, ◌≤◌, length, map, IfErr, IfOk, Some};
 ghost use Rattle.std.specs.Option.{option_and_then, option_map};
@@ -26,17 +28,18 @@ use std::alloc::{AllocError, Allocator, Global};
 /// The size of a record of the import directory in bytes.
 const SIZE_OF_IMPORT_ENTRY: usize = 20;
 
-/// A record of the import directory, 20 bytes.
+/// A record of the import directory (`IMAGE_IMPORT_DESCRIPTOR`), 20 bytes.
 #[derive(Clone, Copy, Debug, PartialEq)]
 pub struct ImportDirectoryEntry {
-    /// The relative virtual address of the lookup table, or 0.
+    /// The RVA of the lookup table. 0 if there is none; the address table then has the lookup entries.
     pub lookup_table_rva: u32,
-    /// 0, or a mark that the imports are bound.
+    /// 0 until the imports are bound.
     pub time_date_stamp: u32,
+    /// The index of the first forwarder reference.
     pub forwarder_chain: u32,
-    /// The relative virtual address of the library's name.
+    /// The RVA of the DLL's name. A record with 0 here ends the directory.
     pub name_rva: u32,
-    /// The relative virtual address of the address table, whose slots the loader fills.
+    /// The RVA of the address table, whose entries the loader overwrites. A record with 0 here ends the directory.
     pub address_table_rva: u32,
 }
 
@@ -44,7 +47,7 @@ impl ImportDirectoryEntry {
     ghost use Rattle.pe_core.specs.Records.{import_entry};
     ghost use Rattle.pe_core.specs.Imports.{is_last, lookups_rva};
 
-    /// The record at a place where its 20 bytes are known to be there.
+    /// The record at offset `place`, whose 20 bytes the caller knows to lie in `bytes`.
     #[tactic(auto, unfolding(crate::specs::Records::import_entry))]
     fn at(bytes: &[u8], place: usize) -> ImportDirectoryEntry
         requires { place + 20 ≤ length bytes.now }
@@ -59,7 +62,7 @@ impl ImportDirectoryEntry {
         }
     }
 
-    /// The record at a place, 20 bytes: `Short`.
+    /// The record at offset `place`, 20 bytes. Error: `Short`.
     pub fn parse(bytes: &[u8], place: usize) -> Result<ImportDirectoryEntry>
         ensures { Gives (λ e. e) result (record_at bytes.now place 20 (import_entry bytes.now place)) }
     {
@@ -67,14 +70,14 @@ impl ImportDirectoryEntry {
         Ok(ImportDirectoryEntry::at(bytes, place))
     }
 
-    /// Whether the record ends the directory: its name or its address table has the address 0.
+    /// Whether the record ends the directory: the RVA of its name or of its address table is 0.
     pub fn is_last(&self) -> bool
         ensures { result ≡ is_last self.now }
     {
         self.name_rva == 0 || self.address_table_rva == 0
     }
 
-    /// The address of the record's list: that of its lookup table, or where that is 0 that of its address table.
+    /// The RVA of the record's lookup entries: its lookup table, or its address table if it has no lookup table.
     pub fn lookups_rva(&self) -> u32
         ensures { result ≡ lookups_rva self.now }
     {
@@ -86,31 +89,33 @@ impl ImportDirectoryEntry {
     }
 }
 
-/// A record of the import directory with what it names.
+/// A record of the import directory, with its DLL's name and its lookup entries.
 #[derive(Debug, Drop)]
 pub struct SyntheticImportDirectoryEntry<'a> {
+    /// The record itself.
     pub import_directory_entry: ImportDirectoryEntry,
-    /// The library's name.
+    /// The name of the DLL.
     pub name: &'a str,
-    /// The entries of its list, 4 bytes each or in PE32+ 8, without the zero entry that ends it.
+    /// The lookup entries, 8 bytes each in PE32+ and 4 in PE32, without the zero entry that ends them.
+    /// `Import::parse_with_opts` reads them.
     pub lookups: &'a [u8],
 }
 
 /// The import directory of an image.
 #[derive(Debug, Drop)]
 pub struct ImportData<'a, A: Allocator + Copy + Drop = Global> {
-    /// The records, in their order.
+    /// The records, in the order of the directory.
     pub import_data: Vec<SyntheticImportDirectoryEntry<'a>, A>,
 }
 
-/// How many bytes an entry of a list has: 8 in PE32+, which `is_64` says, else 4.
+/// The size of a lookup entry in bytes: 8 in PE32+ (`is_64`), 4 in PE32.
 pub fn lookup_size(is_64: bool) -> usize
     ensures { result ≡ entry_size is_64 }
 {
     if is_64 { 8 } else { 4 }
 }
 
-/// The entry of a list at a place where its bytes are known to be there.
+/// The lookup entry at offset `place`, whose bytes the caller knows to lie in `bytes`.
 pub fn lookup_number(bytes: &[u8], place: usize, is_64: bool) -> u64
     requires { place + entry_size is_64 ≤ length bytes.now }
     ensures { result ≡ le bytes.now place (entry_size is_64) }
@@ -122,8 +127,8 @@ pub fn lookup_number(bytes: &[u8], place: usize, is_64: bool) -> u64
     }
 }
 
-/// The entries of the list at a place, without the zero one that ends it: `Short` where none does. They have 8 bytes
-/// in PE32+, which `is_64` says, else 4.
+/// The lookup entries from offset `place` on, without the zero entry that ends them. They have 8 bytes in PE32+
+/// (`is_64`), 4 in PE32. Error: `Short` if no zero entry ends them.
 #[tactic(auto, using(crate::proofs::ImportLists::entries_read))]
 pub fn lookups_at(bytes: &[u8], place: usize, is_64: bool) -> Result<&[u8]>
     ensures { Gives (λ s. s.now) result (lookups_at (entry_size is_64) bytes.now (Some place)) }
@@ -140,7 +145,7 @@ pub fn lookups_at(bytes: &[u8], place: usize, is_64: bool) -> Result<&[u8]>
     }
 }
 
-/// The list of a record: none where its address has no place.
+/// The lookup entries of a record. None if their RVA is unmapped.
 fn lookups_of<'a>(
     bytes: &'a [u8],
     entry: &ImportDirectoryEntry,
@@ -155,7 +160,8 @@ fn lookups_of<'a>(
     }
 }
 
-/// A record whose name was looked up: `Unmapped` or `ImportName` of its name, or `Short` of its list.
+/// A record whose name was looked up. Errors, in order: `Unmapped`, `ImportName` (its name), `Short` (its lookup
+/// entries).
 #[tactic(auto, unfolding(crate::specs::Imports::import_record))]
 fn import_record<'a>(
     bytes: &'a [u8],
@@ -179,7 +185,7 @@ fn import_record<'a>(
     })
 }
 
-/// How many records stand in front of the one that ends the directory, or of the end of the bytes.
+/// The number of whole records before the one that ends the directory, or before the end of the bytes.
 fn count_records(bytes: &[u8], place: usize) -> usize
     ensures { StandInFront bytes.now place result }
 {
@@ -199,7 +205,7 @@ fn count_records(bytes: &[u8], place: usize) -> usize
     count
 }
 
-/// The places of the names of so many records.
+/// The offsets of the names of the first `count` records.
 #[tactic(auto, unfolding(crate::specs::Rows::each))]
 fn name_places<A: Allocator>(
     alloc: A,
@@ -219,7 +225,7 @@ fn name_places<A: Allocator>(
     Ok(places)
 }
 
-/// The records whose names these are, and what stands behind them: the one that ends the directory, or `Short`.
+/// The records that have these names. `Short` if the record that ends the directory is truncated.
 #[tactic(auto, using(crate::proofs::ImportLists::records_read))]
 fn named_records<'a, A: Allocator>(
     alloc: A,
@@ -243,7 +249,7 @@ fn named_records<'a, A: Allocator>(
     Ok(records)
 }
 
-/// The records of the directory at a place.
+/// The records of the directory at offset `place`.
 #[tactic(auto, using(crate::proofs::ImportLists::all_named))]
 fn records_at<'a, A: Allocator + Copy + Drop>(
     alloc: A,
@@ -256,11 +262,12 @@ fn records_at<'a, A: Allocator + Copy + Drop>(
 {
     let count = count_records(bytes, place);
     let places = name_places(alloc, bytes, place, count, sections)?;
+    // All names at once: many of them may lie in one long text.
     let names = texts_at(alloc, bytes, &places)?;
     named_records(alloc, bytes, place, &names, sections, is_64)
 }
 
-/// The libraries' names, in the order of the records.
+/// The names of the DLLs, in the order of the records.
 fn names_of<'a, A: Allocator>(
     alloc: A,
     records: &[SyntheticImportDirectoryEntry<'a>],
@@ -274,7 +281,7 @@ fn names_of<'a, A: Allocator>(
     Ok(names)
 }
 
-/// Sorts names by their bytes, and keeps each once.
+/// Sorts the names by their bytes, and keeps each once.
 fn sort_once<'a, A: Allocator>(names: &mut Vec<&'a str, A>)
     ensures { AreLibraries (map (λ s. s.now) names.old.items) (map (λ s. s.now) names.new.items) }
 {
@@ -283,7 +290,8 @@ fn sort_once<'a, A: Allocator>(names: &mut Vec<&'a str, A>)
 }
 
 impl<'a, A: Allocator + Copy + Drop> ImportData<'a, A> {
-    /// The import directory, with the default options. `is_64` says that entries have 8 bytes, as in PE32+, and not 4.
+    /// The import directory, with the default options. `is_64` says whether the image is PE32+, where lookup entries
+    /// have 8 bytes, not 4. Errors: those of `parse_with_opts`.
     pub fn parse(
         alloc: A,
         bytes: &'a [u8],
@@ -306,10 +314,13 @@ impl<'a, A: Allocator + Copy + Drop> ImportData<'a, A> {
         )
     }
 
-    /// The import directory: the records from its place (`Unmapped`, before any request for memory) on, 20 bytes each
-    /// (`Short`), up to the one whose name or address table has the address 0. Of each in turn the name is read (`Unmapped`, `ImportName`), then the
-    /// entries of its lookup table, or where that has the address 0 of its address table, up to a zero one: none if the
-    /// table has no place, `Short` if no zero entry ends it. The directory's size isn't used.
+    /// The import directory. The size of `directory` isn't used. Errors, in order:
+    /// - `Unmapped`: the RVA of `directory`, before any allocation;
+    /// - of each record in turn, up to the one whose name or address table has the RVA 0: `Short` (its 20 bytes),
+    ///   `Unmapped` and `ImportName` (its name), `Short` (no zero entry ends its lookup entries). A record whose lookup
+    ///   entries are unmapped has none.
+    ///
+    /// `Memory` is possible after the first test.
     pub fn parse_with_opts(
         alloc: A,
         bytes: &'a [u8],
@@ -322,13 +333,14 @@ impl<'a, A: Allocator + Copy + Drop> ImportData<'a, A> {
         ensures { GivesUnlessMemoryAfter (mapped (section_map opts.now sections.now file_alignment directory.virtual_address)) import_data_view result
             (import_data_at (section_map opts.now sections.now file_alignment) (entry_size is_64) bytes.entry.now directory.virtual_address) }
     {
+        // Before the index, which allocates: an unmapped directory is `Unmapped` whether or not memory is left.
         let place = mapped_offset(directory.virtual_address, sections, file_alignment, opts)?;
         let index = SectionIndex::new(alloc, sections, file_alignment, opts)?;
         let import_data = records_at(alloc, bytes, place, &index.map(), is_64)?;
         Ok(ImportData { import_data })
     }
 
-    /// The import directory, as `parse_with_opts` reads it, by a section map.
+    /// The import directory, as `parse_with_opts` returns it, by a section map.
     pub fn parse_with_map(
         alloc: A,
         bytes: &'a [u8],
@@ -344,7 +356,7 @@ impl<'a, A: Allocator + Copy + Drop> ImportData<'a, A> {
         Ok(ImportData { import_data })
     }
 
-    /// The names of the libraries in the order of their bytes, each once. Refused for want of memory alone.
+    /// The names of the imported DLLs, sorted by their bytes, each once. Error: `Memory`.
     pub fn libraries(&self, alloc: A) -> Result<Vec<&'a str, A>>
         ensures listed { IfOk result (λ v. AreLibraries (map (λ r. r.name) (import_data_view self.now)) (map (λ s. s.now) v.items)) }
         ensures refused { IfErr result (λ error. error ≡ Memory record {}) }

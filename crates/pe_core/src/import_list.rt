@@ -1,4 +1,6 @@
-//! The list of imports: what the entries of the import directory's records name.
+//! The list of imports: what the lookup entries of the import directory's records name
+//! ([layout](https://learn.microsoft.com/windows/win32/debug/pe-format#the-idata-section)). An entry is an ordinal, or
+//! the RVA of a hint and a name. A caller passes the `ImportData` of the image to `Import::parse_with_opts`.
 
 ghost use Rattle.std.specs.Prelude.{◌≡◌, ◌*◌, ◌/◌, ◌%◌, ◌^◌, ◌++◌, length, map, IfOk, OnOk};
 ghost use Rattle.std.specs.Option.{option_map};
@@ -19,23 +21,23 @@ use crate::section_index::{SectionIndex, SectionMap};
 use crate::section_table::SectionTable;
 use std::alloc::{AllocError, Allocator};
 
-/// The size of the hint in front of an import's name in bytes.
+/// The size of the hint before an import's name in bytes.
 const SIZE_OF_HINT: usize = 2;
 
-/// What an image imports.
+/// One import of an image.
 #[derive(Debug, Drop)]
 pub struct Import<'a> {
-    /// `None` where the import is by its ordinal.
+    /// The name of the function. `None` if it is imported by ordinal.
     pub name: Option<&'a str>,
-    /// The library's name.
+    /// The name of the DLL.
     pub dll: &'a str,
-    /// The ordinal, or the hint for a name.
+    /// The ordinal, or the hint before the name: an index into the DLL's name table, where the loader looks first.
     pub ordinal: u16,
-    /// The relative virtual address of the slot that the loader fills.
+    /// The RVA of the entry of the address table that the loader overwrites with the function's virtual address.
     pub rva: u64,
 }
 
-/// An entry of a record's list, with what its import takes from the record.
+/// A lookup entry, with what its import takes from the record.
 #[derive(Clone, Copy)]
 struct Entry<'a> {
     dll: &'a str,
@@ -46,7 +48,7 @@ struct Entry<'a> {
 impl<'a> Entry<'a> {
     ghost use Rattle.pe_core.specs.Imports.{is_ordinal};
 
-    /// Whether the highest bit is set.
+    /// Whether the entry is an ordinal: its highest bit is set.
     fn is_ordinal(&self, is_64: bool) -> bool
         ensures { result ≡ is_ordinal (entry_size is_64) (entry_view self.now) }
     {
@@ -58,7 +60,7 @@ impl<'a> Entry<'a> {
         self.entry >= highest
     }
 
-    /// The address of the hint and the name, if it is no ordinal.
+    /// The RVA of the hint and the name, if the entry is no ordinal.
     fn name_rva(&self) -> u32
         ensures { result ≡ self.now.entry % 2 ^ 31 }
     {
@@ -66,7 +68,7 @@ impl<'a> Entry<'a> {
     }
 }
 
-/// Appends the entries of a record's list.
+/// Appends the lookup entries of a record.
 #[tactic(auto, unfolding(crate::specs::Rows::each))]
 fn push_entries<'a, A: Allocator>(
     imported: &SyntheticImportDirectoryEntry<'a>,
@@ -87,7 +89,7 @@ fn push_entries<'a, A: Allocator>(
     Ok(())
 }
 
-/// The entries of all records, in their order.
+/// The lookup entries of all records, in their order.
 #[tactic(auto, unfolding(crate::specs::Imports::entries))]
 fn entries_of<'a, A: Allocator>(
     alloc: A,
@@ -103,7 +105,7 @@ fn entries_of<'a, A: Allocator>(
     Ok(entries)
 }
 
-/// The places of the names that the entries lead to, each behind its hint.
+/// The offsets of the names that the entries lead to, each after its hint.
 fn entry_places<A: Allocator>(
     alloc: A,
     entries: &[Entry<'_>],
@@ -115,6 +117,7 @@ fn entry_places<A: Allocator>(
     let mut places = Vec::with_capacity(alloc, entries.len())?;
     for entry in entries {
         let place = if entry.is_ordinal(is_64) {
+            // No byte is at this offset, so an ordinal gets no name.
             usize::MAX
         } else {
             sections
@@ -126,7 +129,7 @@ fn entry_places<A: Allocator>(
     Ok(places)
 }
 
-/// What an entry imports whose name was looked up: `Unmapped`, `Short` of its hint, or `ImportName`.
+/// The import of an entry whose name was looked up. Errors, in order: `Unmapped`, `Short` (the hint), `ImportName`.
 #[tactic(auto, unfolding(crate::specs::Imports::import_of))]
 fn import_of<'a>(
     bytes: &'a [u8],
@@ -161,7 +164,7 @@ fn import_of<'a>(
     })
 }
 
-/// The imports of all these entries, whose names these are.
+/// The imports of these entries, which have these names.
 #[tactic(auto, using(crate::proofs::ImportLists::imports_read))]
 fn named_imports<'a, A: Allocator>(
     alloc: A,
@@ -183,9 +186,13 @@ fn named_imports<'a, A: Allocator>(
 }
 
 impl<'a> Import<'a> {
-    /// What the entries of all records import, in their order. The highest bit of an entry says that its low 16 bits
-    /// are an ordinal; else its low 31 bits are the address of a hint of two bytes and a name behind it: `Unmapped`,
-    /// `Short` of the hint, `ImportName` where no zero ends the name or it is not UTF-8.
+    /// The imports of all records, in the order of their lookup entries. An entry whose highest bit is set is an
+    /// ordinal, in its low 16 bits. Otherwise its low 31 bits are the RVA of a hint of 2 bytes, and the name follows
+    /// the hint. Errors, of each entry in turn:
+    /// - `Unmapped`: the RVA of the hint; `Short`: the hint;
+    /// - `ImportName`: the name is not NUL-terminated or not UTF-8.
+    ///
+    /// `Memory` is possible at any point.
     pub fn parse_with_opts<A: Allocator + Copy + Drop>(
         alloc: A,
         bytes: &'a [u8],
@@ -201,7 +208,7 @@ impl<'a> Import<'a> {
         Import::parse_with_map(alloc, bytes, import_data, &index.map(), is_64)
     }
 
-    /// What the entries of all records import, as `parse_with_opts` lists it, by a section map.
+    /// The imports of all records, as `parse_with_opts` lists them, by a section map.
     #[tactic(auto, unfolding(crate::specs::Imports::imports))]
     pub fn parse_with_map<A: Allocator + Copy + Drop>(
         alloc: A,
@@ -214,6 +221,7 @@ impl<'a> Import<'a> {
     {
         let entries = entries_of(alloc, &import_data.import_data, is_64)?;
         let places = entry_places(alloc, &entries, sections, is_64)?;
+        // All names at once: many of them may lie in one long text.
         let names = texts_at(alloc, bytes, &places)?;
         named_imports(alloc, bytes, &entries, &names, sections, is_64)
     }

@@ -12,13 +12,13 @@ ghost use Rattle.pe_core.specs.Header.{OptionalHeaderView, HeaderView, optional_
 ghost use Rattle.pe_core.specs.Records.{dos_header, coff_header, standard32, standard64, windows32, windows64, data_directory, section_table, te_header};
 ghost use Rattle.pe_core.specs.Spelling.{spell_dos, spell_coff, spell_standard32, spell_standard64, spell_windows32, spell_windows64, spell_directory, spell_section, spell_te, spell_optional};
 
-/// A number that is put at a place, where its bytes fit, is read there again.
+/// A number that is written at an offset, where it fits, is read there again.
 #[tactic(auto, using(crate::proofs::PutNumbers::numbers))]
 pub fn numbers_that_are_put_are_read_again()
     ensures { (b : List ℕ) (p n number : ℕ) → p + n ≤ length b → number < 256 ^ n → le (put b p (bytes_of n number)) p n ≡ number }
 {}
 
-/// A record that is read at a place spells the bytes of that place, whatever they are.
+/// A record that is read at an offset spells the bytes at that offset, whatever they are.
 #[tactic(auto, using(crate::proofs::SpelledRecords::spelled_dos, crate::proofs::SpelledRecords::spelled_coff, crate::proofs::SpelledRecords::spelled_standard32, crate::proofs::SpelledRecords::spelled_standard64, crate::proofs::SpelledRecords::spelled_windows32, crate::proofs::SpelledRecords::spelled_windows64, crate::proofs::SpelledRecords::spelled_directory, crate::proofs::SpelledRecords::spelled_section, crate::proofs::SpelledRecords::spelled_te))]
 pub fn records_spell_their_bytes()
     ensures dos { (b : List ℕ) (p : ℕ) → AreBytes b → p + 64 ≤ length b → spell_dos (dos_header b p) ≡ range b p 64 }
@@ -32,20 +32,20 @@ pub fn records_spell_their_bytes()
     ensures te { (b : List ℕ) (p : ℕ) → AreBytes b → p + 40 ≤ length b → spell_te (te_header b p) ≡ range b p 40 }
 {}
 
-/// The spelling of an optional header that is accepted at a place stands at that place.
+/// An optional header that is accepted at an offset spells the bytes at that offset.
 #[tactic(auto, using(crate::proofs::SpelledOptional::spelled_optional))]
 pub fn optional_headers_spell_their_bytes()
     ensures { (b : List ℕ) (p : ℕ) (o : OptionalHeaderView) → AreBytes b → optional_header_at b p ≡ Ok o → range b p (length (spell_optional o)) ≡ spell_optional o }
 {}
 
-/// Headers that strict mode gives are those that permissive mode gives.
+/// Headers that strict mode accepts are those that permissive mode returns.
 #[tactic(auto, using(crate::proofs::Modes::strict_header))]
 pub fn strict_headers_are_permissive()
     ensures { (b : List ℕ) (h : HeaderView) → header_at b ParseMode.Strict ≡ Ok h → header_at b ParseMode.Permissive ≡ Ok h }
 {}
 
-/// Steps never stop once there are more of them than keys, where each state that has a next one has a key below a number
-/// and equal keys are followed alike. Where equal keys have the same step, steps never stop once a key comes again.
+/// Steps never stop if there are more of them than keys, where each state with a next one has a key below a number and
+/// the states after equal keys are equal. Where equal keys have the same step, steps never stop if a key comes again.
 pub fn steps_that_never_stop<X>()
     ensures more { (step : X → Option X) (key : X → ℕ) (n : ℕ) (x : X) →
         FollowsKey step key → HasKeysBelow step key n → IsSome (after step (n + 1) x) → NeverStops step x }

@@ -1,7 +1,9 @@
-//! Headers, sections and addresses of Windows executables.
+//! Headers, sections, symbols, exports, imports and base relocations of Windows executables, and the map from RVAs to
+//! file offsets. Layouts are those of Microsoft's
+//! [PE format](https://learn.microsoft.com/windows/win32/debug/pe-format).
 //!
-//! Every call is proved to give what its definition in `specs/` gives, for every byte string. Layouts are those of
-//! Microsoft's PE format.
+//! A caller parses a `Header` and its sections, and passes a data directory with the sections to the reader of its
+//! table. Every call is proved to return what its definition in `specs/` says, for every byte string.
 #![tactic(auto)]
 
 mod byte_range;

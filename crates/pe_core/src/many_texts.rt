@@ -1,4 +1,6 @@
-//! The texts at many places of a byte string, each byte read about once.
+//! The texts at many offsets of a byte slice, each byte read about once. A hostile image may let thousands of names
+//! start in one long text: to read each by itself would take quadratic time. Names that share a NUL are suffixes of one
+//! run here.
 
 ghost use Rattle.std.specs.Prelude.{◌≡◌, ℕ, ◌≤◌, ◌-◌, length, drop, map, IfOk, IfSome, OnOk, All, []};
 ghost use Rattle.std.specs.Option.{option_map};
@@ -9,19 +11,21 @@ use crate::first_zero::first_zero;
 use crate::text::{from_place, text_at, text_of};
 use std::alloc::{AllocError, Allocator};
 
-/// A text of fewer bytes is short, and a run of so many is worth keeping.
+/// A text of fewer bytes is short, and a run of at least as many is kept.
 const LONG: usize = 64;
 
-/// The places from `start` to `end`, with the first zero behind them at `end`, or with none behind them.
+/// The offsets from `start` to `end`: the first zero at or after each of them is at `end`. Without a zero `end` is
+/// `usize::MAX`.
 #[derive(Clone, Copy, Debug)]
 struct Run<'a> {
     start: usize,
     end: usize,
-    /// The longest text in front of the zero.
+    /// The longest suffix of the bytes before the zero that is UTF-8. The text at an offset of the run is a suffix of
+    /// it.
     text: Option<&'a str>,
 }
 
-/// The longest end of the bytes that is text.
+/// The longest suffix of the bytes that is UTF-8.
 fn last_text(bytes: &[u8]) -> &str
     ensures { IsLastText bytes.now result.now }
 {
@@ -29,12 +33,13 @@ fn last_text(bytes: &[u8]) -> &str
     loop {
         match str::from_utf8(&bytes[begin..]) {
             Ok(text) => return text,
+            // No suffix that starts at or before the invalid byte is UTF-8.
             Err(error) => begin += error.valid_up_to() + 1,
         }
     }
 }
 
-/// The text from a place of a text on, if a character begins there.
+/// The suffix of the text from offset `place` on. `None` if no character starts there.
 #[tactic(auto, using(crate::proofs::TextEnds::ends_of_text))]
 fn text_from(text: &str, place: usize) -> Option<&str>
     requires { place ≤ length text.now }
@@ -47,8 +52,8 @@ fn text_from(text: &str, place: usize) -> Option<&str>
     }
 }
 
-/// The text at a place, if a zero ends it within a few bytes: most names do. Such a text costs the same wherever it lies,
-/// so no run of it is kept.
+/// The text at offset `place`, if a zero ends it within `LONG` bytes, as most names. Such a text costs the same
+/// wherever it lies, so no run is kept for it.
 #[tactic(auto, using(crate::proofs::FirstZero::short_texts))]
 fn short_text_at(bytes: &[u8], place: usize) -> Option<Option<&str>>
     ensures { IfSome result (λ text. option_map (λ s. s.now) text ≡ text_at bytes.now place) }
@@ -59,7 +64,7 @@ fn short_text_at(bytes: &[u8], place: usize) -> Option<Option<&str>>
     Some(text_of(&first[..length]))
 }
 
-/// The run that starts at a place.
+/// The run that starts at this offset.
 fn run_from(bytes: &[u8], start: usize) -> Run<'_>
     ensures run { IsRun bytes.now result }
     ensures start { result.start ≡ start }
@@ -80,7 +85,7 @@ fn run_from(bytes: &[u8], start: usize) -> Run<'_>
     }
 }
 
-/// The text at a place of a run.
+/// The text at an offset of a run.
 #[tactic(auto, unfolding(crate::specs::TextRuns::last_of))]
 fn text_of_run<'a>(run: &Run<'a>, place: usize) -> Option<&'a str>
     requires { place ≤ run.now.end }
@@ -93,8 +98,8 @@ fn text_of_run<'a>(run: &Run<'a>, place: usize) -> Option<&'a str>
     }
 }
 
-/// The text at a place: by the run if the place lies in it, else by its few bytes, else by a run from there, which
-/// replaces the first. The number says how many bytes were read for the run.
+/// The text at offset `place`: by the run if the offset lies in it; else by its first `LONG` bytes; else by a new run
+/// from there, which replaces the old one. Also returns how many bytes were read for the new run.
 fn text_by_run<'a>(bytes: &'a [u8], run: &mut Run<'a>, place: usize) -> (Option<&'a str>, usize)
     requires { IsRun bytes.now run.old }
     ensures run { IsRun bytes.entry.now run.new }
@@ -113,7 +118,7 @@ fn text_by_run<'a>(bytes: &'a [u8], run: &mut Run<'a>, place: usize) -> (Option<
     )
 }
 
-/// Appends the texts at the first places, until as many bytes were read for long ones as there are.
+/// Appends the texts at the first offsets, until as many bytes were read for runs as `bytes` has.
 fn push_first_texts<'a, A: Allocator>(
     bytes: &'a [u8],
     places: &[usize],
@@ -122,6 +127,7 @@ fn push_first_texts<'a, A: Allocator>(
     requires { texts.old.items ≡ [] }
     ensures { OnOk result (AreFirstTexts bytes.entry.now places.now texts.new.items) }
 {
+    // The bytes that may still be read for runs: offsets that jump between long texts use them up.
     let mut left = bytes.len();
     let mut run = run_from(bytes, bytes.len());
     for place in places {
@@ -135,7 +141,8 @@ fn push_first_texts<'a, A: Allocator>(
     Ok(())
 }
 
-/// Runs by rising starts. Each of the places lies in one of them, or a short way in front of a zero.
+/// The long runs, sorted by start. Each of the offsets in `bytes` lies in one of them, or fewer than `LONG` bytes
+/// before a zero.
 fn long_runs_at<'a, A: Allocator + Copy + Drop>(
     alloc: A,
     bytes: &'a [u8],
@@ -152,6 +159,7 @@ fn long_runs_at<'a, A: Allocator + Copy + Drop>(
         let place = *place;
         if place < run.start || run.end < place {
             run = run_from(bytes, place);
+            // The texts of a short run are read by themselves.
             if run.end - run.start >= LONG {
                 runs.push(run)?;
             }
@@ -160,7 +168,7 @@ fn long_runs_at<'a, A: Allocator + Copy + Drop>(
     Ok(runs)
 }
 
-/// The text at a place, by the runs if it lies in one of them.
+/// The text at offset `place`, by the run in which it lies, or by itself if it lies in none.
 fn text_among<'a>(bytes: &'a [u8], runs: &[Run<'a>], place: usize) -> Option<&'a str>
     requires { All (IsRun bytes.now) runs.now }
     ensures { option_map (λ s. s.now) result ≡ text_at bytes.entry.now place }
@@ -175,8 +183,8 @@ fn text_among<'a>(bytes: &'a [u8], runs: &[Run<'a>], place: usize) -> Option<&'a
     text_at(bytes, place)
 }
 
-/// The texts at the places, in their order. It takes about as long as to sort the places and to read each byte twice,
-/// however many of the places lie in one text.
+/// The texts at the offsets, in their order. Takes about as long as it takes to sort the offsets and to read each byte
+/// twice, however many of them lie in one text.
 pub(crate) fn texts_at<'a, A: Allocator + Copy + Drop>(
     alloc: A,
     bytes: &'a [u8],
@@ -186,6 +194,7 @@ pub(crate) fn texts_at<'a, A: Allocator + Copy + Drop>(
 {
     let mut texts = Vec::with_capacity(alloc, places.len())?;
     push_first_texts(bytes, places, &mut texts)?;
+    // The rest by sorted runs, each of which is read once.
     let later = &places[texts.len()..];
     let runs = long_runs_at(alloc, bytes, later)?;
     for place in later {

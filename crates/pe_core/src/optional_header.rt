@@ -1,4 +1,7 @@
-//! The optional header, in both widths: PE32 and PE32+.
+//! The optional header of an image, PE32 or PE32+
+//! ([layout](https://learn.microsoft.com/windows/win32/debug/pe-format#optional-header-image-only)): the standard
+//! fields of COFF, the fields of Windows, then the data directories. A caller gets it from `Header::optional_header`,
+//! and takes from it the image base, the file alignment for the section map, and the directories.
 
 ghost use Rattle.std.specs.Prelude.{◌≡◌, ◌<◌, ◌==◌, ◌||◌, IsTrue};
 ghost use Rattle.pe_core.specs.Narrow.{IsNarrow};
@@ -7,28 +10,32 @@ use crate::bytes::{number8, number16, number32, number64, require_bytes, u16_at}
 use crate::data_directories::DataDirectories;
 use crate::error::{Error, Result};
 
-/// The magic of an optional header of PE32.
+/// The magic number of an optional header of PE32.
 pub const MAGIC_32: u16 = 0x10B;
 
-/// The magic of an optional header of PE32+.
+/// The magic number of an optional header of PE32+.
 pub const MAGIC_64: u16 = 0x20B;
 
-/// The fields that COFF defines.
+/// The fields that COFF defines: 28 bytes in PE32, 24 in PE32+.
 #[derive(Clone, Copy, Debug, PartialEq)]
 pub struct StandardFields {
-    /// 0x10B for PE32, 0x20B for PE32+.
+    /// `MAGIC_32` for PE32, `MAGIC_64` for PE32+.
     pub magic: u16,
+    /// The major version number of the linker.
     pub major_linker_version: u8,
+    /// The minor version number of the linker.
     pub minor_linker_version: u8,
-    /// In bytes, of all sections with code.
+    /// The size of all sections of code, in bytes.
     pub size_of_code: u32,
+    /// The size of all sections of initialized data, in bytes.
     pub size_of_initialized_data: u32,
+    /// The size of all sections of uninitialized data, in bytes.
     pub size_of_uninitialized_data: u32,
-    /// A relative virtual address, or 0.
+    /// The RVA of the entry point. 0 if there is none.
     pub address_of_entry_point: u32,
-    /// A relative virtual address.
+    /// The RVA of the code.
     pub base_of_code: u32,
-    /// A relative virtual address. 0 in PE32+, which has no such field.
+    /// The RVA of the data. 0 in PE32+, which has no such field.
     pub base_of_data: u32,
 }
 
@@ -37,7 +44,7 @@ impl StandardFields {
     ghost use Rattle.pe_core.specs.Bytes.{le};
     ghost use Rattle.pe_core.specs.Records.{standard32, standard64};
 
-    /// The 28 bytes of PE32.
+    /// The fields of PE32, 28 bytes.
     #[tactic(auto, unfolding(crate::specs::Records::standard32))]
     fn narrow_at(bytes: &[u8], place: usize) -> StandardFields
         requires { place + 28 ≤ length bytes.now }
@@ -57,7 +64,7 @@ impl StandardFields {
         }
     }
 
-    /// The 24 bytes of PE32+.
+    /// The fields of PE32+, 24 bytes.
     #[tactic(auto, unfolding(crate::specs::Records::standard64))]
     fn wide_at(bytes: &[u8], place: usize) -> StandardFields
         requires { place + 24 ≤ length bytes.now }
@@ -78,41 +85,50 @@ impl StandardFields {
     }
 }
 
-/// The fields that Windows adds. Those of eight bytes have four in PE32.
+/// The fields that Windows adds: 68 bytes in PE32, 88 in PE32+. The fields of 8 bytes have 4 in PE32.
 #[derive(Clone, Copy, Debug, PartialEq)]
 pub struct WindowsFields {
-    /// The preferred address of the first byte in memory.
+    /// The preferred virtual address of the first byte of the image. Add it to an RVA for a virtual address.
     pub image_base: u64,
-    /// Of sections in memory, in bytes.
+    /// The alignment of sections in memory, in bytes.
     pub section_alignment: u32,
-    /// Of sections' data in the file, in bytes.
+    /// The alignment of the sections' data in the file, in bytes. The section map needs it.
     pub file_alignment: u32,
+    /// The major version number of the required operating system.
     pub major_operating_system_version: u16,
+    /// The minor version number of the required operating system.
     pub minor_operating_system_version: u16,
+    /// The major version number of the image.
     pub major_image_version: u16,
+    /// The minor version number of the image.
     pub minor_image_version: u16,
+    /// The major version number of the subsystem.
     pub major_subsystem_version: u16,
+    /// The minor version number of the subsystem.
     pub minor_subsystem_version: u16,
     /// Reserved.
     pub win32_version_value: u32,
-    /// In memory, in bytes.
+    /// The size of the image in memory, in bytes.
     pub size_of_image: u32,
-    /// In bytes, rounded up to the file alignment.
+    /// The size of all headers in bytes, rounded up to the file alignment.
     pub size_of_headers: u32,
+    /// The checksum of the image file. It is not checked.
     pub check_sum: u32,
+    /// The subsystem that runs the image, `IMAGE_SUBSYSTEM_*` of winnt.h.
     pub subsystem: u16,
+    /// Flags, `IMAGE_DLLCHARACTERISTICS_*` of winnt.h.
     pub dll_characteristics: u16,
-    /// In bytes.
+    /// The size of the stack to reserve, in bytes.
     pub size_of_stack_reserve: u64,
-    /// In bytes.
+    /// The size of the stack to commit, in bytes.
     pub size_of_stack_commit: u64,
-    /// In bytes.
+    /// The size of the heap to reserve, in bytes.
     pub size_of_heap_reserve: u64,
-    /// In bytes.
+    /// The size of the heap to commit, in bytes.
     pub size_of_heap_commit: u64,
     /// Reserved.
     pub loader_flags: u32,
-    /// How many directories the header counts, also past the 16 that are kept.
+    /// The number of data directories as the header states it, which may be above the 16 that are kept.
     pub number_of_rva_and_sizes: u32,
 }
 
@@ -120,7 +136,7 @@ impl WindowsFields {
     ghost use Rattle.std.specs.Prelude.{◌+◌, ◌≤◌, length};
     ghost use Rattle.pe_core.specs.Records.{windows32, windows64};
 
-    /// The 68 bytes of PE32.
+    /// The fields of PE32, 68 bytes.
     #[tactic(auto, unfolding(crate::specs::Records::windows32))]
     fn narrow_at(bytes: &[u8], place: usize) -> WindowsFields
         requires { place + 68 ≤ length bytes.now }
@@ -152,7 +168,7 @@ impl WindowsFields {
         }
     }
 
-    /// The 88 bytes of PE32+.
+    /// The fields of PE32+, 88 bytes.
     #[tactic(auto, unfolding(crate::specs::Records::windows64))]
     fn wide_at(bytes: &[u8], place: usize) -> WindowsFields
         requires { place + 88 ≤ length bytes.now }
@@ -184,11 +200,14 @@ impl WindowsFields {
     }
 }
 
-/// The optional header. It has one of the two magics, and under that of PE32 its wide fields fit four bytes.
+/// The optional header. Its magic number is one of the two; in PE32 the fields of 8 bytes are below 2^32.
 #[derive(Clone, Copy, Debug, PartialEq)]
 pub struct OptionalHeader {
+    /// The fields of COFF.
     pub standard_fields: StandardFields,
+    /// The fields of Windows.
     pub windows_fields: WindowsFields,
+    /// The data directories, at most 16.
     pub data_directories: DataDirectories,
     ghost known_magic: { IsTrue (standard_fields.magic == 0x10B || standard_fields.magic == 0x20B) },
     ghost narrow: { standard_fields.magic ≡ 0x10B → IsNarrow windows_fields },
@@ -199,14 +218,18 @@ impl OptionalHeader {
     ghost use Rattle.pe_core.specs.Refusals.{Gives};
     ghost use Rattle.pe_core.specs.Header.{optional_header_view, optional_header_at};
 
-    /// The optional header at the place, with the directories that it keeps. Its length follows from its magic and
-    /// its count alone.
+    /// The optional header at offset `place`. Its length follows from its magic number and its number of directories
+    /// alone. Errors, in order:
+    /// - `Short`: the magic number; `BadMagic`: it is neither `MAGIC_32` nor `MAGIC_64`;
+    /// - `Short`: the standard fields and the fields of Windows;
+    /// - `Short`: the directories that are kept.
     #[tactic(auto, unfolding(crate::specs::Header::optional_header_tests, crate::specs::Header::optional_header))]
     pub fn parse(bytes: &[u8], place: usize) -> Result<OptionalHeader>
         ensures { Gives optional_header_view result (optional_header_at bytes.now place) }
     {
         match u16_at(bytes, place)? {
             MAGIC_32 => {
+                // The fields first: they hold the number of directories.
                 require_bytes(bytes, place, 96)?;
                 let windows_fields = WindowsFields::narrow_at(bytes, place + 28);
                 let count = windows_fields.number_of_rva_and_sizes;

@@ -1,13 +1,13 @@
-//! How an image is read.
+//! The options of the readers: how RVAs are mapped, which tables are read, and what a damaged one does to the image.
 
 use crate::error::{Error, Result};
 
-/// What becomes of a damaged directory.
+/// What becomes of an image with a damaged directory.
 #[derive(Clone, Copy, Debug, PartialEq)]
 pub enum ParseMode {
-    /// It refuses the image.
+    /// The error of the directory is the error of the image.
     Strict,
-    /// It is left empty.
+    /// The directory is left empty.
     Permissive,
 }
 
@@ -15,13 +15,14 @@ impl ParseMode {
     ghost use Rattle.std.specs.Prelude.{◌≡◌};
     ghost use Rattle.pe_core.specs.Modes.{none_if_error};
 
-    /// What this mode makes of a directory that was parsed: where it is refused, strict mode refuses and permissive
-    /// mode gives `None`. Want of memory is no refusal of the directory, and both modes answer it.
+    /// The directory as this mode takes it: an error is returned in strict mode, and is `None` in permissive mode.
+    /// `Memory` is returned in both modes.
     pub fn none_if_refused<T>(self, parsed: Result<T>) -> Result<Option<T>>
         ensures { result ≡ none_if_error self parsed }
     {
         match parsed {
             Ok(value) => Ok(Some(value)),
+            // An allocation failure says nothing about the directory, so it never empties one.
             Err(Error::Memory(error)) => Err(Error::Memory(error)),
             Err(refusal) => match self {
                 ParseMode::Strict => Err(refusal),
@@ -31,11 +32,11 @@ impl ParseMode {
     }
 }
 
-/// What is read, and how.
+/// What is read of an image, and how.
 #[derive(Clone, Copy, Debug, PartialEq)]
 pub struct ParseOptions {
-    /// Whether addresses are mapped to places by the sections. If not, an address is its place, as in an image that
-    /// is loaded already.
+    /// Whether RVAs are mapped to file offsets by the sections. If not, an RVA is its own offset, as in an image that
+    /// is already loaded.
     pub resolve_rva: bool,
     /// Whether the attribute certificates are read.
     pub parse_attribute_certificates: bool,
@@ -43,7 +44,7 @@ pub struct ParseOptions {
     pub parse_imports: bool,
     /// Whether the resources are read.
     pub parse_resources: bool,
-    /// What becomes of a damaged directory.
+    /// What becomes of the image if a directory is damaged.
     pub parse_mode: ParseMode,
 }
 
@@ -51,7 +52,7 @@ impl ParseOptions {
     ghost use Rattle.std.specs.Prelude.{◌≡◌};
     ghost use Rattle.pe_core.specs.Options.{te_options};
 
-    /// All off and strict, as for the terse images of firmware.
+    /// The options for TE images: all off, strict.
     pub fn te() -> ParseOptions
         ensures { result ≡ te_options }
     {
@@ -64,7 +65,7 @@ impl ParseOptions {
         }
     }
 
-    /// The same options in this mode.
+    /// The same options with this mode.
     pub fn with_parse_mode(self, parse_mode: ParseMode) -> ParseOptions
         ensures { result ≡ record self { parse_mode = parse_mode } }
     {
@@ -78,7 +79,7 @@ impl Default for ParseOptions {
 
     ghost is_default = { λ o. o ≡ default_options };
 
-    /// All on and strict.
+    /// All on, strict.
     fn default() -> ParseOptions {
         ParseOptions {
             resolve_rva: true,

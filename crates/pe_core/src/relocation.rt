@@ -1,4 +1,6 @@
-//! Base relocations.
+//! Base relocations ([layout](https://learn.microsoft.com/windows/win32/debug/pe-format#the-reloc-section-image-only)):
+//! blocks, each with the RVA of a page, its size, and entries of 2 bytes for what to change if the image is not loaded
+//! at its image base. A caller passes data directory 5, and reads the blocks itself.
 
 ghost use Rattle.pe_core.specs.Refusals.{Gives};
 ghost use Rattle.pe_core.specs.Options.{default_options};
@@ -11,15 +13,15 @@ use crate::options::ParseOptions;
 use crate::section_index::mapped_offset;
 use crate::section_table::SectionTable;
 
-/// The base relocations of an image: blocks, which are not read further.
+/// The base relocations of an image, as bytes. The blocks are not read further.
 #[derive(Clone, Copy, Debug, PartialEq)]
 pub struct RelocationData<'a> {
-    /// The directory's bytes, a range of the input.
+    /// The blocks, a range of the bytes that were passed.
     pub bytes: &'a [u8],
 }
 
 impl<'a> RelocationData<'a> {
-    /// The relocations of this directory, by the default options.
+    /// The base relocations, with the default options. Errors: those of `parse_with_opts`.
     pub fn parse(
         bytes: &'a [u8],
         dd: DataDirectory,
@@ -38,8 +40,7 @@ impl<'a> RelocationData<'a> {
         )
     }
 
-    /// The relocations of this directory. `Unmapped` where its address has no place, `Short` where its size in bytes
-    /// is not there.
+    /// The base relocations at the RVA of `dd`, as many bytes as its size says. Errors, in order: `Unmapped`, `Short`.
     #[tactic(auto, unfolding(crate::specs::Relocations::directory_bytes))]
     pub fn parse_with_opts(
         bytes: &'a [u8],

@@ -1,4 +1,5 @@
-//! The section map of an image as a value, and its index for many lookups.
+//! The section map of an image as a value, and its index for images with many sections. A caller makes one map of the
+//! section headers, the file alignment and the options, and passes it to every `parse_with_map`.
 
 ghost use Rattle.std.specs.Prelude.{◌≡◌, ◌+◌, ◌-◌, ◌<◌, ◌≤◌, ◌^◌, IfOk, IfErr};
 ghost use Rattle.pe_core.specs.Refusals.{Gives};
@@ -14,8 +15,8 @@ use crate::section_table::SectionTable;
 use std::alloc::Allocator;
 use std::marker::Model;
 
-/// The section map of an image: it maps RVAs as `find_offset` does. It is made once of the sections, the file alignment and
-/// the options, and passed on. `SectionIndex::map` makes one that maps each RVA in a few steps under many sections.
+/// The section map of an image: it maps RVAs as `find_offset` does. `SectionMap::new` makes one that tests the sections
+/// in turn; `SectionIndex::map` makes one that maps each RVA in a few steps, however many sections there are.
 #[derive(Drop)]
 pub struct SectionMap<'a> {
     sections: &'a [SectionTable],
@@ -37,7 +38,7 @@ impl<'a> Model for SectionMap<'a> {
 }
 
 impl<'a> SectionMap<'a> {
-    /// The section map of these sections. It tests them one by one for each RVA.
+    /// The section map of these sections. It tests them in turn for each RVA.
     pub fn new(
         sections: &'a [SectionTable],
         file_alignment: u32,
@@ -66,7 +67,7 @@ impl<'a> SectionMap<'a> {
         }
     }
 
-    /// The same without an index. It stands apart so that a lookup by an index saves no registers.
+    /// The file offset without an index. Out of line, so that a lookup by an index saves no registers.
     #[cold]
     #[inline(never)]
     fn find_by_sections(&self, rva: usize) -> Option<usize>
@@ -75,7 +76,7 @@ impl<'a> SectionMap<'a> {
         find_offset(rva, self.sections, self.file_alignment, &self.opts)
     }
 
-    /// The file offset of an RVA, or `Unmapped`.
+    /// The file offset of an RVA. Error: `Unmapped`.
     pub fn offset_of(&self, rva: u32) -> Result<usize>
         ensures { Gives (λ p. p) result (mapped (offset_in self.now rva)) }
     {
@@ -85,7 +86,7 @@ impl<'a> SectionMap<'a> {
         }
     }
 
-    /// The file offset of an RVA for readers of texts: an unmapped one gets an offset at which no byte stands.
+    /// The file offset of an RVA, for readers of texts: for an unmapped one an offset at which no byte is.
     pub(crate) fn find_or_end(&self, rva: u32) -> usize
         ensures { result ≡ offset_or_end (offset_in self.now rva) }
     {
@@ -93,7 +94,7 @@ impl<'a> SectionMap<'a> {
     }
 }
 
-/// The file offset of an RVA, as `find_offset` returns it, or `Unmapped`.
+/// The file offset of an RVA, as `find_offset` returns it. Error: `Unmapped`.
 pub fn mapped_offset(
     rva: u32,
     sections: &[SectionTable],
@@ -105,8 +106,9 @@ pub fn mapped_offset(
     SectionMap::new(sections, file_alignment, opts).offset_of(rva)
 }
 
-/// What makes a section map fast under many sections: the RVAs cut into pieces, each of which belongs to the first section
-/// that covers it. An index of n sections takes n log n steps to make, and its map log n steps for an RVA.
+/// An index that makes a section map fast under many sections: the RVAs, divided into pieces that each belong to the
+/// first section that covers them. An index of n sections takes n log n steps to make, and its map log n steps for an
+/// RVA.
 #[derive(Drop)]
 pub struct SectionIndex<'a, A: Allocator> {
     sections: &'a [SectionTable],
@@ -128,7 +130,7 @@ impl<'a, A: Allocator> Model for SectionIndex<'a, A> {
 }
 
 impl<'a, A: Allocator> SectionIndex<'a, A> {
-    /// The index of these sections. `Memory` is its one error.
+    /// The index of these sections. Error: `Memory`.
     pub fn new(
         alloc: A,
         sections: &'a [SectionTable],
@@ -140,6 +142,7 @@ impl<'a, A: Allocator> SectionIndex<'a, A> {
         ensures made { IfOk result (λ index. index ≡ map_view opts.now sections.entry.now file_alignment) }
         ensures refused { IfErr result (λ error. error ≡ Memory record {}) }
     {
+        // Otherwise no section is searched: an RVA is its own offset, or every RVA is unmapped.
         let pieces = if opts.resolve_rva && file_alignment.is_power_of_two() {
             Some(pieces_of(alloc, sections, file_alignment)?)
         } else {
@@ -153,7 +156,7 @@ impl<'a, A: Allocator> SectionIndex<'a, A> {
         })
     }
 
-    /// The section map of its sections, by this index.
+    /// The section map of the sections, by this index.
     pub fn map(&self) -> SectionMap<'_>
         ensures { result ≡ self.now }
     {

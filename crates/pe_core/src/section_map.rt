@@ -1,4 +1,7 @@
-//! The section map: from RVAs to file offsets.
+//! The section map: the file offset of an RVA, by the first section that covers it
+//! ([section headers](https://learn.microsoft.com/windows/win32/debug/pe-format#section-table-section-headers)). Raw
+//! pointers are rounded down to 512 bytes and sizes up to 4096, whatever alignments the image states. A caller maps one
+//! RVA by `find_offset`, and many by a `SectionMap`.
 
 ghost use Rattle.std.specs.Prelude.{◌≡◌, ℕ, ◌+◌, ◌%◌, ◌<◌, ◌≤◌, ◌^◌, false, IsTrue, OnSome};
 ghost use Rattle.std.specs.Option.{option_copied};
@@ -8,12 +11,13 @@ ghost use Rattle.pe_core.specs.SectionMap.{rounded_up, raw_start, reach, covers,
 use crate::options::ParseOptions;
 use crate::section_table::SectionTable;
 
-/// How the file's parts are rounded, whatever an image states: raw pointers down to sectors, sizes up to pages.
+/// Raw pointers are rounded down to a multiple of this, whatever file alignment an image states.
 const SECTOR: usize = 512;
 
+/// Raw and virtual sizes are rounded up to a multiple of this, whatever section alignment an image states.
 const PAGE: u32 = 4096;
 
-/// The number rounded up to a multiple of the unit.
+/// `n` rounded up to a multiple of `unit`.
 pub fn rounded_up(n: usize, unit: usize) -> usize
     requires unit { 0 < unit }
     requires room { n + unit ≤ 2 ^ 64 }
@@ -24,7 +28,7 @@ pub fn rounded_up(n: usize, unit: usize) -> usize
     (n + (unit - 1)) / unit * unit
 }
 
-/// The file offset of the section's bytes when it is mapped.
+/// The file offset of the section's data as mapped: its raw pointer rounded down to a sector.
 pub(crate) fn raw_start(section: &SectionTable) -> usize
     ensures place { result ≡ raw_start section.now }
     ensures small { result < 2 ^ 32 }
@@ -32,7 +36,7 @@ pub(crate) fn raw_start(section: &SectionTable) -> usize
     section.pointer_to_raw_data as usize / SECTOR * SECTOR
 }
 
-/// How many RVAs the section covers.
+/// The number of RVAs that the section covers.
 #[tactic(auto, unfolding(crate::specs::SectionMap::reach))]
 pub(crate) fn reach(section: &SectionTable, alignment: u32) -> usize
     requires { 0 < alignment }
@@ -49,8 +53,8 @@ pub(crate) fn reach(section: &SectionTable, alignment: u32) -> usize
     }
 }
 
-/// A cheap test that each section passes which covers an address with these low 32 bits: the page of the address, counted
-/// from the section's beginning, begins before its raw size ends.
+/// A cheap test that every section passes that covers an RVA with these low 32 bits: the page of the RVA starts,
+/// counted from the section's start, before its raw size ends.
 #[tactic(auto, using(crate::proofs::Map::passes))]
 fn may_cover(section: &SectionTable, low: u32) -> bool
     ensures { (alignment address : ℕ) → low ≡ address % 2 ^ 32 → result ≡ false →
@@ -60,8 +64,8 @@ fn may_cover(section: &SectionTable, low: u32) -> bool
     low.wrapping_sub(section.virtual_address) / PAGE * PAGE < raw_size
 }
 
-/// Whether the section covers the address, by all tests. It stands apart so that the search passes a section that fails the
-/// cheap test in nine instructions.
+/// Whether the section covers this RVA, by all tests. Out of line, so that the scan rejects a section by the cheap test
+/// in nine instructions.
 #[cold]
 #[inline(never)]
 fn covers(section: &SectionTable, alignment: u32, address: usize) -> bool
@@ -73,7 +77,7 @@ fn covers(section: &SectionTable, alignment: u32, address: usize) -> bool
     start <= address && address < start + reach(section, alignment)
 }
 
-/// Whether the section covers the address, whose low 32 bits are handed in. Most sections are told apart by the cheap test.
+/// Whether the section covers this RVA, whose low 32 bits are `low`. The cheap test rejects most sections.
 fn covers_by_tests(section: &SectionTable, alignment: u32, address: usize, low: u32) -> bool
     requires some { 0 < alignment }
     requires bits { low ≡ address % 2 ^ 32 }
@@ -83,7 +87,7 @@ fn covers_by_tests(section: &SectionTable, alignment: u32, address: usize, low: 
     may_cover(section, low) && covers(section, alignment, address)
 }
 
-/// The first section that covers the address.
+/// The first section that covers this RVA.
 fn section_of(sections: &[SectionTable], alignment: u32, address: usize) -> Option<&SectionTable>
     requires { 0 < alignment }
     ensures found { option_copied result ≡ find (covers alignment address) sections.now }
@@ -93,8 +97,8 @@ fn section_of(sections: &[SectionTable], alignment: u32, address: usize) -> Opti
     sections.iter().find(|section| covers_by_tests(section, alignment, address, low))
 }
 
-/// The file offset of an RVA, by the first section that covers it. `None` if none does or the file alignment is no power
-/// of two. With `resolve_rva` off an RVA is its own file offset.
+/// The file offset of an RVA, by the first section that covers it. `None` if no section does, or if the file alignment
+/// is not a power of two. With `resolve_rva` off an RVA is its own file offset.
 #[tactic(auto, using(crate::proofs::Map::positive, crate::proofs::Map::found_covers, crate::proofs::Map::find_first), unfolding(crate::specs::SectionMap::offset_of))]
 pub fn find_offset(
     rva: usize,

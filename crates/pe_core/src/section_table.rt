@@ -1,4 +1,6 @@
-//! Section headers.
+//! Section headers: where a section is in the file and in memory
+//! ([layout](https://learn.microsoft.com/windows/win32/debug/pe-format#section-table-section-headers)). A caller gets
+//! them from `Header::sections` or `TeHeader::sections`, and passes them to every call that maps RVAs.
 
 ghost use Rattle.std.specs.Prelude.{◌≡◌, ◌+◌, ◌*◌, ◌<◌, ◌≤◌, ◌^◌, length};
 ghost use Rattle.pe_core.specs.Bytes.{record_at};
@@ -16,26 +18,29 @@ use std::alloc::Allocator;
 /// The size of a section header in bytes.
 const SIZE_OF_SECTION_HEADER: usize = 40;
 
-/// The header of a section, 40 bytes.
+/// A section header (`IMAGE_SECTION_HEADER`), 40 bytes.
 #[repr(C)]
 #[derive(Clone, Copy, Debug, PartialEq)]
 pub struct SectionTable {
-    /// Text, filled up with zeros.
+    /// The name, padded with zeros. `name()` returns it as text.
     pub name: [u8; 8],
-    /// In memory, in bytes.
+    /// The size of the section in memory, in bytes.
     pub virtual_size: u32,
-    /// A relative virtual address.
+    /// The RVA of the section.
     pub virtual_address: u32,
-    /// In the file, in bytes.
+    /// The size of the section's data in the file, in bytes.
     pub size_of_raw_data: u32,
-    /// A place in the file.
+    /// The file offset of the section's data.
     pub pointer_to_raw_data: u32,
-    /// A place in the file.
+    /// The file offset of the section's relocations.
     pub pointer_to_relocations: u32,
-    /// A place in the file.
+    /// The file offset of the section's line numbers.
     pub pointer_to_linenumbers: u32,
+    /// The number of relocations.
     pub number_of_relocations: u16,
+    /// The number of line numbers.
     pub number_of_linenumbers: u16,
+    /// Flags, `IMAGE_SCN_*` of winnt.h.
     pub characteristics: u32,
 }
 
@@ -45,7 +50,7 @@ impl SectionTable {
     ghost use Rattle.pe_core.specs.Records.{section_table};
     ghost use Rattle.pe_core.specs.Sections.{name_of, data_of, raw_end, SharesRawByte};
 
-    /// The section header at a place where its 40 bytes are known to be there.
+    /// The section header at offset `place`, whose 40 bytes the caller knows to lie in `bytes`.
     #[tactic(auto, unfolding(crate::specs::Records::section_table))]
     pub(crate) fn at(bytes: &[u8], place: usize) -> SectionTable
         requires { place + 40 ≤ length bytes.now }
@@ -67,7 +72,7 @@ impl SectionTable {
         }
     }
 
-    /// The section header at the place.
+    /// The section header at offset `place`. Error: `Short`.
     pub fn parse(bytes: &[u8], place: usize) -> Result<SectionTable>
         ensures { Gives (λ s. s) result (record_at bytes.now place 40 (section_table bytes.now place)) }
     {
@@ -82,8 +87,8 @@ impl SectionTable {
         text_of(before_zero(&self.name))
     }
 
-    /// The section's bytes in the file, from its raw pointer on, neither fewer nor more than its raw size. `None` if
-    /// they are not all there.
+    /// The section's data in the file: `size_of_raw_data` bytes from `pointer_to_raw_data` on. `None` if they are
+    /// truncated.
     pub fn data<'a>(&self, bytes: &'a [u8]) -> Option<&'a [u8]>
         ensures { option_map (λ s. s.now) result ≡ data_of bytes.now self.now }
     {
@@ -91,7 +96,7 @@ impl SectionTable {
         slice_at(bytes, place, self.size_of_raw_data as usize).ok()
     }
 
-    /// Where the section's bytes end in the file.
+    /// The file offset at which the section's data ends.
     pub(crate) fn raw_end(&self) -> usize
         ensures value { result ≡ raw_end self.now }
         ensures small { result < 2 ^ 33 }
@@ -112,9 +117,9 @@ impl CoffHeader {
     ghost use Rattle.pe_core.specs.Refusals.{GivesUnlessMemoryAfter};
     ghost use Rattle.pe_core.specs.Sections.{sections_at};
 
-    /// The section headers, which stand from the place on: behind the optional header, or where its size says that
-    /// it ends. `Short` if they are not all there, before memory is asked for. Of a count of 0 nothing is read, so the
-    /// place may be any.
+    /// The section headers from offset `place` on: after the optional header, or where its size says that it ends.
+    /// Errors, in order: `Short` (the section headers are truncated), `Memory`. No headers are no read, so with a count
+    /// of 0 the offset may be any.
     #[tactic(auto, unfolding(crate::specs::Rows::each))]
     pub fn sections<A: Allocator>(
         &self,
@@ -126,6 +131,7 @@ impl CoffHeader {
             result (sections_at bytes.now place self.now.number_of_sections) }
     {
         let count = self.number_of_sections as usize;
+        // A count of 0 reads nothing, so any offset will do.
         if count > 0 {
             require_bytes(bytes, place, SIZE_OF_SECTION_HEADER * count)?;
         }
@@ -140,7 +146,7 @@ impl CoffHeader {
 impl SectionTable {
     ghost use Rattle.pe_core.specs.TerseHeader.{reduced_section};
 
-    /// The section header with its address and its raw pointer reduced by the offset.
+    /// The section header with its RVA and its raw pointer reduced by the offset.
     #[tactic(auto, unfolding(crate::specs::TerseHeader::reduced_section))]
     fn reduced(self, offset: u32) -> SectionTable
         ensures { result ≡ reduced_section offset self }
@@ -157,9 +163,9 @@ impl TeHeader {
     ghost use Rattle.pe_core.specs.Refusals.{GivesUnlessMemoryAfter};
     ghost use Rattle.pe_core.specs.TerseHeader.{te_sections_of};
 
-    /// The section headers, which stand behind the header's 40 bytes. The address and the raw pointer of each are
-    /// reduced as the header's addresses are. Refusals in this order: `TeSize` if fewer than 40 bytes were dropped,
-    /// `Short` if the section headers are not all there, `Memory`.
+    /// The section headers of a TE image, which follow the header's 40 bytes. The RVA and the raw pointer of each are
+    /// reduced as the header's RVAs are. Errors, in order: `TeSize` (fewer than 40 bytes were dropped), `Short` (the
+    /// section headers are truncated), `Memory`.
     #[tactic(auto, unfolding(crate::specs::Rows::each, crate::specs::TerseHeader::te_sections_of))]
     pub fn sections<A: Allocator>(&self, alloc: A, bytes: &[u8]) -> Result<Vec<SectionTable, A>>
         ensures { GivesUnlessMemoryAfter (te_sections_of bytes.now self.now) (λ v. v.items)
@@ -168,6 +174,7 @@ impl TeHeader {
         let offset = self.rva_offset()?;
         let place = SIZE_OF_TE_HEADER as usize;
         let rows = self.number_of_sections as usize;
+        // A count of 0 reads nothing, so any offset will do.
         if rows > 0 {
             require_bytes(bytes, place, SIZE_OF_SECTION_HEADER * rows)?;
         }
@@ -185,8 +192,8 @@ impl<'a> Header<'a> {
     ghost use Rattle.pe_core.specs.Refusals.{GivesUnlessMemoryAfter};
     ghost use Rattle.pe_core.specs.Sections.{sections_place, sections_of};
 
-    /// Where the section headers begin in the file: behind the PE signature, the COFF header and as many bytes as that
-    /// says of the optional header.
+    /// The file offset of the section headers: after the PE signature, the COFF header, and as many bytes as the COFF
+    /// header says of the optional header.
     pub fn sections_place(&self) -> usize
         ensures { result ≡ sections_place (header_view self.now) }
     {
@@ -196,8 +203,8 @@ impl<'a> Header<'a> {
             + self.coff_header.size_of_optional_header as usize
     }
 
-    /// The section headers of the image, whose bytes are handed in. `Short` in both modes if they are not all there,
-    /// before memory is asked for.
+    /// The section headers of the image, whose bytes are passed. Errors, in both modes, in order: `Short` (the section
+    /// headers are truncated), `Memory`.
     pub fn sections<A: Allocator>(&self, alloc: A, bytes: &[u8]) -> Result<Vec<SectionTable, A>>
         ensures { GivesUnlessMemoryAfter (sections_of bytes.now (header_view self.now)) (λ v. v.items)
             result (sections_of bytes.now (header_view self.now)) }

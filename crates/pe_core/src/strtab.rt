@@ -1,4 +1,7 @@
-//! The COFF string table.
+//! The COFF string table: a size of 4 bytes, and NUL-terminated strings, after the COFF symbols
+//! ([layout](https://learn.microsoft.com/windows/win32/debug/pe-format#coff-string-table)). Symbols with a name of more
+//! than 8 bytes have its offset in this table. A caller gets it from `CoffHeader::strings`, and passes it to
+//! `Symbol::name`.
 
 ghost use Rattle.std.specs.Prelude.{◌≡◌, ◌<◌, ◌==◌, [], ◌∷◌, true, false, length, map, IfOk, IfErr, OnErr};
 ghost use Rattle.std.specs.List.{before_first, after_first, list_all};
@@ -15,24 +18,25 @@ use crate::symbol::SIZE_OF_SYMBOL;
 use crate::text::{from_place, text_at, text_of};
 use std::alloc::Allocator;
 
-/// The size field in front of the strings, in bytes.
+/// The size field before the strings, in bytes.
 const SIZE_FIELD: usize = 4;
 
-/// The strings behind the COFF symbols.
+/// The string table of an object or image.
 #[derive(Clone, Copy, Debug, PartialEq)]
 pub struct Strtab<'a> {
-    /// The size field of four bytes and the strings, a range of the input.
+    /// The size field of 4 bytes and the strings, a range of the bytes that were passed. Offsets of strings count from
+    /// here.
     pub bytes: &'a [u8],
 }
 
-/// That a string table has no text at a place, counted from its size field.
+/// `StringTable` with this offset, counted from the size field.
 fn no_text_at(place: usize) -> Error
     ensures { kind_of result ≡ StringTable }
 {
     Error::Malformed(Reason::StringTable(u32::try_from(place).unwrap_or(u32::MAX)))
 }
 
-/// The bytes up to the first zero, and those behind it.
+/// The bytes before the first zero, and those after it.
 #[tactic(auto, using(crate::proofs::Pieces::cut_at_zero))]
 fn cut_at_zero(bytes: &[u8]) -> (&[u8], &[u8])
     ensures piece { result.0.now ≡ before_first (λ c. c == 0) bytes.now }
@@ -44,8 +48,8 @@ fn cut_at_zero(bytes: &[u8]) -> (&[u8], &[u8])
     }
 }
 
-/// The first string of these bytes, which end a table of so many bytes, and what is behind the zero that ends it.
-/// `StringTable` if it is not UTF-8.
+/// The first string of `bytes`, the end of a table of `table_size` bytes, and what follows its zero. Error:
+/// `StringTable` if the string is not UTF-8.
 #[tactic(auto, using(crate::proofs::Pieces::first_piece))]
 fn first_string(bytes: &[u8], table_size: usize) -> Result<(&str, &[u8])>
     requires { 0 < length bytes.now }
@@ -62,7 +66,8 @@ fn first_string(bytes: &[u8], table_size: usize) -> Result<(&str, &[u8])>
     }
 }
 
-/// How many strings these bytes have, which end a table of so many bytes, if each is UTF-8.
+/// The number of strings in `bytes`, the end of a table of `table_size` bytes. Error: `StringTable` if one is not
+/// UTF-8.
 #[tactic(auto, using(crate::proofs::Pieces::no_pieces, crate::proofs::Pieces::room))]
 fn count_strings(bytes: &[u8], table_size: usize) -> Result<usize>
     ensures { Gives (λ n. n) result (outcome ((list_all is_utf8 (pieces bytes.now), StringTable) ∷ []) (length (pieces bytes.now))) }
@@ -76,7 +81,7 @@ fn count_strings(bytes: &[u8], table_size: usize) -> Result<usize>
     Ok(count)
 }
 
-/// The string table at a place, none at the very end of the bytes.
+/// The string table at offset `place`. `None` if that is the end of the bytes. Error: `StringTable` if it is truncated.
 fn strings_at(bytes: &[u8], place: usize) -> Result<Option<Strtab<'_>>>
     ensures { Gives strings_view result (strings_at bytes.entry.now place) }
 {
@@ -100,8 +105,8 @@ impl<'a> Strtab<'a> {
     ghost use Rattle.pe_core.specs.Symbols.{string_at};
     ghost use Rattle.pe_core.specs.Strings.{all_strings};
 
-    /// The string at the offset, which counts the size field. `None` where the offset is inside that field or past the
-    /// end, the string has no zero at its end, or it is not UTF-8.
+    /// The string at this offset, counted from the size field. `None` if the offset is inside the size field or past
+    /// the end, or if the string is not NUL-terminated or not UTF-8.
     pub fn string_at(&self, offset: usize) -> Option<&'a str>
         ensures { option_map (λ s. s.now) result ≡ string_at self.now.bytes.now offset }
     {
@@ -111,8 +116,8 @@ impl<'a> Strtab<'a> {
         text_at(self.bytes, offset)
     }
 
-    /// All strings, in order: the pieces behind the size field that a zero ends, empty ones too, and a last piece without
-    /// a zero unless it is empty. `StringTable` if one is not UTF-8; `Memory`.
+    /// All strings, in order, empty ones included. A last string that is not NUL-terminated counts unless it is empty.
+    /// Errors, in order: `StringTable` (one is not UTF-8), `Memory`.
     #[tactic(auto, using(crate::proofs::Pieces::no_pieces, std::proofs::lemmas::Grind::common_steps))]
     pub fn to_vec<A: Allocator>(&self, alloc: A) -> Result<Vec<&'a str, A>>
         ensures { GivesUnlessMemoryAfter (all_strings self.now.bytes.now) (λ v. map (λ s. s.now) v.items)
@@ -120,6 +125,7 @@ impl<'a> Strtab<'a> {
     {
         let table_size = self.bytes.len();
         let mut rest = from_place(self.bytes, SIZE_FIELD);
+        // Counted first: an invalid string is `StringTable` before any allocation.
         let mut strings = Vec::with_capacity(alloc, count_strings(rest, table_size)?)?;
         while !rest.is_empty() {
             let (string, behind) = first_string(rest, table_size)?;
@@ -133,9 +139,9 @@ impl<'a> Strtab<'a> {
 impl CoffHeader {
     ghost use Rattle.pe_core.specs.Strings.{strings_of, strings_view};
 
-    /// The string table behind the COFF symbols. `None` where the pointer to the symbols is 0, or the file ends behind
-    /// them. `Short` where the symbols are not all there, as `symbols` is refused, `StringTable` where the table isn't. A size
-    /// below 4 is read as 4.
+    /// The string table after the COFF symbols. `None` if the header's pointer to the symbols is 0, or if the bytes end
+    /// after them. A size below 4 is read as 4. Errors, in order: `Short` (the symbols are truncated, as in `symbols`),
+    /// `StringTable` (the string table is truncated).
     #[tactic(auto, unfolding(crate::specs::Strings::strings_of))]
     pub fn strings<'a>(&self, bytes: &'a [u8]) -> Result<Option<Strtab<'a>>>
         ensures { Gives strings_view result (strings_of bytes.entry.now self.now) }

@@ -1,4 +1,7 @@
-//! COFF symbols.
+//! COFF symbols: the symbol table of an object or image
+//! ([layout](https://learn.microsoft.com/windows/win32/debug/pe-format#coff-symbol-table)). A symbol may be followed by
+//! auxiliary records of the same size, which are not symbols. A caller gets the table from `CoffHeader::symbols`, and
+//! names by `Symbol::name`.
 
 ghost use Rattle.std.specs.Prelude.{◌≡◌, ◌+◌, ◌-◌, ◌*◌, ◌/◌, ◌≤◌, length};
 ghost use Rattle.std.specs.Iterator.{at_most};
@@ -13,26 +16,29 @@ use crate::header::CoffHeader;
 use crate::strtab::Strtab;
 use crate::text::{before_zero, text_of};
 
-/// The size of a symbol in bytes.
+/// The size of an entry of the symbol table in bytes, symbol or auxiliary record.
 pub const SIZE_OF_SYMBOL: usize = 18;
 
-/// A row of the COFF symbols, 18 bytes.
+/// A COFF symbol (`IMAGE_SYMBOL`), 18 bytes.
 #[derive(Clone, Copy, Debug, PartialEq)]
 pub struct Symbol {
-    /// Text filled up with zeros; or four zeros, and four bytes for the offset of a longer name in the string table.
+    /// The name, padded with zeros; or four zeros, and the offset of a longer name in the string table, 4 bytes.
+    /// `name()` returns it as text.
     pub name: [u8; 8],
-    /// What it means depends on the storage class, as an offset in the section.
+    /// The value. Its meaning depends on the storage class, for instance an offset in the section.
     pub value: u32,
-    /// The number of the section, the first being 1; 0, -1 and -2 say that there is none.
+    /// The number of the section, from 1. 0, -1 and -2 say that there is none (`IMAGE_SYM_UNDEFINED`, `_ABSOLUTE`,
+    /// `_DEBUG`).
     pub section_number: i16,
+    /// The type, `IMAGE_SYM_TYPE_*` and `IMAGE_SYM_DTYPE_*` of winnt.h.
     pub typ: u16,
+    /// The storage class, `IMAGE_SYM_CLASS_*` of winnt.h.
     pub storage_class: u8,
-    /// How many of the rows behind it tell more of it.
+    /// The number of auxiliary records that follow the symbol.
     pub number_of_aux_symbols: u8,
 }
 
-/// The name that stands in the eight bytes themselves. `None` if they begin with a zero, or are not UTF-8 up to the
-/// first.
+/// The name in the 8 bytes themselves. `None` if they start with a zero, or are not UTF-8 up to the first zero.
 fn inline_name(name: &[u8]) -> Option<&str>
     requires { length name.now ≡ 8 }
     ensures { option_map (λ s. s.now) result ≡ inline_name name.now }
@@ -47,7 +53,7 @@ fn inline_name(name: &[u8]) -> Option<&str>
 impl Symbol {
     ghost use Rattle.pe_core.specs.Symbols.{symbol, symbol_name};
 
-    /// The symbol at a place where its 18 bytes are known to be there.
+    /// The symbol at offset `place`, whose 18 bytes the caller knows to lie in `bytes`.
     #[tactic(auto, unfolding(crate::specs::Symbols::symbol))]
     fn at(bytes: &[u8], place: usize) -> Symbol
         requires { place + 18 ≤ length bytes.now }
@@ -65,7 +71,7 @@ impl Symbol {
         }
     }
 
-    /// The symbol at the place.
+    /// The symbol at offset `place`. Error: `Short`.
     pub fn parse(bytes: &[u8], place: usize) -> Result<Symbol>
         ensures { Gives (λ s. s) result (record_at bytes.now place 18 (symbol bytes.now place)) }
     {
@@ -73,9 +79,9 @@ impl Symbol {
         Ok(Symbol::at(bytes, place))
     }
 
-    /// The name: the one in the eight bytes themselves, or, where they begin with a zero, the string at the offset in
-    /// the last four of them, which counts the string table's size field. `StringTable` where no string is there, it
-    /// has no zero at its end, or it is not UTF-8.
+    /// The name: that in the 8 bytes themselves, or, if they start with a zero, the string of `strings` at the offset
+    /// in the last 4 of them. Error: `StringTable` if no string is there, if it is not NUL-terminated, or if the name
+    /// is not UTF-8.
     #[tactic(auto, unfolding(crate::specs::Symbols::symbol_name))]
     pub fn name<'a>(&'a self, strings: &Strtab<'a>) -> Result<&'a str>
         ensures { Gives (λ s. s.now) result (symbol_name self.entry.now strings.now.bytes.now) }
@@ -90,18 +96,18 @@ impl Symbol {
     }
 }
 
-/// The COFF symbols of an object or image.
+/// The COFF symbol table of an object or image.
 #[derive(Clone, Copy, Debug, PartialEq)]
 pub struct SymbolTable<'a> {
-    /// The rows of 18 bytes, a range of the input.
+    /// The entries of 18 bytes, a range of the bytes that were passed.
     pub bytes: &'a [u8],
 }
 
 impl<'a> SymbolTable<'a> {
     ghost use Rattle.pe_core.specs.Symbols.{table_of, row_at};
 
-    /// The symbols, each with its row and the name in its eight bytes, if it has one. The rows that tell more of a
-    /// symbol are passed over.
+    /// The symbols, each as its index in the table, the name in its 8 bytes (if it is there), and the symbol. Auxiliary
+    /// records are skipped, so the indices skip them too.
     pub fn iter(&self) -> SymbolIterator<'a>
         ensures table { table_of result ≡ self.now.bytes.now }
         ensures first { row_at result ≡ 0 }
@@ -113,7 +119,7 @@ impl<'a> SymbolTable<'a> {
     }
 }
 
-/// The symbols that are left of a table.
+/// An iterator over the symbols that are left of a table.
 #[derive(Clone, Copy, Debug)]
 pub struct SymbolIterator<'a> {
     bytes: &'a [u8],
@@ -139,6 +145,7 @@ impl<'a> Iterator for SymbolIterator<'a> {
         let place = SIZE_OF_SYMBOL * row;
         let symbol = Symbol::at(bytes, place);
         let name = inline_name(&bytes[place..place + 8]);
+        // Skips the auxiliary records.
         self.row = row + 1 + usize::from(symbol.number_of_aux_symbols);
         Some((row, name, symbol))
     }
@@ -147,8 +154,8 @@ impl<'a> Iterator for SymbolIterator<'a> {
 impl CoffHeader {
     ghost use Rattle.pe_core.specs.Symbols.{symbols_of, table_view};
 
-    /// The COFF symbols. `None` where their pointer is 0, `Short` where they are not all there. The rows are one read, so
-    /// a pointer past the end of the bytes is `Short` with 0 rows too.
+    /// The COFF symbol table. `None` if the header's pointer to it is 0. Error: `Short` if it is truncated. The entries
+    /// are one read, so a pointer past the end of the bytes is `Short` even with 0 entries.
     #[tactic(auto, unfolding(crate::specs::Symbols::symbols_of))]
     pub fn symbols<'a>(&self, bytes: &'a [u8]) -> Result<Option<SymbolTable<'a>>>
         ensures { Gives table_view result (symbols_of bytes.entry.now self.now) }

@@ -1,4 +1,4 @@
-//! Bytes that are text, and texts that a zero ends.
+//! Texts: bytes that are UTF-8, NUL-terminated where they stand in a table of the image.
 
 ghost use Rattle.std.specs.Prelude.{◌≡◌, ◌==◌, drop};
 ghost use Rattle.std.specs.List.{before_first};
@@ -15,7 +15,7 @@ pub(crate) fn text_of(bytes: &[u8]) -> Option<&str>
     str::from_utf8(bytes).ok()
 }
 
-/// The bytes up to the first zero, or all of them.
+/// The bytes before the first zero, or all of them.
 #[tactic(auto, using(crate::proofs::Texts::before_zero))]
 pub(crate) fn before_zero(bytes: &[u8]) -> &[u8]
     ensures { result.now ≡ before_first (λ c. c == 0) bytes.now }
@@ -26,7 +26,7 @@ pub(crate) fn before_zero(bytes: &[u8]) -> &[u8]
     }
 }
 
-/// The bytes from the place on. None behind their end.
+/// The bytes from offset `place` on. Empty past their end.
 #[tactic(auto, using(crate::proofs::Texts::rests))]
 pub(crate) fn from_place(bytes: &[u8], place: usize) -> &[u8]
     ensures { result.now ≡ drop place bytes.now }
@@ -38,8 +38,8 @@ pub(crate) fn from_place(bytes: &[u8], place: usize) -> &[u8]
     }
 }
 
-/// The text at the place: the bytes from there up to the first zero. `None` if no zero follows, if the bytes in front
-/// of it are not UTF-8, or if the place is past the end.
+/// The text at offset `place`: the bytes from there up to the first zero. `None` if it is not NUL-terminated or not
+/// UTF-8, or if the offset is past the end.
 #[tactic(auto, using(crate::proofs::Texts::to_zero))]
 pub fn text_at(bytes: &[u8], place: usize) -> Option<&str>
     ensures { option_map (λ s. s.now) result ≡ text_at bytes.now place }

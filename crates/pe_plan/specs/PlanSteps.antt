@@ -1,5 +1,4 @@
--- How a chain is walked: once to count its records, and once more to take them. Contracts of private functions alone cite
--- it.
+-- How a chain is walked: first to count its records, then to take them. Only private contracts cite this.
 use Rattle.std.specs.Prelude.{◌≡◌, ℕ, List, length, Some, None, Result, Ok, Err}
 use Rattle.pe_core.specs.Refusals.{Refusal, Memory}
 use Rattle.pe_unwind.specs.declared.function_table.RuntimeFunction.{RuntimeFunction}
@@ -7,17 +6,17 @@ use Rattle.pe_unwind.specs.Links.{Table}
 use Rattle.pe_unwind.specs.UnwindRecord.{UnwindInfoView}
 use Rattle.pe_plan.specs.Plans.{IsChain, PlansFrom}
 
--- the chain has so many records up to its root
+-- the chain has n records up to its root
 abbrev pub HasLength : Table → List ℕ → RuntimeFunction → ℕ → Type 0
 HasLength t b f n = (is : List UnwindInfoView) × (length is ≡ n) × IsChain t b (Some f) is None
 
--- what counting the records of a chain answers, which takes no memory
+-- the result of counting the records of a chain, which never allocates
 abbrev pub Counts : Table → List ℕ → RuntimeFunction → Result ℕ Refusal → Type 0
 Counts t b f (Ok n) = HasLength t b f n
 Counts t b f (Err Memory) = ⊥
 Counts t b f (Err e) = PlansFrom t b f (Err e)
 
--- what taking the records of a chain that ends answers
+-- the result of taking the records of a chain that ends
 abbrev pub Takes : Table → List ℕ → RuntimeFunction → Result (List UnwindInfoView) Refusal → Type 0
 Takes t b f (Ok is) = IsChain t b (Some f) is None
 Takes t b f (Err Memory) = Unit {0}

@@ -1,4 +1,6 @@
-//! Chains of unwind records: each is that of the function to which the one before it is chained.
+//! Chains of unwind records ([layout](https://learn.microsoft.com/cpp/build/exception-handling-x64)): a record with
+//! `UNW_FLAG_CHAININFO` names the function whose record follows it in the chain. A chain is walked twice, first to
+//! count its records and then to take them.
 
 ghost use Rattle.std.specs.Prelude.{◌≡◌, ◌<◌, ◌^◌, map};
 ghost use Rattle.pe_core.specs.Refusals.{answer_by};
@@ -13,10 +15,10 @@ use pe_unwind::laws::x64::one_record_of_addresses;
 use pe_unwind::{ExceptionData, RuntimeFunction, UnwindInfo};
 use std::alloc::Allocator;
 
-/// How many unwind addresses there are.
+/// The number of unwind RVAs: a chain of more records is a loop.
 const ADDRESSES: usize = 0x1_0000_0000;
 
-/// The unwind address of a function, one of so many.
+/// The unwind RVA of a function, which is below `ADDRESSES`.
 fn address_of(function: RuntimeFunction) -> u32
     ensures value { result ≡ function.unwind_info_address }
     ensures small { function.unwind_info_address < 2 ^ 32 }
@@ -24,10 +26,12 @@ fn address_of(function: RuntimeFunction) -> u32
     function.unwind_info_address
 }
 
-/// The records of exception data, and the section map of their image.
+/// What reads the record of a function.
 #[derive(Clone, Copy)]
 pub(crate) struct Records<'a, 'b> {
+    /// The exception data, which has the function table and the records.
     pub exceptions: &'b ExceptionData<'a>,
+    /// The section map of their image.
     pub sections: &'b SectionMap<'b>,
 }
 
@@ -40,8 +44,11 @@ impl<'a, 'b> Records<'a, 'b> {
             .get_unwind_info_with_map(function, self.sections)
     }
 
-    /// How many records the chain of a function has, up to its root. One unwind address is saved after 1, 2, 4, 8 and so
-    /// on records, so a ring ends after about as many records as it has, and those before it. No memory is asked for.
+    /// The number of records in the chain of a function, up to its root. Errors: `FunctionCycle` if the chain never
+    /// ends, otherwise the first error of a record.
+    ///
+    /// One unwind RVA is saved after 1, 2, 4, 8 and so on records (Brent's cycle detection), so a loop is found after
+    /// about as many records as it has, and those before it. Nothing is allocated.
     pub fn count(&self, function: RuntimeFunction) -> Result<usize>
         ensures { Counts (links_by self.now.exceptions.now self.now.sections.now) self.now.exceptions.now.content function (answer_of result) }
     {
@@ -54,6 +61,7 @@ impl<'a, 'b> Records<'a, 'b> {
                 return Ok(chained + 1);
             };
             let address = address_of(next);
+            // The saved RVA has come again, and equal RVAs have equal records: the chain never ends.
             if address == saved {
                 return Err(Error::Malformed(Reason::FunctionCycle(chained + 1)));
             }
@@ -66,7 +74,8 @@ impl<'a, 'b> Records<'a, 'b> {
         Err(Error::Malformed(Reason::FunctionCycle(ADDRESSES)))
     }
 
-    /// The records of the chain of a function, which has so many. Memory is asked for once.
+    /// The records of the chain of a function, which has `count` of them. Error: `Memory`; the records are allocated
+    /// once.
     pub fn take<A: Allocator>(
         &self,
         alloc: A,

@@ -12,7 +12,7 @@ ghost use Rattle.pe_unwind.specs.Links.{Table};
 ghost use Rattle.pe_unwind.specs.UnwindRecord.{UnwindInfoView};
 ghost use Rattle.pe_plan.specs.Plans.{EndsAtRoot, NeverEnds, Plans, PlansFrom};
 
-/// A plan that is given is not empty. Its last record is chained to none, and each other to the next function.
+/// A plan is not empty. Its last record is chained to none, and each other record is chained to another function.
 #[tactic(auto, using(crate::proofs::Roots::plan_ends_at_root, crate::proofs::Roots::found_plan_ends_at_root))]
 pub fn plans_end_at_their_root()
     ensures function { (t : Table) (b : List ℕ) (f : RuntimeFunction) (is : List UnwindInfoView) → PlansFrom t b f (Ok is) → EndsAtRoot is }
@@ -20,15 +20,14 @@ pub fn plans_end_at_their_root()
         Plans v sections opts a (Ok (Some is)) → EndsAtRoot is }
 {}
 
-/// An address of code has no plan exactly where no function was found: in a table sorted by start RVA, where the scan
-/// finds none.
+/// In a table sorted by start RVA, an RVA of code has no plan exactly if a linear scan finds no function for it.
 #[tactic(auto, using(crate::proofs::Roots::none_scanned))]
 pub fn no_plan_without_a_function()
     ensures { (v : ExceptionView) (sections : List SectionTable) (opts : ParseOptions) (a : ℕ) (x : Result (Option (List UnwindInfoView)) Refusal) →
         Plans v sections opts a x → NeverFalls (functions (table_of v)) → ((x ≡ Ok None) ↔ (scan (functions (table_of v)) a ≡ None)) }
 {}
 
-/// A function has a plan, and one alone, want of memory aside; and it is a cycle exactly where the chain goes on for ever.
+/// Apart from `Memory`, a function has one plan and no other; it is `FunctionCycle` exactly if the chain never ends.
 pub fn one_plan_of_functions()
     ensures exists { (t : Table) (b : List ℕ) (f : RuntimeFunction) → AreBytes b →
         (x : Result (List UnwindInfoView) Refusal) × PlansFrom t b f x × (x ≢ Err Memory) }

@@ -1,8 +1,11 @@
-//! The plan of an unwinder: every unwind record of a function, from its own to the root of its chain.
+//! The plan of an unwinder: the unwind records of a function on x64, from its own to the root of its chain.
 //!
-//! A record of x64 may be chained to another function, whose record goes on with it, and that one to a third. Whoever
-//! unwinds a frame needs them all. A hostile image may chain them in a ring: the plan is proved to be refused as
-//! `FunctionCycle` exactly where the chain goes on for ever, and otherwise to be all records, or the first fault.
+//! A record with `UNW_FLAG_CHAININFO` names another function, whose record goes on with it; that one may be chained to
+//! a third ([layout](https://learn.microsoft.com/cpp/build/exception-handling-x64)). Unwinding a frame needs all of
+//! them. A hostile image may chain records in a loop: a plan is proved to be `FunctionCycle` exactly if the chain never
+//! ends, and otherwise all records or the first error.
+//!
+//! A caller passes an RVA to `UnwindPlan::of`, and the records that it returns to `step` of pe_frame.
 #![tactic(auto)]
 
 mod chain;

@@ -1,4 +1,4 @@
-//! The plan of a function, and of an address of code.
+//! The plan of a function, and the plan of an RVA of code.
 
 ghost use Rattle.std.specs.Prelude.{◌≡◌, ◌↔◌, map, Err};
 ghost use Rattle.std.specs.Option.{option_map};
@@ -13,12 +13,13 @@ use pe_unwind::laws::x64::one_record_of_addresses;
 use pe_unwind::{ExceptionData, RuntimeFunction, UnwindInfo};
 use std::alloc::Allocator;
 
-/// How the frame of a function is unwound, up to the root of its chain of records.
+/// The plan of a function: its unwind records, from its own to the root of the chain. Its calls return them in this
+/// order.
 pub struct UnwindPlan;
 
 impl UnwindPlan {
-    /// The unwind records of the function that covers an address, as `of_function` gives them. `None` where no function
-    /// covers it.
+    /// The plan of the function that covers `rva`, as `of_function` returns it. `None` if
+    /// `ExceptionData::find_function` finds no function. Errors: those of `of_function`.
     pub fn of<'a, A: Allocator>(
         alloc: A,
         exceptions: &ExceptionData<'a>,
@@ -36,12 +37,11 @@ impl UnwindPlan {
         Ok(Some(records))
     }
 
-    /// The unwind records of a function: its own, then that of the function to which this one is chained, and so on to the
-    /// first that is chained to none.
-    ///
-    /// `FunctionCycle` exactly if the chain goes on for ever, in records or in the links of one of its functions; else
-    /// the first refusal of a record, as `ExceptionData::get_unwind_info_with_opts` gives it. Memory is asked for once,
-    /// and only where the chain ends.
+    /// The plan of a function: its own record, then that of the function to which this one is chained, and so on up to
+    /// the root, which is chained to none. Errors:
+    /// - `FunctionCycle`: exactly if the chain never ends, in records or in the links of one of its functions;
+    /// - otherwise the first error of a record, as `ExceptionData::get_unwind_info_with_opts` returns it;
+    /// - `Memory`: the records are allocated once, and only if the chain ends.
     pub fn of_function<'a, A: Allocator>(
         alloc: A,
         exceptions: &ExceptionData<'a>,
@@ -56,8 +56,8 @@ impl UnwindPlan {
         UnwindPlan::of_function_with_map(alloc, exceptions, function, &sections)
     }
 
-    /// The unwind records of a function, as `of_function` returns them, by a section map. With an index (`SectionIndex`) each
-    /// step takes few steps under many sections.
+    /// The plan of a function, as `of_function` returns it, by a section map. With an index (`SectionIndex`) each
+    /// record takes few steps, however many sections there are.
     pub fn of_function_with_map<'a, A: Allocator>(
         alloc: A,
         exceptions: &ExceptionData<'a>,

@@ -6,7 +6,8 @@ ghost use Rattle.pe_core.specs.declared.header.TheConstants.{COFF_MACHINE_ARM64,
 ghost use Rattle.pe_core.specs.declared.optional_header.TheConstants.{MAGIC_32, MAGIC_64};
 ghost use Rattle.pe_core.specs.declared.symbol.TheConstants.{SIZE_OF_SYMBOL};
 
-/// Magic numbers and sizes of headers, the machines that have exception data, the flag of a DLL, and the size of a symbol.
+/// Magic numbers and sizes of headers, the machines that have exception data, the flag of a DLL, and the size of a
+/// symbol.
 pub fn constants_of_headers()
     ensures dos_magic { DOS_MAGIC ≡ 0x5A4D }
     ensures pe_magic { PE_MAGIC ≡ 0x4550 }

@@ -1,5 +1,5 @@
-//! What `==`, `clone` and `default` mean: two values are equal if all their fields are, a clone is its original, and a
-//! default has zeros.
+//! What `==`, `clone` and `default` mean: two values are equal if all their fields are, a clone equals its original,
+//! and a default has zeros.
 
 ghost use Rattle.std.specs.Prelude.{◌≡◌};
 ghost use Rattle.pe_core.specs.declared.byte_range.ByteRange.{ByteRange};
@@ -39,7 +39,7 @@ use crate::section_table::SectionTable;
 use crate::strtab::Strtab;
 use crate::symbol::{Symbol, SymbolIterator, SymbolTable};
 
-/// Values of plain numbers are equal if they are the same.
+/// Values of plain numbers are equal exactly if they are the same.
 pub fn equal_records_are_the_same()
     ensures byte_range { IsEquality ⟦<ByteRange as PartialEq>⟧.eq }
     ensures parse_mode { IsEquality ⟦<ParseMode as PartialEq>⟧.eq }
@@ -54,12 +54,12 @@ pub fn equal_records_are_the_same()
     ensures export_directory_table { IsEquality ⟦<ExportDirectoryTable as PartialEq>⟧.eq }
 {}
 
-/// Directories are equal exactly if the rows that they keep are.
+/// Directories are equal exactly if the entries that they keep are.
 pub fn equal_directories_keep_the_same_rows()
     ensures { ComparesBy kept_rows ⟦<DataDirectories as PartialEq>⟧.eq }
 {}
 
-/// Reasons are equal exactly if they are of one kind and tell the same.
+/// Reasons are equal exactly if their variants and their numbers are.
 pub fn reasons_are_equal_if_they_are_the_same()
     ensures { IsEquality ⟦<Reason as PartialEq>⟧.eq }
 {}
@@ -104,7 +104,7 @@ pub fn defaults_are_zeros()
     ensures { (x : ByteRange) → ⟦<ByteRange as Default>⟧.is_default x → x ≡ record { place = 0; length = 0 } }
 {}
 
-/// A clone is its original.
+/// A clone equals its original.
 pub fn clones_of_records_are_the_same()
     ensures byte_range { Copies ⟦<ByteRange as Clone>⟧.is_clone }
     ensures parse_mode { Copies ⟦<ParseMode as Clone>⟧.is_clone }

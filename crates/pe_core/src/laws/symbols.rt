@@ -4,8 +4,8 @@ ghost use Rattle.std.specs.Prelude.{◌≡◌, ℕ, ◌≤◌, List, length, map
 ghost use Rattle.std.specs.List.{range_with_len};
 ghost use Rattle.pe_core.specs.Symbols.{SymbolItem, AreSymbols, item_in, row_of, row_count};
 
-/// The symbols that follow one another from the first row to the end of a table, as its iterator gives them, are those
-/// in the rows of the definition, and there are no more.
+/// The symbols that the iterator returns, from the first entry to the end of the table, are those at the indices of the
+/// definition, and there are no more.
 #[tactic(auto, using(crate::proofs::SymbolRows::in_rows, crate::proofs::SymbolRows::all_rows))]
 pub fn symbols_stand_in_their_rows()
     ensures items { (b : List ℕ) (items : List SymbolItem) → AreSymbols b 0 items → items ≡ map (λ k. item_in b (row_of b k)) (range_with_len 0 (length items)) }
