@@ -15,7 +15,7 @@ use std::fmt;
 pub enum Reason {
     /// The DOS header's pointer to the PE header, which is below 64.
     HeaderPointer(u32),
-    /// The RVA of the name of a library, or of the hint before the name of an imported function.
+    /// The RVA of the name of a DLL, or of the hint before the name of an imported function.
     ImportName(u32),
     /// An offset in the string table, from its size field: the one that a symbol has, that of the first byte of a
     /// string that is not UTF-8, or the end of a truncated table.
