@@ -20,8 +20,11 @@ pub fn is_library(header: &Header<'_>) -> bool
 #[derive(Clone, Copy)]
 pub struct Layout {
     pub is_64: bool,
+    /// The RVA of the entry point.
     pub entry: u32,
+    /// The preferred virtual address of the loaded image.
     pub image_base: u64,
+    /// In bytes.
     pub file_alignment: u32,
     pub exports: Option<DataDirectory>,
     pub imports: Option<DataDirectory>,
