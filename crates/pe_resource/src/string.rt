@@ -35,8 +35,8 @@ const SIZE_OF_UNIT: usize = 2;
 /// fixed file information.
 #[derive(Clone, Copy, Debug, PartialEq)]
 pub struct ResourceString<'a> {
-    /// The length of the string in bytes, with all strings that it contains, as the file states it. Parsing doesn't
-    /// rely on it.
+    /// The length of the string in bytes, with all strings that it contains, as the file states it. Parsing only tests
+    /// it for 0, which ends the strings.
     pub len: u16,
     /// The length of the value: in code units if it is a text, else in bytes.
     pub value_len: u16,
