@@ -1,4 +1,4 @@
--- The core of an image as the code keeps it: for proofs alone.
+-- The core of an image as the code keeps it. For proofs only.
 use Rattle.std.specs.Prelude.{map}
 use Rattle.std.specs.Option.{option_map}
 use Rattle.pe_core.specs.Exports.{export_data_view, export_view}
@@ -7,6 +7,7 @@ use Rattle.pe_core.specs.Imports.{import_data_view, import_view}
 use Rattle.pe_image.specs.Core.{CoreView, AreLibrariesOf}
 use Rattle.pe_image.specs.declared.core_image.Core.{Core}
 
+-- the view of a core
 abbrev pub core_view : {Z : Type 0} → Core Z → CoreView
 core_view c = record {
   header = header_view c.header;
@@ -17,6 +18,6 @@ core_view c = record {
   imports = map import_view c.imports.items;
 }
 
--- its libraries are those of its import directory
+-- the libraries of a core are those of its import directory
 abbrev pub CoreHasLibraries : {Z : Type 0} → Core Z → Type 0
 CoreHasLibraries c = AreLibrariesOf (option_map import_data_view c.import_data) (map (λ s. s.now) c.libraries.items)

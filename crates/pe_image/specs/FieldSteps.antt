@@ -1,4 +1,4 @@
--- The fields in front of the resources, one read after the other: for proofs alone.
+-- The fields before the resources, read one after the other. For proofs only.
 use Rattle.std.specs.Prelude.{◌≡◌, List, [], ℕ, Option, Some, None, Result, Ok, map}
 use Rattle.std.specs.Option.{option_map}
 use Rattle.pe_core.specs.Modes.{none_if_refused, empty_if_refused}
@@ -17,21 +17,22 @@ use Rattle.pe_image.specs.Fields.{Field, IsField}
 use Rattle.pe_image.specs.Image.{FirstFieldsView, debug_of, exceptions_of, relocations_of, certificates_of}
 use Rattle.pe_image.specs.declared.fields.FirstFields.{FirstFields}
 
--- what a mode makes of a field that is read
+-- a field by mode: strict mode keeps a refusal, permissive mode makes it `None`
 abbrev pub by_mode : {X : Type 0} → ParseMode → Field X → Result (Option X) Refusal
 by_mode mode None = Ok None
 by_mode mode (Some r) = none_if_refused mode r
 
--- the same with a list, of which nothing is an empty one
+-- the same for a list, which is empty if it is absent, and in permissive mode if it is refused
 abbrev pub list_by_mode : {X : Type 0} → ParseMode → Field (List X) → Result (List X) Refusal
 list_by_mode mode None = Ok []
 list_by_mode mode (Some r) = empty_if_refused mode [] r
 
--- what reading the resources of a directory by mode answers
+-- the result of reading the resources of a directory, by mode
 abbrev pub GivesResources : ParseOptions → List ℕ → List SectionTable → ℕ → Option DataDirectory → Result (Option ResourceData) Error → Type 0
 GivesResources opts b sections unit d answer =
     (f : Field ResourceView) × IsField (λ d r. IsResource opts b d sections unit r) d f × (answer_by (option_map resource_view) answer ≡ by_mode opts.parse_mode f)
 
+-- the view of the fields before the resources
 abbrev pub first_fields_view : {Z : Type 0} → FirstFields Z → FirstFieldsView
 first_fields_view f = record {
   debug_data = option_map debug_view f.debug_data;
@@ -40,6 +41,7 @@ first_fields_view f = record {
   certificates = map certificate_view f.certificates.items;
 }
 
+-- the fields before the resources, by mode, or the first refusal
 unfoldable pub first_fields_in_turn : List ℕ → ParseOptions → CoreView → Result FirstFieldsView Refusal
 first_fields_in_turn b opts c = do
   debug ← by_mode opts.parse_mode (debug_of b opts c)

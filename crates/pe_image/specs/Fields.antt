@@ -1,5 +1,5 @@
--- The directories of an image, each defined alone: absent, a value, or a refusal. (PE format: optional header data
--- directories; which are read and which of them the options pass over is this project's profile.)
+-- The directories of an image, each defined on its own: absent, a value, or a refusal. (PE format: optional header data
+-- directories; which of them are read, and which the options turn off, is this project's profile.)
 use Rattle.std.specs.Prelude.{◌≡◌, ℕ, ◌==◌, List, Option, Some, None, Result, Ok, Err, if◌then◌else◌}
 use Rattle.pe_core.specs.Header.{OptionalHeaderView}
 use Rattle.pe_core.specs.Refusals.{Refusal}
@@ -17,7 +17,7 @@ use Rattle.pe_image.specs.Layout.{directory, alignment}
 abbrev pub Field : Type 0 → Type 0
 Field X = Option (Result X Refusal)
 
--- what a directory holds, if there is one
+-- the content of a directory, if there is one
 abbrev pub field : {X : Type 0} → (DataDirectory → Result X Refusal) → Option DataDirectory → Field X
 field value None = None
 field value (Some d) = Some (value d)
@@ -26,7 +26,7 @@ field value (Some d) = Some (value d)
 abbrev pub debug_field : List ℕ → ParseOptions → List SectionTable → Option OptionalHeaderView → Field DebugFields
 debug_field b opts sections o = field (λ d. debug_data opts b d sections (alignment o) 0) (directory 6 o)
 
--- exception data in a directory: entries of 12 bytes for x64, of 8 bytes for ARM64, and absent for another machine
+-- exception data in a directory: entries of 12 bytes for x64, of 8 bytes for ARM64; absent for any other machine
 abbrev pub exceptions_for : ℕ → (ℕ → DataDirectory → Result ExceptionView Refusal) → Option DataDirectory → Field ExceptionView
 exceptions_for machine value d =
     if machine == 0x8664 then field (value 12) d else (if machine == 0xAA64 then field (value 8) d else None)
@@ -40,25 +40,26 @@ exception_field b opts sections machine o =
 abbrev pub relocation_field : List ℕ → ParseOptions → List SectionTable → Option OptionalHeaderView → Field (List ℕ)
 relocation_field b opts sections o = field (λ d. directory_bytes opts b d sections (alignment o)) (directory 5 o)
 
--- certificates: directory 4, whose address is a place in the file, unless the options pass it over
+-- certificates: directory 4, whose address is a file offset; absent if `parse_attribute_certificates` is off
 abbrev pub certificate_field : List ℕ → ParseOptions → Option OptionalHeaderView → Field (List CertificateView)
 certificate_field b opts o =
     if opts.parse_attribute_certificates then field (λ d. certificates_at b d.virtual_address d.size) (directory 4 o) else None
 
--- resources: directory 2, unless the options pass it over
+-- resources: directory 2; absent if `parse_resources` is off
 abbrev pub resource_directory : ParseOptions → Option OptionalHeaderView → Option DataDirectory
 resource_directory opts o = if opts.parse_resources then directory 2 o else None
 
--- this is what a directory holds by a relation, if there is one
+-- this is the field of a directory, whose content a relation describes; absent without a directory
 abbrev pub IsField : {X : Type 0} → (DataDirectory → Result X Refusal → Type 0) → Option DataDirectory → Field X → Type 0
 IsField Holds None f = f ≡ None
 IsField Holds (Some d) None = ⊥
 IsField Holds (Some d) (Some r) = Holds d r
 
+-- this is the field of the resources
 abbrev pub IsResourceField : List ℕ → ParseOptions → List SectionTable → Option OptionalHeaderView → Field ResourceView → Type 0
 IsResourceField b opts sections o f = IsField (λ d r. IsResource opts b d sections (alignment o) r) (resource_directory opts o) f
 
--- a field's value: nothing where it is absent or refused
+-- the value of a field; `None` if it is absent or refused
 abbrev pub given_value : {X : Type 0} → Field X → Option X
 given_value None = None
 given_value (Some (Ok x)) = Some x

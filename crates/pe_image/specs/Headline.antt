@@ -1,5 +1,5 @@
--- The promise of permissive mode: an image is refused exactly as its core is; otherwise an image is given, and each
--- directory of it is read alone. (This project's profile.)
+-- The promise of permissive mode: an image is refused exactly if its core is, with the same refusal. Otherwise there is
+-- an image, and each directory of it is read on its own. (This project's profile.)
 use Rattle.std.specs.Prelude.{◌≡◌, ℕ, List, [], Result, Ok, Err, unwrap_or, option_and_then}
 use Rattle.pe_core.specs.Refusals.{Refusal}
 use Rattle.pe_core.specs.declared.options.ParseOptions.{ParseOptions}
@@ -18,7 +18,7 @@ pub record AreDerived (c : CoreView) (x : ImageView) : Type 0 where
   pub base : x.image_base ≡ image_base c.header.optional_header
   pub size : x.size ≡ 0
 
--- the fields of the directories: each is what its own definition gives, and empty where that is absent or refused
+-- the fields of the directories: each has the value of its own definition, and is empty if that is absent or refused
 pub record AreAlone (b : List ℕ) (o : ParseOptions) (c : CoreView) (x : ImageView) : Type 0 where
   pub debug : x.debug_data ≡ given_value (debug_of b o c)
   pub exceptions : x.exception_data ≡ given_value (exceptions_of b o c)
@@ -26,13 +26,13 @@ pub record AreAlone (b : List ℕ) (o : ParseOptions) (c : CoreView) (x : ImageV
   pub certificates : x.certificates ≡ unwrap_or (given_value (certificates_of b o c)) []
   pub resources : (f : Field ResourceView) × AreResourcesOf b o c f × (x.resource_data ≡ given_value f)
 
--- an image of a core: no field is left out
+-- this is an image of a core: every field is defined
 pub record IsOfCore (b : List ℕ) (o : ParseOptions) (c : CoreView) (x : ImageView) : Type 0 where
   pub core : core_part x ≡ c
   pub derived : AreDerived c x
   pub directories : AreAlone b o c x
 
--- what permissive mode answers for a core, or for its refusal
+-- the result of permissive mode for a core, or for the refusal of the core
 abbrev pub IsPermissive : List ℕ → ParseOptions → Result CoreView Refusal → Result ImageView Refusal → Type 0
 IsPermissive b o (Err refusal) answer = answer ≡ Err refusal
 IsPermissive b o (Ok c) (Err refusal) = ⊥

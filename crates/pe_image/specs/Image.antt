@@ -1,5 +1,5 @@
--- An image by mode: where its core is refused it is refused; strict mode refuses it for its first refused field, and
--- permissive mode leaves a refused field empty. (This project's profile.)
+-- An image by mode: it is refused if its core is refused. Strict mode also refuses it if a field is refused, for the
+-- first such field. Permissive mode leaves a refused field empty. (This project's profile.)
 use Rattle.std.specs.Prelude.{◌≡◌, ℕ, Bool, List, [], map, Option, Some, None, Result, Ok, Err, IsOk, unwrap_or, option_and_then}
 use Rattle.std.specs.Option.{option_map}
 use Rattle.pe_core.specs.Exports.{ExportDataView, ExportView, export_data_view, export_view}
@@ -20,7 +20,7 @@ use Rattle.pe_image.specs.Fields.{Field, given_value, debug_field, exception_fie
 use Rattle.pe_image.specs.Layout.{is_64, entry_point, image_base, is_library}
 use Rattle.pe_image.specs.declared.pe.PE.{PE}
 
--- an image without where its bytes lie in memory, but for the names of its libraries
+-- an image, independent of where its bytes lie in memory, and without the names of its libraries
 pub record ImageView : Type 0 where
   pub header : HeaderView
   pub sections : List SectionTable
@@ -40,6 +40,7 @@ pub record ImageView : Type 0 where
   pub certificates : List CertificateView
   pub resource_data : Option ResourceView
 
+-- the view of an image
 abbrev pub image_view : {Z : Type 0} → PE Z → ImageView
 image_view p = record {
   header = header_view p.header;
@@ -65,7 +66,7 @@ image_view p = record {
 abbrev pub source_of : {Z : Type 0} → PE Z → List ℕ
 source_of p = p.bytes.now
 
--- the names of its libraries
+-- the names of the libraries of an image
 abbrev pub libraries_of : {Z : Type 0} → PE Z → List (List ℕ)
 libraries_of p = map (λ s. s.now) p.libraries.items
 
@@ -73,24 +74,29 @@ libraries_of p = map (λ s. s.now) p.libraries.items
 abbrev pub HasLibraries : {Z : Type 0} → PE Z → Type 0
 HasLibraries p = AreLibrariesOf (image_view p).import_data (libraries_of p)
 
--- the core that an image holds
+-- the core of an image
 abbrev pub core_part : ImageView → CoreView
 core_part x = record { header = x.header; sections = x.sections; export_data = x.export_data; exports = x.exports; import_data = x.import_data; imports = x.imports }
 
 -- ---- the fields of a core
 
+-- debug data
 abbrev pub debug_of : List ℕ → ParseOptions → CoreView → Field DebugFields
 debug_of b opts c = debug_field b opts c.sections c.header.optional_header
 
+-- exception data, by the machine in the COFF header
 abbrev pub exceptions_of : List ℕ → ParseOptions → CoreView → Field ExceptionView
 exceptions_of b opts c = exception_field b opts c.sections c.header.coff_header.machine c.header.optional_header
 
+-- base relocations
 abbrev pub relocations_of : List ℕ → ParseOptions → CoreView → Field (List ℕ)
 relocations_of b opts c = relocation_field b opts c.sections c.header.optional_header
 
+-- certificates
 abbrev pub certificates_of : List ℕ → ParseOptions → CoreView → Field (List CertificateView)
 certificates_of b opts c = certificate_field b opts c.header.optional_header
 
+-- this is the field of the resources
 abbrev pub AreResourcesOf : List ℕ → ParseOptions → CoreView → Field ResourceView → Type 0
 AreResourcesOf b opts c f = IsResourceField b opts c.sections c.header.optional_header f
 
@@ -103,7 +109,7 @@ pub record FirstFieldsView : Type 0 where
   pub relocation_data : Option (List ℕ)
   pub certificates : List CertificateView
 
--- those of a core, where a refused one is left empty
+-- the fields of a core before the resources; a refused one is empty
 abbrev pub first_fields : List ℕ → ParseOptions → CoreView → FirstFieldsView
 first_fields b opts c = record {
   debug_data = given_value (debug_of b opts c);
@@ -134,18 +140,18 @@ image_of c first resources = record {
   resource_data = resources;
 }
 
--- a core with its fields, where a refused one is left empty
+-- the image of a core and its fields; a refused one is empty
 unfoldable pub with_fields : List ℕ → ParseOptions → CoreView → Field ResourceView → ImageView
 with_fields b opts c resources = image_of c (first_fields b opts c) (given_value resources)
 
--- a refused field refuses the image in strict mode
+-- in strict mode a refused field refuses the image
 abbrev pub demanded : {X : Type 0} → ParseMode → Field X → Result (Unit {0}) Refusal
 demanded Permissive f = Ok tt
 demanded Strict None = Ok tt
 demanded Strict (Some (Ok x)) = Ok tt
 demanded Strict (Some (Err refusal)) = Err refusal
 
--- the first of the fields before the resources that refuses a core
+-- the refusal of the first field before the resources that refuses the image, if one does
 abbrev pub first_fields_demanded : List ℕ → ParseOptions → CoreView → Result (Unit {0}) Refusal
 first_fields_demanded b opts c = do
   _ ← demanded opts.parse_mode (debug_of b opts c)
@@ -153,21 +159,22 @@ first_fields_demanded b opts c = do
   _ ← demanded opts.parse_mode (relocations_of b opts c)
   demanded opts.parse_mode (certificates_of b opts c)
 
--- a core that is not refused for the fields before the resources
+-- the core, or the first refusal: of the core, of the fields before the resources
 unfoldable pub before_resources : List ℕ → ParseOptions → Result CoreView Refusal
 before_resources b opts = core_of b opts >>= λ c. first_fields_demanded b opts c >>= λ u. Ok c
 
+-- this is the image of a core with its resources, or the first refusal: of the core, of the resources
 abbrev pub IsBehindCore : List ℕ → ParseOptions → Result CoreView Refusal → Result ImageView Refusal → Type 0
 IsBehindCore b opts (Err refusal) r = r ≡ Err refusal
 IsBehindCore b opts (Ok c) r =
     (resources : Field ResourceView) × AreResourcesOf b opts c resources
     × (r ≡ (demanded opts.parse_mode resources >>= λ u. Ok (with_fields b opts c resources)))
 
--- this is the image of these bytes by these options, or its refusal
+-- this is the image of these bytes with these options, or its refusal
 abbrev pub IsImage : List ℕ → ParseOptions → Result ImageView Refusal → Type 0
 IsImage b opts r = IsBehindCore b opts (before_resources b opts) r
 
--- what reading an image answers: it asks for memory once the headers and the section headers are there
+-- the result of reading an image; memory runs out only after the headers and the section headers were accepted
 abbrev pub GivesImage : {Z : Type 0} → List ℕ → ParseOptions → Result (PE Z) Error → Type 0
 GivesImage b opts (Ok p) = IsImage b opts (Ok (image_view p))
 GivesImage b opts (Err e) = UnlessMemory e (IsImage b opts (Err (kind_of e))) × IfMemory e (IsOk (sections_read b opts))

@@ -1,4 +1,4 @@
--- An image put together of its parts: for proofs alone.
+-- An image, joined from its parts. For proofs only.
 use Rattle.std.specs.Prelude.{List, ℕ, Result, Ok, Err}
 use Rattle.pe_core.specs.Refusals.{Refusal, UnlessMemory, kind_of, ◌>>=◌}
 use Rattle.pe_core.specs.declared.error.Error.{Error}
@@ -7,11 +7,11 @@ use Rattle.pe_image.specs.Core.{CoreView}
 use Rattle.pe_image.specs.Image.{image_view, first_fields_demanded, IsBehindCore}
 use Rattle.pe_image.specs.declared.pe.PE.{PE}
 
--- a core, unless one of its fields in front of the resources is demanded and refused
+-- the core, or the refusal of the first field before the resources that refuses the image
 abbrev pub unless_refused : List ℕ → ParseOptions → CoreView → Result CoreView Refusal
 unless_refused b opts c = first_fields_demanded b opts c >>= λ u. Ok c
 
--- what reading the fields of an image with this core answers
+-- the result of reading the fields of an image with this core
 abbrev pub GivesBehindCore : {Z : Type 0} → List ℕ → ParseOptions → CoreView → Result (PE Z) Error → Type 0
 GivesBehindCore b opts c (Ok p) = IsBehindCore b opts (unless_refused b opts c) (Ok (image_view p))
 GivesBehindCore b opts c (Err e) = UnlessMemory e (IsBehindCore b opts (unless_refused b opts c) (Err (kind_of e)))

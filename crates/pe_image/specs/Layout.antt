@@ -1,16 +1,16 @@
--- What the headers of an image say of all of it: its kind, and where its directories are. (PE format: COFF file header,
--- optional header.)
+-- What the headers say about the whole image: PE32 or PE32+, DLL or not, and where its directories are. (PE format:
+-- COFF file header, optional header.)
 use Rattle.std.specs.Prelude.{ℕ, ◌/◌, ◌%◌, ◌==◌, Bool, false, Option, Some, None}
 use Rattle.pe_core.specs.Directories.{present}
 use Rattle.pe_core.specs.Header.{HeaderView, OptionalHeaderView}
 use Rattle.pe_core.specs.declared.data_directories.DataDirectory.{DataDirectory}
 
--- the directory of a number, if the image has it; without an optional header it has none
+-- the directory with this number, if the image has it; without an optional header it has none
 abbrev pub directory : ℕ → Option OptionalHeaderView → Option DataDirectory
 directory number None = None
 directory number (Some o) = present o.data_directories number
 
--- the file alignment; without an optional header 0, which nothing is read by
+-- the file alignment; 0 without an optional header, and then nothing is read with it
 abbrev pub alignment : Option OptionalHeaderView → ℕ
 alignment None = 0
 alignment (Some o) = o.windows_fields.file_alignment
@@ -20,15 +20,16 @@ abbrev pub is_64 : Option OptionalHeaderView → Bool
 is_64 None = false
 is_64 (Some o) = o.standard_fields.magic == 0x20B
 
--- the address of the entry point, and the preferred address of the image; without an optional header 0
+-- the RVA of the entry point; 0 without an optional header
 abbrev pub entry_point : Option OptionalHeaderView → ℕ
 entry_point None = 0
 entry_point (Some o) = o.standard_fields.address_of_entry_point
 
+-- the preferred virtual address of the image; 0 without an optional header
 abbrev pub image_base : Option OptionalHeaderView → ℕ
 image_base None = 0
 image_base (Some o) = o.windows_fields.image_base
 
--- the image is a library: bit 13 of the characteristics
+-- the image is a DLL: bit 13 of the characteristics
 abbrev pub is_library : HeaderView → Bool
 is_library h = h.coff_header.characteristics / 0x2000 % 2 == 1

@@ -1,9 +1,10 @@
--- The layout of an image as the code keeps it: for proofs alone.
+-- The layout of an image as the code keeps it. For proofs only.
 use Rattle.std.specs.Prelude.{Option}
 use Rattle.pe_core.specs.Header.{OptionalHeaderView}
 use Rattle.pe_image.specs.Layout.{directory, alignment, is_64, entry_point, image_base}
 use Rattle.pe_image.specs.declared.layout.Layout.{Layout}
 
+-- the layout with or without an optional header
 unfoldable pub layout_of : Option OptionalHeaderView → Layout
 layout_of o = record {
   is_64 = is_64 o;

@@ -1,5 +1,5 @@
--- The pieces of an image, in the order in which they are written. (PE format: the layout of a file; where a section's
--- zeros end is this project's profile.)
+-- The pieces of an image, in the order in which they are written. (PE format: the layout of a file; the end of the
+-- zeros after a section's data is this project's profile.)
 use Rattle.std.specs.Prelude.{ℕ, ◌+◌, ◌-◌, ◌%◌, ◌==◌, List, [], ◌∷◌, ◌++◌, length, replicate, Option, Some, None, if◌then◌else◌}
 use Rattle.pe_core.specs.Bytes.{bytes_of, range}
 use Rattle.pe_core.specs.Header.{HeaderView, OptionalHeaderView}
@@ -11,18 +11,18 @@ use Rattle.pe_records.specs.Certificates.{CertificateView}
 use Rattle.pe_records.specs.CertificateWriting.{padding, spell_certificate, written_length}
 use Rattle.pe_image.specs.Overlay.{Piece, piece}
 
--- the pieces of some records in their order: `pieces_of` gives those of a record for a place, and `width` says how far
--- behind that place the next record's place is
+-- the pieces of some records in their order: `pieces_of` is the pieces of a record at an offset, and `width` the
+-- distance from that offset to the next record
 abbrev pub in_a_row : {X : Type 0} → (ℕ → X → List Piece) → (X → ℕ) → ℕ → List X → List Piece
 in_a_row pieces_of width p [] = []
 in_a_row pieces_of width p (x ∷ xs) = pieces_of p x ++ in_a_row pieces_of width (p + width x) xs
 
--- the place behind them
+-- the offset after these records
 abbrev pub row_end : {X : Type 0} → (X → ℕ) → ℕ → List X → ℕ
 row_end width p [] = p
 row_end width p (x ∷ xs) = row_end width (p + width x) xs
 
--- the headers in front of the section table
+-- the headers before the section table
 unfoldable pub header_pieces : HeaderView → OptionalHeaderView → List Piece
 header_pieces h o =
     let p = h.dos_header.pe_pointer in
@@ -33,12 +33,12 @@ header_pieces h o =
     ∷ piece (p + 24) (spell_optional o)
     ∷ []
 
--- how many bytes n lacks to a multiple of the unit; none without a unit
+-- how many bytes n is short of a multiple of the unit; 0 without a unit
 abbrev pub lacking : ℕ → Option ℕ → ℕ
 lacking n None = 0
 lacking n (Some unit) = if n % unit == 0 then 0 else unit - n % unit
 
--- a section's data, its header and the zeros behind its data; b is what the data are taken from
+-- a section's data, its header at `place`, and the zeros after its data; b is the file that the data is taken from
 unfoldable pub section_pieces : List ℕ → Option ℕ → ℕ → SectionTable → List Piece
 section_pieces b unit place s =
     piece s.pointer_to_raw_data (range b s.pointer_to_raw_data s.size_of_raw_data)
@@ -46,11 +46,11 @@ section_pieces b unit place s =
     ∷ piece (raw_end s) (replicate (lacking s.size_of_raw_data unit) 0)
     ∷ []
 
--- the size of a section's header
+-- the size of a section header in bytes
 abbrev pub header_width : SectionTable → ℕ
 header_width s = 40
 
--- the pieces of sections whose headers stand from the place on
+-- the pieces of sections, whose headers follow one another from `place` on
 abbrev pub all_section_pieces : List ℕ → Option ℕ → ℕ → List SectionTable → List Piece
 all_section_pieces b unit place sections = in_a_row (section_pieces b unit) header_width place sections
 
@@ -62,11 +62,12 @@ certificate_pieces p c =
     ∷ piece (p + 8 + length c.body) (padding c)
     ∷ []
 
--- the certificates from the directory's address on, and the place behind them; none and 0 without that directory
+-- the pieces of certificates from the offset of the directory on; none without that directory
 abbrev pub all_certificate_pieces : Option DataDirectory → List CertificateView → List Piece
 all_certificate_pieces None cs = []
 all_certificate_pieces (Some d) cs = in_a_row certificate_pieces written_length d.virtual_address cs
 
+-- the offset after these certificates; 0 if none is written
 abbrev pub certificates_end : Option DataDirectory → List CertificateView → ℕ
 certificates_end None cs = 0
 certificates_end (Some d) cs = if length cs == 0 then 0 else row_end written_length d.virtual_address cs

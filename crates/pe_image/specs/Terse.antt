@@ -1,5 +1,5 @@
--- A terse image: its header, its sections and its debug data, each reduced by the bytes of headers that were dropped.
--- (This project's profile.)
+-- A TE image: its header, its section headers and its debug data, each reduced by the bytes that the file is shorter
+-- than the PE image. (This project's profile.)
 use Rattle.std.specs.Prelude.{ℕ, List, Result, Ok}
 use Rattle.pe_core.specs.Options.{te_options}
 use Rattle.pe_core.specs.Refusals.{Refusal, ◌>>=◌}
@@ -9,20 +9,22 @@ use Rattle.pe_core.specs.declared.section_table.SectionTable.{SectionTable}
 use Rattle.pe_records.specs.DebugRecords.{DebugFields, debug_data, debug_view}
 use Rattle.pe_image.specs.declared.te.TE.{TE}
 
+-- a TE image, independent of where its bytes lie in memory
 pub record TerseView : Type 0 where
   pub header : TeHeader
   pub sections : List SectionTable
   pub debug_data : DebugFields
   pub rva_offset : ℕ
 
+-- the view of a TE image
 abbrev pub terse_view : {Z : Type 0} → TE Z → TerseView
 terse_view t = record { header = t.header; sections = t.sections.items; debug_data = debug_view t.debug_data; rva_offset = t.rva_offset }
 
--- the section headers of a terse image, or the refusal of its header or of these
+-- the section headers of a TE image, or the refusal of its header or of the section headers
 abbrev pub terse_sections : List ℕ → Result (List SectionTable) Refusal
 terse_sections b = te_header_of b >>= λ header. te_sections_of b header
 
--- a terse image, or the first refusal: of its header, its sections, its debug data
+-- a TE image, or the first refusal: of its header, its section headers, its debug data
 unfoldable pub terse_of : List ℕ → Result TerseView Refusal
 terse_of b =
     te_header_of b >>= λ header.

@@ -1,4 +1,4 @@
--- What the three writers of an image give: the tests in their order, the answer, and the bytes that are left.
+-- The three writers of an image: the tests in their order, the number that is returned, and the bytes that are left.
 -- (This project's profile.)
 use Rattle.std.specs.Prelude.{◌≡◌, ℕ, ◌+◌, ◌*◌, ◌%◌, ◌<◌, ◌==◌, ◌&&◌, not, min, max, Bool, true, List, [], ◌∷◌, ◌++◌, length, nat_lt, Option, Some, None, Result, Ok, Err, if◌then◌else◌}
 use Rattle.std.specs.Int.{is_power_of_two}
@@ -18,18 +18,19 @@ use Rattle.pe_image.specs.Layout.{directory}
 use Rattle.pe_image.specs.Overlay.{Piece, all_fit, overlay}
 use Rattle.pe_image.specs.Pieces.{all_certificate_pieces, all_section_pieces, certificates_end, header_pieces}
 
--- the answer and the bytes that are left are the defined ones; a refusal is the defined one, and nothing is changed
+-- the number returned and the bytes left are the defined ones; a refusal is the defined one, and changes nothing
 abbrev pub GivesWritten : Result ℕ Error → Result (ℕ × List ℕ) Refusal → List ℕ → List ℕ → Type 0
 GivesWritten (Ok n) defined old new = defined ≡ Ok (n, new)
 GivesWritten (Err e) defined old new = (defined ≡ Err (kind_of e)) × (new ≡ old)
 
--- an offset moves to the answer; a refusal leaves it where it was
+-- an offset moves to the number returned; a refusal leaves it unchanged
 abbrev pub Moves : Result ℕ Error → ℕ → ℕ → Type 0
 Moves (Ok n) old new = new ≡ n
 Moves (Err e) old new = new ≡ old
 
 -- ---- sections
 
+-- all fields of the two section headers are equal
 abbrev pub same_section : SectionTable → SectionTable → Bool
 same_section s t =
     bytes_eq s.name t.name && s.virtual_size == t.virtual_size && s.virtual_address == t.virtual_address
@@ -38,20 +39,20 @@ same_section s t =
     && s.number_of_relocations == t.number_of_relocations && s.number_of_linenumbers == t.number_of_linenumbers
     && s.characteristics == t.characteristics
 
--- the two sections share a raw byte, since the later begins in front of both ends, and are unequal
+-- the two sections share a byte of the file (the later one starts before both ends), and are not equal
 abbrev pub clash : SectionTable → SectionTable → Bool
 clash s t = nat_lt (max s.pointer_to_raw_data t.pointer_to_raw_data) (min (raw_end s) (raw_end t)) && not (same_section s t)
 
--- no section clashes with one behind it
+-- no section clashes with a later one of the list
 abbrev pub clash_free : List SectionTable → Bool
 clash_free [] = true
 clash_free (s ∷ behind) = list_all (λ t. not (clash s t)) behind && clash_free behind
 
--- every section's data are in the source
+-- the data of every section is in b
 abbrev pub all_in_source : List ℕ → List SectionTable → Bool
 all_in_source b sections = list_all (λ s. holds b s.pointer_to_raw_data s.size_of_raw_data) sections
 
--- what is tested of sections before these pieces are written over n bytes
+-- the tests of sections before these pieces are written over n bytes, in their order
 abbrev pub section_tests : List ℕ → List SectionTable → ℕ → List Piece → List (Bool × Refusal)
 section_tests b sections n pieces =
     (clash_free sections, WriteOverlap)
@@ -59,11 +60,12 @@ section_tests b sections n pieces =
     ∷ (all_fit n pieces, WriteFit)
     ∷ []
 
+-- the unit is not 0, if there is one
 abbrev pub is_unit : Option ℕ → Bool
 is_unit None = true
 is_unit (Some unit) = not (unit == 0)
 
--- the sections, taken from b, their headers from the offset on
+-- the sections over the old bytes: their data is taken from b, and their headers are written from the offset on
 abbrev pub sections_written : List ℕ → List SectionTable → Option ℕ → ℕ → List ℕ → Result (ℕ × List ℕ) Refusal
 sections_written b sections unit offset old =
     let pieces = all_section_pieces b unit offset sections in
@@ -75,11 +77,13 @@ sections_written b sections unit offset old =
 abbrev pub certificate_directory : OptionalHeaderView → Option DataDirectory
 certificate_directory o = present o.data_directories 4
 
+-- certificates over the old bytes, in this directory
 abbrev pub certificates_over : Option DataDirectory → List CertificateView → List ℕ → Result (ℕ × List ℕ) Refusal
 certificates_over d cs old =
     let pieces = all_certificate_pieces d cs in
     outcome ((all_fit (length old) pieces, WriteFit) ∷ []) (certificates_end d cs, overlay old pieces)
 
+-- the same with an optional header; refused without one
 abbrev pub certificates_by : Option OptionalHeaderView → List CertificateView → List ℕ → Result (ℕ × List ℕ) Refusal
 certificates_by None cs old = Err NoOptionalHeader
 certificates_by (Some o) cs old = certificates_over (certificate_directory o) cs old
@@ -88,30 +92,32 @@ certificates_by (Some o) cs old = certificates_over (certificate_directory o) cs
 abbrev pub certificates_written : ImageView → List ℕ → Result (ℕ × List ℕ) Refusal
 certificates_written x old = certificates_by x.header.optional_header x.certificates old
 
--- the address of the certificate directory is a multiple of eight, where there are certificates
+-- if there are certificates, the offset in the certificate directory is a multiple of eight
 abbrev pub AreAligned : ImageView → Type 0
 AreAligned x = (d : DataDirectory) → directory 4 x.header.optional_header ≡ Some d → 0 < length x.certificates → d.virtual_address % 8 ≡ 0
 
 -- ---- the whole image
 
--- the last section with the greatest raw pointer
+-- of a section and a later one of the list, the one with the greater raw pointer; the later one if these are equal
 abbrev pub later : SectionTable → Option SectionTable → Option SectionTable
 later s None = Some s
 later s (Some t) = if nat_lt t.pointer_to_raw_data s.pointer_to_raw_data then Some s else Some t
 
+-- the last section with the greatest raw pointer
 abbrev pub last_in_file : List SectionTable → Option SectionTable
 last_in_file [] = None
 last_in_file (s ∷ behind) = later s (last_in_file behind)
 
--- where its data end; 0 without sections
+-- the end of a section's data; 0 without a section
 abbrev pub end_of : Option SectionTable → ℕ
 end_of None = 0
 end_of (Some s) = raw_end s
 
+-- the end of the data of the last section with the greatest raw pointer
 abbrev pub last_raw_end : List SectionTable → ℕ
 last_raw_end sections = end_of (last_in_file sections)
 
--- all pieces of an image; b is the source that its sections' data are taken from
+-- all pieces of an image; b is the file that the data of its sections is taken from
 unfoldable pub image_pieces : List ℕ → HeaderView → OptionalHeaderView → List SectionTable → List CertificateView → List Piece
 image_pieces b h o sections cs =
     header_pieces h o
@@ -125,16 +131,17 @@ image_tests b h o sections n pieces =
     ∷ (h.coff_header.pointer_to_symbol_table == 0, WriteSymbols)
     ∷ section_tests b sections n pieces
 
--- the greatest end
+-- the greatest of three offsets: the start of the section table, the end of the last data, the end of the certificates
 abbrev pub image_end : HeaderView → OptionalHeaderView → List SectionTable → List CertificateView → ℕ
 image_end h o sections cs = max (max (sections_place h) (last_raw_end sections)) (certificates_end (certificate_directory o) cs)
 
+-- an image with an optional header over the old bytes; refused without one
 abbrev pub image_by : Option OptionalHeaderView → List ℕ → HeaderView → List SectionTable → List CertificateView → List ℕ → Result (ℕ × List ℕ) Refusal
 image_by None b h sections cs old = Err NoOptionalHeader
 image_by (Some o) b h sections cs old =
     let pieces = image_pieces b h o sections cs in
     outcome (image_tests b h o sections (length old) pieces) (image_end h o sections cs, overlay old pieces)
 
--- the image, its sections' data taken from b, over the old bytes
+-- the image over the old bytes; the data of its sections is taken from b
 abbrev pub image_written : List ℕ → ImageView → List ℕ → Result (ℕ × List ℕ) Refusal
 image_written b x old = image_by x.header.optional_header b x.header x.sections x.certificates old

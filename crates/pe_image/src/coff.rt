@@ -1,4 +1,6 @@
-//! COFF objects.
+//! COFF objects, the output of a compiler. The file starts with the COFF header; the section table follows it, and the
+//! header says where the symbols are. The string table follows the symbols. Layout:
+//! <https://learn.microsoft.com/windows/win32/debug/pe-format>. A linker or a symbol dumper starts with `Coff::parse`.
 
 ghost use Rattle.pe_core.specs.Refusals.{GivesUnlessMemoryAfter};
 
@@ -8,29 +10,30 @@ use std::alloc::{Allocator, Global};
 /// The size of a COFF header in bytes.
 const SIZE_OF_COFF_HEADER: usize = 20;
 
-/// A COFF object, as a compiler makes it.
+/// A COFF object, as a compiler writes it.
 #[derive(Debug, Drop)]
 pub struct Coff<'a, A: Allocator + Copy + Drop = Global> {
-    /// The header that the object begins with.
+    /// The COFF header, at the start of the file.
     pub header: CoffHeader,
-    /// The section headers.
+    /// The section headers, in the order of the section table.
     pub sections: Vec<SectionTable, A>,
-    /// The symbols. `None` where the header gives them no place.
+    /// The symbol table. `None` if the header has no pointer to it.
     pub symbols: Option<SymbolTable<'a>>,
-    /// The string table behind the symbols. `None` without symbols, or where the bytes end there.
+    /// The string table after the symbols. `None` without symbols, or if the file ends after them.
     pub strings: Option<Strtab<'a>>,
 }
 
 impl<'a, A: Allocator + Copy + Drop> Coff<'a, A> {
     ghost use Rattle.pe_image.specs.Objects.{object_view, sections_of_object, object_of};
 
-    /// The object of these bytes. Refusals in this order: `Short` without a header, or where the section headers are not
-    /// all there; `Memory`; `Short` where the symbols are not all there; `StringTable` where the string table is not.
+    /// Reads the object in `bytes`, a whole file. Errors, in this order: `Short` if the header or the section headers
+    /// are truncated; `Memory`; `Short` if the symbols are truncated; `StringTable` if the string table is.
     #[tactic(auto, unfolding(crate::specs::Objects::object_of))]
     pub fn parse(alloc: A, bytes: &'a [u8]) -> Result<Coff<'a, A>>
         ensures { GivesUnlessMemoryAfter (sections_of_object bytes.entry.now) object_view result (object_of bytes.entry.now) }
     {
         let header = CoffHeader::parse(bytes, 0)?;
+        // The section table follows the optional header, which an object usually doesn't have.
         let place = SIZE_OF_COFF_HEADER + header.size_of_optional_header as usize;
         let sections = header.sections(alloc, bytes, place)?;
         Ok(Coff {

@@ -1,4 +1,6 @@
-//! The core of an image: headers, sections, exports and imports.
+//! The core of an image: headers, section headers, exports and imports. Both modes read it alike: an invalid part is an
+//! error, but for an invalid export directory, which counts as absent. `PE` adds the other directories to it. Layout:
+//! <https://learn.microsoft.com/windows/win32/debug/pe-format>.
 
 ghost use Rattle.std.specs.Prelude.{◌≡◌, ◌<◌, ◌⊎◌, map, IfErr, IfOk, IsSome, IsSomeAnd, None, Ok, if◌then◌else◌};
 ghost use Rattle.pe_core.specs.declared.error.Error.TheVariants.{Memory};
@@ -18,7 +20,7 @@ use crate::layout::Layout;
 use pe_core::{Export, ExportData, Header, Import, ImportData, ParseOptions, Result, SectionTable};
 use std::alloc::Allocator;
 
-/// The core of an image.
+/// The core of an image. The fields are those of `PE` with the same names.
 #[derive(Drop)]
 pub struct Core<'a, A: Allocator + Copy + Drop> {
     pub header: Header<'a>,
@@ -30,7 +32,7 @@ pub struct Core<'a, A: Allocator + Copy + Drop> {
     pub libraries: Vec<&'a str, A>,
 }
 
-/// The section headers of an image. Memory is asked for only where there are some.
+/// The section headers of an image.
 fn sections<A: Allocator + Copy + Drop>(
     alloc: A,
     bytes: &[u8],
@@ -39,13 +41,14 @@ fn sections<A: Allocator + Copy + Drop>(
     ensures sections { GivesUnlessMemoryAfter (sections_of bytes.now (header_view header.now)) (λ v. v.items) result (sections_of bytes.now (header_view header.now)) }
     ensures memory { MemoryOnlyIf (0 < (header_view header.now).coff_header.number_of_sections) result }
 {
+    // Memory is asked for only if there are sections.
     if header.coff_header.number_of_sections == 0 {
         return Ok(Vec::new(alloc));
     }
     header.sections(alloc, bytes)
 }
 
-/// The export directory, if there is one and it is not refused.
+/// The export directory. `None` without one, or if it is invalid.
 fn export_data<'a>(
     bytes: &'a [u8],
     opts: &ParseOptions,
@@ -58,7 +61,7 @@ fn export_data<'a>(
     ExportData::parse_with_opts(bytes, layout.exports?, sections, alignment, opts).ok()
 }
 
-/// The exports of an export directory, if there is one.
+/// The exports of the export directory, if there is one.
 fn exports<'a, A: Allocator + Copy + Drop>(
     alloc: A,
     bytes: &'a [u8],
@@ -77,7 +80,7 @@ fn exports<'a, A: Allocator + Copy + Drop>(
     }
 }
 
-/// The import directory, if there is one and the options do not pass it over.
+/// The import directory. `None` without one, or if `parse_imports` is off.
 fn import_data<'a, A: Allocator + Copy + Drop>(
     alloc: A,
     bytes: &'a [u8],
@@ -113,7 +116,7 @@ fn import_data<'a, A: Allocator + Copy + Drop>(
     )?))
 }
 
-/// The imports of an import directory, if there is one.
+/// The imports of the import directory, if there is one.
 fn imports<'a, A: Allocator + Copy + Drop>(
     alloc: A,
     bytes: &'a [u8],
@@ -133,7 +136,7 @@ fn imports<'a, A: Allocator + Copy + Drop>(
     Import::parse_with_opts(alloc, bytes, data, sections, alignment, opts, layout.is_64)
 }
 
-/// The libraries of an import directory, if there is one.
+/// The names of the DLLs in the import directory, if there is one: sorted by their bytes, each once.
 fn libraries<'a, A: Allocator + Copy + Drop>(
     alloc: A,
     import_data: &Option<ImportData<'a, A>>,
@@ -149,8 +152,8 @@ fn libraries<'a, A: Allocator + Copy + Drop>(
 }
 
 impl<'a, A: Allocator + Copy + Drop> Core<'a, A> {
-    /// The core of an image with these headers and sections. Refusals: those of the import directory, then those of its
-    /// imports; `Memory`.
+    /// Reads the core of an image with these headers and sections. Errors: those of the import directory, then those of
+    /// its imports; `Memory`.
     #[tactic(auto, using(crate::proofs::Requests::asks_for_exports, crate::proofs::Requests::asks_for_directory, crate::proofs::Requests::asks_for_imports), unfolding(crate::specs::Core::core_with, crate::specs::LayoutParts::layout_of))]
     fn with(
         alloc: A,
@@ -182,8 +185,8 @@ impl<'a, A: Allocator + Copy + Drop> Core<'a, A> {
         })
     }
 
-    /// The core of an image, or the first refusal: of its headers, its sections, its import directory, its imports. Memory
-    /// is asked for once the headers and the section headers are there.
+    /// Reads the core of an image. The first error is returned, in this order: of the headers, the section headers, the
+    /// import directory, the imports. Memory is asked for only if the headers and the section headers are valid.
     #[tactic(auto, using(crate::proofs::NoMemory::header_owes_nothing, crate::proofs::Requests::asks_for_sections, crate::proofs::Requests::asks_for_core), unfolding(crate::specs::Core::core_of))]
     pub fn read(alloc: A, bytes: &'a [u8], opts: &ParseOptions) -> Result<Core<'a, A>>
         ensures core { GivesUnlessMemoryAfter (sections_read bytes.entry.now opts.now) core_view result (core_of bytes.entry.now opts.now) }

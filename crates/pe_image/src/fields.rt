@@ -1,4 +1,6 @@
-//! The directories of an image behind its core: what each mode makes of them.
+//! The directories that are read after the core of an image: debug data, exception data, base relocations, certificates
+//! and resources. An invalid one is an error in strict mode and an empty field in permissive mode. Layout:
+//! <https://learn.microsoft.com/windows/win32/debug/pe-format>, data directories of the optional header.
 
 ghost use Rattle.std.specs.Prelude.{◌≡◌, map, None, if◌then◌else◌};
 ghost use Rattle.std.specs.Option.{option_map};
@@ -25,7 +27,7 @@ use pe_resource::ResourceData;
 use pe_unwind::ExceptionData;
 use std::alloc::Allocator;
 
-/// The debug data by mode.
+/// The debug data, by mode.
 #[tactic(auto, using(crate::proofs::ByMode::gives_by_mode, crate::proofs::ByMode::never_by_mode, crate::proofs::NoMemory::debug_lacks))]
 fn debug_data<'a>(
     bytes: &'a [u8],
@@ -45,7 +47,7 @@ fn debug_data<'a>(
     opts.parse_mode.none_if_refused(parsed)
 }
 
-/// The exception data by mode. `None` for another machine than x64 and ARM64.
+/// The exception data, by mode. `None` for machines other than x64 and ARM64.
 #[tactic(auto, using(crate::proofs::ByMode::gives_by_mode, crate::proofs::ByMode::never_by_mode, crate::proofs::NoMemory::exception_lacks))]
 fn exception_data<'a>(
     bytes: &'a [u8],
@@ -74,7 +76,7 @@ fn exception_data<'a>(
     opts.parse_mode.none_if_refused(parsed)
 }
 
-/// The base relocations by mode.
+/// The base relocations, by mode.
 #[tactic(auto, using(crate::proofs::ByMode::gives_by_mode, crate::proofs::ByMode::never_by_mode, crate::proofs::NoMemory::relocations_lack))]
 fn relocation_data<'a>(
     bytes: &'a [u8],
@@ -94,7 +96,7 @@ fn relocation_data<'a>(
     opts.parse_mode.none_if_refused(parsed)
 }
 
-/// The certificates by mode, unless the options pass them over.
+/// The certificates, by mode. Empty if `parse_attribute_certificates` is off.
 #[tactic(auto, using(crate::proofs::ByMode::begins_by_mode))]
 fn certificates<'a, A: Allocator + Copy>(
     alloc: A,
@@ -112,6 +114,7 @@ fn certificates<'a, A: Allocator + Copy>(
     let Some(directory) = layout.certificates else {
         return Ok(Vec::new(alloc));
     };
+    // The address of this directory is a file offset, not an RVA: certificates are not part of the loaded image.
     let place = directory.virtual_address as usize;
     let parsed = enumerate_certificates(alloc, bytes, place, directory.size as usize);
     match opts.parse_mode.none_if_refused(parsed)? {
@@ -120,7 +123,7 @@ fn certificates<'a, A: Allocator + Copy>(
     }
 }
 
-/// The resources by mode, unless the options pass them over. No memory is asked for.
+/// The resources, by mode. `None` if `parse_resources` is off. No memory is asked for.
 #[tactic(auto, using(crate::proofs::ByMode::resources_by_mode, crate::proofs::ByMode::never_if_not))]
 pub fn resource_data<'a, A: Allocator + Copy + Drop>(
     alloc: A,
@@ -144,7 +147,7 @@ pub fn resource_data<'a, A: Allocator + Copy + Drop>(
     opts.parse_mode.none_if_refused(parsed)
 }
 
-/// The fields in front of the resources.
+/// The fields before the resources.
 #[derive(Drop)]
 pub struct FirstFields<'a, A: Allocator + Copy + Drop> {
     pub debug_data: Option<DebugData<'a>>,
@@ -154,8 +157,8 @@ pub struct FirstFields<'a, A: Allocator + Copy + Drop> {
 }
 
 impl<'a, A: Allocator + Copy + Drop> FirstFields<'a, A> {
-    /// The fields of an image with this core, or the first refusal in strict mode: of the debug data, the exception data, the
-    /// base relocations, the certificates.
+    /// Reads the fields of an image with this core. In strict mode the first error is returned, in this order: of the
+    /// debug data, the exception data, the base relocations, the certificates. `Memory` is returned in both modes.
     #[tactic(auto, using(crate::proofs::Requests::from_nothing), unfolding(crate::specs::FieldSteps::first_fields_in_turn, crate::specs::LayoutParts::layout_of))]
     pub fn read(
         alloc: A,

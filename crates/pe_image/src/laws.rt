@@ -1,4 +1,5 @@
-//! Laws over the definitions. Each is the contract of a function that does nothing.
+//! Laws over the definitions of this crate. Each law is the contract of a function that does nothing. A caller's proof
+//! cites a law by calling the function.
 
 ghost use Rattle.std.specs.Prelude.{◌≡◌, ◌≢◌, ◌↔◌, ◌+◌, ◌/◌, ◌%◌, ◌<◌, ◌≤◌, ◌⊎◌, ℕ, List, [], Ok, Err, Option, Result, Some, length, slice_index, true, unwrap_or};
 ghost use Rattle.pe_core.specs.Bytes.{AreBytes, range};
@@ -27,19 +28,21 @@ ghost use Rattle.pe_image.specs.Writing.{AreAligned, GivesWritten, certificate_d
 ghost use Rattle.pe_image.specs.WritingSteps.{put_in_turn};
 ghost use Rattle.pe_image.specs.declared.pe.PE.{PE};
 
-/// The whole promise of permissive mode, as one law. Bytes are refused exactly as their core is: headers, section headers,
-/// imports. Otherwise there is an image: its core is that core; its name, kind, entry point and image base are those of
-/// the core; and the field of each directory is what that directory's own definition gives, and empty where that is absent
-/// or refuses. This decides every field, so it defines the image too.
+/// The promise of permissive mode, as one law. An image is refused exactly if its core is (headers, section headers,
+/// imports), and with the same refusal. Otherwise there is an image: it has that core; its name, `is_lib`, `is_64`,
+/// entry point and image base are those of the core; and the field of each other directory has the value of that
+/// directory's own definition, and is empty if the directory is absent or refused. This decides every field, so it also
+/// defines the image.
 #[tactic(auto, using(crate::proofs::Headline::headline))]
 pub fn headline()
     ensures { (b : List ℕ) (o : ParseOptions) (r : Result ImageView Refusal) → o.parse_mode ≡ ParseMode.Permissive →
         (IsImage b o r ↔ IsPermissive b o (core_of b o) r) }
 {}
 
-/// The promise of the calls on an image. In an exception table that is sorted by start RVA, lookup finds what a linear scan
-/// of the image's bytes finds. The table has a twelfth of its size in entries, and `search` reads at most as many of them as
-/// that number has binary digits. An accepted write leaves the overlay of its pieces, and a refused one changes nothing.
+/// The promise of the calls on an image. In an exception table that is sorted by start RVA, lookup finds what a linear
+/// scan of the image's bytes finds. The table has one entry for every 12 bytes of its size, and `search` reads at most
+/// as many entries as that number has binary digits. An accepted write leaves the overlay of its pieces, and a refused
+/// one changes nothing.
 #[tactic(auto, using(crate::proofs::HeadlineCalls::image_leaves, crate::proofs::HeadlineCalls::sections_leave, crate::proofs::HeadlineCalls::certificates_leave))]
 pub fn headline_calls()
     ensures lookup { (b : List ℕ) (o : ParseOptions) (c : CoreView) (x : ImageView) (v : ExceptionView) (a : ℕ) (found : Option RuntimeFunction) →
@@ -57,15 +60,15 @@ pub fn headline_calls()
     pe_unwind::laws::x64::exception_data_are_of_their_bytes();
 }
 
-/// Permissive parsing refuses an image exactly where its core is refused, and as that.
+/// Permissive mode refuses an image exactly if its core is refused, and with the same refusal.
 #[tactic(auto, using(crate::proofs::Permissive::refused_as_the_core))]
 pub fn permissive_images_are_refused_as_their_core()
     ensures { (b : List ℕ) (o : ParseOptions) (r : Result ImageView Refusal) (e : Refusal) → o.parse_mode ≡ ParseMode.Permissive →
         IsImage b o r → (r ≡ Err e) ↔ (core_of b o ≡ Err e) }
 {}
 
-/// Where an image is given, each field of it is what its own definition gives, and empty where that is absent or refused,
-/// whatever the other fields are.
+/// Each field of an image has the value of its own definition, and is empty if that is absent or refused, whatever the
+/// other fields are.
 #[tactic(auto, using(crate::proofs::Permissive::core_of_image, crate::proofs::Permissive::debug_alone, crate::proofs::Permissive::exceptions_alone, crate::proofs::Permissive::relocations_alone, crate::proofs::Permissive::certificates_alone, crate::proofs::Permissive::resources_alone))]
 pub fn permissive_fields_are_their_own()
     ensures core { (b : List ℕ) (o : ParseOptions) (c : CoreView) (x : ImageView) → core_of b o ≡ Ok c → IsImage b o (Ok x) →
@@ -84,8 +87,8 @@ pub fn permissive_fields_are_their_own()
         (f : Field ResourceView) × AreResourcesOf b o c f × (x.resource_data ≡ given_value f) }
 {}
 
-/// Where strict parsing succeeds, permissive parsing with otherwise the same options gives the same image, and so the same
-/// libraries (`equal_images_have_equal_libraries`).
+/// If strict mode accepts an image, permissive mode with otherwise the same options returns the same image, and so the
+/// same libraries (`equal_images_have_equal_libraries`).
 pub fn strict_images_are_permissive()
     ensures { (b : List ℕ) (o : ParseOptions) (x : ImageView) →
         IsImage b (record o { parse_mode = ParseMode.Strict }) (Ok x) →
@@ -96,7 +99,7 @@ pub fn strict_images_are_permissive()
     pe_resource::laws::resources::strict_resources_are_permissive();
 }
 
-/// Bytes have an image by their options, or a refusal, and one alone.
+/// For all bytes and options there is an image or a refusal, and there is only one.
 pub fn images_are_one()
     ensures exists { (b : List ℕ) (o : ParseOptions) → (r : Result ImageView Refusal) × IsImage b o r }
     ensures one { (b : List ℕ) (o : ParseOptions) (r s : Result ImageView Refusal) → IsImage b o r → IsImage b o s → r ≡ s }
@@ -105,21 +108,21 @@ pub fn images_are_one()
     pe_resource::laws::resources::resources_have_one_answer();
 }
 
-/// An import directory decides the names of its libraries: there is one list of them, and one alone.
+/// An import directory decides the names of its libraries: there is a list of them, and there is only one.
 #[tactic(auto, using(crate::proofs::LibraryLists::some_list, crate::proofs::LibraryLists::one_list))]
 pub fn libraries_are_one()
     ensures exists { (d : Option (List ImportRecordView)) → (libraries : List (List ℕ)) × AreLibrariesOf d libraries }
     ensures one { (d : Option (List ImportRecordView)) (xs ys : List (List ℕ)) → AreLibrariesOf d xs → AreLibrariesOf d ys → xs ≡ ys }
 {}
 
-/// Images that look the same, as those of both modes, have the same libraries.
+/// Images with equal views, such as those of both modes, have the same libraries.
 #[tactic(auto, using(crate::proofs::LibraryLists::same_libraries))]
 pub fn equal_images_have_equal_libraries<Y, Z>()
     ensures { (p : PE Y) (q : PE Z) → image_view p ≡ image_view q → HasLibraries p → HasLibraries q → libraries_of p ≡ libraries_of q }
 {}
 
-/// Exception data of an image are of its bytes, and map addresses by its file alignment: so lookup, links and records over
-/// them are those of the bytes.
+/// The exception data of an image contains the bytes of the image, and maps RVAs with the file alignment of the image.
+/// So lookup, links and records read these bytes.
 pub fn exception_data_are_of_the_bytes()
     ensures content { (b : List ℕ) (o : ParseOptions) (c : CoreView) (x : ImageView) (v : ExceptionView) → core_of b o ≡ Ok c → IsImage b o (Ok x) →
         x.exception_data ≡ Some v → v.content ≡ b }
@@ -129,14 +132,14 @@ pub fn exception_data_are_of_the_bytes()
     pe_unwind::laws::x64::exception_data_are_of_their_bytes();
 }
 
-/// Pieces that all fit and are put one after the other are their overlay: each byte is that of the last piece that covers
-/// its place.
+/// Writing pieces one after the other leaves their overlay, if they all fit: each byte is that of the last piece that
+/// covers its offset.
 #[tactic(auto, using(crate::proofs::Overlays::overlay_in_turn))]
 pub fn pieces_in_turn_are_their_overlay()
     ensures { (b : List ℕ) (pieces : List Piece) → all_fit (length b) pieces ≡ true → put_in_turn b pieces ≡ overlay b pieces }
 {}
 
-/// Two sections clash exactly where they are unequal and some byte of the file belongs to both.
+/// Two sections clash exactly if they are not equal and share a byte of the file.
 #[tactic(auto, using(crate::proofs::Clashes::clash_shares, crate::proofs::Clashes::clash_unequal, crate::proofs::Clashes::shares_clash))]
 pub fn clashing_sections_share_a_byte()
     ensures shared { (s t : SectionTable) → clash s t ≡ true → SharesRawByte s t }
@@ -144,8 +147,8 @@ pub fn clashing_sections_share_a_byte()
     ensures clash { (s t : SectionTable) → SharesRawByte s t → s ≢ t → clash s t ≡ true }
 {}
 
-/// Certificates that are the listing of their table, unchanged, and whose directory's address is a multiple of eight, are
-/// listed again after a successful `write_certificates` into a buffer that holds the table's range.
+/// Certificates that are the unchanged listing of their table, at an offset that is a multiple of eight, are listed
+/// again after a successful `write_certificates` into a buffer that contains the range of the table.
 pub fn written_certificates_are_listed_again()
     ensures { (b old new : List ℕ) (x : ImageView) (o : OptionalHeaderView) (d : DataDirectory) (n : ℕ) →
         x.header.optional_header ≡ Some o → certificate_directory o ≡ Some d → d.virtual_address % 8 ≡ 0 →
@@ -155,8 +158,8 @@ pub fn written_certificates_are_listed_again()
     pe_records::laws::certificates::written_listings_are_listed_again();
 }
 
-/// Writing an image over a copy of its bytes changes only those whose last piece is one of zeros, and so to zero. Where
-/// there are certificates, their directory's address has to be a multiple of eight.
+/// Writing an image over a copy of its bytes changes a byte only if the last piece that covers it is one of zeros. Then
+/// the byte becomes zero. If there are certificates, the offset of their directory has to be a multiple of eight.
 #[tactic(auto, using(crate::proofs::RewrittenBytes::rewritten))]
 pub fn rewritten_images_change_to_zeros_alone()
     ensures { (b new : List ℕ) (o : ParseOptions) (x : ImageView) (h : OptionalHeaderView) (n q : ℕ) → AreBytes b → IsImage b o (Ok x) → AreAligned x →

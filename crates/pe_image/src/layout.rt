@@ -1,4 +1,5 @@
-//! What the headers of an image say of all of it.
+//! What the headers say about the whole image: PE32 or PE32+, DLL or not, and where its data directories are.
+//! Layout: <https://learn.microsoft.com/windows/win32/debug/pe-format>, COFF file header and optional header.
 
 ghost use Rattle.std.specs.Prelude.{◌≡◌, Some, None};
 ghost use Rattle.pe_core.specs.Header.{header_view, optional_view};
@@ -7,20 +8,23 @@ ghost use Rattle.pe_image.specs.LayoutParts.{layout_of};
 
 use pe_core::{DataDirectory, Header, IMAGE_FILE_DLL, MAGIC_64, OptionalHeader};
 
-/// Whether the image is a DLL.
+/// Whether the image is a DLL: the characteristics have `IMAGE_FILE_DLL`.
 pub fn is_library(header: &Header<'_>) -> bool
     ensures { result ≡ is_library (header_view header.now) }
 {
     header.coff_header.characteristics / IMAGE_FILE_DLL % 2 == 1
 }
 
-/// What an optional header says of the image and of where its directories are. Without one there are none, and the numbers
-/// are 0.
+/// What the optional header says about the image, and its data directories. Without an optional header there are no
+/// directories, `is_64` is false, and the numbers are 0.
 #[derive(Clone, Copy)]
 pub struct Layout {
     pub is_64: bool,
+    /// The RVA of the entry point.
     pub entry: u32,
+    /// The preferred virtual address of the loaded image.
     pub image_base: u64,
+    /// In bytes.
     pub file_alignment: u32,
     pub exports: Option<DataDirectory>,
     pub imports: Option<DataDirectory>,
@@ -52,7 +56,7 @@ impl Layout {
         }
     }
 
-    /// The layout by this optional header.
+    /// The layout with this optional header.
     #[tactic(auto, unfolding(crate::specs::LayoutParts::layout_of))]
     fn by_header(optional: &OptionalHeader) -> Layout
         ensures { result ≡ layout_of (optional_view (Some optional.now)) }
@@ -73,7 +77,7 @@ impl Layout {
         }
     }
 
-    /// The layout by an optional header, if there is one.
+    /// The layout with or without an optional header.
     pub fn of(optional: &Option<OptionalHeader>) -> Layout
         ensures { result ≡ layout_of (optional_view optional.now) }
     {

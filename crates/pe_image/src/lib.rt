@@ -1,8 +1,10 @@
-//! Windows executables as one value: images, terse images and COFF objects.
+//! Reads a whole Windows executable into one value: a PE image (`PE`), a TE image (`TE`) or a COFF object (`Coff`).
+//! `PE` also writes an image back into a buffer. Layouts: <https://learn.microsoft.com/windows/win32/debug/pe-format>.
 //!
-//! Every call is proved to give what its definition in `specs/` gives, for every byte string. The layers below are here
-//! too: a program that only calls them names this crate alone in `crates.txt`, and `pe_plan` for plans. One whose own contracts
-//! cite definitions names the crates that these stand in as well, as `pe_client` does.
+//! Every call is proved to return what its definition in `specs/` says, for every byte string. This crate re-exports
+//! the crates below it: a program that only calls them names this crate alone in `crates.txt`, and `pe_plan` for plans.
+//! A program whose own contracts cite definitions also names the crates that contain these definitions, as `pe_client`
+//! does.
 #![tactic(auto)]
 
 mod coff;

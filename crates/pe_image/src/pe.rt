@@ -1,4 +1,6 @@
-//! Images.
+//! PE images: programs, DLLs and drivers. The file starts with a DOS header and a stub, then come the PE signature, the
+//! COFF and the optional header, the section table, and the bytes of the sections. `PE::parse` reads all of it into one
+//! value. Layout: <https://learn.microsoft.com/windows/win32/debug/pe-format>.
 
 ghost use Rattle.std.specs.Prelude.{◌≡◌, IfOk, Ok};
 ghost use Rattle.std.specs.Option.{option_and_then, option_map};
@@ -26,52 +28,52 @@ use pe_unwind::ExceptionData;
 use std::alloc::{Allocator, Global};
 use std::fmt;
 
-/// A Windows executable: a program, a library or a driver.
+/// A PE image: a program, a DLL or a driver.
 #[derive(Drop)]
 pub struct PE<'a, A: Allocator + Copy + Drop = Global> {
-    /// What it was read from.
+    /// The file that the image was read from. The writers take the data of the sections from it.
     pub(crate) bytes: &'a [u8],
-    /// All headers in front of the sections.
+    /// The headers before the section table.
     pub header: Header<'a>,
     /// The section headers, in the order of the section table.
     pub sections: Vec<SectionTable, A>,
     /// Always 0.
     pub size: usize,
-    /// The name of the library, as its export directory gives it.
+    /// The name of the DLL in the export directory.
     pub name: Option<&'a str>,
-    /// Whether it is a library.
+    /// Whether the image is a DLL: the characteristics have `IMAGE_FILE_DLL`.
     pub is_lib: bool,
-    /// Whether it is PE32+.
+    /// Whether the image is PE32+. `false` without an optional header.
     pub is_64: bool,
-    /// The relative virtual address of the entry point. 0 without an optional header.
+    /// The RVA of the entry point. 0 without an optional header.
     pub entry: u32,
-    /// The preferred address of the first byte in memory. 0 without an optional header.
+    /// The preferred virtual address of the first byte of the loaded image. 0 without an optional header.
     pub image_base: u64,
-    /// The export directory. `None` without one, or where it is refused.
+    /// The export directory. `None` without one, and in both modes if it is invalid.
     pub export_data: Option<ExportData<'a>>,
-    /// The import directory. `None` without one, or where the options pass it over.
+    /// The import directory. `None` without one, or if `parse_imports` is off.
     pub import_data: Option<ImportData<'a, A>>,
-    /// What the export directory names.
+    /// The exports of the export directory. Empty without `export_data`.
     pub exports: Vec<Export<'a>, A>,
-    /// What the import directory names.
+    /// The imports of the import directory. Empty without `import_data`.
     pub imports: Vec<Import<'a>, A>,
-    /// The names of the libraries that the import directory names, in the order of their bytes, each once.
+    /// The names of the DLLs in the import directory, sorted by their bytes, each once.
     pub libraries: Vec<&'a str, A>,
-    /// The debug data. This field and those behind it are `None` or empty without a directory; in permissive mode also where
-    /// it is refused.
+    /// The debug data. This field and the next four are `None` or empty without their directory, and in permissive mode
+    /// also if the directory is invalid.
     pub debug_data: Option<DebugData<'a>>,
-    /// The exception data of x64 (`parse_with_opts` of `ExceptionData`) or ARM64 (`parse_arm64_with_opts`), by the machine of
-    /// the header. `None` for another machine.
+    /// The exception data of x64 (`ExceptionData::parse_with_opts`) or ARM64 (`ExceptionData::parse_arm64_with_opts`),
+    /// by the machine in the COFF header. `None` for any other machine.
     pub exception_data: Option<ExceptionData<'a>>,
     /// The base relocations.
     pub relocation_data: Option<RelocationData<'a>>,
-    /// The attribute certificates, unless the options pass them over.
+    /// The attribute certificates. Empty if `parse_attribute_certificates` is off.
     pub certificates: CertificateDirectoryTable<'a, A>,
-    /// The resources, unless the options pass them over.
+    /// The resources. `None` if `parse_resources` is off.
     pub resource_data: Option<ResourceData<'a>>,
 }
 
-/// Tells all fields, without the bytes of the file.
+/// Prints all public fields. The bytes of the file are left out.
 impl<'a, A: Allocator + Copy + Drop + fmt::Debug> fmt::Debug for PE<'a, A> {
     fn fmt<W: fmt::Write>(&self, f: &mut fmt::Formatter<W>) -> fmt::Result {
         f.debug_struct("PE")
@@ -97,7 +99,7 @@ impl<'a, A: Allocator + Copy + Drop + fmt::Debug> fmt::Debug for PE<'a, A> {
     }
 }
 
-/// The name that an export directory gives, if there is one.
+/// The name of the DLL in the export directory, if there is one.
 fn name_of<'a>(export_data: &Option<ExportData<'a>>) -> Option<&'a str>
     ensures { option_map (λ s. s.now) result ≡ option_and_then (λ d. d.name) (option_map export_data_view export_data.now) }
 {
@@ -108,7 +110,7 @@ fn name_of<'a>(export_data: &Option<ExportData<'a>>) -> Option<&'a str>
 }
 
 impl<'a, A: Allocator + Copy + Drop> PE<'a, A> {
-    /// The image with this core and these fields.
+    /// Joins the core, the fields before the resources, and the resources.
     #[tactic(auto, unfolding(crate::specs::LayoutParts::layout_of))]
     fn of_parts(
         bytes: &'a [u8],
@@ -160,7 +162,7 @@ impl<'a, A: Allocator + Copy + Drop> PE<'a, A> {
         }
     }
 
-    /// The image with this core, or the first refusal in strict mode.
+    /// Reads the remaining fields of the image with this core. In strict mode the first invalid one is the error.
     #[tactic(auto, using(crate::proofs::Requests::from_nothing))]
     fn with_core(
         alloc: A,
@@ -180,7 +182,8 @@ impl<'a, A: Allocator + Copy + Drop> PE<'a, A> {
         Ok(PE::of_parts(bytes, core, &layout, first, resource_data))
     }
 
-    /// The image of these bytes, strictly and with all directories.
+    /// Reads the image in `bytes`, a whole file, in strict mode and with all directories. Errors: those of
+    /// `parse_with_opts` in strict mode, in the same order.
     pub fn parse(alloc: A, bytes: &'a [u8]) -> Result<PE<'a, A>>
         ensures image { GivesImage bytes.entry.now default_options result }
         ensures memory { MemoryOnlyIf (AsksForMemory bytes.entry.now default_options) result }
@@ -191,12 +194,16 @@ impl<'a, A: Allocator + Copy + Drop> PE<'a, A> {
         PE::parse_with_opts(alloc, bytes, &ParseOptions::default())
     }
 
-    /// The image of these bytes. Refusals in this order: in both modes those of the headers, `Short` where the section
-    /// headers are not all there, those of the import directory and of its imports; in strict mode those of the debug data,
-    /// the exception data, the base relocations, the certificates and the resources, each of which permissive mode leaves
-    /// empty. A refused export directory counts as absent. `Memory` comes only once the headers and the section headers are
-    /// there, and is never left out: it is asked for section headers, exports, imports with their libraries, and certificates
-    /// alone, where the image has some.
+    /// Reads the image in `bytes`, a whole file. Errors, in this order:
+    /// - in both modes: those of `Header::parse_with_opts`; `Short` if the section headers are truncated; those of the
+    ///   import directory, then those of its imports;
+    /// - in strict mode: those of the debug data, the exception data, the base relocations, the certificates and the
+    ///   resources. Permissive mode leaves an invalid one of these empty.
+    ///
+    /// An invalid export directory counts as absent in both modes. Memory is asked for section headers, exports,
+    /// imports with their libraries, and certificates alone, and only if the image has some. `Memory` is returned in
+    /// both modes, and only if the headers and the section headers are valid. An allocation failure never empties a
+    /// field.
     pub fn parse_with_opts(alloc: A, bytes: &'a [u8], opts: &ParseOptions) -> Result<PE<'a, A>>
         ensures image { GivesImage bytes.entry.now opts.now result }
         ensures memory { MemoryOnlyIf (AsksForMemory bytes.entry.now opts.now) result }

@@ -1,4 +1,6 @@
-//! Terse images.
+//! TE images, as firmware has them: PE images whose headers were replaced by a TE header of 40 bytes. RVAs and file
+//! offsets in the file still count from the start of the PE image. `TE::parse` subtracts the bytes that the file is
+//! shorter.
 
 ghost use Rattle.pe_core.specs.Refusals.{GivesUnlessMemoryAfter};
 
@@ -6,25 +8,26 @@ use pe_core::{ParseOptions, Result, SectionTable, TeHeader};
 use pe_records::DebugData;
 use std::alloc::{Allocator, Global};
 
-/// A terse image, as firmware has them: an image whose headers were cut down to 40 bytes.
+/// A TE image: an image whose headers were replaced by a TE header of 40 bytes.
 #[derive(Debug, Drop)]
 pub struct TE<'a, A: Allocator + Copy + Drop = Global> {
-    /// The header, its addresses reduced by `rva_offset`.
+    /// The TE header. Its RVAs are reduced by `rva_offset`.
     pub header: TeHeader,
-    /// The sections, their addresses and raw pointers reduced by `rva_offset`.
+    /// The section headers. Their RVAs and raw pointers are reduced by `rva_offset`.
     pub sections: Vec<SectionTable, A>,
-    /// The debug data, the raw addresses of their entries reduced by `rva_offset`. Empty without a debug directory.
+    /// The debug data. The RVAs and raw pointers of its entries are reduced by `rva_offset`. Empty without a debug
+    /// directory.
     pub debug_data: DebugData<'a>,
-    /// How many bytes of headers were dropped, less the 40 of its own header.
+    /// How many bytes the file is shorter than the PE image: the stripped bytes less the 40 of the TE header.
     pub rva_offset: usize,
 }
 
 impl<'a, A: Allocator + Copy + Drop> TE<'a, A> {
     ghost use Rattle.pe_image.specs.Terse.{terse_view, terse_sections, terse_of};
 
-    /// The terse image of these bytes. Refusals in this order: of the header, `Short`, `BadMagic`, `TeSize`; `Short` where
-    /// the section headers are not all there; `Memory`; those of the debug data, which are read as in a strict image whose
-    /// addresses are places.
+    /// Reads the TE image in `bytes`, a whole file. Errors, in this order: those of the header, `Short`, `BadMagic`,
+    /// `TeSize`; `Short` if the section headers are truncated; `Memory`; those of the debug data. The debug data is
+    /// read with `ParseOptions::te`: in strict mode, and with RVAs as file offsets.
     #[tactic(auto, using(crate::proofs::NoMemory::terse_header_owes_nothing), unfolding(crate::specs::Terse::terse_of, pe_core::specs::TerseHeader::te_sections_of))]
     pub fn parse(alloc: A, bytes: &'a [u8]) -> Result<TE<'a, A>>
         ensures { GivesUnlessMemoryAfter (terse_sections bytes.entry.now) terse_view result (terse_of bytes.entry.now) }

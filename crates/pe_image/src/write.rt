@@ -1,7 +1,9 @@
-//! Images as bytes.
+//! Writes images into buffers: headers, sections and certificates, as the fields of a `PE` are now. A caller changes
+//! fields of an image that was read, and writes it back. Layout:
+//! <https://learn.microsoft.com/windows/win32/debug/pe-format>.
 //!
-//! Each writer tests every fault in its order first, and then writes without a further test, so that a refused write has
-//! changed nothing.
+//! Each writer first tests for all errors in their order, and then writes without further tests. So a write that fails
+//! leaves the buffer as it was.
 
 mod certificates;
 mod headers;
@@ -27,10 +29,12 @@ use pe_core::{Error, OptionalHeader, Reason, Result};
 use std::alloc::Allocator;
 
 impl<'a, A: Allocator + Copy + Drop> PE<'a, A> {
-    /// Writes the certificates one behind the other from the address of the certificate directory on, each as
-    /// `AttributeCertificate::write_into` does; none without that directory. Answers the place behind the last, 0 if none
-    /// is written. Places are bytes from the beginning of the buffer. Refusals in this order, each of which leaves the
-    /// buffer as it was: `NoOptionalHeader`; `WriteFit` where the certificates are not all inside the buffer.
+    /// Writes the certificates one after the other, from the offset of the certificate directory on, each as
+    /// `AttributeCertificate::write_into` does. Without that directory none is written. Returns the offset after the
+    /// last one, or 0 if none is written. Offsets count in bytes from the start of the buffer.
+    ///
+    /// Errors, in this order, each of which leaves the buffer as it was: `NoOptionalHeader`; `WriteFit` if the
+    /// certificates don't all fit into the buffer.
     pub fn write_certificates(&self, buffer: &mut [u8]) -> Result<usize>
         ensures { GivesWritten result (certificates_written (image_view self.now) buffer.old) buffer.old buffer.new }
     {
@@ -43,13 +47,15 @@ impl<'a, A: Allocator + Copy + Drop> PE<'a, A> {
         }
     }
 
-    /// Writes the sections: the data of each at its raw pointer, its header, and zeros behind the data up to a multiple of
-    /// the alignment, in bytes and counted from the raw pointer, none for `None`. The headers stand one behind the other
-    /// from the offset on. The data are taken from the bytes that the image was read from. A later piece stands over an
-    /// earlier one. The offset moves behind the headers, and is the answer. Places are bytes from the beginning of the
-    /// buffer. Refusals in this order, each of which leaves the buffer and the offset as they were: `WriteAlignment` for an
-    /// alignment of 0; `WriteOverlap` where two unequal sections share a byte of the file; `WriteSection` where the data of
-    /// one are not in the source; `WriteFit` where the pieces are not all inside the buffer.
+    /// Writes the sections: for each its data at the raw pointer, its header, and zeros after the data up to a multiple
+    /// of `file_alignment` bytes, counted from the raw pointer. `None` writes no zeros. The headers are written one
+    /// after the other, from `offset` on. The data comes from the file that the image was read from. Where pieces
+    /// overlap, the later one wins. Moves `offset` past the headers, and returns it. Offsets count in bytes from the
+    /// start of the buffer.
+    ///
+    /// Errors, in this order, each of which leaves the buffer and `offset` as they were: `WriteAlignment` for an
+    /// alignment of 0; `WriteOverlap` if two unequal sections share a byte of the file; `WriteSection` if the data of a
+    /// section is not in the file that the image was read from; `WriteFit` if the pieces don't all fit into the buffer.
     pub fn write_sections(
         &self,
         buffer: &mut [u8],
@@ -69,7 +75,7 @@ impl<'a, A: Allocator + Copy + Drop> PE<'a, A> {
         Ok(end)
     }
 
-    /// The sections, with zeros up to a multiple of the file alignment.
+    /// The writer of the sections, with zeros up to a multiple of the file alignment.
     fn section_writer(&self, optional: &OptionalHeader) -> SectionWriter<'_>
         ensures source { result.source.now ≡ source_of self.now }
         ensures sections { result.sections.now ≡ self.now.sections.items }
@@ -82,7 +88,7 @@ impl<'a, A: Allocator + Copy + Drop> PE<'a, A> {
         }
     }
 
-    /// The greatest end of what is written. Refuses as `WriteFit` where the pieces don't all fit.
+    /// Returns what `write_into` returns, or `WriteFit` if the pieces don't all fit.
     #[tactic(auto, using(crate::proofs::Rows::all_fit_append), unfolding(crate::specs::Writing::image_pieces))]
     fn require_pieces(&self, buffer: &[u8], optional: &OptionalHeader) -> Result<usize>
         requires unit { 0 < optional.now.windows_fields.file_alignment }
@@ -98,7 +104,7 @@ impl<'a, A: Allocator + Copy + Drop> PE<'a, A> {
         Ok(table.max(last_raw_end(&self.sections)).max(end))
     }
 
-    /// Tests every fault in its order; the greatest end of what is written.
+    /// Tests for all errors of `write_into` but the first, in their order. Returns what `write_into` returns.
     #[tactic(auto, using(crate::proofs::WrittenImages::positive), unfolding(crate::specs::Writing::image_tests))]
     fn require_image(&self, buffer: &[u8], optional: &OptionalHeader) -> Result<usize>
         ensures answer { Gives (λ end. end) result
@@ -119,7 +125,7 @@ impl<'a, A: Allocator + Copy + Drop> PE<'a, A> {
         self.require_pieces(buffer, optional)
     }
 
-    /// Writes all pieces, which are known to fit.
+    /// Writes all pieces. The caller has checked that they fit.
     fn set_pieces(&self, buffer: &mut [u8], optional: &OptionalHeader)
         requires unit { 0 < optional.now.windows_fields.file_alignment }
         requires inside { IsTrue (all_in_source (source_of self.now) self.now.sections.items) }
@@ -143,17 +149,22 @@ impl<'a, A: Allocator + Copy + Drop> PE<'a, A> {
         Ok(end)
     }
 
-    /// Writes the image by its fields as they are now: the DOS header at 0, the stub at 64, the PE signature at the place
-    /// that the DOS header names, the COFF header 4 and the optional header 24 bytes behind that; for each section its
-    /// data at the raw pointer, its header in the section table, and zeros behind its data up to a multiple of the file
-    /// alignment counted from the raw pointer; then the certificates, as `write_certificates` does. Sections' data are
-    /// taken from the bytes that the image was read from. A later piece stands over an earlier one, and bytes that no
-    /// piece covers stay as they were. Places are bytes from the beginning of the buffer. Answers the greatest of where
-    /// the section table begins, where the data of the last section with the greatest raw pointer end, and where the
-    /// certificates end, if one is written. Refusals in this order, each of which leaves the buffer as it was:
-    /// `NoOptionalHeader`; `WriteAlignment` unless the file alignment is a power of two; `WriteSymbols` unless the pointer
-    /// to COFF symbols is 0; `WriteOverlap` where two unequal sections share a byte of the file; `WriteSection` where the
-    /// data of one are not in the source; `WriteFit` where the pieces are not all inside the buffer.
+    /// Writes the image, as its fields are now, in these pieces:
+    /// - the DOS header at offset 0, the stub at 64, the PE signature at the offset `pe_pointer` of the DOS header, the
+    ///   COFF header at `pe_pointer` + 4, the optional header at `pe_pointer` + 24;
+    /// - for each section its data at the raw pointer, its header in the section table, and zeros after the data up to
+    ///   a multiple of the file alignment, counted from the raw pointer. The data comes from the file that the image
+    ///   was read from;
+    /// - the certificates, as `write_certificates` does.
+    ///
+    /// Where pieces overlap, the later one wins. Bytes that no piece covers stay as they were. Offsets count in bytes
+    /// from the start of the buffer. Returns the greatest of three offsets: the start of the section table, the end of
+    /// the data of the last section with the greatest raw pointer, and the end of the certificates, if one is written.
+    ///
+    /// Errors, in this order, each of which leaves the buffer as it was: `NoOptionalHeader`; `WriteAlignment` unless
+    /// the file alignment is a power of two; `WriteSymbols` unless the pointer to COFF symbols is 0; `WriteOverlap` if
+    /// two unequal sections share a byte of the file; `WriteSection` if the data of a section is not in the file that
+    /// the image was read from; `WriteFit` if the pieces don't all fit into the buffer.
     pub fn write_into(&self, buffer: &mut [u8]) -> Result<usize>
         ensures { GivesWritten result (image_written (source_of self.now) (image_view self.now) buffer.old) buffer.old buffer.new }
     {

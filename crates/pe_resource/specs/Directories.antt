@@ -10,7 +10,7 @@ use Rattle.pe_resource.specs.declared.directory.ImageResourceDirectory.{ImageRes
 use Rattle.pe_resource.specs.declared.entry.ResourceEntry.{ResourceEntry}
 use Rattle.pe_resource.specs.ResourceEntries.{entries}
 
--- the directory of 16 bytes at p
+-- the directory at p, 16 bytes
 unfoldable pub directory_of : List ℕ → ℕ → ImageResourceDirectory
 directory_of b p = record {
   characteristics = le b p 4;
@@ -21,19 +21,19 @@ directory_of b p = record {
   number_of_id_entries = le b (p + 14) 2;
 }
 
--- how many entries it has: the sum of both counts, or the greatest number of 16 bits
+-- the number of entries: the sum of both counts, at most 65,535
 abbrev pub count : ImageResourceDirectory → ℕ
 count d = min (d.number_of_named_entries + d.number_of_id_entries) 65535
 
--- the directory at a place, if there is a place
+-- the directory at an offset; refused without an offset
 abbrev pub directory_at_place : List ℕ → Option ℕ → Result ImageResourceDirectory Refusal
 directory_at_place b None = Err Unmapped
 directory_at_place b (Some p) = record_at b p 16 (directory_of b p)
 
--- the directory that a data directory leads to
+-- the directory at the RVA of a data directory
 unfoldable pub directory_at : ParseOptions → List ℕ → DataDirectory → List SectionTable → ℕ → Result ImageResourceDirectory Refusal
 directory_at o b d sections alignment = directory_at_place b (section_map o sections alignment d.virtual_address)
 
--- the entries of a directory, which stand at p
+-- the entries of a directory, which start at p
 abbrev pub entries_at : List ℕ → ℕ → ImageResourceDirectory → Result (List ResourceEntry) Refusal
 entries_at b p d = record_at b p (8 * count d) (entries (range b p (8 * count d)))

@@ -6,11 +6,11 @@ use Rattle.pe_core.specs.Refusals.{Refusal}
 use Rattle.pe_resource.specs.declared.entry.ResourceEntry.{ResourceEntry}
 use Rattle.pe_resource.specs.declared.directory.ResourceEntryIterator.{ResourceEntryIterator}
 
--- the entry that a number of 64 bits spells, with the name or id in its high half
+-- the entry of a 64-bit number: the high half is the name or id, the low half the offset
 abbrev pub entry_of : ℕ → ResourceEntry
 entry_of n = record { name_or_id = n / 2 ^ 32; offset_to_data_or_directory = n % 2 ^ 32 }
 
--- the number that spells an entry
+-- the 64-bit number of an entry
 abbrev pub number_of : ResourceEntry → ℕ
 number_of e = e.name_or_id * 2 ^ 32 + e.offset_to_data_or_directory
 
@@ -18,27 +18,27 @@ number_of e = e.name_or_id * 2 ^ 32 + e.offset_to_data_or_directory
 abbrev pub has_name : ResourceEntry → Bool
 has_name e = e.name_or_id / 2 ^ 31 == 1
 
--- where its name stands
+-- the offset of its name: the low 31 bits
 abbrev pub name_place : ResourceEntry → ℕ
 name_place e = e.name_or_id % 2 ^ 31
 
--- its id, the low 16 bits, unless it has a name
+-- its id: the low 16 bits, unless it has a name
 abbrev pub id_of : ResourceEntry → Option ℕ
 id_of e = if has_name e then None else Some (e.name_or_id % 2 ^ 16)
 
--- bit 31 of the offset: a directory lies behind the entry
+-- bit 31 of the offset: the entry leads to a directory
 abbrev pub is_directory : ResourceEntry → Bool
 is_directory e = e.offset_to_data_or_directory / 2 ^ 31 == 1
 
--- where that directory lies
+-- the offset of that directory: the low 31 bits
 abbrev pub directory_place : ResourceEntry → ℕ
 directory_place e = e.offset_to_data_or_directory % 2 ^ 31
 
--- where its data entry lies, unless a directory lies behind it
+-- the offset of its data entry, unless it leads to a directory
 abbrev pub data_place : ResourceEntry → Option ℕ
 data_place e = if is_directory e then None else Some e.offset_to_data_or_directory
 
--- the entry of 8 bytes at p
+-- the entry at p, 8 bytes
 abbrev pub entry_at : List ℕ → ℕ → ResourceEntry
 entry_at b p = record { name_or_id = le b p 4; offset_to_data_or_directory = le b (p + 4) 4 }
 
@@ -46,11 +46,12 @@ entry_at b p = record { name_or_id = le b p 4; offset_to_data_or_directory = le 
 unfoldable pub entries : List ℕ → List ResourceEntry
 entries b = map (λ i. entry_at b (8 * i)) (range_with_len 0 (length b / 8))
 
--- the entry has this id
+-- there is an id, and it is this one
 abbrev pub is_id : ℕ → Option ℕ → Bool
 is_id id None = false
 is_id id (Some own) = own == id
 
+-- the entry has this id
 abbrev pub has_id : ℕ → ResourceEntry → Bool
 has_id id e = is_id id (id_of e)
 
@@ -58,10 +59,10 @@ has_id id e = is_id id (id_of e)
 abbrev pub with_id : ℕ → List ResourceEntry → Option ResourceEntry
 with_id id es = find (has_id id) es
 
--- what an iterator has left
+-- the entries that an iterator has left
 abbrev pub entries_left : ResourceEntryIterator → List ResourceEntry
 entries_left s = entries s.bytes.now
 
--- the items that it gives
+-- the items that an iterator has left; none is a refusal
 abbrev pub items_left : ResourceEntryIterator → List (Result ResourceEntry Refusal)
 items_left s = map (λ e. Ok e) (entries_left s)

@@ -15,21 +15,23 @@ use Rattle.pe_resource.specs.declared.version.VsFixedFileInfo.{VsFixedFileInfo}
 
 -- ---- version numbers
 
--- the four parts of two numbers of 32 bits, the high half of each first
+-- the version of two 32-bit numbers: major and minor are the halves of `ms`, build and revision those of `ls`
 abbrev pub version_of_halves : ℕ → ℕ → VersionField
 version_of_halves ms ls = record { major = ms / 2 ^ 16; minor = ms % 2 ^ 16; build = ls / 2 ^ 16; revision = ls % 2 ^ 16 }
 
+-- the first number: major and minor
 abbrev pub high_half : VersionField → ℕ
 high_half v = v.major * 2 ^ 16 + v.minor
 
+-- the second number: build and revision
 abbrev pub low_half : VersionField → ℕ
 low_half v = v.build * 2 ^ 16 + v.revision
 
--- both halves as one number
+-- both numbers as one 64-bit number
 abbrev pub whole_number : VersionField → ℕ
 whole_number v = high_half v * 2 ^ 32 + low_half v
 
--- each part has 16 bits
+-- each part fits into 16 bits
 abbrev pub HasParts : VersionField → Type 0
 HasParts v = (v.major < 2 ^ 16) × (v.minor < 2 ^ 16) × (v.build < 2 ^ 16) × (v.revision < 2 ^ 16)
 
@@ -39,7 +41,7 @@ version_text v = decimal v.major ++ codes "." ++ decimal v.minor ++ codes "." ++
 
 -- ---- fixed file information
 
--- 52 bytes at p
+-- the fixed file information at p, 52 bytes
 unfoldable pub fixed_info_at : List ℕ → ℕ → VsFixedFileInfo
 fixed_info_at b p = record {
   signature = le b p 4;
@@ -57,18 +59,18 @@ fixed_info_at b p = record {
   file_date_ls = le b (p + 48) 4;
 }
 
--- that of a value, if there is a value
+-- the fixed file information in a value, if there is a value
 abbrev pub fixed_info_in : Option (List ℕ) → Result (Option VsFixedFileInfo) Refusal
 fixed_info_in None = Ok None
 fixed_info_in (Some v) = record_at v 0 52 (Some (fixed_info_at v 0))
 
--- that among these strings: every string must read
+-- the fixed file information in version information; refused if any string is refused
 unfoldable pub fixed_info_of : List ℕ → Result (Option VsFixedFileInfo) Refusal
 fixed_info_of b = all_read (strings b) >>= λ _. fixed_info_in (value_of (codes "VS_VERSION_INFO") (read (strings b)))
 
 -- ---- the strings of a file
 
--- the twelve names
+-- the characters of the twelve names
 abbrev pub name_of : VersionName → List ℕ
 name_of names.Comments = codes "Comments"
 name_of names.CompanyName = codes "CompanyName"
@@ -113,6 +115,7 @@ value_named names.ProductName s = s.product_name
 value_named names.ProductVersion s = s.product_version
 value_named names.SpecialBuild s = s.special_build
 
+-- the values of the twelve names in these strings
 abbrev pub file_strings : List VersionString → FileStrings
 file_strings ss = record {
   comments = value_of (codes "Comments") ss;
@@ -129,6 +132,7 @@ file_strings ss = record {
   special_build = value_of (codes "SpecialBuild") ss;
 }
 
+-- the view of these values
 abbrev pub file_strings_view : StringFileInfo → FileStrings
 file_strings_view i = record {
   comments = option_map (λ v. v.now) i.comments;
@@ -150,22 +154,24 @@ abbrev pub text_in : Option (List ℕ) → Option (List ℕ)
 text_in None = None
 text_in (Some v) = text v
 
--- there is a value, of an even number of bytes, so it may be a text
+-- there is a value with an even number of bytes, so it may be a text
 abbrev pub MayBeText : Option (List ℕ) → Type 0
 MayBeText None = ⊥
 MayBeText (Some v) = length v % 2 ≡ 0
 
--- what making the text of a value answers, which asks for memory only where the value may be a text
+-- the result of reading a value as a text; memory runs out only if the value may be a text
 abbrev pub GivesText : {Y Z : Type 0} → Result (Option (String Z)) Y → Option (List ℕ) → Type 0
 GivesText (Ok s) value = option_map string_bytes s ≡ text_in value
 GivesText (Err e) value = MayBeText value
 
 -- ---- both together
 
+-- version information, independent of where its bytes lie in memory
 pub record VersionView : Type 0 where
   pub fixed_info : Option VsFixedFileInfo
   pub strings : FileStrings
 
+-- the view of version information
 abbrev pub version_view : VersionInfo → VersionView
 version_view v = record { fixed_info = v.fixed_info; strings = file_strings_view v.string_info }
 
@@ -173,6 +179,6 @@ version_view v = record { fixed_info = v.fixed_info; strings = file_strings_view
 unfoldable pub version_in : List ℕ → Result VersionView Refusal
 version_in b = fixed_info_of b >>= λ f. Ok (record { fixed_info = f; strings = file_strings (read (strings b)) })
 
--- where the value of a name lies in version information, which is refused as it is
+-- the range of the value of a name in version information; refused if the version information is
 unfoldable pub value_range_in : VersionName → List ℕ → Result (Option ByteRange) Refusal
 value_range_in name b = fixed_info_of b >>= λ _. Ok (value_range (name_of name) 0 (read (strings b)))

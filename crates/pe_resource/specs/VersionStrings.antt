@@ -13,7 +13,7 @@ use Rattle.pe_core.specs.declared.error.Error.{Error}
 use Rattle.pe_resource.specs.declared.string.ResourceString.{ResourceString}
 use Rattle.pe_resource.specs.declared.string.ResourceStringIterator.{ResourceStringIterator}
 
--- a string without where its parts lie in memory
+-- a string, independent of where its parts lie in memory
 pub record VersionString : Type 0 where
   pub len : ℕ
   pub value_len : ℕ
@@ -21,56 +21,60 @@ pub record VersionString : Type 0 where
   pub key : List ℕ
   pub value : List ℕ
 
+-- the view of a string
 abbrev pub string_view : ResourceString → VersionString
 string_view s = record { len = s.len; value_len = s.value_len; text_type = s.text_type; key = s.key.now; value = s.value.now }
 
--- ---- units of two bytes, and texts
+-- ---- code units and texts
 
--- the units of two bytes; a last odd byte is no unit
+-- the UTF-16 code units in these bytes; a last odd byte is left out
 abbrev pub units : List ℕ → List ℕ
 units [] = []
 units (low ∷ []) = []
 units (low ∷ high ∷ rest) = (low + 256 * high) ∷ units rest
 
--- the list up to its first zero
+-- the numbers before the first zero
 abbrev pub before_zero : List ℕ → List ℕ
 before_zero [] = []
 before_zero (u ∷ us) = if u == 0 then [] else u ∷ before_zero us
 
--- the text of these bytes, in UTF-8: none for an odd length and where a surrogate has no partner; it stops at a zero unit
+-- the text in these bytes, converted to UTF-8, up to the first zero code unit; `None` for an odd length or an unpaired
+-- surrogate
 unfoldable pub text : List ℕ → Option (List ℕ)
 text x =
     if length x % 2 == 1 then None
     else (if has_unpaired_surrogate (before_zero (units x)) then None
     else Some (encode_utf8_all (utf16_lossy_chars (before_zero (units x)))))
 
--- a text is there, and it is this name
+-- there is a text, and it is this name
 abbrev pub is_name : List ℕ → Option (List ℕ) → Bool
 is_name name None = false
 is_name name (Some t) = bytes_eq t name
 
 -- ---- one string
 
--- the bytes of the key that stands at p: its units before the first zero unit, or before the end
+-- the size in bytes of the key at p: its code units before the first zero one, or before the end
 abbrev pub key_length : List ℕ → ℕ → ℕ
 key_length b p = 2 * length (before_zero (units (drop p b)))
 
+-- n, rounded up to a multiple of four
 abbrev pub up_to_four : ℕ → ℕ
 up_to_four n = rounded_up n 4
 
--- where the value of the string at p begins: behind the key and its zero unit, at a multiple of four
+-- the start of the value of the string at p: after the key and its zero code unit, at a multiple of four
 unfoldable pub value_place : List ℕ → ℕ → ℕ
 value_place b p = up_to_four (p + 6 + key_length b (p + 6) + 2)
 
--- how many bytes the value has, by its length and its type
+-- the size of the value in bytes, by its length and its type
 abbrev pub value_bytes : List ℕ → ℕ → ℕ
 value_bytes b p = if le b (p + 4) 2 == 1 then 2 * le b (p + 2) 2 else le b (p + 2) 2
 
--- the same up to a multiple of four, if these bytes are there
+-- the same, rounded up to a multiple of four if these bytes are there
 unfoldable pub lengthened : List ℕ → ℕ → ℕ
 lengthened b p =
     if holds b (value_place b p) (up_to_four (value_bytes b p)) then up_to_four (value_bytes b p) else value_bytes b p
 
+-- the string at p, and the start of the next one
 unfoldable pub string_and_next : List ℕ → ℕ → Option VersionString × ℕ
 string_and_next b p = (
   Some (record {
@@ -83,10 +87,11 @@ string_and_next b p = (
   value_place b p + lengthened b p,
 )
 
--- the length of a text is at most 32,767 units
+-- a text has at most 32,767 code units
 abbrev pub is_short_text : List ℕ → ℕ → Bool
 is_short_text b p = if le b (p + 4) 2 == 1 then nat_le (le b (p + 2) 2) 32767 else true
 
+-- the string at p and the start of the next one, or the first refusal, if the length is not 0
 unfoldable pub whole_string_at : List ℕ → ℕ → Result (Option VersionString × ℕ) Refusal
 whole_string_at b p = outcome
     ((holds b (p + 2) 4, Short)
@@ -95,61 +100,64 @@ whole_string_at b p = outcome
     ∷ [])
     (string_and_next b p)
 
--- the string at p and where the next one begins; a length of 0 ends the strings
+-- the string at p and the start of the next one, or the first refusal; a length of 0 ends the strings
 abbrev pub string_at : List ℕ → ℕ → Result (Option VersionString × ℕ) Refusal
 string_at b p =
     if holds b p 2 then (if le b p 2 == 0 then Ok (None, p + 2) else whole_string_at b p) else Err Short
 
--- what a parse at p answers, and where the offset stands then
+-- the result of parsing at p, and the offset q after it; a refusal leaves the offset at p
 abbrev pub Parses : List ℕ → ℕ → Result (Option ResourceString) Error → ℕ → Type 0
 Parses b p (Ok s) q = string_at b p ≡ Ok (option_map string_view s, q)
 Parses b p (Err e) q = (string_at b p ≡ Err (kind_of e)) × (q ≡ p)
 
 -- ---- the strings of a byte string
 
--- each is read at the start of what the one before left: they end where nothing is left or at a length of 0
+-- these are the strings of b: each is read at the start of the bytes that the one before left; they end if no bytes are
+-- left, at a length of 0, and after a refusal
 abbrev pub Strings : List ℕ → List (Result VersionString Refusal) → Type 0
 Strings b [] = (b ≡ []) ⊎ ((q : ℕ) × (string_at b 0 ≡ Ok (None, q)))
 Strings b (Ok s ∷ more) = (b ≢ []) × (q : ℕ) × (string_at b 0 ≡ Ok (Some s, q)) × Strings (drop q b) more
 Strings b (Err e ∷ more) = (b ≢ []) × (string_at b 0 ≡ Err e) × (more ≡ [])
 
--- what one call of next answers, and what it leaves
+-- the result of one call of `next`, and the bytes that it leaves
 abbrev pub GivesString : List ℕ → Option (Result ResourceString Error) → List ℕ → Type 0
 GivesString b None left = ((b ≡ []) ⊎ ((q : ℕ) × (string_at b 0 ≡ Ok (None, q)))) × (left ≡ [])
 GivesString b (Some (Ok s)) left = (b ≢ []) × (q : ℕ) × (string_at b 0 ≡ Ok (Some (string_view s), q)) × (left ≡ drop q b)
 GivesString b (Some (Err e)) left = (b ≢ []) × (string_at b 0 ≡ Err (kind_of e)) × (left ≡ [])
 
--- what an iterator has left
+-- the bytes that an iterator has left
 abbrev pub rest_of : ResourceStringIterator → List ℕ
 rest_of s = s.bytes.now
 
--- an item as callers see it
+-- the view of an item
 abbrev pub item_of : Result ResourceString Error → Result VersionString Refusal
 item_of (Ok s) = Ok (string_view s)
 item_of (Err e) = Err (kind_of e)
 
--- the same list as a function of the bytes, of which there are at most n
+-- the list with this first item, if there is one, and the strings of the bytes after it
 abbrev pub then_more : (List ℕ → List (Result VersionString Refusal)) → List ℕ → Result (Option VersionString × ℕ) Refusal → List (Result VersionString Refusal)
 then_more rest b (Err e) = Err e ∷ []
 then_more rest b (Ok (None, q)) = []
 then_more rest b (Ok (Some s, q)) = Ok s ∷ rest (drop q b)
 
+-- the strings of at most n bytes
 abbrev pub strings_in : ℕ → List ℕ → List (Result VersionString Refusal)
 strings_in zero b = []
 strings_in (suc n) b = if length b == 0 then [] else then_more (strings_in n) b (string_at b 0)
 
+-- the strings of b, as a function
 unfoldable pub strings : List ℕ → List (Result VersionString Refusal)
 strings b = strings_in (length b) b
 
 -- ---- strings with a key
 
--- those that were read, in order
+-- the strings that are not refused, in order
 abbrev pub read : List (Result VersionString Refusal) → List VersionString
 read [] = []
 read (Ok s ∷ more) = s ∷ read more
 read (Err e ∷ more) = read more
 
--- every string reads, or the first fault
+-- the first refusal of a string, if there is one
 abbrev pub all_read : List (Result VersionString Refusal) → Result (Unit {0}) Refusal
 all_read [] = Ok tt
 all_read (Ok s ∷ more) = all_read more
@@ -159,24 +167,26 @@ all_read (Err e ∷ more) = Err e
 abbrev pub with_key : List ℕ → List VersionString → Option VersionString
 with_key name ss = find (λ s. is_name name (text s.key)) ss
 
--- its value
+-- the value of that string
 abbrev pub value_of : List ℕ → List VersionString → Option (List ℕ)
 value_of name ss = option_map (λ s. s.value) (with_key name ss)
 
--- where the value of a string begins, counted from the string: behind its head, its key and the zero unit
+-- the start of a string's value, from the start of the string: after its head of 6 bytes, its key and the zero code
+-- unit
 abbrev pub value_begin : VersionString → ℕ
 value_begin s = up_to_four (6 + length s.key + 2)
 
--- the range of the value of the first string with a name, where the first of the strings stands at p
+-- the range of the value of the first string with a name, if the first of the strings starts at p
 abbrev pub value_range : List ℕ → ℕ → List VersionString → Option ByteRange
 value_range name p [] = None
 value_range name p (s ∷ ss) =
     if is_name name (text s.key) then Some (record { place = p + value_begin s; length = length s.value })
     else value_range name (p + (value_begin s + length s.value)) ss
 
--- each character is ASCII and none is zero
+-- the character is ASCII and not zero
 abbrev pub is_plain : ℕ → Bool
 is_plain c = nat_lt 0 c && nat_lt c 128
 
+-- every character is ASCII and not zero
 abbrev pub IsPlain : List ℕ → Type 0
 IsPlain name = list_all is_plain name ≡ true

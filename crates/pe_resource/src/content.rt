@@ -1,4 +1,6 @@
-//! What lies behind an entry: a leaf, its data entry, and the bytes of the file that this names.
+//! From an entry to its content: the walk ends at a leaf, which has the offset of a data entry of 16 bytes, and that
+//! has the RVA and the size of the content. Layout:
+//! <https://learn.microsoft.com/windows/win32/debug/pe-format#resource-data-entry>.
 
 ghost use Rattle.std.specs.Prelude.{◌≡◌, ◌+◌, ◌≤◌, length, IfOk, IfSome};
 ghost use Rattle.std.specs.Option.{option_map};
@@ -14,26 +16,26 @@ use pe_core::{
     require_bytes,
 };
 
-/// The bytes of a data entry.
+/// The size of a data entry in bytes.
 const SIZE_OF_DATA_ENTRY: usize = 16;
 
-/// A data entry, 16 bytes: which bytes of the file a resource has. No call returns one: `ResourceData::content_range`
-/// reads it and returns the range. It is here for callers that walk the directories themselves: its fields are the four
+/// A data entry, 16 bytes: where the content of a resource is. No call returns one: `ResourceData::content_range` reads
+/// it and returns the file range. The type is for callers that walk the directories themselves: its fields are the four
 /// numbers at `offset_to_data` of a leaf.
 #[derive(Clone, Copy, Debug, Default, PartialEq)]
 pub struct ResourceDataEntry {
-    /// The relative virtual address of the bytes.
+    /// The RVA of the content, in spite of the name.
     pub offset_to_data: u32,
-    /// How many they are.
+    /// The size of the content in bytes.
     pub size: u32,
-    /// The code page of texts among them.
+    /// The code page of texts in the content.
     pub code_page: u32,
     /// Reserved.
     pub reserved: u32,
 }
 
 impl ResourceDataEntry {
-    /// The data entry at a place where its 16 bytes are known to be there.
+    /// Reads the data entry at `place`. The caller has checked that its 16 bytes are there.
     #[tactic(auto, unfolding(crate::specs::Contents::data_entry_at))]
     fn at(bytes: &[u8], place: usize) -> ResourceDataEntry
         requires { place + 16 ≤ length bytes.now }
@@ -48,7 +50,8 @@ impl ResourceDataEntry {
     }
 }
 
-/// Where the data entry lies behind the first of the entries that has this id.
+/// The offset of the data entry that the first entry with this id leads to. `None` without such an entry, or if the
+/// walk ends at a directory.
 fn leaf(bytes: &[u8], it: ResourceEntryIterator, id: u16) -> Result<Option<u32>>
     ensures { IsLeaf bytes.now (with_id id (entries_left it.entry)) (answer_by (λ p. p) result) }
 {
@@ -61,7 +64,7 @@ fn leaf(bytes: &[u8], it: ResourceEntryIterator, id: u16) -> Result<Option<u32>>
     }
 }
 
-/// The range of so many bytes of the file, at the place of an address.
+/// The file range of `size` bytes at an RVA. `Unmapped`, or `ResourceBounds` if the bytes are not in the file.
 pub(crate) fn file_range(
     pe: &[u8],
     address: u32,
@@ -82,7 +85,7 @@ pub(crate) fn file_range(
     Ok(ByteRange { place, length })
 }
 
-/// The range of the file that the data entry at a place names.
+/// The file range of the content of the data entry at `place`.
 #[tactic(auto, unfolding(crate::specs::Contents::named_range))]
 fn named_range(
     pe: &[u8],
@@ -108,7 +111,7 @@ fn named_range(
     )
 }
 
-/// The range of the content of the first of the entries that has this id.
+/// The file range of the content of the first entry with this id.
 pub(crate) fn content_range(
     pe: &[u8],
     bytes: &[u8],
@@ -127,7 +130,7 @@ pub(crate) fn content_range(
     }
 }
 
-/// The content of the first of the entries that has this id.
+/// The content of the first entry with this id.
 pub(crate) fn content<'a>(
     pe: &'a [u8],
     bytes: &[u8],

@@ -1,4 +1,7 @@
-//! Resource directories and their entries.
+//! Resource directories: a header of 16 bytes with two counts, followed by entries of 8 bytes, first those with a name
+//! and then those with an id. Layout:
+//! <https://learn.microsoft.com/windows/win32/debug/pe-format#resource-directory-table>. A caller iterates over the
+//! entries, or looks one up by its id.
 
 ghost use Rattle.std.specs.Prelude.{◌≡◌, ◌+◌, ◌*◌, ◌≤◌, length, map, Ok, Some, IfSome};
 ghost use Rattle.std.specs.Iterator.{UpTo, YieldsFirstBy, item_count};
@@ -15,26 +18,28 @@ use pe_core::{
     require_bytes, slice_at,
 };
 
-/// The bytes of a directory without its entries.
+/// The size of a directory without its entries, in bytes.
 pub(crate) const SIZE_OF_DIRECTORY: usize = 16;
 
-/// A resource directory, 16 bytes: how many entries stand behind it.
+/// A resource directory, 16 bytes. Its entries follow it.
 #[derive(Clone, Copy, Debug, Default, PartialEq)]
 pub struct ImageResourceDirectory {
-    /// Reserved.
+    /// Reserved flags.
     pub characteristics: u32,
-    /// In seconds since the beginning of 1970.
+    /// When the resources were made, in seconds since the start of 1970.
     pub time_date_stamp: u32,
+    /// The major version number, set by the user.
     pub major_version: u16,
+    /// The minor version number, set by the user.
     pub minor_version: u16,
-    /// How many entries have a name. They stand first.
+    /// How many entries have a name. They come first.
     pub number_of_named_entries: u16,
-    /// How many entries have an id.
+    /// How many entries have an id. They follow the entries with a name.
     pub number_of_id_entries: u16,
 }
 
 impl ImageResourceDirectory {
-    /// The directory at a place where its 16 bytes are known to be there.
+    /// Reads the directory at `place`. The caller has checked that its 16 bytes are there.
     #[tactic(auto, unfolding(crate::specs::Directories::directory_of))]
     pub(crate) fn at(bytes: &[u8], place: usize) -> ImageResourceDirectory
         requires { place + 16 ≤ length bytes.now }
@@ -50,7 +55,7 @@ impl ImageResourceDirectory {
         }
     }
 
-    /// The directory that a data directory leads to, with the default options.
+    /// Reads the first resource directory with the default options. See `parse_with_opts`.
     pub fn parse(
         bytes: &[u8],
         dd: DataDirectory,
@@ -63,7 +68,8 @@ impl ImageResourceDirectory {
         ImageResourceDirectory::parse_with_opts(bytes, dd, sections, file_alignment, &opts)
     }
 
-    /// The directory that a data directory leads to: `Unmapped`, `Short`.
+    /// Reads the first resource directory: that at the RVA of the data directory `dd`. `bytes` is the whole file.
+    /// Errors, in this order: `Unmapped` if the RVA is not mapped; `Short` if the 16 bytes are truncated.
     #[tactic(auto, unfolding(crate::specs::Directories::directory_at))]
     pub fn parse_with_opts(
         bytes: &[u8],
@@ -79,7 +85,7 @@ impl ImageResourceDirectory {
         Ok(ImageResourceDirectory::at(bytes, place))
     }
 
-    /// How many entries the directory has: the sum of both counts, at most 65,535.
+    /// The number of entries: the sum of both counts, at most 65,535.
     pub fn count(&self) -> u16
         ensures { result ≡ count self.now }
     {
@@ -87,15 +93,16 @@ impl ImageResourceDirectory {
             .saturating_add(self.number_of_id_entries)
     }
 
-    /// How many bytes its entries have.
+    /// The size of all entries in bytes.
     pub fn entries_size(&self) -> usize
         ensures { result ≡ 8 * count self.now }
     {
         RESOURCE_ENTRY_SIZE * usize::from(self.count())
     }
 
-    /// Its entries, which stand at the offset: `Short` unless all are there. They are one read, so an offset past the end
-    /// of the bytes is `Short` for a directory without entries too.
+    /// Returns an iterator over the entries, which start at `offset`, counted from the start of `bytes`. `Short` if
+    /// they are truncated. All entries are one read, so an offset past the end of `bytes` is `Short` even without
+    /// entries.
     pub fn next_iter<'a>(&self, offset: usize, bytes: &'a [u8]) -> Result<ResourceEntryIterator<'a>>
         ensures { Gives entries_left result (entries_at bytes.entry.now offset self.now) }
     {
@@ -104,28 +111,28 @@ impl ImageResourceDirectory {
     }
 }
 
-/// The entries that are left of a resource directory. It gives no error.
+/// An iterator over the entries of a resource directory. No item is an error.
 #[derive(Clone, Copy, Debug)]
 pub struct ResourceEntryIterator<'a> {
     bytes: &'a [u8],
 }
 
 impl<'a> ResourceEntryIterator<'a> {
-    /// The whole entries of these bytes.
+    /// The iterator over the whole entries of these bytes.
     pub(crate) fn new(bytes: &'a [u8]) -> Self
         ensures { entries_left result ≡ entries bytes.entry.now }
     {
         ResourceEntryIterator { bytes }
     }
 
-    /// The first entry with this id among those that are left. Never refused.
+    /// Returns the first entry with this id among the entries that are left, or `None`. Never returns an error.
     pub fn find_by_id(&self, id: u16) -> Result<Option<ResourceEntry>>
         ensures { answer_by (λ e. e) result ≡ Ok (with_id id (entries_left self.now)) }
     {
         Ok(self.first_with_id(id))
     }
 
-    /// The first entry with this id among those that are left.
+    /// The same without a `Result`.
     pub(crate) fn first_with_id(&self, id: u16) -> Option<ResourceEntry>
         ensures { result ≡ with_id id (entries_left self.now) }
     {
@@ -133,7 +140,7 @@ impl<'a> ResourceEntryIterator<'a> {
     }
 }
 
-/// The first entry with this id, by the places of whole entries.
+/// The first of the whole entries of `bytes` with this id.
 #[tactic(auto, unfolding(crate::specs::ResourceEntries::entries))]
 fn first_with_id(bytes: &[u8], id: u16) -> Option<ResourceEntry>
     ensures { result ≡ with_id id (entries bytes.now) }

@@ -1,4 +1,7 @@
-//! Entries of resource directories, and the walk that goes on from one to the next.
+//! Entries of resource directories, and the walk from one level of the tree to the next. An entry has a name or an id,
+//! and the offset of a directory one level down or of a data entry. Layout:
+//! <https://learn.microsoft.com/windows/win32/debug/pe-format#resource-directory-entries>. Offsets count from the first
+//! directory.
 
 ghost use Rattle.std.specs.Prelude.{◌≡◌, ◌≢◌, ◌+◌, ◌*◌, ◌<◌, ◌≤◌, ◌↔◌, ℕ, Bool, length, Ok, Err, IfOk, IsSome};
 ghost use Rattle.std.specs.Fn.{FnReturnsAt};
@@ -14,19 +17,21 @@ use crate::directory::{ImageResourceDirectory, SIZE_OF_DIRECTORY};
 use pe_core::{Error, Reason, Result, number32, require_bytes};
 use std::alloc::Allocator;
 
-/// An entry of a resource directory, 8 bytes: a name or an id, and what lies behind it.
+/// An entry of a resource directory, 8 bytes: a name or an id, and the offset of what it leads to.
 #[derive(Clone, Copy, Debug, Default, PartialEq)]
 pub struct ResourceEntry {
-    /// The place of a name if bit 31 is set, else an id in the low 16 bits.
+    /// If bit 31 is set, the offset of a name in the low 31 bits, from the first directory; else an id in the low 16
+    /// bits.
     pub name_or_id: u32,
-    /// The place of a directory if bit 31 is set, else of a data entry. Places count from the first directory.
+    /// If bit 31 is set, the offset of a directory in the low 31 bits; else the offset of a data entry. Both count from
+    /// the first directory.
     pub offset_to_data_or_directory: u32,
 }
 
 impl From<u64> for ResourceEntry {
     ghost from_gives = { λ n e. e ≡ entry_of n };
 
-    /// The entry that a number spells, with the name or id in its high half.
+    /// The entry with the high half of the number as `name_or_id` and the low half as `offset_to_data_or_directory`.
     fn from(value: u64) -> ResourceEntry {
         ResourceEntry {
             name_or_id: (value >> 32) as u32,
@@ -36,7 +41,7 @@ impl From<u64> for ResourceEntry {
 }
 
 impl ResourceEntry {
-    /// The entry at a place where its 8 bytes are known to be there.
+    /// Reads the entry at `place`. The caller has checked that its 8 bytes are there.
     pub(crate) fn at(bytes: &[u8], place: usize) -> ResourceEntry
         requires { place + 8 ≤ length bytes.now }
         ensures { result ≡ entry_at bytes.now place }
@@ -47,28 +52,28 @@ impl ResourceEntry {
         }
     }
 
-    /// The number that spells the entry, with the name or id in its high half.
+    /// The entry as a number: `name_or_id` is its high half, `offset_to_data_or_directory` its low half.
     pub fn value(&self) -> u64
         ensures { result ≡ number_of self.now }
     {
         (u64::from(self.name_or_id) << 32) + u64::from(self.offset_to_data_or_directory)
     }
 
-    /// Whether the entry has a name.
+    /// Whether the entry has a name: bit 31 of `name_or_id`.
     pub fn name_is_string(&self) -> bool
         ensures { result ≡ has_name self.now }
     {
         IMAGE_RESOURCE_NAME_IS_STRING <= self.name_or_id
     }
 
-    /// Where the name stands, without the bit that says that it is one.
+    /// The low 31 bits of `name_or_id`: the offset of the name from the first directory, if the entry has a name.
     pub fn name_offset(&self) -> u32
         ensures { result ≡ name_place self.now }
     {
         self.name_or_id & IMAGE_RESOURCE_MASK
     }
 
-    /// The id, the low 16 bits. `None` if the entry has a name.
+    /// The id: the low 16 bits of `name_or_id`. `None` if the entry has a name.
     pub fn id(&self) -> Option<u16>
         ensures { result ≡ id_of self.now }
     {
@@ -79,21 +84,22 @@ impl ResourceEntry {
         }
     }
 
-    /// Whether a directory lies behind the entry.
+    /// Whether the entry leads to a directory: bit 31 of `offset_to_data_or_directory`.
     pub fn data_is_directory(&self) -> bool
         ensures { result ≡ is_directory self.now }
     {
         IMAGE_RESOURCE_DATA_IS_DIRECTORY <= self.offset_to_data_or_directory
     }
 
-    /// Where the directory lies, without the bit that says that it is one.
+    /// The low 31 bits of `offset_to_data_or_directory`: the offset of the directory from the first directory, if the
+    /// entry leads to a directory.
     pub fn offset_to_directory(&self) -> u32
         ensures { result ≡ directory_place self.now }
     {
         self.offset_to_data_or_directory & IMAGE_RESOURCE_MASK
     }
 
-    /// Where the data entry lies. `None` if a directory lies behind the entry.
+    /// The offset of the data entry from the first directory. `None` if the entry leads to a directory.
     pub fn offset_to_data(&self) -> Option<u32>
         ensures { result ≡ data_place self.now }
     {
@@ -114,17 +120,21 @@ impl ResourceEntry {
         }
     }
 
-    /// The first entry of the directory that this entry leads to, whatever bit 31 says. `None` if it has no entries.
-    /// `Short` unless the directory and all its entries are in the bytes.
+    /// Returns the first entry of the directory that this entry leads to, whatever bit 31 says. `bytes` starts with the
+    /// first directory. `None` if the directory has no entries. `Short` if the directory or its entries are truncated.
     pub fn next_depth(&self, bytes: &[u8]) -> Result<Option<ResourceEntry>>
         ensures { Gives (λ e. e) result (step bytes.now self.now) }
     {
         first_at(bytes, self.offset_to_directory() as usize)
     }
 
-    /// The last entry of the walk from this entry, which is never asked, or the first that fails the predicate. A
-    /// directory without entries ends the walk at the entry that led to it. `Short`, or `ResourceCycle` where the walk
-    /// never ends. It asks for no memory, and an answer is always an entry.
+    /// Walks from this entry to the first entry of its directory, and on from there by `next_depth`. Returns the first
+    /// entry that fails the predicate, or the entry that leads to a directory without entries. The predicate is not
+    /// called for this entry. `bytes` starts with the first directory.
+    ///
+    /// Errors: `Short` if a directory or its entries are truncated; `ResourceCycle` if the walk never ends. These hold
+    /// for a predicate that returns the same for equal entries. The call always returns an entry or an error, never
+    /// `None`. It asks for no memory: `_alloc` is not used.
     pub fn recursive_next_depth<A: Allocator + Drop, P: Fn(&ResourceEntry) -> bool>(
         &self,
         _alloc: A,
@@ -142,7 +152,8 @@ impl ResourceEntry {
     }
 }
 
-/// The first entry of the directory at a place.
+/// The first entry of the directory at `place`. `None` if it has no entries, `Short` if it or its entries are
+/// truncated.
 #[tactic(auto, unfolding(crate::specs::ResourceWalk::first_at))]
 fn first_at(bytes: &[u8], place: usize) -> Result<Option<ResourceEntry>>
     ensures { Gives (λ e. e) result (first_at bytes.now place) }
@@ -156,7 +167,7 @@ fn first_at(bytes: &[u8], place: usize) -> Result<Option<ResourceEntry>>
     Ok(Some(ResourceEntry::at(bytes, place + SIZE_OF_DIRECTORY)))
 }
 
-/// Asks the predicate.
+/// Calls the predicate.
 fn is_passed<P: Fn(&ResourceEntry) -> bool>(predicate: &P, entry: &ResourceEntry) -> bool
     requires { P.IsAlwaysCallable predicate.now }
     ensures { FnReturnsAt P.Fn predicate.now entry.now result }
@@ -164,8 +175,10 @@ fn is_passed<P: Fn(&ResourceEntry) -> bool>(predicate: &P, entry: &ResourceEntry
     predicate(entry)
 }
 
-/// The walk from an entry. The saved place is that of the entry after 1, 2, 4, 8 .. steps: a walk that comes to it again
-/// never ends, nor does one of more steps than there are bytes, since two of its directories have one place.
+/// Walks from an entry: `ResourceEntry::recursive_next_depth`.
+///
+/// `saved` is the directory offset of the entry after 1, 2, 4, 8 and so on steps. A walk that comes to that offset
+/// again never ends. Nor does a walk with more steps than there are bytes: two of its directories have the same offset.
 pub(crate) fn walk<P: Fn(&ResourceEntry) -> bool>(
     start: ResourceEntry,
     bytes: &[u8],

@@ -1,4 +1,5 @@
-//! Laws over the definitions. Each is the contract of a function that does nothing.
+//! Laws over the definitions of this crate. Each law is the contract of a function that does nothing. A caller's proof
+//! cites a law by calling the function.
 
 pub mod constants;
 pub mod derives;

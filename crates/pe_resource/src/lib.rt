@@ -1,8 +1,12 @@
-//! Resources of Windows executables: the tree of directories and the walk through it, version information, the manifest.
+//! Reads the resources of Windows executables: the tree of resource directories, version information and the manifest.
+//! By convention the tree has three levels, for type, name and language. `ResourceData::parse` reads the version
+//! information and the manifest, and `ResourceData::content_range` finds the content of any other resource with an id.
 //!
-//! No call but those that make a text asks for memory. Every call is proved to give what its definition in `specs/` gives,
-//! for every byte string. Layouts are those of Microsoft's PE format; that of version information is this project's
-//! profile.
+//! Layout: <https://learn.microsoft.com/windows/win32/debug/pe-format#the-rsrc-section>. That of version information is
+//! this project's profile of <https://learn.microsoft.com/windows/win32/menurc/vs-versioninfo>.
+//!
+//! Every call is proved to return what its definition in `specs/` says, for every byte string. Only the calls that
+//! return a text ask for memory.
 #![tactic(auto)]
 
 mod constants;

@@ -1,4 +1,5 @@
-//! The manifest: what an image asks of the system that loads it.
+//! The manifest, the resource with the id `RT_MANIFEST`: mostly XML that says what the program needs of Windows, such
+//! as assemblies or an execution level. See <https://learn.microsoft.com/windows/win32/sbscs/application-manifests>.
 
 ghost use Rattle.std.specs.Prelude.{◌≡◌, ◌≢◌, Err};
 ghost use Rattle.std.specs.Option.{option_map};
@@ -13,14 +14,15 @@ use crate::directory::ResourceEntryIterator;
 use pe_core::{ParseOptions, Result, SectionTable};
 use std::alloc::Allocator;
 
-/// The manifest of an image, as its bytes: mostly XML in UTF-8.
+/// The manifest of an image: mostly XML in UTF-8.
 #[derive(Clone, Copy, Debug, Default)]
 pub struct ManifestData<'a> {
+    /// The content of the resource. It is not checked or decoded.
     pub bytes: &'a [u8],
 }
 
 impl<'a> ManifestData<'a> {
-    /// The manifest behind the first of the entries that has the id 24.
+    /// The manifest: the content of the first entry with the id `RT_MANIFEST`.
     pub(crate) fn of_entries(
         pe: &'a [u8],
         bytes: &[u8],
@@ -35,10 +37,13 @@ impl<'a> ManifestData<'a> {
         Ok(content.map(|bytes| ManifestData { bytes }))
     }
 
-    /// The manifest behind the first of the entries that has the id 24. `pe` is the file, `bytes` the resource directory's
-    /// data, `it` its first entries. `None` without such an entry, or where the walk over directories ends at a directory.
-    /// Refused as the walk is, then as the data entry is: `Short`, `Unmapped`, and `ResourceBounds` where its bytes are not
-    /// in the file. It asks for no memory.
+    /// Reads the manifest: the content of the first entry with the id `RT_MANIFEST`. `pe` is the whole file, `bytes`
+    /// the data of the resource directory, `it` the entries of the first directory. `None` without such an entry, or if
+    /// the walk over directories ends at a directory.
+    ///
+    /// Errors, in this order: of the walk, `Short` and `ResourceCycle`; of the data entry, `Short` if it is truncated,
+    /// `Unmapped` if its RVA is not mapped, `ResourceBounds` if its content is not in the file. It asks for no memory:
+    /// `_alloc` is not used.
     pub fn parse<A: Allocator + Drop>(
         _alloc: A,
         pe: &'a [u8],

@@ -1,4 +1,6 @@
-//! The resources of an image, as one value.
+//! The resources of an image as one value: the first directory, the version information and the manifest. Callers that
+//! want another resource take its file range from `ResourceData::content_range`. Layout:
+//! <https://learn.microsoft.com/windows/win32/debug/pe-format#the-rsrc-section>.
 
 ghost use Rattle.std.specs.Prelude.{◌≡◌, ◌≢◌, Err, Ok, IfOk, IfSome};
 ghost use Rattle.std.specs.Option.{option_map};
@@ -23,7 +25,7 @@ use std::alloc::Allocator;
 /// The resources of an image.
 #[derive(Clone, Copy, Debug)]
 pub struct ResourceData<'a> {
-    /// The first directory.
+    /// The first directory, the root of the tree.
     pub image_resource_directory: ImageResourceDirectory,
     /// The version information, if there is one.
     pub version_info: Option<VersionInfo<'a>>,
@@ -49,8 +51,8 @@ impl<'a> Default for ResourceData<'a> {
     }
 }
 
-/// The bytes of the first entries in the data of a directory, which start at an offset of the file. `None` where the data are
-/// shorter than a directory.
+/// The bytes of the entries of the first directory. `data` is the data of the resource directory, at file offset
+/// `start`. `None` if the data is shorter than a directory.
 #[tactic(auto, unfolding(crate::specs::Resources::first_entries_in))]
 fn first_entries<'a>(
     data: &'a [u8],
@@ -73,7 +75,7 @@ fn first_entries<'a>(
     }
 }
 
-/// The first directory, its data, and the bytes of its entries among them.
+/// The first directory, the data of the resource directory, and the bytes of the first directory's entries in it.
 #[derive(Clone, Copy)]
 struct FirstDirectory<'a> {
     directory: ImageResourceDirectory,
@@ -82,7 +84,7 @@ struct FirstDirectory<'a> {
 }
 
 impl<'a> FirstDirectory<'a> {
-    /// The first directory that a data directory leads to. `None` where its data are shorter than a directory.
+    /// Reads the first directory. `None` if the data is shorter than a directory.
     #[tactic(auto, unfolding(crate::specs::Resources::first_directory))]
     fn parse(
         bytes: &'a [u8],
@@ -116,7 +118,7 @@ impl<'a> FirstDirectory<'a> {
         }
     }
 
-    /// Its entries.
+    /// The entries of the first directory.
     fn entries(&self) -> ResourceEntryIterator<'a>
         ensures { entries_left result ≡ (first_directory_view self.now).entries }
     {
@@ -126,7 +128,7 @@ impl<'a> FirstDirectory<'a> {
 }
 
 impl<'a> ResourceData<'a> {
-    /// The resources that a data directory leads to, with the default options.
+    /// Reads the resources with the default options. See `parse_with_opts`.
     pub fn parse<A: Allocator + Copy + Drop>(
         alloc: A,
         bytes: &'a [u8],
@@ -141,10 +143,17 @@ impl<'a> ResourceData<'a> {
         ResourceData::parse_with_opts(alloc, bytes, dd, sections, file_alignment, &opts)
     }
 
-    /// The resources that a data directory leads to. Refusals in this order: of the directory, `Unmapped` and `Short`;
-    /// `ResourceBounds` where its data are not in the file; in strict mode `ResourceBounds` where they are shorter than a
-    /// directory, which permissive mode reads as the default value, or don't hold its entries, where permissive mode takes
-    /// none; those of version information and of the manifest. It asks for no memory.
+    /// Reads the resources at the RVA of the data directory `dd`. `bytes` is the whole file. The data is the `dd.size`
+    /// bytes at that RVA. Errors, in this order:
+    /// - of the first directory: `Unmapped` if the RVA is not mapped, `Short` if the directory is truncated;
+    /// - `ResourceBounds` if the data is not in the file;
+    /// - in strict mode `ResourceBounds` if the data is shorter than a directory. Permissive mode then returns the
+    ///   default;
+    /// - in strict mode `ResourceBounds` if the entries of the first directory are not in the data. Permissive mode
+    ///   then reads no entries;
+    /// - in both modes those of `VersionInfo::parse`, then those of `ManifestData::parse`.
+    ///
+    /// It asks for no memory: `_alloc` is not used.
     pub fn parse_with_opts<A: Allocator + Copy + Drop>(
         _alloc: A,
         bytes: &'a [u8],
@@ -159,11 +168,14 @@ impl<'a> ResourceData<'a> {
         ResourceData::of_directory(bytes, dd, sections, file_alignment, opts)
     }
 
-    /// Where the content of the first resource with an id lies in the file, as `RT_VERSION` or `RT_MANIFEST`: what the walk
-    /// from the first entry with this id leads to. `None` without such an entry, where the walk ends at a directory, and in
-    /// permissive mode where the directory's data are shorter than a directory. Refused as the directory and its data are,
-    /// then as the walk is, then as the data entry is: `Short`, `Unmapped`, and `ResourceBounds` where its bytes are not in
-    /// the file. What other resources say doesn't matter.
+    /// Returns the file range of the content of the first resource with this id, such as `RT_VERSION` or `RT_MANIFEST`:
+    /// the content that the walk over directories from the first entry with this id leads to. `bytes` is the whole
+    /// file. `None` without such an entry, if the walk ends at a directory, and in permissive mode if the data is
+    /// shorter than a directory.
+    ///
+    /// Errors, in this order: those of `parse_with_opts` for the first directory, its data and its entries; of the
+    /// walk, `Short` and `ResourceCycle`; of the data entry, `Short` if it is truncated, `Unmapped` if its RVA is not
+    /// mapped, `ResourceBounds` if its content is not in the file. Other resources cause no errors.
     pub fn content_range(
         bytes: &[u8],
         dd: DataDirectory,
@@ -184,7 +196,7 @@ impl<'a> ResourceData<'a> {
         }
     }
 
-    /// The resources that a data directory leads to.
+    /// Reads the resources: `parse_with_opts`.
     fn of_directory(
         bytes: &'a [u8],
         dd: DataDirectory,
@@ -200,7 +212,7 @@ impl<'a> ResourceData<'a> {
         }
     }
 
-    /// The resources of a first directory.
+    /// Reads the version information and the manifest of a first directory.
     fn of_first(
         bytes: &'a [u8],
         first: FirstDirectory<'a>,
@@ -222,14 +234,15 @@ impl<'a> ResourceData<'a> {
         })
     }
 
-    /// How many entries the first directory says that it has.
+    /// The number of entries that the first directory states. In permissive mode `entries` is empty if they are not in
+    /// the data.
     pub fn count(&self) -> u16
         ensures { result ≡ count self.now.image_resource_directory }
     {
         self.image_resource_directory.count()
     }
 
-    /// The first entries, as the parse took them.
+    /// The entries of the first directory, as they were read.
     pub fn entries(&self) -> ResourceEntryIterator<'a>
         ensures { entries_left result ≡ (resource_view self.now).first_entries }
     {

@@ -1,4 +1,7 @@
-//! Strings of version information: a key, and a value that is a text or bytes.
+//! Strings of version information. Each has a length, the length and the type of its value, a key in UTF-16, and a
+//! value at a multiple of four bytes: a text or binary data. In Microsoft's layout
+//! (<https://learn.microsoft.com/windows/win32/menurc/vs-versioninfo>) they are a tree of blocks. Here the tree is read
+//! flat: the next string starts where a value ends, so a block is followed by its children.
 
 ghost use Rattle.std.specs.Prelude.{◌≡◌, ◌+◌, ◌-◌, ◌*◌, ◌/◌, ◌==◌, ◌<◌, ◌≤◌, ◌^◌, ◌↔◌, length, OnOk, IfOk, IfSome, IsTrue, Some, take};
 ghost use Rattle.std.specs.Iterator.{at_most};
@@ -13,37 +16,38 @@ use crate::constants::RESOURCE_STRING_FIELD_ALIGNMENT;
 use pe_core::{ByteRange, Error, Reason, Result, number16, require_bytes, rounded_up};
 use std::alloc::{AllocError, Allocator};
 
-/// The type of a string whose value is bytes.
+/// `text_type` of a string with a binary value.
 const BINARY: u16 = 0;
 
-/// The type of a string whose value is a text.
+/// `text_type` of a string with a text as its value.
 const TEXT: u16 = 1;
 
-/// The most units of two bytes that a text may have.
+/// The greatest length of a text in code units.
 const MOST_UNITS: u16 = 32767;
 
-/// The bytes of a string's length, value length and type.
+/// The size of a string's length, value length and type in bytes.
 const SIZE_OF_HEAD: usize = 6;
 
-/// The bytes of a unit of UTF-16.
+/// The size of a UTF-16 code unit in bytes.
 const SIZE_OF_UNIT: usize = 2;
 
-/// One string of version information. Strings that hold others are strings of their own, with an empty value or with
+/// One string of version information. A block that contains other strings is a string too: its value is empty or the
 /// fixed file information.
 #[derive(Clone, Copy, Debug, PartialEq)]
 pub struct ResourceString<'a> {
-    /// The bytes of the string and of all strings inside it, as it states them.
+    /// The length of the string in bytes, with all strings that it contains, as the file states it. Parsing only tests
+    /// it for 0, which ends the strings.
     pub len: u16,
-    /// The units of the value if it is a text, else its bytes.
+    /// The length of the value: in code units if it is a text, else in bytes.
     pub value_len: u16,
-    /// 1 for a text, 0 for bytes.
+    /// 1 for a text, 0 for binary data.
     pub text_type: u16,
     key: &'a [u8],
-    /// The value's bytes, with those up to a multiple of four if they are there.
+    /// The bytes of the value, with the padding to a multiple of four if that is there.
     pub value: &'a [u8],
 }
 
-/// How many bytes the units at the place have, up to the first zero unit or the end.
+/// The size in bytes of the code units at `place`, up to the first zero code unit or the end.
 #[tactic(auto, using(crate::proofs::Keys::key_more, crate::proofs::Keys::key_end, crate::proofs::Keys::key_none))]
 fn key_length(bytes: &[u8], place: usize) -> usize
     requires { place ≤ length bytes.now }
@@ -58,9 +62,12 @@ fn key_length(bytes: &[u8], place: usize) -> usize
 }
 
 impl<'a> ResourceString<'a> {
-    /// The string at the offset, which then moves to the next one; `None` where the length is 0, 2 bytes further. After a
-    /// refusal the offset is unchanged: `Short`; `ResourceString` where a text has more than 32,767 units, or where the
-    /// value isn't there.
+    /// Reads the string at `offset`, counted in bytes from the start of `bytes`, and moves `offset` to the next string.
+    /// `None` if the length is 0; `offset` then moves by 2. The value starts at a multiple of four from the start of
+    /// `bytes`.
+    ///
+    /// Errors, in this order, each of which leaves `offset` unchanged: `Short` if the length, the value length or the
+    /// type is truncated; `ResourceString` if a text has more than 32,767 code units, or if the value is truncated.
     #[tactic(auto, unfolding(crate::specs::VersionStrings::whole_string_at, crate::specs::VersionStrings::string_and_next, crate::specs::VersionStrings::lengthened, crate::specs::VersionStrings::value_place))]
     pub fn parse(bytes: &'a [u8], offset: &mut usize) -> Result<Option<ResourceString<'a>>>
         ensures string { Parses bytes.entry.now offset.old result offset.new }
@@ -112,14 +119,14 @@ impl<'a> ResourceString<'a> {
         self.text_type == TEXT
     }
 
-    /// Whether the value is bytes.
+    /// Whether the value is binary data.
     pub fn is_binary_data(&self) -> bool
         ensures { result ≡ (self.now.text_type == 0) }
     {
         self.text_type == BINARY
     }
 
-    /// The text of the key. `None` where a surrogate has no partner.
+    /// Returns the key as a text. `None` if a surrogate is unpaired. `AllocError` if memory ran out.
     pub fn key_string<A: Allocator + Copy + Drop>(
         &self,
         alloc: A,
@@ -129,7 +136,8 @@ impl<'a> ResourceString<'a> {
         text_of(alloc, self.key)
     }
 
-    /// The text of the value, up to a zero unit. `None` for an odd number of bytes and where a surrogate has no partner.
+    /// Returns the value as a text, up to the first zero code unit. `None` for an odd number of bytes, or if a
+    /// surrogate is unpaired. `AllocError` if memory ran out.
     pub fn value_string<A: Allocator + Copy + Drop>(
         &self,
         alloc: A,
@@ -139,7 +147,7 @@ impl<'a> ResourceString<'a> {
         text_of(alloc, self.value)
     }
 
-    /// Whether the key is this name.
+    /// Whether the text of the key is this name.
     fn has_key(&self, name: &str) -> bool
         requires { IsPlain name.now }
         ensures { result ≡ is_name name.now (text (string_view self.now).key) }
@@ -148,7 +156,7 @@ impl<'a> ResourceString<'a> {
     }
 }
 
-/// Whether the bytes, two for each unit, are these units.
+/// Whether the code units in `bytes` are the ASCII characters of `name`.
 #[tactic(auto, using(crate::proofs::Units::unit_at, crate::proofs::Units::units_count, crate::proofs::Units::same_from_each))]
 fn same_units(bytes: &[u8], name: &[u8]) -> bool
     ensures { IsTrue result ↔ (units bytes.now ≡ name.now) }
@@ -164,7 +172,7 @@ fn same_units(bytes: &[u8], name: &[u8]) -> bool
     true
 }
 
-/// Whether the text of the bytes is this name, without making the text.
+/// Whether the text in `bytes` is this name. The text is not built, so no memory is asked for.
 fn is_text(bytes: &[u8], name: &str) -> bool
     requires { IsPlain name.now }
     ensures { result ≡ is_name name.now (text bytes.now) }
@@ -176,7 +184,7 @@ fn is_text(bytes: &[u8], name: &str) -> bool
     same_units(units, name.as_bytes())
 }
 
-/// The text of the bytes, if they are one.
+/// The text in `bytes`, in UTF-16 up to the first zero code unit. `None` if there is none.
 #[tactic(auto, unfolding(crate::specs::VersionStrings::text))]
 pub(crate) fn text_of<A: Allocator + Copy + Drop>(
     alloc: A,
@@ -194,7 +202,7 @@ pub(crate) fn text_of<A: Allocator + Copy + Drop>(
     }
 }
 
-/// The units before the first zero unit.
+/// The code units before the first zero code unit.
 #[tactic(auto, using(crate::proofs::Units::front_more, crate::proofs::Units::front_zero, crate::proofs::Units::front_short))]
 fn units_before_zero<A: Allocator + Drop>(
     alloc: A,
@@ -215,14 +223,16 @@ fn units_before_zero<A: Allocator + Drop>(
     Ok(units)
 }
 
-/// The strings that are left of version information. It is over behind a string with length 0, and after an error.
+/// An iterator over the strings of version information. It is over at a string with length 0, and after an error.
+/// Offsets in an error count from the start of the string that it belongs to.
 #[derive(Clone, Copy, Debug)]
 pub struct ResourceStringIterator<'a> {
     bytes: &'a [u8],
 }
 
 impl<'a> ResourceStringIterator<'a> {
-    /// The strings of these bytes, each read at the start of what the one before left.
+    /// An iterator over the strings of `data`. Each is read at the start of the bytes that the one before left, so its
+    /// value is at a multiple of four from there.
     pub fn new(data: &'a [u8]) -> Self
         ensures { rest_of result ≡ data.entry.now }
     {
@@ -260,12 +270,13 @@ impl<'a> Iterator for ResourceStringIterator<'a> {
     }
 }
 
-/// The place of a version string, or the greatest u32 where it is greater.
+/// The offset of a string as it is in `Reason::ResourceString`: the greatest `u32` if it is greater.
 fn place_in_refusal(place: usize) -> u32 {
     u32::try_from(place).unwrap_or(u32::MAX)
 }
 
-/// The same refusal, its place counted from so many bytes further in front.
+/// The same error with its offset moved by `start`: offsets of the iterator count from a string, those of callers from
+/// the start of the data.
 fn counted_from(start: usize, error: Error) -> Error
     ensures { kind_of result ≡ kind_of error }
 {
@@ -282,7 +293,7 @@ fn counted_from(start: usize, error: Error) -> Error
     }
 }
 
-/// Refuses as the first string that doesn't read does. Places count from the beginning of the data.
+/// Returns the error of the first string that has one. Offsets count from the start of `data`.
 pub(crate) fn require_strings(data: &[u8]) -> Result<()>
     ensures { Gives (λ u. u) result (all_read (strings data.now)) }
 {
@@ -297,7 +308,7 @@ pub(crate) fn require_strings(data: &[u8]) -> Result<()>
     Ok(())
 }
 
-/// The range of the value of the first string with this key. A value ends where the next string begins.
+/// The range of the value of the first string with this key, from the start of `data`.
 pub(crate) fn value_range(data: &[u8], name: &str) -> Option<ByteRange>
     requires { IsPlain name.now }
     ensures range { result ≡ value_range name.now 0 (read (strings data.now)) }
@@ -309,6 +320,7 @@ pub(crate) fn value_range(data: &[u8], name: &str) -> Option<ByteRange>
             Ok(string) => {
                 if string.has_key(name) {
                     let length = string.value.len();
+                    // A value ends where the next string starts.
                     let place = data.len() - left.bytes.len() - length;
                     return Some(ByteRange { place, length });
                 }

@@ -1,4 +1,7 @@
-//! Version information: version numbers, fixed file information, and the strings that describe a file.
+//! Version information, the resource with the id `RT_VERSION`: the fixed file information with version numbers and
+//! flags, and strings that describe the file. Layout:
+//! <https://learn.microsoft.com/windows/win32/menurc/vs-versioninfo>. Callers get it from `ResourceData`, and then the
+//! texts from the getters of `StringFileInfo`.
 
 ghost use Rattle.std.specs.Prelude.{◌≡◌, ◌≢◌, ◌+◌, ◌==◌, ◌≤◌, length, Err, IfOk, IfSome, string_bytes};
 ghost use Rattle.std.specs.Option.{option_map};
@@ -16,7 +19,7 @@ use crate::string::{first_value, require_strings, text_of, value_range};
 use pe_core::{ByteRange, Error, ParseOptions, Result, SectionTable, number32};
 use std::alloc::{AllocError, Allocator};
 
-/// The bytes of fixed file information.
+/// The size of the fixed file information in bytes.
 const SIZE_OF_FIXED_INFO: usize = 52;
 
 const COMMENTS: &str = "Comments";
@@ -43,7 +46,7 @@ const PRODUCT_VERSION: &str = "ProductVersion";
 
 const SPECIAL_BUILD: &str = "SpecialBuild";
 
-/// Four numbers in decimal digits, joined by dots.
+/// The four numbers in decimal digits, joined by dots.
 fn dotted<A: Allocator + Copy + Drop>(
     alloc: A,
     major: u16,
@@ -56,17 +59,22 @@ fn dotted<A: Allocator + Copy + Drop>(
     format!(in alloc; "{major}.{minor}.{build}.{revision}")
 }
 
-/// A version in four parts. Versions are ordered by the first part that differs.
+/// A version number in four parts, such as 10.0.19041.1. Versions are ordered by the first part that differs.
 #[derive(Clone, Copy, Default, PartialEq, Eq, PartialOrd, Ord)]
 pub struct VersionField {
+    /// The high half of the first number, `ms`.
     pub major: u16,
+    /// The low half of the first number, `ms`.
     pub minor: u16,
+    /// The high half of the second number, `ls`.
     pub build: u16,
+    /// The low half of the second number, `ls`.
     pub revision: u16,
 }
 
 impl VersionField {
-    /// The version of two numbers: the high and the low half of each.
+    /// The version from two numbers: `ms` contains major and minor, `ls` build and revision, in the high and the low
+    /// half.
     pub fn from_ms_ls(ms: u32, ls: u32) -> VersionField
         ensures { result ≡ version_of_halves ms ls }
     {
@@ -78,21 +86,21 @@ impl VersionField {
         }
     }
 
-    /// The number of the first two parts.
+    /// The first number: major in the high half, minor in the low half.
     pub fn to_ms(&self) -> u32
         ensures { result ≡ high_half self.now }
     {
         (u32::from(self.major) << 16) + u32::from(self.minor)
     }
 
-    /// The number of the last two parts.
+    /// The second number: build in the high half, revision in the low half.
     pub fn to_ls(&self) -> u32
         ensures { result ≡ low_half self.now }
     {
         (u32::from(self.build) << 16) + u32::from(self.revision)
     }
 
-    /// The four parts in decimal digits, joined by dots.
+    /// Returns the four parts in decimal digits, joined by dots. `AllocError` if memory ran out.
     pub fn to_string<A: Allocator + Copy + Drop>(
         &self,
         alloc: A,
@@ -103,40 +111,41 @@ impl VersionField {
     }
 }
 
-/// Fixed file information, 52 bytes.
+/// The fixed file information, 52 bytes.
+/// Layout: <https://learn.microsoft.com/windows/win32/api/verrsrc/ns-verrsrc-vs_fixedfileinfo>.
 #[repr(C)]
 #[derive(Clone, Copy, Debug, Default, PartialEq)]
 pub struct VsFixedFileInfo {
-    /// `VS_FFI_SIGNATURE`.
+    /// `VS_FFI_SIGNATURE`. Reading doesn't check it: see `is_valid`.
     pub signature: u32,
-    /// `VS_FFI_STRUCVERSION`.
+    /// The version of this structure: `VS_FFI_STRUCVERSION`.
     pub struct_version: u32,
-    /// The first two parts of the file's version.
+    /// The first two parts of the file version. `file_version` returns all four.
     pub file_version_ms: u32,
-    /// Its last two parts.
+    /// The last two parts of the file version.
     pub file_version_ls: u32,
-    /// The first two parts of the product's version.
+    /// The first two parts of the product version. `product_version` returns all four.
     pub product_version_ms: u32,
-    /// Its last two parts.
+    /// The last two parts of the product version.
     pub product_version_ls: u32,
-    /// Which bits of `file_flags` count.
+    /// The valid bits of `file_flags`.
     pub file_flags_mask: u32,
-    /// Of `VS_FF_..`.
+    /// Flags: `VS_FF_..`.
     pub file_flags: u32,
-    /// One of `VOS_..`.
+    /// The system that the file was made for: one of `VOS_..`.
     pub file_os: u32,
-    /// One of `VFT_..`.
+    /// The type of the file: one of `VFT_..`.
     pub file_type: u32,
-    /// One of `VFT2_..`.
+    /// The type of a driver or a font: one of `VFT2_..`.
     pub file_subtype: u32,
     /// The high half of the file's date.
     pub file_date_ms: u32,
-    /// Its low half.
+    /// The low half of the file's date.
     pub file_date_ls: u32,
 }
 
 impl VsFixedFileInfo {
-    /// The information at a place where its 52 bytes are known to be there.
+    /// Reads the fixed file information at `place`. The caller has checked that its 52 bytes are there.
     #[tactic(auto, unfolding(crate::specs::VersionFields::fixed_info_at))]
     fn at(bytes: &[u8], place: usize) -> VsFixedFileInfo
         requires { place + 52 ≤ length bytes.now }
@@ -159,9 +168,11 @@ impl VsFixedFileInfo {
         }
     }
 
-    /// The fixed file information among the strings of version information, `data`: the value of the first string with the
-    /// key `VS_VERSION_INFO`, `None` without one. Refused as a string that doesn't read is, then `Short` where the value has
-    /// fewer than 52 bytes. Numbers in refusals count from the start of `data`.
+    /// Reads the fixed file information in version information: the value of the first string with the key
+    /// `VS_VERSION_INFO`. `data` is the content of the resource with the id `RT_VERSION`. `None` without such a string.
+    ///
+    /// Errors, in this order: those of the first string that cannot be read, `Short` or `ResourceString`; `Short` if
+    /// the value has fewer than 52 bytes. Offsets in errors count from the start of `data`.
     #[tactic(auto, using(crate::proofs::ValueRanges::range_of_value), unfolding(crate::specs::VersionFields::fixed_info_of))]
     pub fn of_strings(data: &[u8]) -> Result<Option<VsFixedFileInfo>>
         ensures { Gives (λ f. f) result (fixed_info_of data.now) }
@@ -170,21 +181,21 @@ impl VsFixedFileInfo {
         fixed_info_in(data, value_range(data, VS_VERSION_INFO_KEY))
     }
 
-    /// Whether the signature is the one of fixed file information.
+    /// Whether the signature is `VS_FFI_SIGNATURE`.
     pub fn is_valid(&self) -> bool
         ensures { result ≡ (self.now.signature == 0xFEEF04BD) }
     {
         self.signature == VS_FFI_SIGNATURE
     }
 
-    /// The file's version.
+    /// The version of the file.
     pub fn file_version(&self) -> VersionField
         ensures { result ≡ version_of_halves self.now.file_version_ms self.now.file_version_ls }
     {
         VersionField::from_ms_ls(self.file_version_ms, self.file_version_ls)
     }
 
-    /// The product's version.
+    /// The version of the product.
     pub fn product_version(&self) -> VersionField
         ensures { result ≡ version_of_halves self.now.product_version_ms self.now.product_version_ls }
     {
@@ -192,24 +203,25 @@ impl VsFixedFileInfo {
     }
 }
 
-/// A name among the strings that describe a file.
+/// The name of a string that describes the file, as in
+/// <https://learn.microsoft.com/windows/win32/menurc/versioninfo-resource>.
 #[derive(Clone, Copy, Debug, PartialEq)]
 pub enum VersionName {
-    /// What else there is to say about the file.
+    /// Additional information about the file.
     Comments,
-    /// Who made the file.
+    /// The company that made the file.
     CompanyName,
-    /// What the file is, for its users.
+    /// A description of the file for users.
     FileDescription,
     /// The version of the file.
     FileVersion,
-    /// The name of the file among its makers.
+    /// The internal name of the file.
     InternalName,
-    /// Whose copyright the file is.
+    /// The copyright notices of the file.
     LegalCopyright,
-    /// Which trademarks the file has to do with.
+    /// The trademarks that apply to the file.
     LegalTrademarks,
-    /// The name of the file before any other.
+    /// The original file name.
     OriginalFilename,
     /// Why the file is a private build.
     PrivateBuild,
@@ -217,12 +229,12 @@ pub enum VersionName {
     ProductName,
     /// The version of that product.
     ProductVersion,
-    /// How this build differs from the usual one.
+    /// How this build differs from the standard one.
     SpecialBuild,
 }
 
 impl VersionName {
-    /// The name, as keys spell it.
+    /// The name as it is in the keys of strings.
     fn key(self) -> &'static str
         ensures name { result.now ≡ name_of self }
         ensures plain { IsPlain result.now }
@@ -243,10 +255,11 @@ impl VersionName {
         }
     }
 
-    /// Where the value of the first string with this name lies in version information, `data`: its bytes, with those up to a
-    /// multiple of four if they are there. `None` without such a string. Refused as the version information is: as a string
-    /// that doesn't read, then `Short` where the value of `VS_VERSION_INFO` has fewer than 52 bytes. Numbers in refusals count
-    /// from the start of `data`.
+    /// Returns the range of the value of the first string with this name: its bytes, with the padding to a multiple of
+    /// four if that is there. `data` is the content of the resource with the id `RT_VERSION`, and the range counts from
+    /// its start. `None` without such a string.
+    ///
+    /// Errors: those of `VsFixedFileInfo::of_strings`, in the same order.
     #[tactic(auto, unfolding(crate::specs::VersionFields::value_range_in))]
     pub fn value_range(self, data: &[u8]) -> Result<Option<ByteRange>>
         ensures range { Gives (λ r. r) result (value_range_in self data.now) }
@@ -257,7 +270,8 @@ impl VersionName {
     }
 }
 
-/// The strings that describe a file: for each of twelve names the value of the first string with it.
+/// The strings that describe the file: for each of the twelve names the value of the first string with that name. The
+/// getters return them as texts. They ask for memory only if there is a value with an even number of bytes.
 #[derive(Clone, Copy, Debug)]
 pub struct StringFileInfo<'a> {
     comments: Option<&'a [u8]>,
@@ -274,7 +288,7 @@ pub struct StringFileInfo<'a> {
     special_build: Option<&'a [u8]>,
 }
 
-/// The text of a value, if there is one.
+/// The value as a text, if there is a value and it is a text.
 fn text_in<A: Allocator + Copy + Drop>(
     alloc: A,
     value: Option<&[u8]>,
@@ -288,7 +302,7 @@ fn text_in<A: Allocator + Copy + Drop>(
 }
 
 impl<'a> StringFileInfo<'a> {
-    /// The values among the strings of these bytes.
+    /// Finds the values of the twelve names in version information.
     fn of_strings(data: &'a [u8]) -> StringFileInfo<'a>
         ensures { file_strings_view result ≡ file_strings (read (strings data.entry.now)) }
     {
@@ -308,7 +322,8 @@ impl<'a> StringFileInfo<'a> {
         }
     }
 
-    /// What else there is to say about the file. `None` where no string has the key `Comments`, or where its value is no text.
+    /// Returns additional information about the file. `None` if no string has the key `Comments`, or if its value is
+    /// not a text. `AllocError` if memory ran out.
     pub fn comments<A: Allocator + Copy + Drop>(
         &self,
         alloc: A,
@@ -318,7 +333,8 @@ impl<'a> StringFileInfo<'a> {
         text_in(alloc, self.comments)
     }
 
-    /// Who made the file. `None` where no string has the key `CompanyName`, or where its value is no text.
+    /// Returns the company that made the file. `None` if no string has the key `CompanyName`, or if its value is not a
+    /// text. `AllocError` if memory ran out.
     pub fn company_name<A: Allocator + Copy + Drop>(
         &self,
         alloc: A,
@@ -328,7 +344,8 @@ impl<'a> StringFileInfo<'a> {
         text_in(alloc, self.company_name)
     }
 
-    /// What the file is, for its users. `None` where no string has the key `FileDescription`, or where its value is no text.
+    /// Returns a description of the file for users. `None` if no string has the key `FileDescription`, or if its value
+    /// is not a text. `AllocError` if memory ran out.
     pub fn file_description<A: Allocator + Copy + Drop>(
         &self,
         alloc: A,
@@ -338,7 +355,8 @@ impl<'a> StringFileInfo<'a> {
         text_in(alloc, self.file_description)
     }
 
-    /// The version of the file. `None` where no string has the key `FileVersion`, or where its value is no text.
+    /// Returns the version of the file. `None` if no string has the key `FileVersion`, or if its value is not a text.
+    /// `AllocError` if memory ran out.
     pub fn file_version<A: Allocator + Copy + Drop>(
         &self,
         alloc: A,
@@ -348,7 +366,8 @@ impl<'a> StringFileInfo<'a> {
         text_in(alloc, self.file_version)
     }
 
-    /// The name of the file among its makers. `None` where no string has the key `InternalName`, or where its value is no text.
+    /// Returns the internal name of the file. `None` if no string has the key `InternalName`, or if its value is not a
+    /// text. `AllocError` if memory ran out.
     pub fn internal_name<A: Allocator + Copy + Drop>(
         &self,
         alloc: A,
@@ -358,7 +377,8 @@ impl<'a> StringFileInfo<'a> {
         text_in(alloc, self.internal_name)
     }
 
-    /// Whose copyright the file is. `None` where no string has the key `LegalCopyright`, or where its value is no text.
+    /// Returns the copyright notices of the file. `None` if no string has the key `LegalCopyright`, or if its value is
+    /// not a text. `AllocError` if memory ran out.
     pub fn legal_copyright<A: Allocator + Copy + Drop>(
         &self,
         alloc: A,
@@ -368,7 +388,8 @@ impl<'a> StringFileInfo<'a> {
         text_in(alloc, self.legal_copyright)
     }
 
-    /// Which trademarks the file has to do with. `None` where no string has the key `LegalTrademarks`, or where its value is no text.
+    /// Returns the trademarks that apply to the file. `None` if no string has the key `LegalTrademarks`, or if its
+    /// value is not a text. `AllocError` if memory ran out.
     pub fn legal_trademarks<A: Allocator + Copy + Drop>(
         &self,
         alloc: A,
@@ -378,7 +399,8 @@ impl<'a> StringFileInfo<'a> {
         text_in(alloc, self.legal_trademarks)
     }
 
-    /// The name of the file before any other. `None` where no string has the key `OriginalFilename`, or where its value is no text.
+    /// Returns the original file name. `None` if no string has the key `OriginalFilename`, or if its value is not a
+    /// text. `AllocError` if memory ran out.
     pub fn original_filename<A: Allocator + Copy + Drop>(
         &self,
         alloc: A,
@@ -388,7 +410,8 @@ impl<'a> StringFileInfo<'a> {
         text_in(alloc, self.original_filename)
     }
 
-    /// Why the file is a private build. `None` where no string has the key `PrivateBuild`, or where its value is no text.
+    /// Returns why the file is a private build. `None` if no string has the key `PrivateBuild`, or if its value is not
+    /// a text. `AllocError` if memory ran out.
     pub fn private_build<A: Allocator + Copy + Drop>(
         &self,
         alloc: A,
@@ -398,7 +421,8 @@ impl<'a> StringFileInfo<'a> {
         text_in(alloc, self.private_build)
     }
 
-    /// The name of the product that the file belongs to. `None` where no string has the key `ProductName`, or where its value is no text.
+    /// Returns the name of the product that the file belongs to. `None` if no string has the key `ProductName`, or if
+    /// its value is not a text. `AllocError` if memory ran out.
     pub fn product_name<A: Allocator + Copy + Drop>(
         &self,
         alloc: A,
@@ -408,7 +432,8 @@ impl<'a> StringFileInfo<'a> {
         text_in(alloc, self.product_name)
     }
 
-    /// The version of that product. `None` where no string has the key `ProductVersion`, or where its value is no text.
+    /// Returns the version of that product. `None` if no string has the key `ProductVersion`, or if its value is not a
+    /// text. `AllocError` if memory ran out.
     pub fn product_version<A: Allocator + Copy + Drop>(
         &self,
         alloc: A,
@@ -418,7 +443,8 @@ impl<'a> StringFileInfo<'a> {
         text_in(alloc, self.product_version)
     }
 
-    /// How this build differs from the usual one. `None` where no string has the key `SpecialBuild`, or where its value is no text.
+    /// Returns how this build differs from the standard one. `None` if no string has the key `SpecialBuild`, or if its
+    /// value is not a text. `AllocError` if memory ran out.
     pub fn special_build<A: Allocator + Copy + Drop>(
         &self,
         alloc: A,
@@ -429,16 +455,17 @@ impl<'a> StringFileInfo<'a> {
     }
 }
 
-/// The version information of a file.
+/// The version information of an image.
 #[derive(Clone, Copy, Debug)]
 pub struct VersionInfo<'a> {
-    /// The value of the first string with the key `VS_VERSION_INFO`, if there is one.
+    /// The fixed file information. `None` if no string has the key `VS_VERSION_INFO`.
     pub fixed_info: Option<VsFixedFileInfo>,
-    /// What describes the file.
+    /// The strings that describe the file.
     pub string_info: StringFileInfo<'a>,
 }
 
-/// The fixed file information of a value in version information, if there is a value. `Short` below 52 bytes.
+/// The fixed file information in this range of `data`, if there is a range. `Short` if the range has fewer than 52
+/// bytes.
 fn fixed_info_in(data: &[u8], value: Option<ByteRange>) -> Result<Option<VsFixedFileInfo>>
     requires { IfSome value (IsWithin data.now) }
     ensures { Gives (λ f. f) result (fixed_info_in (content_of data.now value)) }
@@ -457,7 +484,7 @@ fn fixed_info_in(data: &[u8], value: Option<ByteRange>) -> Result<Option<VsFixed
 }
 
 impl<'a> VersionInfo<'a> {
-    /// The version information of these bytes.
+    /// Reads the version information in `data`.
     #[tactic(auto, unfolding(crate::specs::VersionFields::version_in))]
     fn of_strings(data: &'a [u8]) -> Result<VersionInfo<'a>>
         ensures { Gives version_view result (version_in data.entry.now) }
@@ -469,7 +496,7 @@ impl<'a> VersionInfo<'a> {
         })
     }
 
-    /// The version information of a content, if there is one.
+    /// Reads the version information in the content of a resource, if there is one.
     fn of_content(content: Option<&'a [u8]>) -> Result<Option<VersionInfo<'a>>>
         ensures { Gives (option_map version_view) result (version_of_content (option_map (λ s. s.now) content.entry)) }
     {
@@ -482,7 +509,7 @@ impl<'a> VersionInfo<'a> {
         }
     }
 
-    /// The version information behind the first of the entries that has the id 16.
+    /// The version information: the content of the first entry with the id `RT_VERSION`.
     pub(crate) fn of_entries(
         pe: &'a [u8],
         bytes: &[u8],
@@ -497,11 +524,16 @@ impl<'a> VersionInfo<'a> {
         VersionInfo::of_content(content)
     }
 
-    /// The version information behind the first of the entries that has the id 16. `pe` is the file, `bytes` the resource
-    /// directory's data, `it` its first entries. `None` without such an entry, or where the walk over directories ends at a
-    /// directory. Refusals in this order: those of the walk; of the data entry, `Short`, `Unmapped`, and `ResourceBounds`
-    /// where its bytes are not in the file; of a string that doesn't read; `Short` where the value of `VS_VERSION_INFO` has
-    /// fewer than 52 bytes. Numbers in the last two count from the start of the version information. It asks for no memory.
+    /// Reads the version information: the content of the first entry with the id `RT_VERSION`. `pe` is the whole file,
+    /// `bytes` the data of the resource directory, `it` the entries of the first directory. `None` without such an
+    /// entry, or if the walk over directories ends at a directory. Errors, in this order:
+    /// - of the walk, `Short` and `ResourceCycle`;
+    /// - of the data entry, `Short` if it is truncated, `Unmapped` if its RVA is not mapped, `ResourceBounds` if its
+    ///   content is not in the file;
+    /// - those of the first string that cannot be read, `Short` or `ResourceString`, then `Short` if the value of
+    ///   `VS_VERSION_INFO` has fewer than 52 bytes. Their offsets count from the start of the version information.
+    ///
+    /// It asks for no memory: `_alloc` is not used.
     pub fn parse<A: Allocator + Drop>(
         _alloc: A,
         pe: &'a [u8],

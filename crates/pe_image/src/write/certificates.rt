@@ -1,4 +1,6 @@
-//! Certificates written one behind the other.
+//! Writes the attribute certificate table: certificates one after the other, from the offset in the certificate
+//! directory on, each padded with zeros to a multiple of 8 bytes. Layout:
+//! <https://learn.microsoft.com/windows/win32/debug/pe-format>, attribute certificate table.
 
 ghost use Rattle.std.specs.Prelude.{◌≡◌, ◌+◌, [], ◌∷◌, IsTrue, length, map};
 ghost use Rattle.pe_core.specs.Refusals.{Gives, WriteFit, outcome};
@@ -12,10 +14,10 @@ ghost use Rattle.pe_image.specs.WritingSteps.{put_in_turn};
 use pe_core::{DataDirectory, Result, require_room, rounded_up};
 use pe_records::AttributeCertificate;
 
-/// The bytes that a written certificate is rounded up to a multiple of.
+/// The alignment of certificates in bytes: a written one is padded to a multiple of it.
 const UNIT: usize = 8;
 
-/// The place behind a certificate that is written at the place. Refuses as `WriteFit` where it doesn't fit.
+/// The offset after a certificate that is written at `place`, or `WriteFit` if it doesn't fit.
 fn require_certificate(
     buffer: &[u8],
     place: usize,
@@ -28,8 +30,8 @@ fn require_certificate(
     Ok(place + size)
 }
 
-/// The place behind certificates that are written one behind the other from the start on. Refuses as `WriteFit` where they
-/// don't all fit.
+/// The offset after certificates that are written one after the other from `start` on, or `WriteFit` if they don't all
+/// fit.
 fn require_certificates(
     buffer: &[u8],
     start: usize,
@@ -46,7 +48,7 @@ fn require_certificates(
     Ok(place)
 }
 
-/// Writes a certificate that is known to fit; answers the place behind it.
+/// Writes a certificate, and returns the offset after it. The caller has checked that it fits.
 #[tactic(auto, using(crate::proofs::WrittenCertificates::put_in_three))]
 fn set_certificate(buffer: &mut [u8], place: usize, certificate: &AttributeCertificate<'_>) -> usize
     requires { IsTrue (all_fit (length buffer.old) (certificate_pieces place (certificate_view certificate.now))) }
@@ -55,11 +57,12 @@ fn set_certificate(buffer: &mut [u8], place: usize, certificate: &AttributeCerti
 {
     match certificate.write_into(buffer, place) {
         Ok(end) => end,
+        // Never taken: the certificate fits.
         Err(_) => place,
     }
 }
 
-/// Writes certificates that are known to fit one behind the other.
+/// Writes certificates one after the other. The caller has checked that they fit.
 fn set_certificates(buffer: &mut [u8], start: usize, certificates: &[AttributeCertificate<'_>])
     requires { IsTrue (all_fit (length buffer.old) (in_a_row certificate_pieces written_length start (map certificate_view certificates.now))) }
     ensures { buffer.new ≡ put_in_turn buffer.old (in_a_row certificate_pieces written_length start (map certificate_view certificates.now)) }
@@ -70,8 +73,8 @@ fn set_certificates(buffer: &mut [u8], start: usize, certificates: &[AttributeCe
     }
 }
 
-/// Where the certificates end that are written from the directory's address on; 0 where none is written. Refuses as
-/// `WriteFit` where they don't all fit.
+/// The end of the certificates that are written from the offset of the directory on, 0 if none is written. `WriteFit`
+/// if they don't all fit.
 pub fn require_table(
     buffer: &[u8],
     directory: Option<DataDirectory>,
@@ -90,7 +93,8 @@ pub fn require_table(
     }
 }
 
-/// Writes the certificates, which are known to fit, from the directory's address on; none without a directory.
+/// Writes the certificates from the offset of the directory on, none without a directory. The caller has checked that
+/// they fit.
 #[tactic(auto, unfolding(crate::specs::WritingSteps::put_in_turn))]
 pub fn set_table(
     buffer: &mut [u8],
@@ -105,8 +109,8 @@ pub fn set_table(
     }
 }
 
-/// Writes the certificates from the directory's address on; answers where they end. Refuses as `WriteFit` where they don't
-/// all fit, and then changes nothing.
+/// Writes the certificates from the offset of the directory on, and returns where they end. `WriteFit` if they don't
+/// all fit; the buffer is then unchanged.
 pub fn write_table(
     buffer: &mut [u8],
     directory: Option<DataDirectory>,

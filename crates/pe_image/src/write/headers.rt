@@ -1,4 +1,5 @@
-//! The headers in front of the section table, written.
+//! Writes the headers before the section table: DOS header, stub, PE signature, COFF header and optional header.
+//! Layout: <https://learn.microsoft.com/windows/win32/debug/pe-format>.
 
 ghost use Rattle.std.specs.Prelude.{◌≡◌, [], ◌∷◌, IsTrue, length};
 ghost use Rattle.pe_core.specs.Header.{header_view, optional_header_view};
@@ -10,7 +11,7 @@ ghost use Rattle.pe_image.specs.WritingSteps.{put_in_turn};
 use crate::write::records::{optional_size, set_coff, set_dos, set_optional, set_slice, set_u32};
 use pe_core::{Header, OptionalHeader, Result, require_room};
 
-/// Refuses as `WriteFit` where the headers don't all fit.
+/// Returns `WriteFit` if the headers don't all fit.
 #[tactic(auto, using(crate::proofs::WrittenHeaders::headers_fit))]
 pub fn require_headers(buffer: &[u8], header: &Header<'_>, optional: &OptionalHeader) -> Result<()>
     ensures { Gives (λ u. u) result
@@ -24,7 +25,7 @@ pub fn require_headers(buffer: &[u8], header: &Header<'_>, optional: &OptionalHe
     require_room(buffer, place + 24, optional_size(optional))
 }
 
-/// Writes the headers, which are known to fit.
+/// Writes the headers. The caller has checked that they fit.
 #[tactic(auto, using(crate::proofs::WrittenHeaders::headers_fit), unfolding(crate::specs::Pieces::header_pieces, crate::specs::WritingSteps::put_in_turn))]
 pub fn set_headers(buffer: &mut [u8], header: &Header<'_>, optional: &OptionalHeader)
     requires { IsTrue (all_fit (length buffer.old) (header_pieces (header_view header.now) (optional_header_view optional.now))) }

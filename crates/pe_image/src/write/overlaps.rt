@@ -1,5 +1,6 @@
-//! What is tested of sections before they are written: that no two unequal ones share a byte of the file, and that their
-//! data are in the source.
+//! The tests of sections before they are written: no two unequal ones share a byte of the file, and the data of each is
+//! in the file that the image was read from. A section's data is the `size_of_raw_data` bytes at
+//! `pointer_to_raw_data`. Layout: <https://learn.microsoft.com/windows/win32/debug/pe-format>, section table.
 
 ghost use Rattle.std.specs.Prelude.{◌≡◌, ◌<◌, ◌^◌, length, IfSome, Some, is_none, not};
 ghost use Rattle.std.specs.List.{list_all};
@@ -9,7 +10,7 @@ ghost use Rattle.pe_image.specs.WritingSteps.{falls, falls_to, is_next, rises, r
 
 use pe_core::SectionTable;
 
-/// Where the section's data end in the file.
+/// The file offset after the section's data.
 pub fn raw_end(section: &SectionTable) -> usize
     ensures place { result ≡ raw_end section.now }
     ensures small { result < 2 ^ 33 }
@@ -17,7 +18,7 @@ pub fn raw_end(section: &SectionTable) -> usize
     section.pointer_to_raw_data as usize + section.size_of_raw_data as usize
 }
 
-/// Whether the two sections share a byte of the file and are unequal.
+/// Whether the two sections share a byte of the file and are not equal.
 fn clashes(one: &SectionTable, other: &SectionTable) -> bool
     ensures { result ≡ clash one.now other.now }
 {
@@ -25,7 +26,7 @@ fn clashes(one: &SectionTable, other: &SectionTable) -> bool
     start < raw_end(one).min(raw_end(other)) && *one != *other
 }
 
-/// Whether the section is equal to the one behind it, or ends where that begins, or in front of it.
+/// Whether the section equals the next one, or ends at or before its start in the file.
 fn rises_to(section: &SectionTable, behind: &[SectionTable]) -> bool
     ensures { result ≡ rises_to section.now behind.now }
 {
@@ -35,7 +36,7 @@ fn rises_to(section: &SectionTable, behind: &[SectionTable]) -> bool
     }
 }
 
-/// Whether each section is equal to the one behind it, or ends where that begins, or in front of it.
+/// Whether each section equals the next one, or ends at or before its start in the file.
 fn rises(sections: &[SectionTable]) -> bool
     ensures { result ≡ rises sections.now }
 {
@@ -47,7 +48,7 @@ fn rises(sections: &[SectionTable]) -> bool
     true
 }
 
-/// Whether the section is equal to the one behind it, or begins where that ends, or behind it.
+/// Whether the section equals the next one, or starts at or after its end in the file.
 fn falls_to(section: &SectionTable, behind: &[SectionTable]) -> bool
     ensures { result ≡ falls_to section.now behind.now }
 {
@@ -57,7 +58,7 @@ fn falls_to(section: &SectionTable, behind: &[SectionTable]) -> bool
     }
 }
 
-/// Whether each section is equal to the one behind it, or begins where that ends, or behind it.
+/// Whether each section equals the next one, or starts at or after its end in the file.
 fn falls(sections: &[SectionTable]) -> bool
     ensures { result ≡ falls sections.now }
 {
@@ -69,7 +70,7 @@ fn falls(sections: &[SectionTable]) -> bool
     true
 }
 
-/// The first of these sections that clashes with this one.
+/// The index of the first section in `behind` that clashes with this one.
 fn first_clash_with(section: &SectionTable, behind: &[SectionTable]) -> Option<usize>
     ensures none { is_none result ≡ list_all (λ t. not (clash section.now t)) behind.now }
     ensures inside { IfSome result (λ i. i < length behind.now) }
@@ -82,7 +83,7 @@ fn first_clash_with(section: &SectionTable, behind: &[SectionTable]) -> Option<u
     None
 }
 
-/// Whether the section is equal to the next one.
+/// Whether the section equals the next one.
 fn is_next(section: &SectionTable, behind: &[SectionTable]) -> bool
     ensures { result ≡ is_next section.now behind.now }
 {
@@ -92,13 +93,13 @@ fn is_next(section: &SectionTable, behind: &[SectionTable]) -> bool
     }
 }
 
-/// The first two sections that clash, found by comparing pairs. A section that is equal to the next one clashes with no
-/// other than that does, so it is passed over.
+/// The indices of the first two sections that clash, found by comparing pairs.
 fn first_clashing_pair(sections: &[SectionTable]) -> Option<(usize, usize)>
     ensures { is_none result ≡ clash_free sections.now }
 {
     for i in 0..sections.len() {
         let behind = &sections[i + 1..];
+        // A section that equals the next one clashes with the same sections as that one, so it is skipped.
         if is_next(&sections[i], behind) {
             continue;
         }
@@ -109,12 +110,12 @@ fn first_clashing_pair(sections: &[SectionTable]) -> Option<(usize, usize)>
     None
 }
 
-/// The first two sections that share a byte of the file and are unequal. A pass tells that there are none where sections
-/// rise in the file, and another where they fall; pairs are compared only where they do neither.
+/// The indices of the first two sections that share a byte of the file and are not equal. `None` if there are none.
 #[tactic(auto, using(crate::proofs::Clashes::rising_is_free, crate::proofs::Clashes::falling_is_free))]
 pub fn first_clash(sections: &[SectionTable]) -> Option<(usize, usize)>
     ensures { is_none result ≡ clash_free sections.now }
 {
+    // Sections that rise or fall in the file cannot clash, and one pass finds that. Pairs are compared only otherwise.
     if rises(sections) || falls(sections) {
         None
     } else {
@@ -122,7 +123,7 @@ pub fn first_clash(sections: &[SectionTable]) -> Option<(usize, usize)>
     }
 }
 
-/// The first section whose data are not all in the source.
+/// The index of the first section whose data is not all in `source`.
 pub fn first_outside(sections: &[SectionTable], source: &[u8]) -> Option<usize>
     ensures { is_none result ≡ all_in_source source.now sections.now }
 {
@@ -134,7 +135,7 @@ pub fn first_outside(sections: &[SectionTable], source: &[u8]) -> Option<usize>
     None
 }
 
-/// The section, unless the other begins where it does in the file, or behind that.
+/// The one of two sections that starts later in the file; `other` if both start at the same offset.
 fn later(section: &SectionTable, other: Option<SectionTable>) -> SectionTable
     ensures { Some result ≡ later section.now other }
 {
@@ -144,7 +145,7 @@ fn later(section: &SectionTable, other: Option<SectionTable>) -> SectionTable
     }
 }
 
-/// Where the data of the last section with the greatest raw pointer end; 0 without sections.
+/// The end of the data of the last section with the greatest raw pointer, as a file offset. 0 without sections.
 pub fn last_raw_end(sections: &[SectionTable]) -> usize
     ensures { result ≡ last_raw_end sections.now }
 {

@@ -1,4 +1,6 @@
-//! Records written as their bytes, where these are known to fit.
+//! Writes the records of the headers, field by field and in little-endian order. Offsets count from the start of the
+//! buffer; the caller has checked that the record fits. Layouts:
+//! <https://learn.microsoft.com/windows/win32/debug/pe-format>.
 
 ghost use Rattle.std.specs.Prelude.{◌≡◌, ◌+◌, ◌*◌, ◌≤◌, ◌++◌, length, replicate};
 ghost use Rattle.std.specs.List.{flat_map};
@@ -11,7 +13,7 @@ use pe_core::{
     WindowsFields,
 };
 
-/// Puts the piece in place of the bytes from the place on.
+/// Writes `piece` at `place`.
 #[tactic(auto, unfolding(pe_core::specs::Bytes::splice))]
 pub fn set_slice(buffer: &mut [u8], place: usize, piece: &[u8])
     requires { place + length piece.now ≤ length buffer.old }
@@ -20,7 +22,7 @@ pub fn set_slice(buffer: &mut [u8], place: usize, piece: &[u8])
     buffer[place..place + piece.len()].copy_from_slice(piece);
 }
 
-/// Puts `n` zeros in place of the bytes from the place on.
+/// Writes `n` zeros at `place`.
 #[tactic(auto, unfolding(pe_core::specs::Bytes::splice))]
 pub fn set_zeros(buffer: &mut [u8], place: usize, n: usize)
     requires { place + n ≤ length buffer.old }
@@ -29,7 +31,7 @@ pub fn set_zeros(buffer: &mut [u8], place: usize, n: usize)
     buffer[place..place + n].fill(0);
 }
 
-/// Puts the number's 1 byte at the place.
+/// Writes a number of 1 byte at `place`.
 #[tactic(auto, unfolding(pe_core::specs::Bytes::bytes_of))]
 fn set_u8(buffer: &mut [u8], place: usize, n: u8)
     requires { place + 1 ≤ length buffer.old }
@@ -38,7 +40,7 @@ fn set_u8(buffer: &mut [u8], place: usize, n: u8)
     set_slice(buffer, place, &n.to_le_bytes());
 }
 
-/// Puts the number's 2 bytes at the place.
+/// Writes a number of 2 bytes at `place`.
 #[tactic(auto, unfolding(pe_core::specs::Bytes::bytes_of))]
 fn set_u16(buffer: &mut [u8], place: usize, n: u16)
     requires { place + 2 ≤ length buffer.old }
@@ -47,7 +49,7 @@ fn set_u16(buffer: &mut [u8], place: usize, n: u16)
     set_slice(buffer, place, &n.to_le_bytes());
 }
 
-/// Puts the number's 4 bytes at the place.
+/// Writes a number of 4 bytes at `place`.
 #[tactic(auto, unfolding(pe_core::specs::Bytes::bytes_of))]
 pub fn set_u32(buffer: &mut [u8], place: usize, n: u32)
     requires { place + 4 ≤ length buffer.old }
@@ -56,7 +58,7 @@ pub fn set_u32(buffer: &mut [u8], place: usize, n: u32)
     set_slice(buffer, place, &n.to_le_bytes());
 }
 
-/// Puts the number's 8 bytes at the place.
+/// Writes a number of 8 bytes at `place`.
 #[tactic(auto, unfolding(pe_core::specs::Bytes::bytes_of))]
 fn set_u64(buffer: &mut [u8], place: usize, n: u64)
     requires { place + 8 ≤ length buffer.old }
@@ -65,7 +67,7 @@ fn set_u64(buffer: &mut [u8], place: usize, n: u64)
     set_slice(buffer, place, &n.to_le_bytes());
 }
 
-/// Puts the low four bytes of the number at the place.
+/// Writes the low 4 bytes of the number at `place`. PE32 has 4 bytes for fields that PE32+ has 8 for.
 #[tactic(auto, unfolding(pe_core::specs::Bytes::bytes_of))]
 fn set_low32(buffer: &mut [u8], place: usize, n: u64)
     requires { place + 4 ≤ length buffer.old }
@@ -130,7 +132,8 @@ fn set_standard64(buffer: &mut [u8], place: usize, header: &StandardFields)
     set_u32(buffer, place + 20, header.base_of_code);
 }
 
-/// Writes Windows's fields of PE32, of whose wide numbers the low four bytes, 68 bytes.
+/// Writes the Windows fields of PE32, 68 bytes. Of the image base and of the sizes of stack and heap the low 4 bytes
+/// are written.
 fn set_windows32(buffer: &mut [u8], place: usize, header: &WindowsFields)
     requires { place + 68 ≤ length buffer.old }
     ensures { buffer.new ≡ splice buffer.old place (spell_windows32 header.now) }
@@ -158,7 +161,7 @@ fn set_windows32(buffer: &mut [u8], place: usize, header: &WindowsFields)
     set_u32(buffer, place + 64, header.number_of_rva_and_sizes);
 }
 
-/// Writes Windows's fields of PE32+, 88 bytes.
+/// Writes the Windows fields of PE32+, 88 bytes.
 fn set_windows64(buffer: &mut [u8], place: usize, header: &WindowsFields)
     requires { place + 88 ≤ length buffer.old }
     ensures { buffer.new ≡ splice buffer.old place (spell_windows64 header.now) }
@@ -186,7 +189,7 @@ fn set_windows64(buffer: &mut [u8], place: usize, header: &WindowsFields)
     set_u32(buffer, place + 84, header.number_of_rva_and_sizes);
 }
 
-/// Writes a directory, 8 bytes.
+/// Writes a data directory, 8 bytes.
 fn set_directory(buffer: &mut [u8], place: usize, header: &DataDirectory)
     requires { place + 8 ≤ length buffer.old }
     ensures { buffer.new ≡ splice buffer.old place (spell_directory header.now) }
@@ -212,7 +215,7 @@ pub fn set_section(buffer: &mut [u8], place: usize, header: &SectionTable)
     set_u32(buffer, place + 36, header.characteristics);
 }
 
-/// Writes directories one behind the other, 8 bytes each.
+/// Writes data directories one after the other, 8 bytes each.
 fn set_directories(buffer: &mut [u8], place: usize, rows: &[DataDirectory])
     requires { place + 8 * length rows.now ≤ length buffer.old }
     ensures { buffer.new ≡ splice buffer.old place (flat_map spell_directory rows.now) }
@@ -222,7 +225,7 @@ fn set_directories(buffer: &mut [u8], place: usize, rows: &[DataDirectory])
     }
 }
 
-/// How many bytes an optional header takes.
+/// The size of an optional header in bytes, with the data directories that it keeps.
 #[tactic(auto, using(crate::proofs::Laid::length_optional))]
 pub fn optional_size(header: &OptionalHeader) -> usize
     ensures size { result ≡ length (spell_optional (optional_header_view header.now)) }
@@ -236,7 +239,7 @@ pub fn optional_size(header: &OptionalHeader) -> usize
     fields + 8 * header.data_directories.rows().len()
 }
 
-/// Writes the fields of PE32+ and the directories behind them.
+/// Writes the fields of PE32+ and the data directories after them.
 fn set_wide(
     buffer: &mut [u8],
     place: usize,
@@ -252,7 +255,7 @@ fn set_wide(
     set_directories(buffer, place + 112, rows);
 }
 
-/// Writes the fields of PE32 and the directories behind them.
+/// Writes the fields of PE32 and the data directories after them.
 fn set_narrow(
     buffer: &mut [u8],
     place: usize,
@@ -268,7 +271,7 @@ fn set_narrow(
     set_directories(buffer, place + 96, rows);
 }
 
-/// Writes an optional header with the directories that it keeps.
+/// Writes an optional header with the data directories that it keeps.
 #[tactic(auto, using(crate::proofs::Laid::length_optional), unfolding(pe_core::specs::Spelling::spell_optional))]
 pub fn set_optional(buffer: &mut [u8], place: usize, header: &OptionalHeader)
     requires { place + length (spell_optional (optional_header_view header.now)) ≤ length buffer.old }

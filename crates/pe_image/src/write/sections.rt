@@ -1,4 +1,6 @@
-//! Sections written: the data, the header and the zeros of each.
+//! Writes sections: for each its data at the raw pointer, its header of 40 bytes in the section table, and zeros after
+//! the data up to the file alignment. Layout:
+//! <https://learn.microsoft.com/windows/win32/debug/pe-format#section-table-section-headers>.
 
 ghost use Rattle.std.specs.Prelude.{◌≡◌, ◌+◌, ◌*◌, [], ◌∷◌, IsTrue, OnOk, length};
 ghost use Rattle.pe_core.specs.Bytes.{holds};
@@ -15,7 +17,7 @@ use pe_core::{Error, Reason, Result, SectionTable, require_room};
 /// The size of a section header in bytes.
 const SIZE_OF_SECTION_HEADER: usize = 40;
 
-/// How many bytes `n` lacks to a multiple of the unit; none without a unit.
+/// How many bytes `n` is short of a multiple of the unit. 0 without a unit.
 fn lacking(n: u32, unit: Option<usize>) -> usize
     requires { IsTrue (is_unit unit) }
     ensures { result ≡ lacking n unit }
@@ -27,19 +29,20 @@ fn lacking(n: u32, unit: Option<usize>) -> usize
     if over == 0 { 0 } else { unit - over }
 }
 
-/// Sections that are to be written.
+/// The sections to write.
 #[derive(Clone, Copy)]
 pub struct SectionWriter<'a> {
-    /// What their data are taken from.
+    /// The file that the image was read from, which contains the data of the sections.
     pub source: &'a [u8],
+    /// The section headers.
     pub sections: &'a [SectionTable],
-    /// What data and zeros are a multiple of. No zeros are written without one.
+    /// The alignment in bytes that the data is padded to with zeros. `None` writes no zeros.
     pub unit: Option<usize>,
 }
 
 impl<'a> SectionWriter<'a> {
-    /// Refuses as `WriteOverlap` where two unequal sections share a byte of the file, then as `WriteSection` where the data
-    /// of one are not in the source.
+    /// Errors, in this order: `WriteOverlap` if two unequal sections share a byte of the file; `WriteSection` if the
+    /// data of one is not in `source`.
     pub fn require_data(&self) -> Result<()>
         ensures { Gives (λ u. u) result
             (outcome ((clash_free self.now.sections.now, WriteOverlap) ∷ (all_in_source self.now.source.now self.now.sections.now, WriteSection) ∷ []) tt) }
@@ -53,8 +56,8 @@ impl<'a> SectionWriter<'a> {
         }
     }
 
-    /// The place behind the header of the section, which is written at the place. Refuses as `WriteFit` where the section's
-    /// pieces don't all fit.
+    /// The offset after the header of the section, which is written at `place`. `WriteFit` if the pieces of the section
+    /// don't all fit.
     #[tactic(auto, using(crate::proofs::WrittenSections::section_fit))]
     fn require_section(&self, buffer: &[u8], place: usize, section: &SectionTable) -> Result<usize>
         requires unit { IsTrue (is_unit self.now.unit) }
@@ -70,8 +73,8 @@ impl<'a> SectionWriter<'a> {
         Ok(place + SIZE_OF_SECTION_HEADER)
     }
 
-    /// The place behind the headers of the sections, which are written from the start on. Refuses as `WriteFit` where the
-    /// sections' pieces don't all fit.
+    /// The offset after the section headers, which are written from `start` on. `WriteFit` if the pieces of the
+    /// sections don't all fit.
     pub fn require(&self, buffer: &[u8], start: usize) -> Result<usize>
         requires unit { IsTrue (is_unit self.now.unit) }
         requires inside { IsTrue (all_in_source self.now.source.now self.now.sections.now) }
@@ -86,7 +89,7 @@ impl<'a> SectionWriter<'a> {
         Ok(place)
     }
 
-    /// Writes a section that is known to fit, its header at the place.
+    /// Writes a section, with its header at `place`. The caller has checked that it fits.
     #[tactic(auto, using(crate::proofs::WrittenSections::section_fit), unfolding(crate::specs::Pieces::section_pieces, crate::specs::WritingSteps::put_in_turn))]
     fn set_section(&self, buffer: &mut [u8], place: usize, section: &SectionTable)
         requires unit { IsTrue (is_unit self.now.unit) }
@@ -101,7 +104,7 @@ impl<'a> SectionWriter<'a> {
         set_zeros(buffer, end, lacking(section.size_of_raw_data, self.unit));
     }
 
-    /// Writes the sections, which are known to fit, their headers from the start on.
+    /// Writes the sections, with their headers from `start` on. The caller has checked that they fit.
     pub fn set(&self, buffer: &mut [u8], start: usize)
         requires unit { IsTrue (is_unit self.now.unit) }
         requires inside { IsTrue (all_in_source self.now.source.now self.now.sections.now) }
@@ -115,9 +118,9 @@ impl<'a> SectionWriter<'a> {
         }
     }
 
-    /// The place behind the headers of the sections, which are written from the start on. Refusals in this order:
-    /// `WriteAlignment` for a unit of 0; `WriteOverlap` where two unequal sections share a byte of the file; `WriteSection`
-    /// where the data of one are not in the source; `WriteFit` where the pieces don't all fit.
+    /// The offset after the section headers, which are written from `start` on. Errors, in this order: `WriteAlignment`
+    /// for a unit of 0; `WriteOverlap` if two unequal sections share a byte of the file; `WriteSection` if the data of
+    /// one is not in `source`; `WriteFit` if the pieces don't all fit.
     pub fn require_all(&self, buffer: &[u8], start: usize) -> Result<usize>
         ensures answer { Gives (λ end. end) result
             (outcome ((is_unit self.now.unit, WriteAlignment)
@@ -134,8 +137,8 @@ impl<'a> SectionWriter<'a> {
         self.require(buffer, start)
     }
 
-    /// Writes the sections, their headers from the start on; answers the place behind the headers. Refuses as `require_all`
-    /// does, and then changes nothing.
+    /// Writes the sections, with their headers from `start` on, and returns the offset after the headers. Errors: those
+    /// of `require_all`; the buffer is then unchanged.
     pub fn write(&self, buffer: &mut [u8], start: usize) -> Result<usize>
         ensures { GivesWritten result (sections_written self.now.source.now self.now.sections.now self.now.unit start buffer.old) buffer.old buffer.new }
     {

@@ -1,4 +1,4 @@
-//! Laws of the numbers that have names.
+//! Laws of the constants: each has the number or the text that it should have.
 
 ghost use Rattle.std.specs.Prelude.{◌≡◌, codes};
 
@@ -19,7 +19,7 @@ use crate::constants::{
     VS_FFI_SIGNATURE, VS_FFI_STRUCVERSION, VS_VERSION_INFO_KEY,
 };
 
-/// The sizes of entries, the place of values, and the bits of entries.
+/// The size of directory entries, the alignment of values, and the bits of entries.
 pub fn constants_of_entries()
     ensures resource_entry_size { RESOURCE_ENTRY_SIZE ≡ 8 }
     ensures resource_string_field_alignment { RESOURCE_STRING_FIELD_ALIGNMENT ≡ 4 }
@@ -28,7 +28,7 @@ pub fn constants_of_entries()
     ensures image_resource_mask { IMAGE_RESOURCE_MASK ≡ 0x7FFFFFFF }
 {}
 
-/// The kinds of resources.
+/// The resource types.
 pub fn kinds_of_resources()
     ensures rt_cursor { RT_CURSOR ≡ 1 }
     ensures rt_bitmap { RT_BITMAP ≡ 2 }
@@ -53,7 +53,7 @@ pub fn kinds_of_resources()
     ensures rt_manifest { RT_MANIFEST ≡ 24 }
 {}
 
-/// The signature, version and flags of fixed file information.
+/// The signature, version and flags of the fixed file information.
 pub fn constants_of_fixed_information()
     ensures vs_ffi_signature { VS_FFI_SIGNATURE ≡ 0xFEEF04BD }
     ensures vs_ffi_strucversion { VS_FFI_STRUCVERSION ≡ 0x00010000 }
@@ -66,7 +66,7 @@ pub fn constants_of_fixed_information()
     ensures vs_ff_specialbuild { VS_FF_SPECIALBUILD ≡ 0x20 }
 {}
 
-/// The systems that a file is made for.
+/// The systems that files are made for.
 pub fn systems_of_files()
     ensures vos_unknown { VOS_UNKNOWN ≡ 0 }
     ensures vos_dos { VOS_DOS ≡ 0x10000 }
@@ -86,7 +86,7 @@ pub fn systems_of_files()
     ensures vos_nt_windows32 { VOS_NT_WINDOWS32 ≡ 0x40004 }
 {}
 
-/// The kinds of files, of drivers and of fonts.
+/// The types of files, and the subtypes of drivers and fonts.
 pub fn kinds_of_files()
     ensures vft_unknown { VFT_UNKNOWN ≡ 0 }
     ensures vft_app { VFT_APP ≡ 1 }

@@ -1,4 +1,4 @@
-//! Laws of what the types derive: `==` is equality of all fields, a default has zeros, nothing and no bytes, and a clone is
+//! Laws of derived traits: `==` is equality of all fields, a default has zeros, `None` and no bytes, and a clone equals
 //! its original.
 
 ghost use Rattle.std.specs.Prelude.{◌≡◌, ◌↔◌, IsTrue, Ok};
@@ -27,7 +27,7 @@ use crate::resource::ResourceData;
 use crate::string::{ResourceString, ResourceStringIterator};
 use crate::version::{StringFileInfo, VersionField, VersionInfo, VersionName, VsFixedFileInfo};
 
-/// Records are equal exactly if all their fields are.
+/// Two records are equal exactly if all their fields are equal.
 pub fn equal_records_have_equal_fields()
     ensures image_resource_directory { (x y : ImageResourceDirectory) → IsTrue (⟦<ImageResourceDirectory as PartialEq>⟧.eq x y) ↔ (x ≡ y) }
     ensures resource_data_entry { (x y : ResourceDataEntry) → IsTrue (⟦<ResourceDataEntry as PartialEq>⟧.eq x y) ↔ (x ≡ y) }
@@ -38,7 +38,7 @@ pub fn equal_records_have_equal_fields()
     ensures resource_string { (x y : ResourceString) → IsTrue (⟦<ResourceString<'static> as PartialEq>⟧.eq x y) ↔ (string_view x ≡ string_view y) }
 {}
 
-/// A default has zeros, nothing and no bytes.
+/// A default has zeros, `None` and no bytes.
 pub fn defaults_are_empty()
     ensures image_resource_directory { (x : ImageResourceDirectory) → ⟦<ImageResourceDirectory as Default>⟧.is_default x → x ≡ record { characteristics = 0; time_date_stamp = 0; major_version = 0; minor_version = 0; number_of_named_entries = 0; number_of_id_entries = 0 } }
     ensures resource_data_entry { (x : ResourceDataEntry) → ⟦<ResourceDataEntry as Default>⟧.is_default x → x ≡ record { offset_to_data = 0; size = 0; code_page = 0; reserved = 0 } }
@@ -49,7 +49,7 @@ pub fn defaults_are_empty()
     ensures resource_data { (x : ResourceData) → ⟦<ResourceData<'static> as Default>⟧.is_default x → resource_view x ≡ no_resources }
 {}
 
-/// A clone is its original.
+/// A clone equals its original.
 pub fn clones_are_their_originals()
     ensures image_resource_directory { (x y : ImageResourceDirectory) → ⟦<ImageResourceDirectory as Clone>⟧.is_clone x y → y ≡ x }
     ensures resource_data_entry { (x y : ResourceDataEntry) → ⟦<ResourceDataEntry as Clone>⟧.is_clone x y → y ≡ x }

@@ -29,14 +29,14 @@ use crate::directory::ResourceEntryIterator;
 use crate::string::ResourceStringIterator;
 use crate::version::VersionField;
 
-/// An entry's number and a number's entry undo each other.
+/// The conversions between entries and numbers are inverse to each other.
 #[tactic(auto, using(crate::proofs::Halves::number_back, crate::proofs::Halves::entry_back))]
 pub fn entries_are_numbers()
     ensures from { (n : ℕ) → n < 2 ^ 64 → number_of (entry_of n) ≡ n }
     ensures value { (e : ResourceEntry) → e.offset_to_data_or_directory < 2 ^ 32 → entry_of (number_of e) ≡ e }
 {}
 
-/// A version and its two halves undo each other, both ways.
+/// The conversions between versions and their two numbers are inverse to each other.
 #[tactic(auto, using(crate::proofs::Halves::version_back, crate::proofs::Halves::high_back, crate::proofs::Halves::low_back))]
 pub fn versions_are_halves()
     ensures version { (v : VersionField) → v.minor < 2 ^ 16 → v.revision < 2 ^ 16 → version_of_halves (high_half v) (low_half v) ≡ v }
@@ -44,7 +44,7 @@ pub fn versions_are_halves()
     ensures low { (ms ls : ℕ) → low_half (version_of_halves ms ls) ≡ ls }
 {}
 
-/// The order of versions is that of their 64-bit numbers, and agrees with their equality.
+/// Versions are ordered like their 64-bit numbers, and this order agrees with `==`.
 pub fn versions_in_order()
     ensures order { (v w : VersionField) → HasParts v → HasParts w → ⟦<VersionField as Ord>⟧.cmp v w ≡ nat_cmp (whole_number v) (whole_number w) }
     ensures partial { (v w : VersionField) → HasParts v → HasParts w → ⟦<VersionField as PartialOrd>⟧.partial_cmp v w ≡ Some (nat_cmp (whole_number v) (whole_number w)) }
@@ -52,7 +52,7 @@ pub fn versions_in_order()
     ensures equal { (v w : VersionField) → IsTrue (⟦<VersionField as PartialEq>⟧.eq v w) ↔ (v ≡ w) }
 {}
 
-/// The items that an iterator of entries gives are those of its bytes, and it is over after `None`.
+/// An iterator over entries returns the entries of its bytes, and is over after `None`.
 pub fn entry_iterators_give_the_entries()
     ensures items { (s : ResourceEntryIterator) (xs : List (Result ResourceEntry Error)) →
         Drains ⟦<ResourceEntryIterator<'static> as Iterator>⟧.next_gives s xs → map (answer_by (λ e. e)) xs ≡ items_left s }
@@ -61,8 +61,8 @@ pub fn entry_iterators_give_the_entries()
         ⟦<ResourceEntryIterator<'static> as Iterator>⟧.next_gives t r u → r ≡ None }
 {}
 
-/// The items that an iterator of strings gives are the strings of its bytes. Bytes have one list of strings, which is the
-/// function of them; and the iterator is over after a fault and after `None`.
+/// An iterator over strings returns the strings of its bytes. There is only one list of strings of given bytes, the one
+/// that the function `strings` computes. The iterator is over after an error and after `None`.
 pub fn strings_have_one_reading()
     ensures items { (s : ResourceStringIterator) (xs : List (Result ResourceString Error)) →
         Drains ⟦<ResourceStringIterator<'static> as Iterator>⟧.next_gives s xs → Strings (rest_of s) (map item_of xs) }
@@ -75,7 +75,7 @@ pub fn strings_have_one_reading()
         ⟦<ResourceStringIterator<'static> as Iterator>⟧.next_gives t r u → r ≡ None }
 {}
 
-/// A walk has one answer, and so have resources, and where the content of one lies.
+/// A walk, the resources of a data directory, and the range of a resource have at most one result.
 #[tactic(auto, using(crate::proofs::OneAnswer::one_walk, crate::proofs::OneAnswer::one_resource, crate::proofs::OneAnswer::one_range))]
 pub fn resources_have_one_answer()
     ensures walk { (b : List ℕ) (p : ResourceEntry → Bool) (e : ResourceEntry) (r s : Result ResourceEntry Refusal) → Walks b p e r → Walks b p e s → r ≡ s }
@@ -85,7 +85,7 @@ pub fn resources_have_one_answer()
         IsResourceRange o f d id sections alignment r → IsResourceRange o f d id sections alignment s → r ≡ s }
 {}
 
-/// A walk has an answer for all bytes, and so have resources, and where the content of one lies.
+/// A walk, the resources of a data directory, and the range of a resource have a result for all bytes.
 #[tactic(auto, using(crate::proofs::SomeResource::some_walk, crate::proofs::SomeResource::some_resource, crate::proofs::SomeResource::some_range))]
 pub fn resources_have_an_answer()
     ensures walk { (b : List ℕ) (p : ResourceEntry → Bool) (e : ResourceEntry) → (r : Result ResourceEntry Refusal) × Walks b p e r }
@@ -95,8 +95,9 @@ pub fn resources_have_an_answer()
         (r : Result (Option ByteRange) Refusal) × IsResourceRange o f d id sections alignment r }
 {}
 
-/// The manifest and the version information of resources are what their ranges hold, and so are the parts of version
-/// information; and a range of a range holds the same bytes as a range of all bytes.
+/// The manifest is the bytes of its range. The version information is what the bytes of its range are read as; its
+/// fixed file information and its values are those that `VsFixedFileInfo::of_strings` and `VersionName::value_range`
+/// find. A range inside a range contains the same bytes as the matching range of all bytes.
 pub fn ranges_hold_what_is_read()
     ensures manifest { (o : ParseOptions) (f : List ℕ) (d : DataDirectory) (sections : List SectionTable) (alignment : ℕ) (x : ResourceView) (r : Result (Option ByteRange) Refusal) →
         IsResource o f d sections alignment (Ok x) → IsResourceRange o f d 24 sections alignment r → IsManifestIn f r x.manifest }
@@ -109,7 +110,7 @@ pub fn ranges_hold_what_is_read()
         IsWithin b (inner outer r) × (bytes_in b (inner outer r) ≡ bytes_in (bytes_in b outer) r) }
 {}
 
-/// Resources that strict mode gives are those that permissive mode gives.
+/// If strict mode returns resources, permissive mode returns the same ones.
 #[tactic(auto, using(crate::proofs::ResourceModes::strict_resource))]
 pub fn strict_resources_are_permissive()
     ensures { (o : ParseOptions) (f : List ℕ) (d : DataDirectory) (sections : List SectionTable) (alignment : ℕ) (x : ResourceView) →
