@@ -15,7 +15,7 @@
  * of a call lists its errors in the order in which they are tested. PE_C_NOTHING means that there is nothing of the
  * kind; it is no error.
  *
- * Units. A `place` is a file offset: bytes, from the start of `bytes`. A range that a call returns lies inside `bytes`.
+ * Units. An `offset` is a file offset: bytes, from the start of `bytes`. A range that a call returns lies inside `bytes`.
  * RVAs, sizes and lengths are in bytes; an RVA counts from the start of the image in memory.
  *
  * Walks. A walk is a record that steps over a list: each call returns the next item and moves the walk. PE_C_NOTHING is
@@ -107,7 +107,7 @@ enum { PE_C_STRICT = 0, PE_C_PERMISSIVE = 1 };
 
 /* Writes the text of a result to the start of the array, in UTF-8, truncated at the array's end and not NUL-terminated.
  * Returns the length of the whole text in bytes, which is below 128. */
-size_t pe_c_text(uint32_t answer, uint8_t *room, size_t length);
+size_t pe_c_text(uint32_t number, uint8_t *room, size_t length);
 
 /* ---- the image
  *
@@ -117,7 +117,7 @@ size_t pe_c_text(uint32_t answer, uint8_t *room, size_t length);
 
 /* A range of the bytes of the file. */
 typedef struct {
-    uint64_t place;                 /* file offset */
+    uint64_t offset;                 /* file offset */
     uint64_t length;                /* bytes */
 } pe_c_range;
 
@@ -130,7 +130,7 @@ typedef struct {
 /* The headers of an image. Without an optional header the numbers that it has are 0, and its directories are absent. */
 typedef struct {
     uint64_t base;                  /* ImageBase, the preferred virtual address of the image; add RVAs to it */
-    uint64_t sections_place;        /* file offset of the section headers */
+    uint64_t sections_offset;        /* file offset of the section headers */
     uint32_t entry;                 /* RVA of the entry point */
     uint32_t file_alignment;        /* bytes; a power of two, or no RVA is mapped */
     pe_c_directory exports;
@@ -178,7 +178,7 @@ uint32_t pe_c_sections(const uint8_t *bytes, size_t length, const pe_c_image_inf
 
 /* Returns the file offset of an RVA, by the first section that covers it. The offset may be past the end of the file.
  * PE_C_NOTHING where no section covers the RVA, or the file alignment is not a power of two. */
-uint32_t pe_c_place(const pe_c_section *sections, size_t count, uint32_t file_alignment, uint32_t rva, uint64_t *out);
+uint32_t pe_c_offset(const pe_c_section *sections, size_t count, uint32_t file_alignment, uint32_t rva, uint64_t *out);
 
 /* ---- debug data
  *
@@ -452,7 +452,8 @@ uint32_t pe_c_next_scope(const uint8_t *bytes, size_t length, pe_c_range *walk, 
 /* Returns the next record of a plan: that of the function, then that of the function to which it is chained, and so on.
  * PE_C_NOTHING after the root.
  * Errors: those of pe_c_unwind_record for the next record; PE_C_FUNCTION_CYCLE if, and only if, the chain of a plan made by
- * pe_c_plan_from never ends. Records may be returned before that error. */
+ * pe_c_plan_from never ends. Records may be returned before that error. Such a plan is over after at most 3 * 2^32
+ * records; a plan with other fields may never be over. */
 uint32_t pe_c_next_record(const uint8_t *bytes, size_t length, const pe_c_image_info *image,
                           const pe_c_section *sections, size_t count, uint32_t mode, pe_c_plan *plan,
                           pe_c_record *out);
@@ -625,9 +626,9 @@ typedef struct {
 
 typedef struct {
     pe_c_range name;                /* UTF-8, without its final zero */
-    uint64_t place;                 /* file offset of the RVA; 0 unless has_place */
+    uint64_t offset;                 /* file offset of the RVA; 0 unless has_offset */
     uint32_t rva;                   /* RVA of what is exported */
-    uint32_t has_place;             /* 1 where the RVA is mapped, else 0 */
+    uint32_t has_offset;             /* 1 where the RVA is mapped, else 0 */
 } pe_c_export;
 
 PE_C_SIZE(pe_c_exports, 56);
@@ -639,7 +640,7 @@ uint32_t pe_c_export_tables(const uint8_t *bytes, size_t length, const pe_c_imag
                             const pe_c_section *sections, size_t count, uint32_t mode, pe_c_exports *out);
 
 /* Returns the next export. Entries are skipped whose name is unmapped, not NUL-terminated or not UTF-8, or whose index is
- * past the table of RVAs.
+ * past the table of RVAs. Each name is read to its end, so names that overlap are read once each.
  * Errors: PE_C_SHORT where the tables are not inside the bytes. */
 uint32_t pe_c_next_export(const uint8_t *bytes, size_t length, const pe_c_image_info *image,
                           const pe_c_section *sections, size_t count, uint32_t mode, pe_c_exports *walk,
@@ -698,7 +699,7 @@ uint32_t pe_c_import_libraries(const uint8_t *bytes, size_t length, const pe_c_i
                                const pe_c_section *sections, size_t count, uint32_t mode, pe_c_libraries *out);
 
 /* Returns the next library. The directory ends at a record whose name or address table has the RVA 0. A list whose RVA is
- * unmapped is empty.
+ * unmapped is empty. Names and lists that overlap are read once each.
  * Errors: PE_C_SHORT where the record is truncated; PE_C_UNMAPPED, PE_C_IMPORT_NAME of the name; PE_C_SHORT where no zero
  * entry ends the list. */
 uint32_t pe_c_next_library(const uint8_t *bytes, size_t length, const pe_c_image_info *image,

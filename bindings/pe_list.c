@@ -21,7 +21,7 @@
 #include <sys/stat.h>
 #include <unistd.h>
 
-enum { FINE = 0, REFUSED = 1, MISUSED = 2, FAULT = 3 };
+enum { FINE = 0, REFUSED = 1, MISUSED = 2, REFUSAL = 3 };
 
 enum { X64 = 0x8664, ARM64 = 0xAA64, FUNCTION_SIZE = 12, ARM64_FUNCTION_SIZE = 8 };
 
@@ -50,7 +50,7 @@ static int map_file(const char *file, image *it)
     if (opened < 0 || fstat(opened, &about) != 0) {
         fprintf(stderr, "pe_list: ");
         perror(file);
-        return FAULT;
+        return REFUSAL;
     }
     it->file = file;
     it->length = (size_t)about.st_size;
@@ -59,7 +59,7 @@ static int map_file(const char *file, image *it)
         if (mapped == MAP_FAILED) {
             fprintf(stderr, "pe_list: ");
             perror(file);
-            return FAULT;
+            return REFUSAL;
         }
         it->bytes = (const uint8_t *)mapped;
     }
@@ -71,9 +71,9 @@ static int map_file(const char *file, image *it)
 static uint32_t read_image(image *it, uint32_t mode)
 {
     it->mode = mode;
-    uint32_t answer = pe_c_image(it->bytes, it->length, mode, &it->info);
-    if (answer != PE_C_DONE)
-        return answer;
+    uint32_t result = pe_c_image(it->bytes, it->length, mode, &it->info);
+    if (result != PE_C_DONE)
+        return result;
     it->count = it->info.number_of_sections;
     free(it->sections);
     it->sections = (pe_c_section *)calloc(it->count + 1, sizeof *it->sections);
@@ -82,10 +82,10 @@ static uint32_t read_image(image *it, uint32_t mode)
     return pe_c_sections(BYTES(it), &it->info, it->sections, it->count);
 }
 
-static int refused(const image *it, uint32_t answer, const char *advice)
+static int refused(const image *it, uint32_t result, const char *advice)
 {
     uint8_t text[128] = {0};
-    size_t length = pe_c_text(answer, text, sizeof text);
+    size_t length = pe_c_text(result, text, sizeof text);
     if (length > sizeof text)
         length = sizeof text;
     fprintf(stderr, "pe_list: \"%s\" is refused: %.*s%s\n", it->file, (int)length, (const char *)text, advice);
@@ -102,20 +102,20 @@ typedef struct {
 
 /* Notes whether a directory is there. In strict mode its error refuses the image; in permissive mode it counts as
  * absent. */
-static uint32_t keep(const image *it, uint32_t answer, int *has)
+static uint32_t keep(const image *it, uint32_t result, int *has)
 {
-    *has = answer == PE_C_DONE;
-    if (answer == PE_C_NOTHING || it->mode != PE_C_STRICT)
+    *has = result == PE_C_DONE;
+    if (result == PE_C_NOTHING || it->mode != PE_C_STRICT)
         return PE_C_DONE;
-    return answer;
+    return result;
 }
 
 /* The result of a walk that was read to its end: the end itself is no error. */
-static uint32_t ended(uint32_t answer)
+static uint32_t ended(uint32_t result)
 {
-    if (answer == PE_C_NOTHING)
+    if (result == PE_C_NOTHING)
         return PE_C_DONE;
-    return answer;
+    return result;
 }
 
 /* Reads every library. */
@@ -123,20 +123,20 @@ static uint32_t try_libraries(const image *it)
 {
     pe_c_libraries walk = PE_C_EMPTY;
     pe_c_library library = PE_C_EMPTY;
-    uint32_t answer = pe_c_import_libraries(IMAGE(it), &walk);
-    while (answer == PE_C_DONE)
-        answer = pe_c_next_library(IMAGE(it), &walk, &library);
-    return ended(answer);
+    uint32_t result = pe_c_import_libraries(IMAGE(it), &walk);
+    while (result == PE_C_DONE)
+        result = pe_c_next_library(IMAGE(it), &walk, &library);
+    return ended(result);
 }
 
 /* Reads every import of a library. */
 static uint32_t try_imports_of(const image *it, pe_c_imports walk)
 {
     pe_c_import item = PE_C_EMPTY;
-    uint32_t answer = PE_C_DONE;
-    while (answer == PE_C_DONE)
-        answer = pe_c_next_import(IMAGE(it), &walk, &item);
-    return ended(answer);
+    uint32_t result = PE_C_DONE;
+    while (result == PE_C_DONE)
+        result = pe_c_next_import(IMAGE(it), &walk, &item);
+    return ended(result);
 }
 
 /* Reads all libraries, then all imports. An error in one refuses the image in both modes. */
@@ -144,24 +144,24 @@ static uint32_t try_imports(const image *it)
 {
     pe_c_libraries walk = PE_C_EMPTY;
     pe_c_library library = PE_C_EMPTY;
-    uint32_t answer = try_libraries(it);
-    if (answer == PE_C_DONE)
-        answer = pe_c_import_libraries(IMAGE(it), &walk);
-    while (answer == PE_C_DONE) {
-        answer = pe_c_next_library(IMAGE(it), &walk, &library);
-        if (answer == PE_C_DONE)
-            answer = try_imports_of(it, library.imports);
+    uint32_t result = try_libraries(it);
+    if (result == PE_C_DONE)
+        result = pe_c_import_libraries(IMAGE(it), &walk);
+    while (result == PE_C_DONE) {
+        result = pe_c_next_library(IMAGE(it), &walk, &library);
+        if (result == PE_C_DONE)
+            result = try_imports_of(it, library.imports);
     }
-    return ended(answer);
+    return ended(result);
 }
 
 /* Returns the debug directory, if no record is damaged: any call that returns a record reads them all. */
 static uint32_t try_debug(const image *it, pe_c_range *out)
 {
     pe_c_key key = PE_C_EMPTY;
-    uint32_t answer = pe_c_symbol_key(IMAGE(it), &key);
-    if (answer != PE_C_DONE && answer != PE_C_NOTHING)
-        return answer;
+    uint32_t result = pe_c_symbol_key(IMAGE(it), &key);
+    if (result != PE_C_DONE && result != PE_C_NOTHING)
+        return result;
     return pe_c_debug_entries(IMAGE(it), out);
 }
 
@@ -170,13 +170,13 @@ static uint32_t try_certificates(const image *it, pe_c_range *out)
 {
     pe_c_range walk = {it->info.certificates.virtual_address, it->info.certificates.size};
     *out = walk;
-    if (walk.place == 0 && walk.length == 0)
+    if (walk.offset == 0 && walk.length == 0)
         return PE_C_NOTHING;
     pe_c_certificate certificate = PE_C_EMPTY;
-    uint32_t answer = PE_C_DONE;
-    while (answer == PE_C_DONE)
-        answer = pe_c_next_certificate(BYTES(it), &walk, &certificate);
-    return ended(answer);
+    uint32_t result = PE_C_DONE;
+    while (result == PE_C_DONE)
+        result = pe_c_next_certificate(BYTES(it), &walk, &certificate);
+    return ended(result);
 }
 
 /* Reads version information and manifest. */
@@ -184,9 +184,9 @@ static uint32_t try_resources(const image *it)
 {
     pe_c_version version = PE_C_EMPTY;
     pe_c_range manifest = PE_C_EMPTY;
-    uint32_t answer = pe_c_fixed_version(IMAGE(it), &version);
-    if (answer != PE_C_DONE && answer != PE_C_NOTHING)
-        return answer;
+    uint32_t result = pe_c_fixed_version(IMAGE(it), &version);
+    if (result != PE_C_DONE && result != PE_C_NOTHING)
+        return result;
     return pe_c_manifest(IMAGE(it), &manifest);
 }
 
@@ -194,28 +194,28 @@ static uint32_t try_resources(const image *it)
 static uint32_t read_directories(const image *it, directories *out)
 {
     int has_resources = 0;
-    uint32_t answer = try_imports(it);
-    if (answer == PE_C_DONE)
-        answer = keep(it, try_debug(it, &out->debug), &out->has_debug);
-    if (answer == PE_C_DONE)
-        answer = keep(it, pe_c_function_table(IMAGE(it), &out->functions), &out->has_functions);
-    if (answer == PE_C_DONE)
-        answer = keep(it, pe_c_arm64_table(IMAGE(it), &out->arm64_functions), &out->has_arm64_functions);
-    if (answer == PE_C_DONE)
-        answer = keep(it, try_certificates(it, &out->certificates), &out->has_certificates);
-    if (answer == PE_C_DONE)
-        answer = keep(it, try_resources(it), &has_resources);
-    return answer;
+    uint32_t result = try_imports(it);
+    if (result == PE_C_DONE)
+        result = keep(it, try_debug(it, &out->debug), &out->has_debug);
+    if (result == PE_C_DONE)
+        result = keep(it, pe_c_function_table(IMAGE(it), &out->functions), &out->has_functions);
+    if (result == PE_C_DONE)
+        result = keep(it, pe_c_arm64_table(IMAGE(it), &out->arm64_functions), &out->has_arm64_functions);
+    if (result == PE_C_DONE)
+        result = keep(it, try_certificates(it, &out->certificates), &out->has_certificates);
+    if (result == PE_C_DONE)
+        result = keep(it, try_resources(it), &has_resources);
+    return result;
 }
 
 static void list_debug(const image *it, pe_c_range walk)
 {
     pe_c_debug_entry entry = PE_C_EMPTY;
-    uint32_t answer;
-    while ((answer = pe_c_next_debug_entry(BYTES(it), &walk, &entry)) == PE_C_DONE)
+    uint32_t result;
+    while ((result = pe_c_next_debug_entry(BYTES(it), &walk, &entry)) == PE_C_DONE)
         printf("debug %" PRIu32 " %" PRIu32 " %08" PRIx32 " %08" PRIx32 "\n", entry.data_type, entry.size_of_data,
                entry.address_of_raw_data, entry.pointer_to_raw_data);
-    if (answer != PE_C_NOTHING)
+    if (result != PE_C_NOTHING)
         printf("debug cut\n");
 }
 
@@ -251,17 +251,17 @@ static void list_arm64_functions(const image *it, const pe_c_range *table)
 /* Reads an image and what `peinfo list` reads of it. */
 static uint32_t read_all(image *it, uint32_t mode, directories *out)
 {
-    uint32_t answer = read_image(it, mode);
-    return answer == PE_C_DONE ? read_directories(it, out) : answer;
+    uint32_t result = read_image(it, mode);
+    return result == PE_C_DONE ? read_directories(it, out) : result;
 }
 
 static int list(image *it, uint32_t mode)
 {
     directories found = PE_C_EMPTY;
-    uint32_t answer = read_all(it, mode, &found);
-    if (answer != PE_C_DONE) {
+    uint32_t result = read_all(it, mode, &found);
+    if (result != PE_C_DONE) {
         int helps = mode == PE_C_STRICT && read_all(it, PE_C_PERMISSIVE, &found) == PE_C_DONE;
-        return refused(it, answer, helps ? "; --permissive lists the rest" : "");
+        return refused(it, result, helps ? "; --permissive lists the rest" : "");
     }
     printf("image %d entry %08" PRIx32 " base %016" PRIx64 "\n", it->info.width == 64 ? 64 : 32, it->info.entry,
            it->info.base);
@@ -282,20 +282,20 @@ static int list(image *it, uint32_t mode)
 static int show_key(image *it)
 {
     pe_c_key key = PE_C_EMPTY;
-    uint32_t answer = read_image(it, PE_C_STRICT);
-    if (answer == PE_C_DONE)
-        answer = pe_c_symbol_key(IMAGE(it), &key);
-    if (answer == PE_C_NOTHING) {
+    uint32_t result = read_image(it, PE_C_STRICT);
+    if (result == PE_C_DONE)
+        result = pe_c_symbol_key(IMAGE(it), &key);
+    if (result == PE_C_NOTHING) {
         printf("none\n");
         return FINE;
     }
-    if (answer != PE_C_DONE)
-        return refused(it, answer, "");
+    if (result != PE_C_DONE)
+        return refused(it, result, "");
     static const int order[16] = {3, 2, 1, 0, 5, 4, 7, 6, 8, 9, 10, 11, 12, 13, 14, 15};
     printf("key ");
     for (int i = 0; i < 16; i++)
         printf("%02X", key.guid[order[i]]);
-    const char *name = (const char *)it->bytes + key.name.place;
+    const char *name = (const char *)it->bytes + key.name.offset;
     printf("%" PRIX32 " %.*s\n", key.age, (int)strnlen(name, key.name.length), name);
     return FINE;
 }
@@ -348,12 +348,12 @@ static void show_units(const uint8_t *units, uint64_t length)
 static int show_version(image *it)
 {
     pe_c_version version = PE_C_EMPTY;
-    uint32_t answer = read_image(it, PE_C_STRICT);
-    if (answer == PE_C_DONE)
-        answer = pe_c_fixed_version(IMAGE(it), &version);
-    if (answer != PE_C_DONE && answer != PE_C_NOTHING)
-        return refused(it, answer, "");
-    if (answer == PE_C_DONE) {
+    uint32_t result = read_image(it, PE_C_STRICT);
+    if (result == PE_C_DONE)
+        result = pe_c_fixed_version(IMAGE(it), &version);
+    if (result != PE_C_DONE && result != PE_C_NOTHING)
+        return refused(it, result, "");
+    if (result == PE_C_DONE) {
         const uint32_t ms = version.file_version_ms, ls = version.file_version_ls;
         const uint32_t product_ms = version.product_version_ms, product_ls = version.product_version_ls;
         printf("file %" PRIu32 ".%" PRIu32 ".%" PRIu32 ".%" PRIu32 "\n", ms >> 16, ms & 0xFFFF, ls >> 16, ls & 0xFFFF);
@@ -364,7 +364,7 @@ static int show_version(image *it)
         pe_c_range text = PE_C_EMPTY;
         if (pe_c_version_text(IMAGE(it), name, &text) == PE_C_DONE) {
             printf("%s ", names[name]);
-            show_units(it->bytes + text.place, text.length);
+            show_units(it->bytes + text.offset, text.length);
             putchar('\n');
         }
     }
@@ -427,38 +427,38 @@ static uint32_t show_record(const image *it, pe_c_record *record)
         printf(" %s handler %08" PRIx32, record->handler_kind == 1 ? "exception" : "termination", record->handler);
     printf("\n");
     pe_c_code code = PE_C_EMPTY;
-    uint32_t answer;
-    while ((answer = pe_c_next_code(BYTES(it), &record->codes, &code)) == PE_C_DONE)
+    uint32_t result;
+    while ((result = pe_c_next_code(BYTES(it), &record->codes, &code)) == PE_C_DONE)
         show_code(&code);
     if (record->is_chained)
         show_function("chained", &record->chained);
-    return answer;
+    return result;
 }
 
 static int show_unwinding(image *it, uint32_t rva)
 {
     pe_c_range table = PE_C_EMPTY;
     pe_c_function function = PE_C_EMPTY;
-    uint32_t answer = read_image(it, PE_C_STRICT);
-    if (answer == PE_C_DONE)
-        answer = pe_c_function_table(IMAGE(it), &table);
-    if (answer == PE_C_DONE)
-        answer = pe_c_find_function(BYTES(it), &table, rva, &function);
-    if (answer == PE_C_NOTHING) {
+    uint32_t result = read_image(it, PE_C_STRICT);
+    if (result == PE_C_DONE)
+        result = pe_c_function_table(IMAGE(it), &table);
+    if (result == PE_C_DONE)
+        result = pe_c_find_function(BYTES(it), &table, rva, &function);
+    if (result == PE_C_NOTHING) {
         printf("none\n");
         return FINE;
     }
-    if (answer != PE_C_DONE)
-        return refused(it, answer, "");
+    if (result != PE_C_DONE)
+        return refused(it, result, "");
     show_function("function", &function);
     pe_c_plan plan = pe_c_plan_from(function.unwind);
     pe_c_record record = PE_C_EMPTY;
-    while ((answer = pe_c_next_record(IMAGE(it), &plan, &record)) == PE_C_DONE) {
-        answer = show_record(it, &record);
-        if (answer != PE_C_NOTHING)
+    while ((result = pe_c_next_record(IMAGE(it), &plan, &record)) == PE_C_DONE) {
+        result = show_record(it, &record);
+        if (result != PE_C_NOTHING)
             break;
     }
-    return answer == PE_C_NOTHING ? FINE : refused(it, answer, "");
+    return result == PE_C_NOTHING ? FINE : refused(it, result, "");
 }
 
 /* ---- arguments */
@@ -507,7 +507,7 @@ int main(int argc, char **argv)
     free(it.sections);
     if (fclose(stdout) != 0) {
         fprintf(stderr, "pe_list: standard output takes no more\n");
-        return FAULT;
+        return REFUSAL;
     }
     return status;
 }

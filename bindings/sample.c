@@ -4,10 +4,10 @@
 uint32_t symbol_key(const uint8_t *bytes, size_t length, pe_c_section *room, size_t entries, pe_c_key *out)
 {
     pe_c_image_info image = PE_C_EMPTY;
-    uint32_t answer = pe_c_image(bytes, length, PE_C_PERMISSIVE, &image);
-    if (answer == PE_C_DONE)
-        answer = pe_c_sections(bytes, length, &image, room, entries);
-    if (answer == PE_C_DONE)
-        answer = pe_c_symbol_key(bytes, length, &image, room, image.number_of_sections, PE_C_PERMISSIVE, out);
-    return answer;
+    uint32_t result = pe_c_image(bytes, length, PE_C_PERMISSIVE, &image);
+    if (result == PE_C_DONE)
+        result = pe_c_sections(bytes, length, &image, room, entries);
+    if (result == PE_C_DONE)
+        result = pe_c_symbol_key(bytes, length, &image, room, image.number_of_sections, PE_C_PERMISSIVE, out);
+    return result;
 }

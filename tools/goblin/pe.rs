@@ -1,5 +1,5 @@
 //! What goblin's file asks of its neighbours: directories, options, sections and the map from addresses to places, which
-//! is that of docs/RULES.md.
+//! is that of crates/pe_core/src/section_map.rt.
 
 pub mod resource;
 

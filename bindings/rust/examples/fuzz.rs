@@ -73,38 +73,38 @@ impl Random {
 }
 
 /// The offsets where a change matters most: headers, section headers, the tables of directories and what follows them.
-fn hot_places(bytes: &[u8]) -> Vec<Range<usize>> {
-    let mut places = vec![0..bytes.len(), 0..bytes.len().min(1024), 60..64];
+fn hot_offsets(bytes: &[u8]) -> Vec<Range<usize>> {
+    let mut offsets = vec![0..bytes.len(), 0..bytes.len().min(1024), 60..64];
     let Ok(image) = Image::parse(bytes, Mode::Permissive) else {
-        return places;
+        return offsets;
     };
     let info = image.info();
     let certificates = info.certificates.virtual_address as usize;
-    places.push(certificates..certificates.saturating_add(32));
+    offsets.push(certificates..certificates.saturating_add(32));
     for directory in [info.exports, info.imports, info.resources, info.exceptions, info.debug] {
-        let Some(place) = image.place(directory.virtual_address).filter(|_| directory.size > 0) else {
+        let Some(offset) = image.offset(directory.virtual_address).filter(|_| directory.size > 0) else {
             continue;
         };
-        let (place, size) = (place as usize, directory.size as usize);
-        places.push(place..bytes.len().min(place.saturating_add(size)));
-        places.push(place..bytes.len().min(place.saturating_add(64)));
+        let (offset, size) = (offset as usize, directory.size as usize);
+        offsets.push(offset..bytes.len().min(offset.saturating_add(size)));
+        offsets.push(offset..bytes.len().min(offset.saturating_add(64)));
     }
     if let Ok(Some(functions)) = image.functions() {
         for function in functions.iter().take(32) {
-            if let Some(place) = image.place(function.unwind & !1) {
-                places.push(place as usize..bytes.len().min(place as usize + 16));
+            if let Some(offset) = image.offset(function.unwind & !1) {
+                offsets.push(offset as usize..bytes.len().min(offset as usize + 16));
             }
         }
     }
     if let Ok(Some(functions)) = image.arm64_functions() {
         for function in functions.iter().take(32) {
-            if let Some(place) = image.place(function.unwind & !3) {
-                places.push(place as usize..bytes.len().min(place as usize + 24));
+            if let Some(offset) = image.offset(function.unwind & !3) {
+                offsets.push(offset as usize..bytes.len().min(offset as usize + 24));
             }
         }
     }
-    places.retain(|place| place.start < place.end && place.end <= bytes.len());
-    places
+    offsets.retain(|offset| offset.start < offset.end && offset.end <= bytes.len());
+    offsets
 }
 
 /// Copies a file, sometimes truncated, to the end of the memory.
@@ -117,11 +117,11 @@ fn copy<'m>(memory: &'m mut [u8], bytes: &[u8], random: &mut Random) -> &'m mut 
 }
 
 /// Changes a few bytes; returns what they were.
-fn change(input: &mut [u8], places: &[Range<usize>], random: &mut Random) -> Vec<(usize, u8)> {
+fn change(input: &mut [u8], offsets: &[Range<usize>], random: &mut Random) -> Vec<(usize, u8)> {
     let mut before = Vec::new();
     for _ in 0..1 + random.below(6) {
-        let place = &places[random.below(places.len())];
-        let at = place.start + random.below(place.len());
+        let offset = &offsets[random.below(offsets.len())];
+        let at = offset.start + random.below(offset.len());
         let value = [0, 1, 0x7F, 0x80, 0xFF, random.next() as u8][random.below(6)];
         if let Some(byte) = input.get_mut(at) {
             before.push((at, *byte));
@@ -135,11 +135,11 @@ fn change(input: &mut [u8], places: &[Range<usize>], random: &mut Random) -> Vec
 fn read_by_lies(bytes: &[u8], random: &mut Random, seen: &mut Seen) {
     let (start, length) = (bytes.as_ptr(), bytes.len());
     let number = length as u64;
-    let range = sys::Range { place: random.edge(number), length: random.edge(number) };
+    let range = sys::Range { offset: random.edge(number), length: random.edge(number) };
     let few = random.next() as u32;
     let directory = sys::Directory { virtual_address: random.edge(number) as u32, size: random.edge(64) as u32 };
     let image = sys::ImageInfo {
-        sections_place: random.edge(number),
+        sections_offset: random.edge(number),
         file_alignment: 1 << (few % 32),
         exports: directory,
         imports: directory,
@@ -206,8 +206,8 @@ fn read_by_lies(bytes: &[u8], random: &mut Random, seen: &mut Seen) {
     // SAFETY: as above.
     unsafe {
         sys::pe_c_sections(start, length, &image, room.as_mut_ptr(), room.len());
-        let mut place = 0;
-        sys::pe_c_place(sections.as_ptr(), sections.len(), image.file_alignment, few, &mut place);
+        let mut offset = 0;
+        sys::pe_c_offset(sections.as_ptr(), sections.len(), image.file_alignment, few, &mut offset);
         let mut fields = sys::Arm64Packed::default();
         sys::pe_c_arm64_packed_fields(&sys::Arm64Function { begin: few, unwind: few.rotate_left(7) }, &mut fields);
     }
@@ -242,7 +242,7 @@ fn read_by_lies(bytes: &[u8], random: &mut Random, seen: &mut Seen) {
     walk_of_image!(pe_c_next_export(sys::Exports { names: range, next: index, ..tables }), Export);
     let libraries = call_of_image!(pe_c_import_libraries(), Libraries);
     walk_of_image!(pe_c_next_library(libraries), Library);
-    walk_of_image!(pe_c_next_library(sys::Libraries { next: range.place, ..libraries }), Library);
+    walk_of_image!(pe_c_next_library(sys::Libraries { next: range.offset, ..libraries }), Library);
     walk_of_image!(pe_c_next_import(sys::Imports { left: range, rva: index }), Import);
     let saved = if few & 8 == 0 { directory.virtual_address } else { few };
     let plan = sys::Plan {
@@ -278,16 +278,16 @@ fn main() {
     if files.is_empty() {
         files = made::all().into_iter().map(|(_, bytes)| bytes).collect();
     }
-    let files: Vec<_> = files.into_iter().map(|bytes| (hot_places(&bytes), bytes)).collect();
+    let files: Vec<_> = files.into_iter().map(|bytes| (hot_offsets(&bytes), bytes)).collect();
     let memory = fenced();
     let mut random = Random(seed.max(1));
     let (mut inputs, mut seen) = (0u64, Seen::up_to(0));
     let start = Instant::now();
     while start.elapsed().as_secs() < seconds {
-        let (places, bytes) = &files[random.below(files.len())];
+        let (offsets, bytes) = &files[random.below(files.len())];
         let input = copy(memory, bytes, &mut random);
         for _ in 0..INPUTS_OF_A_FILE {
-            let before = change(input, places, &mut random);
+            let before = change(input, offsets, &mut random);
             let mode = if random.below(2) == 0 { Mode::Strict } else { Mode::Permissive };
             let most = [1, 1, 2, 4, 8, 64][random.below(6)];
             seen.add(read_all(input, mode, most));

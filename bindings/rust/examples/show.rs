@@ -164,16 +164,16 @@ fn show_codes(record: &Arm64Record, start: u32) {
 }
 
 /// The u32 at an offset that is known to be inside the bytes.
-fn number_at(bytes: &[u8], place: u64) -> u32 {
-    let place = place as usize;
-    u32::from_le_bytes(bytes[place..place + 4].try_into().expect("four bytes"))
+fn number_at(bytes: &[u8], offset: u64) -> u32 {
+    let offset = offset as usize;
+    u32::from_le_bytes(bytes[offset..offset + 4].try_into().expect("four bytes"))
 }
 
-fn show_arm64_record(bytes: &[u8], place: u64, record: &Arm64Record) {
+fn show_arm64_record(bytes: &[u8], offset: u64, record: &Arm64Record) {
     let raw = record.raw();
-    let (header, extension) = (number_at(bytes, place), number_at(bytes, place + 4));
+    let (header, extension) = (number_at(bytes, offset), number_at(bytes, offset + 4));
     let (epilogs, words) = (header >> 22 & 31, header >> 27);
-    let size = raw.codes.place + raw.codes.length + 4 * u64::from(raw.has_handler) - place;
+    let size = raw.codes.offset + raw.codes.length + 4 * u64::from(raw.has_handler) - offset;
     println!(
         "record64 {} {} {} {} {epilogs} {words} {size}",
         raw.function_length, raw.version, raw.has_handler, raw.epilog_in_header
@@ -211,8 +211,8 @@ fn show_arm64(image: &Image) {
                 packed.flag, packed.function_length, packed.reg_f, packed.reg_i, packed.h, packed.cr, packed.frame_size
             ),
             Ok(Arm64Unwinding::Record(record)) => {
-                let place = image.place(function.unwind).expect("the record was read");
-                show_arm64_record(image.bytes(), place, &record);
+                let offset = image.offset(function.unwind).expect("the record was read");
+                show_arm64_record(image.bytes(), offset, &record);
             }
             Err(error) => println!("refused {error:?}"),
         }
@@ -301,7 +301,7 @@ fn show_resources(image: &Image) {
         return;
     }
     let directory = image.info().resources;
-    if let Some(root) = image.place(directory.virtual_address).filter(|_| directory.size >= 16) {
+    if let Some(root) = image.offset(directory.virtual_address).filter(|_| directory.size >= 16) {
         let counts = number_at(image.bytes(), root + 12);
         for index in 0..u64::from((counts & 0xFFFF) + (counts >> 16)) {
             let entry = root + 16 + 8 * index;
@@ -341,7 +341,7 @@ fn show_tables(image: &Image) {
     println!("image {}", image.info().machine);
     for export in there(image.exports()).into_iter().flatten() {
         match export {
-            Ok(it) => println!("export {} {:?} {:?}", it.rva, it.place, Some(String::from_utf8_lossy(it.name))),
+            Ok(it) => println!("export {} {:?} {:?}", it.rva, it.offset, Some(String::from_utf8_lossy(it.name))),
             Err(error) => println!("refused {error:?}"),
         }
     }

@@ -52,7 +52,7 @@ impl<'a> Image<'a> {
     /// The attribute certificates. There are none without a certificate directory.
     pub fn certificates(&self) -> Certificates<'a> {
         let directory = self.info().certificates;
-        let walk = sys::Range { place: u64::from(directory.virtual_address), length: u64::from(directory.size) };
+        let walk = sys::Range { offset: u64::from(directory.virtual_address), length: u64::from(directory.size) };
         Certificates(Walk::new(self.bytes(), walk))
     }
 }

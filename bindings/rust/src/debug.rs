@@ -42,8 +42,8 @@ impl<'a> SymbolKey<'a> {
 
 impl fmt::Display for SymbolKey<'_> {
     fn fmt(&self, f: &mut fmt::Formatter<'_>) -> fmt::Result {
-        for place in [3, 2, 1, 0, 5, 4, 7, 6, 8, 9, 10, 11, 12, 13, 14, 15] {
-            write!(f, "{:02X}", self.guid[place])?;
+        for offset in [3, 2, 1, 0, 5, 4, 7, 6, 8, 9, 10, 11, 12, 13, 14, 15] {
+            write!(f, "{:02X}", self.guid[offset])?;
         }
         write!(f, "{:X}", self.age)
     }

@@ -16,7 +16,7 @@ pub struct Export<'a> {
     /// RVA of what is exported.
     pub rva: u32,
     /// File offset of the RVA, or `None` where it is unmapped.
-    pub place: Option<u64>,
+    pub offset: Option<u64>,
 }
 
 /// The exports of an image, in the order of the name table.
@@ -49,8 +49,8 @@ impl<'a> Iterator for Exports<'_, 'a> {
             Ok(found) => found,
             Err(error) => return Some(Err(error)),
         };
-        let place = (found.has_place != 0).then_some(found.place);
-        Some(bytes_of(found.name, self.0.image.bytes()).map(|name| Export { name, rva: found.rva, place }))
+        let offset = (found.has_offset != 0).then_some(found.offset);
+        Some(bytes_of(found.name, self.0.image.bytes()).map(|name| Export { name, rva: found.rva, offset }))
     }
 }
 

@@ -152,7 +152,7 @@ impl fmt::Display for Error {
 impl core::error::Error for Error {}
 
 /// The result of a call, by the number that it returned.
-pub(crate) fn answer<T>(number: u32, value: T) -> Result<Option<T>, Error> {
+pub(crate) fn returned<T>(number: u32, value: T) -> Result<Option<T>, Error> {
     match number {
         sys::DONE => Ok(Some(value)),
         sys::NOTHING => Ok(None),
@@ -188,7 +188,7 @@ impl Section {
 /// assert_eq!(image.info().width, 64); // PE32+
 /// let section = &image.sections()[0];
 /// assert_eq!((section.name(), section.virtual_address), (b".rdata".as_slice(), 0x1000));
-/// assert_eq!(image.place(0x1040), Some(0x240));
+/// assert_eq!(image.offset(0x1040), Some(0x240));
 /// # Ok::<(), pe_c::Error>(())
 /// ```
 #[derive(Clone)]
@@ -270,13 +270,13 @@ impl<'a> Image<'a> {
 
     /// The file offset of an RVA, by the first section that covers it. It may be past the end of the file. `None` where no
     /// section covers the RVA, or the file alignment is not a power of two.
-    pub fn place(&self, rva: u32) -> Option<u64> {
-        let mut place = 0;
+    pub fn offset(&self, rva: u32) -> Option<u64> {
+        let mut offset = 0;
         // SAFETY: as above.
         let number = unsafe {
-            sys::pe_c_place(self.sections.as_ptr(), self.sections.len(), self.info.file_alignment, rva, &mut place)
+            sys::pe_c_offset(self.sections.as_ptr(), self.sections.len(), self.info.file_alignment, rva, &mut offset)
         };
-        (number == sys::DONE).then_some(place)
+        (number == sys::DONE).then_some(offset)
     }
 
     /// Makes a call that takes the image.
@@ -288,7 +288,7 @@ impl<'a> Image<'a> {
             let mode = self.mode.number();
             call(bytes.as_ptr(), bytes.len(), &self.info, sections.as_ptr(), sections.len(), mode, &mut out)
         };
-        answer(number, out)
+        returned(number, out)
     }
 
     /// Makes a call that takes one more argument: a number, or a pointer to what the caller lends for the call.
@@ -300,7 +300,7 @@ impl<'a> Image<'a> {
             let mode = self.mode.number();
             call(bytes.as_ptr(), bytes.len(), &self.info, sections.as_ptr(), sections.len(), mode, more, &mut out)
         };
-        answer(number, out)
+        returned(number, out)
     }
 
     /// Makes a call that takes a number too.

@@ -6,7 +6,7 @@
 //!
 //! | part | methods | layout |
 //! |---|---|---|
-//! | headers, sections | [`info`](Image::info), [`sections`](Image::sections), [`place`](Image::place) | [PE Format] |
+//! | headers, sections | [`info`](Image::info), [`sections`](Image::sections), [`offset`](Image::offset) | [PE Format] |
 //! | debug data | [`symbol_key`](Image::symbol_key), [`debug_entries`](Image::debug_entries), [`pogo`](Image::pogo), .. | [debug section] |
 //! | certificates | [`certificates`](Image::certificates) | [certificate table] |
 //! | unwind data | [`functions`](Image::functions), [`arm64_functions`](Image::arm64_functions) | [x64], [ARM64] |
@@ -27,7 +27,7 @@
 //! - Every list is an iterator. After an `Err` item it returns `None`.
 //! - No bytes make a call panic or loop forever. Only [`Image::parse`], for the section headers, and
 //!   [`Text::to_string_lossy`] allocate.
-//! - A `place` is a file offset in bytes. An RVA counts from the start of the image in memory.
+//! - An `offset` is a file offset in bytes. An RVA counts from the start of the image in memory.
 //! - The docs of a call list its errors in the order in which they are tested.
 //!
 //! ```

@@ -26,7 +26,7 @@ record!(
 /// A range of the bytes of the file. As a walk over entries of one size, it is what is left.
 Range, 16 {
     /// File offset.
-    place: u64,
+    offset: u64,
     /// In bytes.
     length: u64,
 });
@@ -44,7 +44,7 @@ ImageInfo, 80 {
     /// `ImageBase`: the preferred virtual address of the image. Add RVAs to it.
     base: u64,
     /// File offset of the section headers.
-    sections_place: u64,
+    sections_offset: u64,
     /// RVA of the entry point.
     entry: u32,
     /// In bytes. If it is not a power of two, no RVA is mapped.
@@ -387,12 +387,12 @@ record!(
 Export, 32 {
     /// UTF-8, without its final zero.
     name: Range,
-    /// File offset of the RVA; 0 unless `has_place`.
-    place: u64,
+    /// File offset of the RVA; 0 unless `has_offset`.
+    offset: u64,
     /// RVA of what is exported.
     rva: u32,
     /// 1 where the RVA is mapped, else 0.
-    has_place: u32,
+    has_offset: u32,
 });
 record!(
 /// A walk over the libraries of an import directory.
@@ -490,9 +490,9 @@ Version, 52 {
 impl Range {
     /// The bytes of a range, or `None` if they are not all there.
     pub fn of<'a>(&self, bytes: &'a [u8]) -> Option<&'a [u8]> {
-        let place = usize::try_from(self.place).ok()?;
+        let offset = usize::try_from(self.offset).ok()?;
         let length = usize::try_from(self.length).ok()?;
-        bytes.get(place..place.checked_add(length)?)
+        bytes.get(offset..offset.checked_add(length)?)
     }
 }
 
@@ -519,7 +519,7 @@ macro_rules! calls_of_bytes {
 
 extern "C" {
     /// Writes the text of a result to the start of the array, truncated at its end. Returns the length of the whole text.
-    pub fn pe_c_text(answer: u32, room: *mut u8, length: usize) -> usize;
+    pub fn pe_c_text(number: u32, room: *mut u8, length: usize) -> usize;
     /// Writes the section headers to the start of an array.
     pub fn pe_c_sections(
         bytes: *const u8,
@@ -529,7 +529,7 @@ extern "C" {
         entries: usize,
     ) -> u32;
     /// Returns the file offset of an RVA.
-    pub fn pe_c_place(sections: *const Section, count: usize, file_alignment: u32, rva: u32, out: *mut u64) -> u32;
+    pub fn pe_c_offset(sections: *const Section, count: usize, file_alignment: u32, rva: u32, out: *mut u64) -> u32;
     /// Returns the fields of packed unwind data.
     pub fn pe_c_arm64_packed_fields(function: *const Arm64Function, out: *mut Arm64Packed) -> u32;
 }

@@ -1,6 +1,6 @@
 //! What all walks share: the call of a step, and that a walk is over after its end or an error.
 
-use crate::image::{answer, Error, Image};
+use crate::image::{returned, Error, Image};
 
 /// A call that takes the bytes, a record and a number, and returns a record.
 pub(crate) type Look<M, N, T> = unsafe extern "C" fn(*const u8, usize, *const M, N, *mut T) -> u32;
@@ -11,7 +11,7 @@ pub(crate) fn look<M, N, T: Default>(bytes: &[u8], call: Look<M, N, T>, more: &M
     // SAFETY: the call is one of the declarations of `sys`. The pointer and the length are those of one slice, `more`
     // and `out` are lent for the call, and the library requires nothing else.
     let number = unsafe { call(bytes.as_ptr(), bytes.len(), more, n, &mut out) };
-    answer(number, out)
+    returned(number, out)
 }
 
 /// A walk over bytes.
@@ -38,7 +38,7 @@ impl<'a, W> Walk<'a, W> {
         let mut out = T::default();
         // SAFETY: as in `look`; the walk is lent for the call too, and overlaps no other argument.
         let number = unsafe { call(self.bytes.as_ptr(), self.bytes.len(), &mut self.walk, &mut out) };
-        let item = answer(number, out).transpose();
+        let item = returned(number, out).transpose();
         self.is_over = !matches!(item, Some(Ok(_)));
         item
     }
@@ -47,7 +47,7 @@ impl<'a, W> Walk<'a, W> {
 /// Declares an iterator over bytes: its walk, its items, the call of a step, and how an item is made of what the call
 /// returned and the bytes.
 macro_rules! items {
-    ($(#[$doc:meta])* $name:ident<'a>($walk:ty): $item:ty, $call:path, $told:expr) => {
+    ($(#[$doc:meta])* $name:ident<'a>($walk:ty): $item:ty, $call:path, $reported:expr) => {
         $(#[$doc])*
         #[derive(Clone, Debug)]
         pub struct $name<'a>(crate::walk::Walk<'a, $walk>);
@@ -57,7 +57,7 @@ macro_rules! items {
 
             fn next(&mut self) -> Option<Self::Item> {
                 let bytes = self.0.bytes;
-                Some(self.0.step($call)?.and_then(|found| $told(found, bytes)))
+                Some(self.0.step($call)?.and_then(|found| $reported(found, bytes)))
             }
         }
 

@@ -16,7 +16,7 @@ fn headers_and_sections_are_read() {
     let image = strict(SMALL);
     let info = image.info();
     assert_eq!((info.machine, info.width, info.entry, info.base), (X64, 64, 0x1000, 0x1_4000_0000));
-    assert_eq!((info.sections_place, info.file_alignment), (0x148, 0x200));
+    assert_eq!((info.sections_offset, info.file_alignment), (0x148, 0x200));
     assert_eq!((info.exceptions.virtual_address, info.exceptions.size), (0x1000, 24));
     assert_eq!((info.certificates.virtual_address, info.certificates.size), (0x400, 16));
     assert_eq!((info.debug.virtual_address, info.debug.size), (0x1040, 28));
@@ -29,12 +29,12 @@ fn headers_and_sections_are_read() {
 }
 
 #[test]
-fn addresses_have_places_where_a_section_covers_them() {
+fn addresses_have_offsets_where_a_section_covers_them() {
     let image = strict(SMALL);
-    assert_eq!(image.place(0x1000), Some(0x200));
-    assert_eq!(image.place(0x1040), Some(0x240));
-    assert_eq!(image.place(0x0FFF), None);
-    assert_eq!(image.place(0xFFFF_FFFF), None);
+    assert_eq!(image.offset(0x1000), Some(0x200));
+    assert_eq!(image.offset(0x1040), Some(0x240));
+    assert_eq!(image.offset(0x0FFF), None);
+    assert_eq!(image.offset(0xFFFF_FFFF), None);
 }
 
 #[test]
@@ -93,7 +93,7 @@ fn debug_records_are_read() {
     let entries: Vec<_> = image.debug_entries().unwrap().unwrap().map(Result::unwrap).collect();
     assert_eq!(entries.iter().map(|entry| entry.data_type).collect::<Vec<_>>(), [2, 12, 13, 16, 20]);
     assert_eq!(entries[0].size_of_data, 30);
-    assert_eq!((entries[0].address_of_raw_data, entries[0].pointer_to_raw_data), (ADDRESS, PLACE));
+    assert_eq!((entries[0].address_of_raw_data, entries[0].pointer_to_raw_data), (ADDRESS, OFFSET));
     assert_eq!(entries[3].time_date_stamp, 0x5F00_0000);
     let key = image.symbol_key().unwrap().unwrap();
     assert_eq!((key.guid, key.age, key.name_bytes, key.name()), (GUID, 1, b"a.pdb\0".as_slice(), b"a.pdb".as_slice()));
@@ -159,15 +159,15 @@ fn certificates_are_read() {
 #[test]
 fn damaged_certificates_are_refused() {
     let bytes = with_certificates();
-    let start = (PLACE + 0x200) as usize;
-    for (place, value, error) in [
+    let start = (OFFSET + 0x200) as usize;
+    for (offset, value, error) in [
         (start + 5, 3, Error::CERTIFICATE_REVISION),
         (start + 6, 9, Error::CERTIFICATE_TYPE),
         (start + 2, 1, Error::CERTIFICATE_SIZE),
         (0xEC, 25, Error::CERTIFICATE_TABLE),
     ] {
         let mut damaged = bytes.clone();
-        damaged[place] = value;
+        damaged[offset] = value;
         let image = strict(&damaged);
         let found: Vec<_> = image.certificates().collect();
         assert_eq!(found, [Err(error)]);
@@ -395,7 +395,7 @@ fn exports_are_listed() {
     let bytes = with_exports();
     let image = strict(&bytes);
     let exports: Vec<_> =
-        image.exports().unwrap().unwrap().map(Result::unwrap).map(|it| (it.name, it.rva, it.place)).collect();
+        image.exports().unwrap().unwrap().map(Result::unwrap).map(|it| (it.name, it.rva, it.offset)).collect();
     assert_eq!(exports, [(b"first".as_slice(), 0x9_0000, None), (b"second".as_slice(), 0x1004, Some(0x404))]);
     assert!(strict(SMALL).exports().unwrap().is_none());
 }
@@ -420,7 +420,7 @@ fn imports_are_listed_by_library() {
 /// The error of the libraries of an image with these bytes at an RVA, and that of its imports if they can be read.
 fn import_refusals(address: u32, part: &[u8]) -> (Option<Error>, Option<Error>) {
     let mut bytes = with_imports();
-    let at = place(address) as usize;
+    let at = offset(address) as usize;
     bytes[at..at + part.len()].copy_from_slice(part);
     let image = strict(&bytes);
     let libraries = image.libraries().unwrap().unwrap();

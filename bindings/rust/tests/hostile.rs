@@ -25,10 +25,10 @@ fn every_beginning_of_an_image_is_read_or_refused() {
 #[test]
 fn every_byte_of_an_image_may_change() {
     for (_, image) in made::all() {
-        for place in 0..image.len() {
+        for offset in 0..image.len() {
             for value in [0, 1, 0x7F, 0x80, 0xFF] {
                 let mut bytes = image.clone();
-                bytes[place] = value;
+                bytes[offset] = value;
                 for mode in MODES {
                     read_all(&bytes, mode, 64);
                 }
@@ -84,9 +84,9 @@ fn walk<W, T: Default + PartialEq + std::fmt::Debug>(
 fn ranges_that_lie_are_refused() {
     let bytes = with_functions();
     let (start, length) = (bytes.as_ptr(), bytes.len());
-    for place in lies(length as u64) {
+    for offset in lies(length as u64) {
         for size in lies(length as u64) {
-            let range = sys::Range { place, length: size };
+            let range = sys::Range { offset, length: size };
             let there = range.of(&bytes).is_some();
             // SAFETY: the pointer and the length are those of one slice, and each record is lent for its call.
             unsafe {
@@ -127,19 +127,19 @@ fn walks_over_imports_that_lie_end() {
     let length = bytes.len();
     let image = Image::parse(&bytes, Mode::Strict).unwrap();
     let (info, sections) = (image.info(), image.sections());
-    for place in lies(length as u64) {
+    for offset in lies(length as u64) {
         for is_over in [0, 1, u32::MAX] {
-            let start = sys::Libraries { next: place, is_over, spare: 9 };
+            let start = sys::Libraries { next: offset, is_over, spare: 9 };
             // SAFETY: the pointers and lengths are those of slices, and the records are lent for the call.
             let first = first_of_all(length, start, |walk, out| unsafe {
                 let (bytes, sections, count) = (bytes.as_ptr(), sections.as_ptr(), sections.len());
                 sys::pe_c_next_library(bytes, length, info, sections, count, 0, walk, out)
             });
             assert!(is_over == 0 || first == 100);
-            assert!(is_over != 0 || place < length as u64 || first == 2);
+            assert!(is_over != 0 || offset < length as u64 || first == 2);
         }
         for (size, rva) in lies(length as u64).into_iter().flat_map(|it| [(it, 0), (it, u64::MAX)]) {
-            let left = sys::Range { place, length: size };
+            let left = sys::Range { offset, length: size };
             // SAFETY: as above.
             let first = first_of_all(length, sys::Imports { left, rva }, |walk, out| unsafe {
                 let (bytes, sections, count) = (bytes.as_ptr(), sections.as_ptr(), sections.len());
@@ -155,15 +155,15 @@ fn images_that_lie_are_refused() {
     let bytes = with_functions();
     let (start, length) = (bytes.as_ptr(), bytes.len());
     let mut sections = vec![sys::Section::default(); 65_535];
-    for sections_place in lies(length as u64) {
+    for sections_offset in lies(length as u64) {
         for number_of_sections in [0, 1, 2, 255, 65_534, 65_535] {
-            let image = sys::ImageInfo { sections_place, number_of_sections, ..sys::ImageInfo::default() };
+            let image = sys::ImageInfo { sections_offset, number_of_sections, ..sys::ImageInfo::default() };
             // SAFETY: the pointers and lengths are those of one slice and one vector, and the record is lent for the
             // call.
             let answer = unsafe { sys::pe_c_sections(start, length, &image, sections.as_mut_ptr(), sections.len()) };
             let there =
-                sections_place.checked_add(40 * u64::from(number_of_sections)).is_some_and(|end| end <= length as u64);
-            assert_eq!(answer == 0, there || number_of_sections == 0, "{sections_place} {number_of_sections}");
+                sections_offset.checked_add(40 * u64::from(number_of_sections)).is_some_and(|end| end <= length as u64);
+            assert_eq!(answer == 0, there || number_of_sections == 0, "{sections_offset} {number_of_sections}");
         }
     }
     let image = sys::ImageInfo { number_of_sections: 3, ..sys::ImageInfo::default() };
@@ -175,11 +175,11 @@ fn images_that_lie_are_refused() {
 #[test]
 fn no_bytes_may_be_null() {
     let mut info = sys::ImageInfo::default();
-    let mut place = 7;
+    let mut offset = 7;
     // SAFETY: slices of no entries may be null; each record is lent for its call.
     unsafe {
         assert_eq!(sys::pe_c_image(core::ptr::null(), 0, 0, &mut info), 2);
-        assert_eq!(sys::pe_c_place(core::ptr::null(), 0, 512, 0x1000, &mut place), 100);
+        assert_eq!(sys::pe_c_offset(core::ptr::null(), 0, 512, 0x1000, &mut offset), 100);
     }
-    assert_eq!((info, place), (sys::ImageInfo::default(), 7));
+    assert_eq!((info, offset), (sys::ImageInfo::default(), 7));
 }

@@ -5,9 +5,9 @@ use Rattle.pe_core.proofs.NumberBytes.{le-zero, le-cons}
 use Rattle.pe_core.specs.Bytes.{AreBytes, le}
 use Rattle.pe_core.specs.Refusals.{Refusal, outcome, ◌>>=◌}
 use Rattle.pe_core.specs.declared.section_table.SectionTable.{SectionTable}
-use Rattle.pe_unwind.proofs.Places.{given}
+use Rattle.pe_unwind.proofs.Offsets.{given}
 use Rattle.pe_unwind.specs.FunctionTable.{function_at}
-use Rattle.pe_unwind.specs.UnwindRecord.{Exception, Termination, UnwindInfoView, Ending, ending_at, unwind_tests, unwind_record, behind_codes, flags_at, is_chained, handles_exceptions, handles_termination}
+use Rattle.pe_unwind.specs.UnwindRecord.{Exception, Termination, UnwindInfoView, Ending, ending_at, unwind_tests, unwind_record, after_codes, flags_at, is_chained, handles_exceptions, handles_termination}
 use Rattle.pe_unwind.specs.declared.function_table.RuntimeFunction.{RuntimeFunction}
 use Rattle.pe_c.proofs.Ways.{GoesTo}
 use Rattle.pe_c.specs.Unwinding.{or_no_function, flat_record, flat_record_at}
@@ -52,7 +52,7 @@ small_ending b q flags small = small_by_flags b q (is_chained flags) (handles_ex
 
 small_record : (b : List ℕ) (p : ℕ) → AreBytes b → IsSmall (unwind_record b p).chained_info
 unfolding unwind_record
-small_record b p small = small_ending b (behind_codes b p) (flags_at b p) small
+small_record b p small = small_ending b (after_codes b p) (flags_at b p) small
 
 small_or_none : (o : Option RuntimeFunction) → IsSmall o → (or_no_function o).unwind_info_address < 4294967296
 small_or_none None h = omega arith
@@ -69,9 +69,9 @@ by_record b p r (Ok i) small e f =
     let info : IsSmall i.chained_info = subst (λ (j : UnwindInfoView). IsSmall j.chained_info) (given b p i e).1 (small_record b p small) in
     subst (λ (x : UnwindRecord). x.chained.unwind_info_address < 4294967296) (sym same) (small_or_none i.chained_info info)
 
-by_place : (b : List ℕ) (r : UnwindRecord) (place : Result ℕ Refusal) → AreBytes b → Ok r ≡ (place >>= flat_record_at b) → r.chained.unwind_info_address < 4294967296
-by_place b r (Err refusal) small f = absurd cc
-by_place b r (Ok p) small f = by_record b p r (outcome (unwind_tests b p) (unwind_record b p)) small refl f
+by_offset : (b : List ℕ) (r : UnwindRecord) (offset : Result ℕ Refusal) → AreBytes b → Ok r ≡ (offset >>= flat_record_at b) → r.chained.unwind_info_address < 4294967296
+by_offset b r (Err refusal) small f = absurd cc
+by_offset b r (Ok p) small f = by_record b p r (outcome (unwind_tests b p) (unwind_record b p)) small refl f
 
 pub goes_below : (b : List ℕ) (image : Image) (s : List SectionTable) (mode : ℕ) → AreBytes b → EndsBelow 4294967296 (GoesTo b image s mode)
-goes_below b image s mode small u v g = subst (λ (x : ℕ). x < 4294967296) g.3 (by_place b g.0 g.1.0 small g.1.2)
+goes_below b image s mode small u v g = subst (λ (x : ℕ). x < 4294967296) g.3 (by_offset b g.0 g.1.0 small g.1.2)

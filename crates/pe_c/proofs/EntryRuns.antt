@@ -2,31 +2,31 @@
 use Rattle.std.proofs.Common.{◌≡◌, ℕ, zero, suc, ◌+◌, ◌-◌, ◌<◌, ◌≤◌, Bool, true, false, List, [], ◌∷◌, length, Some, None, Result, Ok, Err, refl, sym, ap, subst, ◌∙◌, arith}
 use Rattle.std.specs.Prelude.{◌==◌, nat_lt, if◌then◌else◌}
 use Rattle.std.proofs.lemmas.Bool.Decides.{nat_tests}
-use Rattle.pe_core.proofs.TableEntries.{ReadsBehind, le_behind, entry_items-more, entry_items-none, entry_items-cut}
+use Rattle.pe_core.proofs.TableEntries.{ReadsAfter, le_after, entry_items-more, entry_items-none, entry_items-cut}
 use Rattle.pe_core.specs.Bytes.{holds, range}
 use Rattle.pe_core.specs.Refusals.{Refusal, Short}
 use Rattle.pe_core.specs.Rows.{entry_items}
-use Rattle.pe_records.specs.DebugDirectory.{entry_at}
+use Rattle.pe_records.specs.DebugDirectory.{debug_entry_at}
 use Rattle.pe_unwind.specs.ScopeTable.{scope_at}
 use Rattle.pe_c.proofs.LeftBytes.{long, rest_of_range}
 use Rattle.pe_c.specs.Arm64.{flat_scope_at}
-use Rattle.pe_c.specs.Ranges.{no_bytes, behind}
-use Rattle.pe_c.specs.Runs.{GivesItems, IsOver}
-use Rattle.pe_c.specs.Walks.{StepsEntries, entries_left, left_entry}
+use Rattle.pe_c.specs.Ranges.{no_bytes, range_after}
+use Rattle.pe_c.specs.Runs.{ReturnsItems, IsOver}
+use Rattle.pe_c.specs.Walks.{StepsEntries, walk_items, left_entry}
 use Rattle.pe_c.specs.declared.ranges.Range.{Range}
 
 -- ---- one step
 
-outside : (width : ℕ) (b : List ℕ) (r : Range) → holds b r.place r.length ≡ false → left_entry width b r ≡ Err Short
+outside : (width : ℕ) (b : List ℕ) (r : Range) → holds b r.offset r.length ≡ false → left_entry width b r ≡ Err Short
 outside width b r h = rw h refl
 
-at_end : (width : ℕ) (b : List ℕ) (r : Range) → holds b r.place r.length ≡ true → (r.length == 0) ≡ true → left_entry width b r ≡ Ok None
+at_end : (width : ℕ) (b : List ℕ) (r : Range) → holds b r.offset r.length ≡ true → (r.length == 0) ≡ true → left_entry width b r ≡ Ok None
 at_end width b r h e = rw h (rw e refl)
 
-cut : (width : ℕ) (b : List ℕ) (r : Range) → holds b r.place r.length ≡ true → (r.length == 0) ≡ false → nat_lt r.length width ≡ true → left_entry width b r ≡ Err Short
+cut : (width : ℕ) (b : List ℕ) (r : Range) → holds b r.offset r.length ≡ true → (r.length == 0) ≡ false → nat_lt r.length width ≡ true → left_entry width b r ≡ Err Short
 cut width b r h e l = rw h (rw e (rw l refl))
 
-whole : (width : ℕ) (b : List ℕ) (r : Range) → holds b r.place r.length ≡ true → (r.length == 0) ≡ false → nat_lt r.length width ≡ false → left_entry width b r ≡ Ok (Some (range b r.place r.length))
+whole : (width : ℕ) (b : List ℕ) (r : Range) → holds b r.offset r.length ≡ true → (r.length == 0) ≡ false → nat_lt r.length width ≡ false → left_entry width b r ≡ Ok (Some (range b r.offset r.length))
 whole width b r h e l = rw h (rw e (rw l refl))
 
 -- ---- all steps
@@ -39,8 +39,8 @@ no_bytes_left : (width : ℕ) (b : List ℕ) → left_entry width b no_bytes ≡
 no_bytes_left width b = at_end width b no_bytes (grind (arith, nat_tests)) refl
 
 -- a refused step, behind which the walk is over
-fault : {X : Type 0} (entry_at : List ℕ → ℕ → X) (width : ℕ) (b : List ℕ) (r : Range) → left_entry width b r ≡ Err Short → GivesItems (StepsEntries entry_at width b) r (Err Short ∷ [])
-fault entry_at width b r e = (
+refusal : {X : Type 0} (entry_at : List ℕ → ℕ → X) (width : ℕ) (b : List ℕ) (r : Range) → left_entry width b r ≡ Err Short → ReturnsItems (StepsEntries entry_at width b) r (Err Short ∷ [])
+refusal entry_at width b r e = (
   refl,
   λ answer next s. (
     s.0 ∙ rw e refl,
@@ -49,75 +49,75 @@ fault entry_at width b r e = (
 )
 
 -- the entries of the bytes of a range, by whether it is empty, and whether its first entry is cut
-by_tests : {X : Type 0} (entry_at : List ℕ → ℕ → X) (width : ℕ) (b : List ℕ) (r : Range) (empty short : Bool) → ReadsBehind entry_at width → 0 < width → r.place + r.length ≤ length b →
+by_tests : {X : Type 0} (entry_at : List ℕ → ℕ → X) (width : ℕ) (b : List ℕ) (r : Range) (empty short : Bool) → ReadsAfter entry_at width → 0 < width → r.offset + r.length ≤ length b →
     (r.length == 0) ≡ empty → nat_lt r.length width ≡ short →
-    (width ≤ r.length → GivesItems (StepsEntries entry_at width b) (behind r width) (entry_items entry_at width (range b (r.place + width) (r.length - width)))) →
-    GivesItems (StepsEntries entry_at width b) r (entry_items entry_at width (range b r.place r.length))
+    (width ≤ r.length → ReturnsItems (StepsEntries entry_at width b) (range_after r width) (entry_items entry_at width (range b (r.offset + width) (r.length - width)))) →
+    ReturnsItems (StepsEntries entry_at width b) r (entry_items entry_at width (range b r.offset r.length))
 by_tests {X} entry_at width b r true short reads some h e l more =
-    let there : holds b r.place r.length ≡ true = grind (arith, nat_tests) in
-    let none : length (range b r.place r.length) ≡ 0 = (let zero : r.length ≡ 0 = grind (arith, nat_tests) in long b r.place r.length h ∙ zero) in
+    let there : holds b r.offset r.length ≡ true = grind (arith, nat_tests) in
+    let none : length (range b r.offset r.length) ≡ 0 = (let zero : r.length ≡ 0 = grind (arith, nat_tests) in long b r.offset r.length h ∙ zero) in
     let left : left_entry width b r ≡ Ok None = at_end width b r there e in
-    subst (λ (items : List (Result X Refusal)). GivesItems (StepsEntries entry_at width b) r items) (sym (entry_items-none entry_at width (range b r.place r.length) some none))
+    subst (λ (items : List (Result X Refusal)). ReturnsItems (StepsEntries entry_at width b) r items) (sym (entry_items-none entry_at width (range b r.offset r.length) some none))
     (λ answer next s. (s.0 ∙ rw left refl, subst (λ (v : Range). IsOver (StepsEntries entry_at width b) v) (sym (s.1 ∙ rw left refl)) (end_is_over entry_at width b r left)))
 by_tests {X} entry_at width b r false true reads some h e l more =
-    let there : holds b r.place r.length ≡ true = grind (arith, nat_tests) in
-    let size : length (range b r.place r.length) ≡ r.length = long b r.place r.length h in
+    let there : holds b r.offset r.length ≡ true = grind (arith, nat_tests) in
+    let size : length (range b r.offset r.length) ≡ r.length = long b r.offset r.length h in
     let filled : 0 < r.length = grind (arith, nat_tests) in
     let less : r.length < width = grind (arith, nat_tests) in
-    let items : entry_items entry_at width (range b r.place r.length) ≡ Err Short ∷ [] =
-    entry_items-cut entry_at width (range b r.place r.length) [] (omega (arith, size)) (omega (arith, size)) refl
+    let items : entry_items entry_at width (range b r.offset r.length) ≡ Err Short ∷ [] =
+    entry_items-cut entry_at width (range b r.offset r.length) [] (omega (arith, size)) (omega (arith, size)) refl
     ∙ ap (λ (xs : List (Result X Refusal)). Err Short ∷ xs) (entry_items-none entry_at width [] some refl) in
-    subst (λ (xs : List (Result X Refusal)). GivesItems (StepsEntries entry_at width b) r xs) (sym items) (fault entry_at width b r (cut width b r there e l))
+    subst (λ (xs : List (Result X Refusal)). ReturnsItems (StepsEntries entry_at width b) r xs) (sym items) (refusal entry_at width b r (cut width b r there e l))
 by_tests {X} entry_at width b r false false reads some h e l more =
-    let there : holds b r.place r.length ≡ true = grind (arith, nat_tests) in
-    let size : length (range b r.place r.length) ≡ r.length = long b r.place r.length h in
+    let there : holds b r.offset r.length ≡ true = grind (arith, nat_tests) in
+    let size : length (range b r.offset r.length) ≡ r.length = long b r.offset r.length h in
     let fits : width ≤ r.length = grind (arith, nat_tests) in
-    let left : left_entry width b r ≡ Ok (Some (range b r.place r.length)) = whole width b r there e l in
-    let items : entry_items entry_at width (range b r.place r.length) ≡ Ok (entry_at (range b r.place r.length) 0) ∷ entry_items entry_at width (range b (r.place + width) (r.length - width)) =
-    entry_items-more entry_at width (range b r.place r.length) reads some (omega (arith, size))
-    ∙ ap (λ (d : List ℕ). Ok (entry_at (range b r.place r.length) 0) ∷ entry_items entry_at width d) (sym (rest_of_range b r.place r.length width h fits)) in
-    subst (λ (xs : List (Result X Refusal)). GivesItems (StepsEntries entry_at width b) r xs) (sym items)
+    let left : left_entry width b r ≡ Ok (Some (range b r.offset r.length)) = whole width b r there e l in
+    let items : entry_items entry_at width (range b r.offset r.length) ≡ Ok (entry_at (range b r.offset r.length) 0) ∷ entry_items entry_at width (range b (r.offset + width) (r.length - width)) =
+    entry_items-more entry_at width (range b r.offset r.length) reads some (omega (arith, size))
+    ∙ ap (λ (d : List ℕ). Ok (entry_at (range b r.offset r.length) 0) ∷ entry_items entry_at width d) (sym (rest_of_range b r.offset r.length width h fits)) in
+    subst (λ (xs : List (Result X Refusal)). ReturnsItems (StepsEntries entry_at width b) r xs) (sym items)
     (λ answer next s. (
       s.0 ∙ rw left refl,
-      subst (λ (v : Range). GivesItems (StepsEntries entry_at width b) v (entry_items entry_at width (range b (r.place + width) (r.length - width)))) (sym (s.1 ∙ rw left refl)) (more fits),
+      subst (λ (v : Range). ReturnsItems (StepsEntries entry_at width b) v (entry_items entry_at width (range b (r.offset + width) (r.length - width)))) (sym (s.1 ∙ rw left refl)) (more fits),
     ))
 
-gives_inside : {X : Type 0} (entry_at : List ℕ → ℕ → X) (width : ℕ) (b : List ℕ) (n : ℕ) (r : Range) → ReadsBehind entry_at width → 0 < width → r.place + r.length ≤ length b → r.length ≤ n →
-    GivesItems (StepsEntries entry_at width b) r (entry_items entry_at width (range b r.place r.length))
+gives_inside : {X : Type 0} (entry_at : List ℕ → ℕ → X) (width : ℕ) (b : List ℕ) (n : ℕ) (r : Range) → ReadsAfter entry_at width → 0 < width → r.offset + r.length ≤ length b → r.length ≤ n →
+    ReturnsItems (StepsEntries entry_at width b) r (entry_items entry_at width (range b r.offset r.length))
 gives_inside entry_at width b zero r reads some h le =
     by_tests entry_at width b r (r.length == 0) (nat_lt r.length width) reads some h refl refl (λ fits. absurd (omega arith))
 gives_inside entry_at width b (suc n) r reads some h le =
     by_tests entry_at width b r (r.length == 0) (nat_lt r.length width) reads some h refl refl
-    (λ fits. gives_inside entry_at width b n (behind r width) reads some (omega arith) (omega arith))
+    (λ fits. gives_inside entry_at width b n (range_after r width) reads some (omega arith) (omega arith))
 
-by_place : {X : Type 0} (entry_at : List ℕ → ℕ → X) (width : ℕ) (b : List ℕ) (r : Range) (there : Bool) → ReadsBehind entry_at width → 0 < width → holds b r.place r.length ≡ there →
-    GivesItems (StepsEntries entry_at width b) r (if there then entry_items entry_at width (range b r.place r.length) else Err Short ∷ [])
-by_place entry_at width b r true reads some h = gives_inside entry_at width b r.length r reads some (grind (arith, nat_tests)) (omega arith)
-by_place entry_at width b r false reads some h = fault entry_at width b r (outside width b r h)
+by_offset : {X : Type 0} (entry_at : List ℕ → ℕ → X) (width : ℕ) (b : List ℕ) (r : Range) (there : Bool) → ReadsAfter entry_at width → 0 < width → holds b r.offset r.length ≡ there →
+    ReturnsItems (StepsEntries entry_at width b) r (if there then entry_items entry_at width (range b r.offset r.length) else Err Short ∷ [])
+by_offset entry_at width b r true reads some h = gives_inside entry_at width b r.length r reads some (grind (arith, nat_tests)) (omega arith)
+by_offset entry_at width b r false reads some h = refusal entry_at width b r (outside width b r h)
 
-gives_entries : {X : Type 0} (entry_at : List ℕ → ℕ → X) (width : ℕ) → ReadsBehind entry_at width → 0 < width → (b : List ℕ) (r : Range) →
-    GivesItems (StepsEntries entry_at width b) r (entries_left entry_at width b r)
-gives_entries entry_at width reads some b r = by_place entry_at width b r (holds b r.place r.length) reads some refl
+gives_entries : {X : Type 0} (entry_at : List ℕ → ℕ → X) (width : ℕ) → ReadsAfter entry_at width → 0 < width → (b : List ℕ) (r : Range) →
+    ReturnsItems (StepsEntries entry_at width b) r (walk_items entry_at width b r)
+gives_entries entry_at width reads some b r = by_offset entry_at width b r (holds b r.offset r.length) reads some refl
 
 -- ---- the walks
 
-scope_behind : ReadsBehind scope_at 16
-scope_behind b p q e =
-    simp (le_behind b 16 p q 4 e, le_behind b 16 (p + 4) (q + 4) 4 (omega arith), le_behind b 16 (p + 8) (q + 8) 4 (omega arith), le_behind b 16 (p + 12) (q + 12) 4 (omega arith))
+scope_after : ReadsAfter scope_at 16
+scope_after b p q e =
+    simp (le_after b 16 p q 4 e, le_after b 16 (p + 4) (q + 4) 4 (omega arith), le_after b 16 (p + 8) (q + 8) 4 (omega arith), le_after b 16 (p + 12) (q + 12) 4 (omega arith))
 
-pub scopes_in_turn : (b : List ℕ) (r : Range) → GivesItems (StepsEntries scope_at 16 b) r (entries_left scope_at 16 b r)
-scopes_in_turn = gives_entries scope_at 16 scope_behind (omega arith)
+pub scopes_in_turn : (b : List ℕ) (r : Range) → ReturnsItems (StepsEntries scope_at 16 b) r (walk_items scope_at 16 b r)
+scopes_in_turn = gives_entries scope_at 16 scope_after (omega arith)
 
-arm64_scope_behind : ReadsBehind flat_scope_at 4
-arm64_scope_behind b p q e = simp (le_behind b 4 p q 4 e)
+arm64_scope_after : ReadsAfter flat_scope_at 4
+arm64_scope_after b p q e = simp (le_after b 4 p q 4 e)
 
-pub arm64_scopes_in_turn : (b : List ℕ) (r : Range) → GivesItems (StepsEntries flat_scope_at 4 b) r (entries_left flat_scope_at 4 b r)
-arm64_scopes_in_turn = gives_entries flat_scope_at 4 arm64_scope_behind (omega arith)
+pub arm64_scopes_in_turn : (b : List ℕ) (r : Range) → ReturnsItems (StepsEntries flat_scope_at 4 b) r (walk_items flat_scope_at 4 b r)
+arm64_scopes_in_turn = gives_entries flat_scope_at 4 arm64_scope_after (omega arith)
 
-entry_behind : ReadsBehind (entry_at 0) 28
-unfolding entry_at
-entry_behind b p q e =
-    simp (le_behind b 28 p q 4 e, le_behind b 28 (p + 4) (q + 4) 4 (omega arith), le_behind b 28 (p + 8) (q + 8) 2 (omega arith), le_behind b 28 (p + 10) (q + 10) 2 (omega arith), le_behind b 28 (p + 12) (q + 12) 4 (omega arith), le_behind b 28 (p + 16) (q + 16) 4 (omega arith), le_behind b 28 (p + 20) (q + 20) 4 (omega arith), le_behind b 28 (p + 24) (q + 24) 4 (omega arith))
+entry_after : ReadsAfter (debug_entry_at 0) 28
+unfolding debug_entry_at
+entry_after b p q e =
+    simp (le_after b 28 p q 4 e, le_after b 28 (p + 4) (q + 4) 4 (omega arith), le_after b 28 (p + 8) (q + 8) 2 (omega arith), le_after b 28 (p + 10) (q + 10) 2 (omega arith), le_after b 28 (p + 12) (q + 12) 4 (omega arith), le_after b 28 (p + 16) (q + 16) 4 (omega arith), le_after b 28 (p + 20) (q + 20) 4 (omega arith), le_after b 28 (p + 24) (q + 24) 4 (omega arith))
 
-pub debug_entries_in_turn : (b : List ℕ) (r : Range) → GivesItems (StepsEntries (entry_at 0) 28 b) r (entries_left (entry_at 0) 28 b r)
-debug_entries_in_turn = gives_entries (entry_at 0) 28 entry_behind (omega arith)
+pub debug_entries_in_turn : (b : List ℕ) (r : Range) → ReturnsItems (StepsEntries (debug_entry_at 0) 28 b) r (walk_items (debug_entry_at 0) 28 b r)
+debug_entries_in_turn = gives_entries (debug_entry_at 0) 28 entry_after (omega arith)

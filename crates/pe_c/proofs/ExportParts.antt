@@ -7,14 +7,14 @@ use Rattle.std.proofs.lemmas.Bool.Decides.{nat_tests}
 use Rattle.std.proofs.lemmas.List.{places, same_lists}
 use Rattle.std.proofs.lemmas.List.Quantifiers.{position-Some}
 use Rattle.pe_core.specs.Bytes.{le, range, record_at}
-use Rattle.pe_core.specs.Exports.{ExportDataView, entry_of, export_at, export_data_at, named_export, table_at}
+use Rattle.pe_core.specs.Exports.{ExportDataView, table_entry, export_at, export_data_at, named_export, table_at}
 use Rattle.pe_core.specs.Records.{export_directory}
 use Rattle.pe_core.specs.Refusals.{Refusal, ◌>>=◌}
 use Rattle.pe_core.specs.SectionMap.{mapped}
 use Rattle.pe_core.specs.Text.{text_at, text_of, text_to_zero}
 use Rattle.pe_core.specs.declared.export.ExportDirectoryTable.{ExportDirectoryTable}
-use Rattle.pe_c.specs.Exports.{export_told, told_entry, walk_over, with_tables}
-use Rattle.pe_c.specs.Parts.{HasTables, TellsExport}
+use Rattle.pe_c.specs.Exports.{export_reported, reported_entry, walk_over, with_tables}
+use Rattle.pe_c.specs.Parts.{HasTables, ReportsExport}
 use Rattle.pe_c.specs.Ranges.{IsRange, no_bytes, range_from}
 
 pub range_length : (b : List ℕ) (p n : ℕ) → p + n ≤ length b → length (slice_range b p (p + n)) ≡ n
@@ -28,43 +28,43 @@ front_is_range b p n h = rw (length-take-le n (drop p b) h) (same_lists _ _ (gri
 front_is_inside : (b : List ℕ) (p n : ℕ) → n < length (drop p b) → p + length (take n (drop p b)) ≤ length b
 front_is_inside b p n h = let long : length (drop p b) ≡ length b - p = length-drop p b in omega (arith, long, length-take-le n (drop p b) (omega arith))
 
-front_stands : (b : List ℕ) (p n : ℕ) (name : List ℕ) (utf8 : Bool) → n < length (drop p b) → if◌then◌else◌ utf8 (Some (take n (drop p b))) None ≡ Some name → IsRange b (record { place = p; length = length name }) name
+front_stands : (b : List ℕ) (p n : ℕ) (name : List ℕ) (utf8 : Bool) → n < length (drop p b) → if◌then◌else◌ utf8 (Some (take n (drop p b))) None ≡ Some name → IsRange b (record { offset = p; length = length name }) name
 front_stands b p n name true h e =
     let same : take n (drop p b) ≡ name = cc in
-    subst (λ (x : List ℕ). IsRange b (record { place = p; length = length x }) x) same (record { inside = front_is_inside b p n h; same = front_is_range b p n (omega arith) })
+    subst (λ (x : List ℕ). IsRange b (record { offset = p; length = length x }) x) same (record { inside = front_is_inside b p n h; same = front_is_range b p n (omega arith) })
 front_stands b p n name false h e = absurd cc
 
-text_by : (b : List ℕ) (p : ℕ) (name : List ℕ) (at : Option ℕ) → position (λ c. c == 0) (drop p b) ≡ at → option_and_then (λ n. text_of (take n (drop p b))) at ≡ Some name → IsRange b (record { place = p; length = length name }) name
+text_by : (b : List ℕ) (p : ℕ) (name : List ℕ) (at : Option ℕ) → position (λ c. c == 0) (drop p b) ≡ at → option_and_then (λ n. text_of (take n (drop p b))) at ≡ Some name → IsRange b (record { offset = p; length = length name }) name
 text_by b p name None found e = absurd cc
 text_by b p name (Some n) found e = front_stands b p n name (is_utf8 (take n (drop p b))) (position-Some (λ c. c == 0) (drop p b) n 0 found).0 e
 
-pub text_stands : (b : List ℕ) (p : ℕ) (name : List ℕ) → text_at b p ≡ Some name → IsRange b (record { place = p; length = length name }) name
+pub text_stands : (b : List ℕ) (p : ℕ) (name : List ℕ) → text_at b p ≡ Some name → IsRange b (record { offset = p; length = length name }) name
 unfolding text_to_zero
 text_stands b p name e = text_by b p name (position (λ c. c == 0) (drop p b)) refl e
 
 -- ---- exports
 
-by_address : (place : ℕ → Option ℕ) (b : List ℕ) (p : ℕ) (name : List ℕ) (rva : Option ℕ) → text_at b p ≡ Some name →
-    TellsExport b
-    (option_map (export_told p) (option_map (λ r. record { name = name; rva = r; offset = place r }) rva))
-    (option_map (λ r. record { name = name; rva = r; offset = place r }) rva)
-by_address place b p name None e = tt
-by_address place b p name (Some rva) e = (text_stands b p name e, refl, refl, refl)
+by_address : (offset : ℕ → Option ℕ) (b : List ℕ) (p : ℕ) (name : List ℕ) (rva : Option ℕ) → text_at b p ≡ Some name →
+    ReportsExport b
+    (option_map (export_reported p) (option_map (λ r. record { name = name; rva = r; offset = offset r }) rva))
+    (option_map (λ r. record { name = name; rva = r; offset = offset r }) rva)
+by_address offset b p name None e = tt
+by_address offset b p name (Some rva) e = (text_stands b p name e, refl, refl, refl)
 
-by_text : (place : ℕ → Option ℕ) (b : List ℕ) (d : ExportDataView) (i p : ℕ) (name : Option (List ℕ)) → text_at b p ≡ name →
-    TellsExport b (option_map (export_told p) (option_and_then (named_export place d i) name)) (option_and_then (named_export place d i) name)
-by_text place b d i p None e = tt
-by_text place b d i p (Some name) e = by_address place b p name (option_and_then (entry_of 4 d.addresses) (entry_of 2 d.ordinals i)) e
+by_text : (offset : ℕ → Option ℕ) (b : List ℕ) (d : ExportDataView) (i p : ℕ) (name : Option (List ℕ)) → text_at b p ≡ name →
+    ReportsExport b (option_map (export_reported p) (option_and_then (named_export offset d i) name)) (option_and_then (named_export offset d i) name)
+by_text offset b d i p None e = tt
+by_text offset b d i p (Some name) e = by_address offset b p name (option_and_then (table_entry 4 d.addresses) (table_entry 2 d.ordinals i)) e
 
-by_place : (place : ℕ → Option ℕ) (b : List ℕ) (d : ExportDataView) (i : ℕ) (at : Option ℕ) →
-    TellsExport b
-    (option_and_then (λ p. option_map (export_told p) (option_and_then (named_export place d i) (text_at b p))) at)
-    (option_and_then (named_export place d i) (option_and_then (text_at b) at))
-by_place place b d i None = tt
-by_place place b d i (Some p) = by_text place b d i p (text_at b p) refl
+by_offset : (offset : ℕ → Option ℕ) (b : List ℕ) (d : ExportDataView) (i : ℕ) (at : Option ℕ) →
+    ReportsExport b
+    (option_and_then (λ p. option_map (export_reported p) (option_and_then (named_export offset d i) (text_at b p))) at)
+    (option_and_then (named_export offset d i) (option_and_then (text_at b) at))
+by_offset offset b d i None = tt
+by_offset offset b d i (Some p) = by_text offset b d i p (text_at b p) refl
 
-pub tells : (place : ℕ → Option ℕ) (b : List ℕ) (d : ExportDataView) (i : ℕ) → TellsExport b (told_entry place b (with_tables d.names d.ordinals d.addresses) i) (export_at place b d i)
-tells place b d i = by_place place b d i (place (le d.names (4 * i) 4))
+pub reports : (offset : ℕ → Option ℕ) (b : List ℕ) (d : ExportDataView) (i : ℕ) → ReportsExport b (reported_entry offset b (with_tables d.names d.ordinals d.addresses) i) (export_at offset b d i)
+reports offset b d i = by_offset offset b d i (offset (le d.names (4 * i) 4))
 
 -- ---- tables
 
@@ -72,10 +72,10 @@ table_mapped : (b : List ℕ) (n : ℕ) (at : Option ℕ) (t : List ℕ) → (ma
 table_mapped b n None t e = absurd cc
 table_mapped b n (Some p) t e = record { inside = grind (arith, nat_tests); same = grind (arith, nat_tests) }
 
-table_by : (place : ℕ → Option ℕ) (b : List ℕ) (rva n : ℕ) (none : Bool) (t : List ℕ) → (if none then Ok [] else (mapped (place rva) >>= λ p. record_at b p n (range b p n))) ≡ Ok t →
-    IsRange b (if none then no_bytes else range_from n (place rva)) t
-table_by place b rva n true t e = let same : [] ≡ t = cc in subst (IsRange b no_bytes) same (record { inside = omega arith; same = refl })
-table_by place b rva n false t e = table_mapped b n (place rva) t e
+table_by : (offset : ℕ → Option ℕ) (b : List ℕ) (rva n : ℕ) (none : Bool) (t : List ℕ) → (if none then Ok [] else (mapped (offset rva) >>= λ p. record_at b p n (range b p n))) ≡ Ok t →
+    IsRange b (if none then no_bytes else range_from n (offset rva)) t
+table_by offset b rva n true t e = let same : [] ≡ t = cc in subst (IsRange b no_bytes) same (record { inside = omega arith; same = refl })
+table_by offset b rva n false t e = table_mapped b n (offset rva) t e
 
 pub given : {X Y : Type 0} (r : Result X Refusal) (f : X → Result Y Refusal) (y : Y) → (r >>= f) ≡ Ok y → (x : X) × (r ≡ Ok x) × (f x ≡ Ok y)
 given (Ok x) f y e = (x, refl, e)
@@ -84,17 +84,17 @@ given (Err r) f y e = absurd cc
 pub same_inside : {X : Type 0} (x y : X) → ◌≡◌ {A = Result X Refusal} (Ok x) (Ok y) → x ≡ y
 same_inside x y e = cc
 
-pub tables_stand : (place : ℕ → Option ℕ) (b : List ℕ) (rva : ℕ) (d : ExportDataView) → export_data_at place b rva ≡ Ok d → HasTables b (walk_over place d) d
+pub tables_stand : (offset : ℕ → Option ℕ) (b : List ℕ) (rva : ℕ) (d : ExportDataView) → export_data_at offset b rva ≡ Ok d → HasTables b (walk_over offset d) d
 unfolding export_data_at
-tables_stand place b rva d e =
-    let p = given (mapped (place rva)) _ d e in
+tables_stand offset b rva d e =
+    let p = given (mapped (offset rva)) _ d e in
     let directory = given (record_at b p.0 40 (export_directory b p.0)) _ d p.2 in
     let t : ExportDirectoryTable = directory.0 in
-    let addresses = given (table_at place b t.address_table_rva (4 * t.address_table_entries)) _ d directory.2 in
-    let names = given (table_at place b t.name_pointer_rva (4 * t.number_of_name_pointers)) _ d addresses.2 in
-    let ordinals = given (table_at place b t.ordinal_table_rva (2 * t.number_of_name_pointers)) _ d names.2 in
-    subst (λ (x : ExportDataView). HasTables b (walk_over place x) x) (same_inside _ d ordinals.2) (record {
-      names = table_by place b t.name_pointer_rva (4 * t.number_of_name_pointers) (4 * t.number_of_name_pointers == 0) names.0 names.1;
-      ordinals = table_by place b t.ordinal_table_rva (2 * t.number_of_name_pointers) (2 * t.number_of_name_pointers == 0) ordinals.0 ordinals.1;
-      addresses = table_by place b t.address_table_rva (4 * t.address_table_entries) (4 * t.address_table_entries == 0) addresses.0 addresses.1;
+    let addresses = given (table_at offset b t.address_table_rva (4 * t.address_table_entries)) _ d directory.2 in
+    let names = given (table_at offset b t.name_pointer_rva (4 * t.number_of_name_pointers)) _ d addresses.2 in
+    let ordinals = given (table_at offset b t.ordinal_table_rva (2 * t.number_of_name_pointers)) _ d names.2 in
+    subst (λ (x : ExportDataView). HasTables b (walk_over offset x) x) (same_inside _ d ordinals.2) (record {
+      names = table_by offset b t.name_pointer_rva (4 * t.number_of_name_pointers) (4 * t.number_of_name_pointers == 0) names.0 names.1;
+      ordinals = table_by offset b t.ordinal_table_rva (2 * t.number_of_name_pointers) (2 * t.number_of_name_pointers == 0) ordinals.0 ordinals.1;
+      addresses = table_by offset b t.address_table_rva (4 * t.address_table_entries) (4 * t.address_table_entries == 0) addresses.0 addresses.1;
     })

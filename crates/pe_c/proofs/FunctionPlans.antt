@@ -12,17 +12,17 @@ use Rattle.pe_unwind.proofs.ExceptionBytes.{in_directory}
 use Rattle.pe_unwind.specs.ExceptionTable.{ExceptionView}
 use Rattle.pe_unwind.specs.Links.{Table, links_of}
 use Rattle.pe_unwind.specs.UnwindRecord.{UnwindInfoView, unwind_tests, unwind_record}
-use Rattle.pe_unwind.specs.Unwinding.{FindsRecord, Unwinds, record_at_place, record_at_address}
+use Rattle.pe_unwind.specs.Unwinding.{FindsRecord, Unwinds, record_at_offset, record_at_address}
 use Rattle.pe_unwind.specs.declared.function_table.RuntimeFunction.{RuntimeFunction}
 use Rattle.pe_plan.specs.Plans.{IsChain, PlansFrom}
 use Rattle.pe_plan.specs.PlanSteps.{Counts}
-use Rattle.pe_plan.proofs.Marks.{Marked, starts, keeps, moves, comes_again, comes_to_root, comes_to_fault}
+use Rattle.pe_plan.proofs.Marks.{Marked, starts, keeps, moves, comes_again, comes_to_root, comes_to_refusal}
 use Rattle.pe_plan.proofs.OnePlan.{one_plan}
 use Rattle.pe_plan.proofs.RecordLaw.{RecordLaw}
 use Rattle.pe_plan.proofs.Walks.{counted}
 use Rattle.pe_c.specs.Modes.{options_of}
-use Rattle.pe_c.specs.Plans.{AnswersBehind, GivesInTurn, StepsIf, StepsPlan, TellsUnwindRecord, ended, ending_of, gives, goes_on, leaves, plan_from}
-use Rattle.pe_c.specs.Unwinding.{FindsPlaceIn, FollowsToRecord, image_exceptions, flat_record, flat_record_at, is_some_number, or_no_function}
+use Rattle.pe_c.specs.Plans.{HandsOutAfter, ReturnsInTurn, StepsIf, StepsPlan, ReportsUnwindRecord, ended, ending_of, plan_result, goes_on, leaves, plan_from}
+use Rattle.pe_c.specs.Unwinding.{FindsOffsetIn, FollowsToRecord, image_exceptions, flat_record, flat_record_at, is_some_number, or_no_function}
 use Rattle.pe_c.specs.declared.image.Image.{Image}
 use Rattle.pe_c.specs.declared.plan.Plan.{Plan}
 use Rattle.pe_c.specs.declared.unwinding.UnwindRecord.{UnwindRecord}
@@ -31,35 +31,35 @@ use Rattle.pe_c.proofs.PlanSteps.{over_gives}
 -- ---- the record of an address
 
 -- what asking for a record answers, told
-abbrev Tells : List ℕ → Result UnwindRecord Refusal → Result UnwindInfoView Refusal → Type 0
-Tells b (Ok r) (Ok i) = TellsUnwindRecord b r i
-Tells b (Ok r) (Err k) = ⊥
-Tells b (Err e) (Ok i) = ⊥
-Tells b (Err e) (Err k) = k ≡ e
+abbrev Reports : List ℕ → Result UnwindRecord Refusal → Result UnwindInfoView Refusal → Type 0
+Reports b (Ok r) (Ok i) = ReportsUnwindRecord b r i
+Reports b (Ok r) (Err k) = ⊥
+Reports b (Err e) (Ok i) = ⊥
+Reports b (Err e) (Err k) = k ≡ e
 
-tells_record : (b : List ℕ) (p : ℕ) (x : Result UnwindInfoView Refusal) → outcome (unwind_tests b p) (unwind_record b p) ≡ x → Tells b (x >>= λ i. Ok (flat_record b p i)) x
-tells_record b p (Ok i) e = (p, e, refl)
-tells_record b p (Err k) e = refl
+reports_record : (b : List ℕ) (p : ℕ) (x : Result UnwindInfoView Refusal) → outcome (unwind_tests b p) (unwind_record b p) ≡ x → Reports b (x >>= λ i. Ok (flat_record b p i)) x
+reports_record b p (Ok i) e = (p, e, refl)
+reports_record b p (Err k) e = refl
 
-tells_at_place : (b : List ℕ) (place : Option ℕ) → Tells b (mapped place >>= flat_record_at b) (record_at_place b place)
-tells_at_place b None = refl
-tells_at_place b (Some p) = tells_record b p (outcome (unwind_tests b p) (unwind_record b p)) refl
+reports_at_offset : (b : List ℕ) (offset : Option ℕ) → Reports b (mapped offset >>= flat_record_at b) (record_at_offset b offset)
+reports_at_offset b None = refl
+reports_at_offset b (Some p) = reports_record b p (outcome (unwind_tests b p) (unwind_record b p)) refl
 
-tells_at_end : (t : Table) (b : List ℕ) (end : Result ℕ Refusal) → Tells b ((end >>= λ a. mapped (t.place a)) >>= flat_record_at b) (end >>= record_at_address t b)
-tells_at_end t b (Ok a) = tells_at_place b (t.place a)
-tells_at_end t b (Err k) = refl
+reports_at_end : (t : Table) (b : List ℕ) (end : Result ℕ Refusal) → Reports b ((end >>= λ a. mapped (t.offset a)) >>= flat_record_at b) (end >>= record_at_address t b)
+reports_at_end t b (Ok a) = reports_at_offset b (t.offset a)
+reports_at_end t b (Err k) = refl
 
 -- the record that an unwind address has
 record Found (t : Table) (b : List ℕ) (u : ℕ) (next : Result UnwindRecord Refusal) : Type 0 where
   answer : Result UnwindInfoView Refusal
   unwinds : Unwinds t b u answer
-  tells : Tells b next answer
+  reports : Reports b next answer
 
-found_at : (t : Table) (b : List ℕ) (u : ℕ) (place : Result ℕ Refusal) (next : Result UnwindRecord Refusal) → FindsRecord t u place → next ≡ (place >>= flat_record_at b) → Found t b u next
-found_at t b u place next f is = record {
+found_at : (t : Table) (b : List ℕ) (u : ℕ) (offset : Result ℕ Refusal) (next : Result UnwindRecord Refusal) → FindsRecord t u offset → next ≡ (offset >>= flat_record_at b) → Found t b u next
+found_at t b u offset next f is = record {
   answer = f.0 >>= record_at_address t b;
   unwinds = (f.0, f.1, refl);
-  tells = subst (λ (x : Result UnwindRecord Refusal). Tells b x (f.0 >>= record_at_address t b)) (sym (is ∙ ap (λ (y : Result ℕ Refusal). y >>= flat_record_at b) f.2)) (tells_at_end t b f.0);
+  reports = subst (λ (x : Result UnwindRecord Refusal). Reports b x (f.0 >>= record_at_address t b)) (sym (is ∙ ap (λ (y : Result ℕ Refusal). y >>= flat_record_at b) f.2)) (reports_at_end t b f.0);
 }
 
 -- the image has this table, with these links
@@ -70,7 +70,7 @@ record Has (t : Table) (b : List ℕ) (image : Image) (s : List SectionTable) (m
 
 found : (t : Table) (b : List ℕ) (image : Image) (s : List SectionTable) (mode u : ℕ) (next : Result UnwindRecord Refusal) → Has t b image s mode → FollowsToRecord b image s mode u next → Found t b u next
 found t b image s mode u next h f =
-    let finds : FindsPlaceIn (Ok h.view) s mode u f.0 = subst (λ (x : Result ExceptionView Refusal). FindsPlaceIn x s mode u f.0) h.there f.1 in
+    let finds : FindsOffsetIn (Ok h.view) s mode u f.0 = subst (λ (x : Result ExceptionView Refusal). FindsOffsetIn x s mode u f.0) h.there f.1 in
     found_at t b u f.0 next (subst (λ (x : Table). FindsRecord x u f.0) h.links finds) f.2
 
 -- ---- one step
@@ -82,126 +82,126 @@ all_zip_more R (z ∷ xs) [] x y a r = absurd a
 all_zip_more R (z ∷ xs) (w ∷ ys) x y a r = (a.0, all_zip_more R xs ys x y a.1 r)
 
 -- a plan that stands at a function of the chain, behind the records that it told
-record Stands (t : Table) (b : List ℕ) (f : RuntimeFunction) (told : List UnwindRecord) (p : Plan) : Type 0 where
+record Stands (t : Table) (b : List ℕ) (f : RuntimeFunction) (reported : List UnwindRecord) (p : Plan) : Type 0 where
   records : List UnwindInfoView
-  tells : AllZip (TellsUnwindRecord b) told records
+  reports : AllZip (ReportsUnwindRecord b) reported records
   current : RuntimeFunction
   way : Marked t b f records current p.saved
   here : current.unwind_info_address ≡ p.unwind
   not_over : p.is_over ≡ 0
 
 -- all records were told
-record Told (t : Table) (b : List ℕ) (f : RuntimeFunction) (told : List UnwindRecord) : Type 0 where
+record Reported (t : Table) (b : List ℕ) (f : RuntimeFunction) (reported : List UnwindRecord) : Type 0 where
   records : List UnwindInfoView
-  tells : AllZip (TellsUnwindRecord b) told records
+  reports : AllZip (ReportsUnwindRecord b) reported records
   chain : IsChain t b (Some f) records None
 
 abbrev GoesOn : Table → List ℕ → RuntimeFunction → List UnwindRecord → Plan → Type 0
-GoesOn t b f told p = Stands t b f told p ⊎ ((p.is_over ≡ 1) × Told t b f told)
+GoesOn t b f reported p = Stands t b f reported p ⊎ ((p.is_over ≡ 1) × Reported t b f reported)
 
 -- what a step answers behind told records, and where it leaves the plan
 abbrev Steps : Table → List ℕ → RuntimeFunction → List UnwindRecord → Result (Option UnwindRecord) Refusal → Plan → Type 0
-Steps t b f told (Ok None) q = Told t b f told
-Steps t b f told (Ok (Some r)) q = GoesOn t b f (told ++ r ∷ []) q
-Steps t b f told (Err e) q = Counts t b f (Err e)
+Steps t b f reported (Ok None) q = Reported t b f reported
+Steps t b f reported (Ok (Some r)) q = GoesOn t b f (reported ++ r ∷ []) q
+Steps t b f reported (Err e) q = Counts t b f (Err e)
 
-saved_or_not : (t : Table) (b : List ℕ) (f current next : RuntimeFunction) (is : List UnwindInfoView) (i : UnwindInfoView) (told : List UnwindRecord) (p : Plan) (saves : Bool) →
-    Marked t b f is current p.saved → p.is_over ≡ 0 → Unwinds t b current.unwind_info_address (Ok i) → i.chained_info ≡ Some next → AllZip (TellsUnwindRecord b) told (is ++ i ∷ []) →
-    Stands t b f told (if saves then record p { unwind = next.unwind_info_address; saved = next.unwind_info_address; steps = 0; limit = min (2 * p.limit) 18446744073709551615 } else record p { unwind = next.unwind_info_address; steps = p.steps + 1 })
-saved_or_not t b f current next is i told p true m n u to tells = record {
+saved_or_not : (t : Table) (b : List ℕ) (f current next : RuntimeFunction) (is : List UnwindInfoView) (i : UnwindInfoView) (reported : List UnwindRecord) (p : Plan) (saves : Bool) →
+    Marked t b f is current p.saved → p.is_over ≡ 0 → Unwinds t b current.unwind_info_address (Ok i) → i.chained_info ≡ Some next → AllZip (ReportsUnwindRecord b) reported (is ++ i ∷ []) →
+    Stands t b f reported (if saves then record p { unwind = next.unwind_info_address; saved = next.unwind_info_address; steps = 0; limit = min (2 * p.limit) 18446744073709551615 } else record p { unwind = next.unwind_info_address; steps = p.steps + 1 })
+saved_or_not t b f current next is i reported p true m n u to reports = record {
   records = is ++ i ∷ [];
-  tells = tells;
+  reports = reports;
   current = next;
   way = moves t b f current next is i p.saved m u to;
   here = refl;
   not_over = n;
 }
-saved_or_not t b f current next is i told p false m n u to tells = record {
+saved_or_not t b f current next is i reported p false m n u to reports = record {
   records = is ++ i ∷ [];
-  tells = tells;
+  reports = reports;
   current = next;
   way = keeps t b f current next is i p.saved m u to;
   here = refl;
   not_over = n;
 }
 
-by_root : (t : Table) (b : List ℕ) (f : RuntimeFunction) (told : List UnwindRecord) (p : Plan) (r : UnwindRecord) (root met : Bool) → root ≡ true → Told t b f (told ++ r ∷ []) →
-    Steps t b f told (if root then Ok (Some r) else (if met then Err FunctionCycle else Ok (Some r)))
+by_root : (t : Table) (b : List ℕ) (f : RuntimeFunction) (reported : List UnwindRecord) (p : Plan) (r : UnwindRecord) (root met : Bool) → root ≡ true → Reported t b f (reported ++ r ∷ []) →
+    Steps t b f reported (if root then Ok (Some r) else (if met then Err FunctionCycle else Ok (Some r)))
     (if root then ended p else (if met then ended p else goes_on p r.chained.unwind_info_address))
-by_root t b f told p r true met e all = inr (refl, all)
-by_root t b f told p r false met e all = absurd cc
+by_root t b f reported p r true met e all = inr (refl, all)
+by_root t b f reported p r false met e all = absurd cc
 
-by_more : (t : Table) (b : List ℕ) (f : RuntimeFunction) (told : List UnwindRecord) (p : Plan) (r : UnwindRecord) (root met : Bool) → root ≡ false →
-    (met ≡ true → Counts t b f (Err FunctionCycle)) → Stands t b f (told ++ r ∷ []) (goes_on p r.chained.unwind_info_address) →
-    Steps t b f told (if root then Ok (Some r) else (if met then Err FunctionCycle else Ok (Some r)))
+by_more : (t : Table) (b : List ℕ) (f : RuntimeFunction) (reported : List UnwindRecord) (p : Plan) (r : UnwindRecord) (root met : Bool) → root ≡ false →
+    (met ≡ true → Counts t b f (Err FunctionCycle)) → Stands t b f (reported ++ r ∷ []) (goes_on p r.chained.unwind_info_address) →
+    Steps t b f reported (if root then Ok (Some r) else (if met then Err FunctionCycle else Ok (Some r)))
     (if root then ended p else (if met then ended p else goes_on p r.chained.unwind_info_address))
-by_more t b f told p r true met e cycle more = absurd cc
-by_more t b f told p r false true e cycle more = cycle refl
-by_more t b f told p r false false e cycle more = inl more
+by_more t b f reported p r true met e cycle more = absurd cc
+by_more t b f reported p r false true e cycle more = cycle refl
+by_more t b f reported p r false false e cycle more = inl more
 
 -- a record that is told
-by_record : (t : Table) (b : List ℕ) (f : RuntimeFunction) (told : List UnwindRecord) (p : Plan) (w : Stands t b f told p) (r : UnwindRecord) (i : UnwindInfoView) (o : Option RuntimeFunction) →
-    Unwinds t b (w.current).unwind_info_address (Ok i) → TellsUnwindRecord b r i → i.chained_info ≡ o → r.is_chained ≡ is_some_number o → r.chained ≡ or_no_function o →
-    Steps t b f told (gives p (Ok r)) (leaves p (Ok r))
-by_record t b f told p w r i None u tells is flag chained =
-    by_root t b f told p r (r.is_chained == 0) (r.chained.unwind_info_address == p.saved) (grind (arith, nat_tests, flag))
+by_record : (t : Table) (b : List ℕ) (f : RuntimeFunction) (reported : List UnwindRecord) (p : Plan) (w : Stands t b f reported p) (r : UnwindRecord) (i : UnwindInfoView) (o : Option RuntimeFunction) →
+    Unwinds t b (w.current).unwind_info_address (Ok i) → ReportsUnwindRecord b r i → i.chained_info ≡ o → r.is_chained ≡ is_some_number o → r.chained ≡ or_no_function o →
+    Steps t b f reported (plan_result p (Ok r)) (leaves p (Ok r))
+by_record t b f reported p w r i None u reports is flag chained =
+    by_root t b f reported p r (r.is_chained == 0) (r.chained.unwind_info_address == p.saved) (grind (arith, nat_tests, flag))
     (record {
       records = w.records ++ i ∷ [];
-      tells = all_zip_more (TellsUnwindRecord b) told w.records r i w.tells tells;
+      reports = all_zip_more (ReportsUnwindRecord b) reported w.records r i w.reports reports;
       chain = comes_to_root t b f w.current w.records i p.saved w.way u is;
     })
-by_record t b f told p w r i (Some next) u tells is flag chained =
-    by_more t b f told p r (r.is_chained == 0) (r.chained.unwind_info_address == p.saved) (grind (arith, nat_tests, flag))
+by_record t b f reported p w r i (Some next) u reports is flag chained =
+    by_more t b f reported p r (r.is_chained == 0) (r.chained.unwind_info_address == p.saved) (grind (arith, nat_tests, flag))
     (λ met. comes_again t b f w.current next w.records i p.saved w.way u is (sym (ap (λ (g : RuntimeFunction). g.unwind_info_address) chained) ∙ eqb-true _ _ met))
-    (subst (λ (g : RuntimeFunction). Stands t b f (told ++ r ∷ []) (goes_on p g.unwind_info_address)) (sym chained)
-    (saved_or_not t b f w.current next w.records i (told ++ r ∷ []) p (nat_le p.limit (p.steps + 1)) w.way w.not_over u is (all_zip_more (TellsUnwindRecord b) told w.records r i w.tells tells)))
+    (subst (λ (g : RuntimeFunction). Stands t b f (reported ++ r ∷ []) (goes_on p g.unwind_info_address)) (sym chained)
+    (saved_or_not t b f w.current next w.records i (reported ++ r ∷ []) p (nat_le p.limit (p.steps + 1)) w.way w.not_over u is (all_zip_more (ReportsUnwindRecord b) reported w.records r i w.reports reports)))
 
-by_answer : (law : RecordLaw) (t : Table) (b : List ℕ) (f : RuntimeFunction) (told : List UnwindRecord) (p : Plan) (w : Stands t b f told p) (next : Result UnwindRecord Refusal) (x : Result UnwindInfoView Refusal) →
-    Unwinds t b (w.current).unwind_info_address x → Tells b next x → Steps t b f told (gives p next) (leaves p next)
-by_answer law t b f told p w (Ok r) (Ok i) u tells =
-    by_record t b f told p w r i i.chained_info u tells refl (ap (λ (y : UnwindRecord). y.is_chained) tells.2) (ap (λ (y : UnwindRecord). y.chained) tells.2)
-by_answer law t b f told p w (Ok r) (Err k) u tells = absurd tells
-by_answer law t b f told p w (Err e) (Ok i) u tells = absurd tells
-by_answer law t b f told p w (Err e) (Err k) u tells =
-    subst (λ (x : Refusal). Counts t b f (Err x)) tells (comes_to_fault law t b f w.current w.records k p.saved w.way u)
+by_answer : (law : RecordLaw) (t : Table) (b : List ℕ) (f : RuntimeFunction) (reported : List UnwindRecord) (p : Plan) (w : Stands t b f reported p) (next : Result UnwindRecord Refusal) (x : Result UnwindInfoView Refusal) →
+    Unwinds t b (w.current).unwind_info_address x → Reports b next x → Steps t b f reported (plan_result p next) (leaves p next)
+by_answer law t b f reported p w (Ok r) (Ok i) u reports =
+    by_record t b f reported p w r i i.chained_info u reports refl (ap (λ (y : UnwindRecord). y.is_chained) reports.2) (ap (λ (y : UnwindRecord). y.chained) reports.2)
+by_answer law t b f reported p w (Ok r) (Err k) u reports = absurd reports
+by_answer law t b f reported p w (Err e) (Ok i) u reports = absurd reports
+by_answer law t b f reported p w (Err e) (Err k) u reports =
+    subst (λ (x : Refusal). Counts t b f (Err x)) reports (comes_to_refusal law t b f w.current w.records k p.saved w.way u)
 
-by_step : (law : RecordLaw) (t : Table) (b : List ℕ) (image : Image) (s : List SectionTable) (mode : ℕ) (f : RuntimeFunction) (told : List UnwindRecord) (p q : Plan) (next : Result UnwindRecord Refusal) (answer : Result (Option UnwindRecord) Refusal) →
-    Has t b image s mode → Stands t b f told p → FollowsToRecord b image s mode p.unwind next → answer ≡ gives p next → q ≡ leaves p next → Steps t b f told answer q
-by_step law t b image s mode f told p q next answer h w follows a l =
+by_step : (law : RecordLaw) (t : Table) (b : List ℕ) (image : Image) (s : List SectionTable) (mode : ℕ) (f : RuntimeFunction) (reported : List UnwindRecord) (p q : Plan) (next : Result UnwindRecord Refusal) (answer : Result (Option UnwindRecord) Refusal) →
+    Has t b image s mode → Stands t b f reported p → FollowsToRecord b image s mode p.unwind next → answer ≡ plan_result p next → q ≡ leaves p next → Steps t b f reported answer q
+by_step law t b image s mode f reported p q next answer h w follows a l =
     let x : Found t b p.unwind next = found t b image s mode p.unwind next h follows in
     let u : Unwinds t b (w.current).unwind_info_address x.answer = subst (λ (y : ℕ). Unwinds t b y x.answer) (sym w.here) x.unwinds in
-    rw (a, l) (by_answer law t b f told p w next x.answer u x.tells)
+    rw (a, l) (by_answer law t b f reported p w next x.answer u x.reports)
 
-by_test : (law : RecordLaw) (test : Bool) (t : Table) (b : List ℕ) (image : Image) (s : List SectionTable) (mode : ℕ) (f : RuntimeFunction) (told : List UnwindRecord) (p q : Plan) (answer : Result (Option UnwindRecord) Refusal) →
-    test ≡ true → Has t b image s mode → Stands t b f told p → StepsIf test b image s mode p answer q → Steps t b f told answer q
-by_test law false t b image s mode f told p q answer e h w step = absurd cc
-by_test law true t b image s mode f told p q answer e h w step = by_step law t b image s mode f told p q step.0 answer h w step.1 step.2 step.3
+by_test : (law : RecordLaw) (test : Bool) (t : Table) (b : List ℕ) (image : Image) (s : List SectionTable) (mode : ℕ) (f : RuntimeFunction) (reported : List UnwindRecord) (p q : Plan) (answer : Result (Option UnwindRecord) Refusal) →
+    test ≡ true → Has t b image s mode → Stands t b f reported p → StepsIf test b image s mode p answer q → Steps t b f reported answer q
+by_test law false t b image s mode f reported p q answer e h w step = absurd cc
+by_test law true t b image s mode f reported p q answer e h w step = by_step law t b image s mode f reported p q step.0 answer h w step.1 step.2 step.3
 
-steps : (law : RecordLaw) (t : Table) (b : List ℕ) (image : Image) (s : List SectionTable) (mode : ℕ) (f : RuntimeFunction) (told : List UnwindRecord) (p q : Plan) (answer : Result (Option UnwindRecord) Refusal) →
-    Has t b image s mode → GoesOn t b f told p → StepsPlan b image s mode p answer q → Steps t b f told answer q
-steps law t b image s mode f told p q answer h on step =
+steps : (law : RecordLaw) (t : Table) (b : List ℕ) (image : Image) (s : List SectionTable) (mode : ℕ) (f : RuntimeFunction) (reported : List UnwindRecord) (p q : Plan) (answer : Result (Option UnwindRecord) Refusal) →
+    Has t b image s mode → GoesOn t b f reported p → StepsPlan b image s mode p answer q → Steps t b f reported answer q
+steps law t b image s mode f reported p q answer h on step =
     ⊎_elim
-    (λ (w : Stands t b f told p).
+    (λ (w : Stands t b f reported p).
     let over : (p.is_over == 0) ≡ true = (let none : p.is_over ≡ 0 = w.not_over in grind (arith, nat_tests)) in
-    by_test law (p.is_over == 0) t b image s mode f told p q answer over h w step)
-    (λ (w : (p.is_over ≡ 1) × Told t b f told).
-    subst (λ (x : Result (Option UnwindRecord) Refusal). Steps t b f told x q) (sym (over_gives b image s mode p q answer w.0 step)) w.1)
+    by_test law (p.is_over == 0) t b image s mode f reported p q answer over h w step)
+    (λ (w : (p.is_over ≡ 1) × Reported t b f reported).
+    subst (λ (x : Result (Option UnwindRecord) Refusal). Steps t b f reported x q) (sym (over_gives b image s mode p q answer w.0 step)) w.1)
     on
 
 -- ---- all steps
 
-run : (law : RecordLaw) (t : Table) (b : List ℕ) (image : Image) (s : List SectionTable) (mode : ℕ) (f : RuntimeFunction) (told rs : List UnwindRecord) (p q : Plan) →
-    Has t b image s mode → GoesOn t b f told p → GivesInTurn b image s mode p rs q → GoesOn t b f (told ++ rs) q
-run law t b image s mode f told [] p q h on g =
-    subst (λ (x : List UnwindRecord). GoesOn t b f x q) (sym (append-nil told)) (subst (λ (x : Plan). GoesOn t b f told x) g on)
-run law t b image s mode f told (r ∷ rs) p q h on g =
-    subst (λ (x : List UnwindRecord). GoesOn t b f x q) (append_assoc told (r ∷ []) rs)
-    (run law t b image s mode f (told ++ r ∷ []) rs g.0 q h (steps law t b image s mode f told p g.0 (Ok (Some r)) h on g.1) g.2)
+run : (law : RecordLaw) (t : Table) (b : List ℕ) (image : Image) (s : List SectionTable) (mode : ℕ) (f : RuntimeFunction) (reported rs : List UnwindRecord) (p q : Plan) →
+    Has t b image s mode → GoesOn t b f reported p → ReturnsInTurn b image s mode p rs q → GoesOn t b f (reported ++ rs) q
+run law t b image s mode f reported [] p q h on g =
+    subst (λ (x : List UnwindRecord). GoesOn t b f x q) (sym (append-nil reported)) (subst (λ (x : Plan). GoesOn t b f reported x) g on)
+run law t b image s mode f reported (r ∷ rs) p q h on g =
+    subst (λ (x : List UnwindRecord). GoesOn t b f x q) (append_assoc reported (r ∷ []) rs)
+    (run law t b image s mode f (reported ++ r ∷ []) rs g.0 q h (steps law t b image s mode f reported p g.0 (Ok (Some r)) h on g.1) g.2)
 
 whole : (law : RecordLaw) (t : Table) (b : List ℕ) (image : Image) (s : List SectionTable) (mode : ℕ) (f : RuntimeFunction) (given : List UnwindRecord) (answer : Result (Option UnwindRecord) Refusal) →
-    Has t b image s mode → (a : AnswersBehind b image s mode f.unwind_info_address given answer) → Steps t b f given answer a.1
+    Has t b image s mode → (a : HandsOutAfter b image s mode f.unwind_info_address given answer) → Steps t b f given answer a.1
 whole law t b image s mode f given answer h a =
-    let start : Stands t b f [] (plan_from f.unwind_info_address) = record { records = []; tells = tt; current = f; way = starts t b f; here = refl; not_over = refl } in
+    let start : Stands t b f [] (plan_from f.unwind_info_address) = record { records = []; reports = tt; current = f; way = starts t b f; here = refl; not_over = refl } in
     steps law t b image s mode f given a.0 a.1 answer h (run law t b image s mode f [] given (plan_from f.unwind_info_address) a.0 h (inl start) a.2) a.3
 
 -- ---- what the steps answer
@@ -217,18 +217,18 @@ content_is : (b : List ℕ) (image : Image) (s : List SectionTable) (mode : ℕ)
     PlansFrom (links_of v s (options_of mode)) b f x → PlansFrom (links_of v s (options_of mode)) v.content f x
 content_is b image s mode v f x e p = subst (λ (c : List ℕ). PlansFrom (links_of v s (options_of mode)) c f x) (sym (of_bytes b image s mode v e)) p
 
-pub records_are_told : (law : RecordLaw) (b : List ℕ) (image : Image) (s : List SectionTable) (mode : ℕ) (v : ExceptionView) (f : RuntimeFunction) (given : List UnwindRecord) →
-    image_exceptions b image s mode ≡ Ok v → AnswersBehind b image s mode f.unwind_info_address given (Ok None) →
-    (is : List UnwindInfoView) × PlansFrom (links_of v s (options_of mode)) v.content f (Ok is) × AllZip (TellsUnwindRecord b) given is
-records_are_told law b image s mode v f given e a =
-    let all : Told (links_of v s (options_of mode)) b f given = whole law (links_of v s (options_of mode)) b image s mode f given (Ok None) (there b image s mode v e) a in
-    (all.records, content_is b image s mode v f (Ok all.records) e all.chain, all.tells)
+pub records_are_reported : (law : RecordLaw) (b : List ℕ) (image : Image) (s : List SectionTable) (mode : ℕ) (v : ExceptionView) (f : RuntimeFunction) (given : List UnwindRecord) →
+    image_exceptions b image s mode ≡ Ok v → HandsOutAfter b image s mode f.unwind_info_address given (Ok None) →
+    (is : List UnwindInfoView) × PlansFrom (links_of v s (options_of mode)) v.content f (Ok is) × AllZip (ReportsUnwindRecord b) given is
+records_are_reported law b image s mode v f given e a =
+    let all : Reported (links_of v s (options_of mode)) b f given = whole law (links_of v s (options_of mode)) b image s mode f given (Ok None) (there b image s mode v e) a in
+    (all.records, content_is b image s mode v f (Ok all.records) e all.chain, all.reports)
 
 no_memory : (t : Table) (b : List ℕ) (f : RuntimeFunction) (k : Refusal) → Counts t b f (Err k) → k ≢ Memory
 no_memory t b f k c e = absurd (subst (λ (x : Refusal). Counts t b f (Err x)) e c)
 
 pub refusals_are_of_plans : (law : RecordLaw) (b : List ℕ) (image : Image) (s : List SectionTable) (mode : ℕ) (v : ExceptionView) (f : RuntimeFunction) (given : List UnwindRecord) (refusal : Refusal) →
-    image_exceptions b image s mode ≡ Ok v → AnswersBehind b image s mode f.unwind_info_address given (Err refusal) →
+    image_exceptions b image s mode ≡ Ok v → HandsOutAfter b image s mode f.unwind_info_address given (Err refusal) →
     (refusal ≢ Memory) × PlansFrom (links_of v s (options_of mode)) v.content f (Err refusal)
 refusals_are_of_plans law b image s mode v f given refusal e a =
     let t = links_of v s (options_of mode) in
@@ -244,7 +244,7 @@ ends_so law t b f given q plan (Err k) p known c =
 
 pub plans_end_so : (law : RecordLaw) (b : List ℕ) (image : Image) (s : List SectionTable) (mode : ℕ) (v : ExceptionView) (f : RuntimeFunction) (plan : Result (List UnwindInfoView) Refusal) (given : List UnwindRecord) (answer : Result (Option UnwindRecord) Refusal) →
     image_exceptions b image s mode ≡ Ok v → PlansFrom (links_of v s (options_of mode)) v.content f plan → plan ≢ Err Memory →
-    AnswersBehind b image s mode f.unwind_info_address given answer → (answer ≡ ending_of plan) ⊎ ((r : UnwindRecord) × (answer ≡ Ok (Some r)))
+    HandsOutAfter b image s mode f.unwind_info_address given answer → (answer ≡ ending_of plan) ⊎ ((r : UnwindRecord) × (answer ≡ Ok (Some r)))
 plans_end_so law b image s mode v f plan given answer e p known a =
     let t = links_of v s (options_of mode) in
     ends_so law t b f given a.1 plan answer (subst (λ (c : List ℕ). PlansFrom t c f plan) (of_bytes b image s mode v e) p) known (whole law t b image s mode f given answer (there b image s mode v e) a)
@@ -255,12 +255,12 @@ first_refused : (b : List ℕ) (image : Image) (s : List SectionTable) (mode u :
     image_exceptions b image s mode ≡ Err refusal → StepsPlan b image s mode (plan_from u) answer q → answer ≡ Err refusal
 first_refused b image s mode u refusal q answer e step =
     let follows = step.1 in
-    let place : follows.0 ≡ Err refusal = subst (λ (x : Result ExceptionView Refusal). FindsPlaceIn x s mode u follows.0) e follows.1 in
-    let next : step.0 ≡ Err refusal = follows.2 ∙ ap (λ (x : Result ℕ Refusal). x >>= flat_record_at b) place in
-    step.2 ∙ ap (λ (x : Result UnwindRecord Refusal). gives (plan_from u) x) next
+    let offset : follows.0 ≡ Err refusal = subst (λ (x : Result ExceptionView Refusal). FindsOffsetIn x s mode u follows.0) e follows.1 in
+    let next : step.0 ≡ Err refusal = follows.2 ∙ ap (λ (x : Result ℕ Refusal). x >>= flat_record_at b) offset in
+    step.2 ∙ ap (λ (x : Result UnwindRecord Refusal). plan_result (plan_from u) x) next
 
 pub tables_are_refused : (b : List ℕ) (image : Image) (s : List SectionTable) (mode u : ℕ) (refusal : Refusal) (given : List UnwindRecord) (answer : Result (Option UnwindRecord) Refusal) →
-    image_exceptions b image s mode ≡ Err refusal → AnswersBehind b image s mode u given answer → (given ≡ []) × (answer ≡ Err refusal)
+    image_exceptions b image s mode ≡ Err refusal → HandsOutAfter b image s mode u given answer → (given ≡ []) × (answer ≡ Err refusal)
 tables_are_refused b image s mode u refusal [] answer e a =
     (refl, first_refused b image s mode u refusal a.1 answer e (subst (λ (x : Plan). StepsPlan b image s mode x answer a.1) (sym a.2) a.3))
 tables_are_refused b image s mode u refusal (r ∷ rs) answer e a =

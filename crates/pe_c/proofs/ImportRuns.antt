@@ -11,7 +11,7 @@ use Rattle.pe_core.proofs.Map.{offset_is}
 use Rattle.pe_core.proofs.TableEntries.{each_front}
 use Rattle.pe_core.specs.Bytes.{AreBytes, holds, le, range, record_at}
 use Rattle.pe_core.specs.Gathered.{all_or_refusal, up_to_none, with_rest}
-use Rattle.pe_core.specs.Imports.{EntryView, ImportRecordView, ImportView, entries, entry_at, entry_size, import_data_at, import_of, import_record, import_record_at, import_records, imports, is_last, lookup_at, lookup_entries, lookups_at, lookups_rva, name_or_refusal, named_import}
+use Rattle.pe_core.specs.Imports.{EntryView, ImportRecordView, ImportView, import_entries, import_entry_at, entry_size, import_data_at, import_of, import_record, import_record_at, import_records, imports, is_last, lookup_at, lookup_entries, lookups_at, lookups_rva, name_or_refusal, named_import}
 use Rattle.pe_core.specs.Records.{import_entry}
 use Rattle.pe_core.specs.Refusals.{Refusal, Short, ◌>>=◌}
 use Rattle.pe_core.specs.Rows.{each}
@@ -26,12 +26,12 @@ use Rattle.pe_c.specs.declared.imports.Libraries.{Libraries}
 use Rattle.pe_c.specs.declared.imports.Library.{Library}
 use Rattle.pe_c.specs.declared.ranges.Range.{Range}
 use Rattle.pe_c.specs.Images.{is_absent, map_of_image}
-use Rattle.pe_c.specs.Imports.{import_at, import_by, import_left, import_step, import_told, StepsImports, StepsLibraries, libraries_at, libraries_from, library_by, library_step, library_told, no_imports, no_libraries, slot_entry}
-use Rattle.pe_c.specs.Parts.{ImportsInTurn, TellsImport, TellsLibrary}
+use Rattle.pe_c.specs.Imports.{import_at, import_by, import_left, import_step, import_reported, StepsImports, StepsLibraries, libraries_at, libraries_from, library_by, library_step, library_reported, no_imports, no_libraries, slot_entry}
+use Rattle.pe_c.specs.Parts.{ImportsInTurn, ReportsImport, ReportsLibrary}
 use Rattle.pe_c.specs.Ranges.{IsRange, no_bytes, range_from}
-use Rattle.pe_c.specs.Runs.{GivesItems, IsOver}
+use Rattle.pe_c.specs.Runs.{ReturnsItems, IsOver}
 use Rattle.pe_c.specs.Walks.{left_entry}
-use Rattle.pe_c.proofs.Runs.{GivesTold, makes_by, tells_more, tells_none, tells_refused}
+use Rattle.pe_c.proofs.Runs.{ReturnsReported, makes_by, reports_more, reports_none, reports_refused}
 use Rattle.pe_c.proofs.Addresses.{number_small}
 use Rattle.pe_c.proofs.ExportParts.{given, range_length, same_inside, text_stands}
 
@@ -51,50 +51,50 @@ none_of f = refl
 
 -- what is told agrees with what an entry imports
 abbrev Agrees : List ℕ → Result ImportView Refusal → Result Import Refusal → Type 0
-Agrees b (Ok i) (Ok x) = TellsImport b x i
+Agrees b (Ok i) (Ok x) = ReportsImport b x i
 Agrees b (Ok i) (Err e) = ⊥
 Agrees b (Err e) (Ok x) = ⊥
 Agrees b (Err e) (Err f) = e ≡ f
 
-agrees_by_name : (place : ℕ → Option ℕ) (b dll : List ℕ) (entry rva p : ℕ) (name : Option (List ℕ)) → place (entry % 2 ^ 31) ≡ Some p → text_at b (p + 2) ≡ name →
+agrees_by_name : (offset : ℕ → Option ℕ) (b dll : List ℕ) (entry rva p : ℕ) (name : Option (List ℕ)) → offset (entry % 2 ^ 31) ≡ Some p → text_at b (p + 2) ≡ name →
     Agrees b (name_or_refusal name >>= λ n. Ok (record { name = Some n; dll = dll; ordinal = le b p 2; rva = rva }))
-    ((name_or_refusal name >>= λ n. Ok (record { name = Some n; dll = []; ordinal = le b p 2; rva = rva })) >>= λ i. Ok (import_told place entry i))
-agrees_by_name place b dll entry rva p None at e = refl
-agrees_by_name place b dll entry rva p (Some n) at e = record {
+    ((name_or_refusal name >>= λ n. Ok (record { name = Some n; dll = []; ordinal = le b p 2; rva = rva })) >>= λ i. Ok (import_reported offset entry i))
+agrees_by_name offset b dll entry rva p None at e = refl
+agrees_by_name offset b dll entry rva p (Some n) at e = record {
   name = subst (λ (o : Option ℕ). IsRange b (range_from (length n) (option_map (λ q. q + 2) o)) n) (sym at) (text_stands b (p + 2) n e);
   has_name = refl;
   ordinal = refl;
   rva = refl;
 }
 
-agrees_by_hint : (place : ℕ → Option ℕ) (b dll : List ℕ) (entry rva p : ℕ) (there : Bool) → place (entry % 2 ^ 31) ≡ Some p →
+agrees_by_hint : (offset : ℕ → Option ℕ) (b dll : List ℕ) (entry rva p : ℕ) (there : Bool) → offset (entry % 2 ^ 31) ≡ Some p →
     Agrees b
     ((if there then Ok (le b p 2) else Err Short) >>= λ hint. name_or_refusal (text_at b (p + 2)) >>= λ n. Ok (record { name = Some n; dll = dll; ordinal = hint; rva = rva }))
-    (((if there then Ok (le b p 2) else Err Short) >>= λ hint. name_or_refusal (text_at b (p + 2)) >>= λ n. Ok (record { name = Some n; dll = []; ordinal = hint; rva = rva })) >>= λ i. Ok (import_told place entry i))
-agrees_by_hint place b dll entry rva p true at = agrees_by_name place b dll entry rva p (text_at b (p + 2)) at refl
-agrees_by_hint place b dll entry rva p false at = refl
+    (((if there then Ok (le b p 2) else Err Short) >>= λ hint. name_or_refusal (text_at b (p + 2)) >>= λ n. Ok (record { name = Some n; dll = []; ordinal = hint; rva = rva })) >>= λ i. Ok (import_reported offset entry i))
+agrees_by_hint offset b dll entry rva p true at = agrees_by_name offset b dll entry rva p (text_at b (p + 2)) at refl
+agrees_by_hint offset b dll entry rva p false at = refl
 
-agrees_by_place : (place : ℕ → Option ℕ) (b dll : List ℕ) (entry rva : ℕ) (at : Option ℕ) → place (entry % 2 ^ 31) ≡ at →
-    Agrees b (mapped at >>= named_import b (record { dll = dll; entry = entry; rva = rva })) ((mapped at >>= named_import b (slot_entry entry rva)) >>= λ i. Ok (import_told place entry i))
-agrees_by_place place b dll entry rva None at = refl
-agrees_by_place place b dll entry rva (Some p) at = agrees_by_hint place b dll entry rva p (holds b p 2) at
+agrees_by_offset : (offset : ℕ → Option ℕ) (b dll : List ℕ) (entry rva : ℕ) (at : Option ℕ) → offset (entry % 2 ^ 31) ≡ at →
+    Agrees b (mapped at >>= named_import b (record { dll = dll; entry = entry; rva = rva })) ((mapped at >>= named_import b (slot_entry entry rva)) >>= λ i. Ok (import_reported offset entry i))
+agrees_by_offset offset b dll entry rva None at = refl
+agrees_by_offset offset b dll entry rva (Some p) at = agrees_by_hint offset b dll entry rva p (holds b p 2) at
 
-agrees_by_kind : (place : ℕ → Option ℕ) (b dll : List ℕ) (entry rva : ℕ) (ordinal : Bool) →
+agrees_by_kind : (offset : ℕ → Option ℕ) (b dll : List ℕ) (entry rva : ℕ) (ordinal : Bool) →
     Agrees b
-    (if ordinal then Ok (record { name = None; dll = dll; ordinal = entry % 2 ^ 16; rva = rva }) else (mapped (place (entry % 2 ^ 31)) >>= named_import b (record { dll = dll; entry = entry; rva = rva })))
-    ((if ordinal then Ok (record { name = None; dll = []; ordinal = entry % 2 ^ 16; rva = rva }) else (mapped (place (entry % 2 ^ 31)) >>= named_import b (slot_entry entry rva))) >>= λ i. Ok (import_told place entry i))
-agrees_by_kind place b dll entry rva true = record { name = refl; has_name = refl; ordinal = refl; rva = refl }
-agrees_by_kind place b dll entry rva false = agrees_by_place place b dll entry rva (place (entry % 2 ^ 31)) refl
+    (if ordinal then Ok (record { name = None; dll = dll; ordinal = entry % 2 ^ 16; rva = rva }) else (mapped (offset (entry % 2 ^ 31)) >>= named_import b (record { dll = dll; entry = entry; rva = rva })))
+    ((if ordinal then Ok (record { name = None; dll = []; ordinal = entry % 2 ^ 16; rva = rva }) else (mapped (offset (entry % 2 ^ 31)) >>= named_import b (slot_entry entry rva))) >>= λ i. Ok (import_reported offset entry i))
+agrees_by_kind offset b dll entry rva true = record { name = refl; has_name = refl; ordinal = refl; rva = refl }
+agrees_by_kind offset b dll entry rva false = agrees_by_offset offset b dll entry rva (offset (entry % 2 ^ 31)) refl
 
-agrees : (place : ℕ → Option ℕ) (w : ℕ) (b dll : List ℕ) (entry rva : ℕ) → Agrees b (import_of place w b (record { dll = dll; entry = entry; rva = rva })) (import_at place w b entry rva)
+agrees : (offset : ℕ → Option ℕ) (w : ℕ) (b dll : List ℕ) (entry rva : ℕ) → Agrees b (import_of offset w b (record { dll = dll; entry = entry; rva = rva })) (import_at offset w b entry rva)
 unfolding import_of
-agrees place w b dll entry rva = agrees_by_kind place b dll entry rva (nat_le (2 ^ (8 * w - 1)) entry)
+agrees offset w b dll entry rva = agrees_by_kind offset b dll entry rva (nat_le (2 ^ (8 * w - 1)) entry)
 
 -- ---- the imports of a library
 
 -- a walk that has the bytes from q on left
 abbrev over : ℕ → ℕ → ℕ → Imports
-over q n rva = record { left = record { place = q; length = n }; rva = rva }
+over q n rva = record { left = record { offset = q; length = n }; rva = rva }
 
 -- the entries from q on
 abbrev slots : ℕ → List ℕ → List ℕ → ℕ → ℕ → ℕ → EntryView
@@ -105,33 +105,33 @@ unfolding le
 le_of_range b q m p zero h i = refl
 le_of_range b q m p (suc n) h i = let fewer : le (range b q m) p n ≡ le b (q + p) n = le_of_range b q m p n h (omega (arith, i)) in grind (arith, places)
 
-entry_left : (w : ℕ) (b : List ℕ) (q m : ℕ) → 0 < w → w ≤ m → q + m ≤ length b → left_entry w b (record { place = q; length = m }) ≡ Ok (Some (range b q m))
+entry_left : (w : ℕ) (b : List ℕ) (q m : ℕ) → 0 < w → w ≤ m → q + m ≤ length b → left_entry w b (record { offset = q; length = m }) ≡ Ok (Some (range b q m))
 entry_left w b q m some h i = grind (arith, nat_tests)
 
-step_first : (place : ℕ → Option ℕ) (w : ℕ) (b : List ℕ) (q m rva : ℕ) → 0 < w → w ≤ m → q + m ≤ length b → import_step place w b (over q m rva) ≡ import_by w (over q m rva) (import_at place w b (le b q w) rva)
+step_first : (offset : ℕ → Option ℕ) (w : ℕ) (b : List ℕ) (q m rva : ℕ) → 0 < w → w ≤ m → q + m ≤ length b → import_step offset w b (over q m rva) ≡ import_by w (over q m rva) (import_at offset w b (le b q w) rva)
 unfolding import_step
-step_first place w b q m rva some h i =
+step_first offset w b q m rva some h i =
     let at_start : q + 0 ≡ q = omega arith in
     let entry : le (range b q m) 0 w ≡ le b q w = le_of_range b q m 0 w i (omega (arith, h)) ∙ ap (λ (k : ℕ). le b k w) at_start in
-    ap (import_left place w b (over q m rva)) (entry_left w b q m some h i) ∙ ap (λ (e : ℕ). import_by w (over q m rva) (import_at place w b e rva)) entry
+    ap (import_left offset w b (over q m rva)) (entry_left w b q m some h i) ∙ ap (λ (e : ℕ). import_by w (over q m rva) (import_at offset w b e rva)) entry
 
-step_last : (place : ℕ → Option ℕ) (w : ℕ) (b : List ℕ) (q rva : ℕ) → q ≤ length b → import_step place w b (over q 0 rva) ≡ (Ok None, over q 0 rva)
+step_last : (offset : ℕ → Option ℕ) (w : ℕ) (b : List ℕ) (q rva : ℕ) → q ≤ length b → import_step offset w b (over q 0 rva) ≡ (Ok None, over q 0 rva)
 unfolding import_step
-step_last place w b q rva h =
-    let left : left_entry w b (record { place = q; length = 0 }) ≡ Ok None = grind (arith, nat_tests) in
-    ap (import_left place w b (over q 0 rva)) left
+step_last offset w b q rva h =
+    let left : left_entry w b (record { offset = q; length = 0 }) ≡ Ok None = grind (arith, nat_tests) in
+    ap (import_left offset w b (over q 0 rva)) left
 
 -- the first import and those behind it
-one : (place : ℕ → Option ℕ) (w : ℕ) (b : List ℕ) (walk next : Imports) (r : Result ImportView Refusal) (x : Result Import Refusal) (rest : List (Result ImportView Refusal)) →
-    Agrees b r x → import_step place w b walk ≡ import_by w walk x → record { left = record { place = walk.left.place + w; length = walk.left.length - w }; rva = (walk.rva + w) % 2 ^ 64 } ≡ next →
-    GivesTold (StepsImports place w b) (TellsImport b) next (all_or_refusal rest) → GivesTold (StepsImports place w b) (TellsImport b) walk (all_or_refusal (r ∷ rest))
-one place w b walk next (Ok i) (Ok x) rest agree is behind more =
-    tells_more (StepsImports place w b) (TellsImport b) walk next x i (all_or_refusal rest) (makes_by (import_step place w b) walk next (Ok (Some x)) (is ∙ ap (λ (n : Imports). (Ok (Some x), n)) behind)) agree more
-one place w b walk next (Ok i) (Err e) rest agree is behind more = absurd agree
-one place w b walk next (Err e) (Ok x) rest agree is behind more = absurd agree
-one place w b walk next (Err e) (Err f) rest agree is behind more =
-    tells_refused (StepsImports place w b) (TellsImport b) walk (no_imports walk) e (makes_by (import_step place w b) walk (no_imports walk) (Err e) (is ∙ ap (λ (r : Refusal). (Err r, no_imports walk)) (sym agree)))
-    (makes_by (import_step place w b) (no_imports walk) (no_imports walk) (Ok None) (step_last place w b 0 walk.rva (omega arith)))
+one : (offset : ℕ → Option ℕ) (w : ℕ) (b : List ℕ) (walk next : Imports) (r : Result ImportView Refusal) (x : Result Import Refusal) (rest : List (Result ImportView Refusal)) →
+    Agrees b r x → import_step offset w b walk ≡ import_by w walk x → record { left = record { offset = walk.left.offset + w; length = walk.left.length - w }; rva = (walk.rva + w) % 2 ^ 64 } ≡ next →
+    ReturnsReported (StepsImports offset w b) (ReportsImport b) next (all_or_refusal rest) → ReturnsReported (StepsImports offset w b) (ReportsImport b) walk (all_or_refusal (r ∷ rest))
+one offset w b walk next (Ok i) (Ok x) rest agree is after more =
+    reports_more (StepsImports offset w b) (ReportsImport b) walk next x i (all_or_refusal rest) (makes_by (import_step offset w b) walk next (Ok (Some x)) (is ∙ ap (λ (n : Imports). (Ok (Some x), n)) after)) agree more
+one offset w b walk next (Ok i) (Err e) rest agree is after more = absurd agree
+one offset w b walk next (Err e) (Ok x) rest agree is after more = absurd agree
+one offset w b walk next (Err e) (Err f) rest agree is after more =
+    reports_refused (StepsImports offset w b) (ReportsImport b) walk (no_imports walk) e (makes_by (import_step offset w b) walk (no_imports walk) (Err e) (is ∙ ap (λ (r : Refusal). (Err r, no_imports walk)) (sym agree)))
+    (makes_by (import_step offset w b) (no_imports walk) (no_imports walk) (Ok None) (step_last offset w b 0 walk.rva (omega arith)))
 
 slots_front : (w : ℕ) (b dll : List ℕ) (q rva n : ℕ) → each (slots w b dll q rva) (suc n) ≡ record { dll = dll; entry = le b q w; rva = rva } ∷ each (slots w b dll (q + w) (rva + w)) n
 slots_front w b dll q rva n =
@@ -139,34 +139,34 @@ slots_front w b dll q rva n =
     let slot : rva + w * 0 ≡ rva = omega arith in
     each_front (slots w b dll q rva) (slots w b dll (q + w) (rva + w)) n
     (λ k.
-    let place : q + w * suc k ≡ q + w + w * k = omega (arith, mul-suc w k) in
+    let offset : q + w * suc k ≡ q + w + w * k = omega (arith, mul-suc w k) in
     let address : rva + w * suc k ≡ rva + w + w * k = omega (arith, mul-suc w k) in
-    rw (place, address) refl)
+    rw (offset, address) refl)
     ∙ ap (λ (p : ℕ). record { dll = dll; entry = le b p w; rva = rva + w * 0 } ∷ each (slots w b dll (q + w) (rva + w)) n) first
     ∙ ap (λ (a : ℕ). record { dll = dll; entry = le b q w; rva = a } ∷ each (slots w b dll (q + w) (rva + w)) n) slot
 
-next_walk : (w q rva n : ℕ) → rva + w * suc n < 2 ^ 64 → record { left = record { place = q + w; length = w * suc n - w }; rva = (rva + w) % 2 ^ 64 } ≡ over (q + w) (w * n) (rva + w)
+next_walk : (w q rva n : ℕ) → rva + w * suc n < 2 ^ 64 → record { left = record { offset = q + w; length = w * suc n - w }; rva = (rva + w) % 2 ^ 64 } ≡ over (q + w) (w * n) (rva + w)
 next_walk w q rva n small =
     let fewer : w * suc n - w ≡ w * n = omega (arith, mul-suc w n) in
     let same : (rva + w) % 2 ^ 64 ≡ rva + w = omega (arith, mul-suc w n, small) in
     rw (fewer, same) refl
 
-run : (place : ℕ → Option ℕ) (w : ℕ) (b dll : List ℕ) → 0 < w → (n q rva : ℕ) → q + w * n ≤ length b → rva + w * n < 2 ^ 64 →
-    GivesTold (StepsImports place w b) (TellsImport b) (over q (w * n) rva) (all_or_refusal (map (import_of place w b) (each (slots w b dll q rva) n)))
-run place w b dll some zero q rva inside small =
+run : (offset : ℕ → Option ℕ) (w : ℕ) (b dll : List ℕ) → 0 < w → (n q rva : ℕ) → q + w * n ≤ length b → rva + w * n < 2 ^ 64 →
+    ReturnsReported (StepsImports offset w b) (ReportsImport b) (over q (w * n) rva) (all_or_refusal (map (import_of offset w b) (each (slots w b dll q rva) n)))
+run offset w b dll some zero q rva inside small =
     let none : w * 0 ≡ 0 = omega arith in
-    let here : import_step place w b (over q (w * 0) rva) ≡ (Ok None, over q 0 rva) = ap (λ (m : ℕ). import_step place w b (over q m rva)) none ∙ step_last place w b q rva (omega (arith, inside)) in
-    subst (λ (es : List EntryView). GivesTold (StepsImports place w b) (TellsImport b) (over q (w * 0) rva) (all_or_refusal (map (import_of place w b) es))) (sym (none_of (slots w b dll q rva)))
-    (tells_none (StepsImports place w b) (TellsImport b) (over q (w * 0) rva) (over q 0 rva) (makes_by (import_step place w b) (over q (w * 0) rva) (over q 0 rva) (Ok None) here)
-    (makes_by (import_step place w b) (over q 0 rva) (over q 0 rva) (Ok None) (step_last place w b q rva (omega (arith, inside)))))
-run place w b dll some (suc n) q rva inside small =
+    let here : import_step offset w b (over q (w * 0) rva) ≡ (Ok None, over q 0 rva) = ap (λ (m : ℕ). import_step offset w b (over q m rva)) none ∙ step_last offset w b q rva (omega (arith, inside)) in
+    subst (λ (es : List EntryView). ReturnsReported (StepsImports offset w b) (ReportsImport b) (over q (w * 0) rva) (all_or_refusal (map (import_of offset w b) es))) (sym (none_of (slots w b dll q rva)))
+    (reports_none (StepsImports offset w b) (ReportsImport b) (over q (w * 0) rva) (over q 0 rva) (makes_by (import_step offset w b) (over q (w * 0) rva) (over q 0 rva) (Ok None) here)
+    (makes_by (import_step offset w b) (over q 0 rva) (over q 0 rva) (Ok None) (step_last offset w b q rva (omega (arith, inside)))))
+run offset w b dll some (suc n) q rva inside small =
     let long : w * suc n ≡ w * n + w = mul-suc w n in
-    subst (λ (es : List EntryView). GivesTold (StepsImports place w b) (TellsImport b) (over q (w * suc n) rva) (all_or_refusal (map (import_of place w b) es))) (sym (slots_front w b dll q rva n))
-    (one place w b (over q (w * suc n) rva) (over (q + w) (w * n) (rva + w)) _ _ _
-    (agrees place w b dll (le b q w) rva)
-    (step_first place w b q (w * suc n) rva some (omega (arith, long)) inside)
+    subst (λ (es : List EntryView). ReturnsReported (StepsImports offset w b) (ReportsImport b) (over q (w * suc n) rva) (all_or_refusal (map (import_of offset w b) es))) (sym (slots_front w b dll q rva n))
+    (one offset w b (over q (w * suc n) rva) (over (q + w) (w * n) (rva + w)) _ _ _
+    (agrees offset w b dll (le b q w) rva)
+    (step_first offset w b q (w * suc n) rva some (omega (arith, long)) inside)
     (next_walk w q rva n small)
-    (run place w b dll some n (q + w) (rva + w) (omega (arith, long, inside)) (omega (arith, long, small))))
+    (run offset w b dll some n (q + w) (rva + w) (omega (arith, long, inside)) (omega (arith, long, small))))
 
 -- ---- lists
 
@@ -177,9 +177,9 @@ rows_front {X} row w q n =
     each_front (λ k. row (q + w * k)) (λ k. row (q + w + w * k)) n (λ k. ap row (omega (arith, mul-suc w k)))
     ∙ ap (λ (p : ℕ). row p ∷ each (λ k. row (q + w + w * k)) n) first
 
-behind_first : {X : Type 0} (x : X) (rest : Result (List X) Refusal) (xs : List X) → with_rest (x ∷ []) rest ≡ Ok xs → (ys : List X) × (rest ≡ Ok ys) × (x ∷ ys ≡ xs)
-behind_first x (Ok ys) xs e = (ys, refl, same_inside (x ∷ ys) xs e)
-behind_first x (Err r) xs e = absurd cc
+after_first : {X : Type 0} (x : X) (rest : Result (List X) Refusal) (xs : List X) → with_rest (x ∷ []) rest ≡ Ok xs → (ys : List X) × (rest ≡ Ok ys) × (x ∷ ys ≡ xs)
+after_first x (Ok ys) xs e = (ys, refl, same_inside (x ∷ ys) xs e)
+after_first x (Err r) xs e = absurd cc
 
 held : {Y : Type 0} (b : List ℕ) (p n : ℕ) (y z : Y) → record_at b p n y ≡ Ok z → p + n ≤ length b
 held b p n y z e = grind (arith, nat_tests)
@@ -190,8 +190,8 @@ inside_by : (w : ℕ) (b : List ℕ) (q : ℕ) (es : List ℕ) (row : Result (Op
 inside_by w b q es (Ok None) rows e given more =
     subst (λ (xs : List ℕ). q + w * length xs ≤ length b) (same_inside [] es given) (omega (arith, held b q w _ None e))
 inside_by w b q es (Ok (Some x)) rows e given more =
-    let behind = behind_first x (up_to_none rows) es given in
-    subst (λ (xs : List ℕ). q + w * length xs ≤ length b) behind.2 (omega (arith, mul-suc w (length behind.0), more behind.0 behind.1 (held b q w _ (Some x) e)))
+    let after = after_first x (up_to_none rows) es given in
+    subst (λ (xs : List ℕ). q + w * length xs ≤ length b) after.2 (omega (arith, mul-suc w (length after.0), more after.0 after.1 (held b q w _ (Some x) e)))
 inside_by w b q es (Err r) rows e given more = absurd cc
 
 inside : (w : ℕ) (b : List ℕ) (n q : ℕ) (es : List ℕ) → up_to_none (each (λ k. lookup_at w b (q + w * k)) n) ≡ Ok es → q ≤ length b → q + w * length es ≤ length b
@@ -210,8 +210,8 @@ list_inside w b q es e =
 record ListStands (w : ℕ) (b : List ℕ) (r : Range) (list : List ℕ) : Type 0 where
   count : ℕ
   long : r.length ≡ w * count
-  within : r.place + w * count ≤ length b
-  same : range b r.place (w * count) ≡ list
+  within : r.offset + w * count ≤ length b
+  same : range b r.offset (w * count) ≡ list
 
 list_stands : (w : ℕ) (b : List ℕ) (at : Option ℕ) (list : List ℕ) → lookups_at w b at ≡ Ok list → ListStands w b (range_from (length list) at) list
 list_stands w b None list e =
@@ -219,36 +219,36 @@ list_stands w b None list e =
     let nothing : w * 0 ≡ 0 = omega arith in
     subst (ListStands w b no_bytes) none (record { count = 0; long = omega arith; within = omega arith; same = rw nothing refl })
 list_stands w b (Some q) list e =
-    let entries = given (lookup_entries w b q) (λ es. Ok (range b q (w * length es))) list e in
-    let same : range b q (w * length entries.0) ≡ list = same_inside (range b q (w * length entries.0)) list entries.2 in
-    let within : q + w * length entries.0 ≤ length b = list_inside w b q entries.0 entries.1 in
-    record { count = length entries.0; long = ap length (sym same) ∙ range_length b q (w * length entries.0) within; within = within; same = same }
+    let list_entries = given (lookup_entries w b q) (λ es. Ok (range b q (w * length es))) list e in
+    let same : range b q (w * length list_entries.0) ≡ list = same_inside (range b q (w * length list_entries.0)) list list_entries.2 in
+    let within : q + w * length list_entries.0 ≤ length b = list_inside w b q list_entries.0 list_entries.1 in
+    record { count = length list_entries.0; long = ap length (sym same) ∙ range_length b q (w * length list_entries.0) within; within = within; same = same }
 
 is_range : (w : ℕ) (b : List ℕ) (r : Range) (list : List ℕ) → ListStands w b r list → IsRange b r list
-is_range w b r list s = record { inside = omega (arith, s.long, s.within); same = ap (λ (n : ℕ). range b r.place n) s.long ∙ s.same }
+is_range w b r list s = record { inside = omega (arith, s.long, s.within); same = ap (λ (n : ℕ). range b r.offset n) s.long ∙ s.same }
 
 -- ---- the imports of a record
 
 its_slots : (w : ℕ) (b : List ℕ) (r : ImportRecordView) (q n : ℕ) → 0 < w → q + w * n ≤ length b → range b q (w * n) ≡ r.lookups →
-    each (entry_at w r) (length r.lookups / w) ≡ each (slots w b r.name q r.import_directory_entry.address_table_rva) n
+    each (import_entry_at w r) (length r.lookups / w) ≡ each (slots w b r.name q r.import_directory_entry.address_table_rva) n
 its_slots w b r q n some h same =
     let long : length r.lookups ≡ n * w + 0 = ap length (sym same) ∙ range_length b q (w * n) h ∙ grind arith in
     let count : length r.lookups / w ≡ n = ap (λ (m : ℕ). m / w) long ∙ div-mul-add n w 0 some in
-    ap (λ (m : ℕ). each (entry_at w r) m) count
-    ∙ each_same (entry_at w r) (slots w b r.name q r.import_directory_entry.address_table_rva) n
+    ap (λ (m : ℕ). each (import_entry_at w r) m) count
+    ∙ each_same (import_entry_at w r) (slots w b r.name q r.import_directory_entry.address_table_rva) n
     (λ k lt.
     ap (λ (e : ℕ). record { dll = r.name; entry = e; rva = r.import_directory_entry.address_table_rva + w * k })
     (ap (λ (l : List ℕ). le l (w * k) w) (sym same) ∙ le_of_range b q (w * n) (w * k) w h (column_fits w k w n lt (omega arith))))
 
-record_imports : (place : ℕ → Option ℕ) (w : ℕ) (b : List ℕ) (r : ImportRecordView) (left : Range) → 0 < w → length b ≤ 2 ^ 63 → ListStands w b left r.lookups → r.import_directory_entry.address_table_rva < 4294967296 →
-    GivesTold (StepsImports place w b) (TellsImport b) (record { left = left; rva = r.import_directory_entry.address_table_rva }) (imports place w b (r ∷ []))
-unfolding imports entries
-record_imports place w b r left some small s low =
+record_imports : (offset : ℕ → Option ℕ) (w : ℕ) (b : List ℕ) (r : ImportRecordView) (left : Range) → 0 < w → length b ≤ 2 ^ 63 → ListStands w b left r.lookups → r.import_directory_entry.address_table_rva < 4294967296 →
+    ReturnsReported (StepsImports offset w b) (ReportsImport b) (record { left = left; rva = r.import_directory_entry.address_table_rva }) (imports offset w b (r ∷ []))
+unfolding imports import_entries
+record_imports offset w b r left some small s low =
     let rva : ℕ = r.import_directory_entry.address_table_rva in
-    let same : entries w (r ∷ []) ≡ each (slots w b r.name left.place rva) s.count = append-nil (each (entry_at w r) (length r.lookups / w)) ∙ its_slots w b r left.place s.count some s.within s.same in
-    subst (λ (m : ℕ). GivesTold (StepsImports place w b) (TellsImport b) (over left.place m rva) (all_or_refusal (map (import_of place w b) (entries w (r ∷ []))))) (sym s.long)
-    (subst (λ (es : List EntryView). GivesTold (StepsImports place w b) (TellsImport b) (over left.place (w * s.count) rva) (all_or_refusal (map (import_of place w b) es))) (sym same)
-    (run place w b r.name some s.count left.place rva s.within (omega (arith, s.within, small, low))))
+    let same : import_entries w (r ∷ []) ≡ each (slots w b r.name left.offset rva) s.count = append-nil (each (import_entry_at w r) (length r.lookups / w)) ∙ its_slots w b r left.offset s.count some s.within s.same in
+    subst (λ (m : ℕ). ReturnsReported (StepsImports offset w b) (ReportsImport b) (over left.offset m rva) (all_or_refusal (map (import_of offset w b) (import_entries w (r ∷ []))))) (sym s.long)
+    (subst (λ (es : List EntryView). ReturnsReported (StepsImports offset w b) (ReportsImport b) (over left.offset (w * s.count) rva) (all_or_refusal (map (import_of offset w b) es))) (sym same)
+    (run offset w b r.name some s.count left.offset rva s.within (omega (arith, s.within, small, low))))
 
 -- ---- a library
 
@@ -274,116 +274,116 @@ low_address : (b : List ℕ) (p : ℕ) → AreBytes b → (import_entry b p).add
 unfolding import_entry
 low_address b p small = number_small b (p + 16) small
 
-entry_tells : (place : ℕ → Option ℕ) (w : ℕ) (b : List ℕ) (e : ImportDirectoryEntry) (r : ImportRecordView) → 0 < w → length b ≤ 2 ^ 63 → e.address_table_rva < 4294967296 → import_record place w b e ≡ Ok (Some r) →
-    TellsLibrary place w b (library_told place r) r
+entry_reports : (offset : ℕ → Option ℕ) (w : ℕ) (b : List ℕ) (e : ImportDirectoryEntry) (r : ImportRecordView) → 0 < w → length b ≤ 2 ^ 63 → e.address_table_rva < 4294967296 → import_record offset w b e ≡ Ok (Some r) →
+    ReportsLibrary offset w b (library_reported offset r) r
 unfolding import_record
-entry_tells place w b e r some small low h =
-    let p = given (mapped (place e.name_rva)) _ (Some r) h in
+entry_reports offset w b e r some small low h =
+    let p = given (mapped (offset e.name_rva)) _ (Some r) h in
     let name = given (name_or_refusal (text_at b p.0)) _ (Some r) p.2 in
-    let list = given (lookups_at w b (place (lookups_rva e))) _ (Some r) name.2 in
+    let list = given (lookups_at w b (offset (lookups_rva e))) _ (Some r) name.2 in
     let made : ImportRecordView = record { import_directory_entry = e; name = name.0; lookups = list.0 } in
-    let left : Range = range_from (length list.0) (place (lookups_rva e)) in
-    let stands : ListStands w b left list.0 = list_stands w b (place (lookups_rva e)) list.0 list.1 in
-    let run : GivesTold (StepsImports place w b) (TellsImport b) (record { left = left; rva = e.address_table_rva }) (imports place w b (made ∷ [])) = record_imports place w b made left some small stands low in
-    subst (λ (x : ImportRecordView). TellsLibrary place w b (library_told place x) x) (some_inside made r list.2) (record {
-      name = subst (λ (o : Option ℕ). IsRange b (range_from (length name.0) o) name.0) (sym (offset_is (place e.name_rva) p.0 p.1)) (text_stands b p.0 name.0 (name_is (text_at b p.0) name.0 name.1));
+    let left : Range = range_from (length list.0) (offset (lookups_rva e)) in
+    let stands : ListStands w b left list.0 = list_stands w b (offset (lookups_rva e)) list.0 list.1 in
+    let run : ReturnsReported (StepsImports offset w b) (ReportsImport b) (record { left = left; rva = e.address_table_rva }) (imports offset w b (made ∷ [])) = record_imports offset w b made left some small stands low in
+    subst (λ (x : ImportRecordView). ReportsLibrary offset w b (library_reported offset x) x) (some_inside made r list.2) (record {
+      name = subst (λ (o : Option ℕ). IsRange b (range_from (length name.0) o) name.0) (sym (offset_is (offset e.name_rva) p.0 p.1)) (text_stands b p.0 name.0 (name_is (text_at b p.0) name.0 name.1));
       list = is_range w b left list.0 stands;
       numbers = refl;
-      given = λ is whole. subst (GivesTold (StepsImports place w b) (TellsImport b) (record { left = left; rva = e.address_table_rva })) whole run;
-      refused = λ refusal fault. subst (GivesTold (StepsImports place w b) (TellsImport b) (record { left = left; rva = e.address_table_rva })) fault run;
+      given = λ is whole. subst (ReturnsReported (StepsImports offset w b) (ReportsImport b) (record { left = left; rva = e.address_table_rva })) whole run;
+      refused = λ refusal is_error. subst (ReturnsReported (StepsImports offset w b) (ReportsImport b) (record { left = left; rva = e.address_table_rva })) is_error run;
     })
 
-record_tells : (place : ℕ → Option ℕ) (w : ℕ) (b : List ℕ) (p : ℕ) (r : ImportRecordView) → 0 < w → AreBytes b → length b ≤ 2 ^ 63 → import_record_at place w b p ≡ Ok (Some r) →
-    TellsLibrary place w b (library_told place r) r
+record_reports : (offset : ℕ → Option ℕ) (w : ℕ) (b : List ℕ) (p : ℕ) (r : ImportRecordView) → 0 < w → AreBytes b → length b ≤ 2 ^ 63 → import_record_at offset w b p ≡ Ok (Some r) →
+    ReportsLibrary offset w b (library_reported offset r) r
 unfolding import_record_at
-record_tells place w b p r some bytes small h =
+record_reports offset w b p r some bytes small h =
     let e = given (record_at b p 20 (import_entry b p)) _ (Some r) h in
     let same : e.0 ≡ import_entry b p = there_is b p (import_entry b p) e.0 e.1 in
-    entry_tells place w b e.0 r some small (subst (λ (x : ImportDirectoryEntry). x.address_table_rva < 4294967296) (sym same) (low_address b p bytes))
-    (not_last (is_last e.0) r (import_record place w b e.0) e.2)
+    entry_reports offset w b e.0 r some small (subst (λ (x : ImportDirectoryEntry). x.address_table_rva < 4294967296) (sym same) (low_address b p bytes))
+    (not_last (is_last e.0) r (import_record offset w b e.0) e.2)
 
-record_there : (place : ℕ → Option ℕ) (w : ℕ) (b : List ℕ) (p : ℕ) (r : ImportRecordView) → import_record_at place w b p ≡ Ok (Some r) → p + 20 ≤ length b
+record_there : (offset : ℕ → Option ℕ) (w : ℕ) (b : List ℕ) (p : ℕ) (r : ImportRecordView) → import_record_at offset w b p ≡ Ok (Some r) → p + 20 ≤ length b
 unfolding import_record_at
-record_there place w b p r h =
+record_there offset w b p r h =
     let e = given (record_at b p 20 (import_entry b p)) _ (Some r) h in
     held b p 20 (import_entry b p) e.0 e.1
 
 -- ---- the libraries of a directory
 
 abbrev library_of_row : (ℕ → Option ℕ) → ℕ → Result (Option ImportRecordView) Refusal → Result (Option Library) Refusal × Libraries
-library_of_row place p row = library_by (libraries_from p) (row >>= λ r. Ok (option_map (library_told place) r))
+library_of_row offset p row = library_by (libraries_from p) (row >>= λ r. Ok (option_map (library_reported offset) r))
 
-is_over : (place : ℕ → Option ℕ) (w : ℕ) (b : List ℕ) → IsOver (StepsLibraries place w b) no_libraries
+is_over : (offset : ℕ → Option ℕ) (w : ℕ) (b : List ℕ) → IsOver (StepsLibraries offset w b) no_libraries
 unfolding library_step
-is_over place w b = makes_by (library_step place w b) no_libraries no_libraries (Ok None) refl
+is_over offset w b = makes_by (library_step offset w b) no_libraries no_libraries (Ok None) refl
 
-first_library : (place : ℕ → Option ℕ) (w : ℕ) (b : List ℕ) (p : ℕ) (row : Result (Option ImportRecordView) Refusal) (rows : List (Result (Option ImportRecordView) Refusal)) → import_record_at place w b p ≡ row →
-    ((r : ImportRecordView) → row ≡ Ok (Some r) → GivesTold (StepsLibraries place w b) (TellsLibrary place w b) (libraries_from (p + 20)) (up_to_none rows)) →
-    ((r : ImportRecordView) → row ≡ Ok (Some r) → TellsLibrary place w b (library_told place r) r) →
-    GivesTold (StepsLibraries place w b) (TellsLibrary place w b) (libraries_from p) (up_to_none (row ∷ rows))
+first_library : (offset : ℕ → Option ℕ) (w : ℕ) (b : List ℕ) (p : ℕ) (row : Result (Option ImportRecordView) Refusal) (rows : List (Result (Option ImportRecordView) Refusal)) → import_record_at offset w b p ≡ row →
+    ((r : ImportRecordView) → row ≡ Ok (Some r) → ReturnsReported (StepsLibraries offset w b) (ReportsLibrary offset w b) (libraries_from (p + 20)) (up_to_none rows)) →
+    ((r : ImportRecordView) → row ≡ Ok (Some r) → ReportsLibrary offset w b (library_reported offset r) r) →
+    ReturnsReported (StepsLibraries offset w b) (ReportsLibrary offset w b) (libraries_from p) (up_to_none (row ∷ rows))
 unfolding library_step
-first_library place w b p (Ok None) rows e more tells =
-    tells_none (StepsLibraries place w b) (TellsLibrary place w b) (libraries_from p) no_libraries (makes_by (library_step place w b) (libraries_from p) no_libraries (Ok None) (ap (library_of_row place p) e))
-    (is_over place w b)
-first_library place w b p (Ok (Some r)) rows e more tells =
-    tells_more (StepsLibraries place w b) (TellsLibrary place w b) (libraries_from p) (libraries_from (p + 20)) (library_told place r) r (up_to_none rows)
-    (makes_by (library_step place w b) (libraries_from p) (libraries_from (p + 20)) (Ok (Some (library_told place r))) (ap (library_of_row place p) e)) (tells r refl) (more r refl)
-first_library place w b p (Err refusal) rows e more tells =
-    tells_refused (StepsLibraries place w b) (TellsLibrary place w b) (libraries_from p) no_libraries refusal (makes_by (library_step place w b) (libraries_from p) no_libraries (Err refusal) (ap (library_of_row place p) e))
-    (is_over place w b)
+first_library offset w b p (Ok None) rows e more reports =
+    reports_none (StepsLibraries offset w b) (ReportsLibrary offset w b) (libraries_from p) no_libraries (makes_by (library_step offset w b) (libraries_from p) no_libraries (Ok None) (ap (library_of_row offset p) e))
+    (is_over offset w b)
+first_library offset w b p (Ok (Some r)) rows e more reports =
+    reports_more (StepsLibraries offset w b) (ReportsLibrary offset w b) (libraries_from p) (libraries_from (p + 20)) (library_reported offset r) r (up_to_none rows)
+    (makes_by (library_step offset w b) (libraries_from p) (libraries_from (p + 20)) (Ok (Some (library_reported offset r))) (ap (library_of_row offset p) e)) (reports r refl) (more r refl)
+first_library offset w b p (Err refusal) rows e more reports =
+    reports_refused (StepsLibraries offset w b) (ReportsLibrary offset w b) (libraries_from p) no_libraries refusal (makes_by (library_step offset w b) (libraries_from p) no_libraries (Err refusal) (ap (library_of_row offset p) e))
+    (is_over offset w b)
 
-libraries_run : (place : ℕ → Option ℕ) (w : ℕ) (b : List ℕ) → 0 < w → AreBytes b → length b ≤ 2 ^ 63 → (n p : ℕ) → length b < p + 20 * suc n →
-    GivesTold (StepsLibraries place w b) (TellsLibrary place w b) (libraries_from p) (up_to_none (each (λ i. import_record_at place w b (p + 20 * i)) (suc n)))
-libraries_run place w b some bytes small zero p enough =
-    subst (λ (rows : List (Result (Option ImportRecordView) Refusal)). GivesTold (StepsLibraries place w b) (TellsLibrary place w b) (libraries_from p) (up_to_none rows)) (sym (rows_front (import_record_at place w b) 20 p 0))
-    (first_library place w b p (import_record_at place w b p) _ refl
-    (λ r e. let room : p + 20 ≤ length b = record_there place w b p r e in absurd (omega (arith, room, enough)))
-    (λ r e. record_tells place w b p r some bytes small e))
-libraries_run place w b some bytes small (suc n) p enough =
-    subst (λ (rows : List (Result (Option ImportRecordView) Refusal)). GivesTold (StepsLibraries place w b) (TellsLibrary place w b) (libraries_from p) (up_to_none rows)) (sym (rows_front (import_record_at place w b) 20 p (suc n)))
-    (first_library place w b p (import_record_at place w b p) _ refl
-    (λ r e. libraries_run place w b some bytes small n (p + 20) (omega (arith, enough)))
-    (λ r e. record_tells place w b p r some bytes small e))
+libraries_run : (offset : ℕ → Option ℕ) (w : ℕ) (b : List ℕ) → 0 < w → AreBytes b → length b ≤ 2 ^ 63 → (n p : ℕ) → length b < p + 20 * suc n →
+    ReturnsReported (StepsLibraries offset w b) (ReportsLibrary offset w b) (libraries_from p) (up_to_none (each (λ i. import_record_at offset w b (p + 20 * i)) (suc n)))
+libraries_run offset w b some bytes small zero p enough =
+    subst (λ (rows : List (Result (Option ImportRecordView) Refusal)). ReturnsReported (StepsLibraries offset w b) (ReportsLibrary offset w b) (libraries_from p) (up_to_none rows)) (sym (rows_front (import_record_at offset w b) 20 p 0))
+    (first_library offset w b p (import_record_at offset w b p) _ refl
+    (λ r e. let room : p + 20 ≤ length b = record_there offset w b p r e in absurd (omega (arith, room, enough)))
+    (λ r e. record_reports offset w b p r some bytes small e))
+libraries_run offset w b some bytes small (suc n) p enough =
+    subst (λ (rows : List (Result (Option ImportRecordView) Refusal)). ReturnsReported (StepsLibraries offset w b) (ReportsLibrary offset w b) (libraries_from p) (up_to_none rows)) (sym (rows_front (import_record_at offset w b) 20 p (suc n)))
+    (first_library offset w b p (import_record_at offset w b p) _ refl
+    (λ r e. libraries_run offset w b some bytes small n (p + 20) (omega (arith, enough)))
+    (λ r e. record_reports offset w b p r some bytes small e))
 
-directory_run : (place : ℕ → Option ℕ) (w : ℕ) (b : List ℕ) (p : ℕ) → 0 < w → AreBytes b → length b ≤ 2 ^ 63 →
-    GivesTold (StepsLibraries place w b) (TellsLibrary place w b) (libraries_from p) (import_records place w b p)
+directory_run : (offset : ℕ → Option ℕ) (w : ℕ) (b : List ℕ) (p : ℕ) → 0 < w → AreBytes b → length b ≤ 2 ^ 63 →
+    ReturnsReported (StepsLibraries offset w b) (ReportsLibrary offset w b) (libraries_from p) (import_records offset w b p)
 unfolding import_records
-directory_run place w b p some bytes small = libraries_run place w b some bytes small (length b) p (omega arith)
+directory_run offset w b p some bytes small = libraries_run offset w b some bytes small (length b) p (omega arith)
 
-by_directory : (place : ℕ → Option ℕ) (w : ℕ) (b : List ℕ) (walk : Libraries) (absent : Bool) (at : Option ℕ) → 0 < w → AreBytes b → length b ≤ 2 ^ 63 →
+by_directory : (offset : ℕ → Option ℕ) (w : ℕ) (b : List ℕ) (walk : Libraries) (absent : Bool) (at : Option ℕ) → 0 < w → AreBytes b → length b ≤ 2 ^ 63 →
     if◌then◌else◌ {A = Result (Option Libraries) Refusal} absent (Ok None) (mapped at >>= λ p. Ok (Some (libraries_from p))) ≡ Ok (Some walk) →
-    GivesTold (StepsLibraries place w b) (TellsLibrary place w b) walk (mapped at >>= import_records place w b)
-by_directory place w b walk true at some bytes small e = absurd cc
-by_directory place w b walk false None some bytes small e = absurd cc
-by_directory place w b walk false (Some p) some bytes small e =
-    subst (λ (x : Libraries). GivesTold (StepsLibraries place w b) (TellsLibrary place w b) x (import_records place w b p)) (some_inside (libraries_from p) walk e) (directory_run place w b p some bytes small)
+    ReturnsReported (StepsLibraries offset w b) (ReportsLibrary offset w b) walk (mapped at >>= import_records offset w b)
+by_directory offset w b walk true at some bytes small e = absurd cc
+by_directory offset w b walk false None some bytes small e = absurd cc
+by_directory offset w b walk false (Some p) some bytes small e =
+    subst (λ (x : Libraries). ReturnsReported (StepsLibraries offset w b) (ReportsLibrary offset w b) x (import_records offset w b p)) (some_inside (libraries_from p) walk e) (directory_run offset w b p some bytes small)
 
-some_bytes : (wide : Bool) → 0 < entry_size wide
+some_bytes : (pe32_plus : Bool) → 0 < entry_size pe32_plus
 some_bytes true = omega arith
 some_bytes false = omega arith
 
-told_of_image : (b : List ℕ) (image : Image) (sections : List SectionTable) (walk : Libraries) → AreBytes b → length b ≤ 2 ^ 63 → libraries_at image sections ≡ Ok (Some walk) →
-    GivesTold (StepsLibraries (map_of_image image sections) (entry_size (image.width == 64)) b) (TellsLibrary (map_of_image image sections) (entry_size (image.width == 64)) b) walk
+reported_of_image : (b : List ℕ) (image : Image) (sections : List SectionTable) (walk : Libraries) → AreBytes b → length b ≤ 2 ^ 63 → libraries_at image sections ≡ Ok (Some walk) →
+    ReturnsReported (StepsLibraries (map_of_image image sections) (entry_size (image.width == 64)) b) (ReportsLibrary (map_of_image image sections) (entry_size (image.width == 64)) b) walk
     (import_data_at (map_of_image image sections) (entry_size (image.width == 64)) b image.imports.virtual_address)
-told_of_image b image sections walk bytes small e =
+reported_of_image b image sections walk bytes small e =
     by_directory (map_of_image image sections) (entry_size (image.width == 64)) b walk (is_absent image.imports) (map_of_image image sections image.imports.virtual_address) (some_bytes (image.width == 64)) bytes small e
 
 pub libraries_in_turn : (b : List ℕ) (image : Image) (sections : List SectionTable) (walk : Libraries) (rs : List ImportRecordView) → AreBytes b → length b ≤ 2 ^ 63 → libraries_at image sections ≡ Ok (Some walk) →
     import_data_at (map_of_image image sections) (entry_size (image.width == 64)) b image.imports.virtual_address ≡ Ok rs →
-    (told : List Library) × GivesItems (StepsLibraries (map_of_image image sections) (entry_size (image.width == 64)) b) walk (map (λ x. Ok x) told) ×
-    AllZip (TellsLibrary (map_of_image image sections) (entry_size (image.width == 64)) b) told rs
+    (reported : List Library) × ReturnsItems (StepsLibraries (map_of_image image sections) (entry_size (image.width == 64)) b) walk (map (λ x. Ok x) reported) ×
+    AllZip (ReportsLibrary (map_of_image image sections) (entry_size (image.width == 64)) b) reported rs
 libraries_in_turn b image sections walk rs bytes small e whole =
-    subst (GivesTold (StepsLibraries (map_of_image image sections) (entry_size (image.width == 64)) b) (TellsLibrary (map_of_image image sections) (entry_size (image.width == 64)) b) walk) whole
-    (told_of_image b image sections walk bytes small e)
+    subst (ReturnsReported (StepsLibraries (map_of_image image sections) (entry_size (image.width == 64)) b) (ReportsLibrary (map_of_image image sections) (entry_size (image.width == 64)) b) walk) whole
+    (reported_of_image b image sections walk bytes small e)
 
 pub refused_in_turn : (b : List ℕ) (image : Image) (sections : List SectionTable) (walk : Libraries) (refusal : Refusal) → AreBytes b → length b ≤ 2 ^ 63 → libraries_at image sections ≡ Ok (Some walk) →
     import_data_at (map_of_image image sections) (entry_size (image.width == 64)) b image.imports.virtual_address ≡ Err refusal →
-    (told : List Library) × (rs : List ImportRecordView) ×
-    GivesItems (StepsLibraries (map_of_image image sections) (entry_size (image.width == 64)) b) walk (map (λ x. Ok x) told ++ Err refusal ∷ []) ×
-    AllZip (TellsLibrary (map_of_image image sections) (entry_size (image.width == 64)) b) told rs
-refused_in_turn b image sections walk refusal bytes small e fault =
-    subst (GivesTold (StepsLibraries (map_of_image image sections) (entry_size (image.width == 64)) b) (TellsLibrary (map_of_image image sections) (entry_size (image.width == 64)) b) walk) fault
-    (told_of_image b image sections walk bytes small e)
+    (reported : List Library) × (rs : List ImportRecordView) ×
+    ReturnsItems (StepsLibraries (map_of_image image sections) (entry_size (image.width == 64)) b) walk (map (λ x. Ok x) reported ++ Err refusal ∷ []) ×
+    AllZip (ReportsLibrary (map_of_image image sections) (entry_size (image.width == 64)) b) reported rs
+refused_in_turn b image sections walk refusal bytes small e is_error =
+    subst (ReturnsReported (StepsLibraries (map_of_image image sections) (entry_size (image.width == 64)) b) (ReportsLibrary (map_of_image image sections) (entry_size (image.width == 64)) b) walk) is_error
+    (reported_of_image b image sections walk bytes small e)
 
 -- ---- records in turn
 
@@ -403,10 +403,10 @@ all_in_turn (Ok x ∷ xs) ys = ap (with_rest (x ∷ [])) (all_in_turn xs ys) ∙
 all_in_turn (Err e ∷ xs) ys = refl
 
 pub imports_in_turn : ImportsInTurn
-unfolding imports entries
-imports_in_turn place w b r rs =
-    let its : List EntryView = each (entry_at w r) (length r.lookups / w) in
-    let others : List EntryView = entries w rs in
-    ap all_or_refusal (map-append (import_of place w b) its others)
-    ∙ all_in_turn (map (import_of place w b) its) (map (import_of place w b) others)
-    ∙ ap (λ (es : List EntryView). all_or_refusal (map (import_of place w b) es) >>= λ first. all_or_refusal (map (import_of place w b) others) >>= λ more. Ok (first ++ more)) (sym (append-nil its))
+unfolding imports import_entries
+imports_in_turn offset w b r rs =
+    let its : List EntryView = each (import_entry_at w r) (length r.lookups / w) in
+    let others : List EntryView = import_entries w rs in
+    ap all_or_refusal (map-append (import_of offset w b) its others)
+    ∙ all_in_turn (map (import_of offset w b) its) (map (import_of offset w b) others)
+    ∙ ap (λ (es : List EntryView). all_or_refusal (map (import_of offset w b) es) >>= λ first. all_or_refusal (map (import_of offset w b) others) >>= λ more. Ok (first ++ more)) (sym (append-nil its))

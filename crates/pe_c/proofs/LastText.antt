@@ -4,6 +4,6 @@ use Rattle.std.specs.Prelude.{codes}
 use Rattle.std.proofs.lemmas.List.{get_or_past}
 use Rattle.pe_c.specs.Texts.{texts, refusal_text}
 
-pub text_past : (n : ℕ) → 38 ≤ n → codes "another answer" ≡ refusal_text n
+pub text_past : (n : ℕ) → 38 ≤ n → codes "unknown result" ≡ refusal_text n
 unfolding refusal_text
-text_past n h = sym (get_or_past texts n (codes "another answer") (omega arith))
+text_past n h = sym (get_or_past texts n (codes "unknown result") (omega arith))

@@ -7,8 +7,8 @@ use Rattle.pe_core.specs.Refusals.{Refusal, Short}
 use Rattle.pe_c.specs.Ranges.{IsRange, bytes_at}
 use Rattle.pe_c.specs.declared.ranges.Range.{Range}
 
-pub same_range : (r s : Range) → r.place ≡ s.place → r.length ≡ s.length → r ≡ s
-same_range r s place size = ap (λ (p : ℕ). record { place = p; length = r.length }) place ∙ ap (λ (n : ℕ). record { place = s.place; length = n }) size
+pub same_range : (r s : Range) → r.offset ≡ s.offset → r.length ≡ s.length → r ≡ s
+same_range r s offset size = ap (λ (p : ℕ). record { offset = p; length = r.length }) offset ∙ ap (λ (n : ℕ). record { offset = s.offset; length = n }) size
 
 -- what is left behind n bytes of a range
 pub rest_of_range : (b : List ℕ) (p n k : ℕ) → p + n ≤ length b → k ≤ n → range b (p + k) (n - k) ≡ drop k (range b p n)
@@ -20,34 +20,34 @@ long b p n h = grind (arith, places)
 pub nothing_there : (b : List ℕ) → range b 0 0 ≡ []
 nothing_there b = grind (arith, places)
 
-pub there : (b : List ℕ) (r : Range) (bytes : List ℕ) (inside : Bool) → holds b r.place r.length ≡ inside → bytes_at b r ≡ Ok bytes → (r.place + r.length ≤ length b) × (bytes ≡ range b r.place r.length)
-there b r bytes true h e = (grind (arith, nat_tests), (let same : ◌≡◌ {A = Result (List ℕ) Refusal} (Ok (range b r.place r.length)) (Ok bytes) = sym (rw h refl) ∙ e in cc))
+pub there : (b : List ℕ) (r : Range) (bytes : List ℕ) (inside : Bool) → holds b r.offset r.length ≡ inside → bytes_at b r ≡ Ok bytes → (r.offset + r.length ≤ length b) × (bytes ≡ range b r.offset r.length)
+there b r bytes true h e = (grind (arith, nat_tests), (let same : ◌≡◌ {A = Result (List ℕ) Refusal} (Ok (range b r.offset r.length)) (Ok bytes) = sym (rw h refl) ∙ e in cc))
 there b r bytes false h e = absurd (let same : ◌≡◌ {A = Result (List ℕ) Refusal} (Err Short) (Ok bytes) = sym (rw h refl) ∙ e in cc)
 
-pub bytes_there : (b : List ℕ) (r : Range) → r.place + r.length ≤ length b → bytes_at b r ≡ Ok (range b r.place r.length)
-bytes_there b r h = let inside : holds b r.place r.length ≡ true = grind (arith, nat_tests) in rw inside refl
+pub bytes_there : (b : List ℕ) (r : Range) → r.offset + r.length ≤ length b → bytes_at b r ≡ Ok (range b r.offset r.length)
+bytes_there b r h = let inside : holds b r.offset r.length ≡ true = grind (arith, nat_tests) in rw inside refl
 
 -- behind a step a walk has left what the step says
-pub left_behind : (b : List ℕ) (w v : Range) (bytes : List ℕ) → bytes_at b w ≡ Ok bytes → v.length ≤ w.length → v.place + v.length ≡ w.place + w.length → bytes_at b v ≡ Ok (drop (length bytes - v.length) bytes)
-left_behind b w v bytes e shorter same =
-    let in_b = there b w bytes (holds b w.place w.length) refl e in
-    let size : length bytes ≡ w.length = ap length in_b.1 ∙ long b w.place w.length in_b.0 in
-    let place : v.place ≡ w.place + (w.length - v.length) = omega (arith, shorter, same) in
+pub left_after : (b : List ℕ) (w v : Range) (bytes : List ℕ) → bytes_at b w ≡ Ok bytes → v.length ≤ w.length → v.offset + v.length ≡ w.offset + w.length → bytes_at b v ≡ Ok (drop (length bytes - v.length) bytes)
+left_after b w v bytes e shorter same =
+    let in_b = there b w bytes (holds b w.offset w.length) refl e in
+    let size : length bytes ≡ w.length = ap length in_b.1 ∙ long b w.offset w.length in_b.0 in
+    let offset : v.offset ≡ w.offset + (w.length - v.length) = omega (arith, shorter, same) in
     let count : v.length ≡ w.length - (w.length - v.length) = omega (arith, shorter) in
-    let rest : range b v.place v.length ≡ drop (w.length - v.length) (range b w.place w.length) =
-    ap (λ (p : ℕ). range b p v.length) place
-    ∙ ap (λ (n : ℕ). range b (w.place + (w.length - v.length)) n) count
-    ∙ rest_of_range b w.place w.length (w.length - v.length) in_b.0 (omega arith) in
+    let rest : range b v.offset v.length ≡ drop (w.length - v.length) (range b w.offset w.length) =
+    ap (λ (p : ℕ). range b p v.length) offset
+    ∙ ap (λ (n : ℕ). range b (w.offset + (w.length - v.length)) n) count
+    ∙ rest_of_range b w.offset w.length (w.length - v.length) in_b.0 (omega arith) in
     bytes_there b v (omega (arith, in_b.0, same))
     ∙ ap (λ (x : List ℕ). Ok x) (rest ∙ ap (λ (x : List ℕ). drop (w.length - v.length) x) (sym in_b.1) ∙ ap (λ (n : ℕ). drop (n - v.length) bytes) (sym size))
 
 pub size_of : (b : List ℕ) (r : Range) (bytes : List ℕ) → bytes_at b r ≡ Ok bytes → length bytes ≡ r.length
-size_of b r bytes e = let in_b = there b r bytes (holds b r.place r.length) refl e in ap length in_b.1 ∙ long b r.place r.length in_b.0
+size_of b r bytes e = let in_b = there b r bytes (holds b r.offset r.length) refl e in ap length in_b.1 ∙ long b r.offset r.length in_b.0
 
 -- ---- the bytes of a part that a range is
 
 pub bytes_of_range : (b : List ℕ) (r : Range) (t : List ℕ) → IsRange b r t → bytes_at b r ≡ Ok t
-bytes_of_range b r t is = let there : holds b r.place r.length ≡ true = (let inside : r.place + r.length ≤ length b = is.inside in grind (arith, nat_tests)) in rw there (ap (λ (x : List ℕ). Ok x) is.same)
+bytes_of_range b r t is = let there : holds b r.offset r.length ≡ true = (let inside : r.offset + r.length ≤ length b = is.inside in grind (arith, nat_tests)) in rw there (ap (λ (x : List ℕ). Ok x) is.same)
 
 pub length_of_range : (b : List ℕ) (r : Range) (t : List ℕ) → IsRange b r t → length t ≡ r.length
-length_of_range b r t is = let inside : r.place + r.length ≤ length b = is.inside in let all : length (range b r.place r.length) ≡ r.length = grind (arith, places) in ap length (sym is.same) ∙ all
+length_of_range b r t is = let inside : r.offset + r.length ≤ length b = is.inside in let all : length (range b r.offset r.length) ≡ r.length = grind (arith, places) in ap length (sym is.same) ∙ all

@@ -20,5 +20,5 @@ pub mod Rings
 pub mod Rooms
 pub mod Runs
 pub mod Steps
-pub mod VersionsTold
+pub mod VersionsReported
 pub mod Ways

@@ -52,25 +52,25 @@ pub at_range : (b : List ℕ) (p n : ℕ) → p + n ≤ length b → certificate
 unfolding certificates_at
 at_range b p n h = rw (inside (p + n) (length b) h) refl
 
-behind : (b : List ℕ) (w : Range) (k next : ℕ) (t : Bool) → nat_lt next (w.place + w.length) ≡ t → w.place + w.length ≤ length b → w.place + w.length ≤ next + k →
-    certificates_from b (w.place + w.length) k next ≡ listed b (cond t (record { place = next; length = w.place + w.length - next }) no_bytes)
-behind b w k next true e h i =
-    let before : next < w.place + w.length = grind (arith, nat_tests) in
-    let same : next + (w.place + w.length - next) ≡ w.place + w.length = omega arith in
-    enough b (w.place + w.length) k (w.place + w.length - next) next true e i (omega arith)
-    ∙ ap (λ (end : ℕ). certificates_from b end (w.place + w.length - next) next) (sym same)
-    ∙ sym (at_range b next (w.place + w.length - next) (omega arith))
-behind b w k next false e h i =
-    none_from b (w.place + w.length) k next (grind (arith, nat_tests)) ∙ sym (none_from b (0 + 0) 0 0 (omega arith)) ∙ sym (at_range b 0 0 (omega arith))
+after : (b : List ℕ) (w : Range) (k next : ℕ) (t : Bool) → nat_lt next (w.offset + w.length) ≡ t → w.offset + w.length ≤ length b → w.offset + w.length ≤ next + k →
+    certificates_from b (w.offset + w.length) k next ≡ listed b (cond t (record { offset = next; length = w.offset + w.length - next }) no_bytes)
+after b w k next true e h i =
+    let before : next < w.offset + w.length = grind (arith, nat_tests) in
+    let same : next + (w.offset + w.length - next) ≡ w.offset + w.length = omega arith in
+    enough b (w.offset + w.length) k (w.offset + w.length - next) next true e i (omega arith)
+    ∙ ap (λ (end : ℕ). certificates_from b end (w.offset + w.length - next) next) (sym same)
+    ∙ sym (at_range b next (w.offset + w.length - next) (omega arith))
+after b w k next false e h i =
+    none_from b (w.offset + w.length) k next (grind (arith, nat_tests)) ∙ sym (none_from b (0 + 0) 0 0 (omega arith)) ∙ sym (at_range b 0 0 (omega arith))
 
-first_listed : (b : List ℕ) (w : Range) (n : ℕ) → w.length ≡ suc n → w.place + w.length ≤ length b → listed b w ≡ first_and (λ next. listed b (walk_from w next)) (certificate_at b w.place)
+first_listed : (b : List ℕ) (w : Range) (n : ℕ) → w.length ≡ suc n → w.offset + w.length ≤ length b → listed b w ≡ first_and (λ next. listed b (walk_from w next)) (certificate_at b w.offset)
 first_listed b w n e h =
-    at_range b w.place w.length h
-    ∙ ap (λ (k : ℕ). certificates_from b (w.place + w.length) k w.place) e
-    ∙ some_from b (w.place + w.length) n w.place (omega arith)
-    ∙ same_more (certificates_from b (w.place + w.length) n) (λ next. listed b (walk_from w next)) (certificate_at b w.place)
-    (λ c next given. let further : w.place < next = next_above b w.place c next given in behind b w n next (nat_lt next (w.place + w.length)) refl h (omega arith))
+    at_range b w.offset w.length h
+    ∙ ap (λ (k : ℕ). certificates_from b (w.offset + w.length) k w.offset) e
+    ∙ some_from b (w.offset + w.length) n w.offset (omega arith)
+    ∙ same_more (certificates_from b (w.offset + w.length) n) (λ next. listed b (walk_from w next)) (certificate_at b w.offset)
+    (λ c next given. let further : w.offset < next = next_above b w.offset c next given in after b w n next (nat_lt next (w.offset + w.length)) refl h (omega arith))
 
 -- a walk that is not at its end lists the certificate at its place, and then what it lists from the next place on
-pub steps_list : (b : List ℕ) (w : Range) → w.length ≢ 0 → holds b w.place w.length ≡ true → listed b w ≡ first_and (λ next. listed b (walk_from w next)) (certificate_at b w.place)
+pub steps_list : (b : List ℕ) (w : Range) → w.length ≢ 0 → holds b w.offset w.length ≡ true → listed b w ≡ first_and (λ next. listed b (walk_from w next)) (certificate_at b w.offset)
 steps_list b w some h = first_listed b w (w.length - 1) (omega arith) (grind (arith, nat_tests))

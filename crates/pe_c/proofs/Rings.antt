@@ -32,9 +32,9 @@ split goes (suc m) n u w p =
 pub record Ring (goes : ℕ → ℕ → Type 0) (u n : ℕ) : Type 0 where
   pub before : ℕ
   pub around : ℕ
-  pub place : ℕ
-  pub to_place : LeadsIn goes before u place
-  pub to_again : LeadsIn goes (suc around) place place
+  pub offset : ℕ
+  pub to_offset : LeadsIn goes before u offset
+  pub to_again : LeadsIn goes (suc around) offset offset
   pub within : before + suc around ≤ n
 
 -- the places on a way
@@ -76,11 +76,11 @@ distinct_or_ring goes (suc k) u v p =
     ⊎_elim (λ (d : IsDistinct eqb (stops goes k p.0 v p.2)).
     ⊎_elim (λ (met : list_any (eqb u) (stops goes k p.0 v p.2) ≡ true).
     let back = comes_to goes k p.0 v u p.2 met in
-    inr (record { before = 0; around = back.0; place = u; to_place = refl; to_again = (p.0, p.1, back.2); within = omega (arith, back.1) }))
+    inr (record { before = 0; around = back.0; offset = u; to_offset = refl; to_again = (p.0, p.1, back.2); within = omega (arith, back.1) }))
     (λ (new : list_any (eqb u) (stops goes k p.0 v p.2) ≡ false).
     inl (IsDistinct-cons eqb u (stops goes k p.0 v p.2) (apart u (stops goes k p.0 v p.2) new) d))
     (cases_Bool (list_any (eqb u) (stops goes k p.0 v p.2))))
-    (λ (r : Ring goes p.0 k). inr (record { before = suc r.before; around = r.around; place = r.place; to_place = (p.0, p.1, r.to_place); to_again = r.to_again; within = omega (arith, r.within) }))
+    (λ (r : Ring goes p.0 k). inr (record { before = suc r.before; around = r.around; offset = r.offset; to_offset = (p.0, p.1, r.to_offset); to_again = r.to_again; within = omega (arith, r.within) }))
     (distinct_or_ring goes k p.0 v p.2)
 
 below : (goes : ℕ → ℕ → Type 0) (n : ℕ) → EndsBelow n goes → (k u v q : ℕ) (p : LeadsIn goes k u v) → u < n → list_any (eqb q) (stops goes k u v p) ≡ true → q < n
@@ -105,12 +105,12 @@ ring_within goes n small u v h p =
 -- a place that is reached late comes again after a round
 pub comes_again : (goes : ℕ → ℕ → Type 0) → HasOneEnd goes → (n u k a : ℕ) (r : Ring goes u n) → n ≤ k → LeadsIn goes k u a → LeadsIn goes (suc r.around) a a
 comes_again goes one n u k a r h p =
-    let behind : ℕ = k - r.before in
-    let parts = split goes r.before behind u a (as_many goes k (r.before + behind) u a (omega (arith, r.within, h)) p) in
-    let there : parts.0 ≡ r.place = same_end goes one r.before u parts.0 r.place parts.1 r.to_place in
-    let to_end : LeadsIn goes behind r.place a = subst (λ (x : ℕ). LeadsIn goes behind x a) there parts.2 in
-    let round : LeadsIn goes (suc r.around + behind) r.place a = joined goes (suc r.around) behind r.place r.place a r.to_again to_end in
-    let whole : LeadsIn goes (r.before + (suc r.around + behind)) u a = joined goes r.before (suc r.around + behind) u r.place a r.to_place round in
-    let again = split goes k (suc r.around) u a (as_many goes (r.before + (suc r.around + behind)) (k + suc r.around) u a (omega (arith, r.within, h)) whole) in
+    let after : ℕ = k - r.before in
+    let parts = split goes r.before after u a (as_many goes k (r.before + after) u a (omega (arith, r.within, h)) p) in
+    let there : parts.0 ≡ r.offset = same_end goes one r.before u parts.0 r.offset parts.1 r.to_offset in
+    let to_end : LeadsIn goes after r.offset a = subst (λ (x : ℕ). LeadsIn goes after x a) there parts.2 in
+    let round : LeadsIn goes (suc r.around + after) r.offset a = joined goes (suc r.around) after r.offset r.offset a r.to_again to_end in
+    let whole : LeadsIn goes (r.before + (suc r.around + after)) u a = joined goes r.before (suc r.around + after) u r.offset a r.to_offset round in
+    let again = split goes k (suc r.around) u a (as_many goes (r.before + (suc r.around + after)) (k + suc r.around) u a (omega (arith, r.within, h)) whole) in
     let same : again.0 ≡ a = same_end goes one k u again.0 a again.1 p in
     subst (λ (x : ℕ). LeadsIn goes (suc r.around) x a) same again.2

@@ -3,33 +3,33 @@ use Rattle.std.proofs.Common.{◌≡◌, List, [], ◌∷◌, ◌++◌, map, Opt
 use Rattle.std.specs.List.{AllZip}
 use Rattle.pe_core.specs.Gathered.{with_rest}
 use Rattle.pe_core.specs.Refusals.{Refusal}
-use Rattle.pe_c.specs.Runs.{GivesItems, IsOver}
+use Rattle.pe_c.specs.Runs.{ReturnsItems, IsOver}
 
 -- whatever step is made answers so, and leaves the walk there
 abbrev pub Makes : {W X : Type 0} → (W → Result (Option X) Refusal → W → Type 0) → W → Result (Option X) Refusal → W → Type 0
 Makes {W} {X} Steps walk given next = (answer : Result (Option X) Refusal) (v : W) → Steps walk answer v → (answer ≡ given) × (v ≡ next)
 
 -- a walk gives what tells the elements of a list; where the list is refused, what tells some elements, and then the refusal
-abbrev pub GivesTold : {W X Y : Type 0} → (W → Result (Option X) Refusal → W → Type 0) → (X → Y → Type 0) → W → Result (List Y) Refusal → Type 0
-GivesTold {X = X} Steps Tells walk (Ok ys) = (told : List X) × GivesItems Steps walk (map (λ x. Ok x) told) × AllZip Tells told ys
-GivesTold {X = X} {Y = Y} Steps Tells walk (Err e) = (told : List X) × (ys : List Y) × GivesItems Steps walk (map (λ x. Ok x) told ++ Err e ∷ []) × AllZip Tells told ys
+abbrev pub ReturnsReported : {W X Y : Type 0} → (W → Result (Option X) Refusal → W → Type 0) → (X → Y → Type 0) → W → Result (List Y) Refusal → Type 0
+ReturnsReported {X = X} Steps Reports walk (Ok ys) = (reported : List X) × ReturnsItems Steps walk (map (λ x. Ok x) reported) × AllZip Reports reported ys
+ReturnsReported {X = X} {Y = Y} Steps Reports walk (Err e) = (reported : List X) × (ys : List Y) × ReturnsItems Steps walk (map (λ x. Ok x) reported ++ Err e ∷ []) × AllZip Reports reported ys
 
 -- a step that a function makes
 pub makes_by : {W X : Type 0} (step : W → Result (Option X) Refusal × W) (walk next : W) (given : Result (Option X) Refusal) → step walk ≡ (given, next) → Makes (λ old answer new. (answer, new) ≡ step old) walk given next
 makes_by {W} {X} step walk next given is answer v s = (ap (λ (p : Result (Option X) Refusal × W). p.0) (s ∙ is), ap (λ (p : Result (Option X) Refusal × W). p.1) (s ∙ is))
 
 gives_first : {W X : Type 0} (Steps : W → Result (Option X) Refusal → W → Type 0) (walk next : W) (x : X) (items : List (Result X Refusal)) → Makes Steps walk (Ok (Some x)) next →
-    GivesItems Steps next items → GivesItems Steps walk (Ok x ∷ items)
+    ReturnsItems Steps next items → ReturnsItems Steps walk (Ok x ∷ items)
 gives_first {W} Steps walk next x items makes more = λ answer v s.
     let given = makes answer v s in
-    (given.0, subst (λ (u : W). GivesItems Steps u items) (sym given.1) more)
+    (given.0, subst (λ (u : W). ReturnsItems Steps u items) (sym given.1) more)
 
-gives_nothing : {W X : Type 0} (Steps : W → Result (Option X) Refusal → W → Type 0) (walk next : W) → Makes Steps walk (Ok None) next → IsOver Steps next → GivesItems Steps walk []
+gives_nothing : {W X : Type 0} (Steps : W → Result (Option X) Refusal → W → Type 0) (walk next : W) → Makes Steps walk (Ok None) next → IsOver Steps next → ReturnsItems Steps walk []
 gives_nothing {W} Steps walk next makes over = λ answer v s.
     let given = makes answer v s in
     (given.0, subst (λ (u : W). IsOver Steps u) (sym given.1) over)
 
-gives_refusal : {W X : Type 0} (Steps : W → Result (Option X) Refusal → W → Type 0) (walk next : W) (e : Refusal) → Makes Steps walk (Err e) next → IsOver Steps next → GivesItems Steps walk (Err e ∷ [])
+gives_refusal : {W X : Type 0} (Steps : W → Result (Option X) Refusal → W → Type 0) (walk next : W) (e : Refusal) → Makes Steps walk (Err e) next → IsOver Steps next → ReturnsItems Steps walk (Err e ∷ [])
 gives_refusal {W} Steps walk next e makes over = (
   refl,
   λ answer v s.
@@ -37,13 +37,13 @@ gives_refusal {W} Steps walk next e makes over = (
       (given.0, subst (λ (u : W). IsOver Steps u) (sym given.1) over),
 )
 
-pub tells_more : {W X Y : Type 0} (Steps : W → Result (Option X) Refusal → W → Type 0) (Tells : X → Y → Type 0) (walk next : W) (x : X) (y : Y) (rest : Result (List Y) Refusal) →
-    Makes Steps walk (Ok (Some x)) next → Tells x y → GivesTold Steps Tells next rest → GivesTold Steps Tells walk (with_rest (y ∷ []) rest)
-tells_more Steps Tells walk next x y (Ok ys) makes tells more = (x ∷ more.0, gives_first Steps walk next x (map (λ z. Ok z) more.0) makes more.1, (tells, more.2))
-tells_more Steps Tells walk next x y (Err e) makes tells more = (x ∷ more.0, y ∷ more.1, gives_first Steps walk next x (map (λ z. Ok z) more.0 ++ Err e ∷ []) makes more.2, (tells, more.3))
+pub reports_more : {W X Y : Type 0} (Steps : W → Result (Option X) Refusal → W → Type 0) (Reports : X → Y → Type 0) (walk next : W) (x : X) (y : Y) (rest : Result (List Y) Refusal) →
+    Makes Steps walk (Ok (Some x)) next → Reports x y → ReturnsReported Steps Reports next rest → ReturnsReported Steps Reports walk (with_rest (y ∷ []) rest)
+reports_more Steps Reports walk next x y (Ok ys) makes reports more = (x ∷ more.0, gives_first Steps walk next x (map (λ z. Ok z) more.0) makes more.1, (reports, more.2))
+reports_more Steps Reports walk next x y (Err e) makes reports more = (x ∷ more.0, y ∷ more.1, gives_first Steps walk next x (map (λ z. Ok z) more.0 ++ Err e ∷ []) makes more.2, (reports, more.3))
 
-pub tells_none : {W X Y : Type 0} (Steps : W → Result (Option X) Refusal → W → Type 0) (Tells : X → Y → Type 0) (walk next : W) → Makes Steps walk (Ok None) next → IsOver Steps next → GivesTold Steps Tells walk (Ok [])
-tells_none Steps Tells walk next makes over = ([], gives_nothing Steps walk next makes over, tt)
+pub reports_none : {W X Y : Type 0} (Steps : W → Result (Option X) Refusal → W → Type 0) (Reports : X → Y → Type 0) (walk next : W) → Makes Steps walk (Ok None) next → IsOver Steps next → ReturnsReported Steps Reports walk (Ok [])
+reports_none Steps Reports walk next makes over = ([], gives_nothing Steps walk next makes over, tt)
 
-pub tells_refused : {W X Y : Type 0} (Steps : W → Result (Option X) Refusal → W → Type 0) (Tells : X → Y → Type 0) (walk next : W) (e : Refusal) → Makes Steps walk (Err e) next → IsOver Steps next → GivesTold Steps Tells walk (Err e)
-tells_refused Steps Tells walk next e makes over = ([], [], gives_refusal Steps walk next e makes over, tt)
+pub reports_refused : {W X Y : Type 0} (Steps : W → Result (Option X) Refusal → W → Type 0) (Reports : X → Y → Type 0) (walk next : W) (e : Refusal) → Makes Steps walk (Err e) next → IsOver Steps next → ReturnsReported Steps Reports walk (Err e)
+reports_refused Steps Reports walk next e makes over = ([], [], gives_refusal Steps walk next e makes over, tt)

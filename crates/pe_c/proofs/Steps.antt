@@ -7,8 +7,8 @@ use Rattle.pe_core.specs.Bytes.{holds, range}
 use Rattle.pe_core.specs.declared.error.Error.{Error}
 use Rattle.pe_core.specs.SectionMap.{rounded_up}
 use Rattle.pe_records.proofs.EntriesInOrder.{entries_more}
-use Rattle.pe_records.specs.DebugDirectory.{GivesEntry, entry_at, entries}
-use Rattle.pe_records.specs.Pogo.{BeginsWith, GivesPogoEntry, entry_of}
+use Rattle.pe_records.specs.DebugDirectory.{ReturnsEntry, debug_entry_at, debug_entries}
+use Rattle.pe_records.specs.Pogo.{StartsWith, ReturnsPogoEntry, pogo_entry_of}
 use Rattle.pe_records.specs.declared.debug.ImageDebugDirectory.{ImageDebugDirectory}
 use Rattle.pe_records.specs.declared.debug.pogo.POGOInfoEntry.{POGOInfoEntry}
 use Rattle.pe_c.specs.DebugWalks.{IsNamed}
@@ -17,21 +17,21 @@ use Rattle.pe_c.specs.declared.ranges.Range.{Range}
 -- ---- debug entries
 
 -- the first of the entries of bytes that hold one
-pub first_entry : (b left : List ℕ) (item : Option (Result ImageDebugDirectory Error)) → 28 ≤ length b → GivesEntry 0 b item left → item ≡ Some (Ok (entry_at 0 b 0))
-first_entry b left None long g = let more : entries 0 b ≡ Ok (entry_at 0 b 0) ∷ entries 0 (drop 28 b) = entries_more 0 b long in absurd (cc (g.0, more))
-first_entry b left (Some (Ok e)) long g = let more : entries 0 b ≡ Ok (entry_at 0 b 0) ∷ entries 0 (drop 28 b) = entries_more 0 b long in let same : e ≡ entry_at 0 b 0 = cc in ap (λ (x : ImageDebugDirectory). Some (Ok x)) same
-first_entry b left (Some (Err e)) long g = let more : entries 0 b ≡ Ok (entry_at 0 b 0) ∷ entries 0 (drop 28 b) = entries_more 0 b long in absurd cc
+pub first_entry : (b left : List ℕ) (item : Option (Result ImageDebugDirectory Error)) → 28 ≤ length b → ReturnsEntry 0 b item left → item ≡ Some (Ok (debug_entry_at 0 b 0))
+first_entry b left None long g = let more : debug_entries 0 b ≡ Ok (debug_entry_at 0 b 0) ∷ debug_entries 0 (drop 28 b) = entries_more 0 b long in absurd (cc (g.0, more))
+first_entry b left (Some (Ok e)) long g = let more : debug_entries 0 b ≡ Ok (debug_entry_at 0 b 0) ∷ debug_entries 0 (drop 28 b) = entries_more 0 b long in let same : e ≡ debug_entry_at 0 b 0 = cc in ap (λ (x : ImageDebugDirectory). Some (Ok x)) same
+first_entry b left (Some (Err e)) long g = let more : debug_entries 0 b ≡ Ok (debug_entry_at 0 b 0) ∷ debug_entries 0 (drop 28 b) = entries_more 0 b long in absurd cc
 
 -- ---- entries of a POGO record
 
 -- a step that gives an entry takes its bytes
-pub taken : (left rest : List ℕ) (e : POGOInfoEntry) → GivesPogoEntry left (Some (Ok e)) rest → (length left - length rest ≡ rounded_up (8 + length e.name.now) 4) × (rounded_up (8 + length e.name.now) 4 ≤ length left)
+pub taken : (left rest : List ℕ) (e : POGOInfoEntry) → ReturnsPogoEntry left (Some (Ok e)) rest → (length left - length rest ≡ rounded_up (8 + length e.name.now) 4) × (rounded_up (8 + length e.name.now) 4 ≤ length left)
 taken left rest e g =
     let n : ℕ = g.1 in
-    let begins : BeginsWith left (entry_of e) n = g.2 in
-    let padded : n ≡ rounded_up (8 + length e.name.now) 4 = begins.padded in
-    let whole : n ≤ length left = begins.whole in
-    let behind : length rest ≡ length left - n = ap length g.3 ∙ length-drop n left in
+    let starts : StartsWith left (pogo_entry_of e) n = g.2 in
+    let padded : n ≡ rounded_up (8 + length e.name.now) 4 = starts.padded in
+    let whole : n ≤ length left = starts.whole in
+    let after : length rest ≡ length left - n = ap length g.3 ∙ length-drop n left in
     (omega arith, omega arith)
 
 part_of_range : (b : List ℕ) (p n m k : ℕ) → p + n ≤ length b → m + k ≤ n → slice_range b (p + m) (p + m + k) ≡ take k (drop m (slice_range b p (p + n)))
@@ -39,17 +39,17 @@ part_of_range b p n m k h i = same_lists _ _ (grind (arith, places)) (λ j d lt.
 
 -- the name of an entry stands behind its two numbers
 pub named : (b left : List ℕ) (w : Range) (answer : Option (Result POGOInfoEntry Error)) (rest : List ℕ) →
-    holds b w.place w.length ≡ true → left ≡ range b w.place w.length → GivesPogoEntry left answer rest → IsNamed b w answer
+    holds b w.offset w.length ≡ true → left ≡ range b w.offset w.length → ReturnsPogoEntry left answer rest → IsNamed b w answer
 named b left w None rest inside is g = tt
 named b left w (Some (Err e)) rest inside is g = tt
 named b left w (Some (Ok e)) rest there is g =
-    let inside : w.place + w.length ≤ length b = grind (arith, nat_tests) in
-    let long : length (range b w.place w.length) ≡ w.length = grind (arith, places) in
+    let inside : w.offset + w.length ≤ length b = grind (arith, nat_tests) in
+    let long : length (range b w.offset w.length) ≡ w.length = grind (arith, places) in
     let n : ℕ = g.1 in
-    let begins : BeginsWith left (entry_of e) n = g.2 in
-    let padded : n ≡ rounded_up (8 + length e.name.now) 4 = begins.padded in
-    let whole : n ≤ length left = begins.whole in
+    let starts : StartsWith left (pogo_entry_of e) n = g.2 in
+    let padded : n ≡ rounded_up (8 + length e.name.now) 4 = starts.padded in
+    let whole : n ≤ length left = starts.whole in
     let short : 8 + length e.name.now ≤ w.length = omega (arith, ap length is, long) in
-    let name : e.name.now ≡ take (length e.name.now) (drop 8 left) = begins.name in
-    let here : e.name.now ≡ take (length e.name.now) (drop 8 (range b w.place w.length)) = subst (λ (x : List ℕ). e.name.now ≡ take (length e.name.now) (drop 8 x)) is name in
-    record { inside = omega arith; same = part_of_range b w.place w.length 8 (length e.name.now) inside short ∙ sym here }
+    let name : e.name.now ≡ take (length e.name.now) (drop 8 left) = starts.name in
+    let here : e.name.now ≡ take (length e.name.now) (drop 8 (range b w.offset w.length)) = subst (λ (x : List ℕ). e.name.now ≡ take (length e.name.now) (drop 8 x)) is name in
+    record { inside = omega arith; same = part_of_range b w.offset w.length 8 (length e.name.now) inside short ∙ sym here }

@@ -4,11 +4,11 @@ use Rattle.pe_core.specs.Bytes.{le}
 use Rattle.pe_core.specs.Refusals.{Refusal, Arm64Stream, Arm64Cut, kind_of, outcome, ◌>>=◌}
 use Rattle.pe_core.specs.declared.error.Error.{Error}
 use Rattle.pe_core.specs.declared.section_table.SectionTable.{SectionTable}
-use Rattle.pe_unwind.specs.Arm64Encoding.{bit, encoding, BeginsWithArm64Code, BeginsWithNoArm64Code}
+use Rattle.pe_unwind.specs.Arm64Encoding.{bit, encoding, StartsWithArm64Code, StartsWithNoArm64Code}
 use Rattle.pe_unwind.specs.Arm64Functions.{is_packed, arm64_function_of}
-use Rattle.pe_unwind.specs.Arm64Record.{Arm64HandlerView, Arm64InfoView, info_at, scopes_place}
+use Rattle.pe_unwind.specs.Arm64Record.{Arm64HandlerView, Arm64InfoView, info_at, scopes_offset}
 use Rattle.pe_unwind.specs.Arm64Tiling.{stream_at}
-use Rattle.pe_unwind.specs.Arm64Unwinding.{place_of_function}
+use Rattle.pe_unwind.specs.Arm64Unwinding.{offset_of_function}
 use Rattle.pe_unwind.specs.Arm64Words.{bits, has_epilog}
 use Rattle.pe_unwind.specs.ExceptionTable.{exception_at}
 use Rattle.pe_unwind.specs.declared.arm64.codes.Arm64CustomStackCase.{Arm64CustomStackCase}
@@ -17,9 +17,9 @@ use Rattle.pe_unwind.specs.declared.arm64.codes.Arm64UnwindCode.{Arm64UnwindCode
 use Rattle.pe_unwind.specs.declared.arm64.codes.Arm64UnwindCode.TheVariants.{AllocSmall, SaveR19R20Preindexed, SaveFpLr, SaveFpLrPreindexed, AllocMedium, SaveRegPair, SaveRegPairPreindexed, SaveReg, SaveRegPreindexed, SaveLrPair, SaveFRegPair, SaveFRegPairPreindexed, SaveFReg, SaveFRegPreindexed, AllocZ, AllocLarge, SetFp, AddFp, Nop, End, EndC, SaveNext, SaveAnyReg, SaveZReg, SavePReg, CustomStack, PacSignLr, Reserved}
 use Rattle.pe_unwind.specs.declared.arm64.codes.Arm64UnwindCodeData.{Arm64UnwindCodeData}
 use Rattle.pe_unwind.specs.declared.arm64.function.Arm64RuntimeFunction.{Arm64RuntimeFunction}
-use Rattle.pe_c.specs.Answers.{AnswersIf}
+use Rattle.pe_c.specs.HandsOut.{HandsOutIf}
 use Rattle.pe_c.specs.Modes.{options_of}
-use Rattle.pe_c.specs.Ranges.{no_bytes, behind, last_range, bytes_at}
+use Rattle.pe_c.specs.Ranges.{no_bytes, range_after, last_range, bytes_at}
 use Rattle.pe_c.specs.declared.arm64.Arm64Code.{Arm64Code}
 use Rattle.pe_c.specs.declared.arm64.Arm64CodeWalk.{Arm64CodeWalk}
 use Rattle.pe_c.specs.declared.arm64.Arm64Packed.{Arm64Packed}
@@ -72,8 +72,8 @@ first_count header (Some extension) = bits extension 0 16
 -- the record at offset p, as numbers: its scopes follow its words, and its codes follow the scopes
 abbrev pub flat_info : List ℕ → ℕ → Arm64InfoView → Arm64Record
 flat_info b p i = record {
-  scopes = record { place = scopes_place p i.header; length = length i.scopes };
-  codes = record { place = scopes_place p i.header + length i.scopes; length = length i.codes };
+  scopes = record { offset = scopes_offset p i.header; length = length i.scopes };
+  codes = record { offset = scopes_offset p i.header + length i.scopes; length = length i.codes };
   handler_data = arm64_handler_range b i.handler;
   handler = arm64_handler_address i.handler;
   has_handler = has_arm64_handler i.handler;
@@ -90,13 +90,13 @@ flat_info_at b p = info_at b p >>= λ i. Ok (flat_info b p i)
 -- the record at an offset that may be refused; none without an offset
 abbrev pub info_in : List ℕ → Option (Result ℕ Refusal) → Result (Option Arm64Record) Refusal
 info_in b None = Ok None
-info_in b (Some place) = place >>= λ p. flat_info_at b p >>= λ r. Ok (Some r)
+info_in b (Some offset) = offset >>= λ p. flat_info_at b p >>= λ r. Ok (Some r)
 
 -- the record of a function, or none where its unwind data is packed
 abbrev pub arm64_record_of : List ℕ → Image → List SectionTable → ℕ → Arm64RuntimeFunction → Result (Option Arm64Record) Refusal
 arm64_record_of b image sections mode f =
     exception_at 8 b image.exceptions sections image.file_alignment (options_of mode)
-    >>= λ v. info_in b (place_of_function v sections (options_of mode) f)
+    >>= λ v. info_in b (offset_of_function v sections (options_of mode) f)
 
 -- ---- epilog scopes
 
@@ -164,7 +164,7 @@ flat_arm64 offset c = by_numbers offset (length (encoding c)) (numbers_of c)
 
 -- a walk after n bytes of codes
 abbrev pub moved : Arm64CodeWalk → ℕ → Arm64CodeWalk
-moved w n = record { left = behind w.left n; offset = w.offset + n }
+moved w n = record { left = range_after w.left n; offset = w.offset + n }
 
 -- a walk that is over
 abbrev pub over_arm64 : Arm64CodeWalk
@@ -172,7 +172,7 @@ over_arm64 = record { left = no_bytes; offset = 0 }
 
 -- a walk over the codes of these bytes from a start on; or why they can be no stream, or cannot be read from there
 abbrev pub arm64_walk_at : List ℕ → Range → ℕ → Result Arm64CodeWalk Refusal
-arm64_walk_at b codes start = bytes_at b codes >>= λ d. stream_at d start >>= λ s. Ok (record { left = behind codes start; offset = start })
+arm64_walk_at b codes start = bytes_at b codes >>= λ d. stream_at d start >>= λ s. Ok (record { left = range_after codes start; offset = start })
 
 -- the bytes that a walk has left, if together with those before them they can be a stream
 abbrev pub left_of_stream : List ℕ → Arm64CodeWalk → Result (List ℕ) Refusal
@@ -184,8 +184,8 @@ left_of_stream b w =
 abbrev pub StepsOverArm64 : List ℕ → Arm64CodeWalk → Result (Option Arm64Code) Refusal → Arm64CodeWalk → Type 0
 StepsOverArm64 bytes old (Ok None) new = (bytes ≡ []) × (new ≡ old)
 StepsOverArm64 bytes old (Ok (Some code)) new =
-    (c : Arm64UnwindCode) × BeginsWithArm64Code bytes c × (code ≡ flat_arm64 old.offset c) × (new ≡ moved old (length (encoding c)))
-StepsOverArm64 bytes old (Err refusal) new = (refusal ≡ Arm64Cut) × (0 < length bytes) × BeginsWithNoArm64Code bytes × (new ≡ over_arm64)
+    (c : Arm64UnwindCode) × StartsWithArm64Code bytes c × (code ≡ flat_arm64 old.offset c) × (new ≡ moved old (length (encoding c)))
+StepsOverArm64 bytes old (Err refusal) new = (refusal ≡ Arm64Cut) × (0 < length bytes) × StartsWithNoArm64Code bytes × (new ≡ over_arm64)
 
 -- a step of a walk: where the bytes that are left can be no stream, it is refused and the walk is over
 abbrev pub WalksInArm64 : Result (List ℕ) Refusal → Arm64CodeWalk → Result (Option Arm64Code) Refusal → Arm64CodeWalk → Type 0
@@ -204,4 +204,4 @@ flat_arm64_item (Err e) = Err (kind_of e)
 -- what a call for the next code returns, and the walk after it
 abbrev pub AnswersArm64Code : List ℕ → Arm64CodeWalk → Arm64CodeWalk → ℕ → Arm64Code → Arm64Code → Type 0
 AnswersArm64Code b old_walk new_walk number old new =
-    (answer : Result (Option Arm64Code) Refusal) × StepsArm64Codes b old_walk answer new_walk × AnswersIf number old new answer
+    (answer : Result (Option Arm64Code) Refusal) × StepsArm64Codes b old_walk answer new_walk × HandsOutIf number old new answer

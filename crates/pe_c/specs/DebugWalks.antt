@@ -3,22 +3,22 @@ use Rattle.std.specs.Prelude.{◌≡◌, ℕ, ◌+◌, ◌-◌, List, [], ◌∷
 use Rattle.pe_core.specs.Refusals.{Refusal, kind_of}
 use Rattle.pe_core.specs.declared.error.Error.{Error}
 use Rattle.pe_core.specs.SectionMap.{rounded_up}
-use Rattle.pe_records.specs.Pogo.{Entry, GivesPogoEntry}
+use Rattle.pe_records.specs.Pogo.{Entry, ReturnsPogoEntry}
 use Rattle.pe_records.specs.declared.debug.pogo.POGOInfoEntry.{POGOInfoEntry}
 use Rattle.pe_c.specs.declared.debug_walks.PogoEntry.{PogoEntry}
 use Rattle.pe_c.specs.declared.ranges.Range.{Range}
-use Rattle.pe_c.specs.Answers.{AnswersIf}
-use Rattle.pe_c.specs.Ranges.{IsRange, behind, bytes_at, no_bytes}
+use Rattle.pe_c.specs.HandsOut.{HandsOutIf}
+use Rattle.pe_c.specs.Ranges.{IsRange, range_after, bytes_at, no_bytes}
 
 -- the walk after a step that took n bytes: it stays at its end, and is over after a refusal
-abbrev pub pogo_behind : Range → ℕ → Option (Result POGOInfoEntry Error) → Range
-pogo_behind w n None = w
-pogo_behind w n (Some (Ok e)) = behind w n
-pogo_behind w n (Some (Err e)) = no_bytes
+abbrev pub pogo_after : Range → ℕ → Option (Result POGOInfoEntry Error) → Range
+pogo_after w n None = w
+pogo_after w n (Some (Ok e)) = range_after w n
+pogo_after w n (Some (Err e)) = no_bytes
 
 -- a step over these bytes returns their first entry, and leaves what follows it
 abbrev pub StepsOverPogo : Result (List ℕ) Refusal → Range → Option (Result POGOInfoEntry Error) → Range → Type 0
-StepsOverPogo (Ok left) w answer new = (rest : List ℕ) × GivesPogoEntry left answer rest × (new ≡ pogo_behind w (length left - length rest) answer)
+StepsOverPogo (Ok left) w answer new = (rest : List ℕ) × ReturnsPogoEntry left answer rest × (new ≡ pogo_after w (length left - length rest) answer)
 StepsOverPogo (Err refusal) w None new = ⊥
 StepsOverPogo (Err refusal) w (Some (Ok e)) new = ⊥
 StepsOverPogo (Err refusal) w (Some (Err e)) new = (kind_of e ≡ refusal) × (new ≡ no_bytes)
@@ -29,7 +29,7 @@ StepsPogo b w answer new = StepsOverPogo (bytes_at b w) w answer new
 
 -- the entry at the start of a walk: its name follows two numbers
 abbrev pub pogo_entry : Range → POGOInfoEntry → PogoEntry
-pogo_entry w e = record { name = record { place = w.place + 8; length = length e.name.now }; rva = e.rva; size = e.size }
+pogo_entry w e = record { name = record { offset = w.offset + 8; length = length e.name.now }; rva = e.rva; size = e.size }
 
 -- the range of an entry's name is the name
 abbrev pub IsNamed : List ℕ → Range → Option (Result POGOInfoEntry Error) → Type 0
@@ -38,23 +38,23 @@ IsNamed b w (Some (Ok e)) = IsRange b (pogo_entry w e).name e.name.now
 IsNamed b w (Some (Err e)) = Unit {0}
 
 -- the result of a step, as numbers
-abbrev pub told : Range → Option (Result POGOInfoEntry Error) → Result (Option PogoEntry) Refusal
-told w None = Ok None
-told w (Some (Ok e)) = Ok (Some (pogo_entry w e))
-told w (Some (Err e)) = Err (kind_of e)
+abbrev pub reported : Range → Option (Result POGOInfoEntry Error) → Result (Option PogoEntry) Refusal
+reported w None = Ok None
+reported w (Some (Ok e)) = Ok (Some (pogo_entry w e))
+reported w (Some (Err e)) = Err (kind_of e)
 
 -- a step of a walk, by its result as numbers
 abbrev pub StepsPogoEntries : List ℕ → Range → Result (Option PogoEntry) Refusal → Range → Type 0
-StepsPogoEntries b w answer new = (given : Option (Result POGOInfoEntry Error)) × StepsPogo b w given new × (answer ≡ told w given)
+StepsPogoEntries b w answer new = (given : Option (Result POGOInfoEntry Error)) × StepsPogo b w given new × (answer ≡ reported w given)
 
 -- the entries of a stream as a walk returns them: each takes two numbers and its name, padded to a multiple of 4
-abbrev pub entries_told : Range → List (Result Entry Refusal) → List (Result PogoEntry Refusal)
-entries_told w [] = []
-entries_told w (Ok e ∷ items) =
-    Ok (record { name = record { place = w.place + 8; length = length e.name }; rva = e.rva; size = e.size }) ∷ entries_told (behind w (rounded_up (8 + length e.name) 4)) items
-entries_told w (Err refusal ∷ items) = Err refusal ∷ entries_told w items
+abbrev pub entries_reported : Range → List (Result Entry Refusal) → List (Result PogoEntry Refusal)
+entries_reported w [] = []
+entries_reported w (Ok e ∷ items) =
+    Ok (record { name = record { offset = w.offset + 8; length = length e.name }; rva = e.rva; size = e.size }) ∷ entries_reported (range_after w (rounded_up (8 + length e.name) 4)) items
+entries_reported w (Err refusal ∷ items) = Err refusal ∷ entries_reported w items
 
 -- what a call returns for a step
-abbrev pub AnswersPogoEntry : List ℕ → Range → Range → ℕ → PogoEntry → PogoEntry → Type 0
-AnswersPogoEntry b w walk number old new =
-    (answer : Option (Result POGOInfoEntry Error)) × StepsPogo b w answer walk × IsNamed b w answer × AnswersIf number old new (told w answer)
+abbrev pub HandsOutPogoEntry : List ℕ → Range → Range → ℕ → PogoEntry → PogoEntry → Type 0
+HandsOutPogoEntry b w walk number old new =
+    (answer : Option (Result POGOInfoEntry Error)) × StepsPogo b w answer walk × IsNamed b w answer × HandsOutIf number old new (reported w answer)

@@ -12,7 +12,7 @@ use Rattle.pe_c.specs.declared.exports.Exports.{Exports}
 use Rattle.pe_c.specs.declared.exports.Tables.{Tables}
 use Rattle.pe_c.specs.declared.image.Image.{Image}
 use Rattle.pe_c.specs.declared.ranges.Range.{Range}
-use Rattle.pe_c.specs.Answers.{AnswersIf}
+use Rattle.pe_c.specs.HandsOut.{HandsOutIf}
 use Rattle.pe_c.specs.Images.{is_absent, map_of_image}
 use Rattle.pe_c.specs.Ranges.{bytes_at, no_bytes, range_from}
 
@@ -20,14 +20,14 @@ use Rattle.pe_c.specs.Ranges.{bytes_at, no_bytes, range_from}
 
 -- the range of a table of n bytes at an RVA; an empty table has the empty range
 abbrev pub export_table : (ℕ → Option ℕ) → ℕ → ℕ → Range
-export_table place rva n = if n == 0 then no_bytes else range_from n (place rva)
+export_table offset rva n = if n == 0 then no_bytes else range_from n (offset rva)
 
 -- a walk over the exports of a directory, at its start
 abbrev pub walk_over : (ℕ → Option ℕ) → ExportDataView → Exports
-walk_over place d = record {
-  names = export_table place d.directory.name_pointer_rva (4 * d.directory.number_of_name_pointers);
-  ordinals = export_table place d.directory.ordinal_table_rva (2 * d.directory.number_of_name_pointers);
-  addresses = export_table place d.directory.address_table_rva (4 * d.directory.address_table_entries);
+walk_over offset d = record {
+  names = export_table offset d.directory.name_pointer_rva (4 * d.directory.number_of_name_pointers);
+  ordinals = export_table offset d.directory.ordinal_table_rva (2 * d.directory.number_of_name_pointers);
+  addresses = export_table offset d.directory.address_table_rva (4 * d.directory.address_table_entries);
   next = 0;
 }
 
@@ -84,50 +84,50 @@ one_if_some None = 0
 one_if_some (Some x) = 1
 
 -- an export whose name is at offset p
-abbrev pub export_told : ℕ → ExportView → Export
-export_told p e = record { name = record { place = p; length = length e.name }; place = or_zero e.offset; rva = e.rva; has_place = one_if_some e.offset }
+abbrev pub export_reported : ℕ → ExportView → Export
+export_reported p e = record { name = record { offset = p; length = length e.name }; offset = or_zero e.offset; rva = e.rva; has_offset = one_if_some e.offset }
 
 -- the export of entry i of the name table, if its name is mapped and is text, and its ordinal is in the address table
-abbrev pub told_entry : (ℕ → Option ℕ) → List ℕ → ExportDataView → ℕ → Option Export
-told_entry place b d i = option_and_then (λ p. option_map (export_told p) (option_and_then (named_export place d i) (text_at b p))) (place (le d.names (4 * i) 4))
+abbrev pub reported_entry : (ℕ → Option ℕ) → List ℕ → ExportDataView → ℕ → Option Export
+reported_entry offset b d i = option_and_then (λ p. option_map (export_reported p) (option_and_then (named_export offset d i) (text_at b p))) (offset (le d.names (4 * i) 4))
 
 -- the exports of the entries from one index up to another, in their order; an entry may have none
-abbrev pub told_from : (ℕ → Option Export) → ℕ → ℕ → List Export
-told_from told from end = filter_map told (range_with_len from (end - from))
+abbrev pub reported_from : (ℕ → Option Export) → ℕ → ℕ → List Export
+reported_from reported from end = filter_map reported (range_with_len from (end - from))
 
 -- no entry from one index up to another has an export
 abbrev pub HaveNone : (ℕ → Option Export) → ℕ → ℕ → Type 0
-HaveNone told from end = (k : ℕ) → from ≤ k → k < end → told k ≡ None
+HaveNone reported from end = (k : ℕ) → from ≤ k → k < end → reported k ≡ None
 
 -- the first entry from an index on that has an export, and the index after it
 abbrev pub FindsNext : (ℕ → Option Export) → ℕ → ℕ → Option (Export × ℕ) → Type 0
-FindsNext told from end None = HaveNone told from end
-FindsNext told from end (Some x) = (i : ℕ) × (from ≤ i) × (i < end) × HaveNone told from i × (told i ≡ Some x.0) × (x.1 ≡ i + 1)
+FindsNext reported from end None = HaveNone reported from end
+FindsNext reported from end (Some x) = (i : ℕ) × (from ≤ i) × (i < end) × HaveNone reported from i × (reported i ≡ Some x.0) × (x.1 ≡ i + 1)
 
 -- the count of entries of the name table
 abbrev pub count_of : Exports → ℕ
 count_of w = w.names.length / 4
 
 -- the walk after what was found: at its end where nothing was
-abbrev pub exports_behind : Exports → Option (Export × ℕ) → Exports
-exports_behind w None = record w { next = count_of w }
-exports_behind w (Some x) = record w { next = x.1 }
+abbrev pub exports_after : Exports → Option (Export × ℕ) → Exports
+exports_after w None = record w { next = count_of w }
+exports_after w (Some x) = record w { next = x.1 }
 
 -- a step over the entries that are left of these tables
 abbrev pub StepsOverExports : (ℕ → Option ℕ) → List ℕ → Result ExportDataView Refusal → Exports → Result (Option Export) Refusal → Exports → Type 0
-StepsOverExports place b (Ok d) w answer new =
-    (found : Option (Export × ℕ)) × FindsNext (told_entry place b d) w.next (count_of w) found × (answer ≡ Ok (option_map (λ x. x.0) found)) × (new ≡ exports_behind w found)
-StepsOverExports place b (Err refusal) w answer new = (answer ≡ Err refusal) × (new ≡ record w { names = no_bytes })
+StepsOverExports offset b (Ok d) w answer new =
+    (found : Option (Export × ℕ)) × FindsNext (reported_entry offset b d) w.next (count_of w) found × (answer ≡ Ok (option_map (λ x. x.0) found)) × (new ≡ exports_after w found)
+StepsOverExports offset b (Err refusal) w answer new = (answer ≡ Err refusal) × (new ≡ record w { names = no_bytes })
 
 -- a step, by whether the walk is at its end
 abbrev pub StepsExportsIf : Bool → (ℕ → Option ℕ) → List ℕ → Exports → Result (Option Export) Refusal → Exports → Type 0
-StepsExportsIf true place b w answer new = (answer ≡ Ok None) × (new ≡ w)
-StepsExportsIf false place b w answer new = StepsOverExports place b (tables_or_short b w) w answer new
+StepsExportsIf true offset b w answer new = (answer ≡ Ok None) × (new ≡ w)
+StepsExportsIf false offset b w answer new = StepsOverExports offset b (tables_or_short b w) w answer new
 
 -- a step: nothing at the end of the name table; `Short`, and the walk is over, where a table is not inside the bytes
 abbrev pub StepsExports : (ℕ → Option ℕ) → List ℕ → Exports → Result (Option Export) Refusal → Exports → Type 0
-StepsExports place b w answer new = StepsExportsIf (nat_le (count_of w) w.next) place b w answer new
+StepsExports offset b w answer new = StepsExportsIf (nat_le (count_of w) w.next) offset b w answer new
 
 -- what a call for the next export returns, and the walk after it
-abbrev pub AnswersExport : (ℕ → Option ℕ) → List ℕ → Exports → Exports → ℕ → Export → Export → Type 0
-AnswersExport place b w walk number old new = (answer : Result (Option Export) Refusal) × StepsExports place b w answer walk × AnswersIf number old new answer
+abbrev pub HandsOutExport : (ℕ → Option ℕ) → List ℕ → Exports → Exports → ℕ → Export → Export → Type 0
+HandsOutExport offset b w walk number old new = (answer : Result (Option Export) Refusal) × StepsExports offset b w answer walk × HandsOutIf number old new answer

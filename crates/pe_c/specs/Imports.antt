@@ -15,10 +15,10 @@ use Rattle.pe_c.specs.declared.imports.Library.{Library}
 use Rattle.pe_c.specs.declared.ranges.Range.{Range}
 use Rattle.pe_c.specs.Exports.{one_if_some}
 use Rattle.pe_c.specs.Images.{is_absent, map_of_image}
-use Rattle.pe_c.specs.Ranges.{behind, no_bytes, range_from}
+use Rattle.pe_c.specs.Ranges.{range_after, no_bytes, range_from}
 use Rattle.pe_c.specs.Walks.{left_entry}
 
--- ---- libraries; `place` maps an RVA to its file offset, `w` is the size of an entry of a list in bytes
+-- ---- libraries; `offset` maps an RVA to its file offset, `w` is the size of an entry of a list in bytes
 
 -- a walk whose next record is at offset p
 abbrev pub libraries_from : ℕ → Libraries
@@ -35,12 +35,12 @@ libraries_at image sections =
     else mapped (map_of_image image sections image.imports.virtual_address) >>= λ p. Ok (Some (libraries_from p))
 
 -- a library, its name and its list as ranges
-abbrev pub library_told : (ℕ → Option ℕ) → ImportRecordView → Library
-library_told place r =
+abbrev pub library_reported : (ℕ → Option ℕ) → ImportRecordView → Library
+library_reported offset r =
     let e = r.import_directory_entry in
     record {
-      name = range_from (length r.name) (place e.name_rva);
-      imports = record { left = range_from (length r.lookups) (place (lookups_rva e)); rva = e.address_table_rva };
+      name = range_from (length r.name) (offset e.name_rva);
+      imports = record { left = range_from (length r.lookups) (offset (lookups_rva e)); rva = e.address_table_rva };
       lookup_table_rva = e.lookup_table_rva;
       time_date_stamp = e.time_date_stamp;
       forwarder_chain = e.forwarder_chain;
@@ -51,11 +51,11 @@ library_told place r =
 
 -- the library of a record
 abbrev pub library_of : (ℕ → Option ℕ) → ℕ → List ℕ → ImportDirectoryEntry → Result (Option Library) Refusal
-library_of place w b e = import_record place w b e >>= λ r. Ok (option_map (library_told place) r)
+library_of offset w b e = import_record offset w b e >>= λ r. Ok (option_map (library_reported offset) r)
 
 -- the library whose record is at offset p, or none where the record ends the directory
 abbrev pub library_at : (ℕ → Option ℕ) → ℕ → List ℕ → ℕ → Result (Option Library) Refusal
-library_at place w b p = import_record_at place w b p >>= λ r. Ok (option_map (library_told place) r)
+library_at offset w b p = import_record_at offset w b p >>= λ r. Ok (option_map (library_reported offset) r)
 
 -- a step's result, and the walk after it: over at the end and after a refusal
 abbrev pub library_by : Libraries → Result (Option Library) Refusal → Result (Option Library) Refusal × Libraries
@@ -65,34 +65,34 @@ library_by walk (Err refusal) = (Err refusal, no_libraries)
 
 -- a step over libraries; a walk that is over stays as it is
 unfoldable pub library_step : (ℕ → Option ℕ) → ℕ → List ℕ → Libraries → Result (Option Library) Refusal × Libraries
-library_step place w b walk = if walk.is_over == 0 then library_by walk (library_at place w b walk.next) else (Ok None, walk)
+library_step offset w b walk = if walk.is_over == 0 then library_by walk (library_at offset w b walk.next) else (Ok None, walk)
 
 -- a step by its result, and the walk after it
 abbrev pub StepsLibraries : (ℕ → Option ℕ) → ℕ → List ℕ → Libraries → Result (Option Library) Refusal → Libraries → Type 0
-StepsLibraries place w b old answer new = (answer, new) ≡ library_step place w b old
+StepsLibraries offset w b old answer new = (answer, new) ≡ library_step offset w b old
 
 -- ---- the imports of a library
 
 -- the range of an import's name, if it has one: the name follows the hint at this offset
-abbrev pub import_name_told : Option ℕ → Option (List ℕ) → Range
-import_name_told hint None = no_bytes
-import_name_told hint (Some name) = range_from (length name) (option_map (λ p. p + 2) hint)
+abbrev pub import_name_reported : Option ℕ → Option (List ℕ) → Range
+import_name_reported hint None = no_bytes
+import_name_reported hint (Some name) = range_from (length name) (option_map (λ p. p + 2) hint)
 
 -- an import, its name as a range
-abbrev pub import_told : (ℕ → Option ℕ) → ℕ → ImportView → Import
-import_told place entry i = record { name = import_name_told (place (entry % 2 ^ 31)) i.name; rva = i.rva; ordinal = i.ordinal; has_name = one_if_some i.name }
+abbrev pub import_reported : (ℕ → Option ℕ) → ℕ → ImportView → Import
+import_reported offset entry i = record { name = import_name_reported (offset (entry % 2 ^ 31)) i.name; rva = i.rva; ordinal = i.ordinal; has_name = one_if_some i.name }
 
 -- an entry with its slot; which library it belongs to makes no difference to its import
 abbrev pub slot_entry : ℕ → ℕ → EntryView
 slot_entry entry rva = record { dll = []; entry = entry; rva = rva }
 
 -- the import of an entry by name
-abbrev pub named_told : (ℕ → Option ℕ) → List ℕ → ℕ → ℕ → Result Import Refusal
-named_told place b entry rva = (mapped (place (entry % 2 ^ 31)) >>= named_import b (slot_entry entry rva)) >>= λ i. Ok (import_told place entry i)
+abbrev pub named_reported : (ℕ → Option ℕ) → List ℕ → ℕ → ℕ → Result Import Refusal
+named_reported offset b entry rva = (mapped (offset (entry % 2 ^ 31)) >>= named_import b (slot_entry entry rva)) >>= λ i. Ok (import_reported offset entry i)
 
 -- the import of an entry
 abbrev pub import_at : (ℕ → Option ℕ) → ℕ → List ℕ → ℕ → ℕ → Result Import Refusal
-import_at place w b entry rva = import_of place w b (slot_entry entry rva) >>= λ i. Ok (import_told place entry i)
+import_at offset w b entry rva = import_of offset w b (slot_entry entry rva) >>= λ i. Ok (import_reported offset entry i)
 
 -- a walk over imports that is over
 abbrev pub no_imports : Imports → Imports
@@ -100,19 +100,19 @@ no_imports walk = record walk { left = no_bytes }
 
 -- a step's result, and the walk after it: its next slot follows this one
 abbrev pub import_by : ℕ → Imports → Result Import Refusal → Result (Option Import) Refusal × Imports
-import_by w walk (Ok import) = (Ok (Some import), record { left = behind walk.left w; rva = (walk.rva + w) % 2 ^ 64 })
+import_by w walk (Ok import) = (Ok (Some import), record { left = range_after walk.left w; rva = (walk.rva + w) % 2 ^ 64 })
 import_by w walk (Err refusal) = (Err refusal, no_imports walk)
 
 -- the same of a walk with these bytes left, which start with its next entry
 abbrev pub import_left : (ℕ → Option ℕ) → ℕ → List ℕ → Imports → Result (Option (List ℕ)) Refusal → Result (Option Import) Refusal × Imports
-import_left place w b walk (Ok None) = (Ok None, walk)
-import_left place w b walk (Ok (Some left)) = import_by w walk (import_at place w b (le left 0 w) walk.rva)
-import_left place w b walk (Err refusal) = (Err refusal, no_imports walk)
+import_left offset w b walk (Ok None) = (Ok None, walk)
+import_left offset w b walk (Ok (Some left)) = import_by w walk (import_at offset w b (le left 0 w) walk.rva)
+import_left offset w b walk (Err refusal) = (Err refusal, no_imports walk)
 
 -- a step over the imports of a library
 unfoldable pub import_step : (ℕ → Option ℕ) → ℕ → List ℕ → Imports → Result (Option Import) Refusal × Imports
-import_step place w b walk = import_left place w b walk (left_entry w b walk.left)
+import_step offset w b walk = import_left offset w b walk (left_entry w b walk.left)
 
 -- a step by its result, and the walk after it
 abbrev pub StepsImports : (ℕ → Option ℕ) → ℕ → List ℕ → Imports → Result (Option Import) Refusal → Imports → Type 0
-StepsImports place w b old answer new = (answer, new) ≡ import_step place w b old
+StepsImports offset w b old answer new = (answer, new) ≡ import_step offset w b old

@@ -1,4 +1,4 @@
-pub mod Answers
+pub mod HandsOut
 pub mod Arm64
 pub mod Certificates
 pub mod Debug

@@ -6,9 +6,9 @@ use Rattle.pe_core.specs.declared.options.ParseMode.TheVariants.{Strict, Permiss
 use Rattle.pe_core.specs.declared.options.ParseOptions.{ParseOptions}
 
 -- 0 is strict, any other number permissive
-abbrev pub mode_of : ℕ → ParseMode
-mode_of n = if n == 0 then Strict else Permissive
+abbrev pub mode_of_number : ℕ → ParseMode
+mode_of_number n = if n == 0 then Strict else Permissive
 
 -- the default options in the mode with this number
 abbrev pub options_of : ℕ → ParseOptions
-options_of n = record default_options { parse_mode = mode_of n }
+options_of n = record default_options { parse_mode = mode_of_number n }

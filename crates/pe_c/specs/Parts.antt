@@ -14,11 +14,11 @@ use Rattle.pe_c.specs.declared.image.Image.{Image}
 use Rattle.pe_c.specs.declared.imports.Import.{Import}
 use Rattle.pe_c.specs.declared.imports.Library.{Library}
 use Rattle.pe_c.specs.declared.ranges.Range.{Range}
-use Rattle.pe_c.specs.Debug.{image_debug, told_of}
+use Rattle.pe_c.specs.Debug.{image_debug, reported_of}
 use Rattle.pe_c.specs.Exports.{or_zero, one_if_some}
 use Rattle.pe_c.specs.Imports.{StepsImports}
 use Rattle.pe_c.specs.Ranges.{IsRange, no_bytes}
-use Rattle.pe_c.specs.Runs.{GivesItems}
+use Rattle.pe_c.specs.Runs.{ReturnsItems}
 
 -- the range of a part, empty without the part
 abbrev pub IsPart : List ℕ → Range → Option (List ℕ) → Type 0
@@ -26,15 +26,15 @@ IsPart b r None = r ≡ no_bytes
 IsPart b r (Some part) = IsRange b r part
 
 -- a result that is read from debug data has the range of this part of the data
-abbrev pub TellsPart : {Y : Type 0} → (DebugFields → Option Y) → (Y → Range) → (DebugFields → Option (List ℕ)) → Type 0
-TellsPart {Y} told range_of part_of =
-    (b : List ℕ) (image : Image) (sections : List SectionTable) (mode : ℕ) (y : Y) → told_of told b image sections mode ≡ Ok (Some y) →
-    (d : DebugFields) × (image_debug b image sections mode ≡ Ok (Some d)) × (told d ≡ Some y) × IsPart b (range_of y) (part_of d)
+abbrev pub ReportsPart : {Y : Type 0} → (DebugFields → Option Y) → (Y → Range) → (DebugFields → Option (List ℕ)) → Type 0
+ReportsPart {Y} reported range_of part_of =
+    (b : List ℕ) (image : Image) (sections : List SectionTable) (mode : ℕ) (y : Y) → reported_of reported b image sections mode ≡ Ok (Some y) →
+    (d : DebugFields) × (image_debug b image sections mode ≡ Ok (Some d)) × (reported d ≡ Some y) × IsPart b (range_of y) (part_of d)
 
 -- where debug data has a record, there is a result
-abbrev pub TellsRecord : {X Y : Type 0} → (DebugFields → Option Y) → (DebugFields → Option X) → Type 0
-TellsRecord told record_of =
-    (b : List ℕ) (image : Image) (sections : List SectionTable) (mode : ℕ) (d : DebugFields) → image_debug b image sections mode ≡ Ok (Some d) → IsSome (record_of d) → IsSome (told d)
+abbrev pub ReportsRecord : {X Y : Type 0} → (DebugFields → Option Y) → (DebugFields → Option X) → Type 0
+ReportsRecord reported record_of =
+    (b : List ℕ) (image : Image) (sections : List SectionTable) (mode : ℕ) (d : DebugFields) → image_debug b image sections mode ≡ Ok (Some d) → IsSome (record_of d) → IsSome (reported d)
 
 -- a walk at its start has the tables of these export data
 pub record HasTables (b : List ℕ) (w : Exports) (d : ExportDataView) : Type 0 where
@@ -43,14 +43,14 @@ pub record HasTables (b : List ℕ) (w : Exports) (d : ExportDataView) : Type 0 
   pub addresses : IsRange b w.addresses d.addresses
 
 -- the result for an entry of the name table is the export that it has
-abbrev pub TellsExport : List ℕ → Option Export → Option ExportView → Type 0
-TellsExport b None None = Unit {0}
-TellsExport b None (Some e) = ⊥
-TellsExport b (Some x) None = ⊥
-TellsExport b (Some x) (Some e) = IsRange b x.name e.name × (x.rva ≡ e.rva) × (x.place ≡ or_zero e.offset) × (x.has_place ≡ one_if_some e.offset)
+abbrev pub ReportsExport : List ℕ → Option Export → Option ExportView → Type 0
+ReportsExport b None None = Unit {0}
+ReportsExport b None (Some e) = ⊥
+ReportsExport b (Some x) None = ⊥
+ReportsExport b (Some x) (Some e) = IsRange b x.name e.name × (x.rva ≡ e.rva) × (x.offset ≡ or_zero e.offset) × (x.has_offset ≡ one_if_some e.offset)
 
 -- the result for an import is the import
-pub record TellsImport (b : List ℕ) (x : Import) (i : ImportView) : Type 0 where
+pub record ReportsImport (b : List ℕ) (x : Import) (i : ImportView) : Type 0 where
   pub name : IsPart b x.name i.name
   pub has_name : x.has_name ≡ one_if_some i.name
   pub ordinal : x.ordinal ≡ i.ordinal
@@ -68,17 +68,17 @@ record_of x = record {
 
 -- the result for a record of the import directory is the record, and the walk over its list returns the record's
 -- imports, one a step, and then nothing; where they are refused it returns imports and then this refusal
-pub record TellsLibrary (place : ℕ → Option ℕ) (w : ℕ) (b : List ℕ) (x : Library) (r : ImportRecordView) : Type 0 where
+pub record ReportsLibrary (offset : ℕ → Option ℕ) (w : ℕ) (b : List ℕ) (x : Library) (r : ImportRecordView) : Type 0 where
   pub name : IsRange b x.name r.name
   pub list : IsRange b x.imports.left r.lookups
   pub numbers : record_of x ≡ r.import_directory_entry
-  pub given : (is : List ImportView) → imports place w b (r ∷ []) ≡ Ok is →
-      (told : List Import) × GivesItems (StepsImports place w b) x.imports (map (λ y. Ok y) told) × AllZip (TellsImport b) told is
-  pub refused : (refusal : Refusal) → imports place w b (r ∷ []) ≡ Err refusal →
-      (told : List Import) × (is : List ImportView) × GivesItems (StepsImports place w b) x.imports (map (λ y. Ok y) told ++ Err refusal ∷ []) × AllZip (TellsImport b) told is
+  pub given : (is : List ImportView) → imports offset w b (r ∷ []) ≡ Ok is →
+      (reported : List Import) × ReturnsItems (StepsImports offset w b) x.imports (map (λ y. Ok y) reported) × AllZip (ReportsImport b) reported is
+  pub refused : (refusal : Refusal) → imports offset w b (r ∷ []) ≡ Err refusal →
+      (reported : List Import) × (is : List ImportView) × ReturnsItems (StepsImports offset w b) x.imports (map (λ y. Ok y) reported ++ Err refusal ∷ []) × AllZip (ReportsImport b) reported is
 
 -- the imports of records are those of the first, followed by those of the others
 abbrev pub ImportsInTurn : Type 0
 ImportsInTurn =
-    (place : ℕ → Option ℕ) (w : ℕ) (b : List ℕ) (r : ImportRecordView) (rs : List ImportRecordView) →
-    imports place w b (r ∷ rs) ≡ (imports place w b (r ∷ []) >>= λ first. imports place w b rs >>= λ more. Ok (first ++ more))
+    (offset : ℕ → Option ℕ) (w : ℕ) (b : List ℕ) (r : ImportRecordView) (rs : List ImportRecordView) →
+    imports offset w b (r ∷ rs) ≡ (imports offset w b (r ∷ []) >>= λ first. imports offset w b rs >>= λ more. Ok (first ++ more))

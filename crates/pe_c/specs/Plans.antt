@@ -3,7 +3,7 @@ use Rattle.std.specs.Prelude.{◌≡◌, ℕ, ◌+◌, ◌*◌, ◌==◌, min, n
 use Rattle.pe_core.specs.Refusals.{Refusal, FunctionCycle, outcome}
 use Rattle.pe_core.specs.declared.section_table.SectionTable.{SectionTable}
 use Rattle.pe_unwind.specs.UnwindRecord.{UnwindInfoView, unwind_tests, unwind_record}
-use Rattle.pe_c.specs.Answers.{AnswersIf}
+use Rattle.pe_c.specs.HandsOut.{HandsOutIf}
 use Rattle.pe_c.specs.Unwinding.{FollowsToRecord, flat_record}
 use Rattle.pe_c.specs.declared.image.Image.{Image}
 use Rattle.pe_c.specs.declared.plan.Plan.{Plan}
@@ -26,55 +26,55 @@ goes_on p address =
     else record p { unwind = address; steps = p.steps + 1 }
 
 -- the result of a plan with this next record: one that continues at the saved RVA is part of a loop
-abbrev pub gives_record : Plan → UnwindRecord → Result (Option UnwindRecord) Refusal
-gives_record p r =
+abbrev pub returned_record : Plan → UnwindRecord → Result (Option UnwindRecord) Refusal
+returned_record p r =
     if r.is_chained == 0 then Ok (Some r) else (if r.chained.unwind_info_address == p.saved then Err FunctionCycle else Ok (Some r))
 
 -- the plan after this record
-abbrev pub behind_record : Plan → UnwindRecord → Plan
-behind_record p r =
+abbrev pub after_record : Plan → UnwindRecord → Plan
+after_record p r =
     if r.is_chained == 0 then ended p
     else (if r.chained.unwind_info_address == p.saved then ended p else goes_on p r.chained.unwind_info_address)
 
 -- the result of a plan, by its next record or what refuses that
-abbrev pub gives : Plan → Result UnwindRecord Refusal → Result (Option UnwindRecord) Refusal
-gives p (Ok r) = gives_record p r
-gives p (Err refusal) = Err refusal
+abbrev pub plan_result : Plan → Result UnwindRecord Refusal → Result (Option UnwindRecord) Refusal
+plan_result p (Ok r) = returned_record p r
+plan_result p (Err refusal) = Err refusal
 
 -- the plan after that: over after a refusal
 abbrev pub leaves : Plan → Result UnwindRecord Refusal → Plan
-leaves p (Ok r) = behind_record p r
+leaves p (Ok r) = after_record p r
 leaves p (Err refusal) = ended p
 
 -- one step of a plan: nothing where it is over; else the record of its unwind RVA decides
 abbrev pub StepsIf : Bool → List ℕ → Image → List SectionTable → ℕ → Plan → Result (Option UnwindRecord) Refusal → Plan → Type 0
 StepsIf false b image sections mode old answer new = (answer ≡ Ok None) × (new ≡ old)
 StepsIf true b image sections mode old answer new =
-    (next : Result UnwindRecord Refusal) × FollowsToRecord b image sections mode old.unwind next × (answer ≡ gives old next) × (new ≡ leaves old next)
+    (next : Result UnwindRecord Refusal) × FollowsToRecord b image sections mode old.unwind next × (answer ≡ plan_result old next) × (new ≡ leaves old next)
 
 abbrev pub StepsPlan : List ℕ → Image → List SectionTable → ℕ → Plan → Result (Option UnwindRecord) Refusal → Plan → Type 0
 StepsPlan b image sections mode old answer new = StepsIf (old.is_over == 0) b image sections mode old answer new
 
 -- what a call for the next record returns, and the plan after it
-abbrev pub AnswersPlan : List ℕ → Image → List SectionTable → ℕ → Plan → Plan → ℕ → UnwindRecord → UnwindRecord → Type 0
-AnswersPlan b image sections mode old_plan new_plan number old new =
-    (answer : Result (Option UnwindRecord) Refusal) × StepsPlan b image sections mode old_plan answer new_plan × AnswersIf number old new answer
+abbrev pub HandsOutPlan : List ℕ → Image → List SectionTable → ℕ → Plan → Plan → ℕ → UnwindRecord → UnwindRecord → Type 0
+HandsOutPlan b image sections mode old_plan new_plan number old new =
+    (answer : Result (Option UnwindRecord) Refusal) × StepsPlan b image sections mode old_plan answer new_plan × HandsOutIf number old new answer
 
 -- ---- whole plans
 
 -- a plan returns these records in turn, and is then this plan
-abbrev pub GivesInTurn : List ℕ → Image → List SectionTable → ℕ → Plan → List UnwindRecord → Plan → Type 0
-GivesInTurn b image sections mode p [] q = p ≡ q
-GivesInTurn b image sections mode p (r ∷ rs) q = (next : Plan) × StepsPlan b image sections mode p (Ok (Some r)) next × GivesInTurn b image sections mode next rs q
+abbrev pub ReturnsInTurn : List ℕ → Image → List SectionTable → ℕ → Plan → List UnwindRecord → Plan → Type 0
+ReturnsInTurn b image sections mode p [] q = p ≡ q
+ReturnsInTurn b image sections mode p (r ∷ rs) q = (next : Plan) × StepsPlan b image sections mode p (Ok (Some r)) next × ReturnsInTurn b image sections mode next rs q
 
 -- the result of a plan's step, after all records that it returned since it started at an unwind RVA
-abbrev pub AnswersBehind : List ℕ → Image → List SectionTable → ℕ → ℕ → List UnwindRecord → Result (Option UnwindRecord) Refusal → Type 0
-AnswersBehind b image sections mode unwind given answer =
-    (p : Plan) × (q : Plan) × GivesInTurn b image sections mode (plan_from unwind) given p × StepsPlan b image sections mode p answer q
+abbrev pub HandsOutAfter : List ℕ → Image → List SectionTable → ℕ → ℕ → List UnwindRecord → Result (Option UnwindRecord) Refusal → Type 0
+HandsOutAfter b image sections mode unwind given answer =
+    (p : Plan) × (q : Plan) × ReturnsInTurn b image sections mode (plan_from unwind) given p × StepsPlan b image sections mode p answer q
 
 -- a record as numbers is this record at some offset of the bytes
-abbrev pub TellsUnwindRecord : List ℕ → UnwindRecord → UnwindInfoView → Type 0
-TellsUnwindRecord b r i = (place : ℕ) × (outcome (unwind_tests b place) (unwind_record b place) ≡ Ok i) × (r ≡ flat_record b place i)
+abbrev pub ReportsUnwindRecord : List ℕ → UnwindRecord → UnwindInfoView → Type 0
+ReportsUnwindRecord b r i = (offset : ℕ) × (outcome (unwind_tests b offset) (unwind_record b offset) ≡ Ok i) × (r ≡ flat_record b offset i)
 
 -- the end of a plan's steps: nothing after the records, or the refusal
 abbrev pub ending_of : Result (List UnwindInfoView) Refusal → Result (Option UnwindRecord) Refusal

@@ -7,30 +7,30 @@ use Rattle.pe_c.specs.declared.ranges.Range.{Range}
 
 -- the empty range; a walk that is over
 abbrev pub no_bytes : Range
-no_bytes = record { place = 0; length = 0 }
+no_bytes = record { offset = 0; length = 0 }
 
 -- a range as callers get it
 abbrev pub range_of : ByteRange → Range
-range_of r = record { place = r.place; length = r.length }
+range_of r = record { offset = r.offset; length = r.length }
 
 -- n bytes from an offset on, or the empty range without an offset
 abbrev pub range_from : ℕ → Option ℕ → Range
 range_from n None = no_bytes
-range_from n (Some p) = record { place = p; length = n }
+range_from n (Some p) = record { offset = p; length = n }
 
 -- a range without its first n bytes
-abbrev pub behind : Range → ℕ → Range
-behind r n = record { place = r.place + n; length = r.length - n }
+abbrev pub range_after : Range → ℕ → Range
+range_after r n = record { offset = r.offset + n; length = r.length - n }
 
 -- the range of a part that ends where these bytes end
 abbrev pub last_range : List ℕ → List ℕ → Range
-last_range b part = record { place = length b - length part; length = length part }
+last_range b part = record { offset = length b - length part; length = length part }
 
 -- the bytes of a range, or `Short` where it is not inside the bytes
 abbrev pub bytes_at : List ℕ → Range → Result (List ℕ) Refusal
-bytes_at b r = record_at b r.place r.length (range b r.place r.length)
+bytes_at b r = record_at b r.offset r.length (range b r.offset r.length)
 
 -- the range lies in the bytes, and these are its bytes
 pub record IsRange (b : List ℕ) (r : Range) (bytes : List ℕ) : Type 0 where
-  pub inside : r.place + r.length ≤ length b
-  pub same : range b r.place r.length ≡ bytes
+  pub inside : r.offset + r.length ≤ length b
+  pub same : range b r.offset r.length ≡ bytes

@@ -8,8 +8,8 @@ IsOver {W} {X} Steps w = (answer : Result (Option X) Refusal) (next : W) → Ste
 
 -- a walk returns these items, one a step, and then nothing: it is over after them, and after a refusal, which is the
 -- last
-abbrev pub GivesItems : {W X : Type 0} → (W → Result (Option X) Refusal → W → Type 0) → W → List (Result X Refusal) → Type 0
-GivesItems {W} {X} Steps w [] = (answer : Result (Option X) Refusal) (next : W) → Steps w answer next → (answer ≡ Ok None) × IsOver Steps next
-GivesItems {W} {X} Steps w (Ok x ∷ items) = (answer : Result (Option X) Refusal) (next : W) → Steps w answer next → (answer ≡ Ok (Some x)) × GivesItems Steps next items
-GivesItems {W} {X} Steps w (Err refusal ∷ items) =
+abbrev pub ReturnsItems : {W X : Type 0} → (W → Result (Option X) Refusal → W → Type 0) → W → List (Result X Refusal) → Type 0
+ReturnsItems {W} {X} Steps w [] = (answer : Result (Option X) Refusal) (next : W) → Steps w answer next → (answer ≡ Ok None) × IsOver Steps next
+ReturnsItems {W} {X} Steps w (Ok x ∷ items) = (answer : Result (Option X) Refusal) (next : W) → Steps w answer next → (answer ≡ Ok (Some x)) × ReturnsItems Steps next items
+ReturnsItems {W} {X} Steps w (Err refusal ∷ items) =
     (items ≡ []) × ((answer : Result (Option X) Refusal) (next : W) → Steps w answer next → (answer ≡ Err refusal) × IsOver Steps next)

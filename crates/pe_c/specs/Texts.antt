@@ -47,9 +47,9 @@ texts =
 
 -- the text of 0 or of the number of a refusal
 unfoldable pub refusal_text : ℕ → List ℕ
-refusal_text n = slice_index_or texts n (codes "another answer")
+refusal_text n = slice_index_or texts n (codes "unknown result")
 
 -- the text of the number of a result
-unfoldable pub text_of : ℕ → List ℕ
-text_of n =
+unfoldable pub result_text : ℕ → List ℕ
+result_text n =
     if n == 100 then codes "there is nothing of the kind" else (if n == 101 then codes "the array is too small" else refusal_text n)

@@ -4,11 +4,11 @@ use Rattle.std.specs.Option.{option_map}
 use Rattle.pe_core.specs.Refusals.{Refusal, kind_of, outcome, ◌>>=◌}
 use Rattle.pe_core.specs.declared.error.Error.{Error}
 use Rattle.pe_core.specs.declared.section_table.SectionTable.{SectionTable}
-use Rattle.pe_unwind.specs.CodeStream.{CodeStream, GivesCode}
+use Rattle.pe_unwind.specs.CodeStream.{CodeStream, ReturnsCode}
 use Rattle.pe_unwind.specs.ExceptionTable.{ExceptionView, exception_at, table_range, function_of}
 use Rattle.pe_unwind.specs.FunctionTable.{functions, Finds}
 use Rattle.pe_unwind.specs.Links.{links_of}
-use Rattle.pe_unwind.specs.Places.{data_of}
+use Rattle.pe_unwind.specs.Offsets.{handler_data_of}
 use Rattle.pe_unwind.specs.UnwindRecord.{HandlerView, Exception, Termination, UnwindInfoView, unwind_tests, unwind_record, scope_table_size}
 use Rattle.pe_unwind.specs.Unwinding.{FindsRecord}
 use Rattle.pe_unwind.specs.declared.function_table.RuntimeFunction.{RuntimeFunction}
@@ -19,7 +19,7 @@ use Rattle.pe_unwind.specs.declared.unwind_code.UnwindCode.{UnwindCode}
 use Rattle.pe_unwind.specs.declared.unwind_code.UnwindOperation.{UnwindOperation}
 use Rattle.pe_unwind.specs.declared.unwind_code.UnwindOperation.TheVariants.{PushNonVolatile, Alloc, SetFPRegister, SaveNonVolatile, SaveXMM, Epilog, SaveXMM128, PushMachineFrame, Noop}
 use Rattle.pe_c.specs.Images.{is_absent}
-use Rattle.pe_c.specs.Answers.{Answers, AnswersIf}
+use Rattle.pe_c.specs.HandsOut.{HandsOut, HandsOutIf}
 use Rattle.pe_c.specs.Modes.{options_of}
 use Rattle.pe_c.specs.Ranges.{no_bytes, range_of, last_range, bytes_at}
 use Rattle.pe_c.specs.declared.image.Image.{Image}
@@ -32,8 +32,8 @@ use Rattle.pe_c.specs.declared.unwinding.UnwindRecord.{UnwindRecord}
 
 -- the range of the function table of an image for this machine, of entries of this width, if it has one; or what
 -- refuses it
-unfoldable pub table_at : ℕ → ℕ → List ℕ → Image → List SectionTable → ℕ → Result (Option Range) Refusal
-table_at machine width b image sections mode =
+unfoldable pub exception_table_at : ℕ → ℕ → List ℕ → Image → List SectionTable → ℕ → Result (Option Range) Refusal
+exception_table_at machine width b image sections mode =
     if image.machine == machine
     then (if is_absent image.exceptions then Ok None
     else exception_at width b image.exceptions sections image.file_alignment (options_of mode) >>= λ v. Ok (Some (range_of (table_range v))))
@@ -46,9 +46,9 @@ LocatesIn (Ok entries) a (Ok found) = Finds (functions entries) a found
 LocatesIn (Ok entries) a (Err refusal) = ⊥
 
 -- what a call for a lookup returns
-abbrev pub AnswersFound : List ℕ → Range → ℕ → ℕ → RuntimeFunction → RuntimeFunction → Type 0
-AnswersFound b table a number old new =
-    (answer : Result (Option RuntimeFunction) Refusal) × LocatesIn (bytes_at b table) a answer × AnswersIf number old new answer
+abbrev pub HandsOutFound : List ℕ → Range → ℕ → ℕ → RuntimeFunction → RuntimeFunction → Type 0
+HandsOutFound b table a number old new =
+    (answer : Result (Option RuntimeFunction) Refusal) × LocatesIn (bytes_at b table) a answer × HandsOutIf number old new answer
 
 -- the entry of a table with this index
 abbrev pub function_in : List ℕ → Range → ℕ → Result RuntimeFunction Refusal
@@ -81,7 +81,7 @@ handler_address (Some (Termination address d)) = address
 -- the range of a handler's data, empty without a handler
 abbrev pub handler_range : List ℕ → Option HandlerView → Range
 handler_range b None = no_bytes
-handler_range b (Some h) = last_range b (data_of h)
+handler_range b (Some h) = last_range b (handler_data_of h)
 
 abbrev pub six_zeros : List ℕ
 six_zeros = 0 ∷ 0 ∷ 0 ∷ 0 ∷ 0 ∷ 0 ∷ []
@@ -90,7 +90,7 @@ six_zeros = 0 ∷ 0 ∷ 0 ∷ 0 ∷ 0 ∷ 0 ∷ []
 abbrev pub flat_record : List ℕ → ℕ → UnwindInfoView → UnwindRecord
 flat_record b p i = record {
   codes = record {
-    left = record { place = p + 4; length = length i.codes };
+    left = record { offset = p + 4; length = length i.codes };
     version = i.version;
     frame_register = (i.frame_register).0;
     spare = six_zeros;
@@ -114,23 +114,23 @@ abbrev pub image_exceptions : List ℕ → Image → List SectionTable → ℕ �
 image_exceptions b image sections mode = exception_at 12 b image.exceptions sections image.file_alignment (options_of mode)
 
 -- the file offset of the record of an unwind RVA in a table, or what refuses the table
-abbrev pub FindsPlaceIn : Result ExceptionView Refusal → List SectionTable → ℕ → ℕ → Result ℕ Refusal → Type 0
-FindsPlaceIn (Err refusal) sections mode address answer = answer ≡ Err refusal
-FindsPlaceIn (Ok v) sections mode address answer = FindsRecord (links_of v sections (options_of mode)) address answer
+abbrev pub FindsOffsetIn : Result ExceptionView Refusal → List SectionTable → ℕ → ℕ → Result ℕ Refusal → Type 0
+FindsOffsetIn (Err refusal) sections mode address answer = answer ≡ Err refusal
+FindsOffsetIn (Ok v) sections mode address answer = FindsRecord (links_of v sections (options_of mode)) address answer
 
 -- the same in the exception data of an image
-abbrev pub FindsPlace : List ℕ → Image → List SectionTable → ℕ → ℕ → Result ℕ Refusal → Type 0
-FindsPlace b image sections mode address answer = FindsPlaceIn (image_exceptions b image sections mode) sections mode address answer
+abbrev pub FindsOffset : List ℕ → Image → List SectionTable → ℕ → ℕ → Result ℕ Refusal → Type 0
+FindsOffset b image sections mode address answer = FindsOffsetIn (image_exceptions b image sections mode) sections mode address answer
 
 -- the result of reading the record of an unwind RVA: the record at its offset, or what refuses it
 abbrev pub FollowsToRecord : List ℕ → Image → List SectionTable → ℕ → ℕ → Result UnwindRecord Refusal → Type 0
 FollowsToRecord b image sections mode address answer =
-    (place : Result ℕ Refusal) × FindsPlace b image sections mode address place × (answer ≡ (place >>= flat_record_at b))
+    (offset : Result ℕ Refusal) × FindsOffset b image sections mode address offset × (answer ≡ (offset >>= flat_record_at b))
 
 -- what a call for the record of an unwind RVA returns
-abbrev pub AnswersRecord : List ℕ → Image → List SectionTable → ℕ → ℕ → ℕ → UnwindRecord → UnwindRecord → Type 0
-AnswersRecord b image sections mode address number old new =
-    (answer : Result UnwindRecord Refusal) × FollowsToRecord b image sections mode address answer × Answers number old new answer
+abbrev pub HandsOutRecord : List ℕ → Image → List SectionTable → ℕ → ℕ → ℕ → UnwindRecord → UnwindRecord → Type 0
+HandsOutRecord b image sections mode address number old new =
+    (answer : Result UnwindRecord Refusal) × FollowsToRecord b image sections mode address answer × HandsOut number old new answer
 
 -- ---- unwind codes
 
@@ -146,32 +146,32 @@ bytes_from (FP n) = n
 
 -- a code that saves a register
 abbrev pub saving : ℕ → ℕ → Register → StackFrameOffset → Code
-saving place operation register offset =
-    record { code_offset = place; operation = operation; operand = register.0; from_frame = from_frame offset; value = bytes_from offset }
+saving code_offset operation register offset =
+    record { code_offset = code_offset; operation = operation; operand = register.0; from_frame = from_frame offset; value = bytes_from offset }
 
 -- a code of another operation
 abbrev pub plain : ℕ → ℕ → ℕ → ℕ → Code
-plain place operation operand value = record { code_offset = place; operation = operation; operand = operand; from_frame = 0; value = value }
+plain code_offset operation operand value = record { code_offset = code_offset; operation = operation; operand = operand; from_frame = 0; value = value }
 
 -- an operation as numbers
 abbrev pub flat_operation : ℕ → UnwindOperation → Code
-flat_operation place (PushNonVolatile register) = plain place 0 register.0 0
-flat_operation place (Alloc size) = plain place 1 0 size
-flat_operation place SetFPRegister = plain place 2 0 0
-flat_operation place (SaveNonVolatile register offset) = saving place 3 register offset
-flat_operation place (SaveXMM register offset) = saving place 4 register offset
-flat_operation place (Epilog low high) = plain place 5 high low
-flat_operation place (SaveXMM128 register offset) = saving place 6 register offset
-flat_operation place (PushMachineFrame has_code) = plain place 7 (if has_code then 1 else 0) 0
-flat_operation place Noop = plain place 8 0 0
+flat_operation code_offset (PushNonVolatile register) = plain code_offset 0 register.0 0
+flat_operation code_offset (Alloc size) = plain code_offset 1 0 size
+flat_operation code_offset SetFPRegister = plain code_offset 2 0 0
+flat_operation code_offset (SaveNonVolatile register offset) = saving code_offset 3 register offset
+flat_operation code_offset (SaveXMM register offset) = saving code_offset 4 register offset
+flat_operation code_offset (Epilog low high) = plain code_offset 5 high low
+flat_operation code_offset (SaveXMM128 register offset) = saving code_offset 6 register offset
+flat_operation code_offset (PushMachineFrame has_code) = plain code_offset 7 (if has_code then 1 else 0) 0
+flat_operation code_offset Noop = plain code_offset 8 0 0
 
 -- a code as numbers
 abbrev pub flat : UnwindCode → Code
 flat c = flat_operation c.code_offset c.operation
 
 -- the stream of the code bytes that a walk has left
-abbrev pub stream_at : List ℕ → CodeWalk → CodeStream
-stream_at bytes w = record { content = bytes; version = w.version; frame = w.frame_register }
+abbrev pub code_stream_at : List ℕ → CodeWalk → CodeStream
+code_stream_at bytes w = record { content = bytes; version = w.version; frame = w.frame_register }
 
 -- the bytes that a walk has left, in the bytes that an older walk had left
 abbrev pub left_of : List ℕ → CodeWalk → CodeWalk → List ℕ
@@ -179,9 +179,9 @@ left_of bytes old new = drop (length bytes - new.left.length) bytes
 
 -- one step over these bytes: what the stream returns, and a walk with the same end
 pub record StepsOver (bytes : List ℕ) (old : CodeWalk) (answer : Option (Result UnwindCode Error)) (new : CodeWalk) : Type 0 where
-  pub code : GivesCode (stream_at bytes old) answer (stream_at (left_of bytes old new) new)
+  pub code : ReturnsCode (code_stream_at bytes old) answer (code_stream_at (left_of bytes old new) new)
   pub shorter : new.left.length ≤ old.left.length
-  pub same_end : new.left.place + new.left.length ≡ old.left.place + old.left.length
+  pub same_end : new.left.offset + new.left.length ≡ old.left.offset + old.left.length
   pub others : new ≡ record old { left = new.left }
 
 -- a step of a walk over the bytes of its range: where that is not inside the bytes, it is refused and the walk is over
@@ -207,12 +207,12 @@ flat_item (Ok code) = Ok (flat code)
 flat_item (Err e) = Err (kind_of e)
 
 -- what a call for the next code returns, and the walk after it
-abbrev pub AnswersCode : List ℕ → CodeWalk → CodeWalk → ℕ → Code → Code → Type 0
-AnswersCode b old_walk new_walk number old new =
-    (answer : Option (Result UnwindCode Error)) × WalksIn (bytes_at b old_walk.left) old_walk answer new_walk × AnswersIf number old new (flat_answer answer)
+abbrev pub HandsOutCode : List ℕ → CodeWalk → CodeWalk → ℕ → Code → Code → Type 0
+HandsOutCode b old_walk new_walk number old new =
+    (answer : Option (Result UnwindCode Error)) × WalksIn (bytes_at b old_walk.left) old_walk answer new_walk × HandsOutIf number old new (flat_answer answer)
 
 -- ---- scope tables
 
 -- the range of the scope table in a handler's data, which follows its count
 abbrev pub scopes_at : List ℕ → Range → Result (Option Range) Refusal
-scopes_at b r = bytes_at b r >>= λ d. Ok (option_map (λ n. record { place = r.place + 4; length = n }) (scope_table_size d))
+scopes_at b r = bytes_at b r >>= λ d. Ok (option_map (λ n. record { offset = r.offset + 4; length = n }) (scope_table_size d))

@@ -1,7 +1,7 @@
 -- The version information of an image, and its manifest.
 use Rattle.std.specs.Prelude.{◌≡◌, ℕ, ◌==◌, Bool, true, false, List, Option, Some, None, Result, Ok, if◌then◌else◌}
 use Rattle.std.specs.Option.{option_map}
-use Rattle.pe_core.specs.Places.{bytes_in}
+use Rattle.pe_core.specs.Offsets.{bytes_in}
 use Rattle.pe_core.specs.Refusals.{Refusal, ◌>>=◌}
 use Rattle.pe_core.specs.declared.byte_range.ByteRange.{ByteRange}
 use Rattle.pe_core.specs.declared.options.ParseOptions.{ParseOptions}
@@ -14,7 +14,7 @@ use Rattle.pe_resource.specs.declared.version.VersionName.TheVariants as names
 use Rattle.pe_resource.specs.declared.version.VsFixedFileInfo.{VsFixedFileInfo}
 use Rattle.pe_c.specs.declared.image.Image.{Image}
 use Rattle.pe_c.specs.declared.ranges.Range.{Range}
-use Rattle.pe_c.specs.Answers.{AnswersIf}
+use Rattle.pe_c.specs.HandsOut.{HandsOutIf}
 use Rattle.pe_c.specs.Images.{is_absent}
 use Rattle.pe_c.specs.Modes.{options_of}
 use Rattle.pe_c.specs.Ranges.{range_of, IsRange}
@@ -29,10 +29,10 @@ abbrev pub IsContentOf : List ℕ → Image → List SectionTable → ℕ → �
 IsContentOf b image sections mode id r = IsContentBy (is_absent image.resources) (options_of mode) b image sections id r
 
 -- what a call for the manifest returns: the range of the content of the resource with the id 24
-abbrev pub AnswersManifest : List ℕ → Image → List SectionTable → ℕ → ℕ → Range → Range → Type 0
-AnswersManifest b image sections mode number old new =
+abbrev pub HandsOutManifest : List ℕ → Image → List SectionTable → ℕ → ℕ → Range → Range → Type 0
+HandsOutManifest b image sections mode number old new =
     (c : Result (Option ByteRange) Refusal) × IsContentOf b image sections mode 24 c
-    × AnswersIf number old new (c >>= λ c. Ok (option_map range_of c))
+    × HandsOutIf number old new (c >>= λ c. Ok (option_map range_of c))
 
 -- the fixed file information of the version information at a range
 abbrev pub fixed_at : List ℕ → Option ByteRange → Result (Option VsFixedFileInfo) Refusal
@@ -40,9 +40,9 @@ fixed_at b None = Ok None
 fixed_at b (Some c) = fixed_info_of (bytes_in b c)
 
 -- what a call for fixed file information returns: version information is the content of the resource with the id 16
-abbrev pub AnswersFixed : List ℕ → Image → List SectionTable → ℕ → ℕ → VsFixedFileInfo → VsFixedFileInfo → Type 0
-AnswersFixed b image sections mode number old new =
-    (c : Result (Option ByteRange) Refusal) × IsContentOf b image sections mode 16 c × AnswersIf number old new (c >>= fixed_at b)
+abbrev pub HandsOutFixed : List ℕ → Image → List SectionTable → ℕ → ℕ → VsFixedFileInfo → VsFixedFileInfo → Type 0
+HandsOutFixed b image sections mode number old new =
+    (c : Result (Option ByteRange) Refusal) × IsContentOf b image sections mode 16 c × HandsOutIf number old new (c >>= fixed_at b)
 
 -- the range of the value of a name in the version information at a range
 abbrev pub value_at : List ℕ → VersionName → Option ByteRange → Result (Option Range) Refusal
@@ -66,22 +66,22 @@ name_at n =
     else (if n == 11 then Some names.SpecialBuild else None)))))))))))
 
 -- what a call for the value of a name returns; any other number is no name
-abbrev pub AnswersText : List ℕ → Image → List SectionTable → ℕ → Option VersionName → ℕ → Range → Range → Type 0
-AnswersText b image sections mode None number old new = (number ≡ 100) × (new ≡ old)
-AnswersText b image sections mode (Some name) number old new =
-    (c : Result (Option ByteRange) Refusal) × IsContentOf b image sections mode 16 c × AnswersIf number old new (c >>= value_at b name)
+abbrev pub HandsOutText : List ℕ → Image → List SectionTable → ℕ → Option VersionName → ℕ → Range → Range → Type 0
+HandsOutText b image sections mode None number old new = (number ≡ 100) × (new ≡ old)
+HandsOutText b image sections mode (Some name) number old new =
+    (c : Result (Option ByteRange) Refusal) × IsContentOf b image sections mode 16 c × HandsOutIf number old new (c >>= value_at b name)
 
 -- ---- the same by the resources
 
 -- the resources of an image that has some
-abbrev pub AreResourcesOf : List ℕ → Image → List SectionTable → ℕ → ResourceView → Type 0
-AreResourcesOf b image sections mode x =
+abbrev pub AreImageResources : List ℕ → Image → List SectionTable → ℕ → ResourceView → Type 0
+AreImageResources b image sections mode x =
     (is_absent image.resources ≡ false) × IsResource (options_of mode) b image.resources sections image.file_alignment (Ok x)
 
 -- 100 where there is nothing; else 0, and the range lies in the bytes and these are its bytes
-abbrev pub TellsRange : List ℕ → ℕ → Range → Option (List ℕ) → Type 0
-TellsRange b number out None = number ≡ 100
-TellsRange b number out (Some bytes) = (number ≡ 0) × IsRange b out bytes
+abbrev pub ReportsRange : List ℕ → ℕ → Range → Option (List ℕ) → Type 0
+ReportsRange b number out None = number ≡ 100
+ReportsRange b number out (Some bytes) = (number ≡ 0) × IsRange b out bytes
 
 -- the fixed file information of version information, if there are both
 abbrev pub fixed_of : Option VersionView → Option VsFixedFileInfo
@@ -89,22 +89,22 @@ fixed_of None = None
 fixed_of (Some v) = v.fixed_info
 
 -- the value of a name in version information, if there are both
-abbrev pub value_of : VersionName → Option VersionView → Option (List ℕ)
-value_of name None = None
-value_of name (Some v) = value_named name v.strings
+abbrev pub version_value : VersionName → Option VersionView → Option (List ℕ)
+version_value name None = None
+version_value name (Some v) = value_named name v.strings
 
 -- what calls return of a manifest, of fixed file information and of the value of a name is what the resources hold
-abbrev pub TellsManifest : Type 0
-TellsManifest =
+abbrev pub ReportsManifest : Type 0
+ReportsManifest =
     (b : List ℕ) (image : Image) (sections : List SectionTable) (mode : ℕ) (x : ResourceView) (number : ℕ) (old new : Range) →
-    AreResourcesOf b image sections mode x → AnswersManifest b image sections mode number old new → TellsRange b number new x.manifest
+    AreImageResources b image sections mode x → HandsOutManifest b image sections mode number old new → ReportsRange b number new x.manifest
 
-abbrev pub TellsFixed : Type 0
-TellsFixed =
+abbrev pub ReportsFixed : Type 0
+ReportsFixed =
     (b : List ℕ) (image : Image) (sections : List SectionTable) (mode : ℕ) (x : ResourceView) (number : ℕ) (old new : VsFixedFileInfo) →
-    AreResourcesOf b image sections mode x → AnswersFixed b image sections mode number old new → AnswersIf number old new (Ok (fixed_of x.version))
+    AreImageResources b image sections mode x → HandsOutFixed b image sections mode number old new → HandsOutIf number old new (Ok (fixed_of x.version))
 
-abbrev pub TellsValue : Type 0
-TellsValue =
+abbrev pub ReportsValue : Type 0
+ReportsValue =
     (b : List ℕ) (image : Image) (sections : List SectionTable) (mode : ℕ) (name : VersionName) (x : ResourceView) (number : ℕ) (old new : Range) →
-    AreResourcesOf b image sections mode x → AnswersText b image sections mode (Some name) number old new → TellsRange b number new (value_of name x.version)
+    AreImageResources b image sections mode x → HandsOutText b image sections mode (Some name) number old new → ReportsRange b number new (version_value name x.version)

@@ -7,15 +7,15 @@ ghost use Rattle.std.specs.Prelude.{◌≡◌, ◌+◌, ◌*◌, ◌≤◌, ◌^
 ghost use Rattle.pe_core.specs.Refusals.{answer_by};
 ghost use Rattle.pe_unwind.specs.Arm64Encoding.{bit};
 ghost use Rattle.pe_unwind.specs.Arm64Record.{info_view, extension_view};
-ghost use Rattle.pe_unwind.specs.Places.{Arm64PartsStand};
-ghost use Rattle.pe_c.specs.Answers.{Answers, AnswersIf};
+ghost use Rattle.pe_unwind.specs.Offsets.{Arm64PartsStand};
+ghost use Rattle.pe_c.specs.HandsOut.{HandsOut, HandsOutIf};
 ghost use Rattle.pe_c.specs.Arm64.{arm64_function_in, packed_fields, arm64_handler_range, arm64_handler_address, has_arm64_handler, first_count, flat_info, flat_info_at, arm64_record_of, flat_scope, flat_scope_at, case_number, numbers_of, arm64_walk_at, left_of_stream, StepsOverArm64, WalksInArm64, AnswersArm64Code};
-ghost use Rattle.pe_c.specs.Unwinding.{table_at};
+ghost use Rattle.pe_c.specs.Unwinding.{exception_table_at};
 ghost use Rattle.pe_c.specs.Walks.{next_of, walk_of};
 
-use crate::answers::{DONE, hand_out, hand_out_some, options};
 use crate::image::{Image, is_absent};
 use crate::ranges::{NO_BYTES, Range, last_range, range_of, slice_of};
+use crate::results::{DONE, hand_out, hand_out_some, options};
 use crate::walks::next_entry;
 use pe_core::{COFF_MACHINE_ARM64, Error, Reason, Result, SectionTable, u32_at};
 use pe_unwind::{
@@ -122,14 +122,14 @@ pub struct Arm64Code {
     pub flags: u32,
 }
 
-#[tactic(auto, unfolding(crate::specs::Unwinding::table_at))]
+#[tactic(auto, unfolding(crate::specs::Unwinding::exception_table_at))]
 fn table_of(
     bytes: &[u8],
     image: &Image,
     sections: &[SectionTable],
     mode: u32,
 ) -> Result<Option<Range>>
-    ensures { answer_by (λ x. x) result ≡ table_at 0xAA64 8 bytes.now image.now sections.now mode }
+    ensures { answer_by (λ x. x) result ≡ exception_table_at 0xAA64 8 bytes.now image.now sections.now mode }
 {
     let directory = image.exceptions;
     if image.machine != COFF_MACHINE_ARM64 || is_absent(directory) {
@@ -155,7 +155,7 @@ pub extern "C" fn pe_c_arm64_table(
     mode: u32,
     out: &mut Range,
 ) -> u32
-    ensures { AnswersIf result out.old out.new (table_at 0xAA64 8 bytes.now image.now sections.now mode) }
+    ensures { HandsOutIf result out.old out.new (exception_table_at 0xAA64 8 bytes.now image.now sections.now mode) }
 {
     hand_out_some(table_of(bytes, image, sections, mode), out)
 }
@@ -177,7 +177,7 @@ pub extern "C" fn pe_c_arm64_function_at(
     index: u64,
     out: &mut Arm64RuntimeFunction,
 ) -> u32
-    ensures { Answers result out.old out.new (arm64_function_in bytes.now table.now index) }
+    ensures { HandsOut result out.old out.new (arm64_function_in bytes.now table.now index) }
 {
     hand_out(function_in(bytes, table, index), out)
 }
@@ -206,8 +206,8 @@ pub extern "C" fn pe_c_arm64_packed_fields(
 }
 
 /// The RVA of a record's handler, whether it has one, and its data.
-fn handler_of(info: &Arm64UnwindInfo, bytes: &[u8], place: usize) -> (u32, u32, Range)
-    requires { Arm64PartsStand bytes.now place (info_view info.now) }
+fn handler_of(info: &Arm64UnwindInfo, bytes: &[u8], offset: usize) -> (u32, u32, Range)
+    requires { Arm64PartsStand bytes.now offset (info_view info.now) }
     ensures address { result.0 ≡ arm64_handler_address (info_view info.now).handler }
     ensures some { result.1 ≡ has_arm64_handler (info_view info.now).handler }
     ensures range { result.2 ≡ arm64_handler_range bytes.now (info_view info.now).handler }
@@ -230,25 +230,25 @@ fn first_count(header: Arm64UnwindHeader, extension: Option<Arm64UnwindExtension
 }
 
 /// The record at a file offset, as numbers and ranges.
-fn flat_info(info: &Arm64UnwindInfo, bytes: &[u8], place: usize) -> Arm64Record
-    requires { Arm64PartsStand bytes.now place (info_view info.now) }
-    ensures { result ≡ flat_info bytes.now place (info_view info.now) }
+fn flat_info(info: &Arm64UnwindInfo, bytes: &[u8], offset: usize) -> Arm64Record
+    requires { Arm64PartsStand bytes.now offset (info_view info.now) }
+    ensures { result ≡ flat_info bytes.now offset (info_view info.now) }
 {
     let header = info.header;
-    let (handler, has_handler, handler_data) = handler_of(info, bytes, place);
+    let (handler, has_handler, handler_data) = handler_of(info, bytes, offset);
     let scopes = if header.has_extension() {
-        place + 8
+        offset + 8
     } else {
-        place + 4
+        offset + 4
     };
     let count = info.scope_bytes().len();
     Arm64Record {
         scopes: Range {
-            place: scopes as u64,
+            offset: scopes as u64,
             length: count as u64,
         },
         codes: Range {
-            place: (scopes + count) as u64,
+            offset: (scopes + count) as u64,
             length: info.code_bytes().len() as u64,
         },
         handler_data,
@@ -266,11 +266,11 @@ fn flat_info(info: &Arm64UnwindInfo, bytes: &[u8], place: usize) -> Arm64Record
 }
 
 /// The unwind record at a file offset.
-fn info_at(bytes: &[u8], place: usize) -> Result<Arm64Record>
-    ensures { answer_by (λ x. x) result ≡ flat_info_at bytes.now place }
+fn info_at(bytes: &[u8], offset: usize) -> Result<Arm64Record>
+    ensures { answer_by (λ x. x) result ≡ flat_info_at bytes.now offset }
 {
-    let info = Arm64UnwindInfo::parse(bytes, place)?;
-    Ok(flat_info(&info, bytes, place))
+    let info = Arm64UnwindInfo::parse(bytes, offset)?;
+    Ok(flat_info(&info, bytes, offset))
 }
 
 fn read_record(
@@ -288,9 +288,9 @@ fn read_record(
     let exceptions = ExceptionData::parse_arm64_with_opts(
         bytes, table, sections, alignment, &opts,
     )?;
-    match exceptions.record_place_arm64(function, sections, &opts) {
+    match exceptions.record_offset_arm64(function, sections, &opts) {
         None => Ok(None),
-        Some(place) => Ok(Some(info_at(bytes, place?)?)),
+        Some(offset) => Ok(Some(info_at(bytes, offset?)?)),
     }
 }
 
@@ -307,7 +307,7 @@ pub extern "C" fn pe_c_arm64_unwind_record(
     function: &Arm64RuntimeFunction,
     out: &mut Arm64Record,
 ) -> u32
-    ensures { AnswersIf result out.old out.new (arm64_record_of bytes.now image.now sections.now mode function.now) }
+    ensures { HandsOutIf result out.old out.new (arm64_record_of bytes.now image.now sections.now mode function.now) }
 {
     hand_out_some(read_record(bytes, image, sections, mode, *function), out)
 }
@@ -339,7 +339,7 @@ fn next_scope(bytes: &[u8], walk: &mut Range) -> Result<Option<Arm64Scope>>
 /// Errors: `SHORT` where the walk is not inside the bytes, or a scope is truncated. After it the walk is over.
 #[unsafe(no_mangle)]
 pub extern "C" fn pe_c_next_arm64_scope(bytes: &[u8], walk: &mut Range, out: &mut Arm64Scope) -> u32
-    ensures scope { AnswersIf result out.old out.new (next_of flat_scope_at 4 bytes.now walk.old) }
+    ensures scope { HandsOutIf result out.old out.new (next_of flat_scope_at 4 bytes.now walk.old) }
     ensures walk { walk.new ≡ walk_of 4 bytes.now walk.old }
 {
     hand_out_some(next_scope(bytes, walk), out)
@@ -352,7 +352,7 @@ fn codes_at(bytes: &[u8], codes: &Range, start: u64) -> Result<Arm64CodeWalk>
     Arm64UnwindCodeIterator::new(stream, start as usize)?;
     Ok(Arm64CodeWalk {
         left: Range {
-            place: codes.place + start,
+            offset: codes.offset + start,
             length: codes.length - start,
         },
         offset: start,
@@ -371,7 +371,7 @@ pub extern "C" fn pe_c_arm64_codes(
     start: u64,
     out: &mut Arm64CodeWalk,
 ) -> u32
-    ensures { Answers result out.old out.new (arm64_walk_at bytes.now codes.now start) }
+    ensures { HandsOut result out.old out.new (arm64_walk_at bytes.now codes.now start) }
 {
     hand_out(codes_at(bytes, codes, start), out)
 }
@@ -487,7 +487,7 @@ fn left_of_stream<'a>(bytes: &'a [u8], walk: &Arm64CodeWalk) -> Result<&'a [u8]>
 /// One step over the bytes that a walk has left.
 fn step(left: &[u8], walk: &mut Arm64CodeWalk) -> Result<Option<Arm64Code>>
     requires length { length left.now ≡ walk.old.left.length }
-    requires end { walk.old.left.place + walk.old.left.length ≤ 2 ^ 63 }
+    requires end { walk.old.left.offset + walk.old.left.length ≤ 2 ^ 63 }
     requires stream { walk.old.offset + walk.old.left.length ≤ 4294967292 }
     ensures { StepsOverArm64 left.now walk.old (answer_by (λ x. x) result) walk.new }
 {
@@ -501,7 +501,7 @@ fn step(left: &[u8], walk: &mut Arm64CodeWalk) -> Result<Option<Arm64Code>>
             let count = length as u64;
             *walk = Arm64CodeWalk {
                 left: Range {
-                    place: range.place + count,
+                    offset: range.offset + count,
                     length: range.length - count,
                 },
                 offset: offset + count,

@@ -6,11 +6,11 @@
 ghost use Rattle.std.specs.Prelude.{◌≡◌, ◌+◌, ◌≤◌, ◌^◌};
 ghost use Rattle.pe_core.specs.Refusals.{answer_by};
 ghost use Rattle.pe_records.specs.Certificates.{certificate_at, certificate_view};
-ghost use Rattle.pe_c.specs.Answers.{AnswersIf};
-ghost use Rattle.pe_c.specs.Certificates.{step, certificate_told, walk_from};
+ghost use Rattle.pe_c.specs.HandsOut.{HandsOutIf};
+ghost use Rattle.pe_c.specs.Certificates.{certificate_step, certificate_reported, walk_from};
 
-use crate::answers::hand_out_some;
 use crate::ranges::{NO_BYTES, Range, slice_of};
+use crate::results::hand_out_some;
 use pe_core::{Error, Reason, Result};
 use pe_records::AttributeCertificate;
 
@@ -29,13 +29,13 @@ pub struct Certificate {
 }
 
 /// The certificate at a file offset, as numbers and a range.
-fn certificate_told(place: u64, certificate: &AttributeCertificate) -> Certificate
-    requires { place ≤ 2 ^ 63 }
-    ensures { result ≡ certificate_told place (certificate_view certificate.now) }
+fn certificate_reported(offset: u64, certificate: &AttributeCertificate) -> Certificate
+    requires { offset ≤ 2 ^ 63 }
+    ensures { result ≡ certificate_reported offset (certificate_view certificate.now) }
 {
     Certificate {
         body: Range {
-            place: place + 8,
+            offset: offset + 8,
             length: certificate.certificate.len() as u64,
         },
         length: certificate.length,
@@ -46,13 +46,13 @@ fn certificate_told(place: u64, certificate: &AttributeCertificate) -> Certifica
 
 /// The walk that continues at a file offset: it is over where the offset is not before the walk's end.
 fn walk_from(walk: Range, next: u64) -> Range
-    requires { walk.place + walk.length ≤ 2 ^ 63 }
+    requires { walk.offset + walk.length ≤ 2 ^ 63 }
     ensures { result ≡ walk_from walk next }
 {
-    let end = walk.place + walk.length;
+    let end = walk.offset + walk.length;
     if next < end {
         Range {
-            place: next,
+            offset: next,
             length: end - next,
         }
     } else {
@@ -61,13 +61,13 @@ fn walk_from(walk: Range, next: u64) -> Range
 }
 
 /// One step: its result, and the walk after it.
-#[tactic(auto, unfolding(crate::specs::Certificates::step))]
+#[tactic(auto, unfolding(crate::specs::Certificates::certificate_step))]
 fn step(bytes: &[u8], walk: Range) -> (Result<Option<Certificate>>, Range)
-    ensures { (answer_by (λ x. x) result.0, result.1) ≡ step bytes.now walk }
+    ensures { (answer_by (λ x. x) result.0, result.1) ≡ certificate_step bytes.now walk }
 {
     // This test comes first: an empty walk outside of the bytes is an error too.
     if slice_of(bytes, &walk).is_err() {
-        let end = walk.place.saturating_add(walk.length);
+        let end = walk.offset.saturating_add(walk.length);
         return (
             Err(Error::Malformed(Reason::CertificateTable(end))),
             NO_BYTES,
@@ -76,11 +76,11 @@ fn step(bytes: &[u8], walk: Range) -> (Result<Option<Certificate>>, Range)
     if walk.length == 0 {
         return (Ok(None), walk);
     }
-    let mut offset = walk.place as usize;
+    let mut offset = walk.offset as usize;
     match AttributeCertificate::parse(bytes, &mut offset) {
         Ok(certificate) => {
-            let told = certificate_told(walk.place, &certificate);
-            (Ok(Some(told)), walk_from(walk, offset as u64))
+            let reported = certificate_reported(walk.offset, &certificate);
+            (Ok(Some(reported)), walk_from(walk, offset as u64))
         }
         Err(error) => (Err(error), NO_BYTES),
     }
@@ -98,10 +98,10 @@ pub extern "C" fn pe_c_next_certificate(
     walk: &mut Range,
     out: &mut Certificate,
 ) -> u32
-    ensures answer { AnswersIf result out.old out.new (step bytes.now walk.old).0 }
-    ensures walk { walk.new ≡ (step bytes.now walk.old).1 }
+    ensures returned { HandsOutIf result out.old out.new (certificate_step bytes.now walk.old).0 }
+    ensures walk { walk.new ≡ (certificate_step bytes.now walk.old).1 }
 {
-    let (told, behind) = step(bytes, *walk);
-    *walk = behind;
-    hand_out_some(told, out)
+    let (reported, after) = step(bytes, *walk);
+    *walk = after;
+    hand_out_some(reported, out)
 }

@@ -9,12 +9,12 @@ ghost use Rattle.std.specs.Prelude.{◌≡◌};
 ghost use Rattle.std.specs.Option.{option_map};
 ghost use Rattle.pe_core.specs.Refusals.{answer_by};
 ghost use Rattle.pe_records.specs.DebugRecords.{debug_view};
-ghost use Rattle.pe_c.specs.Answers.{AnswersIf};
-ghost use Rattle.pe_c.specs.Debug.{entries_at, image_debug, told_of, part_behind, key_of, pdb20_of, characteristics_of, repro_of, pogo_of};
+ghost use Rattle.pe_c.specs.HandsOut.{HandsOutIf};
+ghost use Rattle.pe_c.specs.Debug.{debug_entries_range, image_debug, reported_of, part_after, key_of, pdb20_field, characteristics_field, repro_field, pogo_field};
 
-use crate::answers::{DONE, NOTHING, hand_out_some, number_of, options};
 use crate::image::{Image, is_absent};
 use crate::ranges::{NO_BYTES, Range, range_of};
+use crate::results::{DONE, NOTHING, hand_out_some, number_of, options};
 use pe_core::{ParseOptions, Result, SectionTable};
 use pe_records::{
     DebugData, IMAGE_DEBUG_TYPE_CODEVIEW, IMAGE_DEBUG_TYPE_POGO, IMAGE_DEBUG_TYPE_REPRO, ReproInfo,
@@ -87,14 +87,14 @@ const REPRO_HEADER: u32 = 4;
 /// Bytes before the entries in a POGO record.
 const POGO_HEADER: u32 = 4;
 
-#[tactic(auto, unfolding(crate::specs::Debug::entries_at))]
+#[tactic(auto, unfolding(crate::specs::Debug::debug_entries_range))]
 fn table_of(
     bytes: &[u8],
     image: &Image,
     sections: &[SectionTable],
     mode: u32,
 ) -> Result<Option<Range>>
-    ensures { answer_by (λ x. x) result ≡ entries_at bytes.now image.now sections.now mode }
+    ensures { answer_by (λ x. x) result ≡ debug_entries_range bytes.now image.now sections.now mode }
 {
     let directory = image.debug;
     if is_absent(directory) {
@@ -119,7 +119,7 @@ pub extern "C" fn pe_c_debug_entries(
     mode: u32,
     out: &mut Range,
 ) -> u32
-    ensures { AnswersIf result out.old out.new (entries_at bytes.now image.now sections.now mode) }
+    ensures { HandsOutIf result out.old out.new (debug_entries_range bytes.now image.now sections.now mode) }
 {
     hand_out_some(table_of(bytes, image, sections, mode), out)
 }
@@ -144,14 +144,14 @@ fn read_debug<'a>(
 }
 
 /// The range of a part, which follows a header of so many bytes in the record of the first entry of this type.
-fn part_behind(debug: &DebugData, data_type: u32, header: u32, part: &[u8]) -> Option<Range>
-    ensures { result ≡ part_behind (debug_view debug.now) data_type header part.now }
+fn part_after(debug: &DebugData, data_type: u32, header: u32, part: &[u8]) -> Option<Range>
+    ensures { result ≡ part_after (debug_view debug.now) data_type header part.now }
 {
     let entry = debug.find_type(data_type)?;
     // A mode does not change where records are.
-    let place = entry.record_place(&ParseOptions::default());
+    let offset = entry.record_offset(&ParseOptions::default());
     Some(Range {
-        place: u64::from(place) + u64::from(header),
+        offset: u64::from(offset) + u64::from(header),
         length: part.len() as u64,
     })
 }
@@ -160,7 +160,7 @@ fn key_of(debug: &DebugData) -> Option<SymbolKey>
     ensures { result ≡ key_of (debug_view debug.now) }
 {
     let record = debug.codeview_pdb70_debug_info?;
-    let name = part_behind(
+    let name = part_after(
         debug,
         IMAGE_DEBUG_TYPE_CODEVIEW,
         PDB70_HEADER,
@@ -191,7 +191,7 @@ pub extern "C" fn pe_c_symbol_key(
     mode: u32,
     out: &mut SymbolKey,
 ) -> u32
-    ensures { AnswersIf result out.old out.new (told_of key_of bytes.now image.now sections.now mode) }
+    ensures { HandsOutIf result out.old out.new (reported_of key_of bytes.now image.now sections.now mode) }
 {
     match read_debug(bytes, image, sections, mode) {
         Ok(Some(debug)) => hand_out_some(Ok(key_of(&debug)), out),
@@ -201,10 +201,10 @@ pub extern "C" fn pe_c_symbol_key(
 }
 
 fn pdb20_of(debug: &DebugData) -> Option<Pdb20>
-    ensures { result ≡ pdb20_of (debug_view debug.now) }
+    ensures { result ≡ pdb20_field (debug_view debug.now) }
 {
     let record = debug.codeview_pdb20_debug_info?;
-    let name = part_behind(
+    let name = part_after(
         debug,
         IMAGE_DEBUG_TYPE_CODEVIEW,
         PDB20_HEADER,
@@ -229,7 +229,7 @@ pub extern "C" fn pe_c_debug_pdb20(
     mode: u32,
     out: &mut Pdb20,
 ) -> u32
-    ensures { AnswersIf result out.old out.new (told_of pdb20_of bytes.now image.now sections.now mode) }
+    ensures { HandsOutIf result out.old out.new (reported_of pdb20_field bytes.now image.now sections.now mode) }
 {
     match read_debug(bytes, image, sections, mode) {
         Ok(Some(debug)) => hand_out_some(Ok(pdb20_of(&debug)), out),
@@ -248,7 +248,7 @@ pub extern "C" fn pe_c_debug_vc_features(
     mode: u32,
     out: &mut VCFeatureInfo,
 ) -> u32
-    ensures { AnswersIf result out.old out.new (told_of (λ d. d.features) bytes.now image.now sections.now mode) }
+    ensures { HandsOutIf result out.old out.new (reported_of (λ d. d.features) bytes.now image.now sections.now mode) }
 {
     match read_debug(bytes, image, sections, mode) {
         Ok(Some(debug)) => hand_out_some(Ok(debug.vcfeature_info), out),
@@ -258,7 +258,7 @@ pub extern "C" fn pe_c_debug_vc_features(
 }
 
 fn characteristics_of(debug: &DebugData) -> Option<u32>
-    ensures { result ≡ characteristics_of (debug_view debug.now) }
+    ensures { result ≡ characteristics_field (debug_view debug.now) }
 {
     let record = debug.ex_dll_characteristics_info?;
     Some(record.characteristics_ex)
@@ -274,7 +274,7 @@ pub extern "C" fn pe_c_debug_characteristics(
     mode: u32,
     out: &mut u32,
 ) -> u32
-    ensures { AnswersIf result out.old out.new (told_of characteristics_of bytes.now image.now sections.now mode) }
+    ensures { HandsOutIf result out.old out.new (reported_of characteristics_field bytes.now image.now sections.now mode) }
 {
     match read_debug(bytes, image, sections, mode) {
         Ok(Some(debug)) => hand_out_some(Ok(characteristics_of(&debug)), out),
@@ -284,7 +284,7 @@ pub extern "C" fn pe_c_debug_characteristics(
 }
 
 fn repro_of(debug: &DebugData) -> Option<Repro>
-    ensures { result ≡ repro_of (debug_view debug.now) }
+    ensures { result ≡ repro_field (debug_view debug.now) }
 {
     match debug.repro_info? {
         ReproInfo::TimeDateStamp(_) => Some(Repro {
@@ -293,7 +293,7 @@ fn repro_of(debug: &DebugData) -> Option<Repro>
             spare: 0,
         }),
         ReproInfo::Buffer { buffer, .. } => Some(Repro {
-            hash: part_behind(debug, IMAGE_DEBUG_TYPE_REPRO, REPRO_HEADER, buffer)?,
+            hash: part_after(debug, IMAGE_DEBUG_TYPE_REPRO, REPRO_HEADER, buffer)?,
             has_hash: 1,
             spare: 0,
         }),
@@ -310,7 +310,7 @@ pub extern "C" fn pe_c_debug_repro(
     mode: u32,
     out: &mut Repro,
 ) -> u32
-    ensures { AnswersIf result out.old out.new (told_of repro_of bytes.now image.now sections.now mode) }
+    ensures { HandsOutIf result out.old out.new (reported_of repro_field bytes.now image.now sections.now mode) }
 {
     match read_debug(bytes, image, sections, mode) {
         Ok(Some(debug)) => hand_out_some(Ok(repro_of(&debug)), out),
@@ -320,10 +320,10 @@ pub extern "C" fn pe_c_debug_repro(
 }
 
 fn pogo_of(debug: &DebugData) -> Option<Pogo>
-    ensures { result ≡ pogo_of (debug_view debug.now) }
+    ensures { result ≡ pogo_field (debug_view debug.now) }
 {
     let record = debug.pogo_info?;
-    let entries = part_behind(debug, IMAGE_DEBUG_TYPE_POGO, POGO_HEADER, record.bytes)?;
+    let entries = part_after(debug, IMAGE_DEBUG_TYPE_POGO, POGO_HEADER, record.bytes)?;
     Some(Pogo {
         entries,
         signature: record.signature,
@@ -341,7 +341,7 @@ pub extern "C" fn pe_c_debug_pogo(
     mode: u32,
     out: &mut Pogo,
 ) -> u32
-    ensures { AnswersIf result out.old out.new (told_of pogo_of bytes.now image.now sections.now mode) }
+    ensures { HandsOutIf result out.old out.new (reported_of pogo_field bytes.now image.now sections.now mode) }
 {
     match read_debug(bytes, image, sections, mode) {
         Ok(Some(debug)) => hand_out_some(Ok(pogo_of(&debug)), out),

@@ -4,13 +4,13 @@
 
 ghost use Rattle.std.specs.Prelude.{◌≡◌, ◌+◌, ◌≤◌, ◌^◌, length, Ok};
 ghost use Rattle.pe_core.specs.Refusals.{answer_by};
-ghost use Rattle.pe_records.specs.DebugDirectory.{entry_at};
-ghost use Rattle.pe_c.specs.Answers.{AnswersIf};
-ghost use Rattle.pe_c.specs.DebugWalks.{AnswersPogoEntry, IsNamed, StepsPogo, StepsOverPogo, pogo_entry};
+ghost use Rattle.pe_records.specs.DebugDirectory.{debug_entry_at};
+ghost use Rattle.pe_c.specs.HandsOut.{HandsOutIf};
+ghost use Rattle.pe_c.specs.DebugWalks.{HandsOutPogoEntry, IsNamed, StepsPogo, StepsOverPogo, pogo_entry};
 ghost use Rattle.pe_c.specs.Walks.{next_of, walk_of};
 
-use crate::answers::{DONE, NOTHING, hand_out_some, number_of};
 use crate::ranges::{NO_BYTES, Range, slice_of};
+use crate::results::{DONE, NOTHING, hand_out_some, number_of};
 use crate::walks::next_entry;
 use pe_core::{Result, rounded_up};
 use pe_records::{
@@ -34,7 +34,7 @@ pub struct PogoEntry {
 #[tactic(auto, using(crate::proofs::Steps::first_entry))]
 fn first_entry(left: &[u8]) -> ImageDebugDirectory
     requires { 28 ≤ length left.now }
-    ensures { result ≡ entry_at 0 left.now 0 }
+    ensures { result ≡ debug_entry_at 0 left.now 0 }
 {
     match ImageDebugDirectoryIterator::new(left, 0).next() {
         Some(Ok(entry)) => entry,
@@ -43,7 +43,7 @@ fn first_entry(left: &[u8]) -> ImageDebugDirectory
 }
 
 fn next_debug_entry(bytes: &[u8], walk: &mut Range) -> Result<Option<ImageDebugDirectory>>
-    ensures entry { answer_by (λ x. x) result ≡ next_of (entry_at 0) 28 bytes.now walk.old }
+    ensures entry { answer_by (λ x. x) result ≡ next_of (debug_entry_at 0) 28 bytes.now walk.old }
     ensures walk { walk.new ≡ walk_of 28 bytes.now walk.old }
 {
     match next_entry(bytes, walk, IMAGE_DEBUG_DIRECTORY_SIZE)? {
@@ -61,7 +61,7 @@ pub extern "C" fn pe_c_next_debug_entry(
     walk: &mut Range,
     out: &mut ImageDebugDirectory,
 ) -> u32
-    ensures entry { AnswersIf result out.old out.new (next_of (entry_at 0) 28 bytes.now walk.old) }
+    ensures entry { HandsOutIf result out.old out.new (next_of (debug_entry_at 0) 28 bytes.now walk.old) }
     ensures walk { walk.new ≡ walk_of 28 bytes.now walk.old }
 {
     hand_out_some(next_debug_entry(bytes, walk), out)
@@ -70,7 +70,7 @@ pub extern "C" fn pe_c_next_debug_entry(
 /// One step over the bytes that a walk has left.
 #[tactic(auto, using(crate::proofs::Steps::taken))]
 fn step<'a>(left: &'a [u8], walk: &mut Range) -> Option<Result<POGOInfoEntry<'a>>>
-    requires inside { walk.old.place + walk.old.length ≤ 2 ^ 63 }
+    requires inside { walk.old.offset + walk.old.length ≤ 2 ^ 63 }
     requires length { walk.old.length ≡ length left.now }
     ensures { StepsOverPogo (Ok left.entry.now) walk.old result walk.new }
 {
@@ -80,7 +80,7 @@ fn step<'a>(left: &'a [u8], walk: &mut Range) -> Option<Result<POGOInfoEntry<'a>
         Some(Ok(entry)) => {
             let taken = rounded_up(8 + entry.name.len(), 4) as u64;
             *walk = Range {
-                place: walk.place + taken,
+                offset: walk.offset + taken,
                 length: walk.length - taken,
             };
         }
@@ -104,12 +104,12 @@ fn next_pogo_entry<'a>(bytes: &'a [u8], walk: &mut Range) -> Option<Result<POGOI
 }
 
 fn pogo_entry(walk: &Range, entry: &POGOInfoEntry) -> PogoEntry
-    requires { walk.now.place ≤ 2 ^ 63 }
+    requires { walk.now.offset ≤ 2 ^ 63 }
     ensures { result ≡ pogo_entry walk.now entry.now }
 {
     PogoEntry {
         name: Range {
-            place: walk.place + 8,
+            offset: walk.offset + 8,
             length: entry.name.len() as u64,
         },
         rva: entry.rva,
@@ -123,7 +123,7 @@ fn pogo_entry(walk: &Range, entry: &POGOInfoEntry) -> PogoEntry
 /// is not NUL-terminated, or its padding is truncated. After an error the walk is over.
 #[unsafe(no_mangle)]
 pub extern "C" fn pe_c_next_pogo_entry(bytes: &[u8], walk: &mut Range, out: &mut PogoEntry) -> u32
-    ensures { AnswersPogoEntry bytes.now walk.old walk.new result out.old out.new }
+    ensures { HandsOutPogoEntry bytes.now walk.old walk.new result out.old out.new }
 {
     let here = *walk;
     match next_pogo_entry(bytes, walk) {

@@ -5,15 +5,15 @@
 
 ghost use Rattle.std.specs.Prelude.{◌≡◌, ◌+◌, ◌*◌, ◌/◌, ◌≤◌, length};
 ghost use Rattle.pe_core.specs.Exports.{export_data_view};
-ghost use Rattle.pe_core.specs.Refusals.{Gives, answer_by};
-ghost use Rattle.pe_c.specs.Answers.{AnswersIf};
-ghost use Rattle.pe_c.specs.Exports.{AnswersExport, FindsNext, StepsExports, export_table, tables_at, tables_or_short, told_entry, view_of, walk_over};
+ghost use Rattle.pe_core.specs.Refusals.{Returns, answer_by};
+ghost use Rattle.pe_c.specs.HandsOut.{HandsOutIf};
+ghost use Rattle.pe_c.specs.Exports.{HandsOutExport, FindsNext, StepsExports, export_table, tables_at, tables_or_short, reported_entry, view_of, walk_over};
 ghost use Rattle.pe_c.specs.Images.{map_of_image};
 
-use crate::answers::{hand_out_some, options};
 use crate::image::{Image, is_absent, offset_of};
 use crate::ranges::{NO_BYTES, Range, range_from, slice_of};
-use pe_core::{ExportData, Result, SectionTable, number32, text_at, u16_at, u32_at};
+use crate::results::{hand_out_some, options};
+use pe_core::{ExportData, Result, SectionTable, read_u32, text_at, u16_at, u32_at};
 
 /// A walk over the exports of an image: the tables of its export directory, and the index of the next name.
 #[repr(C)]
@@ -35,12 +35,12 @@ pub struct Exports {
 pub struct Export {
     /// UTF-8, without its final zero.
     pub name: Range,
-    /// File offset of what is exported; 0 where `has_place` is 0.
-    pub place: u64,
+    /// File offset of what is exported; 0 where `has_offset` is 0.
+    pub offset: u64,
     /// RVA of what is exported.
     pub rva: u32,
     /// 1 where a section maps the RVA, else 0.
-    pub has_place: u32,
+    pub has_offset: u32,
 }
 
 /// The range of a table of so many bytes at an RVA. An empty table needs no mapped RVA.
@@ -98,7 +98,7 @@ pub extern "C" fn pe_c_export_tables(
     mode: u32,
     out: &mut Exports,
 ) -> u32
-    ensures { AnswersIf result out.old out.new (tables_at bytes.now image.now sections.now) }
+    ensures { HandsOutIf result out.old out.new (tables_at bytes.now image.now sections.now) }
 {
     hand_out_some(tables_at(bytes, image, sections, mode), out)
 }
@@ -113,7 +113,7 @@ struct Tables<'a> {
 
 /// The export of entry `i` of the name table, if its name is mapped and is text, and its ordinal is in the address
 /// table.
-fn told_entry(
+fn reported_entry(
     bytes: &[u8],
     tables: &Tables<'_>,
     i: usize,
@@ -121,21 +121,21 @@ fn told_entry(
     sections: &[SectionTable],
 ) -> Option<Export>
     requires { 4 * i + 4 ≤ length tables.now.names.now }
-    ensures { result ≡ told_entry (map_of_image image.now sections.now) bytes.now (view_of tables.now) i }
+    ensures { result ≡ reported_entry (map_of_image image.now sections.now) bytes.now (view_of tables.now) i }
 {
-    let place = offset_of(number32(tables.names, 4 * i), image, sections)?;
-    let name = text_at(bytes, place)?;
+    let offset = offset_of(read_u32(tables.names, 4 * i), image, sections)?;
+    let name = text_at(bytes, offset)?;
     let ordinal = u16_at(tables.ordinals, 2 * i).ok()?;
     let rva = u32_at(tables.addresses, 4 * usize::from(ordinal)).ok()?;
-    let offset = offset_of(rva, image, sections);
+    let exported = offset_of(rva, image, sections);
     Some(Export {
         name: Range {
-            place: place as u64,
+            offset: offset as u64,
             length: name.len() as u64,
         },
-        place: offset.unwrap_or(0) as u64,
+        offset: exported.unwrap_or(0) as u64,
         rva,
-        has_place: u32::from(offset.is_some()),
+        has_offset: u32::from(exported.is_some()),
     })
 }
 
@@ -147,10 +147,10 @@ fn find_next(
     image: &Image,
     sections: &[SectionTable],
 ) -> Option<(Export, u64)>
-    ensures { FindsNext (told_entry (map_of_image image.now sections.now) bytes.now (view_of tables.now)) from (length tables.now.names.now / 4) result }
+    ensures { FindsNext (reported_entry (map_of_image image.now sections.now) bytes.now (view_of tables.now)) from (length tables.now.names.now / 4) result }
 {
     for i in from..tables.names.len() / 4 {
-        if let Some(export) = told_entry(bytes, tables, i, image, sections) {
+        if let Some(export) = reported_entry(bytes, tables, i, image, sections) {
             return Some((export, i as u64 + 1));
         }
     }
@@ -159,7 +159,7 @@ fn find_next(
 
 /// The tables of a walk. `Short` where one is not inside the bytes.
 fn tables_of<'a>(bytes: &'a [u8], walk: &Exports) -> Result<Tables<'a>>
-    ensures { Gives view_of result (tables_or_short bytes.entry.now walk.now) }
+    ensures { Returns view_of result (tables_or_short bytes.entry.now walk.now) }
 {
     Ok(Tables {
         names: slice_of(bytes, &walk.names)?,
@@ -215,7 +215,7 @@ pub extern "C" fn pe_c_next_export(
     walk: &mut Exports,
     out: &mut Export,
 ) -> u32
-    ensures { AnswersExport (map_of_image image.now sections.now) bytes.now walk.old walk.new result out.old out.new }
+    ensures { HandsOutExport (map_of_image image.now sections.now) bytes.now walk.old walk.new result out.old out.new }
 {
     hand_out_some(step(bytes, image, sections, walk), out)
 }

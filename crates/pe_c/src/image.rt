@@ -10,10 +10,10 @@ ghost use Rattle.pe_core.specs.Refusals.{answer_by};
 ghost use Rattle.pe_core.specs.Records.{section_table};
 ghost use Rattle.pe_core.specs.Rows.{rows};
 ghost use Rattle.pe_core.specs.SectionMap.{section_map};
-ghost use Rattle.pe_c.specs.Answers.{Answers, AnswersIf};
-ghost use Rattle.pe_c.specs.Images.{or_absent, is_absent, image_of, image_at, map_of_image, PutsSections};
+ghost use Rattle.pe_c.specs.HandsOut.{HandsOut, HandsOutIf};
+ghost use Rattle.pe_c.specs.Images.{or_absent, is_absent, image_info_of, image_at, map_of_image, PutsSections};
 
-use crate::answers::{DONE, NOTHING, ROOM, hand_out, number_of, options};
+use crate::results::{DONE, NOTHING, ROOM, hand_out, number_of, options};
 use pe_core::{
     DataDirectory, Header, MAGIC_64, ParseOptions, Result, SectionTable, find_offset, require_bytes,
 };
@@ -26,7 +26,7 @@ pub struct Image {
     /// `ImageBase`: the preferred virtual address of the first byte. Add RVAs to it.
     pub base: u64,
     /// File offset of the section headers.
-    pub sections_place: u64,
+    pub sections_offset: u64,
     /// RVA of the entry point, or 0.
     pub entry: u32,
     /// In bytes. If it is not a power of two, no RVA is mapped.
@@ -91,12 +91,12 @@ pub fn offset_of(rva: u32, image: &Image, sections: &[SectionTable]) -> Option<u
 }
 
 fn image_of(header: &Header) -> Image
-    ensures { result ≡ image_of (header_view header.now) }
+    ensures { result ≡ image_info_of (header_view header.now) }
 {
     let coff = &header.coff_header;
     let without = Image {
         base: 0,
-        sections_place: u64::from(header.dos_header.pe_pointer)
+        sections_offset: u64::from(header.dos_header.pe_pointer)
             + 24
             + u64::from(coff.size_of_optional_header),
         entry: 0,
@@ -149,17 +149,17 @@ fn read_image(bytes: &[u8], mode: u32) -> Result<Image>
 /// directories.
 #[unsafe(no_mangle)]
 pub extern "C" fn pe_c_image(bytes: &[u8], mode: u32, out: &mut Image) -> u32
-    ensures { Answers result out.old out.new (image_at bytes.now mode) }
+    ensures { HandsOut result out.old out.new (image_at bytes.now mode) }
 {
     hand_out(read_image(bytes, mode), out)
 }
 
 /// The section header at a file offset, whose 40 bytes are known to be inside the bytes.
-fn section(bytes: &[u8], place: usize) -> SectionTable
-    requires { place + 40 ≤ length bytes.now }
-    ensures { result ≡ section_table bytes.now place }
+fn section(bytes: &[u8], offset: usize) -> SectionTable
+    requires { offset + 40 ≤ length bytes.now }
+    ensures { result ≡ section_table bytes.now offset }
 {
-    match SectionTable::parse(bytes, place) {
+    match SectionTable::parse(bytes, offset) {
         Ok(section) => section,
         Err(_) => unreachable!(),
     }
@@ -167,13 +167,13 @@ fn section(bytes: &[u8], place: usize) -> SectionTable
 
 /// Writes so many section headers, which start at a file offset, to the start of `room`.
 #[tactic(auto, using(std::proofs::lemmas::List::take_more_set, crate::proofs::Rooms::kept_more, crate::proofs::Rooms::joined), unfolding(pe_core::specs::Rows::each))]
-fn put_sections(bytes: &[u8], place: usize, count: usize, room: &mut [SectionTable])
-    requires there { place + 40 * count ≤ length bytes.now }
+fn put_sections(bytes: &[u8], offset: usize, count: usize, room: &mut [SectionTable])
+    requires there { offset + 40 * count ≤ length bytes.now }
     requires room { count ≤ length room.old }
-    ensures { room.new ≡ rows (section_table bytes.now) 40 place count ++ drop count room.old }
+    ensures { room.new ≡ rows (section_table bytes.now) 40 offset count ++ drop count room.old }
 {
     for i in 0..count {
-        room[i] = section(bytes, place + 40 * i);
+        room[i] = section(bytes, offset + 40 * i);
     }
 }
 
@@ -186,7 +186,7 @@ pub extern "C" fn pe_c_sections(bytes: &[u8], image: &Image, room: &mut [Section
     ensures { PutsSections bytes.now image.now result room.old room.new }
 {
     let count = usize::from(image.number_of_sections);
-    let place = image.sections_place as usize;
+    let offset = image.sections_offset as usize;
     if room.len() < count {
         return ROOM;
     }
@@ -194,9 +194,9 @@ pub extern "C" fn pe_c_sections(bytes: &[u8], image: &Image, room: &mut [Section
     if count == 0 {
         return DONE;
     }
-    match require_bytes(bytes, place, 40 * count) {
+    match require_bytes(bytes, offset, 40 * count) {
         Ok(()) => {
-            put_sections(bytes, place, count, room);
+            put_sections(bytes, offset, count, room);
             DONE
         }
         Err(error) => number_of(&error),
@@ -206,17 +206,17 @@ pub extern "C" fn pe_c_sections(bytes: &[u8], image: &Image, room: &mut [Section
 /// Returns the file offset of an RVA, by the first section that covers it: `NOTHING` where none does, or the file
 /// alignment is not a power of two. The offset may be past the end of the file.
 #[unsafe(no_mangle)]
-pub extern "C" fn pe_c_place(
+pub extern "C" fn pe_c_offset(
     sections: &[SectionTable],
     file_alignment: u32,
     rva: u32,
     out: &mut u64,
 ) -> u32
-    ensures { AnswersIf result out.old out.new (Ok (section_map default_options sections.now file_alignment rva)) }
+    ensures { HandsOutIf result out.old out.new (Ok (section_map default_options sections.now file_alignment rva)) }
 {
     match mapped_by(sections, file_alignment, rva) {
-        Some(place) => {
-            *out = place as u64;
+        Some(offset) => {
+            *out = offset as u64;
             DONE
         }
         None => NOTHING,

@@ -5,16 +5,16 @@
 
 ghost use Rattle.std.specs.Prelude.{◌≡◌, ◌==◌, ◌+◌, ◌≤◌, length, Some, IfOk, IfSome};
 ghost use Rattle.pe_core.specs.Imports.{entry_size, lookups_at, name_or_refusal};
-ghost use Rattle.pe_core.specs.Refusals.{Gives, answer_by};
+ghost use Rattle.pe_core.specs.Refusals.{Returns, answer_by};
 ghost use Rattle.pe_core.specs.SectionMap.{mapped};
 ghost use Rattle.pe_core.specs.Text.{text_at};
-ghost use Rattle.pe_c.specs.Answers.{AnswersIf};
+ghost use Rattle.pe_c.specs.HandsOut.{HandsOutIf};
 ghost use Rattle.pe_c.specs.Images.{map_of_image};
-ghost use Rattle.pe_c.specs.Imports.{import_at, import_step, libraries_at, library_at, library_of, library_step, named_told};
+ghost use Rattle.pe_c.specs.Imports.{import_at, import_step, libraries_at, library_at, library_of, library_step, named_reported};
 
-use crate::answers::hand_out_some;
 use crate::image::{Image, is_absent, offset_of};
 use crate::ranges::{NO_BYTES, Range, range_from};
+use crate::results::hand_out_some;
 use crate::walks::next_entry;
 use pe_core::{
     Error, ImportDirectoryEntry, ParseOptions, Reason, Result, SectionTable, lookup_number,
@@ -94,7 +94,7 @@ const NO_LIBRARIES: Libraries = Libraries {
 
 /// The file offset of an RVA of an image, or `Unmapped`.
 fn require_offset(rva: u32, image: &Image, sections: &[SectionTable]) -> Result<usize>
-    ensures { Gives (λ p. p) result (mapped (map_of_image image.now sections.now rva)) }
+    ensures { Returns (λ p. p) result (mapped (map_of_image image.now sections.now rva)) }
 {
     mapped_offset(
         rva,
@@ -105,10 +105,10 @@ fn require_offset(rva: u32, image: &Image, sections: &[SectionTable]) -> Result<
 }
 
 /// The name at a file offset, to which an RVA leads: `ImportName` where it is not NUL-terminated or not UTF-8.
-fn name_at(bytes: &[u8], place: usize, rva: u32) -> Result<&str>
-    ensures { Gives (λ s. s.now) result (name_or_refusal (text_at bytes.now place)) }
+fn name_at(bytes: &[u8], offset: usize, rva: u32) -> Result<&str>
+    ensures { Returns (λ s. s.now) result (name_or_refusal (text_at bytes.now offset)) }
 {
-    match text_at(bytes, place) {
+    match text_at(bytes, offset) {
         Some(name) => Ok(name),
         None => Err(Error::Malformed(Reason::ImportName(rva))),
     }
@@ -120,9 +120,9 @@ fn libraries_at(image: &Image, sections: &[SectionTable]) -> Result<Option<Libra
     if is_absent(image.imports) {
         return Ok(None);
     }
-    let place = require_offset(image.imports.virtual_address, image, sections)?;
+    let offset = require_offset(image.imports.virtual_address, image, sections)?;
     Ok(Some(Libraries {
-        next: place as u64,
+        next: offset as u64,
         is_over: 0,
         spare: 0,
     }))
@@ -140,17 +140,17 @@ pub extern "C" fn pe_c_import_libraries(
     _mode: u32,
     out: &mut Libraries,
 ) -> u32
-    ensures { AnswersIf result out.old out.new (libraries_at image.now sections.now) }
+    ensures { HandsOutIf result out.old out.new (libraries_at image.now sections.now) }
 {
     hand_out_some(libraries_at(image, sections), out)
 }
 
 /// The entries of the list at a file offset, none without an offset. `Short` where no zero entry ends them.
-fn list_at(bytes: &[u8], place: Option<usize>, is_64: bool) -> Result<&[u8]>
-    ensures { Gives (λ s. s.now) result (lookups_at (entry_size is_64) bytes.now place) }
+fn list_at(bytes: &[u8], offset: Option<usize>, is_64: bool) -> Result<&[u8]>
+    ensures { Returns (λ s. s.now) result (lookups_at (entry_size is_64) bytes.now offset) }
 {
-    match place {
-        Some(place) => lookups_at(bytes, place, is_64),
+    match offset {
+        Some(offset) => lookups_at(bytes, offset, is_64),
         None => Ok(&[]),
     }
 }
@@ -163,16 +163,16 @@ fn library_of(
     image: &Image,
     sections: &[SectionTable],
 ) -> Result<Library>
-    ensures { Gives (λ l. Some l) result (library_of (map_of_image image.now sections.now) (entry_size (image.now.width == 64)) bytes.now entry.now) }
+    ensures { Returns (λ l. Some l) result (library_of (map_of_image image.now sections.now) (entry_size (image.now.width == 64)) bytes.now entry.now) }
 {
-    let place = require_offset(entry.name_rva, image, sections)?;
-    let name = name_at(bytes, place, entry.name_rva)?;
-    let list_place = offset_of(entry.lookups_rva(), image, sections);
-    let list = list_at(bytes, list_place, image.width == 64)?;
+    let offset = require_offset(entry.name_rva, image, sections)?;
+    let name = name_at(bytes, offset, entry.name_rva)?;
+    let list_offset = offset_of(entry.lookups_rva(), image, sections);
+    let list = list_at(bytes, list_offset, image.width == 64)?;
     Ok(Library {
-        name: range_from(name.len() as u64, Some(place)),
+        name: range_from(name.len() as u64, Some(offset)),
         imports: Imports {
-            left: range_from(list.len() as u64, list_place),
+            left: range_from(list.len() as u64, list_offset),
             rva: u64::from(entry.address_table_rva),
         },
         lookup_table_rva: entry.lookup_table_rva,
@@ -188,14 +188,14 @@ fn library_of(
 #[tactic(auto, unfolding(pe_core::specs::Imports::import_record_at))]
 fn library_at(
     bytes: &[u8],
-    place: usize,
+    offset: usize,
     image: &Image,
     sections: &[SectionTable],
 ) -> Result<Option<Library>>
-    ensures gives { Gives (λ x. x) result (library_at (map_of_image image.now sections.now) (entry_size (image.now.width == 64)) bytes.now place) }
-    ensures inside { IfOk result (λ l. IfSome l (λ _. place + 20 ≤ length bytes.now)) }
+    ensures returned { Returns (λ x. x) result (library_at (map_of_image image.now sections.now) (entry_size (image.now.width == 64)) bytes.now offset) }
+    ensures inside { IfOk result (λ l. IfSome l (λ _. offset + 20 ≤ length bytes.now)) }
 {
-    let entry = ImportDirectoryEntry::parse(bytes, place)?;
+    let entry = ImportDirectoryEntry::parse(bytes, offset)?;
     if entry.is_last() {
         return Ok(None);
     }
@@ -218,14 +218,14 @@ fn library_step(
     }
     match library_at(bytes, walk.next as usize, image, sections) {
         Ok(Some(library)) => {
-            let behind = Libraries {
+            let after = Libraries {
                 next: walk.next + SIZE_OF_RECORD,
                 is_over: 0,
                 spare: 0,
             };
-            (Ok(Some(library)), behind)
+            (Ok(Some(library)), after)
         }
-        answer => (answer, NO_LIBRARIES),
+        other => (other, NO_LIBRARIES),
     }
 }
 
@@ -244,12 +244,12 @@ pub extern "C" fn pe_c_next_library(
     walk: &mut Libraries,
     out: &mut Library,
 ) -> u32
-    ensures answer { AnswersIf result out.old out.new (library_step (map_of_image image.now sections.now) (entry_size (image.now.width == 64)) bytes.now walk.old).0 }
+    ensures returned { HandsOutIf result out.old out.new (library_step (map_of_image image.now sections.now) (entry_size (image.now.width == 64)) bytes.now walk.old).0 }
     ensures walk { walk.new ≡ (library_step (map_of_image image.now sections.now) (entry_size (image.now.width == 64)) bytes.now walk.old).1 }
 {
-    let (told, behind) = library_step(bytes, image, sections, *walk);
-    *walk = behind;
-    hand_out_some(told, out)
+    let (reported, after) = library_step(bytes, image, sections, *walk);
+    *walk = after;
+    hand_out_some(reported, out)
 }
 
 /// The import by name of an entry. Errors: `Unmapped` of the entry's RVA, `Short` of the hint, `ImportName`.
@@ -260,14 +260,14 @@ fn named_import(
     image: &Image,
     sections: &[SectionTable],
 ) -> Result<Import>
-    ensures { Gives (λ x. x) result (named_told (map_of_image image.now sections.now) bytes.now entry rva) }
+    ensures { Returns (λ x. x) result (named_reported (map_of_image image.now sections.now) bytes.now entry rva) }
 {
     let name_rva = (entry % 0x8000_0000) as u32;
-    let place = require_offset(name_rva, image, sections)?;
-    let hint = u16_at(bytes, place)?;
-    let name = name_at(bytes, place + SIZE_OF_HINT, name_rva)?;
+    let offset = require_offset(name_rva, image, sections)?;
+    let hint = u16_at(bytes, offset)?;
+    let name = name_at(bytes, offset + SIZE_OF_HINT, name_rva)?;
     Ok(Import {
-        name: range_from(name.len() as u64, Some(place + SIZE_OF_HINT)),
+        name: range_from(name.len() as u64, Some(offset + SIZE_OF_HINT)),
         rva,
         ordinal: u32::from(hint),
         has_name: 1,
@@ -284,7 +284,7 @@ fn import_at(
     image: &Image,
     sections: &[SectionTable],
 ) -> Result<Import>
-    ensures { Gives (λ x. x) result (import_at (map_of_image image.now sections.now) (entry_size (image.now.width == 64)) bytes.now entry rva) }
+    ensures { Returns (λ x. x) result (import_at (map_of_image image.now sections.now) (entry_size (image.now.width == 64)) bytes.now entry rva) }
 {
     let highest = if image.width == 64 {
         0x8000_0000_0000_0000
@@ -345,7 +345,7 @@ pub extern "C" fn pe_c_next_import(
     walk: &mut Imports,
     out: &mut Import,
 ) -> u32
-    ensures answer { AnswersIf result out.old out.new (import_step (map_of_image image.now sections.now) (entry_size (image.now.width == 64)) bytes.now walk.old).0 }
+    ensures returned { HandsOutIf result out.old out.new (import_step (map_of_image image.now sections.now) (entry_size (image.now.width == 64)) bytes.now walk.old).0 }
     ensures walk { walk.new ≡ (import_step (map_of_image image.now sections.now) (entry_size (image.now.width == 64)) bytes.now walk.old).1 }
 {
     hand_out_some(import_step(bytes, image, sections, walk), out)

@@ -2,20 +2,20 @@
 //! proof can cite it by calling the function.
 
 ghost use Rattle.pe_c.specs.Arm64.{StepsArm64Codes, arm64_function_in, arm64_walk_at, flat_arm64_item, flat_info, flat_scope_at, left_of_stream};
-ghost use Rattle.pe_c.specs.Certificates.{StepsCertificates, TellsCertificate, listed};
-ghost use Rattle.pe_c.specs.Debug.{key_of, pdb20_of, pogo_of, repro_of};
-ghost use Rattle.pe_c.specs.DebugWalks.{StepsPogoEntries, entries_told};
-ghost use Rattle.pe_c.specs.Exports.{StepsExports, count_of, tables_or_short, told_entry, told_from, walk_over, with_tables};
+ghost use Rattle.pe_c.specs.Certificates.{StepsCertificates, ReportsCertificate, listed};
+ghost use Rattle.pe_c.specs.Debug.{key_of, pdb20_field, pogo_field, repro_field};
+ghost use Rattle.pe_c.specs.DebugWalks.{StepsPogoEntries, entries_reported};
+ghost use Rattle.pe_c.specs.Exports.{StepsExports, count_of, tables_or_short, reported_entry, reported_from, walk_over, with_tables};
 ghost use Rattle.pe_c.specs.Images.{map_of_image};
 ghost use Rattle.pe_c.specs.Imports.{StepsLibraries, libraries_at};
-ghost use Rattle.pe_c.specs.Parts.{HasTables, ImportsInTurn, TellsExport, TellsLibrary, TellsPart, TellsRecord};
+ghost use Rattle.pe_c.specs.Parts.{HasTables, ImportsInTurn, ReportsExport, ReportsLibrary, ReportsPart, ReportsRecord};
 ghost use Rattle.pe_c.specs.Modes.{options_of};
-ghost use Rattle.pe_c.specs.Plans.{AnswersBehind, GivesInTurn, TellsUnwindRecord, ending_of, plan_from};
+ghost use Rattle.pe_c.specs.Plans.{HandsOutAfter, ReturnsInTurn, ReportsUnwindRecord, ending_of, plan_from};
 ghost use Rattle.pe_c.specs.Ranges.{IsRange, bytes_at};
-ghost use Rattle.pe_c.specs.Runs.{GivesItems};
-ghost use Rattle.pe_c.specs.Unwinding.{StepsCodes, image_exceptions, flat_item, flat_record, function_in, stream_at};
-ghost use Rattle.pe_c.specs.Versions.{TellsFixed, TellsManifest, TellsValue};
-ghost use Rattle.pe_c.specs.Walks.{StepsEntries, entries_left, indexed};
+ghost use Rattle.pe_c.specs.Runs.{ReturnsItems};
+ghost use Rattle.pe_c.specs.Unwinding.{StepsCodes, image_exceptions, flat_item, flat_record, function_in, code_stream_at};
+ghost use Rattle.pe_c.specs.Versions.{ReportsFixed, ReportsManifest, ReportsValue};
+ghost use Rattle.pe_c.specs.Walks.{StepsEntries, walk_items, indexed};
 ghost use Rattle.pe_c.specs.declared.arm64.Arm64CodeWalk.{Arm64CodeWalk};
 ghost use Rattle.pe_c.specs.declared.certificates.Certificate.{Certificate};
 ghost use Rattle.pe_c.specs.declared.exports.Export.{Export};
@@ -35,7 +35,7 @@ ghost use Rattle.pe_core.specs.declared.error.Error.{Error};
 ghost use Rattle.pe_core.specs.declared.section_table.SectionTable.{SectionTable};
 ghost use Rattle.pe_plan.specs.Plans.{PlansFrom};
 ghost use Rattle.pe_records.specs.Certificates.{CertificateView, certificate_at};
-ghost use Rattle.pe_records.specs.DebugDirectory.{entry_at};
+ghost use Rattle.pe_records.specs.DebugDirectory.{debug_entry_at};
 ghost use Rattle.pe_records.specs.Parts.{hash_of};
 ghost use Rattle.pe_records.specs.Pogo.{Entries, Entry};
 ghost use Rattle.pe_unwind.specs.Arm64Functions.{arm64_functions};
@@ -45,7 +45,7 @@ ghost use Rattle.pe_unwind.specs.CodeStream.{AreItems};
 ghost use Rattle.pe_unwind.specs.ExceptionTable.{ExceptionView};
 ghost use Rattle.pe_unwind.specs.FunctionTable.{functions};
 ghost use Rattle.pe_unwind.specs.Links.{links_of};
-ghost use Rattle.pe_unwind.specs.Places.{data_of};
+ghost use Rattle.pe_unwind.specs.Offsets.{handler_data_of};
 ghost use Rattle.pe_unwind.specs.ScopeTable.{scope_at};
 ghost use Rattle.pe_unwind.specs.UnwindRecord.{UnwindInfoView, unwind_record, unwind_tests};
 ghost use Rattle.pe_unwind.specs.declared.arm64.codes.Arm64UnwindCodeData.{Arm64UnwindCodeData};
@@ -60,7 +60,7 @@ pub fn ranges_of_records()
     ensures codes { (b : List ℕ) (p : ℕ) (i : UnwindInfoView) → outcome (unwind_tests b p) (unwind_record b p) ≡ Ok i →
         IsRange b (flat_record b p i).codes.left i.codes }
     ensures handler { (b : List ℕ) (p : ℕ) (i : UnwindInfoView) → outcome (unwind_tests b p) (unwind_record b p) ≡ Ok i →
-        IfSome i.handler (λ h. IsRange b (flat_record b p i).handler_data (data_of h)) }
+        IfSome i.handler (λ h. IsRange b (flat_record b p i).handler_data (handler_data_of h)) }
 {}
 
 /// The ranges of an ARM64 unwind record lie in the bytes, and are its epilog scopes, its codes and its handler's data.
@@ -77,17 +77,17 @@ pub fn ranges_of_arm64_records()
 /// reading the exception data fails, the first step returns that error.
 pub fn plans_are_those_of_functions()
     ensures records { (b : List ℕ) (image : Image) (sections : List SectionTable) (mode : ℕ) (v : ExceptionView) (f : RuntimeFunction) (given : List UnwindRecord) →
-        image_exceptions b image sections mode ≡ Ok v → AnswersBehind b image sections mode f.unwind_info_address given (Ok None) →
-        (is : List UnwindInfoView) × PlansFrom (links_of v sections (options_of mode)) v.content f (Ok is) × AllZip (TellsUnwindRecord b) given is }
+        image_exceptions b image sections mode ≡ Ok v → HandsOutAfter b image sections mode f.unwind_info_address given (Ok None) →
+        (is : List UnwindInfoView) × PlansFrom (links_of v sections (options_of mode)) v.content f (Ok is) × AllZip (ReportsUnwindRecord b) given is }
     ensures refused { (b : List ℕ) (image : Image) (sections : List SectionTable) (mode : ℕ) (v : ExceptionView) (f : RuntimeFunction) (given : List UnwindRecord) (refusal : Refusal) →
-        image_exceptions b image sections mode ≡ Ok v → AnswersBehind b image sections mode f.unwind_info_address given (Err refusal) →
+        image_exceptions b image sections mode ≡ Ok v → HandsOutAfter b image sections mode f.unwind_info_address given (Err refusal) →
         (refusal ≢ Memory) × PlansFrom (links_of v sections (options_of mode)) v.content f (Err refusal) }
-    ensures endings { (b : List ℕ) (image : Image) (sections : List SectionTable) (mode : ℕ) (v : ExceptionView) (f : RuntimeFunction) (plan : Result (List UnwindInfoView) Refusal) (given : List UnwindRecord) (answer : Result (Option UnwindRecord) Refusal) →
+    ensures endings { (b : List ℕ) (image : Image) (sections : List SectionTable) (mode : ℕ) (v : ExceptionView) (f : RuntimeFunction) (plan : Result (List UnwindInfoView) Refusal) (given : List UnwindRecord) (last : Result (Option UnwindRecord) Refusal) →
         image_exceptions b image sections mode ≡ Ok v → PlansFrom (links_of v sections (options_of mode)) v.content f plan → plan ≢ Err Memory →
-        AnswersBehind b image sections mode f.unwind_info_address given answer → (answer ≡ ending_of plan) ⊎ ((r : UnwindRecord) × (answer ≡ Ok (Some r))) }
-    ensures without_table { (b : List ℕ) (image : Image) (sections : List SectionTable) (mode unwind : ℕ) (refusal : Refusal) (given : List UnwindRecord) (answer : Result (Option UnwindRecord) Refusal) →
-        image_exceptions b image sections mode ≡ Err refusal → AnswersBehind b image sections mode unwind given answer →
-        (given ≡ []) × (answer ≡ Err refusal) }
+        HandsOutAfter b image sections mode f.unwind_info_address given last → (last ≡ ending_of plan) ⊎ ((r : UnwindRecord) × (last ≡ Ok (Some r))) }
+    ensures without_table { (b : List ℕ) (image : Image) (sections : List SectionTable) (mode unwind : ℕ) (refusal : Refusal) (given : List UnwindRecord) (last : Result (Option UnwindRecord) Refusal) →
+        image_exceptions b image sections mode ≡ Err refusal → HandsOutAfter b image sections mode unwind given last →
+        (given ≡ []) × (last ≡ Err refusal) }
 {
     pe_unwind::laws::x64::one_record_of_addresses();
 }
@@ -96,26 +96,26 @@ pub fn plans_are_those_of_functions()
 /// the root, or to an error.
 pub fn plans_end()
     ensures { (b : List ℕ) (image : Image) (sections : List SectionTable) (mode unwind : ℕ) (given : List UnwindRecord) (p : Plan) →
-        AreBytes b → unwind < 2 ^ 32 → GivesInTurn b image sections mode (plan_from unwind) given p → length given ≤ 3 * 2 ^ 32 }
+        AreBytes b → unwind < 2 ^ 32 → ReturnsInTurn b image sections mode (plan_from unwind) given p → length given ≤ 3 * 2 ^ 32 }
 {}
 
 /// The ranges that calls return for debug data lie in the bytes, and are the file names, the hash and the POGO entries
 /// that the debug data has.
-#[tactic(auto, using(crate::proofs::Parts::key_tells, crate::proofs::Parts::pdb20_tells, crate::proofs::Parts::repro_tells, crate::proofs::Parts::pogo_tells))]
+#[tactic(auto, using(crate::proofs::Parts::key_reports, crate::proofs::Parts::pdb20_reports, crate::proofs::Parts::repro_reports, crate::proofs::Parts::pogo_reports))]
 pub fn ranges_of_debug_data_are_their_parts()
-    ensures key { TellsPart key_of (λ k. k.name) (λ d. option_map (λ r. r.filename) d.pdb70) }
-    ensures pdb20 { TellsPart pdb20_of (λ r. r.name) (λ d. option_map (λ r. r.filename) d.pdb20) }
-    ensures repro { TellsPart repro_of (λ r. r.hash) (λ d. hash_of d.repro) }
-    ensures pogo { TellsPart pogo_of (λ r. r.entries) (λ d. option_map (λ r. r.bytes) d.pogo) }
+    ensures key { ReportsPart key_of (λ k. k.name) (λ d. option_map (λ r. r.filename) d.pdb70) }
+    ensures pdb20 { ReportsPart pdb20_field (λ r. r.name) (λ d. option_map (λ r. r.filename) d.pdb20) }
+    ensures repro { ReportsPart repro_field (λ r. r.hash) (λ d. hash_of d.repro) }
+    ensures pogo { ReportsPart pogo_field (λ r. r.entries) (λ d. option_map (λ r. r.bytes) d.pogo) }
 {}
 
 /// Each record that the debug data has is returned.
-#[tactic(auto, using(crate::proofs::Parts::key_is_told, crate::proofs::Parts::pdb20_is_told, crate::proofs::Parts::repro_is_told, crate::proofs::Parts::pogo_is_told))]
-pub fn records_of_debug_data_are_told()
-    ensures key { TellsRecord key_of (λ d. d.pdb70) }
-    ensures pdb20 { TellsRecord pdb20_of (λ d. d.pdb20) }
-    ensures repro { TellsRecord repro_of (λ d. d.repro) }
-    ensures pogo { TellsRecord pogo_of (λ d. d.pogo) }
+#[tactic(auto, using(crate::proofs::Parts::key_is_reported, crate::proofs::Parts::pdb20_is_reported, crate::proofs::Parts::repro_is_reported, crate::proofs::Parts::pogo_is_reported))]
+pub fn records_of_debug_data_are_reported()
+    ensures key { ReportsRecord key_of (λ d. d.pdb70) }
+    ensures pdb20 { ReportsRecord pdb20_field (λ d. d.pdb20) }
+    ensures repro { ReportsRecord repro_field (λ d. d.repro) }
+    ensures pogo { ReportsRecord pogo_field (λ d. d.pogo) }
 {}
 
 /// The functions of a table by their indices, from 0 on, are its whole entries in their order, and there are no others.
@@ -130,9 +130,9 @@ pub fn indices_give_the_functions()
 /// walks over scope tables, over epilog scopes and over debug entries leave nothing out, and end.
 #[tactic(auto, using(crate::proofs::EntryRuns::scopes_in_turn, crate::proofs::EntryRuns::arm64_scopes_in_turn, crate::proofs::EntryRuns::debug_entries_in_turn))]
 pub fn walks_give_their_entries()
-    ensures scopes { (b : List ℕ) (walk : Range) → GivesItems (StepsEntries scope_at 16 b) walk (entries_left scope_at 16 b walk) }
-    ensures arm64_scopes { (b : List ℕ) (walk : Range) → GivesItems (StepsEntries flat_scope_at 4 b) walk (entries_left flat_scope_at 4 b walk) }
-    ensures debug_entries { (b : List ℕ) (walk : Range) → GivesItems (StepsEntries (entry_at 0) 28 b) walk (entries_left (entry_at 0) 28 b walk) }
+    ensures scopes { (b : List ℕ) (walk : Range) → ReturnsItems (StepsEntries scope_at 16 b) walk (walk_items scope_at 16 b walk) }
+    ensures arm64_scopes { (b : List ℕ) (walk : Range) → ReturnsItems (StepsEntries flat_scope_at 4 b) walk (walk_items flat_scope_at 4 b walk) }
+    ensures debug_entries { (b : List ℕ) (walk : Range) → ReturnsItems (StepsEntries (debug_entry_at 0) 28 b) walk (walk_items (debug_entry_at 0) 28 b walk) }
 {}
 
 /// A walk over unwind codes returns, one a step, the items of the stream of its bytes, and then nothing: the codes that
@@ -140,11 +140,11 @@ pub fn walks_give_their_entries()
 /// codes of the record. A range that is not inside the bytes is one error alone.
 #[tactic(auto, using(crate::proofs::CodeRuns::codes_in_turn, crate::proofs::CodeRuns::codes_of_record_in_turn, crate::proofs::CodeRuns::lies_once))]
 pub fn walks_give_the_codes()
-    ensures items { (b : List ℕ) (walk : CodeWalk) (bytes : List ℕ) (items : List (Result UnwindCode Error)) → bytes_at b walk.left ≡ Ok bytes → AreItems (stream_at bytes walk) items →
-        GivesItems (StepsCodes b) walk (map flat_item items) }
+    ensures items { (b : List ℕ) (walk : CodeWalk) (bytes : List ℕ) (items : List (Result UnwindCode Error)) → bytes_at b walk.left ≡ Ok bytes → AreItems (code_stream_at bytes walk) items →
+        ReturnsItems (StepsCodes b) walk (map flat_item items) }
     ensures of_records { (b : List ℕ) (p : ℕ) (i : UnwindInfoView) (items : List (Result UnwindCode Error)) → outcome (unwind_tests b p) (unwind_record b p) ≡ Ok i →
-        AreItems (stream_at i.codes (flat_record b p i).codes) items → GivesItems (StepsCodes b) (flat_record b p i).codes (map flat_item items) }
-    ensures outside { (b : List ℕ) (walk : CodeWalk) (refusal : Refusal) → bytes_at b walk.left ≡ Err refusal → GivesItems (StepsCodes b) walk (Err refusal ∷ []) }
+        AreItems (code_stream_at i.codes (flat_record b p i).codes) items → ReturnsItems (StepsCodes b) (flat_record b p i).codes (map flat_item items) }
+    ensures outside { (b : List ℕ) (walk : CodeWalk) (refusal : Refusal) → bytes_at b walk.left ≡ Err refusal → ReturnsItems (StepsCodes b) walk (Err refusal ∷ []) }
 {}
 
 /// A walk over ARM64 unwind codes returns, one a step, the items that tile its stream from its start on, and then
@@ -153,10 +153,10 @@ pub fn walks_give_the_codes()
 #[tactic(auto, using(crate::proofs::Arm64CodeRuns::codes_in_turn, crate::proofs::Arm64CodeRuns::codes_of_info_in_turn))]
 pub fn walks_give_the_arm64_codes()
     ensures items { (b : List ℕ) (codes : Range) (start : ℕ) (stream : List ℕ) (walk : Arm64CodeWalk) (items : List (Result Arm64UnwindCodeData Error)) →
-        bytes_at b codes ≡ Ok stream → arm64_walk_at b codes start ≡ Ok walk → Tiles stream start items → GivesItems (StepsArm64Codes b) walk (map flat_arm64_item items) }
+        bytes_at b codes ≡ Ok stream → arm64_walk_at b codes start ≡ Ok walk → Tiles stream start items → ReturnsItems (StepsArm64Codes b) walk (map flat_arm64_item items) }
     ensures of_records { (b : List ℕ) (p : ℕ) (i : Arm64InfoView) (start : ℕ) (walk : Arm64CodeWalk) (items : List (Result Arm64UnwindCodeData Error)) → info_at b p ≡ Ok i →
-        arm64_walk_at b (flat_info b p i).codes start ≡ Ok walk → Tiles i.codes start items → GivesItems (StepsArm64Codes b) walk (map flat_arm64_item items) }
-    ensures outside { (b : List ℕ) (walk : Arm64CodeWalk) (refusal : Refusal) → left_of_stream b walk ≡ Err refusal → GivesItems (StepsArm64Codes b) walk (Err refusal ∷ []) }
+        arm64_walk_at b (flat_info b p i).codes start ≡ Ok walk → Tiles i.codes start items → ReturnsItems (StepsArm64Codes b) walk (map flat_arm64_item items) }
+    ensures outside { (b : List ℕ) (walk : Arm64CodeWalk) (refusal : Refusal) → left_of_stream b walk ≡ Err refusal → ReturnsItems (StepsArm64Codes b) walk (Err refusal ∷ []) }
 {}
 
 /// A walk over the entries of a POGO record returns, one a step, the entries of the stream of its bytes, and then
@@ -165,8 +165,8 @@ pub fn walks_give_the_arm64_codes()
 #[tactic(auto, using(crate::proofs::PogoRuns::entries_in_turn, crate::proofs::PogoRuns::lies_once))]
 pub fn walks_give_the_pogo_entries()
     ensures items { (b : List ℕ) (walk : Range) (bytes : List ℕ) (items : List (Result Entry Refusal)) → bytes_at b walk ≡ Ok bytes → Entries bytes items →
-        GivesItems (StepsPogoEntries b) walk (entries_told walk items) }
-    ensures outside { (b : List ℕ) (walk : Range) (refusal : Refusal) → bytes_at b walk ≡ Err refusal → GivesItems (StepsPogoEntries b) walk (Err refusal ∷ []) }
+        ReturnsItems (StepsPogoEntries b) walk (entries_reported walk items) }
+    ensures outside { (b : List ℕ) (walk : Range) (refusal : Refusal) → bytes_at b walk ≡ Err refusal → ReturnsItems (StepsPogoEntries b) walk (Err refusal ∷ []) }
 {}
 
 /// A walk over certificates returns, one a step and in their order, exactly the certificates that its table lists, each
@@ -175,19 +175,19 @@ pub fn walks_give_the_pogo_entries()
 #[tactic(auto, using(crate::proofs::CertificateRuns::certificates_in_turn, crate::proofs::CertificateRuns::refused_in_turn))]
 pub fn walks_give_the_certificates()
     ensures certificates { (b : List ℕ) (walk : Range) (cs : List CertificateView) → listed b walk ≡ Ok cs →
-        (told : List Certificate) × GivesItems (StepsCertificates b) walk (map (λ x. Ok x) told) × AllZip (TellsCertificate b) told cs }
+        (reported : List Certificate) × ReturnsItems (StepsCertificates b) walk (map (λ x. Ok x) reported) × AllZip (ReportsCertificate b) reported cs }
     ensures refused { (b : List ℕ) (walk : Range) (refusal : Refusal) → listed b walk ≡ Err refusal →
-        (told : List Certificate) × (cs : List CertificateView) × GivesItems (StepsCertificates b) walk (map (λ x. Ok x) told ++ Err refusal ∷ []) ×
-        AllZip (TellsCertificate b) told cs }
+        (reported : List Certificate) × (cs : List CertificateView) × ReturnsItems (StepsCertificates b) walk (map (λ x. Ok x) reported ++ Err refusal ∷ []) ×
+        AllZip (ReportsCertificate b) reported cs }
 {}
 
 /// The ranges of a walk over exports are the tables of the export data, and what the walk returns for an entry of the
 /// name table is the export that the entry has.
-#[tactic(auto, using(crate::proofs::ExportParts::tells))]
-pub fn walks_tell_the_exports()
-    ensures tables { (place : ℕ → Option ℕ) (b : List ℕ) (rva : ℕ) (d : ExportDataView) → export_data_at place b rva ≡ Ok d → HasTables b (walk_over place d) d }
-    ensures exports { (place : ℕ → Option ℕ) (b : List ℕ) (d : ExportDataView) (i : ℕ) →
-        TellsExport b (told_entry place b (with_tables d.names d.ordinals d.addresses) i) (export_at place b d i) }
+#[tactic(auto, using(crate::proofs::ExportParts::reports))]
+pub fn walks_report_the_exports()
+    ensures tables { (offset : ℕ → Option ℕ) (b : List ℕ) (rva : ℕ) (d : ExportDataView) → export_data_at offset b rva ≡ Ok d → HasTables b (walk_over offset d) d }
+    ensures exports { (offset : ℕ → Option ℕ) (b : List ℕ) (d : ExportDataView) (i : ℕ) →
+        ReportsExport b (reported_entry offset b (with_tables d.names d.ordinals d.addresses) i) (export_at offset b d i) }
 {}
 
 /// A walk over the libraries of an image returns, one a step and in their order, the records of its import directory,
@@ -195,18 +195,18 @@ pub fn walks_tell_the_exports()
 /// library's imports returns the record's imports in the same way. The imports of records are those of each record in
 /// turn.
 #[tactic(auto, using(crate::proofs::ImportRuns::libraries_in_turn, crate::proofs::ImportRuns::refused_in_turn, crate::proofs::ImportRuns::imports_in_turn))]
-pub fn walks_tell_the_imports()
+pub fn walks_report_the_imports()
     ensures libraries { (b : List ℕ) (image : Image) (sections : List SectionTable) (walk : Libraries) (rs : List ImportRecordView) →
         AreBytes b → length b ≤ 2 ^ 63 → libraries_at image sections ≡ Ok (Some walk) →
         import_data_at (map_of_image image sections) (entry_size (image.width == 64)) b image.imports.virtual_address ≡ Ok rs →
-        (told : List Library) × GivesItems (StepsLibraries (map_of_image image sections) (entry_size (image.width == 64)) b) walk (map (λ x. Ok x) told) ×
-        AllZip (TellsLibrary (map_of_image image sections) (entry_size (image.width == 64)) b) told rs }
+        (reported : List Library) × ReturnsItems (StepsLibraries (map_of_image image sections) (entry_size (image.width == 64)) b) walk (map (λ x. Ok x) reported) ×
+        AllZip (ReportsLibrary (map_of_image image sections) (entry_size (image.width == 64)) b) reported rs }
     ensures refused { (b : List ℕ) (image : Image) (sections : List SectionTable) (walk : Libraries) (refusal : Refusal) →
         AreBytes b → length b ≤ 2 ^ 63 → libraries_at image sections ≡ Ok (Some walk) →
         import_data_at (map_of_image image sections) (entry_size (image.width == 64)) b image.imports.virtual_address ≡ Err refusal →
-        (told : List Library) × (rs : List ImportRecordView) ×
-        GivesItems (StepsLibraries (map_of_image image sections) (entry_size (image.width == 64)) b) walk (map (λ x. Ok x) told ++ Err refusal ∷ []) ×
-        AllZip (TellsLibrary (map_of_image image sections) (entry_size (image.width == 64)) b) told rs }
+        (reported : List Library) × (rs : List ImportRecordView) ×
+        ReturnsItems (StepsLibraries (map_of_image image sections) (entry_size (image.width == 64)) b) walk (map (λ x. Ok x) reported ++ Err refusal ∷ []) ×
+        AllZip (ReportsLibrary (map_of_image image sections) (entry_size (image.width == 64)) b) reported rs }
     ensures in_turn { ImportsInTurn }
 {}
 
@@ -215,18 +215,18 @@ pub fn walks_tell_the_imports()
 /// directory lists. Where entries are left of tables that are not inside the bytes it returns one error alone.
 #[tactic(auto, using(crate::proofs::ExportRuns::exports_in_turn, crate::proofs::ExportRuns::directory_in_turn, crate::proofs::ExportRuns::lies_once))]
 pub fn walks_give_the_exports()
-    ensures entries { (place : ℕ → Option ℕ) (b : List ℕ) (walk : Exports) (d : ExportDataView) → tables_or_short b walk ≡ Ok d →
-        GivesItems (StepsExports place b) walk (map (λ x. Ok x) (told_from (told_entry place b d) walk.next (count_of walk))) }
-    ensures directory { (place : ℕ → Option ℕ) (b : List ℕ) (rva : ℕ) (d : ExportDataView) → export_data_at place b rva ≡ Ok d →
-        (told : List Export) × GivesItems (StepsExports place b) (walk_over place d) (map (λ x. Ok x) told) × AllZip (λ x e. TellsExport b (Some x) (Some e)) told (exports place b d) }
-    ensures outside { (place : ℕ → Option ℕ) (b : List ℕ) (walk : Exports) (refusal : Refusal) → walk.next < count_of walk → tables_or_short b walk ≡ Err refusal →
-        GivesItems (StepsExports place b) walk (Err refusal ∷ []) }
+    ensures entries { (offset : ℕ → Option ℕ) (b : List ℕ) (walk : Exports) (d : ExportDataView) → tables_or_short b walk ≡ Ok d →
+        ReturnsItems (StepsExports offset b) walk (map (λ x. Ok x) (reported_from (reported_entry offset b d) walk.next (count_of walk))) }
+    ensures directory { (offset : ℕ → Option ℕ) (b : List ℕ) (rva : ℕ) (d : ExportDataView) → export_data_at offset b rva ≡ Ok d →
+        (reported : List Export) × ReturnsItems (StepsExports offset b) (walk_over offset d) (map (λ x. Ok x) reported) × AllZip (λ x e. ReportsExport b (Some x) (Some e)) reported (exports offset b d) }
+    ensures outside { (offset : ℕ → Option ℕ) (b : List ℕ) (walk : Exports) (refusal : Refusal) → walk.next < count_of walk → tables_or_short b walk ≡ Err refusal →
+        ReturnsItems (StepsExports offset b) walk (Err refusal ∷ []) }
 {}
 
 /// Where the resources of an image can be read, what calls return of their manifest and version information is what
 /// they hold, and the ranges lie in the bytes.
 pub fn versions_are_those_of_resources()
-    ensures manifest { TellsManifest }
-    ensures fixed { TellsFixed }
-    ensures value { TellsValue }
+    ensures manifest { ReportsManifest }
+    ensures fixed { ReportsFixed }
+    ensures value { ReportsValue }
 {}

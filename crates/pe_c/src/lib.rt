@@ -10,7 +10,6 @@
 //! every field that is passed: no call has a `requires`.
 #![tactic(auto)]
 
-mod answers;
 mod arm64;
 mod certificates;
 mod debug;
@@ -21,6 +20,7 @@ mod imports;
 pub mod laws;
 mod plan;
 mod ranges;
+mod results;
 mod texts;
 mod unwinding;
 mod version;

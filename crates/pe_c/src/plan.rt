@@ -5,10 +5,10 @@
 
 ghost use Rattle.std.specs.Prelude.{◌≡◌};
 ghost use Rattle.pe_core.specs.Refusals.{answer_by};
-ghost use Rattle.pe_c.specs.Plans.{goes_on, ended, gives_record, behind_record, StepsPlan, AnswersPlan};
+ghost use Rattle.pe_c.specs.Plans.{goes_on, ended, returned_record, after_record, StepsPlan, HandsOutPlan};
 
-use crate::answers::hand_out_some;
 use crate::image::Image;
+use crate::results::hand_out_some;
 use crate::unwinding::{UnwindRecord, read_record};
 use pe_core::{Error, Reason, Result, SectionTable};
 
@@ -54,9 +54,9 @@ fn goes_on(plan: Plan, address: u32) -> Plan
 }
 
 /// Returns the next record of a plan, and moves the plan. A record that continues at the saved RVA is part of a loop.
-fn give(plan: &mut Plan, next: UnwindRecord) -> Result<Option<UnwindRecord>>
-    ensures gives { answer_by (λ x. x) result ≡ gives_record plan.old next }
-    ensures leaves { plan.new ≡ behind_record plan.old next }
+fn advance(plan: &mut Plan, next: UnwindRecord) -> Result<Option<UnwindRecord>>
+    ensures returned { answer_by (λ x. x) result ≡ returned_record plan.old next }
+    ensures leaves { plan.new ≡ after_record plan.old next }
 {
     let address = next.chained.unwind_info_address;
     if next.is_chained == 0 {
@@ -85,7 +85,7 @@ fn next_record(
         return Ok(None);
     }
     match read_record(bytes, image, sections, mode, plan.unwind) {
-        Ok(record) => give(plan, record),
+        Ok(record) => advance(plan, record),
         Err(error) => {
             plan.is_over = 1;
             Err(error)
@@ -106,7 +106,7 @@ pub extern "C" fn pe_c_next_record(
     plan: &mut Plan,
     out: &mut UnwindRecord,
 ) -> u32
-    ensures { AnswersPlan bytes.now image.now sections.now mode plan.old plan.new result out.old out.new }
+    ensures { HandsOutPlan bytes.now image.now sections.now mode plan.old plan.new result out.old out.new }
 {
     hand_out_some(next_record(bytes, image, sections, mode, plan), out)
 }

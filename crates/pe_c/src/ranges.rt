@@ -1,7 +1,7 @@
 //! Ranges of the caller's bytes: results have them in place of pointers, and callers pass them back to other calls.
 
 ghost use Rattle.std.specs.Prelude.{◌≡◌, ◌+◌, ◌≤◌};
-ghost use Rattle.pe_core.specs.Refusals.{Gives};
+ghost use Rattle.pe_core.specs.Refusals.{Returns};
 ghost use Rattle.pe_c.specs.Ranges.{bytes_at, range_of, range_from};
 
 use pe_core::{ByteRange, Result, slice_at};
@@ -11,22 +11,22 @@ use pe_core::{ByteRange, Result, slice_at};
 #[derive(Clone, Copy)]
 pub struct Range {
     /// File offset.
-    pub place: u64,
+    pub offset: u64,
     /// In bytes.
     pub length: u64,
 }
 
 /// The empty range, of what is absent. A walk over it is over.
 pub const NO_BYTES: Range = Range {
-    place: 0,
+    offset: 0,
     length: 0,
 };
 
 /// The bytes of a range that a caller passes. `Short` where it is not inside the bytes.
 pub fn slice_of<'a>(bytes: &'a [u8], range: &Range) -> Result<&'a [u8]>
-    ensures { Gives (λ s. s.now) result (bytes_at bytes.entry.now range.now) }
+    ensures { Returns (λ s. s.now) result (bytes_at bytes.entry.now range.now) }
 {
-    slice_at(bytes, range.place as usize, range.length as usize)
+    slice_at(bytes, range.offset as usize, range.length as usize)
 }
 
 /// A range as callers get it.
@@ -34,18 +34,18 @@ pub fn range_of(range: ByteRange) -> Range
     ensures { result ≡ range_of range }
 {
     Range {
-        place: range.place as u64,
+        offset: range.offset as u64,
         length: range.length as u64,
     }
 }
 
 /// So many bytes from a file offset on, or the empty range without an offset.
-pub fn range_from(length: u64, place: Option<usize>) -> Range
-    ensures { result ≡ range_from length place }
+pub fn range_from(length: u64, offset: Option<usize>) -> Range
+    ensures { result ≡ range_from length offset }
 {
-    match place {
-        Some(place) => Range {
-            place: place as u64,
+    match offset {
+        Some(offset) => Range {
+            offset: offset as u64,
             length,
         },
         None => NO_BYTES,
@@ -55,11 +55,11 @@ pub fn range_from(length: u64, place: Option<usize>) -> Range
 /// The range of the last `length` of `total` bytes.
 pub fn last_range(total: usize, length: usize) -> Range
     requires { length ≤ total }
-    ensures place { result.place + length ≡ total }
+    ensures offset { result.offset + length ≡ total }
     ensures length { result.length ≡ length }
 {
     Range {
-        place: (total - length) as u64,
+        offset: (total - length) as u64,
         length: length as u64,
     }
 }

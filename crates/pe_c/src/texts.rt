@@ -1,9 +1,9 @@
 //! The texts of the results of calls, for a caller's messages.
 
 ghost use Rattle.std.specs.Prelude.{◌≡◌, length, take, drop, ◌++◌};
-ghost use Rattle.pe_c.specs.Texts.{refusal_text, text_of};
+ghost use Rattle.pe_c.specs.Texts.{refusal_text, result_text};
 
-use crate::answers::{NOTHING, ROOM};
+use crate::results::{NOTHING, ROOM};
 
 /// The text of 0 or of the number of an error. `tools/make_errors` writes the arms.
 #[tactic(auto, unfolding(crate::specs::Texts::refusal_text))]
@@ -49,14 +49,14 @@ fn refusal_text(number: u32) -> &'static str
         35 => "sections overlap in the file",
         36 => "section data is not in the source bytes",
         37 => "write does not fit the buffer",
-        _ => "another answer",
+        _ => "unknown result",
     }
 }
 
 /// The text of the number of a result.
-#[tactic(auto, unfolding(crate::specs::Texts::text_of))]
+#[tactic(auto, unfolding(crate::specs::Texts::result_text))]
 fn text_of(number: u32) -> &'static str
-    ensures { result.now ≡ text_of number }
+    ensures { result.now ≡ result_text number }
 {
     match number {
         NOTHING => "there is nothing of the kind",
@@ -68,11 +68,11 @@ fn text_of(number: u32) -> &'static str
 /// Writes the text of a result to the start of `room`, in UTF-8, truncated at the end of `room` and not NUL-terminated.
 /// Returns the length of the whole text in bytes.
 #[unsafe(no_mangle)]
-pub extern "C" fn pe_c_text(answer: u32, room: &mut [u8]) -> usize
-    ensures whole { result ≡ length (text_of answer) }
-    ensures put { room.new ≡ take (length room.old) (text_of answer) ++ drop (length (text_of answer)) room.old }
+pub extern "C" fn pe_c_text(number: u32, room: &mut [u8]) -> usize
+    ensures whole { result ≡ length (result_text number) }
+    ensures put { room.new ≡ take (length room.old) (result_text number) ++ drop (length (result_text number)) room.old }
 {
-    let text = text_of(answer).as_bytes();
+    let text = text_of(number).as_bytes();
     let count = text.len().min(room.len());
     room[..count].copy_from_slice(&text[..count]);
     text.len()

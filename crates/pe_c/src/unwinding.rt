@@ -6,17 +6,17 @@
 ghost use Rattle.std.specs.Prelude.{◌≡◌, ◌+◌, ◌^◌, ◌≤◌, length};
 ghost use Rattle.pe_core.specs.Refusals.{answer_by};
 ghost use Rattle.pe_unwind.specs.FunctionTable.{answer_of};
-ghost use Rattle.pe_unwind.specs.Places.{UnwindPartsStand};
+ghost use Rattle.pe_unwind.specs.Offsets.{UnwindPartsStand};
 ghost use Rattle.pe_unwind.specs.ScopeTable.{scope_at};
 ghost use Rattle.pe_unwind.specs.UnwindRecord.{unwind_view};
-ghost use Rattle.pe_c.specs.Answers.{Answers, AnswersIf};
+ghost use Rattle.pe_c.specs.HandsOut.{HandsOut, HandsOutIf};
 ghost use Rattle.pe_c.specs.Ranges.{bytes_at};
-ghost use Rattle.pe_c.specs.Unwinding.{table_at, LocatesIn, AnswersFound, function_in, is_some_number, or_no_function, handler_kind, handler_address, handler_range, flat_record, flat_record_at, FindsPlace, FollowsToRecord, AnswersRecord, from_frame, bytes_from, saving, plain, flat, StepsOver, WalksIn, AnswersCode, scopes_at};
+ghost use Rattle.pe_c.specs.Unwinding.{exception_table_at, LocatesIn, HandsOutFound, function_in, is_some_number, or_no_function, handler_kind, handler_address, handler_range, flat_record, flat_record_at, FindsOffset, FollowsToRecord, HandsOutRecord, from_frame, bytes_from, saving, plain, flat, StepsOver, WalksIn, HandsOutCode, scopes_at};
 ghost use Rattle.pe_c.specs.Walks.{next_of, walk_of};
 
-use crate::answers::{DONE, NOTHING, hand_out, hand_out_some, number_of, options};
 use crate::image::{Image, is_absent};
 use crate::ranges::{NO_BYTES, Range, last_range, range_of, slice_of};
+use crate::results::{DONE, NOTHING, hand_out, hand_out_some, number_of, options};
 use crate::walks::next_entry;
 use pe_core::{COFF_MACHINE_X86_64, CountedTable, Result, SectionTable};
 use pe_unwind::{
@@ -93,14 +93,14 @@ pub struct Code {
     pub value: u32,
 }
 
-#[tactic(auto, unfolding(crate::specs::Unwinding::table_at))]
+#[tactic(auto, unfolding(crate::specs::Unwinding::exception_table_at))]
 fn table_of(
     bytes: &[u8],
     image: &Image,
     sections: &[SectionTable],
     mode: u32,
 ) -> Result<Option<Range>>
-    ensures { answer_by (λ x. x) result ≡ table_at 0x8664 12 bytes.now image.now sections.now mode }
+    ensures { answer_by (λ x. x) result ≡ exception_table_at 0x8664 12 bytes.now image.now sections.now mode }
 {
     let directory = image.exceptions;
     if image.machine != COFF_MACHINE_X86_64 || is_absent(directory) {
@@ -129,7 +129,7 @@ pub extern "C" fn pe_c_function_table(
     mode: u32,
     out: &mut Range,
 ) -> u32
-    ensures { AnswersIf result out.old out.new (table_at 0x8664 12 bytes.now image.now sections.now mode) }
+    ensures { HandsOutIf result out.old out.new (exception_table_at 0x8664 12 bytes.now image.now sections.now mode) }
 {
     hand_out_some(table_of(bytes, image, sections, mode), out)
 }
@@ -153,7 +153,7 @@ pub extern "C" fn pe_c_find_function(
     rva: u32,
     out: &mut RuntimeFunction,
 ) -> u32
-    ensures { AnswersFound bytes.now table.now rva result out.old out.new }
+    ensures { HandsOutFound bytes.now table.now rva result out.old out.new }
 {
     hand_out_some(find(bytes, table, rva), out)
 }
@@ -175,7 +175,7 @@ pub extern "C" fn pe_c_function_at(
     index: u64,
     out: &mut RuntimeFunction,
 ) -> u32
-    ensures { Answers result out.old out.new (function_in bytes.now table.now index) }
+    ensures { HandsOut result out.old out.new (function_in bytes.now table.now index) }
 {
     hand_out(function_in(bytes, table, index), out)
 }
@@ -199,8 +199,8 @@ fn chained_of(info: &UnwindInfo) -> (u32, RuntimeFunction)
 }
 
 /// The kind, RVA and data of a record's handler.
-fn handler_of(info: &UnwindInfo, bytes: &[u8], place: usize) -> (u8, u32, Range)
-    requires { UnwindPartsStand bytes.now place (unwind_view info.now) }
+fn handler_of(info: &UnwindInfo, bytes: &[u8], offset: usize) -> (u8, u32, Range)
+    requires { UnwindPartsStand bytes.now offset (unwind_view info.now) }
     ensures kind { result.0 ≡ handler_kind (unwind_view info.now).handler }
     ensures address { result.1 ≡ handler_address (unwind_view info.now).handler }
     ensures range { result.2 ≡ handler_range bytes.now (unwind_view info.now).handler }
@@ -218,16 +218,16 @@ fn handler_of(info: &UnwindInfo, bytes: &[u8], place: usize) -> (u8, u32, Range)
 }
 
 /// The record at a file offset, as numbers and ranges.
-fn flat_record(info: &UnwindInfo, bytes: &[u8], place: usize) -> UnwindRecord
-    requires { UnwindPartsStand bytes.now place (unwind_view info.now) }
-    ensures { result ≡ flat_record bytes.now place (unwind_view info.now) }
+fn flat_record(info: &UnwindInfo, bytes: &[u8], offset: usize) -> UnwindRecord
+    requires { UnwindPartsStand bytes.now offset (unwind_view info.now) }
+    ensures { result ≡ flat_record bytes.now offset (unwind_view info.now) }
 {
     let (is_chained, chained) = chained_of(info);
-    let (handler_kind, handler, handler_data) = handler_of(info, bytes, place);
+    let (handler_kind, handler, handler_data) = handler_of(info, bytes, offset);
     UnwindRecord {
         codes: CodeWalk {
             left: Range {
-                place: place as u64 + 4,
+                offset: offset as u64 + 4,
                 length: info.code_bytes().len() as u64,
             },
             version: info.version,
@@ -246,28 +246,28 @@ fn flat_record(info: &UnwindInfo, bytes: &[u8], place: usize) -> UnwindRecord
 }
 
 /// The unwind record at a file offset.
-fn record_at(bytes: &[u8], place: usize) -> Result<UnwindRecord>
-    ensures { answer_by (λ x. x) result ≡ flat_record_at bytes.now place }
+fn record_at(bytes: &[u8], offset: usize) -> Result<UnwindRecord>
+    ensures { answer_by (λ x. x) result ≡ flat_record_at bytes.now offset }
 {
-    let info = UnwindInfo::parse(bytes, place)?;
-    Ok(flat_record(&info, bytes, place))
+    let info = UnwindInfo::parse(bytes, offset)?;
+    Ok(flat_record(&info, bytes, offset))
 }
 
 /// The file offset of the record of an unwind RVA.
-fn find_place(
+fn find_record_offset(
     bytes: &[u8],
     image: &Image,
     sections: &[SectionTable],
     mode: u32,
     unwind: u32,
 ) -> Result<usize>
-    ensures { FindsPlace bytes.now image.now sections.now mode unwind (answer_of result) }
+    ensures { FindsOffset bytes.now image.now sections.now mode unwind (answer_of result) }
 {
     let opts = options(mode);
     let alignment = image.file_alignment;
     let table = image.exceptions;
     let exceptions = ExceptionData::parse_with_opts(bytes, table, sections, alignment, &opts)?;
-    exceptions.record_place(unwind, sections, &opts)
+    exceptions.record_offset(unwind, sections, &opts)
 }
 
 /// The unwind record of an unwind RVA, as `pe_c_unwind_record` returns it.
@@ -280,8 +280,8 @@ pub fn read_record(
 ) -> Result<UnwindRecord>
     ensures { FollowsToRecord bytes.now image.now sections.now mode unwind (answer_by (λ x. x) result) }
 {
-    let place = find_place(bytes, image, sections, mode, unwind)?;
-    record_at(bytes, place)
+    let offset = find_record_offset(bytes, image, sections, mode, unwind)?;
+    record_at(bytes, offset)
 }
 
 /// Reads the unwind record of an unwind RVA, which is a field of a function. An odd RVA is a link to another entry of
@@ -298,7 +298,7 @@ pub extern "C" fn pe_c_unwind_record(
     unwind: u32,
     out: &mut UnwindRecord,
 ) -> u32
-    ensures { AnswersRecord bytes.now image.now sections.now mode unwind result out.old out.new }
+    ensures { HandsOutRecord bytes.now image.now sections.now mode unwind result out.old out.new }
 {
     hand_out(read_record(bytes, image, sections, mode, unwind), out)
 }
@@ -343,40 +343,45 @@ fn plain(code_offset: u8, operation: u8, operand: u8, value: u32) -> Code
 fn flat(code: UnwindCode) -> Code
     ensures { result ≡ flat code }
 {
-    let place = code.code_offset;
+    let code_offset = code.code_offset;
     match code.operation {
-        UnwindOperation::PushNonVolatile(register) => plain(place, 0, register.0, 0),
-        UnwindOperation::Alloc(size) => plain(place, 1, 0, size),
-        UnwindOperation::SetFPRegister => plain(place, 2, 0, 0),
-        UnwindOperation::SaveNonVolatile(register, offset) => saving(place, 3, register, offset),
-        UnwindOperation::SaveXMM(register, offset) => saving(place, 4, register, offset),
+        UnwindOperation::PushNonVolatile(register) => plain(code_offset, 0, register.0, 0),
+        UnwindOperation::Alloc(size) => plain(code_offset, 1, 0, size),
+        UnwindOperation::SetFPRegister => plain(code_offset, 2, 0, 0),
+        UnwindOperation::SaveNonVolatile(register, offset) => saving(
+            code_offset,
+            3,
+            register,
+            offset,
+        ),
+        UnwindOperation::SaveXMM(register, offset) => saving(code_offset, 4, register, offset),
         UnwindOperation::Epilog {
             offset_low_or_size,
             offset_high_or_flags,
         } => plain(
-            place,
+            code_offset,
             5,
             offset_high_or_flags,
             u32::from(offset_low_or_size),
         ),
-        UnwindOperation::SaveXMM128(register, offset) => saving(place, 6, register, offset),
-        UnwindOperation::PushMachineFrame(has_code) => plain(place, 7, u8::from(has_code), 0),
-        UnwindOperation::Noop => plain(place, 8, 0, 0),
+        UnwindOperation::SaveXMM128(register, offset) => saving(code_offset, 6, register, offset),
+        UnwindOperation::PushMachineFrame(has_code) => plain(code_offset, 7, u8::from(has_code), 0),
+        UnwindOperation::Noop => plain(code_offset, 8, 0, 0),
     }
 }
 
 /// One step over the bytes that a walk has left.
 fn step(left: &[u8], walk: &mut CodeWalk) -> Option<Result<UnwindCode>>
     requires length { length left.now ≡ walk.old.left.length }
-    requires end { walk.old.left.place + walk.old.left.length ≤ 2 ^ 63 }
+    requires end { walk.old.left.offset + walk.old.left.length ≤ 2 ^ 63 }
     ensures { StepsOver left.now walk.old result walk.new }
 {
     let mut codes = UnwindCodeIterator::new(left, walk.version, Register(walk.frame_register));
     let code = codes.next();
-    let behind = codes.bytes_left() as u64;
+    let after = codes.bytes_left() as u64;
     walk.left = Range {
-        place: walk.left.place + (walk.left.length - behind),
-        length: behind,
+        offset: walk.left.offset + (walk.left.length - after),
+        length: after,
     };
     code
 }
@@ -400,7 +405,7 @@ fn next_code(bytes: &[u8], walk: &mut CodeWalk) -> Option<Result<UnwindCode>>
 /// After an error the walk is over.
 #[unsafe(no_mangle)]
 pub extern "C" fn pe_c_next_code(bytes: &[u8], walk: &mut CodeWalk, out: &mut Code) -> u32
-    ensures { AnswersCode bytes.now walk.old walk.new result out.old out.new }
+    ensures { HandsOutCode bytes.now walk.old walk.new result out.old out.new }
 {
     match next_code(bytes, walk) {
         Some(Ok(code)) => {
@@ -418,7 +423,7 @@ fn scopes_in(bytes: &[u8], handler_data: &Range) -> Result<Option<Range>>
     let data = slice_of(bytes, handler_data)?;
     match scope_table_size(data) {
         Some(size) => Ok(Some(Range {
-            place: handler_data.place + 4,
+            offset: handler_data.offset + 4,
             length: size as u64,
         })),
         None => Ok(None),
@@ -431,7 +436,7 @@ fn scopes_in(bytes: &[u8], handler_data: &Range) -> Result<Option<Range>>
 /// Errors: `SHORT` where the range is not inside the bytes.
 #[unsafe(no_mangle)]
 pub extern "C" fn pe_c_scope_table(bytes: &[u8], handler_data: &Range, out: &mut Range) -> u32
-    ensures { AnswersIf result out.old out.new (scopes_at bytes.now handler_data.now) }
+    ensures { HandsOutIf result out.old out.new (scopes_at bytes.now handler_data.now) }
 {
     hand_out_some(scopes_in(bytes, handler_data), out)
 }
@@ -451,7 +456,7 @@ fn next_scope(bytes: &[u8], walk: &mut Range) -> Result<Option<ScopeTableEntry>>
 /// Errors: `SHORT` where the walk is not inside the bytes, or an entry is truncated. After it the walk is over.
 #[unsafe(no_mangle)]
 pub extern "C" fn pe_c_next_scope(bytes: &[u8], walk: &mut Range, out: &mut ScopeTableEntry) -> u32
-    ensures scope { AnswersIf result out.old out.new (next_of scope_at 16 bytes.now walk.old) }
+    ensures scope { HandsOutIf result out.old out.new (next_of scope_at 16 bytes.now walk.old) }
     ensures walk { walk.new ≡ walk_of 16 bytes.now walk.old }
 {
     hand_out_some(next_scope(bytes, walk), out)

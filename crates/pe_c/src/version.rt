@@ -5,14 +5,14 @@
 
 ghost use Rattle.std.specs.Prelude.{◌≡◌, IfOk, IfSome};
 ghost use Rattle.std.specs.Option.{option_map};
-ghost use Rattle.pe_core.specs.Places.{IsWithin};
+ghost use Rattle.pe_core.specs.Offsets.{IsWithin};
 ghost use Rattle.pe_core.specs.Refusals.{answer_by};
 ghost use Rattle.pe_resource.specs.Contents.{inner};
-ghost use Rattle.pe_c.specs.Versions.{IsContentOf, AnswersManifest, fixed_at, AnswersFixed, value_at, name_at, AnswersText};
+ghost use Rattle.pe_c.specs.Versions.{IsContentOf, HandsOutManifest, fixed_at, HandsOutFixed, value_at, name_at, HandsOutText};
 
-use crate::answers::{NOTHING, hand_out_some, number_of, options};
 use crate::image::{Image, is_absent};
 use crate::ranges::{Range, range_of};
+use crate::results::{NOTHING, hand_out_some, number_of, options};
 use pe_core::{ByteRange, Result, SectionTable};
 use pe_resource::{RT_MANIFEST, RT_VERSION, ResourceData, VersionName, VsFixedFileInfo};
 
@@ -45,7 +45,7 @@ pub extern "C" fn pe_c_manifest(
     mode: u32,
     out: &mut Range,
 ) -> u32
-    ensures { AnswersManifest bytes.now image.now sections.now mode result out.old out.new }
+    ensures { HandsOutManifest bytes.now image.now sections.now mode result out.old out.new }
 {
     match content_of(bytes, image, sections, mode, RT_MANIFEST) {
         Ok(content) => hand_out_some(Ok(content.map(range_of)), out),
@@ -74,7 +74,7 @@ pub extern "C" fn pe_c_fixed_version(
     mode: u32,
     out: &mut VsFixedFileInfo,
 ) -> u32
-    ensures { AnswersFixed bytes.now image.now sections.now mode result out.old out.new }
+    ensures { HandsOutFixed bytes.now image.now sections.now mode result out.old out.new }
 {
     match content_of(bytes, image, sections, mode, RT_VERSION) {
         Ok(content) => hand_out_some(fixed_at(bytes, content), out),
@@ -92,7 +92,7 @@ fn value_at(bytes: &[u8], name: VersionName, content: Option<ByteRange>) -> Resu
         Some(content) => match name.value_range(content.of(bytes))? {
             None => Ok(None),
             Some(value) => Ok(Some(Range {
-                place: content.place as u64 + value.place as u64,
+                offset: content.offset as u64 + value.offset as u64,
                 length: value.length as u64,
             })),
         },
@@ -132,7 +132,7 @@ pub extern "C" fn pe_c_version_text(
     name: u32,
     out: &mut Range,
 ) -> u32
-    ensures { AnswersText bytes.now image.now sections.now mode (name_at name) result out.old out.new }
+    ensures { HandsOutText bytes.now image.now sections.now mode (name_at name) result out.old out.new }
 {
     let Some(name) = name_at(name) else {
         return NOTHING;

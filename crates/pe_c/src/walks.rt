@@ -31,7 +31,7 @@ pub fn next_entry<'a>(bytes: &'a [u8], walk: &mut Range, width: usize) -> Result
         });
     }
     *walk = Range {
-        place: range.place + width as u64,
+        offset: range.offset + width as u64,
         length: range.length - width as u64,
     };
     Ok(Some(left))

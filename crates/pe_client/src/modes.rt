@@ -20,7 +20,7 @@ fn permissive() -> ParseOptions
     ParseOptions::default().with_parse_mode(ParseMode::Permissive)
 }
 
-/// The debug data of an image, read permissively: what their own definition gives, and nothing where that is absent or
+/// The debug data of an image, read permissively: what their own definition says, and nothing where that is absent or
 /// refused, whatever else is damaged. It follows from the law `headline`.
 pub fn debug_data<'a>(alloc: Global, bytes: &'a [u8]) -> Result<Option<DebugData<'a>>>
     ensures { (c : CoreView) → core_of bytes.entry.now (record default_options { parse_mode = ParseMode.Permissive }) ≡ Ok c →

@@ -17,7 +17,7 @@ pub no_text : (b : List ℕ) (p : ℕ) → length b ≤ p → text_at b p ≡ No
 no_text b p le = ap text_to_zero (drop_all p b le) ∙ zero_missing [] refl
 
 -- where an address without a place gets one behind the end, it still has no text
-pub text_or_end : (b : List ℕ) (place : Option ℕ) → length b < 2 ^ 64 → text_at b (offset_or_end place) ≡ option_and_then (text_at b) place
+pub text_or_end : (b : List ℕ) (offset : Option ℕ) → length b < 2 ^ 64 → text_at b (offset_or_end offset) ≡ option_and_then (text_at b) offset
 text_or_end b None lt = no_text b (2 ^ 64 - 1) (omega arith)
 text_or_end b (Some p) lt = refl
 
@@ -30,32 +30,32 @@ consed : {X : Type 0} (o : Option X) (xs ys zs : List X) → zs ≡ xs ++ ys →
 consed None xs ys zs e = e
 consed (Some x) xs ys zs e = ap (λ l. x ∷ l) e
 
-exports_from-append : (place : ℕ → Option ℕ) (d : ExportDataView) (k : ℕ) (xs ys : List (Option (List ℕ))) → exports_from place d k (xs ++ ys) ≡ exports_from place d k xs ++ exports_from place d (k + length xs) ys
-exports_from-append place d k [] ys = let e : k ≡ k + 0 = omega arith in ap (λ i. exports_from place d i ys) e
-exports_from-append place d k (x ∷ xs) ys =
+exports_from-append : (offset : ℕ → Option ℕ) (d : ExportDataView) (k : ℕ) (xs ys : List (Option (List ℕ))) → exports_from offset d k (xs ++ ys) ≡ exports_from offset d k xs ++ exports_from offset d (k + length xs) ys
+exports_from-append offset d k [] ys = let e : k ≡ k + 0 = omega arith in ap (λ i. exports_from offset d i ys) e
+exports_from-append offset d k (x ∷ xs) ys =
     let e : k + 1 + length xs ≡ k + suc (length xs) = omega arith in
-    let rest : exports_from place d (k + 1) (xs ++ ys) ≡ exports_from place d (k + 1) xs ++ exports_from place d (k + suc (length xs)) ys = exports_from-append place d (k + 1) xs ys ∙ ap (λ i. exports_from place d (k + 1) xs ++ exports_from place d i ys) e in
-    consed (option_and_then (named_export place d k) x) _ _ _ rest
+    let rest : exports_from offset d (k + 1) (xs ++ ys) ≡ exports_from offset d (k + 1) xs ++ exports_from offset d (k + suc (length xs)) ys = exports_from-append offset d (k + 1) xs ys ∙ ap (λ i. exports_from offset d (k + 1) xs ++ exports_from offset d i ys) e in
+    consed (option_and_then (named_export offset d k) x) _ _ _ rest
 
 -- the exports of the texts at the places of the name table
-from_table : (place : ℕ → Option ℕ) (b : List ℕ) (d : ExportDataView) (n : ℕ) → length b < 2 ^ 64
-    → exports_from place d 0 (map (text_at b) (each (λ i. offset_or_end (place (le d.names (4 * i) 4))) n)) ≡ filter_map (λ (e : Option ExportView). e) (each (export_at place b d) n)
+from_table : (offset : ℕ → Option ℕ) (b : List ℕ) (d : ExportDataView) (n : ℕ) → length b < 2 ^ 64
+    → exports_from offset d 0 (map (text_at b) (each (λ i. offset_or_end (offset (le d.names (4 * i) 4))) n)) ≡ filter_map (λ (e : Option ExportView). e) (each (export_at offset b d) n)
 unfolding each
-from_table place b d zero lt = refl
-from_table place b d (suc n) lt =
-    let places : ℕ → ℕ = λ i. offset_or_end (place (le d.names (4 * i) 4)) in
-    let texts : List (Option (List ℕ)) = map (text_at b) (each places n) in
-    let many : 0 + length texts ≡ n = omega (arith, length-map (each places n) (text_at b), each-length places n) in
-    let text : text_at b (places n) ≡ text_at_address place b (le d.names (4 * n) 4) = text_or_end b (place (le d.names (4 * n) 4)) lt in
-    ap (exports_from place d 0) (map-append (text_at b) (each places n) (places n ∷ []))
-    ∙ exports_from-append place d 0 texts (text_at b (places n) ∷ [])
-    ∙ ap (λ xs. xs ++ exports_from place d (0 + length texts) (text_at b (places n) ∷ [])) (from_table place b d n lt)
-    ∙ ap (λ i. filter_map (λ (e : Option ExportView). e) (each (export_at place b d) n) ++ exports_from place d i (text_at b (places n) ∷ [])) many
-    ∙ ap (λ t. filter_map (λ (e : Option ExportView). e) (each (export_at place b d) n) ++ exports_from place d n (t ∷ [])) text
-    ∙ sym (filter_map-append (λ (e : Option ExportView). e) (each (export_at place b d) n) (export_at place b d n ∷ []))
+from_table offset b d zero lt = refl
+from_table offset b d (suc n) lt =
+    let offsets : ℕ → ℕ = λ i. offset_or_end (offset (le d.names (4 * i) 4)) in
+    let texts : List (Option (List ℕ)) = map (text_at b) (each offsets n) in
+    let many : 0 + length texts ≡ n = omega (arith, length-map (each offsets n) (text_at b), each-length offsets n) in
+    let text : text_at b (offsets n) ≡ text_at_address offset b (le d.names (4 * n) 4) = text_or_end b (offset (le d.names (4 * n) 4)) lt in
+    ap (exports_from offset d 0) (map-append (text_at b) (each offsets n) (offsets n ∷ []))
+    ∙ exports_from-append offset d 0 texts (text_at b (offsets n) ∷ [])
+    ∙ ap (λ xs. xs ++ exports_from offset d (0 + length texts) (text_at b (offsets n) ∷ [])) (from_table offset b d n lt)
+    ∙ ap (λ i. filter_map (λ (e : Option ExportView). e) (each (export_at offset b d) n) ++ exports_from offset d i (text_at b (offsets n) ∷ [])) many
+    ∙ ap (λ t. filter_map (λ (e : Option ExportView). e) (each (export_at offset b d) n) ++ exports_from offset d n (t ∷ [])) text
+    ∙ sym (filter_map-append (λ (e : Option ExportView). e) (each (export_at offset b d) n) (export_at offset b d n ∷ []))
 
-pub listed : (place : ℕ → Option ℕ) (b : List ℕ) (d : ExportDataView) (places : List ℕ) (names : List (Option (List ℕ))) → length b < 2 ^ 64
-    → places ≡ each (λ i. offset_or_end (place (le d.names (4 * i) 4))) (length d.names / 4) → names ≡ map (text_at b) places → exports_from place d 0 names ≡ exports place b d
+pub listed : (offset : ℕ → Option ℕ) (b : List ℕ) (d : ExportDataView) (offsets : List ℕ) (names : List (Option (List ℕ))) → length b < 2 ^ 64
+    → offsets ≡ each (λ i. offset_or_end (offset (le d.names (4 * i) 4))) (length d.names / 4) → names ≡ map (text_at b) offsets → exports_from offset d 0 names ≡ exports offset b d
 unfolding exports
-listed place b d places names lt are texts =
-    ap (exports_from place d 0) (texts ∙ ap (map (text_at b)) are) ∙ from_table place b d (length d.names / 4) lt
+listed offset b d offsets names lt are texts =
+    ap (exports_from offset d 0) (texts ∙ ap (map (text_at b)) are) ∙ from_table offset b d (length d.names / 4) lt

@@ -15,7 +15,7 @@ use Rattle.pe_core.specs.declared.import.ImportDirectoryEntry.{ImportDirectoryEn
 use Rattle.pe_core.specs.declared.import.SyntheticImportDirectoryEntry.{SyntheticImportDirectoryEntry}
 use Rattle.pe_core.specs.Bytes.{le, holds, range, record_at}
 use Rattle.pe_core.specs.Gathered.{all_or_refusal, with_rest}
-use Rattle.pe_core.specs.ImportSteps.{AreEntryNames, AreNames, StandInFront, entry_view, name_place}
+use Rattle.pe_core.specs.ImportSteps.{AreEntryNames, AreNames, StandInFront, entry_view, hint_offset_of}
 use Rattle.pe_core.specs.Imports.{EntryView, ImportRecordView, ImportView, import_of, import_view, lookup_at, lookup_entries, lookups_at, import_record, import_record_at, import_record_view, import_records, is_last}
 use Rattle.pe_core.specs.Records.{import_entry}
 use Rattle.pe_core.specs.Refusals.{Refusal, Short, UnlessMemory, kind_of, ◌>>=◌}
@@ -97,61 +97,61 @@ few_records b p n s = elim (eq-zero-or-pos n) [
   | inr some ↦ omega (arith, s.there (n - 1) (omega arith))
 ]
 
-record-there : (place : ℕ → Option ℕ) (w : ℕ) (b : List ℕ) (p : ℕ) (last : Bool) → p + 20 ≤ length b → is_last (import_entry b p) ≡ last → import_record_at place w b p ≡ cond last (Ok None) (import_record place w b (import_entry b p))
+record-there : (offset : ℕ → Option ℕ) (w : ℕ) (b : List ℕ) (p : ℕ) (last : Bool) → p + 20 ≤ length b → is_last (import_entry b p) ≡ last → import_record_at offset w b p ≡ cond last (Ok None) (import_record offset w b (import_entry b p))
 unfolding import_record_at
-record-there place w b p last le_end is =
+record-there offset w b p last le_end is =
     let here : holds b p 20 ≡ true = grind (arith, nat_tests) in
     rw (here, is) refl
 
-record-cut : (place : ℕ → Option ℕ) (w : ℕ) (b : List ℕ) (p : ℕ) (e : Refusal) (u : Unit {0}) → record_at b p 20 u ≡ Err e → import_record_at place w b p ≡ Err e
+record-cut : (offset : ℕ → Option ℕ) (w : ℕ) (b : List ℕ) (p : ℕ) (e : Refusal) (u : Unit {0}) → record_at b p 20 u ≡ Err e → import_record_at offset w b p ≡ Err e
 unfolding import_record_at
-record-cut place w b p e u is =
+record-cut offset w b p e u is =
     let short = refused_cut (holds b p 20) e u is in
     rw (short.0, short.1) refl
 
 -- these are the first i records, and none ends the directory
-pub record RecordsRead (place : ℕ → Option ℕ) (w : ℕ) (b : List ℕ) (p i : ℕ) (xs : List ImportRecordView) : Type 0 where
-  pub gathered : Gathered (each (λ k. import_record_at place w b (p + 20 * k)) (suc (length b))) i xs
+pub record RecordsRead (offset : ℕ → Option ℕ) (w : ℕ) (b : List ℕ) (p i : ℕ) (xs : List ImportRecordView) : Type 0 where
+  pub gathered : Gathered (each (λ k. import_record_at offset w b (p + 20 * k)) (suc (length b))) i xs
 
-pub records-start : (place : ℕ → Option ℕ) (w : ℕ) (b : List ℕ) (p : ℕ) → RecordsRead place w b p 0 []
-records-start place w b p = record { gathered = gathered-start _ }
+pub records-start : (offset : ℕ → Option ℕ) (w : ℕ) (b : List ℕ) (p : ℕ) → RecordsRead offset w b p 0 []
+records-start offset w b p = record { gathered = gathered-start _ }
 
-pub records-pushed : (place : ℕ → Option ℕ) (w : ℕ) (b : List ℕ) (p n i : ℕ) (items pushed : List SyntheticImportDirectoryEntry) (r : SyntheticImportDirectoryEntry) (entry : ImportDirectoryEntry)
-    → StandInFront b p n → i < n → RecordsRead place w b p i (map import_record_view items)
-    → entry ≡ import_entry b (p + 20 * i) → import_record place w b entry ≡ Ok (Some (import_record_view r)) → pushed ≡ items ++ r ∷ []
-    → RecordsRead place w b p (i + 1) (map import_record_view pushed)
-records-pushed place w b p n i items pushed r entry s lt g at is push =
-    let row : import_record_at place w b (p + 20 * i) ≡ Ok (Some (import_record_view r)) = record-there place w b (p + 20 * i) false (s.there i lt) (s.go_on i lt) ∙ ap (import_record place w b) (sym at) ∙ is in
-    let more = gathered-more (λ k. import_record_at place w b (p + 20 * k)) (suc (length b)) i (map import_record_view items) (import_record_view r) g.gathered (omega (arith, lt, few_records b p n s)) row in
+pub records-pushed : (offset : ℕ → Option ℕ) (w : ℕ) (b : List ℕ) (p n i : ℕ) (items pushed : List SyntheticImportDirectoryEntry) (r : SyntheticImportDirectoryEntry) (entry : ImportDirectoryEntry)
+    → StandInFront b p n → i < n → RecordsRead offset w b p i (map import_record_view items)
+    → entry ≡ import_entry b (p + 20 * i) → import_record offset w b entry ≡ Ok (Some (import_record_view r)) → pushed ≡ items ++ r ∷ []
+    → RecordsRead offset w b p (i + 1) (map import_record_view pushed)
+records-pushed offset w b p n i items pushed r entry s lt g at is push =
+    let row : import_record_at offset w b (p + 20 * i) ≡ Ok (Some (import_record_view r)) = record-there offset w b (p + 20 * i) false (s.there i lt) (s.go_on i lt) ∙ ap (import_record offset w b) (sym at) ∙ is in
+    let more = gathered-more (λ k. import_record_at offset w b (p + 20 * k)) (suc (length b)) i (map import_record_view items) (import_record_view r) g.gathered (omega (arith, lt, few_records b p n s)) row in
     rw (push, map-append import_record_view items (r ∷ [])) (record { gathered = more })
 
-pub records-refused : (place : ℕ → Option ℕ) (w : ℕ) (b : List ℕ) (p n i : ℕ) (xs : List ImportRecordView) (e : Refusal) (entry : ImportDirectoryEntry)
-    → StandInFront b p n → i < n → RecordsRead place w b p i xs
-    → entry ≡ import_entry b (p + 20 * i) → import_record place w b entry ≡ Err e → import_records place w b p ≡ Err e
+pub records-refused : (offset : ℕ → Option ℕ) (w : ℕ) (b : List ℕ) (p n i : ℕ) (xs : List ImportRecordView) (e : Refusal) (entry : ImportDirectoryEntry)
+    → StandInFront b p n → i < n → RecordsRead offset w b p i xs
+    → entry ≡ import_entry b (p + 20 * i) → import_record offset w b entry ≡ Err e → import_records offset w b p ≡ Err e
 unfolding import_records
-records-refused place w b p n i xs e entry s lt g at is =
-    let row : import_record_at place w b (p + 20 * i) ≡ Err e = record-there place w b (p + 20 * i) false (s.there i lt) (s.go_on i lt) ∙ ap (import_record place w b) (sym at) ∙ is in
-    gathered-refused (λ k. import_record_at place w b (p + 20 * k)) (suc (length b)) i xs e g.gathered (omega (arith, lt, few_records b p n s)) row
+records-refused offset w b p n i xs e entry s lt g at is =
+    let row : import_record_at offset w b (p + 20 * i) ≡ Err e = record-there offset w b (p + 20 * i) false (s.there i lt) (s.go_on i lt) ∙ ap (import_record offset w b) (sym at) ∙ is in
+    gathered-refused (λ k. import_record_at offset w b (p + 20 * k)) (suc (length b)) i xs e g.gathered (omega (arith, lt, few_records b p n s)) row
 
-pub records-cut : (place : ℕ → Option ℕ) (w : ℕ) (b : List ℕ) (p n i : ℕ) (xs : List ImportRecordView) (e : Refusal) (u : Unit {0})
-    → StandInFront b p n → i ≡ n → RecordsRead place w b p i xs
-    → record_at b (p + 20 * n) 20 u ≡ Err e → import_records place w b p ≡ Err e
+pub records-cut : (offset : ℕ → Option ℕ) (w : ℕ) (b : List ℕ) (p n i : ℕ) (xs : List ImportRecordView) (e : Refusal) (u : Unit {0})
+    → StandInFront b p n → i ≡ n → RecordsRead offset w b p i xs
+    → record_at b (p + 20 * n) 20 u ≡ Err e → import_records offset w b p ≡ Err e
 unfolding import_records
-records-cut place w b p n i xs e u s end g is =
-    let row : import_record_at place w b (p + 20 * i) ≡ Err e = ap (λ k. import_record_at place w b (p + 20 * k)) end ∙ record-cut place w b (p + 20 * n) e u is in
-    gathered-refused (λ k. import_record_at place w b (p + 20 * k)) (suc (length b)) i xs e g.gathered (omega (arith, end, few_records b p n s)) row
+records-cut offset w b p n i xs e u s end g is =
+    let row : import_record_at offset w b (p + 20 * i) ≡ Err e = ap (λ k. import_record_at offset w b (p + 20 * k)) end ∙ record-cut offset w b (p + 20 * n) e u is in
+    gathered-refused (λ k. import_record_at offset w b (p + 20 * k)) (suc (length b)) i xs e g.gathered (omega (arith, end, few_records b p n s)) row
 
 given : {Y : Type 0} (n p w : ℕ) (y z : Y) → cond (nat_le (p + w) n) (Ok y) (Err Short) ≡ Ok z → p + w ≤ n
 given n p w y z is = grind (arith, nat_tests)
 
-pub records-done : (place : ℕ → Option ℕ) (w : ℕ) (b : List ℕ) (p n i : ℕ) (xs : List ImportRecordView) (u v : Unit {0})
-    → StandInFront b p n → i ≡ n → RecordsRead place w b p i xs
-    → record_at b (p + 20 * n) 20 u ≡ Ok v → import_records place w b p ≡ Ok xs
+pub records-done : (offset : ℕ → Option ℕ) (w : ℕ) (b : List ℕ) (p n i : ℕ) (xs : List ImportRecordView) (u v : Unit {0})
+    → StandInFront b p n → i ≡ n → RecordsRead offset w b p i xs
+    → record_at b (p + 20 * n) 20 u ≡ Ok v → import_records offset w b p ≡ Ok xs
 unfolding import_records
-records-done place w b p n i xs u v s end g is =
+records-done offset w b p n i xs u v s end g is =
     let le_end : p + 20 * n + 20 ≤ length b = given (length b) (p + 20 * n) 20 u v is in
-    let row : import_record_at place w b (p + 20 * i) ≡ Ok None = ap (λ k. import_record_at place w b (p + 20 * k)) end ∙ record-there place w b (p + 20 * n) true le_end (s.last le_end) in
-    gathered-done (λ k. import_record_at place w b (p + 20 * k)) (suc (length b)) i xs g.gathered (omega (arith, end, few_records b p n s)) row
+    let row : import_record_at offset w b (p + 20 * i) ≡ Ok None = ap (λ k. import_record_at offset w b (p + 20 * k)) end ∙ record-there offset w b (p + 20 * n) true le_end (s.last le_end) in
+    gathered-done (λ k. import_record_at offset w b (p + 20 * k)) (suc (length b)) i xs g.gathered (omega (arith, end, few_records b p n s)) row
 
 unless_memory : (e : Error) (P : Type 0) → P → UnlessMemory e P
 unless_memory (errors.Malformed reason) P x = x
@@ -160,98 +160,98 @@ unless_memory (errors.Short at needed) P x = x
 unless_memory (errors.Memory m) P x = tt
 
 -- the same of an error
-pub refused-in_record : (place : ℕ → Option ℕ) (w : ℕ) (b : List ℕ) (p n i : ℕ) (xs : List ImportRecordView) (e : Error) (entry : ImportDirectoryEntry)
-    → StandInFront b p n → i < n → RecordsRead place w b p i xs → entry ≡ import_entry b (p + 20 * i) → import_record place w b entry ≡ Err (kind_of e) → UnlessMemory e (import_records place w b p ≡ Err (kind_of e))
-refused-in_record place w b p n i xs e entry s lt g at is = unless_memory e _ (records-refused place w b p n i xs (kind_of e) entry s lt g at is)
+pub refused-in_record : (offset : ℕ → Option ℕ) (w : ℕ) (b : List ℕ) (p n i : ℕ) (xs : List ImportRecordView) (e : Error) (entry : ImportDirectoryEntry)
+    → StandInFront b p n → i < n → RecordsRead offset w b p i xs → entry ≡ import_entry b (p + 20 * i) → import_record offset w b entry ≡ Err (kind_of e) → UnlessMemory e (import_records offset w b p ≡ Err (kind_of e))
+refused-in_record offset w b p n i xs e entry s lt g at is = unless_memory e _ (records-refused offset w b p n i xs (kind_of e) entry s lt g at is)
 
-pub refused-at_end : (place : ℕ → Option ℕ) (w : ℕ) (b : List ℕ) (p n i : ℕ) (xs : List ImportRecordView) (e : Error) (u : Unit {0})
-    → StandInFront b p n → i ≡ n → RecordsRead place w b p i xs → record_at b (p + 20 * n) 20 u ≡ Err (kind_of e) → UnlessMemory e (import_records place w b p ≡ Err (kind_of e))
-refused-at_end place w b p n i xs e u s end g is = unless_memory e _ (records-cut place w b p n i xs (kind_of e) u s end g is)
+pub refused-at_end : (offset : ℕ → Option ℕ) (w : ℕ) (b : List ℕ) (p n i : ℕ) (xs : List ImportRecordView) (e : Error) (u : Unit {0})
+    → StandInFront b p n → i ≡ n → RecordsRead offset w b p i xs → record_at b (p + 20 * n) 20 u ≡ Err (kind_of e) → UnlessMemory e (import_records offset w b p ≡ Err (kind_of e))
+refused-at_end offset w b p n i xs e u s end g is = unless_memory e _ (records-cut offset w b p n i xs (kind_of e) u s end g is)
 
 pub ruleset records_read = (records-start, records-pushed, refused-in_record, refused-at_end, records-done)
 
 -- the texts at the places of the names are the names
-pub names_are : (place : ℕ → Option ℕ) (b : List ℕ) (p n : ℕ) (places : List ℕ) (names : List (Option (Bor (List ℕ)))) → length b < 2 ^ 64
-    → places ≡ each (λ i. offset_or_end (place (import_entry b (p + 20 * i)).name_rva)) n → texts_of names ≡ map (text_at b) places → AreNames place b p names
-names_are place b p n places names small are texts = record {
+pub names_are : (offset : ℕ → Option ℕ) (b : List ℕ) (p n : ℕ) (offsets : List ℕ) (names : List (Option (Bor (List ℕ)))) → length b < 2 ^ 64
+    → offsets ≡ each (λ i. offset_or_end (offset (import_entry b (p + 20 * i)).name_rva)) n → texts_of names ≡ map (text_at b) offsets → AreNames offset b p names
+names_are offset b p n offsets names small are texts = record {
   are = λ i d lt.
-      let f : ℕ → ℕ = λ i. offset_or_end (place (import_entry b (p + 20 * i)).name_rva) in
-      let many : length names ≡ n = sym (length-map names (option_map (λ (s : Bor (List ℕ)). s.now))) ∙ ap length texts ∙ length-map places (text_at b) ∙ ap length are ∙ each-length f n in
+      let f : ℕ → ℕ = λ i. offset_or_end (offset (import_entry b (p + 20 * i)).name_rva) in
+      let many : length names ≡ n = sym (length-map names (option_map (λ (s : Bor (List ℕ)). s.now))) ∙ ap length texts ∙ length-map offsets (text_at b) ∙ ap length are ∙ each-length f n in
       sym (get_or-map (option_map (λ (s : Bor (List ℕ)). s.now)) names i d None lt)
       ∙ ap (λ (l : List (Option (List ℕ))). get_or l i None) (texts ∙ ap (map (text_at b)) are)
       ∙ get_or-map (text_at b) (each f n) i 0 None (omega (arith, lt, many, each-length f n))
       ∙ ap (text_at b) (get_or-each f n i 0 (omega (arith, lt, many)))
-      ∙ text_or_end b (place (import_entry b (p + 20 * i)).name_rva) small;
+      ∙ text_or_end b (offset (import_entry b (p + 20 * i)).name_rva) small;
 }
 
-pub as_many : (b : List ℕ) (n : ℕ) (f : ℕ → ℕ) (places : List ℕ) (names : List (Option (Bor (List ℕ)))) → places ≡ each f n → texts_of names ≡ map (text_at b) places → n ≡ length names
-as_many b n f places names are texts = sym (ap length are ∙ each-length f n) ∙ sym (length-map places (text_at b)) ∙ sym (ap length texts) ∙ length-map names (option_map (λ (s : Bor (List ℕ)). s.now))
+pub as_many : (b : List ℕ) (n : ℕ) (f : ℕ → ℕ) (offsets : List ℕ) (names : List (Option (Bor (List ℕ)))) → offsets ≡ each f n → texts_of names ≡ map (text_at b) offsets → n ≡ length names
+as_many b n f offsets names are texts = sym (ap length are ∙ each-length f n) ∙ sym (length-map offsets (text_at b)) ∙ sym (ap length texts) ∙ length-map names (option_map (λ (s : Bor (List ℕ)). s.now))
 
 pub ruleset all_named = (names_are, as_many)
 
 -- ---- the imports of all entries
 
 -- these are the imports of the first i entries
-pub record ImportsRead (place : ℕ → Option ℕ) (w : ℕ) (b : List ℕ) (entries : List EntryView) (i : ℕ) (xs : List ImportView) : Type 0 where
-  pub rest : with_rest xs (all_or_refusal (map (import_of place w b) (drop i entries))) ≡ all_or_refusal (map (import_of place w b) entries)
+pub record ImportsRead (offset : ℕ → Option ℕ) (w : ℕ) (b : List ℕ) (entries : List EntryView) (i : ℕ) (xs : List ImportView) : Type 0 where
+  pub rest : with_rest xs (all_or_refusal (map (import_of offset w b) (drop i entries))) ≡ all_or_refusal (map (import_of offset w b) entries)
 
-pub imports-start : (place : ℕ → Option ℕ) (w : ℕ) (b : List ℕ) (entries : List EntryView) → ImportsRead place w b entries 0 []
-imports-start place w b entries = record { rest = with_none (all_or_refusal (map (import_of place w b) entries)) }
+pub imports-start : (offset : ℕ → Option ℕ) (w : ℕ) (b : List ℕ) (entries : List EntryView) → ImportsRead offset w b entries 0 []
+imports-start offset w b entries = record { rest = with_none (all_or_refusal (map (import_of offset w b) entries)) }
 
-rest_of-entry : (place : ℕ → Option ℕ) (w : ℕ) (b : List ℕ) (entries : List Entry) (i : ℕ) (entry : EntryView) (d : Entry) → i < length entries → entry ≡ entry_view (get_or entries i d)
+rest_of-entry : (offset : ℕ → Option ℕ) (w : ℕ) (b : List ℕ) (entries : List Entry) (i : ℕ) (entry : EntryView) (d : Entry) → i < length entries → entry ≡ entry_view (get_or entries i d)
     → drop i (map entry_view entries) ≡ entry ∷ drop (i + 1) (map entry_view entries)
-rest_of-entry place w b entries i entry d lt at =
+rest_of-entry offset w b entries i entry d lt at =
     let after : suc i ≡ i + 1 = omega arith in
     drop-cons (map entry_view entries) i entry (omega (arith, lt, length-map entries entry_view))
     ∙ ap (λ x. x ∷ drop (suc i) (map entry_view entries)) (get_or-map entry_view entries i d entry lt ∙ sym at)
     ∙ ap (λ k. entry ∷ drop k (map entry_view entries)) after
 
-pub imports-pushed : (place : ℕ → Option ℕ) (w : ℕ) (b : List ℕ) (entries : List Entry) (i : ℕ) (items pushed : List Import) (r : Import) (entry : EntryView) (d : Entry)
-    → i < length entries → ImportsRead place w b (map entry_view entries) i (map import_view items) → entry ≡ entry_view (get_or entries i d)
-    → import_of place w b entry ≡ Ok (import_view r) → pushed ≡ items ++ r ∷ []
-    → ImportsRead place w b (map entry_view entries) (i + 1) (map import_view pushed)
-imports-pushed place w b entries i items pushed r entry d lt g at is push =
+pub imports-pushed : (offset : ℕ → Option ℕ) (w : ℕ) (b : List ℕ) (entries : List Entry) (i : ℕ) (items pushed : List Import) (r : Import) (entry : EntryView) (d : Entry)
+    → i < length entries → ImportsRead offset w b (map entry_view entries) i (map import_view items) → entry ≡ entry_view (get_or entries i d)
+    → import_of offset w b entry ≡ Ok (import_view r) → pushed ≡ items ++ r ∷ []
+    → ImportsRead offset w b (map entry_view entries) (i + 1) (map import_view pushed)
+imports-pushed offset w b entries i items pushed r entry d lt g at is push =
     let after : suc i ≡ i + 1 = omega arith in
-    let next = rest_of-entry place w b entries i entry d lt at in
+    let next = rest_of-entry offset w b entries i entry d lt at in
     record {
       rest =
-          ap (λ l. with_rest (map import_view l) (all_or_refusal (map (import_of place w b) (drop (i + 1) (map entry_view entries))))) push
-          ∙ ap (λ l. with_rest l (all_or_refusal (map (import_of place w b) (drop (i + 1) (map entry_view entries))))) (map-append import_view items (r ∷ []))
-          ∙ with_one (map import_view items) (import_view r) (all_or_refusal (map (import_of place w b) (drop (i + 1) (map entry_view entries))))
-          ∙ ap (λ x. with_rest (map import_view items) (all_or_refusal (x ∷ map (import_of place w b) (drop (i + 1) (map entry_view entries))))) (sym is)
-          ∙ ap (λ l. with_rest (map import_view items) (all_or_refusal (map (import_of place w b) l))) (sym next)
+          ap (λ l. with_rest (map import_view l) (all_or_refusal (map (import_of offset w b) (drop (i + 1) (map entry_view entries))))) push
+          ∙ ap (λ l. with_rest l (all_or_refusal (map (import_of offset w b) (drop (i + 1) (map entry_view entries))))) (map-append import_view items (r ∷ []))
+          ∙ with_one (map import_view items) (import_view r) (all_or_refusal (map (import_of offset w b) (drop (i + 1) (map entry_view entries))))
+          ∙ ap (λ x. with_rest (map import_view items) (all_or_refusal (x ∷ map (import_of offset w b) (drop (i + 1) (map entry_view entries))))) (sym is)
+          ∙ ap (λ l. with_rest (map import_view items) (all_or_refusal (map (import_of offset w b) l))) (sym next)
           ∙ g.rest;
     }
 
-pub imports-refused : (place : ℕ → Option ℕ) (w : ℕ) (b : List ℕ) (entries : List Entry) (i : ℕ) (xs : List ImportView) (e : Error) (entry : EntryView) (d : Entry)
-    → i < length entries → ImportsRead place w b (map entry_view entries) i xs → entry ≡ entry_view (get_or entries i d)
-    → import_of place w b entry ≡ Err (kind_of e) → UnlessMemory e (all_or_refusal (map (import_of place w b) (map entry_view entries)) ≡ Err (kind_of e))
-imports-refused place w b entries i xs e entry d lt g at is =
-    let next = rest_of-entry place w b entries i entry d lt at in
+pub imports-refused : (offset : ℕ → Option ℕ) (w : ℕ) (b : List ℕ) (entries : List Entry) (i : ℕ) (xs : List ImportView) (e : Error) (entry : EntryView) (d : Entry)
+    → i < length entries → ImportsRead offset w b (map entry_view entries) i xs → entry ≡ entry_view (get_or entries i d)
+    → import_of offset w b entry ≡ Err (kind_of e) → UnlessMemory e (all_or_refusal (map (import_of offset w b) (map entry_view entries)) ≡ Err (kind_of e))
+imports-refused offset w b entries i xs e entry d lt g at is =
+    let next = rest_of-entry offset w b entries i entry d lt at in
     unless_memory e _ (
     sym g.rest
-    ∙ ap (λ l. with_rest xs (all_or_refusal (map (import_of place w b) l))) next
-    ∙ ap (λ x. with_rest xs (all_or_refusal (x ∷ map (import_of place w b) (drop (i + 1) (map entry_view entries))))) is)
+    ∙ ap (λ l. with_rest xs (all_or_refusal (map (import_of offset w b) l))) next
+    ∙ ap (λ x. with_rest xs (all_or_refusal (x ∷ map (import_of offset w b) (drop (i + 1) (map entry_view entries))))) is)
 
-pub imports-done : (place : ℕ → Option ℕ) (w : ℕ) (b : List ℕ) (entries : List Entry) (i : ℕ) (xs : List ImportView)
-    → length entries ≤ i → ImportsRead place w b (map entry_view entries) i xs → all_or_refusal (map (import_of place w b) (map entry_view entries)) ≡ Ok xs
-imports-done place w b entries i xs end g =
+pub imports-done : (offset : ℕ → Option ℕ) (w : ℕ) (b : List ℕ) (entries : List Entry) (i : ℕ) (xs : List ImportView)
+    → length entries ≤ i → ImportsRead offset w b (map entry_view entries) i xs → all_or_refusal (map (import_of offset w b) (map entry_view entries)) ≡ Ok xs
+imports-done offset w b entries i xs end g =
     let none : drop i (map entry_view entries) ≡ [] = drop_all i (map entry_view entries) (omega (arith, end, length-map entries entry_view)) in
-    sym g.rest ∙ ap (λ l. with_rest xs (all_or_refusal (map (import_of place w b) l))) none ∙ ap (λ (l : List ImportView). Ok l) (append-nil xs)
+    sym g.rest ∙ ap (λ l. with_rest xs (all_or_refusal (map (import_of offset w b) l))) none ∙ ap (λ (l : List ImportView). Ok l) (append-nil xs)
 
 pub ruleset imports_read = (imports-start, imports-pushed, imports-refused, imports-done)
 
 -- the texts at the places of the names are the names
-pub entry_names_are : (place : ℕ → Option ℕ) (w : ℕ) (b : List ℕ) (entries : List Entry) (places : List ℕ) (names : List (Option (Bor (List ℕ))))
-    → places ≡ map (name_place place w) (map entry_view entries) → texts_of names ≡ map (text_at b) places → AreEntryNames place w b entries names
-entry_names_are place w b entries places names are texts = record {
+pub entry_names_are : (offset : ℕ → Option ℕ) (w : ℕ) (b : List ℕ) (entries : List Entry) (offsets : List ℕ) (names : List (Option (Bor (List ℕ))))
+    → offsets ≡ map (hint_offset_of offset w) (map entry_view entries) → texts_of names ≡ map (text_at b) offsets → AreEntryNames offset w b entries names
+entry_names_are offset w b entries offsets names are texts = record {
   are = λ i d e lt.
-      let many : length names ≡ length entries = sym (length-map names (option_map (λ (s : Bor (List ℕ)). s.now))) ∙ ap length texts ∙ length-map places (text_at b) ∙ ap length are ∙ length-map (map entry_view entries) (name_place place w) ∙ length-map entries entry_view in
+      let many : length names ≡ length entries = sym (length-map names (option_map (λ (s : Bor (List ℕ)). s.now))) ∙ ap length texts ∙ length-map offsets (text_at b) ∙ ap length are ∙ length-map (map entry_view entries) (hint_offset_of offset w) ∙ length-map entries entry_view in
       sym (get_or-map (option_map (λ (s : Bor (List ℕ)). s.now)) names i d None lt)
       ∙ ap (λ (l : List (Option (List ℕ))). get_or l i None) (texts ∙ ap (map (text_at b)) are)
-      ∙ get_or-map (text_at b) (map (name_place place w) (map entry_view entries)) i 0 None (omega (arith, lt, many, length-map (map entry_view entries) (name_place place w), length-map entries entry_view))
-      ∙ ap (text_at b) (get_or-map (name_place place w) (map entry_view entries) i (entry_view e) 0 (omega (arith, lt, many, length-map entries entry_view)) ∙ ap (name_place place w) (get_or-map entry_view entries i e (entry_view e) (omega (arith, lt, many))));
+      ∙ get_or-map (text_at b) (map (hint_offset_of offset w) (map entry_view entries)) i 0 None (omega (arith, lt, many, length-map (map entry_view entries) (hint_offset_of offset w), length-map entries entry_view))
+      ∙ ap (text_at b) (get_or-map (hint_offset_of offset w) (map entry_view entries) i (entry_view e) 0 (omega (arith, lt, many, length-map entries entry_view)) ∙ ap (hint_offset_of offset w) (get_or-map entry_view entries i e (entry_view e) (omega (arith, lt, many))));
 }
 
-pub as_many_entries : (f : EntryView → ℕ) (b : List ℕ) (entries : List Entry) (places : List ℕ) (names : List (Option (Bor (List ℕ)))) → places ≡ map f (map entry_view entries) → texts_of names ≡ map (text_at b) places → length names ≡ length entries
-as_many_entries f b entries places names are texts = sym (length-map names (option_map (λ (s : Bor (List ℕ)). s.now))) ∙ ap length texts ∙ length-map places (text_at b) ∙ ap length are ∙ length-map (map entry_view entries) f ∙ length-map entries entry_view
+pub as_many_entries : (f : EntryView → ℕ) (b : List ℕ) (entries : List Entry) (offsets : List ℕ) (names : List (Option (Bor (List ℕ)))) → offsets ≡ map f (map entry_view entries) → texts_of names ≡ map (text_at b) offsets → length names ≡ length entries
+as_many_entries f b entries offsets names are texts = sym (length-map names (option_map (λ (s : Bor (List ℕ)). s.now))) ∙ ap length texts ∙ length-map offsets (text_at b) ∙ ap length are ∙ length-map (map entry_view entries) f ∙ length-map entries entry_view

@@ -78,8 +78,8 @@ pieces_first [] some = absurd (omega arith)
 pieces_first (c ∷ b) some = first_cons c b
 
 -- what is behind a zero is less
-pub less_behind : (b : List ℕ) → 0 < length b → length (after_first (λ x. x == 0) b) < length b
-less_behind b some = grind (arith, length-drop)
+pub less_after : (b : List ℕ) → 0 < length b → length (after_first (λ x. x == 0) b) < length b
+less_after b some = grind (arith, length-drop)
 
 -- text of the first piece, or none
 text_some : (t : Bool) (x y : List ℕ) → Some y ≡ cond t (Some x) None → (t ≡ true) × (y ≡ x)
@@ -96,4 +96,4 @@ text_none false x e = refl
 pub first_is_none : (x : List ℕ) → None ≡ text_of x → is_utf8 x ≡ false
 first_is_none x e = text_none (is_utf8 x) x e
 
-pub ruleset first_piece = (pieces_first, less_behind, first_is_text, first_is_none)
+pub ruleset first_piece = (pieces_first, less_after, first_is_text, first_is_none)

@@ -12,29 +12,29 @@ unfolding bytes_of
 length-bytes_of zero number = refl
 length-bytes_of (suc n) number = ap suc (length-bytes_of n (number / 256))
 
-byte_behind : (front : List ℕ) (x : ℕ) (rest : List ℕ) (p : ℕ) → length front ≡ p → slice_index (front ++ x ∷ rest) p ≡ x
-byte_behind front x rest p e = grind (arith, places)
+byte_after : (front : List ℕ) (x : ℕ) (rest : List ℕ) (p : ℕ) → length front ≡ p → slice_index (front ++ x ∷ rest) p ≡ x
+byte_after front x rest p e = grind (arith, places)
 
 -- the number behind what stands in front of it
-le-behind : (n number : ℕ) (front rest : List ℕ) (p : ℕ) → length front ≡ p → number < 256 ^ n → le (front ++ (bytes_of n number ++ rest)) p n ≡ number
+le-after : (n number : ℕ) (front rest : List ℕ) (p : ℕ) → length front ≡ p → number < 256 ^ n → le (front ++ (bytes_of n number ++ rest)) p n ≡ number
 unfolding bytes_of
-le-behind zero number front rest p e small = le-zero _ p ∙ omega arith
-le-behind (suc n) number front rest p e small =
+le-after zero number front rest p e small = le-zero _ p ∙ omega arith
+le-after (suc n) number front rest p e small =
     let x = number % 256 in
-    let behind = bytes_of n (number / 256) ++ rest in
+    let after = bytes_of n (number / 256) ++ rest in
     let below : number / 256 < 256 ^ n = omega (arith, pow-suc 256 n) in
-    let moved : (front ++ x ∷ []) ++ behind ≡ front ++ x ∷ behind = append_assoc front (x ∷ []) behind in
+    let moved : (front ++ x ∷ []) ++ after ≡ front ++ x ∷ after = append_assoc front (x ∷ []) after in
     let count : length (front ++ x ∷ []) ≡ suc p = omega (arith, length-append front (x ∷ [])) in
-    let others : le ((front ++ x ∷ []) ++ behind) (suc p) n ≡ number / 256 = le-behind n (number / 256) (front ++ x ∷ []) rest (suc p) count below in
-    let same : le (front ++ x ∷ behind) (suc p) n ≡ number / 256 = rw moved at others in
-    let first : slice_index (front ++ x ∷ behind) p ≡ x = byte_behind front x behind p e in
-    omega (arith, le-cons (front ++ x ∷ behind) p n, same, first)
+    let others : le ((front ++ x ∷ []) ++ after) (suc p) n ≡ number / 256 = le-after n (number / 256) (front ++ x ∷ []) rest (suc p) count below in
+    let same : le (front ++ x ∷ after) (suc p) n ≡ number / 256 = rw moved at others in
+    let first : slice_index (front ++ x ∷ after) p ≡ x = byte_after front x after p e in
+    omega (arith, le-cons (front ++ x ∷ after) p n, same, first)
 
 pub le-put : (b : List ℕ) (p n number : ℕ) → p + n ≤ length b → number < 256 ^ n → le (put b p (bytes_of n number)) p n ≡ number
 unfolding splice
 le-put b p n number h small =
     let fits : holds b p (length (bytes_of n number)) ≡ true = rw (length-bytes_of n number) (grind (arith, nat_tests)) in
     let front : length (take p b) ≡ p = length-take-le p b (omega arith) in
-    rw fits (le-behind n number (take p b) (drop (p + length (bytes_of n number)) b) p front small)
+    rw fits (le-after n number (take p b) (drop (p + length (bytes_of n number)) b) p front small)
 
 pub ruleset numbers = (le-put)

@@ -6,14 +6,14 @@ use Rattle.std.proofs.lemmas.Bool.Decides.{nat_tests}
 use Rattle.std.proofs.lemmas.Grind.{flat_map-append}
 use Rattle.std.proofs.lemmas.List.{append-nil, places}
 use Rattle.pe_core.proofs.NumberBytes.{range_join}
-use Rattle.pe_core.proofs.SpelledRecords.{spelled_standard32, spelled_standard64, spelled_windows32, spelled_windows64, spelled_directory}
+use Rattle.pe_core.proofs.SpelledRecords.{spelled_standard_fields_32, spelled_standard_fields_64, spelled_windows_fields_32, spelled_windows_fields_64, spelled_directory}
 use Rattle.pe_core.specs.Bytes.{AreBytes, le, holds, range}
 use Rattle.pe_core.specs.Directories.{kept}
-use Rattle.pe_core.specs.Header.{OptionalHeaderView, is_wide, directories_place, optional_header, optional_header_tests, optional_header_at}
-use Rattle.pe_core.specs.Records.{standard32, standard64, windows32, windows64, data_directory}
+use Rattle.pe_core.specs.Header.{OptionalHeaderView, is_pe32_plus, directories_offset, optional_header, optional_header_tests, optional_header_at}
+use Rattle.pe_core.specs.Records.{standard_fields_32, standard_fields_64, windows_fields_32, windows_fields_64, data_directory}
 use Rattle.pe_core.specs.Refusals.{Refusal, Short, BadMagic, outcome}
 use Rattle.pe_core.specs.Rows.{each}
-use Rattle.pe_core.specs.Spelling.{spell_standard32, spell_standard64, spell_windows32, spell_windows64, spell_directory, spell_optional}
+use Rattle.pe_core.specs.Spelling.{spell_standard_fields_32, spell_standard_fields_64, spell_windows_fields_32, spell_windows_fields_64, spell_directory, spell_optional}
 
 -- what is accepted passed its last test
 passed_last : {Y : Type 0} (s t u w : Bool) (i j k l : Refusal) (v o : Y) → outcome ((s, i) ∷ (t, j) ∷ (u, k) ∷ (w, l) ∷ []) v ≡ Ok o → (w ≡ true) × (v ≡ o)
@@ -36,57 +36,57 @@ spelled_rows b p (suc n) small h =
     (range_join b p (p + 8 * n) (p + 8 * n + 8) (omega arith) (omega arith) (omega arith))
 
 -- the fields by width, and n directories behind them
-spelled_wide : (b : List ℕ) (p n : ℕ) → AreBytes b → p + 112 + 8 * n ≤ length b →
-    (spell_standard64 (standard64 b p) ++ spell_windows64 (windows64 b (p + 24))) ++ flat_map spell_directory (each (λ i. data_directory b (p + 112 + 8 * i)) n) ≡ slice_range b p (p + 112 + 8 * n)
-spelled_wide b p n small h =
-    let place : p + 24 + 88 ≡ p + 112 = omega arith in
-    rw (spelled_standard64 b p small (omega arith), spelled_windows64 b (p + 24) small (omega arith), place, range_join b p (p + 24) (p + 112) (omega arith) (omega arith) (omega arith), spelled_rows b (p + 112) n small h)
+spelled_pe32_plus : (b : List ℕ) (p n : ℕ) → AreBytes b → p + 112 + 8 * n ≤ length b →
+    (spell_standard_fields_64 (standard_fields_64 b p) ++ spell_windows_fields_64 (windows_fields_64 b (p + 24))) ++ flat_map spell_directory (each (λ i. data_directory b (p + 112 + 8 * i)) n) ≡ slice_range b p (p + 112 + 8 * n)
+spelled_pe32_plus b p n small h =
+    let offset : p + 24 + 88 ≡ p + 112 = omega arith in
+    rw (spelled_standard_fields_64 b p small (omega arith), spelled_windows_fields_64 b (p + 24) small (omega arith), offset, range_join b p (p + 24) (p + 112) (omega arith) (omega arith) (omega arith), spelled_rows b (p + 112) n small h)
     (range_join b p (p + 112) (p + 112 + 8 * n) (omega arith) (omega arith) h)
 
-spelled_narrow : (b : List ℕ) (p n : ℕ) → AreBytes b → p + 96 + 8 * n ≤ length b →
-    (spell_standard32 (standard32 b p) ++ spell_windows32 (windows32 b (p + 28))) ++ flat_map spell_directory (each (λ i. data_directory b (p + 96 + 8 * i)) n) ≡ slice_range b p (p + 96 + 8 * n)
-spelled_narrow b p n small h =
-    let place : p + 28 + 68 ≡ p + 96 = omega arith in
-    rw (spelled_standard32 b p small (omega arith), spelled_windows32 b (p + 28) small (omega arith), place, range_join b p (p + 28) (p + 96) (omega arith) (omega arith) (omega arith), spelled_rows b (p + 96) n small h)
+spelled_pe32 : (b : List ℕ) (p n : ℕ) → AreBytes b → p + 96 + 8 * n ≤ length b →
+    (spell_standard_fields_32 (standard_fields_32 b p) ++ spell_windows_fields_32 (windows_fields_32 b (p + 28))) ++ flat_map spell_directory (each (λ i. data_directory b (p + 96 + 8 * i)) n) ≡ slice_range b p (p + 96 + 8 * n)
+spelled_pe32 b p n small h =
+    let offset : p + 28 + 68 ≡ p + 96 = omega arith in
+    rw (spelled_standard_fields_32 b p small (omega arith), spelled_windows_fields_32 b (p + 28) small (omega arith), offset, range_join b p (p + 28) (p + 96) (omega arith) (omega arith) (omega arith), spelled_rows b (p + 96) n small h)
     (range_join b p (p + 96) (p + 96 + 8 * n) (omega arith) (omega arith) h)
 
-magic64 : (b : List ℕ) (p : ℕ) → (standard64 b p).magic ≡ le b p 2
-unfolding standard64
+magic64 : (b : List ℕ) (p : ℕ) → (standard_fields_64 b p).magic ≡ le b p 2
+unfolding standard_fields_64
 magic64 b p = refl
 
-magic32 : (b : List ℕ) (p : ℕ) → (standard32 b p).magic ≡ le b p 2
-unfolding standard32
+magic32 : (b : List ℕ) (p : ℕ) → (standard_fields_32 b p).magic ≡ le b p 2
+unfolding standard_fields_32
 magic32 b p = refl
 
 -- the whole of it, by width
-by_width : (w : Bool) (b : List ℕ) (p : ℕ) → AreBytes b → is_wide b p ≡ w →
-    p + directories_place (is_wide b p) + 8 * kept (optional_header b p).windows_fields.number_of_rva_and_sizes ≤ length b →
-    spell_optional (optional_header b p) ≡ slice_range b p (p + directories_place (is_wide b p) + 8 * kept (optional_header b p).windows_fields.number_of_rva_and_sizes)
+by_width : (w : Bool) (b : List ℕ) (p : ℕ) → AreBytes b → is_pe32_plus b p ≡ w →
+    p + directories_offset (is_pe32_plus b p) + 8 * kept (optional_header b p).windows_fields.number_of_rva_and_sizes ≤ length b →
+    spell_optional (optional_header b p) ≡ slice_range b p (p + directories_offset (is_pe32_plus b p) + 8 * kept (optional_header b p).windows_fields.number_of_rva_and_sizes)
 unfolding spell_optional optional_header
 by_width true b p small e h =
-    let n = kept (windows64 b (p + 24)).number_of_rva_and_sizes in
+    let n = kept (windows_fields_64 b (p + 24)).number_of_rva_and_sizes in
     let inside : p + 112 + 8 * n ≤ length b = rw e at h in
-    simp (e, magic64 b p) (spelled_wide b p n small inside)
+    simp (e, magic64 b p) (spelled_pe32_plus b p n small inside)
 by_width false b p small e h =
-    let n = kept (windows32 b (p + 28)).number_of_rva_and_sizes in
+    let n = kept (windows_fields_32 b (p + 28)).number_of_rva_and_sizes in
     let inside : p + 96 + 8 * n ≤ length b = rw e at h in
-    simp (e, magic32 b p) (spelled_narrow b p n small inside)
+    simp (e, magic32 b p) (spelled_pe32 b p n small inside)
 
 held : (b : List ℕ) (p n : ℕ) → holds b p n ≡ true → p + n ≤ length b
 held b p n e = grind (arith, nat_tests)
 
 -- how long the optional header is that begins at p
 abbrev length_of : List ℕ → ℕ → ℕ
-length_of b p = directories_place (is_wide b p) + 8 * kept (optional_header b p).windows_fields.number_of_rva_and_sizes
+length_of b p = directories_offset (is_pe32_plus b p) + 8 * kept (optional_header b p).windows_fields.number_of_rva_and_sizes
 
 -- one that is accepted is the one at the place, and all of it is there
 accepted : (b : List ℕ) (p : ℕ) (o : OptionalHeaderView) → optional_header_at b p ≡ Ok o → (p + length_of b p ≤ length b) × (optional_header b p ≡ o)
 unfolding optional_header_tests
 accepted b p o e =
-    let last = passed_last (holds b p 2) (le b p 2 == 0x10B || is_wide b p) (holds b p (directories_place (is_wide b p)))
-    (holds b (p + directories_place (is_wide b p)) (8 * kept (optional_header b p).windows_fields.number_of_rva_and_sizes))
+    let last = passed_last (holds b p 2) (le b p 2 == 0x10B || is_pe32_plus b p) (holds b p (directories_offset (is_pe32_plus b p)))
+    (holds b (p + directories_offset (is_pe32_plus b p)) (8 * kept (optional_header b p).windows_fields.number_of_rva_and_sizes))
     Short BadMagic Short Short (optional_header b p) o e in
-    let inside = held b (p + directories_place (is_wide b p)) (8 * kept (optional_header b p).windows_fields.number_of_rva_and_sizes) last.0 in
+    let inside = held b (p + directories_offset (is_pe32_plus b p)) (8 * kept (optional_header b p).windows_fields.number_of_rva_and_sizes) last.0 in
     (omega (arith, inside), last.1)
 
 length-range : (b : List ℕ) (p n : ℕ) → p + n ≤ length b → length (slice_range b p (p + n)) ≡ n
@@ -97,9 +97,9 @@ pub spelled_optional : (b : List ℕ) (p : ℕ) (o : OptionalHeaderView) → Are
 spelled_optional b p o small e =
     let found = accepted b p o e in
     let n = 8 * kept (optional_header b p).windows_fields.number_of_rva_and_sizes in
-    let end : p + directories_place (is_wide b p) + n ≡ p + length_of b p = omega arith in
-    let inside : p + directories_place (is_wide b p) + n ≤ length b = omega (arith, found.0) in
-    let spelled : spell_optional (optional_header b p) ≡ slice_range b p (p + directories_place (is_wide b p) + n) = by_width (is_wide b p) b p small refl inside in
+    let end : p + directories_offset (is_pe32_plus b p) + n ≡ p + length_of b p = omega arith in
+    let inside : p + directories_offset (is_pe32_plus b p) + n ≤ length b = omega (arith, found.0) in
+    let spelled : spell_optional (optional_header b p) ≡ slice_range b p (p + directories_offset (is_pe32_plus b p) + n) = by_width (is_pe32_plus b p) b p small refl inside in
     let same : spell_optional o ≡ slice_range b p (p + length_of b p) = sym (ap spell_optional found.1) ∙ (rw end at spelled) in
     let count : length (spell_optional o) ≡ length_of b p = ap length same ∙ length-range b p (length_of b p) found.0 in
     rw count (sym same)

@@ -3,8 +3,8 @@ use Rattle.std.proofs.Common.{◌≡◌, ℕ, ◌+◌, ◌≤◌, List, [], ◌�
 use Rattle.std.specs.Prelude.{slice_range}
 use Rattle.pe_core.proofs.NumberBytes.{bytes_of-le, range_join}
 use Rattle.pe_core.specs.Bytes.{AreBytes, le, bytes_of, range}
-use Rattle.pe_core.specs.Records.{dos_header, coff_header, standard32, standard64, windows32, windows64, data_directory, section_table, te_header}
-use Rattle.pe_core.specs.Spelling.{spell_dos, spell_coff, spell_standard32, spell_standard64, spell_windows32, spell_windows64, spell_directory, spell_section, spell_te}
+use Rattle.pe_core.specs.Records.{dos_header, coff_header, standard_fields_32, standard_fields_64, windows_fields_32, windows_fields_64, data_directory, section_table, te_header}
+use Rattle.pe_core.specs.Spelling.{spell_dos, spell_coff, spell_standard_fields_32, spell_standard_fields_64, spell_windows_fields_32, spell_windows_fields_64, spell_directory, spell_section, spell_te}
 
 -- the sum of the widths
 abbrev total : List ℕ → ℕ
@@ -20,17 +20,17 @@ laid_is : (done b : List ℕ) (p k : ℕ) (ws : List ℕ) → AreBytes b → don
 laid_is done b p k [] small e h = let all : k + 0 ≡ k = omega arith in rw all e
 laid_is done b p k (w ∷ ws) small e h =
     let number : bytes_of w (le b (p + k) w) ≡ slice_range b (p + k) (p + k + w) = bytes_of-le b (p + k) w small (omega arith) in
-    let place : p + k + w ≡ p + (k + w) = omega arith in
+    let offset : p + k + w ≡ p + (k + w) = omega arith in
     let widths : k + (w + total ws) ≡ (k + w) + total ws = omega arith in
-    let more : done ++ bytes_of w (le b (p + k) w) ≡ slice_range b p (p + (k + w)) = rw (e, number, place) (range_join b p (p + k) (p + (k + w)) (omega arith) (omega arith) (omega arith)) in
+    let more : done ++ bytes_of w (le b (p + k) w) ≡ slice_range b p (p + (k + w)) = rw (e, number, offset) (range_join b p (p + k) (p + (k + w)) (omega arith) (omega arith) (omega arith)) in
     rw widths (laid_is (done ++ bytes_of w (le b (p + k) w)) b p (k + w) ws small more (omega arith))
 
 pub spelled_dos : (b : List ℕ) (p : ℕ) → AreBytes b → p + 64 ≤ length b → spell_dos (dos_header b p) ≡ range b p 64
 unfolding spell_dos dos_header
 spelled_dos b p small h =
-    let place : p + 2 + 58 ≡ p + 60 = omega arith in
+    let offset : p + 2 + 58 ≡ p + 60 = omega arith in
     let front : bytes_of 2 (le b p 2) ++ slice_range b (p + 2) (p + 2 + 58) ≡ slice_range b p (p + 60) =
-    rw (bytes_of-le b p 2 small (omega arith), place) (range_join b p (p + 2) (p + 60) (omega arith) (omega arith) (omega arith)) in
+    rw (bytes_of-le b p 2 small (omega arith), offset) (range_join b p (p + 2) (p + 60) (omega arith) (omega arith) (omega arith)) in
     laid_is (bytes_of 2 (le b p 2) ++ range b (p + 2) 58) b p 60 (4 ∷ []) small front h
 
 pub spelled_coff : (b : List ℕ) (p : ℕ) → AreBytes b → p + 20 ≤ length b → spell_coff (coff_header b p) ≡ range b p 20
@@ -38,24 +38,24 @@ unfolding spell_coff coff_header
 spelled_coff b p small h =
     laid_is (bytes_of 2 (le b p 2)) b p 2 (2 ∷ 4 ∷ 4 ∷ 4 ∷ 2 ∷ 2 ∷ []) small (bytes_of-le b p 2 small (omega arith)) h
 
-pub spelled_standard32 : (b : List ℕ) (p : ℕ) → AreBytes b → p + 28 ≤ length b → spell_standard32 (standard32 b p) ≡ range b p 28
-unfolding spell_standard32 standard32
-spelled_standard32 b p small h =
+pub spelled_standard_fields_32 : (b : List ℕ) (p : ℕ) → AreBytes b → p + 28 ≤ length b → spell_standard_fields_32 (standard_fields_32 b p) ≡ range b p 28
+unfolding spell_standard_fields_32 standard_fields_32
+spelled_standard_fields_32 b p small h =
     laid_is (bytes_of 2 (le b p 2)) b p 2 (1 ∷ 1 ∷ 4 ∷ 4 ∷ 4 ∷ 4 ∷ 4 ∷ 4 ∷ []) small (bytes_of-le b p 2 small (omega arith)) h
 
-pub spelled_standard64 : (b : List ℕ) (p : ℕ) → AreBytes b → p + 24 ≤ length b → spell_standard64 (standard64 b p) ≡ range b p 24
-unfolding spell_standard64 standard64
-spelled_standard64 b p small h =
+pub spelled_standard_fields_64 : (b : List ℕ) (p : ℕ) → AreBytes b → p + 24 ≤ length b → spell_standard_fields_64 (standard_fields_64 b p) ≡ range b p 24
+unfolding spell_standard_fields_64 standard_fields_64
+spelled_standard_fields_64 b p small h =
     laid_is (bytes_of 2 (le b p 2)) b p 2 (1 ∷ 1 ∷ 4 ∷ 4 ∷ 4 ∷ 4 ∷ 4 ∷ []) small (bytes_of-le b p 2 small (omega arith)) h
 
-pub spelled_windows32 : (b : List ℕ) (p : ℕ) → AreBytes b → p + 68 ≤ length b → spell_windows32 (windows32 b p) ≡ range b p 68
-unfolding spell_windows32 windows32
-spelled_windows32 b p small h =
+pub spelled_windows_fields_32 : (b : List ℕ) (p : ℕ) → AreBytes b → p + 68 ≤ length b → spell_windows_fields_32 (windows_fields_32 b p) ≡ range b p 68
+unfolding spell_windows_fields_32 windows_fields_32
+spelled_windows_fields_32 b p small h =
     laid_is (bytes_of 4 (le b p 4)) b p 4 (4 ∷ 4 ∷ 2 ∷ 2 ∷ 2 ∷ 2 ∷ 2 ∷ 2 ∷ 4 ∷ 4 ∷ 4 ∷ 4 ∷ 2 ∷ 2 ∷ 4 ∷ 4 ∷ 4 ∷ 4 ∷ 4 ∷ 4 ∷ []) small (bytes_of-le b p 4 small (omega arith)) h
 
-pub spelled_windows64 : (b : List ℕ) (p : ℕ) → AreBytes b → p + 88 ≤ length b → spell_windows64 (windows64 b p) ≡ range b p 88
-unfolding spell_windows64 windows64
-spelled_windows64 b p small h =
+pub spelled_windows_fields_64 : (b : List ℕ) (p : ℕ) → AreBytes b → p + 88 ≤ length b → spell_windows_fields_64 (windows_fields_64 b p) ≡ range b p 88
+unfolding spell_windows_fields_64 windows_fields_64
+spelled_windows_fields_64 b p small h =
     laid_is (bytes_of 8 (le b p 8)) b p 8 (4 ∷ 4 ∷ 2 ∷ 2 ∷ 2 ∷ 2 ∷ 2 ∷ 2 ∷ 4 ∷ 4 ∷ 4 ∷ 4 ∷ 2 ∷ 2 ∷ 8 ∷ 8 ∷ 8 ∷ 8 ∷ 4 ∷ 4 ∷ []) small (bytes_of-le b p 8 small (omega arith)) h
 
 pub spelled_directory : (b : List ℕ) (p : ℕ) → AreBytes b → p + 8 ≤ length b → spell_directory (data_directory b p) ≡ range b p 8
@@ -72,7 +72,7 @@ pub spelled_te : (b : List ℕ) (p : ℕ) → AreBytes b → p + 40 ≤ length b
 unfolding spell_te te_header
 spelled_te b p small h =
     let front = laid_is (bytes_of 2 (le b p 2)) b p 2 (2 ∷ 1 ∷ 1 ∷ 2 ∷ 4 ∷ 4 ∷ 8 ∷ []) small (bytes_of-le b p 2 small (omega arith)) (omega arith) in
-    let place : p + 24 + 8 ≡ p + 32 = omega arith in
+    let offset : p + 24 + 8 ≡ p + 32 = omega arith in
     let last : p + 32 + 8 ≡ p + 40 = omega arith in
-    rw (front, spelled_directory b (p + 24) small (omega arith), spelled_directory b (p + 32) small (omega arith), place, last, range_join b p (p + 24) (p + 32) (omega arith) (omega arith) (omega arith))
+    rw (front, spelled_directory b (p + 24) small (omega arith), spelled_directory b (p + 32) small (omega arith), offset, last, range_join b p (p + 24) (p + 32) (omega arith) (omega arith) (omega arith))
     (range_join b p (p + 32) (p + 40) (omega arith) (omega arith) (omega arith))

@@ -1,13 +1,13 @@
 -- The symbols of a table one after the other stand in the rows of the definition.
 use Rattle.std.proofs.Common.{◌≡◌, ℕ, suc, ◌+◌, ◌≤◌, List, [], ◌∷◌, length, map, refl, ap, sym, ◌∙◌, subst, arith}
 use Rattle.std.specs.List.{range_with_len}
-use Rattle.pe_core.specs.Symbols.{SymbolItem, AreSymbols, item_in, row_of, row_behind, row_count}
+use Rattle.pe_core.specs.Symbols.{SymbolItem, AreSymbols, item_in, row_of, row_after, row_count}
 
 -- symbol k and those behind it
 abbrev items_from : List ℕ → ℕ → ℕ → List SymbolItem
 items_from b k n = map (λ i. item_in b (row_of b i)) (range_with_len k n)
 
-row_of-next : (b : List ℕ) (k : ℕ) → row_of b (k + 1) ≡ row_behind b (row_of b k)
+row_of-next : (b : List ℕ) (k : ℕ) → row_of b (k + 1) ≡ row_after b (row_of b k)
 unfolding row_of
 row_of-next b k =
     let next : k + 1 ≡ suc k = omega arith in

@@ -39,25 +39,25 @@ none_of_none f = refl
 -- ---- entries
 
 -- a number behind the k bytes that are dropped
-pub le_behind : (b : List ℕ) (k p q n : ℕ) → q ≡ k + p → le (drop k b) p n ≡ le b q n
+pub le_after : (b : List ℕ) (k p q n : ℕ) → q ≡ k + p → le (drop k b) p n ≡ le b q n
 unfolding le
-le_behind b k p q zero e = refl
-le_behind b k p q (suc n) e =
+le_after b k p q zero e = refl
+le_after b k p q (suc n) e =
     let here : get_or (drop k b) (p + n) 0 ≡ get_or b (q + n) 0 = get_or-drop k b (p + n) 0 ∙ ap (λ (i : ℕ). get_or b i 0) (omega arith) in
-    ap (λ (x : ℕ). x + get_or (drop k b) (p + n) 0 * 256 ^ n) (le_behind b k p q n e) ∙ ap (λ (x : ℕ). le b q n + x * 256 ^ n) here
+    ap (λ (x : ℕ). x + get_or (drop k b) (p + n) 0 * 256 ^ n) (le_after b k p q n e) ∙ ap (λ (x : ℕ). le b q n + x * 256 ^ n) here
 
 -- an entry behind the bytes that are dropped is the entry at its place in all of them
-abbrev pub ReadsBehind : {X : Type 0} → (List ℕ → ℕ → X) → ℕ → Type 0
-ReadsBehind entry_at w = (b : List ℕ) (p q : ℕ) → q ≡ w + p → entry_at (drop w b) p ≡ entry_at b q
+abbrev pub ReadsAfter : {X : Type 0} → (List ℕ → ℕ → X) → ℕ → Type 0
+ReadsAfter entry_at w = (b : List ℕ) (p q : ℕ) → q ≡ w + p → entry_at (drop w b) p ≡ entry_at b q
 
 -- one whole entry and those behind it
-pub whole_entries-more : {X : Type 0} (entry_at : List ℕ → ℕ → X) (w : ℕ) (b : List ℕ) → ReadsBehind entry_at w → 0 < w → w ≤ length b → whole_entries entry_at w b ≡ entry_at b 0 ∷ whole_entries entry_at w (drop w b)
-whole_entries-more {X} entry_at w b behind some h =
+pub whole_entries-more : {X : Type 0} (entry_at : List ℕ → ℕ → X) (w : ℕ) (b : List ℕ) → ReadsAfter entry_at w → 0 < w → w ≤ length b → whole_entries entry_at w b ≡ entry_at b 0 ∷ whole_entries entry_at w (drop w b)
+whole_entries-more {X} entry_at w b after some h =
     let fewer : length b / w ≡ (length b - w) / w + 1 = div-eq-sub-div some h in
     let n : length b / w ≡ suc (length (drop w b) / w) = rw (length-drop w b) (omega (arith, fewer)) in
     let first : w * 0 ≡ 0 = omega arith in
     ap (λ (k : ℕ). each (λ i. entry_at b (w * i)) k) n
-    ∙ each_front (λ i. entry_at b (w * i)) (λ i. entry_at (drop w b) (w * i)) (length (drop w b) / w) (λ i. sym (behind b (w * i) (w * suc i) (grind arith)))
+    ∙ each_front (λ i. entry_at b (w * i)) (λ i. entry_at (drop w b) (w * i)) (length (drop w b) / w) (λ i. sym (after b (w * i) (w * suc i) (grind arith)))
     ∙ ap (λ (p : ℕ). entry_at b p ∷ whole_entries entry_at w (drop w b)) first
 
 -- fewer bytes than one entry has
@@ -72,10 +72,10 @@ pub get_or-whole_entries : {X : Type 0} (entry_at : List ℕ → ℕ → X) (w :
 get_or-whole_entries entry_at w b i d h = get_or-each (λ j. entry_at b (w * j)) (length b / w) i d h
 
 -- one item and those behind it
-pub entry_items-more : {X : Type 0} (entry_at : List ℕ → ℕ → X) (w : ℕ) (b : List ℕ) → ReadsBehind entry_at w → 0 < w → w ≤ length b → entry_items entry_at w b ≡ Ok (entry_at b 0) ∷ entry_items entry_at w (drop w b)
-entry_items-more {X} entry_at w b behind some h =
+pub entry_items-more : {X : Type 0} (entry_at : List ℕ → ℕ → X) (w : ℕ) (b : List ℕ) → ReadsAfter entry_at w → 0 < w → w ≤ length b → entry_items entry_at w b ≡ Ok (entry_at b 0) ∷ entry_items entry_at w (drop w b)
+entry_items-more {X} entry_at w b after some h =
     let rest : length b % w ≡ length (drop w b) % w = rw (length-drop w b) (mod-eq-sub-mod h) in
-    ap (λ (xs : List X). map (λ x. Ok x) xs ++ (if length b % w == 0 then [] else Err Short ∷ [])) (whole_entries-more entry_at w b behind some h)
+    ap (λ (xs : List X). map (λ x. Ok x) xs ++ (if length b % w == 0 then [] else Err Short ∷ [])) (whole_entries-more entry_at w b after some h)
     ∙ ap (λ (k : ℕ). Ok (entry_at b 0) ∷ (map (λ x. Ok x) (whole_entries entry_at w (drop w b)) ++ (if k == 0 then [] else Err Short ∷ []))) rest
 
 -- a cut entry and nothing behind it

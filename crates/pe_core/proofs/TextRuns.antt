@@ -41,10 +41,10 @@ end_of_last bs text d n last e =
     ]
 
 -- the bytes from a place on, as an end of those from the start on
-from_start : (bs : List ℕ) (start place : ℕ) → start ≤ place → drop (place - start) (drop start bs) ≡ drop place bs
-from_start bs start place le =
-    let is : start + (place - start) ≡ place = omega arith in
-    drop-drop (place - start) start bs ∙ ap (λ i. drop i bs) is
+from_start : (bs : List ℕ) (start offset : ℕ) → start ≤ offset → drop (offset - start) (drop start bs) ≡ drop offset bs
+from_start bs start offset le =
+    let is : start + (offset - start) ≡ offset = omega arith in
+    drop-drop (offset - start) start bs ∙ ap (λ i. drop i bs) is
 
 text_in_front : (bs text : List ℕ) (n d : ℕ) → position (λ c. c == 0) bs ≡ Some n → IsLastText (take n bs) text → d ≤ n → text_to_zero (drop d bs) ≡ last_of (Some text) (n - d)
 text_in_front bs text n d e last le =
@@ -58,11 +58,11 @@ text_in_front bs text n d e last le =
 
 -- where a zero follows
 pub zero_follows : (bs text : List ℕ) (start n : ℕ) → position (λ c. c == 0) (drop start bs) ≡ Some n → IsLastText (take n (drop start bs)) text
-    → (place : ℕ) → start ≤ place → place ≤ start + n → text_at bs place ≡ last_of (Some text) (start + n - place)
-zero_follows bs text start n e last place low high =
-    let d : ℕ = place - start in
-    let left : n - d ≡ start + n - place = omega arith in
-    ap text_to_zero (sym (from_start bs start place low))
+    → (offset : ℕ) → start ≤ offset → offset ≤ start + n → text_at bs offset ≡ last_of (Some text) (start + n - offset)
+zero_follows bs text start n e last offset low high =
+    let d : ℕ = offset - start in
+    let left : n - d ≡ start + n - offset = omega arith in
+    ap text_to_zero (sym (from_start bs start offset low))
     ∙ text_in_front (drop start bs) text n d e last (omega arith)
     ∙ ap (last_of (Some text)) left
 
@@ -72,10 +72,10 @@ nothing_last n = refl
 
 -- where none follows
 pub no_zero_follows : (bs : List ℕ) (start n : ℕ) → position (λ c. c == 0) (drop start bs) ≡ None
-    → (place : ℕ) → start ≤ place → text_at bs place ≡ last_of None n
-no_zero_follows bs start n e place low =
-    ap text_to_zero (sym (from_start bs start place low))
-    ∙ zero_missing (drop (place - start) (drop start bs)) (position-drop-none (λ c. c == 0) (drop start bs) (place - start) e)
+    → (offset : ℕ) → start ≤ offset → text_at bs offset ≡ last_of None n
+no_zero_follows bs start n e offset low =
+    ap text_to_zero (sym (from_start bs start offset low))
+    ∙ zero_missing (drop (offset - start) (drop start bs)) (position-drop-none (λ c. c == 0) (drop start bs) (offset - start) e)
     ∙ sym (nothing_last n)
 
 -- what is known of a front, and the rest

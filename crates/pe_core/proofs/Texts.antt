@@ -27,11 +27,11 @@ before_first-missing p xs e = missing (position_or_len p xs) xs e
 
 pub ruleset before_zero = (before_first-found, before_first-missing)
 
-pub rest_is : (bs : List ℕ) (place : ℕ) → take (length bs - place) (drop place bs) ≡ drop place bs
-rest_is bs place = take_rest bs place
+pub rest_is : (bs : List ℕ) (offset : ℕ) → take (length bs - offset) (drop offset bs) ≡ drop offset bs
+rest_is bs offset = take_rest bs offset
 
-pub no_rest : (bs : List ℕ) (place : ℕ) → length bs < place → [] ≡ drop place bs
-no_rest bs place lt = sym (drop_all place bs (omega arith))
+pub no_rest : (bs : List ℕ) (offset : ℕ) → length bs < offset → [] ≡ drop offset bs
+no_rest bs offset lt = sym (drop_all offset bs (omega arith))
 
 pub ruleset rests = (rest_is, no_rest)
 

@@ -6,5 +6,5 @@ use Rattle.pe_core.specs.Exports.{ExportDataView, ExportView, named_export}
 
 -- the exports of these names; the first name is that of entry i of the name table
 abbrev pub exports_from : (ℕ → Option ℕ) → ExportDataView → ℕ → List (Option (List ℕ)) → List ExportView
-exports_from place d i [] = []
-exports_from place d i (name ∷ names) = cons_option (option_and_then (named_export place d i) name) (exports_from place d (i + 1) names)
+exports_from offset d i [] = []
+exports_from offset d i (name ∷ names) = cons_option (option_and_then (named_export offset d i) name) (exports_from offset d (i + 1) names)

@@ -34,46 +34,46 @@ pub record ExportView : Type 0 where
 abbrev pub export_view : Export → ExportView
 export_view e = record { name = e.name.now; rva = e.rva; offset = e.offset }
 
--- ---- the directory; `place` maps an RVA to its file offset
+-- ---- the directory; `offset` maps an RVA to its file offset
 
 -- the text at an RVA, if the RVA is mapped and a text is there
 abbrev pub text_at_address : (ℕ → Option ℕ) → List ℕ → ℕ → Option (List ℕ)
-text_at_address place b rva = option_and_then (text_at b) (place rva)
+text_at_address offset b rva = option_and_then (text_at b) (offset rva)
 
 -- the name of the image; an image with the RVA 0 for it has none
 abbrev pub image_name : (ℕ → Option ℕ) → List ℕ → ℕ → Option (List ℕ)
-image_name place b rva = if rva == 0 then None else text_at_address place b rva
+image_name offset b rva = if rva == 0 then None else text_at_address offset b rva
 
 -- a table of n bytes at an RVA; a table of no bytes is empty, whatever its RVA
 abbrev pub table_at : (ℕ → Option ℕ) → List ℕ → ℕ → ℕ → Result (List ℕ) Refusal
-table_at place b rva n = if n == 0 then Ok [] else (mapped (place rva) >>= λ p. record_at b p n (range b p n))
+table_at offset b rva n = if n == 0 then Ok [] else (mapped (offset rva) >>= λ p. record_at b p n (range b p n))
 
 -- the export directory at an RVA: its 40 bytes, then its three tables
 unfoldable pub export_data_at : (ℕ → Option ℕ) → List ℕ → ℕ → Result ExportDataView Refusal
-export_data_at place b rva = do
-  p ← mapped (place rva)
+export_data_at offset b rva = do
+  p ← mapped (offset rva)
   directory ← record_at b p 40 (export_directory b p)
-  addresses ← table_at place b directory.address_table_rva (4 * directory.address_table_entries)
-  names ← table_at place b directory.name_pointer_rva (4 * directory.number_of_name_pointers)
-  ordinals ← table_at place b directory.ordinal_table_rva (2 * directory.number_of_name_pointers)
-  Ok (record { directory = directory; name = image_name place b directory.name_rva; addresses = addresses; names = names; ordinals = ordinals })
+  addresses ← table_at offset b directory.address_table_rva (4 * directory.address_table_entries)
+  names ← table_at offset b directory.name_pointer_rva (4 * directory.number_of_name_pointers)
+  ordinals ← table_at offset b directory.ordinal_table_rva (2 * directory.number_of_name_pointers)
+  Ok (record { directory = directory; name = image_name offset b directory.name_rva; addresses = addresses; names = names; ordinals = ordinals })
 
 -- ---- the list
 
 -- entry i of a table with entries of n bytes, if it is there
-abbrev pub entry_of : ℕ → List ℕ → ℕ → Option ℕ
-entry_of n table i = if holds table (n * i) n then Some (le table (n * i) n) else None
+abbrev pub table_entry : ℕ → List ℕ → ℕ → Option ℕ
+table_entry n table i = if holds table (n * i) n then Some (le table (n * i) n) else None
 
 -- the export of a name with index i in the name table: its index in the address table, then the RVA there, if both are
 -- there
 abbrev pub named_export : (ℕ → Option ℕ) → ExportDataView → ℕ → List ℕ → Option ExportView
-named_export place d i name =
-    option_map (λ rva. record { name = name; rva = rva; offset = place rva }) (option_and_then (entry_of 4 d.addresses) (entry_of 2 d.ordinals i))
+named_export offset d i name =
+    option_map (λ rva. record { name = name; rva = rva; offset = offset rva }) (option_and_then (table_entry 4 d.addresses) (table_entry 2 d.ordinals i))
 
 -- the export of entry i of the name table, if its name is there too
 abbrev pub export_at : (ℕ → Option ℕ) → List ℕ → ExportDataView → ℕ → Option ExportView
-export_at place b d i = option_and_then (named_export place d i) (text_at_address place b (le d.names (4 * i) 4))
+export_at offset b d i = option_and_then (named_export offset d i) (text_at_address offset b (le d.names (4 * i) 4))
 
 -- the exports of the entries of the name table, in order, without the entries that have none
 unfoldable pub exports : (ℕ → Option ℕ) → List ℕ → ExportDataView → List ExportView
-exports place b d = filter_map (λ e. e) (each (export_at place b d) (length d.names / 4))
+exports offset b d = filter_map (λ e. e) (each (export_at offset b d) (length d.names / 4))

@@ -6,7 +6,7 @@ use Rattle.pe_core.specs.Bytes.{le, holds}
 use Rattle.pe_core.specs.Directories.{kept, kept_rows, directories}
 use Rattle.pe_core.specs.Options.{is_permissive}
 use Rattle.pe_core.specs.Refusals.{Refusal, Short, BadMagic, HeaderPointer, outcome}
-use Rattle.pe_core.specs.Records.{dos_header, coff_header, standard32, standard64, windows32, windows64}
+use Rattle.pe_core.specs.Records.{dos_header, coff_header, standard_fields_32, standard_fields_64, windows_fields_32, windows_fields_64}
 use Rattle.pe_core.specs.declared.data_directories.DataDirectory.{DataDirectory}
 use Rattle.pe_core.specs.declared.header.DosHeader.{DosHeader}
 use Rattle.pe_core.specs.declared.header.CoffHeader.{CoffHeader}
@@ -46,30 +46,30 @@ header_view h = record { dos_header = h.dos_header; dos_stub = h.dos_stub.now; s
 -- ---- the optional header at offset p
 
 -- its magic number is that of PE32+
-abbrev pub is_wide : List ℕ → ℕ → Bool
-is_wide b p = le b p 2 == 0x20B
+abbrev pub is_pe32_plus : List ℕ → ℕ → Bool
+is_pe32_plus b p = le b p 2 == 0x20B
 
 -- the offset of the data directories in the optional header
-abbrev pub directories_place : Bool → ℕ
-directories_place wide = if wide then 112 else 96
+abbrev pub directories_offset : Bool → ℕ
+directories_offset pe32_plus = if pe32_plus then 112 else 96
 
 -- the optional header at offset p: its fields by its magic number, then the directories that are kept
 unfoldable pub optional_header : List ℕ → ℕ → OptionalHeaderView
 optional_header b p =
-    let windows = if is_wide b p then windows64 b (p + 24) else windows32 b (p + 28) in
+    let windows = if is_pe32_plus b p then windows_fields_64 b (p + 24) else windows_fields_32 b (p + 28) in
     record {
-      standard_fields = if is_wide b p then standard64 b p else standard32 b p;
+      standard_fields = if is_pe32_plus b p then standard_fields_64 b p else standard_fields_32 b p;
       windows_fields = windows;
-      data_directories = directories b (p + directories_place (is_wide b p)) windows.number_of_rva_and_sizes;
+      data_directories = directories b (p + directories_offset (is_pe32_plus b p)) windows.number_of_rva_and_sizes;
     }
 
 -- its tests: magic number, fields, directories
 unfoldable pub optional_header_tests : List ℕ → ℕ → List (Bool × Refusal)
 optional_header_tests b p =
     (holds b p 2, Short)
-    ∷ (le b p 2 == 0x10B || is_wide b p, BadMagic)
-    ∷ (holds b p (directories_place (is_wide b p)), Short)
-    ∷ (holds b (p + directories_place (is_wide b p)) (8 * kept (optional_header b p).windows_fields.number_of_rva_and_sizes), Short)
+    ∷ (le b p 2 == 0x10B || is_pe32_plus b p, BadMagic)
+    ∷ (holds b p (directories_offset (is_pe32_plus b p)), Short)
+    ∷ (holds b (p + directories_offset (is_pe32_plus b p)) (8 * kept (optional_header b p).windows_fields.number_of_rva_and_sizes), Short)
     ∷ []
 
 -- the optional header at offset p, or the first refusal

@@ -16,17 +16,17 @@ pub record StandInFront (b : List ℕ) (p count : ℕ) : Type 0 where
   pub last : p + 20 * count + 20 ≤ length b → is_last (import_entry b (p + 20 * count)) ≡ true
 
 -- these are the names of the first records from offset p on
-pub record AreNames (place : ℕ → Option ℕ) (b : List ℕ) (p : ℕ) (names : List (Option (Bor (List ℕ)))) : Type 0 where
-  pub are : (i : ℕ) (d : Option (Bor (List ℕ))) → i < length names → option_map (λ s. s.now) (slice_index_or names i d) ≡ option_and_then (text_at b) (place (import_entry b (p + 20 * i)).name_rva)
+pub record AreNames (offset : ℕ → Option ℕ) (b : List ℕ) (p : ℕ) (names : List (Option (Bor (List ℕ)))) : Type 0 where
+  pub are : (i : ℕ) (d : Option (Bor (List ℕ))) → i < length names → option_map (λ s. s.now) (slice_index_or names i d) ≡ option_and_then (text_at b) (offset (import_entry b (p + 20 * i)).name_rva)
 
 -- what is seen of a lookup entry
 abbrev pub entry_view : Entry → EntryView
 entry_view e = record { dll = e.dll.now; entry = e.entry; rva = e.rva }
 
 -- the offset of an entry's name, after its hint; for an ordinal an offset at which no byte is
-abbrev pub name_place : (ℕ → Option ℕ) → ℕ → EntryView → ℕ
-name_place place w e = if is_ordinal w e then 2 ^ 64 - 1 else min (offset_or_end (place (e.entry % 2 ^ 31)) + 2) (2 ^ 64 - 1)
+abbrev pub hint_offset_of : (ℕ → Option ℕ) → ℕ → EntryView → ℕ
+hint_offset_of offset w e = if is_ordinal w e then 2 ^ 64 - 1 else min (offset_or_end (offset (e.entry % 2 ^ 31)) + 2) (2 ^ 64 - 1)
 
 -- these are the texts at the offsets of the entries' names
-pub record AreEntryNames (place : ℕ → Option ℕ) (w : ℕ) (b : List ℕ) (entries : List Entry) (names : List (Option (Bor (List ℕ)))) : Type 0 where
-  pub are : (i : ℕ) (d : Option (Bor (List ℕ))) (e : Entry) → i < length names → option_map (λ s. s.now) (slice_index_or names i d) ≡ text_at b (name_place place w (entry_view (slice_index_or entries i e)))
+pub record AreEntryNames (offset : ℕ → Option ℕ) (w : ℕ) (b : List ℕ) (entries : List Entry) (names : List (Option (Bor (List ℕ)))) : Type 0 where
+  pub are : (i : ℕ) (d : Option (Bor (List ℕ))) (e : Entry) → i < length names → option_map (λ s. s.now) (slice_index_or names i d) ≡ text_at b (hint_offset_of offset w (entry_view (slice_index_or entries i e)))

@@ -42,11 +42,11 @@ pub record ImportView : Type 0 where
 abbrev pub import_view : Import → ImportView
 import_view i = record { name = option_map (λ s. s.now) i.name; dll = i.dll.now; ordinal = i.ordinal; rva = i.rva }
 
--- ---- the directory; `place` maps an RVA to its file offset
+-- ---- the directory; `offset` maps an RVA to its file offset
 
 -- the size of a lookup entry in bytes: 8 in PE32+, 4 in PE32
 abbrev pub entry_size : Bool → ℕ
-entry_size wide = if wide then 8 else 4
+entry_size pe32_plus = if pe32_plus then 8 else 4
 
 -- the name, or `ImportName` if there is none
 abbrev pub name_or_refusal : Option (List ℕ) → Result (List ℕ) Refusal
@@ -76,23 +76,23 @@ is_last e = e.name_rva == 0 || e.address_table_rva == 0
 
 -- a record with its name, then its lookup entries
 unfoldable pub import_record : (ℕ → Option ℕ) → ℕ → List ℕ → ImportDirectoryEntry → Result (Option ImportRecordView) Refusal
-import_record place w b e = do
-  p ← mapped (place e.name_rva)
+import_record offset w b e = do
+  p ← mapped (offset e.name_rva)
   name ← name_or_refusal (text_at b p)
-  lookups ← lookups_at w b (place (lookups_rva e))
+  lookups ← lookups_at w b (offset (lookups_rva e))
   Ok (Some (record { import_directory_entry = e; name = name; lookups = lookups }))
 
 -- the record at offset p, or `None` if it ends the directory
 unfoldable pub import_record_at : (ℕ → Option ℕ) → ℕ → List ℕ → ℕ → Result (Option ImportRecordView) Refusal
-import_record_at place w b p = record_at b p 20 (import_entry b p) >>= λ e. if is_last e then Ok None else import_record place w b e
+import_record_at offset w b p = record_at b p 20 (import_entry b p) >>= λ e. if is_last e then Ok None else import_record offset w b e
 
 -- the records from offset p on, up to the one that ends the directory; there are fewer of them than bytes
 unfoldable pub import_records : (ℕ → Option ℕ) → ℕ → List ℕ → ℕ → Result (List ImportRecordView) Refusal
-import_records place w b p = up_to_none (each (λ i. import_record_at place w b (p + 20 * i)) (suc (length b)))
+import_records offset w b p = up_to_none (each (λ i. import_record_at offset w b (p + 20 * i)) (suc (length b)))
 
 -- the records of the directory at an RVA
 abbrev pub import_data_at : (ℕ → Option ℕ) → ℕ → List ℕ → ℕ → Result (List ImportRecordView) Refusal
-import_data_at place w b rva = mapped (place rva) >>= import_records place w b
+import_data_at offset w b rva = mapped (offset rva) >>= import_records offset w b
 
 -- these are the names of the DLLs, sorted by their bytes, each once
 pub record AreLibraries (names libraries : List (List ℕ)) : Type 0 where
@@ -109,12 +109,12 @@ pub record EntryView : Type 0 where
   pub rva : ℕ
 
 -- lookup entry k of a record
-abbrev pub entry_at : ℕ → ImportRecordView → ℕ → EntryView
-entry_at w r k = record { dll = r.name; entry = le r.lookups (w * k) w; rva = r.import_directory_entry.address_table_rva + w * k }
+abbrev pub import_entry_at : ℕ → ImportRecordView → ℕ → EntryView
+import_entry_at w r k = record { dll = r.name; entry = le r.lookups (w * k) w; rva = r.import_directory_entry.address_table_rva + w * k }
 
 -- the lookup entries of all records, in order
-unfoldable pub entries : ℕ → List ImportRecordView → List EntryView
-entries w records = flat_map (λ r. each (entry_at w r) (length r.lookups / w)) records
+unfoldable pub import_entries : ℕ → List ImportRecordView → List EntryView
+import_entries w records = flat_map (λ r. each (import_entry_at w r) (length r.lookups / w)) records
 
 -- an import by name: a hint of 2 bytes is at offset p, and the name follows it
 abbrev pub named_import : List ℕ → EntryView → ℕ → Result ImportView Refusal
@@ -129,11 +129,11 @@ is_ordinal w e = nat_le (2 ^ (8 * w - 1)) e.entry
 
 -- the import of an entry: by the ordinal in its low 16 bits, or by the hint and name at the RVA in its low 31 bits
 unfoldable pub import_of : (ℕ → Option ℕ) → ℕ → List ℕ → EntryView → Result ImportView Refusal
-import_of place w b e =
+import_of offset w b e =
     if is_ordinal w e
     then Ok (record { name = None; dll = e.dll; ordinal = e.entry % 2 ^ 16; rva = e.rva })
-    else (mapped (place (e.entry % 2 ^ 31)) >>= named_import b e)
+    else (mapped (offset (e.entry % 2 ^ 31)) >>= named_import b e)
 
 -- the imports of all entries, or the first refusal
 unfoldable pub imports : (ℕ → Option ℕ) → ℕ → List ℕ → List ImportRecordView → Result (List ImportView) Refusal
-imports place w b records = all_or_refusal (map (import_of place w b) (entries w records))
+imports offset w b records = all_or_refusal (map (import_of offset w b) (import_entries w records))

@@ -2,13 +2,13 @@ pub mod Refusals
 pub mod Names
 pub mod Traits
 pub mod Bytes
-pub mod Places
+pub mod Offsets
 pub mod CountedTable
 pub mod Text
 pub mod TextRuns
 pub mod Options
 pub mod Modes
-pub mod Narrow
+pub mod Pe32
 pub mod Records
 pub mod Rows
 pub mod Directories
@@ -27,6 +27,6 @@ pub mod SectionIndex
 pub mod Relocations
 pub mod Symbols
 pub mod Strings
-pub mod TerseHeader
+pub mod TeImages
 pub mod Chains
 pub mod ZeroRuns

@@ -29,8 +29,8 @@ coff_header b p = record {
 }
 
 -- the standard fields of PE32, 28 bytes
-unfoldable pub standard32 : List ℕ → ℕ → StandardFields
-standard32 b p = record {
+unfoldable pub standard_fields_32 : List ℕ → ℕ → StandardFields
+standard_fields_32 b p = record {
   magic = le b p 2;
   major_linker_version = le b (p + 2) 1;
   minor_linker_version = le b (p + 3) 1;
@@ -43,8 +43,8 @@ standard32 b p = record {
 }
 
 -- the standard fields of PE32+, 24 bytes; they have no base of data
-unfoldable pub standard64 : List ℕ → ℕ → StandardFields
-standard64 b p = record {
+unfoldable pub standard_fields_64 : List ℕ → ℕ → StandardFields
+standard_fields_64 b p = record {
   magic = le b p 2;
   major_linker_version = le b (p + 2) 1;
   minor_linker_version = le b (p + 3) 1;
@@ -57,8 +57,8 @@ standard64 b p = record {
 }
 
 -- the fields of Windows in PE32, 68 bytes
-unfoldable pub windows32 : List ℕ → ℕ → WindowsFields
-windows32 b p = record {
+unfoldable pub windows_fields_32 : List ℕ → ℕ → WindowsFields
+windows_fields_32 b p = record {
   image_base = le b p 4;
   section_alignment = le b (p + 4) 4;
   file_alignment = le b (p + 8) 4;
@@ -83,8 +83,8 @@ windows32 b p = record {
 }
 
 -- the fields of Windows in PE32+, 88 bytes
-unfoldable pub windows64 : List ℕ → ℕ → WindowsFields
-windows64 b p = record {
+unfoldable pub windows_fields_64 : List ℕ → ℕ → WindowsFields
+windows_fields_64 b p = record {
   image_base = le b p 8;
   section_alignment = le b (p + 8) 4;
   file_alignment = le b (p + 12) 4;

@@ -104,14 +104,14 @@ answer_by view (Ok x) = Ok (view x)
 answer_by view (Err e) = Err (kind_of e)
 
 -- a call that does not allocate returned the defined value, seen by view, or an error of the defined kind
-abbrev pub Gives : {X Y : Type 0} → (X → Y) → Result X Error → Result Y Refusal → Type 0
-Gives view (Ok x) defined = defined ≡ Ok (view x)
-Gives view (Err e) defined = defined ≡ Err (kind_of e)
+abbrev pub Returns : {X Y : Type 0} → (X → Y) → Result X Error → Result Y Refusal → Type 0
+Returns view (Ok x) defined = defined ≡ Ok (view x)
+Returns view (Err e) defined = defined ≡ Err (kind_of e)
 
 -- the same for a call that allocates, which may also return `Memory`
-abbrev pub GivesUnlessMemory : {X Y : Type 0} → (X → Y) → Result X Error → Result Y Refusal → Type 0
-GivesUnlessMemory view (Ok x) defined = defined ≡ Ok (view x)
-GivesUnlessMemory view (Err e) defined = UnlessMemory e (defined ≡ Err (kind_of e))
+abbrev pub ReturnsUnlessMemory : {X Y : Type 0} → (X → Y) → Result X Error → Result Y Refusal → Type 0
+ReturnsUnlessMemory view (Ok x) defined = defined ≡ Ok (view x)
+ReturnsUnlessMemory view (Err e) defined = UnlessMemory e (defined ≡ Err (kind_of e))
 
 -- P holds if the error is `Memory`
 abbrev pub IfMemory : Error → Type 0 → Type 0
@@ -121,9 +121,9 @@ IfMemory (errors.Short at needed) P = Unit {0}
 IfMemory (errors.Memory e) P = P
 
 -- the same, and memory is asked for only after these tests: if the call returns `Memory`, they have all passed
-abbrev pub GivesUnlessMemoryAfter : {X Y Z : Type 0} → Result Z Refusal → (X → Y) → Result X Error → Result Y Refusal → Type 0
-GivesUnlessMemoryAfter tested view (Ok x) defined = defined ≡ Ok (view x)
-GivesUnlessMemoryAfter tested view (Err e) defined = UnlessMemory e (defined ≡ Err (kind_of e)) × IfMemory e (IsOk tested)
+abbrev pub ReturnsUnlessMemoryAfter : {X Y Z : Type 0} → Result Z Refusal → (X → Y) → Result X Error → Result Y Refusal → Type 0
+ReturnsUnlessMemoryAfter tested view (Ok x) defined = defined ≡ Ok (view x)
+ReturnsUnlessMemoryAfter tested view (Err e) defined = UnlessMemory e (defined ≡ Err (kind_of e)) × IfMemory e (IsOk tested)
 
 -- the value if all tests pass, or the refusal of the first test that fails
 abbrev pub outcome : {Y : Type 0} → List (Bool × Refusal) → Y → Result Y Refusal

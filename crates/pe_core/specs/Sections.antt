@@ -15,24 +15,24 @@ sections_at b p n = rows_at section_table 40 b p n
 
 -- the file offset of the section headers: after the PE signature, the COFF header, and as many bytes as it says of the
 -- optional header
-abbrev pub sections_place : HeaderView → ℕ
-sections_place h = h.dos_header.pe_pointer + 24 + h.coff_header.size_of_optional_header
+abbrev pub sections_offset : HeaderView → ℕ
+sections_offset h = h.dos_header.pe_pointer + 24 + h.coff_header.size_of_optional_header
 
 -- the section headers of an image with these headers
 abbrev pub sections_of : List ℕ → HeaderView → Result (List SectionTable) Refusal
-sections_of b h = sections_at b (sections_place h) h.coff_header.number_of_sections
+sections_of b h = sections_at b (sections_offset h) h.coff_header.number_of_sections
 
 -- the file offset at which the section's data ends
 abbrev pub raw_end : SectionTable → ℕ
 raw_end s = s.pointer_to_raw_data + s.size_of_raw_data
 
 -- the section's name: its bytes up to the first zero, if they are UTF-8
-abbrev pub name_of : SectionTable → Option (List ℕ)
-name_of s = text_of (before_first (λ c. c == 0) s.name)
+abbrev pub section_name : SectionTable → Option (List ℕ)
+section_name s = text_of (before_first (λ c. c == 0) s.name)
 
 -- the section's data in the file, if they are all there
-abbrev pub data_of : List ℕ → SectionTable → Option (List ℕ)
-data_of b s = if holds b s.pointer_to_raw_data s.size_of_raw_data then Some (range b s.pointer_to_raw_data s.size_of_raw_data) else None
+abbrev pub section_data : List ℕ → SectionTable → Option (List ℕ)
+section_data b s = if holds b s.pointer_to_raw_data s.size_of_raw_data then Some (range b s.pointer_to_raw_data s.size_of_raw_data) else None
 
 -- the byte at file offset q is one of the section's data
 abbrev pub HasRawByte : SectionTable → ℕ → Type 0

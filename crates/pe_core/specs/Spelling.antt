@@ -22,22 +22,22 @@ spell_coff c = bytes_of 2 c.machine ++ bytes_of 2 c.number_of_sections ++ bytes_
     ++ bytes_of 2 c.size_of_optional_header ++ bytes_of 2 c.characteristics
 
 -- the standard fields of PE32, 28 bytes
-unfoldable pub spell_standard32 : StandardFields → List ℕ
-spell_standard32 s = bytes_of 2 s.magic ++ bytes_of 1 s.major_linker_version ++ bytes_of 1 s.minor_linker_version
+unfoldable pub spell_standard_fields_32 : StandardFields → List ℕ
+spell_standard_fields_32 s = bytes_of 2 s.magic ++ bytes_of 1 s.major_linker_version ++ bytes_of 1 s.minor_linker_version
     ++ bytes_of 4 s.size_of_code ++ bytes_of 4 s.size_of_initialized_data
     ++ bytes_of 4 s.size_of_uninitialized_data ++ bytes_of 4 s.address_of_entry_point
     ++ bytes_of 4 s.base_of_code ++ bytes_of 4 s.base_of_data
 
 -- the standard fields of PE32+, 24 bytes; they have no base of data
-unfoldable pub spell_standard64 : StandardFields → List ℕ
-spell_standard64 s = bytes_of 2 s.magic ++ bytes_of 1 s.major_linker_version ++ bytes_of 1 s.minor_linker_version
+unfoldable pub spell_standard_fields_64 : StandardFields → List ℕ
+spell_standard_fields_64 s = bytes_of 2 s.magic ++ bytes_of 1 s.major_linker_version ++ bytes_of 1 s.minor_linker_version
     ++ bytes_of 4 s.size_of_code ++ bytes_of 4 s.size_of_initialized_data
     ++ bytes_of 4 s.size_of_uninitialized_data ++ bytes_of 4 s.address_of_entry_point
     ++ bytes_of 4 s.base_of_code
 
 -- the fields of Windows in PE32, 68 bytes
-unfoldable pub spell_windows32 : WindowsFields → List ℕ
-spell_windows32 w = bytes_of 4 w.image_base ++ bytes_of 4 w.section_alignment ++ bytes_of 4 w.file_alignment
+unfoldable pub spell_windows_fields_32 : WindowsFields → List ℕ
+spell_windows_fields_32 w = bytes_of 4 w.image_base ++ bytes_of 4 w.section_alignment ++ bytes_of 4 w.file_alignment
     ++ bytes_of 2 w.major_operating_system_version ++ bytes_of 2 w.minor_operating_system_version
     ++ bytes_of 2 w.major_image_version ++ bytes_of 2 w.minor_image_version
     ++ bytes_of 2 w.major_subsystem_version ++ bytes_of 2 w.minor_subsystem_version
@@ -48,8 +48,8 @@ spell_windows32 w = bytes_of 4 w.image_base ++ bytes_of 4 w.section_alignment ++
     ++ bytes_of 4 w.number_of_rva_and_sizes
 
 -- the fields of Windows in PE32+, 88 bytes
-unfoldable pub spell_windows64 : WindowsFields → List ℕ
-spell_windows64 w = bytes_of 8 w.image_base ++ bytes_of 4 w.section_alignment ++ bytes_of 4 w.file_alignment
+unfoldable pub spell_windows_fields_64 : WindowsFields → List ℕ
+spell_windows_fields_64 w = bytes_of 8 w.image_base ++ bytes_of 4 w.section_alignment ++ bytes_of 4 w.file_alignment
     ++ bytes_of 2 w.major_operating_system_version ++ bytes_of 2 w.minor_operating_system_version
     ++ bytes_of 2 w.major_image_version ++ bytes_of 2 w.minor_image_version
     ++ bytes_of 2 w.major_subsystem_version ++ bytes_of 2 w.minor_subsystem_version
@@ -81,6 +81,6 @@ spell_te t = bytes_of 2 t.signature ++ bytes_of 2 t.machine ++ bytes_of 1 t.numb
 unfoldable pub spell_optional : OptionalHeaderView → List ℕ
 spell_optional o =
     (if o.standard_fields.magic == 0x20B
-    then spell_standard64 o.standard_fields ++ spell_windows64 o.windows_fields
-    else spell_standard32 o.standard_fields ++ spell_windows32 o.windows_fields)
+    then spell_standard_fields_64 o.standard_fields ++ spell_windows_fields_64 o.windows_fields
+    else spell_standard_fields_32 o.standard_fields ++ spell_windows_fields_32 o.windows_fields)
     ++ flat_map spell_directory o.data_directories

@@ -10,8 +10,8 @@ use Rattle.pe_core.specs.declared.header.CoffHeader.{CoffHeader}
 use Rattle.pe_core.specs.declared.strtab.Strtab.{Strtab}
 
 -- the file offset of the string table: after the symbols
-abbrev pub strings_place : CoffHeader → ℕ
-strings_place c = c.pointer_to_symbol_table + 18 * c.number_of_symbol_table
+abbrev pub strings_offset : CoffHeader → ℕ
+strings_offset c = c.pointer_to_symbol_table + 18 * c.number_of_symbol_table
 
 -- the size of the table at offset p, its size field included; at least 4
 abbrev pub strings_size : List ℕ → ℕ → ℕ
@@ -27,7 +27,7 @@ strings_at b p =
 unfoldable pub strings_of : List ℕ → CoffHeader → Result (Option (List ℕ)) Refusal
 strings_of b c =
     if c.pointer_to_symbol_table == 0 then Ok None
-    else (if holds b c.pointer_to_symbol_table (18 * c.number_of_symbol_table) then strings_at b (strings_place c) else Err Short)
+    else (if holds b c.pointer_to_symbol_table (18 * c.number_of_symbol_table) then strings_at b (strings_offset c) else Err Short)
 
 -- a string table as its bytes
 abbrev pub strings_view : Option Strtab → Option (List ℕ)

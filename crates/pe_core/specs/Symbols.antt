@@ -30,8 +30,8 @@ abbrev pub inline_name : List ℕ → Option (List ℕ)
 inline_name name = if slice_index name 0 == 0 then None else text_of (before_first (λ c. c == 0) name)
 
 -- the offset of the name in the string table, from its size field: the last 4 of the 8 bytes
-abbrev pub name_offset : Symbol → ℕ
-name_offset s = le s.name 4 4
+abbrev pub string_offset : Symbol → ℕ
+string_offset s = le s.name 4 4
 
 -- the text at an offset of a string table that is not inside its size field
 abbrev pub string_at : List ℕ → ℕ → Option (List ℕ)
@@ -44,7 +44,7 @@ or_no_text (Some text) = Ok text
 
 -- the name of a symbol with this string table: that in its 8 bytes, or the string at the offset in them
 unfoldable pub symbol_name : Symbol → List ℕ → Result (List ℕ) Refusal
-symbol_name s table = or_no_text (if slice_index s.name 0 == 0 then string_at table (name_offset s) else inline_name s.name)
+symbol_name s table = or_no_text (if slice_index s.name 0 == 0 then string_at table (string_offset s) else inline_name s.name)
 
 -- ---- the table
 
@@ -57,13 +57,13 @@ abbrev pub symbol_in : List ℕ → ℕ → Symbol
 symbol_in b row = symbol b (18 * row)
 
 -- the entry after a symbol and its auxiliary records
-abbrev pub row_behind : List ℕ → ℕ → ℕ
-row_behind b row = row + 1 + (symbol_in b row).number_of_aux_symbols
+abbrev pub row_after : List ℕ → ℕ → ℕ
+row_after b row = row + 1 + (symbol_in b row).number_of_aux_symbols
 
 -- the entry of symbol k: the first is 0, and the next is after the auxiliary records of the one before
 unfoldable pub row_of : List ℕ → ℕ → ℕ
 row_of b zero = 0
-row_of b (suc k) = row_behind b (row_of b k)
+row_of b (suc k) = row_after b (row_of b k)
 
 -- a symbol, with the index of its entry and the name in its 8 bytes
 pub record SymbolItem : Type 0 where
@@ -78,13 +78,13 @@ item_in b row = record { row = row; name = inline_name (symbol_in b row).name; s
 -- the symbols of a table from an entry on, up to its end
 abbrev pub AreSymbols : List ℕ → ℕ → List SymbolItem → Type 0
 AreSymbols b row [] = row_count b ≤ row
-AreSymbols b row (item ∷ more) = (row < row_count b) × (item ≡ item_in b row) × AreSymbols b (row_behind b row) more
+AreSymbols b row (item ∷ more) = (row < row_count b) × (item ≡ item_in b row) × AreSymbols b (row_after b row) more
 
 -- ---- the iterator
 
 -- the table of an iterator
-abbrev pub table_of : SymbolIterator → List ℕ
-table_of s = s.bytes.now
+abbrev pub symbol_bytes : SymbolIterator → List ℕ
+symbol_bytes s = s.bytes.now
 
 -- the entry that an iterator reads next
 abbrev pub row_at : SymbolIterator → ℕ
@@ -95,9 +95,9 @@ abbrev pub item_view : ℕ × Option (Bor (List ℕ)) × Symbol → SymbolItem
 item_view item = record { row = item.0; name = option_map (λ s. s.now) item.1; symbol = item.2 }
 
 -- what one call of next returns, and the entry that it leaves to the next call
-abbrev pub GivesSymbol : List ℕ → ℕ → Option (ℕ × Option (Bor (List ℕ)) × Symbol) → ℕ → Type 0
-GivesSymbol b row None left = (row_count b ≤ row) × (left ≡ row)
-GivesSymbol b row (Some item) left = (row < row_count b) × (item_view item ≡ item_in b row) × (left ≡ row_behind b row)
+abbrev pub ReturnsSymbol : List ℕ → ℕ → Option (ℕ × Option (Bor (List ℕ)) × Symbol) → ℕ → Type 0
+ReturnsSymbol b row None left = (row_count b ≤ row) × (left ≡ row)
+ReturnsSymbol b row (Some item) left = (row < row_count b) × (item_view item ≡ item_in b row) × (left ≡ row_after b row)
 
 -- ---- the table of an object or image
 
@@ -108,5 +108,5 @@ symbols_of b c =
     else record_at b c.pointer_to_symbol_table (18 * c.number_of_symbol_table) (Some (range b c.pointer_to_symbol_table (18 * c.number_of_symbol_table)))
 
 -- a symbol table as its bytes
-abbrev pub table_view : Option SymbolTable → Option (List ℕ)
-table_view t = option_map (λ s. s.bytes.now) t
+abbrev pub symbol_table_view : Option SymbolTable → Option (List ℕ)
+symbol_table_view t = option_map (λ s. s.bytes.now) t

@@ -14,7 +14,7 @@ text_to_zero bytes = option_and_then (λ n. text_of (take n bytes)) (position (�
 
 -- the text at an offset: the bytes from there up to the first zero
 abbrev pub text_at : List ℕ → ℕ → Option (List ℕ)
-text_at bytes place = text_to_zero (drop place bytes)
+text_at bytes offset = text_to_zero (drop offset bytes)
 
 -- the texts as bytes, whatever their addresses in memory
 abbrev pub texts_of : List (Option (Bor (List ℕ))) → List (Option (List ℕ))

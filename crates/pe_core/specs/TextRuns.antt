@@ -20,9 +20,9 @@ last_of (Some text) n = if nat_le n (length text) then text_of (drop (length tex
 
 -- the text at each offset of the run is a suffix of the run's text
 abbrev pub IsRun : List ℕ → Run → Type 0
-IsRun bytes run = (place : ℕ) → run.start ≤ place → place ≤ run.end → text_at bytes place ≡ last_of (option_map (λ s. s.now) run.text) (run.end - place)
+IsRun bytes run = (offset : ℕ) → run.start ≤ offset → offset ≤ run.end → text_at bytes offset ≡ last_of (option_map (λ s. s.now) run.text) (run.end - offset)
 
 -- these are the texts at the first offsets, as many as there are texts
-pub record AreFirstTexts (bytes places : List ℕ) (texts : List (Option (Bor (List ℕ)))) : Type 0 where
-  pub are : texts_of texts ≡ map (text_at bytes) (take (length texts) places)
-  pub few : length texts ≤ length places
+pub record AreFirstTexts (bytes offsets : List ℕ) (texts : List (Option (Bor (List ℕ)))) : Type 0 where
+  pub are : texts_of texts ≡ map (text_at bytes) (take (length texts) offsets)
+  pub few : length texts ≤ length offsets

@@ -1,13 +1,13 @@
 //! Ranges of a byte slice: an offset and a length.
 
 ghost use Rattle.std.specs.Prelude.{◌≡◌};
-ghost use Rattle.pe_core.specs.Places.{bytes_in, IsWithin};
+ghost use Rattle.pe_core.specs.Offsets.{bytes_in, IsWithin};
 
 /// A range of the bytes that were passed.
 #[derive(Clone, Copy, Debug, Default, PartialEq)]
 pub struct ByteRange {
     /// The offset of the first byte, from the start of those bytes.
-    pub place: usize,
+    pub offset: usize,
     /// The length in bytes.
     pub length: usize,
 }
@@ -18,6 +18,6 @@ impl ByteRange {
         requires { IsWithin bytes.now self }
         ensures { result.now ≡ bytes_in bytes.entry.now self }
     {
-        &bytes[self.place..self.place + self.length]
+        &bytes[self.offset..self.offset + self.length]
     }
 }

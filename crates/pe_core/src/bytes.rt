@@ -1,42 +1,42 @@
-//! Little-endian numbers and slices at an offset, read and written with bounds checks. Every offset (`place`) counts
+//! Little-endian numbers and slices at an offset, read and written with bounds checks. Every offset (`offset`) counts
 //! from the start of the slice that is passed.
 
 ghost use Rattle.std.specs.Prelude.{◌≡◌, ◌+◌, ◌<◌, ◌≤◌, length};
 ghost use Rattle.pe_core.specs.Bytes.{le, range, bytes_of, put, record_at, data_at, fit_at};
-ghost use Rattle.pe_core.specs.Refusals.{Gives};
+ghost use Rattle.pe_core.specs.Refusals.{Returns};
 ghost use Rattle.pe_core.specs.Rows.{SplitsEntry};
 
 use crate::error::{Error, Reason, Result};
 
-/// Returns `Short` unless `n` bytes follow offset `place`. A read of 0 bytes succeeds at every offset up to
+/// Returns `Short` unless `n` bytes follow `offset`. A read of 0 bytes succeeds at every offset up to
 /// `bytes.len()`.
-pub fn require_bytes(bytes: &[u8], place: usize, n: usize) -> Result<()>
-    ensures { Gives (λ u. u) result (record_at bytes.now place n tt) }
+pub fn require_bytes(bytes: &[u8], offset: usize, n: usize) -> Result<()>
+    ensures { Returns (λ u. u) result (record_at bytes.now offset n tt) }
 {
-    // Subtracted, not added: `place + n` may overflow.
-    if n <= bytes.len() && place <= bytes.len() - n {
+    // Subtracted, not added: `offset + n` may overflow.
+    if n <= bytes.len() && offset <= bytes.len() - n {
         Ok(())
     } else {
         Err(Error::Short {
-            at: place,
+            at: offset,
             needed: n,
         })
     }
 }
 
-/// The `n` bytes from offset `place` on. Error: `Short`.
-pub fn slice_at(bytes: &[u8], place: usize, n: usize) -> Result<&[u8]>
-    ensures { Gives (λ s. s.now) result (record_at bytes.now place n (range bytes.now place n)) }
+/// The `n` bytes from `offset` on. Error: `Short`.
+pub fn slice_at(bytes: &[u8], offset: usize, n: usize) -> Result<&[u8]>
+    ensures { Returns (λ s. s.now) result (record_at bytes.now offset n (range bytes.now offset n)) }
 {
-    require_bytes(bytes, place, n)?;
-    Ok(&bytes[place..place + n])
+    require_bytes(bytes, offset, n)?;
+    Ok(&bytes[offset..offset + n])
 }
 
-/// The `n` bytes from offset `place` on. Error: `Malformed` with the reason that is passed, if they are truncated.
-pub fn data_at<'a>(bytes: &'a [u8], place: usize, n: usize, refusal: Reason) -> Result<&'a [u8]>
-    ensures { Gives (λ s. s.now) result (data_at bytes.entry.now place n refusal) }
+/// The `n` bytes from `offset` on. Error: `Malformed` with the reason that is passed, if they are truncated.
+pub fn data_at<'a>(bytes: &'a [u8], offset: usize, n: usize, refusal: Reason) -> Result<&'a [u8]>
+    ensures { Returns (λ s. s.now) result (data_at bytes.entry.now offset n refusal) }
 {
-    match slice_at(bytes, place, n) {
+    match slice_at(bytes, offset, n) {
         Ok(data) => Ok(data),
         Err(_) => Err(Error::Malformed(refusal)),
     }
@@ -65,146 +65,146 @@ pub fn split_entry<'a>(left: &mut &'a [u8], width: usize) -> Option<Result<&'a [
     Some(Ok(bytes))
 }
 
-/// The byte at offset `place`, which the caller knows to lie in `bytes`.
+/// The byte at `offset`, which the caller knows to lie in `bytes`.
 #[tactic(auto, unfolding(crate::specs::Bytes::le))]
-pub fn number8(bytes: &[u8], place: usize) -> u8
-    requires { place + 1 ≤ length bytes.now }
-    ensures { result ≡ le bytes.now place 1 }
+pub fn read_u8(bytes: &[u8], offset: usize) -> u8
+    requires { offset + 1 ≤ length bytes.now }
+    ensures { result ≡ le bytes.now offset 1 }
 {
-    u8::from_le_bytes([bytes[place]])
+    u8::from_le_bytes([bytes[offset]])
 }
 
-/// The `u16` at offset `place`, whose 2 bytes the caller knows to lie in `bytes`.
+/// The `u16` at `offset`, whose 2 bytes the caller knows to lie in `bytes`.
 #[tactic(auto, unfolding(crate::specs::Bytes::le))]
-pub fn number16(bytes: &[u8], place: usize) -> u16
-    requires { place + 2 ≤ length bytes.now }
-    ensures { result ≡ le bytes.now place 2 }
+pub fn read_u16(bytes: &[u8], offset: usize) -> u16
+    requires { offset + 2 ≤ length bytes.now }
+    ensures { result ≡ le bytes.now offset 2 }
 {
-    u16::from_le_bytes([bytes[place], bytes[place + 1]])
+    u16::from_le_bytes([bytes[offset], bytes[offset + 1]])
 }
 
-/// The `u32` at offset `place`, whose 4 bytes the caller knows to lie in `bytes`.
+/// The `u32` at `offset`, whose 4 bytes the caller knows to lie in `bytes`.
 #[tactic(auto, unfolding(crate::specs::Bytes::le))]
-pub fn number32(bytes: &[u8], place: usize) -> u32
-    requires { place + 4 ≤ length bytes.now }
-    ensures { result ≡ le bytes.now place 4 }
+pub fn read_u32(bytes: &[u8], offset: usize) -> u32
+    requires { offset + 4 ≤ length bytes.now }
+    ensures { result ≡ le bytes.now offset 4 }
 {
     u32::from_le_bytes([
-        bytes[place],
-        bytes[place + 1],
-        bytes[place + 2],
-        bytes[place + 3],
+        bytes[offset],
+        bytes[offset + 1],
+        bytes[offset + 2],
+        bytes[offset + 3],
     ])
 }
 
-/// The `u64` at offset `place`, whose 8 bytes the caller knows to lie in `bytes`.
+/// The `u64` at `offset`, whose 8 bytes the caller knows to lie in `bytes`.
 #[tactic(auto, unfolding(crate::specs::Bytes::le))]
-pub fn number64(bytes: &[u8], place: usize) -> u64
-    requires { place + 8 ≤ length bytes.now }
-    ensures { result ≡ le bytes.now place 8 }
+pub fn read_u64(bytes: &[u8], offset: usize) -> u64
+    requires { offset + 8 ≤ length bytes.now }
+    ensures { result ≡ le bytes.now offset 8 }
 {
     u64::from_le_bytes([
-        bytes[place],
-        bytes[place + 1],
-        bytes[place + 2],
-        bytes[place + 3],
-        bytes[place + 4],
-        bytes[place + 5],
-        bytes[place + 6],
-        bytes[place + 7],
+        bytes[offset],
+        bytes[offset + 1],
+        bytes[offset + 2],
+        bytes[offset + 3],
+        bytes[offset + 4],
+        bytes[offset + 5],
+        bytes[offset + 6],
+        bytes[offset + 7],
     ])
 }
 
-/// The byte at offset `place`. Error: `Short`.
-pub fn u8_at(bytes: &[u8], place: usize) -> Result<u8>
-    ensures { Gives (λ n. n) result (record_at bytes.now place 1 (le bytes.now place 1)) }
+/// The byte at `offset`. Error: `Short`.
+pub fn u8_at(bytes: &[u8], offset: usize) -> Result<u8>
+    ensures { Returns (λ n. n) result (record_at bytes.now offset 1 (le bytes.now offset 1)) }
 {
-    require_bytes(bytes, place, 1)?;
-    Ok(number8(bytes, place))
+    require_bytes(bytes, offset, 1)?;
+    Ok(read_u8(bytes, offset))
 }
 
-/// The `u16` at offset `place`. Error: `Short`.
-pub fn u16_at(bytes: &[u8], place: usize) -> Result<u16>
-    ensures { Gives (λ n. n) result (record_at bytes.now place 2 (le bytes.now place 2)) }
+/// The `u16` at `offset`. Error: `Short`.
+pub fn u16_at(bytes: &[u8], offset: usize) -> Result<u16>
+    ensures { Returns (λ n. n) result (record_at bytes.now offset 2 (le bytes.now offset 2)) }
 {
-    require_bytes(bytes, place, 2)?;
-    Ok(number16(bytes, place))
+    require_bytes(bytes, offset, 2)?;
+    Ok(read_u16(bytes, offset))
 }
 
-/// The `u32` at offset `place`. Error: `Short`.
-pub fn u32_at(bytes: &[u8], place: usize) -> Result<u32>
-    ensures { Gives (λ n. n) result (record_at bytes.now place 4 (le bytes.now place 4)) }
+/// The `u32` at `offset`. Error: `Short`.
+pub fn u32_at(bytes: &[u8], offset: usize) -> Result<u32>
+    ensures { Returns (λ n. n) result (record_at bytes.now offset 4 (le bytes.now offset 4)) }
 {
-    require_bytes(bytes, place, 4)?;
-    Ok(number32(bytes, place))
+    require_bytes(bytes, offset, 4)?;
+    Ok(read_u32(bytes, offset))
 }
 
-/// The `u64` at offset `place`. Error: `Short`.
-pub fn u64_at(bytes: &[u8], place: usize) -> Result<u64>
-    ensures { Gives (λ n. n) result (record_at bytes.now place 8 (le bytes.now place 8)) }
+/// The `u64` at `offset`. Error: `Short`.
+pub fn u64_at(bytes: &[u8], offset: usize) -> Result<u64>
+    ensures { Returns (λ n. n) result (record_at bytes.now offset 8 (le bytes.now offset 8)) }
 {
-    require_bytes(bytes, place, 8)?;
-    Ok(number64(bytes, place))
+    require_bytes(bytes, offset, 8)?;
+    Ok(read_u64(bytes, offset))
 }
 
-/// Returns `WriteFit` unless `buffer` has `n` bytes from offset `place` on.
-pub fn require_room(buffer: &[u8], place: usize, n: usize) -> Result<()>
-    ensures { Gives (λ u. u) result (fit_at buffer.now place n) }
+/// Returns `WriteFit` unless `buffer` has `n` bytes from `offset` on.
+pub fn require_room(buffer: &[u8], offset: usize, n: usize) -> Result<()>
+    ensures { Returns (λ u. u) result (fit_at buffer.now offset n) }
 {
-    // Subtracted, not added: `place + n` may overflow.
-    if n <= buffer.len() && place <= buffer.len() - n {
+    // Subtracted, not added: `offset + n` may overflow.
+    if n <= buffer.len() && offset <= buffer.len() - n {
         Ok(())
     } else {
         Err(Error::Malformed(Reason::WriteFit {
-            end: (place as u64).saturating_add(n as u64),
+            end: (offset as u64).saturating_add(n as u64),
             length: buffer.len(),
         }))
     }
 }
 
-/// Writes `piece` at offset `place`. Error: `WriteFit`; `buffer` is then unchanged.
+/// Writes `piece` at `offset`. Error: `WriteFit`; `buffer` is then unchanged.
 #[tactic(auto, unfolding(crate::specs::Bytes::splice))]
-pub fn put_slice(buffer: &mut [u8], place: usize, piece: &[u8]) -> Result<()>
-    ensures fit { Gives (λ u. u) result (fit_at buffer.old place (length piece.now)) }
-    ensures after { buffer.new ≡ put buffer.old place piece.now }
+pub fn put_slice(buffer: &mut [u8], offset: usize, piece: &[u8]) -> Result<()>
+    ensures fit { Returns (λ u. u) result (fit_at buffer.old offset (length piece.now)) }
+    ensures after { buffer.new ≡ put buffer.old offset piece.now }
 {
-    require_room(buffer, place, piece.len())?;
-    buffer[place..place + piece.len()].copy_from_slice(piece);
+    require_room(buffer, offset, piece.len())?;
+    buffer[offset..offset + piece.len()].copy_from_slice(piece);
     Ok(())
 }
 
-/// Writes a byte at offset `place`. Error: `WriteFit`; `buffer` is then unchanged.
+/// Writes a byte at `offset`. Error: `WriteFit`; `buffer` is then unchanged.
 #[tactic(auto, unfolding(crate::specs::Bytes::bytes_of))]
-pub fn put_u8(buffer: &mut [u8], place: usize, n: u8) -> Result<()>
-    ensures fit { Gives (λ u. u) result (fit_at buffer.old place 1) }
-    ensures after { buffer.new ≡ put buffer.old place (bytes_of 1 n) }
+pub fn put_u8(buffer: &mut [u8], offset: usize, n: u8) -> Result<()>
+    ensures fit { Returns (λ u. u) result (fit_at buffer.old offset 1) }
+    ensures after { buffer.new ≡ put buffer.old offset (bytes_of 1 n) }
 {
-    put_slice(buffer, place, &u8::to_le_bytes(n))
+    put_slice(buffer, offset, &u8::to_le_bytes(n))
 }
 
-/// Writes a `u16` at offset `place`. Error: `WriteFit`; `buffer` is then unchanged.
+/// Writes a `u16` at `offset`. Error: `WriteFit`; `buffer` is then unchanged.
 #[tactic(auto, unfolding(crate::specs::Bytes::bytes_of))]
-pub fn put_u16(buffer: &mut [u8], place: usize, n: u16) -> Result<()>
-    ensures fit { Gives (λ u. u) result (fit_at buffer.old place 2) }
-    ensures after { buffer.new ≡ put buffer.old place (bytes_of 2 n) }
+pub fn put_u16(buffer: &mut [u8], offset: usize, n: u16) -> Result<()>
+    ensures fit { Returns (λ u. u) result (fit_at buffer.old offset 2) }
+    ensures after { buffer.new ≡ put buffer.old offset (bytes_of 2 n) }
 {
-    put_slice(buffer, place, &u16::to_le_bytes(n))
+    put_slice(buffer, offset, &u16::to_le_bytes(n))
 }
 
-/// Writes a `u32` at offset `place`. Error: `WriteFit`; `buffer` is then unchanged.
+/// Writes a `u32` at `offset`. Error: `WriteFit`; `buffer` is then unchanged.
 #[tactic(auto, unfolding(crate::specs::Bytes::bytes_of))]
-pub fn put_u32(buffer: &mut [u8], place: usize, n: u32) -> Result<()>
-    ensures fit { Gives (λ u. u) result (fit_at buffer.old place 4) }
-    ensures after { buffer.new ≡ put buffer.old place (bytes_of 4 n) }
+pub fn put_u32(buffer: &mut [u8], offset: usize, n: u32) -> Result<()>
+    ensures fit { Returns (λ u. u) result (fit_at buffer.old offset 4) }
+    ensures after { buffer.new ≡ put buffer.old offset (bytes_of 4 n) }
 {
-    put_slice(buffer, place, &u32::to_le_bytes(n))
+    put_slice(buffer, offset, &u32::to_le_bytes(n))
 }
 
-/// Writes a `u64` at offset `place`. Error: `WriteFit`; `buffer` is then unchanged.
+/// Writes a `u64` at `offset`. Error: `WriteFit`; `buffer` is then unchanged.
 #[tactic(auto, unfolding(crate::specs::Bytes::bytes_of))]
-pub fn put_u64(buffer: &mut [u8], place: usize, n: u64) -> Result<()>
-    ensures fit { Gives (λ u. u) result (fit_at buffer.old place 8) }
-    ensures after { buffer.new ≡ put buffer.old place (bytes_of 8 n) }
+pub fn put_u64(buffer: &mut [u8], offset: usize, n: u64) -> Result<()>
+    ensures fit { Returns (λ u. u) result (fit_at buffer.old offset 8) }
+    ensures after { buffer.new ≡ put buffer.old offset (bytes_of 8 n) }
 {
-    put_slice(buffer, place, &u64::to_le_bytes(n))
+    put_slice(buffer, offset, &u64::to_le_bytes(n))
 }

@@ -4,7 +4,7 @@
 ghost use Rattle.std.specs.Prelude.{◌≡◌, length};
 ghost use Rattle.pe_core.specs.CountedTable.{Counted, u32_of, triple_of, one_more, after_read};
 
-use crate::bytes::{number32, require_bytes};
+use crate::bytes::{read_u32, require_bytes};
 use std::marker::Model;
 
 /// A table whose bytes are read by `u32_at` and `triple_at` alone, each of which counts. It can't be cloned, so its
@@ -50,31 +50,31 @@ impl<'a> CountedTable<'a> {
         self.reads
     }
 
-    /// The `u32` at offset `place` of the table, or `None` if it is truncated. Counts one read in either case.
-    pub fn u32_at(&mut self, place: usize) -> Option<u32>
-        ensures value { result ≡ u32_of self.old.content place }
+    /// The `u32` at `offset` of the table, or `None` if it is truncated. Counts one read in either case.
+    pub fn u32_at(&mut self, offset: usize) -> Option<u32>
+        ensures value { result ≡ u32_of self.old.content offset }
         ensures counts { self.new ≡ after_read self.old }
     {
         count_one(&mut self.reads);
-        match require_bytes(self.bytes, place, 4) {
-            Ok(()) => Some(number32(self.bytes, place)),
+        match require_bytes(self.bytes, offset, 4) {
+            Ok(()) => Some(read_u32(self.bytes, offset)),
             Err(_) => None,
         }
     }
 
-    /// Three `u32`s, one after the other, at offset `place` of the table, or `None` if they are truncated. Counts one
+    /// Three `u32`s, one after the other, at `offset` of the table, or `None` if they are truncated. Counts one
     /// read in either case.
-    pub fn triple_at(&mut self, place: usize) -> Option<[u32; 3]>
-        ensures value { result ≡ triple_of self.old.content place }
+    pub fn triple_at(&mut self, offset: usize) -> Option<[u32; 3]>
+        ensures value { result ≡ triple_of self.old.content offset }
         ensures counts { self.new ≡ after_read self.old }
     {
         count_one(&mut self.reads);
         let bytes = self.bytes;
-        match require_bytes(bytes, place, 12) {
+        match require_bytes(bytes, offset, 12) {
             Ok(()) => Some([
-                number32(bytes, place),
-                number32(bytes, place + 4),
-                number32(bytes, place + 8),
+                read_u32(bytes, offset),
+                read_u32(bytes, offset + 4),
+                read_u32(bytes, offset + 8),
             ]),
             Err(_) => None,
         }

@@ -4,10 +4,10 @@
 //! caller takes an entry from `DataDirectories` and passes it to the reader of its table.
 
 ghost use Rattle.std.specs.Prelude.{◌≡◌, ◌+◌, ◌*◌, ◌≤◌, length};
-ghost use Rattle.pe_core.specs.Refusals.{Gives};
+ghost use Rattle.pe_core.specs.Refusals.{Returns};
 ghost use Rattle.pe_core.specs.Bytes.{record_at};
 
-use crate::bytes::{number32, require_bytes};
+use crate::bytes::{read_u32, require_bytes};
 use crate::error::Result;
 use std::fmt;
 
@@ -64,24 +64,24 @@ const ABSENT: DataDirectory = DataDirectory {
 impl DataDirectory {
     ghost use Rattle.pe_core.specs.Records.{data_directory};
 
-    /// The directory at offset `place`, whose 8 bytes the caller knows to lie in `bytes`.
+    /// The directory at `offset`, whose 8 bytes the caller knows to lie in `bytes`.
     #[tactic(auto, unfolding(crate::specs::Records::data_directory))]
-    pub(crate) fn at(bytes: &[u8], place: usize) -> DataDirectory
-        requires { place + 8 ≤ length bytes.now }
-        ensures { result ≡ data_directory bytes.now place }
+    pub(crate) fn at(bytes: &[u8], offset: usize) -> DataDirectory
+        requires { offset + 8 ≤ length bytes.now }
+        ensures { result ≡ data_directory bytes.now offset }
     {
         DataDirectory {
-            virtual_address: number32(bytes, place),
-            size: number32(bytes, place + 4),
+            virtual_address: read_u32(bytes, offset),
+            size: read_u32(bytes, offset + 4),
         }
     }
 
-    /// The directory at offset `place`, 8 bytes. Error: `Short`.
-    pub fn parse(bytes: &[u8], place: usize) -> Result<DataDirectory>
-        ensures { Gives (λ d. d) result (record_at bytes.now place 8 (data_directory bytes.now place)) }
+    /// The directory at `offset`, 8 bytes. Error: `Short`.
+    pub fn parse(bytes: &[u8], offset: usize) -> Result<DataDirectory>
+        ensures { Returns (λ d. d) result (record_at bytes.now offset 8 (data_directory bytes.now offset)) }
     {
-        require_bytes(bytes, place, 8)?;
-        Ok(DataDirectory::at(bytes, place))
+        require_bytes(bytes, offset, 8)?;
+        Ok(DataDirectory::at(bytes, offset))
     }
 }
 
@@ -122,17 +122,17 @@ impl DataDirectories {
     ghost use Rattle.std.specs.Prelude.{min};
     ghost use Rattle.pe_core.specs.Directories.{directories, kept, kept_rows, present};
 
-    /// The directories at offset `place`, where the header counts `count` of them. The caller knows those that are kept
+    /// The directories at `offset`, where the header counts `count` of them. The caller knows those that are kept
     /// to lie in `bytes`.
     #[tactic(auto, using(std::proofs::lemmas::List::take_more_set), unfolding(crate::specs::Rows::each))]
-    pub(crate) fn at(bytes: &[u8], place: usize, count: u32) -> DataDirectories
-        requires { place + 8 * kept count ≤ length bytes.now }
-        ensures { kept_rows result ≡ directories bytes.now place count }
+    pub(crate) fn at(bytes: &[u8], offset: usize, count: u32) -> DataDirectories
+        requires { offset + 8 * kept count ≤ length bytes.now }
+        ensures { kept_rows result ≡ directories bytes.now offset count }
     {
         let count = count.min(16) as usize;
         let mut rows = [ABSENT; MOST_DIRECTORIES];
         for i in 0..count {
-            rows[i] = DataDirectory::at(bytes, place + 8 * i);
+            rows[i] = DataDirectory::at(bytes, offset + 8 * i);
         }
         DataDirectories { rows, count }
     }

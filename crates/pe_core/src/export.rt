@@ -7,15 +7,15 @@ ghost use Rattle.std.specs.Prelude.{◌≡◌, ◌*◌, ◌+◌, ◌/◌, ◌≤
 ghost use Rattle.std.specs.Option.{option_and_then, option_map};
 ghost use Rattle.pe_core.specs.Bytes.{le};
 ghost use Rattle.pe_core.specs.ExportSteps.{exports_from};
-ghost use Rattle.pe_core.specs.Exports.{export_data_view, export_data_at, export_view, exports, image_name, table_at, entry_of, named_export};
+ghost use Rattle.pe_core.specs.Exports.{export_data_view, export_data_at, export_view, exports, image_name, table_at, table_entry, named_export};
 ghost use Rattle.pe_core.specs.Options.{default_options};
-ghost use Rattle.pe_core.specs.Refusals.{Gives, GivesUnlessMemory};
+ghost use Rattle.pe_core.specs.Refusals.{Returns, ReturnsUnlessMemory};
 ghost use Rattle.pe_core.specs.Rows.{each};
 ghost use Rattle.pe_core.specs.SectionIndex.{offset_or_end};
 ghost use Rattle.pe_core.specs.SectionMap.{offset_in, section_map};
 ghost use Rattle.pe_core.specs.Text.{texts_of};
 
-use crate::bytes::{number16, number32, require_bytes, slice_at, u32_at};
+use crate::bytes::{read_u16, read_u32, require_bytes, slice_at, u32_at};
 use crate::data_directories::DataDirectory;
 use crate::error::Result;
 use crate::many_texts::texts_at;
@@ -59,24 +59,24 @@ pub struct ExportDirectoryTable {
 impl ExportDirectoryTable {
     ghost use Rattle.pe_core.specs.Records.{export_directory};
 
-    /// The export directory at offset `place`, whose 40 bytes the caller knows to lie in `bytes`.
+    /// The export directory at `offset`, whose 40 bytes the caller knows to lie in `bytes`.
     #[tactic(auto, unfolding(crate::specs::Records::export_directory))]
-    fn at(bytes: &[u8], place: usize) -> ExportDirectoryTable
-        requires { place + 40 ≤ length bytes.now }
-        ensures { result ≡ export_directory bytes.now place }
+    fn at(bytes: &[u8], offset: usize) -> ExportDirectoryTable
+        requires { offset + 40 ≤ length bytes.now }
+        ensures { result ≡ export_directory bytes.now offset }
     {
         ExportDirectoryTable {
-            characteristics: number32(bytes, place),
-            time_date_stamp: number32(bytes, place + 4),
-            major: number16(bytes, place + 8),
-            minor: number16(bytes, place + 10),
-            name_rva: number32(bytes, place + 12),
-            ordinal_base: number32(bytes, place + 16),
-            address_table_entries: number32(bytes, place + 20),
-            number_of_name_pointers: number32(bytes, place + 24),
-            address_table_rva: number32(bytes, place + 28),
-            name_pointer_rva: number32(bytes, place + 32),
-            ordinal_table_rva: number32(bytes, place + 36),
+            characteristics: read_u32(bytes, offset),
+            time_date_stamp: read_u32(bytes, offset + 4),
+            major: read_u16(bytes, offset + 8),
+            minor: read_u16(bytes, offset + 10),
+            name_rva: read_u32(bytes, offset + 12),
+            ordinal_base: read_u32(bytes, offset + 16),
+            address_table_entries: read_u32(bytes, offset + 20),
+            number_of_name_pointers: read_u32(bytes, offset + 24),
+            address_table_rva: read_u32(bytes, offset + 28),
+            name_pointer_rva: read_u32(bytes, offset + 32),
+            ordinal_table_rva: read_u32(bytes, offset + 36),
         }
     }
 }
@@ -88,8 +88,8 @@ fn image_name<'a>(bytes: &'a [u8], rva: u32, sections: &SectionMap<'_>) -> Optio
     if rva == 0 {
         return None;
     }
-    let place = sections.find(rva as usize)?;
-    text_at(bytes, place)
+    let offset = sections.find(rva as usize)?;
+    text_at(bytes, offset)
 }
 
 /// The table of `size` bytes at this RVA. An empty table has no RVA to map.
@@ -99,13 +99,13 @@ fn table_at<'a>(
     size: usize,
     sections: &SectionMap<'_>,
 ) -> Result<&'a [u8]>
-    ensures { Gives (λ s. s.now) result (table_at (offset_in sections.now) bytes.entry.now rva size) }
+    ensures { Returns (λ s. s.now) result (table_at (offset_in sections.now) bytes.entry.now rva size) }
 {
     if size == 0 {
         return Ok(&[]);
     }
-    let place = sections.offset_of(rva)?;
-    slice_at(bytes, place, size)
+    let offset = sections.offset_of(rva)?;
+    slice_at(bytes, offset, size)
 }
 
 /// The export directory of an image and its three tables.
@@ -132,7 +132,7 @@ impl<'a> ExportData<'a> {
         sections: &[SectionTable],
         file_alignment: u32,
     ) -> Result<ExportData<'a>>
-        ensures { Gives export_data_view result (export_data_at (section_map default_options sections.now file_alignment) bytes.entry.now directory.virtual_address) }
+        ensures { Returns export_data_view result (export_data_at (section_map default_options sections.now file_alignment) bytes.entry.now directory.virtual_address) }
     {
         ExportData::parse_with_opts(
             bytes,
@@ -154,7 +154,7 @@ impl<'a> ExportData<'a> {
         file_alignment: u32,
         opts: &ParseOptions,
     ) -> Result<ExportData<'a>>
-        ensures { Gives export_data_view result (export_data_at (section_map opts.now sections.now file_alignment) bytes.entry.now directory.virtual_address) }
+        ensures { Returns export_data_view result (export_data_at (section_map opts.now sections.now file_alignment) bytes.entry.now directory.virtual_address) }
     {
         let sections = SectionMap::new(sections, file_alignment, opts);
         ExportData::parse_with_map(bytes, directory, &sections)
@@ -167,11 +167,11 @@ impl<'a> ExportData<'a> {
         directory: DataDirectory,
         sections: &SectionMap<'_>,
     ) -> Result<ExportData<'a>>
-        ensures { Gives export_data_view result (export_data_at (offset_in sections.now) bytes.entry.now directory.virtual_address) }
+        ensures { Returns export_data_view result (export_data_at (offset_in sections.now) bytes.entry.now directory.virtual_address) }
     {
-        let place = sections.offset_of(directory.virtual_address)?;
-        require_bytes(bytes, place, SIZE_OF_EXPORT_DIRECTORY)?;
-        let directory = ExportDirectoryTable::at(bytes, place);
+        let offset = sections.offset_of(directory.virtual_address)?;
+        require_bytes(bytes, offset, SIZE_OF_EXPORT_DIRECTORY)?;
+        let directory = ExportDirectoryTable::at(bytes, offset);
         let size = 4 * directory.address_table_entries as usize;
         let rva = directory.address_table_rva;
         let addresses = table_at(bytes, rva, size, sections)?;
@@ -204,10 +204,10 @@ pub struct Export<'a> {
 
 /// The index into the address table for entry `i` of the name table.
 fn ordinal_of(ordinals: &[u8], i: usize) -> Option<u16>
-    ensures { result ≡ entry_of 2 ordinals.now i }
+    ensures { result ≡ table_entry 2 ordinals.now i }
 {
     if i < ordinals.len() / 2 {
-        Some(number16(ordinals, 2 * i))
+        Some(read_u16(ordinals, 2 * i))
     } else {
         None
     }
@@ -215,7 +215,7 @@ fn ordinal_of(ordinals: &[u8], i: usize) -> Option<u16>
 
 /// The RVA at this index of the address table.
 fn address_of(addresses: &[u8], ordinal: u16) -> Option<u32>
-    ensures { result ≡ entry_of 4 addresses.now ordinal }
+    ensures { result ≡ table_entry 4 addresses.now ordinal }
 {
     u32_at(addresses, 4 * ordinal as usize).ok()
 }
@@ -246,7 +246,7 @@ fn named_exports<'a, A: Allocator>(
     export_data: &ExportData<'_>,
     sections: &SectionMap<'_>,
 ) -> Result<Vec<Export<'a>, A>>
-    ensures { GivesUnlessMemory (λ v. map export_view v.items) result (Ok (exports_from (offset_in sections.now) (export_data_view export_data.now) 0 (texts_of names.now))) }
+    ensures { ReturnsUnlessMemory (λ v. map export_view v.items) result (Ok (exports_from (offset_in sections.now) (export_data_view export_data.now) 0 (texts_of names.now))) }
 {
     let mut exports = Vec::with_capacity(alloc, names.len())?;
     for (i, name) in names.iter().enumerate() {
@@ -259,7 +259,7 @@ fn named_exports<'a, A: Allocator>(
 
 /// The offsets of the names, by the name table.
 #[tactic(auto, unfolding(crate::specs::Rows::each))]
-fn name_places<A: Allocator>(
+fn name_offsets<A: Allocator>(
     alloc: A,
     names: &[u8],
     sections: &SectionMap<'_>,
@@ -267,11 +267,11 @@ fn name_places<A: Allocator>(
     ensures { IfOk result (λ v. v.items ≡ each (λ i. offset_or_end (offset_in sections.now (le names.now (4 * i) 4))) (length names.now / 4)) }
 {
     let count = names.len() / 4;
-    let mut places = Vec::with_capacity(alloc, count)?;
+    let mut offsets = Vec::with_capacity(alloc, count)?;
     for i in 0..count {
-        places.push(sections.find_or_end(number32(names, 4 * i)))?;
+        offsets.push(sections.find_or_end(read_u32(names, 4 * i)))?;
     }
-    Ok(places)
+    Ok(offsets)
 }
 
 impl<'a> Export<'a> {
@@ -285,7 +285,7 @@ impl<'a> Export<'a> {
         file_alignment: u32,
         opts: &ParseOptions,
     ) -> Result<Vec<Export<'a>, A>>
-        ensures { GivesUnlessMemory (λ v. map export_view v.items) result (Ok (exports (section_map opts.now sections.now file_alignment) bytes.entry.now (export_data_view export_data.now))) }
+        ensures { ReturnsUnlessMemory (λ v. map export_view v.items) result (Ok (exports (section_map opts.now sections.now file_alignment) bytes.entry.now (export_data_view export_data.now))) }
     {
         let index = SectionIndex::new(alloc, sections, file_alignment, opts)?;
         Export::parse_with_map(alloc, bytes, export_data, &index.map())
@@ -299,11 +299,11 @@ impl<'a> Export<'a> {
         export_data: &ExportData<'_>,
         sections: &SectionMap<'_>,
     ) -> Result<Vec<Export<'a>, A>>
-        ensures { GivesUnlessMemory (λ v. map export_view v.items) result (Ok (exports (offset_in sections.now) bytes.entry.now (export_data_view export_data.now))) }
+        ensures { ReturnsUnlessMemory (λ v. map export_view v.items) result (Ok (exports (offset_in sections.now) bytes.entry.now (export_data_view export_data.now))) }
     {
-        let places = name_places(alloc, export_data.names, sections)?;
+        let offsets = name_offsets(alloc, export_data.names, sections)?;
         // All names at once: many of them may lie in one long text.
-        let names = texts_at(alloc, bytes, &places)?;
+        let names = texts_at(alloc, bytes, &offsets)?;
         named_exports(alloc, &names, export_data, sections)
     }
 }

@@ -5,10 +5,10 @@
 
 ghost use Rattle.std.specs.Prelude.{◌≡◌, ◌+◌, ◌≤◌, length};
 ghost use Rattle.pe_core.specs.Bytes.{record_at};
-ghost use Rattle.pe_core.specs.Refusals.{Gives};
-ghost use Rattle.pe_core.specs.TerseHeader.{reduced};
+ghost use Rattle.pe_core.specs.Refusals.{Returns};
+ghost use Rattle.pe_core.specs.TeImages.{reduced};
 
-use crate::bytes::{number8, number16, number32, number64, require_bytes, u32_at};
+use crate::bytes::{read_u8, read_u16, read_u32, read_u64, require_bytes, u32_at};
 use crate::data_directories::DataDirectory;
 use crate::error::{Error, Reason, Result};
 use crate::optional_header::OptionalHeader;
@@ -61,15 +61,15 @@ impl DosHeader {
     /// The DOS header at the start of `bytes`, whatever its signature. Error: `Short`.
     #[tactic(auto, unfolding(crate::specs::Records::dos_header))]
     pub fn parse(bytes: &[u8]) -> Result<DosHeader>
-        ensures { Gives (λ d. d) result (record_at bytes.now 0 64 (dos_header bytes.now 0)) }
+        ensures { Returns (λ d. d) result (record_at bytes.now 0 64 (dos_header bytes.now 0)) }
     {
         require_bytes(bytes, 0, 64)?;
         let mut rest = [0; 58];
         rest.copy_from_slice(&bytes[2..60]);
         Ok(DosHeader {
-            signature: number16(bytes, 0),
+            signature: read_u16(bytes, 0),
             rest,
-            pe_pointer: number32(bytes, 60),
+            pe_pointer: read_u32(bytes, 60),
         })
     }
 }
@@ -97,20 +97,20 @@ pub struct CoffHeader {
 impl CoffHeader {
     ghost use Rattle.pe_core.specs.Records.{coff_header};
 
-    /// The COFF header at offset `place`. Error: `Short`.
+    /// The COFF header at `offset`. Error: `Short`.
     #[tactic(auto, unfolding(crate::specs::Records::coff_header))]
-    pub fn parse(bytes: &[u8], place: usize) -> Result<CoffHeader>
-        ensures { Gives (λ c. c) result (record_at bytes.now place 20 (coff_header bytes.now place)) }
+    pub fn parse(bytes: &[u8], offset: usize) -> Result<CoffHeader>
+        ensures { Returns (λ c. c) result (record_at bytes.now offset 20 (coff_header bytes.now offset)) }
     {
-        require_bytes(bytes, place, 20)?;
+        require_bytes(bytes, offset, 20)?;
         Ok(CoffHeader {
-            machine: number16(bytes, place),
-            number_of_sections: number16(bytes, place + 2),
-            time_date_stamp: number32(bytes, place + 4),
-            pointer_to_symbol_table: number32(bytes, place + 8),
-            number_of_symbol_table: number32(bytes, place + 12),
-            size_of_optional_header: number16(bytes, place + 16),
-            characteristics: number16(bytes, place + 18),
+            machine: read_u16(bytes, offset),
+            number_of_sections: read_u16(bytes, offset + 2),
+            time_date_stamp: read_u32(bytes, offset + 4),
+            pointer_to_symbol_table: read_u32(bytes, offset + 8),
+            number_of_symbol_table: read_u32(bytes, offset + 12),
+            size_of_optional_header: read_u16(bytes, offset + 16),
+            characteristics: read_u16(bytes, offset + 18),
         })
     }
 }
@@ -149,7 +149,7 @@ pub(crate) fn reduced(number: u32, offset: u32) -> u32
 }
 
 impl DataDirectory {
-    ghost use Rattle.pe_core.specs.TerseHeader.{reduced_directory, reduced_debug};
+    ghost use Rattle.pe_core.specs.TeImages.{reduced_directory, reduced_debug};
 
     /// The directory with its RVA reduced.
     fn reduced(self, offset: u32) -> DataDirectory
@@ -175,7 +175,7 @@ impl DataDirectory {
 
 impl TeHeader {
     ghost use Rattle.pe_core.specs.Records.{te_header};
-    ghost use Rattle.pe_core.specs.TerseHeader.{rva_offset, rva_offset_of, reduced_header, te_header_of};
+    ghost use Rattle.pe_core.specs.TeImages.{rva_offset, rva_offset_of, reduced_header, te_header_of};
 
     /// The header at the start of `bytes`, whose 40 bytes the caller knows to be there.
     #[tactic(auto, unfolding(crate::specs::Records::te_header))]
@@ -184,14 +184,14 @@ impl TeHeader {
         ensures { result ≡ te_header bytes.now 0 }
     {
         TeHeader {
-            signature: number16(bytes, 0),
-            machine: number16(bytes, 2),
-            number_of_sections: number8(bytes, 4),
-            subsystem: number8(bytes, 5),
-            stripped_size: number16(bytes, 6),
-            entry_point: number32(bytes, 8),
-            base_of_code: number32(bytes, 12),
-            image_base: number64(bytes, 16),
+            signature: read_u16(bytes, 0),
+            machine: read_u16(bytes, 2),
+            number_of_sections: read_u8(bytes, 4),
+            subsystem: read_u8(bytes, 5),
+            stripped_size: read_u16(bytes, 6),
+            entry_point: read_u32(bytes, 8),
+            base_of_code: read_u32(bytes, 12),
+            image_base: read_u64(bytes, 16),
             reloc_dir: DataDirectory::at(bytes, 24),
             debug_dir: DataDirectory::at(bytes, 32),
         }
@@ -200,7 +200,7 @@ impl TeHeader {
     /// The number of dropped bytes beyond the 40 of this header, which `parse` and `sections` subtract from RVAs and
     /// raw pointers. Error: `TeSize` if fewer than 40 bytes were dropped.
     pub fn rva_offset(&self) -> Result<u32>
-        ensures { Gives (λ n. n) result (rva_offset_of self.now) }
+        ensures { Returns (λ n. n) result (rva_offset_of self.now) }
     {
         if self.stripped_size < SIZE_OF_TE_HEADER {
             return Err(Error::Malformed(Reason::TeSize(self.stripped_size)));
@@ -209,7 +209,7 @@ impl TeHeader {
     }
 
     /// The header with its RVAs reduced by the offset.
-    #[tactic(auto, unfolding(crate::specs::TerseHeader::reduced_header))]
+    #[tactic(auto, unfolding(crate::specs::TeImages::reduced_header))]
     fn reduced(self, offset: u32) -> TeHeader
         requires { offset ≡ rva_offset self }
         ensures { result ≡ reduced_header self }
@@ -228,9 +228,9 @@ impl TeHeader {
     /// - `Short`: fewer than 40 bytes;
     /// - `BadMagic`: the signature is not `TE_MAGIC`;
     /// - `TeSize`: fewer than 40 bytes were dropped.
-    #[tactic(auto, unfolding(crate::specs::TerseHeader::te_header_of, crate::specs::TerseHeader::te_tests, crate::specs::Records::te_header))]
+    #[tactic(auto, unfolding(crate::specs::TeImages::te_header_of, crate::specs::TeImages::te_tests, crate::specs::Records::te_header))]
     pub fn parse(bytes: &[u8]) -> Result<TeHeader>
-        ensures { Gives (λ t. t) result (te_header_of bytes.now) }
+        ensures { Returns (λ t. t) result (te_header_of bytes.now) }
     {
         require_bytes(bytes, 0, SIZE_OF_TE_HEADER as usize)?;
         let header = TeHeader::at_start(bytes);
@@ -264,7 +264,7 @@ impl<'a> Header<'a> {
     /// The headers, in the order in which they are read. The contract of `parse_with_opts` lists the tests instead.
     #[tactic(auto, unfolding(crate::specs::HeaderSteps::header_in_steps))]
     fn parse_in_steps(bytes: &'a [u8], opts: &ParseOptions) -> Result<Header<'a>>
-        ensures { Gives header_view result (header_in_steps bytes.now opts.now.parse_mode) }
+        ensures { Returns header_view result (header_in_steps bytes.now opts.now.parse_mode) }
     {
         let dos_header = DosHeader::parse(bytes)?;
         if dos_header.signature != DOS_MAGIC {
@@ -274,20 +274,20 @@ impl<'a> Header<'a> {
         if pointer < SIZE_OF_DOS_HEADER && opts.parse_mode == ParseMode::Strict {
             return Err(Error::Malformed(Reason::HeaderPointer(pointer)));
         }
-        let place = pointer as usize;
-        let signature = u32_at(bytes, place)?;
+        let offset = pointer as usize;
+        let signature = u32_at(bytes, offset)?;
         if signature != PE_MAGIC {
             return Err(Error::BadMagic(u64::from(signature)));
         }
-        let coff_header = CoffHeader::parse(bytes, place + 4)?;
+        let coff_header = CoffHeader::parse(bytes, offset + 4)?;
         let optional_header = if coff_header.size_of_optional_header == 0 {
             None
         } else {
-            Some(OptionalHeader::parse(bytes, place + 24)?)
+            Some(OptionalHeader::parse(bytes, offset + 24)?)
         };
         Ok(Header {
             dos_header,
-            dos_stub: if place < 64 { &[] } else { &bytes[64..place] },
+            dos_stub: if offset < 64 { &[] } else { &bytes[64..offset] },
             signature,
             coff_header,
             optional_header,
@@ -302,7 +302,7 @@ impl<'a> Header<'a> {
     /// - those of `OptionalHeader::parse`, unless the COFF header says that there is no optional header.
     #[tactic(auto, using(crate::proofs::Steps::same))]
     pub fn parse_with_opts(bytes: &'a [u8], opts: &ParseOptions) -> Result<Header<'a>>
-        ensures { Gives header_view result (header_at bytes.now opts.now.parse_mode) }
+        ensures { Returns header_view result (header_at bytes.now opts.now.parse_mode) }
     {
         Header::parse_in_steps(bytes, opts)
     }

@@ -9,14 +9,14 @@ ghost use Rattle.pe_core.specs.Imports.{AreLibraries, import_data_view, import_d
 ghost use Rattle.pe_core.specs.ImportSteps.{AreNames, StandInFront};
 ghost use Rattle.pe_core.specs.Options.{default_options};
 ghost use Rattle.pe_core.specs.Records.{import_entry};
-ghost use Rattle.pe_core.specs.Refusals.{Gives, GivesUnlessMemory, GivesUnlessMemoryAfter};
+ghost use Rattle.pe_core.specs.Refusals.{Returns, ReturnsUnlessMemory, ReturnsUnlessMemoryAfter};
 ghost use Rattle.pe_core.specs.Rows.{each};
 ghost use Rattle.pe_core.specs.SectionIndex.{offset_or_end};
 ghost use Rattle.pe_core.specs.SectionMap.{mapped, offset_in, section_map};
 ghost use Rattle.pe_core.specs.Text.{text_at, texts_of};
 ghost use Rattle.pe_core.specs.declared.error.Error.TheVariants.{Memory};
 
-use crate::bytes::{number32, number64, require_bytes};
+use crate::bytes::{read_u32, read_u64, require_bytes};
 use crate::data_directories::DataDirectory;
 use crate::error::{Error, Reason, Result};
 use crate::many_texts::texts_at;
@@ -47,27 +47,27 @@ impl ImportDirectoryEntry {
     ghost use Rattle.pe_core.specs.Records.{import_entry};
     ghost use Rattle.pe_core.specs.Imports.{is_last, lookups_rva};
 
-    /// The record at offset `place`, whose 20 bytes the caller knows to lie in `bytes`.
+    /// The record at `offset`, whose 20 bytes the caller knows to lie in `bytes`.
     #[tactic(auto, unfolding(crate::specs::Records::import_entry))]
-    fn at(bytes: &[u8], place: usize) -> ImportDirectoryEntry
-        requires { place + 20 ≤ length bytes.now }
-        ensures { result ≡ import_entry bytes.now place }
+    fn at(bytes: &[u8], offset: usize) -> ImportDirectoryEntry
+        requires { offset + 20 ≤ length bytes.now }
+        ensures { result ≡ import_entry bytes.now offset }
     {
         ImportDirectoryEntry {
-            lookup_table_rva: number32(bytes, place),
-            time_date_stamp: number32(bytes, place + 4),
-            forwarder_chain: number32(bytes, place + 8),
-            name_rva: number32(bytes, place + 12),
-            address_table_rva: number32(bytes, place + 16),
+            lookup_table_rva: read_u32(bytes, offset),
+            time_date_stamp: read_u32(bytes, offset + 4),
+            forwarder_chain: read_u32(bytes, offset + 8),
+            name_rva: read_u32(bytes, offset + 12),
+            address_table_rva: read_u32(bytes, offset + 16),
         }
     }
 
-    /// The record at offset `place`, 20 bytes. Error: `Short`.
-    pub fn parse(bytes: &[u8], place: usize) -> Result<ImportDirectoryEntry>
-        ensures { Gives (λ e. e) result (record_at bytes.now place 20 (import_entry bytes.now place)) }
+    /// The record at `offset`, 20 bytes. Error: `Short`.
+    pub fn parse(bytes: &[u8], offset: usize) -> Result<ImportDirectoryEntry>
+        ensures { Returns (λ e. e) result (record_at bytes.now offset 20 (import_entry bytes.now offset)) }
     {
-        require_bytes(bytes, place, SIZE_OF_IMPORT_ENTRY)?;
-        Ok(ImportDirectoryEntry::at(bytes, place))
+        require_bytes(bytes, offset, SIZE_OF_IMPORT_ENTRY)?;
+        Ok(ImportDirectoryEntry::at(bytes, offset))
     }
 
     /// Whether the record ends the directory: the RVA of its name or of its address table is 0.
@@ -115,31 +115,31 @@ pub fn lookup_size(is_64: bool) -> usize
     if is_64 { 8 } else { 4 }
 }
 
-/// The lookup entry at offset `place`, whose bytes the caller knows to lie in `bytes`.
-pub fn lookup_number(bytes: &[u8], place: usize, is_64: bool) -> u64
-    requires { place + entry_size is_64 ≤ length bytes.now }
-    ensures { result ≡ le bytes.now place (entry_size is_64) }
+/// The lookup entry at `offset`, whose bytes the caller knows to lie in `bytes`.
+pub fn lookup_number(bytes: &[u8], offset: usize, is_64: bool) -> u64
+    requires { offset + entry_size is_64 ≤ length bytes.now }
+    ensures { result ≡ le bytes.now offset (entry_size is_64) }
 {
     if is_64 {
-        number64(bytes, place)
+        read_u64(bytes, offset)
     } else {
-        u64::from(number32(bytes, place))
+        u64::from(read_u32(bytes, offset))
     }
 }
 
-/// The lookup entries from offset `place` on, without the zero entry that ends them. They have 8 bytes in PE32+
+/// The lookup entries from `offset` on, without the zero entry that ends them. They have 8 bytes in PE32+
 /// (`is_64`), 4 in PE32. Error: `Short` if no zero entry ends them.
 #[tactic(auto, using(crate::proofs::ImportLists::entries_read))]
-pub fn lookups_at(bytes: &[u8], place: usize, is_64: bool) -> Result<&[u8]>
-    ensures { Gives (λ s. s.now) result (lookups_at (entry_size is_64) bytes.now (Some place)) }
+pub fn lookups_at(bytes: &[u8], offset: usize, is_64: bool) -> Result<&[u8]>
+    ensures { Returns (λ s. s.now) result (lookups_at (entry_size is_64) bytes.now (Some offset)) }
 {
     let size = lookup_size(is_64);
     let mut count = 0;
     loop {
-        let end = place + size * count;
+        let end = offset + size * count;
         require_bytes(bytes, end, size)?;
         if lookup_number(bytes, end, is_64) == 0 {
-            return Ok(&bytes[place..end]);
+            return Ok(&bytes[offset..end]);
         }
         count += 1;
     }
@@ -152,10 +152,10 @@ fn lookups_of<'a>(
     sections: &SectionMap<'_>,
     is_64: bool,
 ) -> Result<&'a [u8]>
-    ensures { Gives (λ s. s.now) result (lookups_at (entry_size is_64) bytes.entry.now (offset_in sections.now (lookups_rva entry.now))) }
+    ensures { Returns (λ s. s.now) result (lookups_at (entry_size is_64) bytes.entry.now (offset_in sections.now (lookups_rva entry.now))) }
 {
     match sections.find(entry.lookups_rva() as usize) {
-        Some(place) => lookups_at(bytes, place, is_64),
+        Some(offset) => lookups_at(bytes, offset, is_64),
         None => Ok(&[]),
     }
 }
@@ -171,7 +171,7 @@ fn import_record<'a>(
     is_64: bool,
 ) -> Result<SyntheticImportDirectoryEntry<'a>>
     requires { option_map (λ s. s.now) name ≡ option_and_then (text_at bytes.now) (offset_in sections.now entry.name_rva) }
-    ensures { Gives (λ r. Some (import_record_view r)) result (import_record (offset_in sections.now) (entry_size is_64) bytes.entry.now entry) }
+    ensures { Returns (λ r. Some (import_record_view r)) result (import_record (offset_in sections.now) (entry_size is_64) bytes.entry.now entry) }
 {
     sections.offset_of(entry.name_rva)?;
     let Some(name) = name else {
@@ -186,18 +186,18 @@ fn import_record<'a>(
 }
 
 /// The number of whole records before the one that ends the directory, or before the end of the bytes.
-fn count_records(bytes: &[u8], place: usize) -> usize
-    ensures { StandInFront bytes.now place result }
+fn count_records(bytes: &[u8], offset: usize) -> usize
+    ensures { StandInFront bytes.now offset result }
 {
     let mut count = 0;
     while require_bytes(
         bytes,
-        place + SIZE_OF_IMPORT_ENTRY * count,
+        offset + SIZE_OF_IMPORT_ENTRY * count,
         SIZE_OF_IMPORT_ENTRY,
     )
     .is_ok()
     {
-        if ImportDirectoryEntry::at(bytes, place + SIZE_OF_IMPORT_ENTRY * count).is_last() {
+        if ImportDirectoryEntry::at(bytes, offset + SIZE_OF_IMPORT_ENTRY * count).is_last() {
             break;
         }
         count += 1;
@@ -207,22 +207,22 @@ fn count_records(bytes: &[u8], place: usize) -> usize
 
 /// The offsets of the names of the first `count` records.
 #[tactic(auto, unfolding(crate::specs::Rows::each))]
-fn name_places<A: Allocator>(
+fn name_offsets<A: Allocator>(
     alloc: A,
     bytes: &[u8],
-    place: usize,
+    offset: usize,
     count: usize,
     sections: &SectionMap<'_>,
 ) -> std::result::Result<Vec<usize, A>, AllocError>
-    requires { StandInFront bytes.now place count }
-    ensures { IfOk result (λ v. v.items ≡ each (λ i. offset_or_end (offset_in sections.now (import_entry bytes.now (place + 20 * i)).name_rva)) count) }
+    requires { StandInFront bytes.now offset count }
+    ensures { IfOk result (λ v. v.items ≡ each (λ i. offset_or_end (offset_in sections.now (import_entry bytes.now (offset + 20 * i)).name_rva)) count) }
 {
-    let mut places = Vec::with_capacity(alloc, count)?;
+    let mut offsets = Vec::with_capacity(alloc, count)?;
     for i in 0..count {
-        let entry = ImportDirectoryEntry::at(bytes, place + SIZE_OF_IMPORT_ENTRY * i);
-        places.push(sections.find_or_end(entry.name_rva))?;
+        let entry = ImportDirectoryEntry::at(bytes, offset + SIZE_OF_IMPORT_ENTRY * i);
+        offsets.push(sections.find_or_end(entry.name_rva))?;
     }
-    Ok(places)
+    Ok(offsets)
 }
 
 /// The records that have these names. `Short` if the record that ends the directory is truncated.
@@ -230,41 +230,41 @@ fn name_places<A: Allocator>(
 fn named_records<'a, A: Allocator>(
     alloc: A,
     bytes: &'a [u8],
-    place: usize,
+    offset: usize,
     names: &[Option<&'a str>],
     sections: &SectionMap<'_>,
     is_64: bool,
 ) -> Result<Vec<SyntheticImportDirectoryEntry<'a>, A>>
-    requires stand { StandInFront bytes.now place (length names.now) }
-    requires names { AreNames (offset_in sections.now) bytes.now place names.now }
-    ensures { GivesUnlessMemory (λ v. map import_record_view v.items) result (import_records (offset_in sections.now) (entry_size is_64) bytes.entry.now place) }
+    requires stand { StandInFront bytes.now offset (length names.now) }
+    requires names { AreNames (offset_in sections.now) bytes.now offset names.now }
+    ensures { ReturnsUnlessMemory (λ v. map import_record_view v.items) result (import_records (offset_in sections.now) (entry_size is_64) bytes.entry.now offset) }
 {
     let mut records = Vec::with_capacity(alloc, names.len())?;
     for (i, name) in names.iter().enumerate() {
-        let entry = ImportDirectoryEntry::at(bytes, place + SIZE_OF_IMPORT_ENTRY * i);
+        let entry = ImportDirectoryEntry::at(bytes, offset + SIZE_OF_IMPORT_ENTRY * i);
         records.push(import_record(bytes, entry, *name, sections, is_64)?)?;
     }
-    let end = place + SIZE_OF_IMPORT_ENTRY * names.len();
+    let end = offset + SIZE_OF_IMPORT_ENTRY * names.len();
     require_bytes(bytes, end, SIZE_OF_IMPORT_ENTRY)?;
     Ok(records)
 }
 
-/// The records of the directory at offset `place`.
+/// The records of the directory at `offset`.
 #[tactic(auto, using(crate::proofs::ImportLists::all_named))]
 fn records_at<'a, A: Allocator + Copy + Drop>(
     alloc: A,
     bytes: &'a [u8],
-    place: usize,
+    offset: usize,
     sections: &SectionMap<'_>,
     is_64: bool,
 ) -> Result<Vec<SyntheticImportDirectoryEntry<'a>, A>>
-    ensures { GivesUnlessMemory (λ v. map import_record_view v.items) result (import_records (offset_in sections.now) (entry_size is_64) bytes.entry.now place) }
+    ensures { ReturnsUnlessMemory (λ v. map import_record_view v.items) result (import_records (offset_in sections.now) (entry_size is_64) bytes.entry.now offset) }
 {
-    let count = count_records(bytes, place);
-    let places = name_places(alloc, bytes, place, count, sections)?;
+    let count = count_records(bytes, offset);
+    let offsets = name_offsets(alloc, bytes, offset, count, sections)?;
     // All names at once: many of them may lie in one long text.
-    let names = texts_at(alloc, bytes, &places)?;
-    named_records(alloc, bytes, place, &names, sections, is_64)
+    let names = texts_at(alloc, bytes, &offsets)?;
+    named_records(alloc, bytes, offset, &names, sections, is_64)
 }
 
 /// The names of the DLLs, in the order of the records.
@@ -300,7 +300,7 @@ impl<'a, A: Allocator + Copy + Drop> ImportData<'a, A> {
         file_alignment: u32,
         is_64: bool,
     ) -> Result<ImportData<'a, A>>
-        ensures { GivesUnlessMemoryAfter (mapped (section_map default_options sections.now file_alignment directory.virtual_address)) import_data_view result
+        ensures { ReturnsUnlessMemoryAfter (mapped (section_map default_options sections.now file_alignment directory.virtual_address)) import_data_view result
             (import_data_at (section_map default_options sections.now file_alignment) (entry_size is_64) bytes.entry.now directory.virtual_address) }
     {
         ImportData::parse_with_opts(
@@ -330,13 +330,13 @@ impl<'a, A: Allocator + Copy + Drop> ImportData<'a, A> {
         opts: &ParseOptions,
         is_64: bool,
     ) -> Result<ImportData<'a, A>>
-        ensures { GivesUnlessMemoryAfter (mapped (section_map opts.now sections.now file_alignment directory.virtual_address)) import_data_view result
+        ensures { ReturnsUnlessMemoryAfter (mapped (section_map opts.now sections.now file_alignment directory.virtual_address)) import_data_view result
             (import_data_at (section_map opts.now sections.now file_alignment) (entry_size is_64) bytes.entry.now directory.virtual_address) }
     {
         // Before the index, which allocates: an unmapped directory is `Unmapped` whether or not memory is left.
-        let place = mapped_offset(directory.virtual_address, sections, file_alignment, opts)?;
+        let offset = mapped_offset(directory.virtual_address, sections, file_alignment, opts)?;
         let index = SectionIndex::new(alloc, sections, file_alignment, opts)?;
-        let import_data = records_at(alloc, bytes, place, &index.map(), is_64)?;
+        let import_data = records_at(alloc, bytes, offset, &index.map(), is_64)?;
         Ok(ImportData { import_data })
     }
 
@@ -348,11 +348,11 @@ impl<'a, A: Allocator + Copy + Drop> ImportData<'a, A> {
         sections: &SectionMap<'_>,
         is_64: bool,
     ) -> Result<ImportData<'a, A>>
-        ensures { GivesUnlessMemoryAfter (mapped (offset_in sections.now directory.virtual_address)) import_data_view result
+        ensures { ReturnsUnlessMemoryAfter (mapped (offset_in sections.now directory.virtual_address)) import_data_view result
             (import_data_at (offset_in sections.now) (entry_size is_64) bytes.entry.now directory.virtual_address) }
     {
-        let place = sections.offset_of(directory.virtual_address)?;
-        let import_data = records_at(alloc, bytes, place, sections, is_64)?;
+        let offset = sections.offset_of(directory.virtual_address)?;
+        let import_data = records_at(alloc, bytes, offset, sections, is_64)?;
         Ok(ImportData { import_data })
     }
 

@@ -5,9 +5,9 @@
 ghost use Rattle.std.specs.Prelude.{◌≡◌, ◌*◌, ◌/◌, ◌%◌, ◌^◌, ◌++◌, length, map, IfOk, OnOk};
 ghost use Rattle.std.specs.Option.{option_map};
 ghost use Rattle.pe_core.specs.Gathered.{all_or_refusal};
-ghost use Rattle.pe_core.specs.Imports.{entries, entry_at, import_data_view, import_of, import_record_view, import_view, imports, entry_size};
-ghost use Rattle.pe_core.specs.ImportSteps.{AreEntryNames, entry_view, name_place};
-ghost use Rattle.pe_core.specs.Refusals.{Gives, GivesUnlessMemory};
+ghost use Rattle.pe_core.specs.Imports.{import_entries, import_entry_at, import_data_view, import_of, import_record_view, import_view, imports, entry_size};
+ghost use Rattle.pe_core.specs.ImportSteps.{AreEntryNames, entry_view, hint_offset_of};
+ghost use Rattle.pe_core.specs.Refusals.{Returns, ReturnsUnlessMemory};
 ghost use Rattle.pe_core.specs.Rows.{each};
 ghost use Rattle.pe_core.specs.SectionMap.{offset_in, section_map};
 ghost use Rattle.pe_core.specs.Text.{text_at};
@@ -75,7 +75,7 @@ fn push_entries<'a, A: Allocator>(
     is_64: bool,
     entries: &mut Vec<Entry<'a>, A>,
 ) -> std::result::Result<(), AllocError>
-    ensures { OnOk result (map entry_view entries.new.items ≡ map entry_view entries.old.items ++ each (entry_at (entry_size is_64) (import_record_view imported.now)) (length imported.now.lookups.now / entry_size is_64)) }
+    ensures { OnOk result (map entry_view entries.new.items ≡ map entry_view entries.old.items ++ each (import_entry_at (entry_size is_64) (import_record_view imported.now)) (length imported.now.lookups.now / entry_size is_64)) }
 {
     let size = lookup_size(is_64);
     let rva = u64::from(imported.import_directory_entry.address_table_rva);
@@ -90,13 +90,13 @@ fn push_entries<'a, A: Allocator>(
 }
 
 /// The lookup entries of all records, in their order.
-#[tactic(auto, unfolding(crate::specs::Imports::entries))]
+#[tactic(auto, unfolding(crate::specs::Imports::import_entries))]
 fn entries_of<'a, A: Allocator>(
     alloc: A,
     records: &[SyntheticImportDirectoryEntry<'a>],
     is_64: bool,
 ) -> std::result::Result<Vec<Entry<'a>, A>, AllocError>
-    ensures { IfOk result (λ v. map entry_view v.items ≡ entries (entry_size is_64) (map import_record_view records.now)) }
+    ensures { IfOk result (λ v. map entry_view v.items ≡ import_entries (entry_size is_64) (map import_record_view records.now)) }
 {
     let mut entries = Vec::new(alloc);
     for record in records {
@@ -106,17 +106,17 @@ fn entries_of<'a, A: Allocator>(
 }
 
 /// The offsets of the names that the entries lead to, each after its hint.
-fn entry_places<A: Allocator>(
+fn entry_offsets<A: Allocator>(
     alloc: A,
     entries: &[Entry<'_>],
     sections: &SectionMap<'_>,
     is_64: bool,
 ) -> std::result::Result<Vec<usize, A>, AllocError>
-    ensures { IfOk result (λ v. v.items ≡ map (name_place (offset_in sections.now) (entry_size is_64)) (map entry_view entries.now)) }
+    ensures { IfOk result (λ v. v.items ≡ map (hint_offset_of (offset_in sections.now) (entry_size is_64)) (map entry_view entries.now)) }
 {
-    let mut places = Vec::with_capacity(alloc, entries.len())?;
+    let mut offsets = Vec::with_capacity(alloc, entries.len())?;
     for entry in entries {
-        let place = if entry.is_ordinal(is_64) {
+        let offset = if entry.is_ordinal(is_64) {
             // No byte is at this offset, so an ordinal gets no name.
             usize::MAX
         } else {
@@ -124,9 +124,9 @@ fn entry_places<A: Allocator>(
                 .find_or_end(entry.name_rva())
                 .saturating_add(SIZE_OF_HINT)
         };
-        places.push(place)?;
+        offsets.push(offset)?;
     }
-    Ok(places)
+    Ok(offsets)
 }
 
 /// The import of an entry whose name was looked up. Errors, in order: `Unmapped`, `Short` (the hint), `ImportName`.
@@ -138,8 +138,8 @@ fn import_of<'a>(
     sections: &SectionMap<'_>,
     is_64: bool,
 ) -> Result<Import<'a>>
-    requires { option_map (λ s. s.now) name ≡ text_at bytes.now (name_place (offset_in sections.now) (entry_size is_64) (entry_view entry.now)) }
-    ensures { Gives import_view result (import_of (offset_in sections.now) (entry_size is_64) bytes.entry.now (entry_view entry.entry.now)) }
+    requires { option_map (λ s. s.now) name ≡ text_at bytes.now (hint_offset_of (offset_in sections.now) (entry_size is_64) (entry_view entry.now)) }
+    ensures { Returns import_view result (import_of (offset_in sections.now) (entry_size is_64) bytes.entry.now (entry_view entry.entry.now)) }
 {
     let Entry { dll, rva, .. } = *entry;
     if entry.is_ordinal(is_64) {
@@ -151,8 +151,8 @@ fn import_of<'a>(
         });
     }
     let name_rva = entry.name_rva();
-    let place = sections.offset_of(name_rva)?;
-    let ordinal = u16_at(bytes, place)?;
+    let offset = sections.offset_of(name_rva)?;
+    let ordinal = u16_at(bytes, offset)?;
     if name.is_none() {
         return Err(Error::Malformed(Reason::ImportName(name_rva)));
     }
@@ -176,7 +176,7 @@ fn named_imports<'a, A: Allocator>(
 ) -> Result<Vec<Import<'a>, A>>
     requires many { length names.now ≡ length entries.now }
     requires names { AreEntryNames (offset_in sections.now) (entry_size is_64) bytes.now entries.now names.now }
-    ensures { GivesUnlessMemory (λ v. map import_view v.items) result (all_or_refusal (map (import_of (offset_in sections.now) (entry_size is_64) bytes.entry.now) (map entry_view entries.now))) }
+    ensures { ReturnsUnlessMemory (λ v. map import_view v.items) result (all_or_refusal (map (import_of (offset_in sections.now) (entry_size is_64) bytes.entry.now) (map entry_view entries.now))) }
 {
     let mut imports = Vec::with_capacity(alloc, entries.len())?;
     for (i, entry) in entries.iter().enumerate() {
@@ -202,7 +202,7 @@ impl<'a> Import<'a> {
         opts: &ParseOptions,
         is_64: bool,
     ) -> Result<Vec<Import<'a>, A>>
-        ensures { GivesUnlessMemory (λ v. map import_view v.items) result (imports (section_map opts.now sections.now file_alignment) (entry_size is_64) bytes.entry.now (import_data_view import_data.now)) }
+        ensures { ReturnsUnlessMemory (λ v. map import_view v.items) result (imports (section_map opts.now sections.now file_alignment) (entry_size is_64) bytes.entry.now (import_data_view import_data.now)) }
     {
         let index = SectionIndex::new(alloc, sections, file_alignment, opts)?;
         Import::parse_with_map(alloc, bytes, import_data, &index.map(), is_64)
@@ -217,12 +217,12 @@ impl<'a> Import<'a> {
         sections: &SectionMap<'_>,
         is_64: bool,
     ) -> Result<Vec<Import<'a>, A>>
-        ensures { GivesUnlessMemory (λ v. map import_view v.items) result (imports (offset_in sections.now) (entry_size is_64) bytes.entry.now (import_data_view import_data.now)) }
+        ensures { ReturnsUnlessMemory (λ v. map import_view v.items) result (imports (offset_in sections.now) (entry_size is_64) bytes.entry.now (import_data_view import_data.now)) }
     {
         let entries = entries_of(alloc, &import_data.import_data, is_64)?;
-        let places = entry_places(alloc, &entries, sections, is_64)?;
+        let offsets = entry_offsets(alloc, &entries, sections, is_64)?;
         // All names at once: many of them may lie in one long text.
-        let names = texts_at(alloc, bytes, &places)?;
+        let names = texts_at(alloc, bytes, &offsets)?;
         named_imports(alloc, bytes, &entries, &names, sections, is_64)
     }
 }

@@ -9,8 +9,8 @@ ghost use Rattle.pe_core.specs.declared.options.ParseMode.{ParseMode};
 ghost use Rattle.pe_core.specs.Bytes.{AreBytes, range, le, bytes_of, put};
 ghost use Rattle.pe_core.specs.Chains.{after, NeverStops, FollowsKey, HasKeysBelow, KeyDecides};
 ghost use Rattle.pe_core.specs.Header.{OptionalHeaderView, HeaderView, optional_header_at, header_at};
-ghost use Rattle.pe_core.specs.Records.{dos_header, coff_header, standard32, standard64, windows32, windows64, data_directory, section_table, te_header};
-ghost use Rattle.pe_core.specs.Spelling.{spell_dos, spell_coff, spell_standard32, spell_standard64, spell_windows32, spell_windows64, spell_directory, spell_section, spell_te, spell_optional};
+ghost use Rattle.pe_core.specs.Records.{dos_header, coff_header, standard_fields_32, standard_fields_64, windows_fields_32, windows_fields_64, data_directory, section_table, te_header};
+ghost use Rattle.pe_core.specs.Spelling.{spell_dos, spell_coff, spell_standard_fields_32, spell_standard_fields_64, spell_windows_fields_32, spell_windows_fields_64, spell_directory, spell_section, spell_te, spell_optional};
 
 /// A number that is written at an offset, where it fits, is read there again.
 #[tactic(auto, using(crate::proofs::PutNumbers::numbers))]
@@ -19,14 +19,14 @@ pub fn numbers_that_are_put_are_read_again()
 {}
 
 /// A record that is read at an offset spells the bytes at that offset, whatever they are.
-#[tactic(auto, using(crate::proofs::SpelledRecords::spelled_dos, crate::proofs::SpelledRecords::spelled_coff, crate::proofs::SpelledRecords::spelled_standard32, crate::proofs::SpelledRecords::spelled_standard64, crate::proofs::SpelledRecords::spelled_windows32, crate::proofs::SpelledRecords::spelled_windows64, crate::proofs::SpelledRecords::spelled_directory, crate::proofs::SpelledRecords::spelled_section, crate::proofs::SpelledRecords::spelled_te))]
+#[tactic(auto, using(crate::proofs::SpelledRecords::spelled_dos, crate::proofs::SpelledRecords::spelled_coff, crate::proofs::SpelledRecords::spelled_standard_fields_32, crate::proofs::SpelledRecords::spelled_standard_fields_64, crate::proofs::SpelledRecords::spelled_windows_fields_32, crate::proofs::SpelledRecords::spelled_windows_fields_64, crate::proofs::SpelledRecords::spelled_directory, crate::proofs::SpelledRecords::spelled_section, crate::proofs::SpelledRecords::spelled_te))]
 pub fn records_spell_their_bytes()
     ensures dos { (b : List ℕ) (p : ℕ) → AreBytes b → p + 64 ≤ length b → spell_dos (dos_header b p) ≡ range b p 64 }
     ensures coff { (b : List ℕ) (p : ℕ) → AreBytes b → p + 20 ≤ length b → spell_coff (coff_header b p) ≡ range b p 20 }
-    ensures standard32 { (b : List ℕ) (p : ℕ) → AreBytes b → p + 28 ≤ length b → spell_standard32 (standard32 b p) ≡ range b p 28 }
-    ensures standard64 { (b : List ℕ) (p : ℕ) → AreBytes b → p + 24 ≤ length b → spell_standard64 (standard64 b p) ≡ range b p 24 }
-    ensures windows32 { (b : List ℕ) (p : ℕ) → AreBytes b → p + 68 ≤ length b → spell_windows32 (windows32 b p) ≡ range b p 68 }
-    ensures windows64 { (b : List ℕ) (p : ℕ) → AreBytes b → p + 88 ≤ length b → spell_windows64 (windows64 b p) ≡ range b p 88 }
+    ensures standard_fields_32 { (b : List ℕ) (p : ℕ) → AreBytes b → p + 28 ≤ length b → spell_standard_fields_32 (standard_fields_32 b p) ≡ range b p 28 }
+    ensures standard_fields_64 { (b : List ℕ) (p : ℕ) → AreBytes b → p + 24 ≤ length b → spell_standard_fields_64 (standard_fields_64 b p) ≡ range b p 24 }
+    ensures windows_fields_32 { (b : List ℕ) (p : ℕ) → AreBytes b → p + 68 ≤ length b → spell_windows_fields_32 (windows_fields_32 b p) ≡ range b p 68 }
+    ensures windows_fields_64 { (b : List ℕ) (p : ℕ) → AreBytes b → p + 88 ≤ length b → spell_windows_fields_64 (windows_fields_64 b p) ≡ range b p 88 }
     ensures directory { (b : List ℕ) (p : ℕ) → AreBytes b → p + 8 ≤ length b → spell_directory (data_directory b p) ≡ range b p 8 }
     ensures section { (b : List ℕ) (p : ℕ) → AreBytes b → p + 40 ≤ length b → spell_section (section_table b p) ≡ range b p 40 }
     ensures te { (b : List ℕ) (p : ℕ) → AreBytes b → p + 40 ≤ length b → spell_te (te_header b p) ≡ range b p 40 }

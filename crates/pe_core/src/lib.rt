@@ -31,7 +31,7 @@ mod text;
 
 pub use byte_range::ByteRange;
 pub use bytes::{
-    data_at, number8, number16, number32, number64, put_slice, put_u8, put_u16, put_u32, put_u64,
+    data_at, put_slice, put_u8, put_u16, put_u32, put_u64, read_u8, read_u16, read_u32, read_u64,
     require_bytes, require_room, slice_at, split_entry, u8_at, u16_at, u32_at, u64_at,
 };
 pub use counted_table::CountedTable;

@@ -4,9 +4,9 @@
 //! and takes from it the image base, the file alignment for the section map, and the directories.
 
 ghost use Rattle.std.specs.Prelude.{◌≡◌, ◌<◌, ◌==◌, ◌||◌, IsTrue};
-ghost use Rattle.pe_core.specs.Narrow.{IsNarrow};
+ghost use Rattle.pe_core.specs.Pe32.{IsPe32};
 
-use crate::bytes::{number8, number16, number32, number64, require_bytes, u16_at};
+use crate::bytes::{read_u8, read_u16, read_u32, read_u64, require_bytes, u16_at};
 use crate::data_directories::DataDirectories;
 use crate::error::{Error, Result};
 
@@ -42,44 +42,44 @@ pub struct StandardFields {
 impl StandardFields {
     ghost use Rattle.std.specs.Prelude.{◌+◌, ◌≤◌, length};
     ghost use Rattle.pe_core.specs.Bytes.{le};
-    ghost use Rattle.pe_core.specs.Records.{standard32, standard64};
+    ghost use Rattle.pe_core.specs.Records.{standard_fields_32, standard_fields_64};
 
     /// The fields of PE32, 28 bytes.
-    #[tactic(auto, unfolding(crate::specs::Records::standard32))]
-    fn narrow_at(bytes: &[u8], place: usize) -> StandardFields
-        requires { place + 28 ≤ length bytes.now }
-        ensures value { result ≡ standard32 bytes.now place }
-        ensures magic { result.magic ≡ le bytes.now place 2 }
+    #[tactic(auto, unfolding(crate::specs::Records::standard_fields_32))]
+    fn pe32_at(bytes: &[u8], offset: usize) -> StandardFields
+        requires { offset + 28 ≤ length bytes.now }
+        ensures value { result ≡ standard_fields_32 bytes.now offset }
+        ensures magic { result.magic ≡ le bytes.now offset 2 }
     {
         StandardFields {
-            magic: number16(bytes, place),
-            major_linker_version: number8(bytes, place + 2),
-            minor_linker_version: number8(bytes, place + 3),
-            size_of_code: number32(bytes, place + 4),
-            size_of_initialized_data: number32(bytes, place + 8),
-            size_of_uninitialized_data: number32(bytes, place + 12),
-            address_of_entry_point: number32(bytes, place + 16),
-            base_of_code: number32(bytes, place + 20),
-            base_of_data: number32(bytes, place + 24),
+            magic: read_u16(bytes, offset),
+            major_linker_version: read_u8(bytes, offset + 2),
+            minor_linker_version: read_u8(bytes, offset + 3),
+            size_of_code: read_u32(bytes, offset + 4),
+            size_of_initialized_data: read_u32(bytes, offset + 8),
+            size_of_uninitialized_data: read_u32(bytes, offset + 12),
+            address_of_entry_point: read_u32(bytes, offset + 16),
+            base_of_code: read_u32(bytes, offset + 20),
+            base_of_data: read_u32(bytes, offset + 24),
         }
     }
 
     /// The fields of PE32+, 24 bytes.
-    #[tactic(auto, unfolding(crate::specs::Records::standard64))]
-    fn wide_at(bytes: &[u8], place: usize) -> StandardFields
-        requires { place + 24 ≤ length bytes.now }
-        ensures value { result ≡ standard64 bytes.now place }
-        ensures magic { result.magic ≡ le bytes.now place 2 }
+    #[tactic(auto, unfolding(crate::specs::Records::standard_fields_64))]
+    fn pe32_plus_at(bytes: &[u8], offset: usize) -> StandardFields
+        requires { offset + 24 ≤ length bytes.now }
+        ensures value { result ≡ standard_fields_64 bytes.now offset }
+        ensures magic { result.magic ≡ le bytes.now offset 2 }
     {
         StandardFields {
-            magic: number16(bytes, place),
-            major_linker_version: number8(bytes, place + 2),
-            minor_linker_version: number8(bytes, place + 3),
-            size_of_code: number32(bytes, place + 4),
-            size_of_initialized_data: number32(bytes, place + 8),
-            size_of_uninitialized_data: number32(bytes, place + 12),
-            address_of_entry_point: number32(bytes, place + 16),
-            base_of_code: number32(bytes, place + 20),
+            magic: read_u16(bytes, offset),
+            major_linker_version: read_u8(bytes, offset + 2),
+            minor_linker_version: read_u8(bytes, offset + 3),
+            size_of_code: read_u32(bytes, offset + 4),
+            size_of_initialized_data: read_u32(bytes, offset + 8),
+            size_of_uninitialized_data: read_u32(bytes, offset + 12),
+            address_of_entry_point: read_u32(bytes, offset + 16),
+            base_of_code: read_u32(bytes, offset + 20),
             base_of_data: 0,
         }
     }
@@ -134,68 +134,68 @@ pub struct WindowsFields {
 
 impl WindowsFields {
     ghost use Rattle.std.specs.Prelude.{◌+◌, ◌≤◌, length};
-    ghost use Rattle.pe_core.specs.Records.{windows32, windows64};
+    ghost use Rattle.pe_core.specs.Records.{windows_fields_32, windows_fields_64};
 
     /// The fields of PE32, 68 bytes.
-    #[tactic(auto, unfolding(crate::specs::Records::windows32))]
-    fn narrow_at(bytes: &[u8], place: usize) -> WindowsFields
-        requires { place + 68 ≤ length bytes.now }
-        ensures value { result ≡ windows32 bytes.now place }
-        ensures narrow { IsNarrow result }
+    #[tactic(auto, unfolding(crate::specs::Records::windows_fields_32))]
+    fn pe32_at(bytes: &[u8], offset: usize) -> WindowsFields
+        requires { offset + 68 ≤ length bytes.now }
+        ensures value { result ≡ windows_fields_32 bytes.now offset }
+        ensures pe32 { IsPe32 result }
     {
         WindowsFields {
-            image_base: u64::from(number32(bytes, place)),
-            section_alignment: number32(bytes, place + 4),
-            file_alignment: number32(bytes, place + 8),
-            major_operating_system_version: number16(bytes, place + 12),
-            minor_operating_system_version: number16(bytes, place + 14),
-            major_image_version: number16(bytes, place + 16),
-            minor_image_version: number16(bytes, place + 18),
-            major_subsystem_version: number16(bytes, place + 20),
-            minor_subsystem_version: number16(bytes, place + 22),
-            win32_version_value: number32(bytes, place + 24),
-            size_of_image: number32(bytes, place + 28),
-            size_of_headers: number32(bytes, place + 32),
-            check_sum: number32(bytes, place + 36),
-            subsystem: number16(bytes, place + 40),
-            dll_characteristics: number16(bytes, place + 42),
-            size_of_stack_reserve: u64::from(number32(bytes, place + 44)),
-            size_of_stack_commit: u64::from(number32(bytes, place + 48)),
-            size_of_heap_reserve: u64::from(number32(bytes, place + 52)),
-            size_of_heap_commit: u64::from(number32(bytes, place + 56)),
-            loader_flags: number32(bytes, place + 60),
-            number_of_rva_and_sizes: number32(bytes, place + 64),
+            image_base: u64::from(read_u32(bytes, offset)),
+            section_alignment: read_u32(bytes, offset + 4),
+            file_alignment: read_u32(bytes, offset + 8),
+            major_operating_system_version: read_u16(bytes, offset + 12),
+            minor_operating_system_version: read_u16(bytes, offset + 14),
+            major_image_version: read_u16(bytes, offset + 16),
+            minor_image_version: read_u16(bytes, offset + 18),
+            major_subsystem_version: read_u16(bytes, offset + 20),
+            minor_subsystem_version: read_u16(bytes, offset + 22),
+            win32_version_value: read_u32(bytes, offset + 24),
+            size_of_image: read_u32(bytes, offset + 28),
+            size_of_headers: read_u32(bytes, offset + 32),
+            check_sum: read_u32(bytes, offset + 36),
+            subsystem: read_u16(bytes, offset + 40),
+            dll_characteristics: read_u16(bytes, offset + 42),
+            size_of_stack_reserve: u64::from(read_u32(bytes, offset + 44)),
+            size_of_stack_commit: u64::from(read_u32(bytes, offset + 48)),
+            size_of_heap_reserve: u64::from(read_u32(bytes, offset + 52)),
+            size_of_heap_commit: u64::from(read_u32(bytes, offset + 56)),
+            loader_flags: read_u32(bytes, offset + 60),
+            number_of_rva_and_sizes: read_u32(bytes, offset + 64),
         }
     }
 
     /// The fields of PE32+, 88 bytes.
-    #[tactic(auto, unfolding(crate::specs::Records::windows64))]
-    fn wide_at(bytes: &[u8], place: usize) -> WindowsFields
-        requires { place + 88 ≤ length bytes.now }
-        ensures { result ≡ windows64 bytes.now place }
+    #[tactic(auto, unfolding(crate::specs::Records::windows_fields_64))]
+    fn pe32_plus_at(bytes: &[u8], offset: usize) -> WindowsFields
+        requires { offset + 88 ≤ length bytes.now }
+        ensures { result ≡ windows_fields_64 bytes.now offset }
     {
         WindowsFields {
-            image_base: number64(bytes, place),
-            section_alignment: number32(bytes, place + 8),
-            file_alignment: number32(bytes, place + 12),
-            major_operating_system_version: number16(bytes, place + 16),
-            minor_operating_system_version: number16(bytes, place + 18),
-            major_image_version: number16(bytes, place + 20),
-            minor_image_version: number16(bytes, place + 22),
-            major_subsystem_version: number16(bytes, place + 24),
-            minor_subsystem_version: number16(bytes, place + 26),
-            win32_version_value: number32(bytes, place + 28),
-            size_of_image: number32(bytes, place + 32),
-            size_of_headers: number32(bytes, place + 36),
-            check_sum: number32(bytes, place + 40),
-            subsystem: number16(bytes, place + 44),
-            dll_characteristics: number16(bytes, place + 46),
-            size_of_stack_reserve: number64(bytes, place + 48),
-            size_of_stack_commit: number64(bytes, place + 56),
-            size_of_heap_reserve: number64(bytes, place + 64),
-            size_of_heap_commit: number64(bytes, place + 72),
-            loader_flags: number32(bytes, place + 80),
-            number_of_rva_and_sizes: number32(bytes, place + 84),
+            image_base: read_u64(bytes, offset),
+            section_alignment: read_u32(bytes, offset + 8),
+            file_alignment: read_u32(bytes, offset + 12),
+            major_operating_system_version: read_u16(bytes, offset + 16),
+            minor_operating_system_version: read_u16(bytes, offset + 18),
+            major_image_version: read_u16(bytes, offset + 20),
+            minor_image_version: read_u16(bytes, offset + 22),
+            major_subsystem_version: read_u16(bytes, offset + 24),
+            minor_subsystem_version: read_u16(bytes, offset + 26),
+            win32_version_value: read_u32(bytes, offset + 28),
+            size_of_image: read_u32(bytes, offset + 32),
+            size_of_headers: read_u32(bytes, offset + 36),
+            check_sum: read_u32(bytes, offset + 40),
+            subsystem: read_u16(bytes, offset + 44),
+            dll_characteristics: read_u16(bytes, offset + 46),
+            size_of_stack_reserve: read_u64(bytes, offset + 48),
+            size_of_stack_commit: read_u64(bytes, offset + 56),
+            size_of_heap_reserve: read_u64(bytes, offset + 64),
+            size_of_heap_commit: read_u64(bytes, offset + 72),
+            loader_flags: read_u32(bytes, offset + 80),
+            number_of_rva_and_sizes: read_u32(bytes, offset + 84),
         }
     }
 }
@@ -210,45 +210,45 @@ pub struct OptionalHeader {
     /// The data directories, at most 16.
     pub data_directories: DataDirectories,
     ghost known_magic: { IsTrue (standard_fields.magic == 0x10B || standard_fields.magic == 0x20B) },
-    ghost narrow: { standard_fields.magic ≡ 0x10B → IsNarrow windows_fields },
+    ghost pe32: { standard_fields.magic ≡ 0x10B → IsPe32 windows_fields },
 }
 
 impl OptionalHeader {
     ghost use Rattle.std.specs.Prelude.{◌+◌};
-    ghost use Rattle.pe_core.specs.Refusals.{Gives};
+    ghost use Rattle.pe_core.specs.Refusals.{Returns};
     ghost use Rattle.pe_core.specs.Header.{optional_header_view, optional_header_at};
 
-    /// The optional header at offset `place`. Its length follows from its magic number and its number of directories
+    /// The optional header at `offset`. Its length follows from its magic number and its number of directories
     /// alone. Errors, in order:
     /// - `Short`: the magic number; `BadMagic`: it is neither `MAGIC_32` nor `MAGIC_64`;
     /// - `Short`: the standard fields and the fields of Windows;
     /// - `Short`: the directories that are kept.
     #[tactic(auto, unfolding(crate::specs::Header::optional_header_tests, crate::specs::Header::optional_header))]
-    pub fn parse(bytes: &[u8], place: usize) -> Result<OptionalHeader>
-        ensures { Gives optional_header_view result (optional_header_at bytes.now place) }
+    pub fn parse(bytes: &[u8], offset: usize) -> Result<OptionalHeader>
+        ensures { Returns optional_header_view result (optional_header_at bytes.now offset) }
     {
-        match u16_at(bytes, place)? {
+        match u16_at(bytes, offset)? {
             MAGIC_32 => {
                 // The fields first: they hold the number of directories.
-                require_bytes(bytes, place, 96)?;
-                let windows_fields = WindowsFields::narrow_at(bytes, place + 28);
+                require_bytes(bytes, offset, 96)?;
+                let windows_fields = WindowsFields::pe32_at(bytes, offset + 28);
                 let count = windows_fields.number_of_rva_and_sizes;
-                require_bytes(bytes, place + 96, 8 * count.min(16) as usize)?;
+                require_bytes(bytes, offset + 96, 8 * count.min(16) as usize)?;
                 Ok(OptionalHeader {
-                    standard_fields: StandardFields::narrow_at(bytes, place),
+                    standard_fields: StandardFields::pe32_at(bytes, offset),
                     windows_fields,
-                    data_directories: DataDirectories::at(bytes, place + 96, count),
+                    data_directories: DataDirectories::at(bytes, offset + 96, count),
                 })
             }
             MAGIC_64 => {
-                require_bytes(bytes, place, 112)?;
-                let windows_fields = WindowsFields::wide_at(bytes, place + 24);
+                require_bytes(bytes, offset, 112)?;
+                let windows_fields = WindowsFields::pe32_plus_at(bytes, offset + 24);
                 let count = windows_fields.number_of_rva_and_sizes;
-                require_bytes(bytes, place + 112, 8 * count.min(16) as usize)?;
+                require_bytes(bytes, offset + 112, 8 * count.min(16) as usize)?;
                 Ok(OptionalHeader {
-                    standard_fields: StandardFields::wide_at(bytes, place),
+                    standard_fields: StandardFields::pe32_plus_at(bytes, offset),
                     windows_fields,
-                    data_directories: DataDirectories::at(bytes, place + 112, count),
+                    data_directories: DataDirectories::at(bytes, offset + 112, count),
                 })
             }
             other => Err(Error::BadMagic(u64::from(other))),

@@ -2,7 +2,7 @@
 //! blocks, each with the RVA of a page, its size, and entries of 2 bytes for what to change if the image is not loaded
 //! at its image base. A caller passes data directory 5, and reads the blocks itself.
 
-ghost use Rattle.pe_core.specs.Refusals.{Gives};
+ghost use Rattle.pe_core.specs.Refusals.{Returns};
 ghost use Rattle.pe_core.specs.Options.{default_options};
 ghost use Rattle.pe_core.specs.Relocations.{directory_bytes};
 
@@ -24,36 +24,36 @@ impl<'a> RelocationData<'a> {
     /// The base relocations, with the default options. Errors: those of `parse_with_opts`.
     pub fn parse(
         bytes: &'a [u8],
-        dd: DataDirectory,
+        directory: DataDirectory,
         sections: &[SectionTable],
         file_alignment: u32,
     ) -> Result<RelocationData<'a>>
-        ensures { Gives (λ r. r.bytes.now) result
-            (directory_bytes default_options bytes.entry.now dd sections.now file_alignment) }
+        ensures { Returns (λ r. r.bytes.now) result
+            (directory_bytes default_options bytes.entry.now directory sections.now file_alignment) }
     {
         RelocationData::parse_with_opts(
             bytes,
-            dd,
+            directory,
             sections,
             file_alignment,
             &ParseOptions::default(),
         )
     }
 
-    /// The base relocations at the RVA of `dd`, as many bytes as its size says. Errors, in order: `Unmapped`, `Short`.
+    /// The base relocations at the RVA of `directory`, as many bytes as its size says. Errors, in order: `Unmapped`, `Short`.
     #[tactic(auto, unfolding(crate::specs::Relocations::directory_bytes))]
     pub fn parse_with_opts(
         bytes: &'a [u8],
-        dd: DataDirectory,
+        directory: DataDirectory,
         sections: &[SectionTable],
         file_alignment: u32,
         opts: &ParseOptions,
     ) -> Result<RelocationData<'a>>
-        ensures { Gives (λ r. r.bytes.now) result
-            (directory_bytes opts.now bytes.entry.now dd sections.now file_alignment) }
+        ensures { Returns (λ r. r.bytes.now) result
+            (directory_bytes opts.now bytes.entry.now directory sections.now file_alignment) }
     {
-        let place = mapped_offset(dd.virtual_address, sections, file_alignment, opts)?;
-        let bytes = slice_at(bytes, place, dd.size as usize)?;
+        let offset = mapped_offset(directory.virtual_address, sections, file_alignment, opts)?;
+        let bytes = slice_at(bytes, offset, directory.size as usize)?;
         Ok(RelocationData { bytes })
     }
 }

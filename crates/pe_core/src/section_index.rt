@@ -2,7 +2,7 @@
 //! section headers, the file alignment and the options, and passes it to every `parse_with_map`.
 
 ghost use Rattle.std.specs.Prelude.{◌≡◌, ◌+◌, ◌-◌, ◌<◌, ◌≤◌, ◌^◌, IfOk, IfErr};
-ghost use Rattle.pe_core.specs.Refusals.{Gives};
+ghost use Rattle.pe_core.specs.Refusals.{Returns};
 ghost use Rattle.pe_core.specs.SectionIndex.{offset_or_end};
 ghost use Rattle.pe_core.specs.SectionMap.{map_view, mapped, offset_in, section_map};
 ghost use Rattle.pe_core.specs.declared.error.Error.TheVariants.{Memory};
@@ -62,7 +62,7 @@ impl<'a> SectionMap<'a> {
             None => self.find_by_sections(rva),
             Some(pieces) => {
                 let owner = owner_of(pieces, rva)?;
-                Some(rva - owner.address as usize + owner.place as usize)
+                Some(rva - owner.address as usize + owner.offset as usize)
             }
         }
     }
@@ -78,7 +78,7 @@ impl<'a> SectionMap<'a> {
 
     /// The file offset of an RVA. Error: `Unmapped`.
     pub fn offset_of(&self, rva: u32) -> Result<usize>
-        ensures { Gives (λ p. p) result (mapped (offset_in self.now rva)) }
+        ensures { Returns (λ p. p) result (mapped (offset_in self.now rva)) }
     {
         match self.find(rva as usize) {
             Some(offset) => Ok(offset),
@@ -101,7 +101,7 @@ pub fn mapped_offset(
     file_alignment: u32,
     opts: &ParseOptions,
 ) -> Result<usize>
-    ensures { Gives (λ p. p) result (mapped (section_map opts.now sections.now file_alignment rva)) }
+    ensures { Returns (λ p. p) result (mapped (section_map opts.now sections.now file_alignment rva)) }
 {
     SectionMap::new(sections, file_alignment, opts).offset_of(rva)
 }

@@ -30,7 +30,7 @@ pub fn rounded_up(n: usize, unit: usize) -> usize
 
 /// The file offset of the section's data as mapped: its raw pointer rounded down to a sector.
 pub(crate) fn raw_start(section: &SectionTable) -> usize
-    ensures place { result ≡ raw_start section.now }
+    ensures offset { result ≡ raw_start section.now }
     ensures small { result < 2 ^ 32 }
 {
     section.pointer_to_raw_data as usize / SECTOR * SECTOR

@@ -7,15 +7,15 @@ ghost use Rattle.std.specs.Prelude.{◌≡◌, ◌<◌, ◌==◌, [], ◌∷◌,
 ghost use Rattle.std.specs.List.{before_first, after_first, list_all};
 ghost use Rattle.std.specs.Str.{is_utf8};
 ghost use Rattle.std.specs.Option.{option_map};
-ghost use Rattle.pe_core.specs.Refusals.{Gives, GivesUnlessMemoryAfter, StringTable, kind_of, outcome};
+ghost use Rattle.pe_core.specs.Refusals.{Returns, ReturnsUnlessMemoryAfter, StringTable, kind_of, outcome};
 ghost use Rattle.pe_core.specs.Strings.{pieces, strings_at, strings_view};
 
-use crate::bytes::{number32, require_bytes};
+use crate::bytes::{read_u32, require_bytes};
 use crate::error::{Error, Reason, Result};
 use crate::first_zero::first_zero;
 use crate::header::CoffHeader;
 use crate::symbol::SIZE_OF_SYMBOL;
-use crate::text::{from_place, text_at, text_of};
+use crate::text::{from_offset, text_at, text_of};
 use std::alloc::Allocator;
 
 /// The size field before the strings, in bytes.
@@ -30,20 +30,20 @@ pub struct Strtab<'a> {
 }
 
 /// `StringTable` with this offset, counted from the size field.
-fn no_text_at(place: usize) -> Error
+fn no_text_at(offset: usize) -> Error
     ensures { kind_of result ≡ StringTable }
 {
-    Error::Malformed(Reason::StringTable(u32::try_from(place).unwrap_or(u32::MAX)))
+    Error::Malformed(Reason::StringTable(u32::try_from(offset).unwrap_or(u32::MAX)))
 }
 
 /// The bytes before the first zero, and those after it.
 #[tactic(auto, using(crate::proofs::Pieces::cut_at_zero))]
 fn cut_at_zero(bytes: &[u8]) -> (&[u8], &[u8])
     ensures piece { result.0.now ≡ before_first (λ c. c == 0) bytes.now }
-    ensures behind { result.1.now ≡ after_first (λ c. c == 0) bytes.now }
+    ensures after { result.1.now ≡ after_first (λ c. c == 0) bytes.now }
 {
     match first_zero(bytes) {
-        Some(n) => (&bytes[..n], from_place(bytes, n + 1)),
+        Some(n) => (&bytes[..n], from_offset(bytes, n + 1)),
         None => (bytes, &[]),
     }
 }
@@ -59,9 +59,9 @@ fn first_string(bytes: &[u8], table_size: usize) -> Result<(&str, &[u8])>
     ensures none { OnErr result (list_all is_utf8 (pieces bytes.now) ≡ false) }
     ensures kind { IfErr result (λ e. kind_of e ≡ StringTable) }
 {
-    let (piece, behind) = cut_at_zero(bytes);
+    let (piece, after) = cut_at_zero(bytes);
     match text_of(piece) {
-        Some(string) => Ok((string, behind)),
+        Some(string) => Ok((string, after)),
         None => Err(no_text_at(table_size.saturating_sub(bytes.len()))),
     }
 }
@@ -70,7 +70,7 @@ fn first_string(bytes: &[u8], table_size: usize) -> Result<(&str, &[u8])>
 /// UTF-8.
 #[tactic(auto, using(crate::proofs::Pieces::no_pieces, crate::proofs::Pieces::room))]
 fn count_strings(bytes: &[u8], table_size: usize) -> Result<usize>
-    ensures { Gives (λ n. n) result (outcome ((list_all is_utf8 (pieces bytes.now), StringTable) ∷ []) (length (pieces bytes.now))) }
+    ensures { Returns (λ n. n) result (outcome ((list_all is_utf8 (pieces bytes.now), StringTable) ∷ []) (length (pieces bytes.now))) }
 {
     let mut rest = bytes;
     let mut count = 0;
@@ -81,23 +81,23 @@ fn count_strings(bytes: &[u8], table_size: usize) -> Result<usize>
     Ok(count)
 }
 
-/// The string table at offset `place`. `None` if that is the end of the bytes. Error: `StringTable` if it is truncated.
-fn strings_at(bytes: &[u8], place: usize) -> Result<Option<Strtab<'_>>>
-    ensures { Gives strings_view result (strings_at bytes.entry.now place) }
+/// The string table at `offset`. `None` if that is the end of the bytes. Error: `StringTable` if it is truncated.
+fn strings_at(bytes: &[u8], offset: usize) -> Result<Option<Strtab<'_>>>
+    ensures { Returns strings_view result (strings_at bytes.entry.now offset) }
 {
-    if place == bytes.len() {
+    if offset == bytes.len() {
         return Ok(None);
     }
-    let left = bytes.len().saturating_sub(place);
+    let left = bytes.len().saturating_sub(offset);
     if left < SIZE_FIELD {
         return Err(no_text_at(left));
     }
-    let size = (number32(bytes, place) as usize).max(SIZE_FIELD);
+    let size = (read_u32(bytes, offset) as usize).max(SIZE_FIELD);
     if left < size {
         return Err(no_text_at(left));
     }
     Ok(Some(Strtab {
-        bytes: &bytes[place..place + size],
+        bytes: &bytes[offset..offset + size],
     }))
 }
 
@@ -120,17 +120,17 @@ impl<'a> Strtab<'a> {
     /// Errors, in order: `StringTable` (one is not UTF-8), `Memory`.
     #[tactic(auto, using(crate::proofs::Pieces::no_pieces, std::proofs::lemmas::Grind::common_steps))]
     pub fn to_vec<A: Allocator>(&self, alloc: A) -> Result<Vec<&'a str, A>>
-        ensures { GivesUnlessMemoryAfter (all_strings self.now.bytes.now) (λ v. map (λ s. s.now) v.items)
+        ensures { ReturnsUnlessMemoryAfter (all_strings self.now.bytes.now) (λ v. map (λ s. s.now) v.items)
             result (all_strings self.now.bytes.now) }
     {
         let table_size = self.bytes.len();
-        let mut rest = from_place(self.bytes, SIZE_FIELD);
+        let mut rest = from_offset(self.bytes, SIZE_FIELD);
         // Counted first: an invalid string is `StringTable` before any allocation.
         let mut strings = Vec::with_capacity(alloc, count_strings(rest, table_size)?)?;
         while !rest.is_empty() {
-            let (string, behind) = first_string(rest, table_size)?;
+            let (string, after) = first_string(rest, table_size)?;
             strings.push(string)?;
-            rest = behind;
+            rest = after;
         }
         Ok(strings)
     }
@@ -144,7 +144,7 @@ impl CoffHeader {
     /// `StringTable` (the string table is truncated).
     #[tactic(auto, unfolding(crate::specs::Strings::strings_of))]
     pub fn strings<'a>(&self, bytes: &'a [u8]) -> Result<Option<Strtab<'a>>>
-        ensures { Gives strings_view result (strings_of bytes.entry.now self.now) }
+        ensures { Returns strings_view result (strings_of bytes.entry.now self.now) }
     {
         let symbols = self.pointer_to_symbol_table as usize;
         if symbols == 0 {

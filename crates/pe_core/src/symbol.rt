@@ -7,10 +7,10 @@ ghost use Rattle.std.specs.Prelude.{◌≡◌, ◌+◌, ◌-◌, ◌*◌, ◌/�
 ghost use Rattle.std.specs.Iterator.{at_most};
 ghost use Rattle.std.specs.Option.{option_map};
 ghost use Rattle.pe_core.specs.Bytes.{le, record_at};
-ghost use Rattle.pe_core.specs.Refusals.{Gives};
+ghost use Rattle.pe_core.specs.Refusals.{Returns};
 ghost use Rattle.pe_core.specs.Symbols.{inline_name};
 
-use crate::bytes::{number8, number16, number32, require_bytes, slice_at};
+use crate::bytes::{read_u8, read_u16, read_u32, require_bytes, slice_at};
 use crate::error::{Error, Reason, Result};
 use crate::header::CoffHeader;
 use crate::strtab::Strtab;
@@ -53,30 +53,30 @@ fn inline_name(name: &[u8]) -> Option<&str>
 impl Symbol {
     ghost use Rattle.pe_core.specs.Symbols.{symbol, symbol_name};
 
-    /// The symbol at offset `place`, whose 18 bytes the caller knows to lie in `bytes`.
+    /// The symbol at `offset`, whose 18 bytes the caller knows to lie in `bytes`.
     #[tactic(auto, unfolding(crate::specs::Symbols::symbol))]
-    fn at(bytes: &[u8], place: usize) -> Symbol
-        requires { place + 18 ≤ length bytes.now }
-        ensures { result ≡ symbol bytes.now place }
+    fn at(bytes: &[u8], offset: usize) -> Symbol
+        requires { offset + 18 ≤ length bytes.now }
+        ensures { result ≡ symbol bytes.now offset }
     {
         let mut name = [0; 8];
-        name.copy_from_slice(&bytes[place..place + 8]);
+        name.copy_from_slice(&bytes[offset..offset + 8]);
         Symbol {
             name,
-            value: number32(bytes, place + 8),
-            section_number: number16(bytes, place + 12).cast_signed(),
-            typ: number16(bytes, place + 14),
-            storage_class: number8(bytes, place + 16),
-            number_of_aux_symbols: number8(bytes, place + 17),
+            value: read_u32(bytes, offset + 8),
+            section_number: read_u16(bytes, offset + 12).cast_signed(),
+            typ: read_u16(bytes, offset + 14),
+            storage_class: read_u8(bytes, offset + 16),
+            number_of_aux_symbols: read_u8(bytes, offset + 17),
         }
     }
 
-    /// The symbol at offset `place`. Error: `Short`.
-    pub fn parse(bytes: &[u8], place: usize) -> Result<Symbol>
-        ensures { Gives (λ s. s) result (record_at bytes.now place 18 (symbol bytes.now place)) }
+    /// The symbol at `offset`. Error: `Short`.
+    pub fn parse(bytes: &[u8], offset: usize) -> Result<Symbol>
+        ensures { Returns (λ s. s) result (record_at bytes.now offset 18 (symbol bytes.now offset)) }
     {
-        require_bytes(bytes, place, SIZE_OF_SYMBOL)?;
-        Ok(Symbol::at(bytes, place))
+        require_bytes(bytes, offset, SIZE_OF_SYMBOL)?;
+        Ok(Symbol::at(bytes, offset))
     }
 
     /// The name: that in the 8 bytes themselves, or, if they start with a zero, the string of `strings` at the offset
@@ -84,9 +84,9 @@ impl Symbol {
     /// is not UTF-8.
     #[tactic(auto, unfolding(crate::specs::Symbols::symbol_name))]
     pub fn name<'a>(&'a self, strings: &Strtab<'a>) -> Result<&'a str>
-        ensures { Gives (λ s. s.now) result (symbol_name self.entry.now strings.now.bytes.now) }
+        ensures { Returns (λ s. s.now) result (symbol_name self.entry.now strings.now.bytes.now) }
     {
-        let offset = number32(&self.name, 4);
+        let offset = read_u32(&self.name, 4);
         let name = if self.name[0] == 0 {
             strings.string_at(offset as usize)
         } else {
@@ -104,12 +104,12 @@ pub struct SymbolTable<'a> {
 }
 
 impl<'a> SymbolTable<'a> {
-    ghost use Rattle.pe_core.specs.Symbols.{table_of, row_at};
+    ghost use Rattle.pe_core.specs.Symbols.{symbol_bytes, row_at};
 
     /// The symbols, each as its index in the table, the name in its 8 bytes (if it is there), and the symbol. Auxiliary
     /// records are skipped, so the indices skip them too.
     pub fn iter(&self) -> SymbolIterator<'a>
-        ensures table { table_of result ≡ self.now.bytes.now }
+        ensures table { symbol_bytes result ≡ self.now.bytes.now }
         ensures first { row_at result ≡ 0 }
     {
         SymbolIterator {
@@ -127,13 +127,13 @@ pub struct SymbolIterator<'a> {
 }
 
 impl<'a> Iterator for SymbolIterator<'a> {
-    ghost use Rattle.pe_core.specs.Symbols.{table_of, row_at, row_count, GivesSymbol};
+    ghost use Rattle.pe_core.specs.Symbols.{symbol_bytes, row_at, row_count, ReturnsSymbol};
 
     type Item = (usize, Option<&'a str>, Symbol);
 
-    ghost next_gives = { λ s r t. GivesSymbol (table_of s) (row_at s) r (row_at t) × (table_of t ≡ table_of s) };
+    ghost next_gives = { λ s r t. ReturnsSymbol (symbol_bytes s) (row_at s) r (row_at t) × (symbol_bytes t ≡ symbol_bytes s) };
 
-    ghost remaining = { λ s. at_most (row_count (table_of s) - row_at s) };
+    ghost remaining = { λ s. at_most (row_count (symbol_bytes s) - row_at s) };
 
     #[tactic(auto, unfolding(crate::specs::Symbols::symbol))]
     fn next(&mut self) -> Option<(usize, Option<&'a str>, Symbol)> {
@@ -142,9 +142,9 @@ impl<'a> Iterator for SymbolIterator<'a> {
         if row >= bytes.len() / SIZE_OF_SYMBOL {
             return None;
         }
-        let place = SIZE_OF_SYMBOL * row;
-        let symbol = Symbol::at(bytes, place);
-        let name = inline_name(&bytes[place..place + 8]);
+        let offset = SIZE_OF_SYMBOL * row;
+        let symbol = Symbol::at(bytes, offset);
+        let name = inline_name(&bytes[offset..offset + 8]);
         // Skips the auxiliary records.
         self.row = row + 1 + usize::from(symbol.number_of_aux_symbols);
         Some((row, name, symbol))
@@ -152,20 +152,20 @@ impl<'a> Iterator for SymbolIterator<'a> {
 }
 
 impl CoffHeader {
-    ghost use Rattle.pe_core.specs.Symbols.{symbols_of, table_view};
+    ghost use Rattle.pe_core.specs.Symbols.{symbols_of, symbol_table_view};
 
     /// The COFF symbol table. `None` if the header's pointer to it is 0. Error: `Short` if it is truncated. The entries
     /// are one read, so a pointer past the end of the bytes is `Short` even with 0 entries.
     #[tactic(auto, unfolding(crate::specs::Symbols::symbols_of))]
     pub fn symbols<'a>(&self, bytes: &'a [u8]) -> Result<Option<SymbolTable<'a>>>
-        ensures { Gives table_view result (symbols_of bytes.entry.now self.now) }
+        ensures { Returns symbol_table_view result (symbols_of bytes.entry.now self.now) }
     {
-        let place = self.pointer_to_symbol_table as usize;
-        if place == 0 {
+        let offset = self.pointer_to_symbol_table as usize;
+        if offset == 0 {
             return Ok(None);
         }
         let size = SIZE_OF_SYMBOL * self.number_of_symbol_table as usize;
-        let bytes = slice_at(bytes, place, size)?;
+        let bytes = slice_at(bytes, offset, size)?;
         Ok(Some(SymbolTable { bytes }))
     }
 }

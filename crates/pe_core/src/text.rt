@@ -26,25 +26,25 @@ pub(crate) fn before_zero(bytes: &[u8]) -> &[u8]
     }
 }
 
-/// The bytes from offset `place` on. Empty past their end.
+/// The bytes from `offset` on. Empty past their end.
 #[tactic(auto, using(crate::proofs::Texts::rests))]
-pub(crate) fn from_place(bytes: &[u8], place: usize) -> &[u8]
-    ensures { result.now ≡ drop place bytes.now }
+pub(crate) fn from_offset(bytes: &[u8], offset: usize) -> &[u8]
+    ensures { result.now ≡ drop offset bytes.now }
 {
-    if place <= bytes.len() {
-        &bytes[place..]
+    if offset <= bytes.len() {
+        &bytes[offset..]
     } else {
         &[]
     }
 }
 
-/// The text at offset `place`: the bytes from there up to the first zero. `None` if it is not NUL-terminated or not
+/// The text at `offset`: the bytes from there up to the first zero. `None` if it is not NUL-terminated or not
 /// UTF-8, or if the offset is past the end.
 #[tactic(auto, using(crate::proofs::Texts::to_zero))]
-pub fn text_at(bytes: &[u8], place: usize) -> Option<&str>
-    ensures { option_map (λ s. s.now) result ≡ text_at bytes.now place }
+pub fn text_at(bytes: &[u8], offset: usize) -> Option<&str>
+    ensures { option_map (λ s. s.now) result ≡ text_at bytes.now offset }
 {
-    let rest = from_place(bytes, place);
+    let rest = from_offset(bytes, offset);
     let length = first_zero(rest)?;
     text_of(&rest[..length])
 }

@@ -4,7 +4,7 @@ use Rattle.std.proofs.lemmas.Bool.Decides.{nat_tests, leb_tells}
 use Rattle.pe_core.specs.Bytes.{le}
 use Rattle.pe_unwind.specs.declared.unwind_code.UnwindCode.{UnwindCode}
 use Rattle.pe_unwind.specs.declared.unwind_code.UnwindOperation.{UnwindOperation}
-use Rattle.pe_frame.specs.Memory.{word_of}
+use Rattle.pe_frame.specs.Memory.{stack_word}
 use Rattle.pe_frame.specs.Undoing.{Frame, ran}
 use Rattle.pe_frame.specs.Machine.{Machine, IsProlog, number_at, loaded}
 use Rattle.pe_frame.specs.Frames.{FallsFrom, IsInOrder}
@@ -33,7 +33,7 @@ number_shown bytes p a zero memory small h = refl
 number_shown bytes p a (suc n) memory small h =
     rw (number_shown bytes p a n memory (omega arith) h) (ap (λ (k : ℕ). number_at memory a n + k * 256 ^ n) (h n (omega arith)))
 
-pub word_shown : (bytes : List ℕ) (start a : ℕ) (memory : ℕ → ℕ) → start ≤ a → a + 8 ≤ start + length bytes → a + 8 ≤ 2 ^ 64 → ((i : ℕ) → i < 8 → get_or bytes (a - start + i) 0 ≡ memory (a + i)) → word_of bytes start a ≡ Some (loaded memory a)
+pub word_shown : (bytes : List ℕ) (start a : ℕ) (memory : ℕ → ℕ) → start ≤ a → a + 8 ≤ start + length bytes → a + 8 ≤ 2 ^ 64 → ((i : ℕ) → i < 8 → get_or bytes (a - start + i) 0 ≡ memory (a + i)) → stack_word bytes start a ≡ Some (loaded memory a)
 word_shown bytes start a memory from fits room h =
     let low : leb start a ≡ true = grind (arith, nat_tests) in
     let high : leb (a + 8) (2 ^ 64) ≡ true = grind (arith, nat_tests) in

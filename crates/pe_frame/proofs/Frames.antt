@@ -10,16 +10,16 @@ use Rattle.pe_unwind.specs.UnwindRecord.{UnwindInfoView}
 use Rattle.pe_frame.specs.declared.error.FrameError.{FrameError}
 use Rattle.pe_frame.specs.declared.registers.Registers.{Registers}
 use Rattle.pe_frame.specs.Undoing.{Frame, ran, is_framed, is_interrupted, pointer, entered, put_register, put_rip}
-use Rattle.pe_frame.specs.Steps.{codes_of, frame_of, limit_of, Enters, Undoes, Steps, returned, by_kind}
-use Rattle.pe_frame.specs.Machine.{top, loaded, run, chosen, saves, saves_wide, KeepsFrame}
-use Rattle.pe_frame.specs.Frames.{Part, infos, left, IsRecord, StopsIn, SavesOrKeeps, registers_of, AreFrames, restored, restored_wide, Leaves, IsCaller}
+use Rattle.pe_frame.specs.Steps.{known_codes, frame_of, limit_of, Enters, Undoes, Steps, returned, by_kind}
+use Rattle.pe_frame.specs.Machine.{top, loaded, run, chosen, saves, saves_xmm, KeepsFrame}
+use Rattle.pe_frame.specs.Frames.{Part, infos, left, IsRecord, StopsIn, SavesOrKeeps, registers_of, AreFrames, restored, restored_xmm, Leaves, IsCaller}
 use Rattle.pe_frame.proofs.Begun.{begun}
 use Rattle.pe_frame.proofs.OneStep.{one_step}
 use Rattle.pe_frame.proofs.Runs.{sinks, pointer_set}
 use Rattle.pe_frame.proofs.Saved.{holds, known, return_slot}
 use Rattle.pe_frame.proofs.Undone as undone
 
-codes_there : (codes : List UnwindCode) → codes_of (map Ok codes) ≡ Ok codes
+codes_there : (codes : List UnwindCode) → known_codes (map Ok codes) ≡ Ok codes
 codes_there [] = refl
 codes_there (c ∷ cs) = rw (codes_there cs) refl
 
@@ -28,10 +28,10 @@ pub record Entry (c : Bool) (limit : Option ℕ) (p : Part) (m : ℕ → Option 
   pub entry : Registers
   pub is : entered m (frame_of p.info) limit p.codes g ≡ Ok (entry, is_interrupted (ran limit p.codes))
   pub count : length entry.general ≡ 16
-  pub wide_count : length entry.xmm ≡ 16
+  pub xmm_count : length entry.xmm ≡ 16
   pub leaves : undone.LeavesAt (ran limit p.codes) p.entry entry
   pub registers : (r : ℕ) → r ≢ 4 → get_or entry.general r 0 ≡ chosen (saves (ran limit p.codes) r) (get_or p.entry.general r 0) (get_or g.general r 0)
-  pub wide : (r : ℕ) → get_or entry.xmm r 0 ≡ chosen (saves_wide (ran limit p.codes) r) (get_or p.entry.xmm r 0) (get_or g.xmm r 0)
+  pub xmm_registers : (r : ℕ) → get_or entry.xmm r 0 ≡ chosen (saves_xmm (ran limit p.codes) r) (get_or p.entry.xmm r 0) (get_or g.xmm r 0)
 
 entry_of : (c : Bool) (limit : Option ℕ) (p : Part) (m : ℕ → Option ℕ) (g : Registers) → IsRecord c p → StopsIn c limit p m g → Entry c limit p m g
 entry_of c limit p m g record_is stops =
@@ -40,15 +40,15 @@ entry_of c limit p m g record_is stops =
     let q = begun c f p.codes p.entry limit stops.order record_is.prolog in
     let held = known m (run f codes p.entry).memory c f codes p.entry stops.body.memory (holds c f codes p.entry q) in
     let at = undone.has_base c f (is_framed (ran None p.codes)) codes p.entry g record_is.frame q stops.body.frame in
-    let un = undone.undoes m at.base c f codes p.entry g q held stops.body.count stops.body.wide_count at.saves at.points in
+    let un = undone.undoes m at.base c f codes p.entry g q held stops.body.count stops.body.xmm_count at.saves at.points in
     record {
       entry = un.entry;
       is = rw at.is (rw un.is refl);
       count = un.count;
-      wide_count = un.wide_count;
+      xmm_count = un.xmm_count;
       leaves = un.stack;
       registers = un.registers;
-      wide = un.wide;
+      xmm_registers = un.xmm_registers;
     }
 
 enters : (c : Bool) (limit : Option ℕ) (p : Part) (m : ℕ → Option ℕ) (g : Registers) (answer : Result (Registers × Bool) FrameError) → IsRecord c p → entered m (frame_of p.info) limit p.codes g ≡ answer → Enters m limit p.info g answer
@@ -57,7 +57,7 @@ enters c limit p m g answer record_is e = (Ok p.codes, (map Ok p.codes, record_i
 -- the part before it has been undone: the stack pointer is where that part was entered, and so is each frame register
 pub record Agrees (parts : List Part) (w v : Registers) : Type 0 where
   pub count : length v.general ≡ 16
-  pub wide_count : length v.xmm ≡ 16
+  pub xmm_count : length v.xmm ≡ 16
   pub stack : pointer v ≡ pointer w
   pub frames : AllByRecursion (λ o. IsSome (left None o).frame → get_or v.general (o.info.frame_register).0 0 ≡ get_or w.general (o.info.frame_register).0 0) parts
 
@@ -73,11 +73,11 @@ keeps_by f codes (Some b) there w v at same k =
 
 stops_also : (c : Bool) (q : Part) (m : ℕ → Option ℕ) (w v : Registers) → length v.general ≡ 16 → length v.xmm ≡ 16 → pointer v ≡ pointer w →
     (IsSome (left None q).frame → get_or v.general (q.info.frame_register).0 0 ≡ get_or w.general (q.info.frame_register).0 0) → StopsIn c None q m w → StopsIn c None q m v
-stops_also c q m w v count wide_count stack same stops = record {
+stops_also c q m w v count xmm_count stack same stops = record {
   order = stops.order;
   body = record {
     count = count;
-    wide_count = wide_count;
+    xmm_count = xmm_count;
     frame = keeps_by (frame_of q.info) (ran None q.codes) (left None q).frame (left None q).general w v stack same stops.body.frame;
     memory = stops.body.memory;
   };
@@ -97,11 +97,11 @@ keeps_also q (o ∷ parts) w v same keeps = (
 frames_also : (m : ℕ → Option ℕ) (parts : List Part) (w v : Registers) → Agrees parts w v → AreFrames m parts None w → AreFrames m parts None v
 frames_also m [] w v agrees frames = absurd frames
 frames_also m (q ∷ []) w v agrees frames =
-    (frames.0, frames.1, stops_also true q m w v agrees.count agrees.wide_count agrees.stack agrees.frames.0 frames.2)
+    (frames.0, frames.1, stops_also true q m w v agrees.count agrees.xmm_count agrees.stack agrees.frames.0 frames.2)
 frames_also m (q ∷ o ∷ parts) w v agrees frames = (
   frames.0,
   frames.1,
-  stops_also false q m w v agrees.count agrees.wide_count agrees.stack agrees.frames.0 frames.2,
+  stops_also false q m w v agrees.count agrees.xmm_count agrees.stack agrees.frames.0 frames.2,
   keeps_also q (o ∷ parts) w v agrees.frames.1 frames.3,
   frames.4,
 )
@@ -145,7 +145,7 @@ pub record Walked (parts : List Part) (limit : Option ℕ) (m : ℕ → Option �
   pub count : length entry.general ≡ 16
   pub left_at : LeftAt parts limit interrupted entry
   pub registers : (r : ℕ) → r ≢ 4 → get_or entry.general r 0 ≡ restored parts limit r (get_or g.general r 0)
-  pub wide : (r : ℕ) → get_or entry.xmm r 0 ≡ restored_wide parts limit r (get_or g.xmm r 0)
+  pub xmm_registers : (r : ℕ) → get_or entry.xmm r 0 ≡ restored_xmm parts limit r (get_or g.xmm r 0)
 
 pub walked : (m : ℕ → Option ℕ) (parts : List Part) (limit : Option ℕ) (g : Registers) → AreFrames m parts limit g → Walked parts limit m g
 walked m [] limit g frames = absurd frames
@@ -159,7 +159,7 @@ walked m (p ∷ []) limit g frames =
       count = e.count;
       left_at = (e.leaves, refl);
       registers = e.registers;
-      wide = e.wide;
+      xmm_registers = e.xmm_registers;
     }
 walked m (p ∷ q ∷ parts) limit g frames =
     let e = entry_of false limit p m g frames.0 frames.2 in
@@ -167,7 +167,7 @@ walked m (p ∷ q ∷ parts) limit g frames =
     let stack : pointer e.entry ≡ top p.entry = undone.left_plain (ran limit p.codes) p.entry e.entry frames.1 e.leaves in
     let next = frames_also m (q ∷ parts) (registers_of p.entry) e.entry (record {
       count = e.count;
-      wide_count = e.wide_count;
+      xmm_count = e.xmm_count;
       stack = stack;
       frames = frames_agree false limit p m m g (registers_of p.entry) e (q ∷ parts) frames.4 frames.3;
     }) frames.4 in
@@ -179,7 +179,7 @@ walked m (p ∷ q ∷ parts) limit g frames =
       count = rest.count;
       left_at = rest.left_at;
       registers = λ r other. rest.registers r other ∙ ap (λ (k : ℕ). restored (q ∷ parts) None r k) (e.registers r other);
-      wide = λ r. rest.wide r ∙ ap (λ (k : ℕ). restored_wide (q ∷ parts) None r k) (e.wide r);
+      xmm_registers = λ r. rest.xmm_registers r ∙ ap (λ (k : ℕ). restored_xmm (q ∷ parts) None r k) (e.xmm_registers r);
     }
 
 -- the function itself, which is the last part
@@ -248,10 +248,10 @@ popped_ok m t a p v at word room low count =
     rw (undone.number_ok m (pointer v) a here) (rw (undone.raised_at 8 t v at room) (rw set_stack (rw test refl)))
 
 called : (m : ℕ → Option ℕ) (p : Part) (parts : List Part) (limit : Option ℕ) (g v : Registers) (b : Bool) → AreFrames m (p ∷ parts) limit g → length v.general ≡ 16 → LeftAt (p ∷ parts) limit b v
-    → ((r : ℕ) → r ≢ 4 → get_or v.general r 0 ≡ restored (p ∷ parts) limit r (get_or g.general r 0)) → ((r : ℕ) → get_or v.xmm r 0 ≡ restored_wide (p ∷ parts) limit r (get_or g.xmm r 0)) → Called m (p ∷ parts) limit g (v, b)
-called m p parts limit g v true frames count at registers wide =
-    (v, refl, record { leaves = left_interrupt p parts limit v at; registers = registers; wide = wide })
-called m p parts limit g v false frames count at registers wide =
+    → ((r : ℕ) → r ≢ 4 → get_or v.general r 0 ≡ restored (p ∷ parts) limit r (get_or g.general r 0)) → ((r : ℕ) → get_or v.xmm r 0 ≡ restored_xmm (p ∷ parts) limit r (get_or g.xmm r 0)) → Called m (p ∷ parts) limit g (v, b)
+called m p parts limit g v true frames count at registers xmm_registers =
+    (v, refl, record { leaves = left_interrupt p parts limit v at; registers = registers; xmm_registers = xmm_registers })
+called m p parts limit g v false frames count at registers xmm_registers =
     let t = top (root_of p parts).entry in
     let a = loaded (root_of p parts).entry.memory t in
     let u = put_rip (put_register v 4 (t + 8)) a in (
@@ -260,7 +260,7 @@ called m p parts limit g v false frames count at registers wide =
       record {
         leaves = left_return p parts limit v u at (pointer_set v.general (t + 8) count) refl;
         registers = λ r other. get_or-set_other v.general 4 r (t + 8) 0 other ∙ registers r other;
-        wide = wide;
+        xmm_registers = xmm_registers;
       },
     )
 
@@ -275,7 +275,7 @@ caller_by : (m : ℕ → Option ℕ) (p : Part) (parts : List Part) (offset : �
     AreFrames m (p ∷ parts) limit g → Steps m (infos (p ∷ parts)) offset g x → CalledBy (p ∷ parts) limit g x
 caller_by m p parts offset limit g x e frames steps =
     let w = walked m (p ∷ parts) limit g frames in
-    let last = called m p parts limit g w.entry w.interrupted frames w.count w.left_at w.registers w.wide in
+    let last = called m p parts limit g w.entry w.interrupted frames w.count w.left_at w.registers w.xmm_registers in
     let one : Steps m (infos (p ∷ parts)) offset g (Ok last.0) =
     (Ok (w.entry, w.interrupted), subst (λ (l : Option ℕ). Undoes m (infos (p ∷ parts)) l false g (Ok (w.entry, w.interrupted))) (sym e) w.is, sym last.1) in
     (last.0, same_ok x last.0 (one_step m (infos (p ∷ parts)) offset g x (Ok last.0) steps one), last.2)

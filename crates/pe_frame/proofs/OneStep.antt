@@ -9,7 +9,7 @@ use Rattle.pe_unwind.proofs.Streams.{one_reading, some_items}
 use Rattle.pe_frame.specs.declared.error.FrameError.{FrameError}
 use Rattle.pe_frame.specs.declared.registers.Registers.{Registers}
 use Rattle.pe_frame.specs.Undoing.{◌>>=◌, entered, pointer}
-use Rattle.pe_frame.specs.Steps.{codes_of, HasCodes, frame_of, limit_of, Enters, Then, Undoes, returned, Steps, OfCodes, error_kind, by_kind}
+use Rattle.pe_frame.specs.Steps.{known_codes, HasCodes, frame_of, limit_of, Enters, Then, Undoes, returned, Steps, OfCodes, error_kind, by_kind}
 
 same_then : {A B : Type 0} (x y : Result A FrameError) (f : A → Result B FrameError) → by_kind x ≡ by_kind y → by_kind (x >>= f) ≡ by_kind (y >>= f)
 same_then (Ok x) (Ok y) f e = let same : x ≡ y = cc in ap (λ z. by_kind (f z)) same
@@ -17,14 +17,14 @@ same_then (Ok x) (Err d) f e = cc
 same_then (Err d) (Ok y) f e = cc
 same_then (Err d) (Err e) f h = let same : error_kind d ≡ error_kind e = cc in ap Err same
 
-one_list : (xs ys : List (Result UnwindCode Error)) → map answer_of xs ≡ map answer_of ys → by_kind (codes_of xs) ≡ by_kind (codes_of ys)
+one_list : (xs ys : List (Result UnwindCode Error)) → map answer_of xs ≡ map answer_of ys → by_kind (known_codes xs) ≡ by_kind (known_codes ys)
 one_list [] [] e = refl
 one_list [] (y ∷ ys) e = cc
 one_list (x ∷ xs) [] e = cc
 one_list (Ok c ∷ xs) (Ok d ∷ ys) e =
     let same : c ≡ d = cc in
     let rest : map answer_of xs ≡ map answer_of ys = cc in
-    ap (λ (z : UnwindCode). by_kind (codes_of xs >>= λ cs. Ok (z ∷ cs))) same ∙ same_then (codes_of xs) (codes_of ys) (λ cs. Ok (d ∷ cs)) (one_list xs ys rest)
+    ap (λ (z : UnwindCode). by_kind (known_codes xs >>= λ cs. Ok (z ∷ cs))) same ∙ same_then (known_codes xs) (known_codes ys) (λ cs. Ok (d ∷ cs)) (one_list xs ys rest)
 one_list (Ok c ∷ xs) (Err d ∷ ys) e = cc
 one_list (Err c ∷ xs) (Ok d ∷ ys) e = cc
 one_list (Err c ∷ xs) (Err d ∷ ys) e =
@@ -71,9 +71,9 @@ some_undoing : (m : ℕ → Option ℕ) (is : List UnwindInfoView) (limit : Opti
 some_undoing m [] limit b g = (Ok (g, b), refl)
 some_undoing m (i ∷ is) limit b g =
     let items = some_items (code_stream i) in
-    let entry = codes_of items.0 >>= λ cs. entered m (frame_of i) limit cs g in
+    let entry = known_codes items.0 >>= λ cs. entered m (frame_of i) limit cs g in
     let rest = some_then m is b entry (λ u. some_undoing m is None (b || u.1) u.0) in
-    (rest.0, (entry, (codes_of items.0, (items.0, items.1, refl), refl), rest.1))
+    (rest.0, (entry, (known_codes items.0, (items.0, items.1, refl), refl), rest.1))
 
 pub some_step : (m : ℕ → Option ℕ) (plan : List UnwindInfoView) (offset : ℕ) (g : Registers) → (x : Result Registers FrameError) × Steps m plan offset g x
 some_step m plan offset g =

@@ -8,7 +8,7 @@ use Rattle.pe_frame.specs.declared.error.FrameError.{FrameError}
 use Rattle.pe_frame.specs.declared.record.Survey.{Survey}
 use Rattle.pe_frame.specs.declared.registers.Registers.{Registers}
 use Rattle.pe_frame.specs.Undoing.{◌>>=◌, ran, undone_all, base_of, entered}
-use Rattle.pe_frame.specs.Steps.{codes_of, frame_of, Enters}
+use Rattle.pe_frame.specs.Steps.{known_codes, frame_of, Enters}
 use Rattle.pe_frame.specs.Survey.{surveyed, Surveys}
 
 all_before : (c : UnwindCode) (items : List (Result UnwindCode Error)) (cs : List UnwindCode) (x : Result (List UnwindCode) FrameError) →
@@ -19,16 +19,16 @@ all_before c items cs (Ok ds) h e =
 all_before c items cs (Err x) h e = cc
 
 -- no item is refused
-pub all_codes : (items : List (Result UnwindCode Error)) (cs : List UnwindCode) → codes_of items ≡ Ok cs → items ≡ map Ok cs
+pub all_codes : (items : List (Result UnwindCode Error)) (cs : List UnwindCode) → known_codes items ≡ Ok cs → items ≡ map Ok cs
 all_codes [] cs e = let same : [] ≡ cs = cc in ap (λ (xs : List UnwindCode). map Ok xs) same
-all_codes (Ok c ∷ items) cs e = all_before c items cs (codes_of items) (λ ds k. all_codes items ds k) e
+all_codes (Ok c ∷ items) cs e = all_before c items cs (known_codes items) (λ ds k. all_codes items ds k) e
 all_codes (Err x ∷ items) cs e = cc
 
 abbrev UndoesCodes : (ℕ → Option ℕ) → ℕ → Option ℕ → UnwindInfoView → Registers → Result Registers FrameError → Type 0
 UndoesCodes m base limit i g r = (codes : List UnwindCode) → AreItems (code_stream i) (map Ok codes) → r ≡ undone_all m base (ran limit codes) g
 
 enters_by : (m : ℕ → Option ℕ) (limit : Option ℕ) (i : UnwindInfoView) (g : Registers) (s : Survey) (base : ℕ) (r : Result Registers FrameError)
-    (items : List (Result UnwindCode Error)) (codes : Result (List UnwindCode) FrameError) → AreItems (code_stream i) items → codes ≡ codes_of items →
+    (items : List (Result UnwindCode Error)) (codes : Result (List UnwindCode) FrameError) → AreItems (code_stream i) items → codes ≡ known_codes items →
     Ok s ≡ (codes >>= λ cs. Ok (surveyed limit cs)) → base_of (frame_of i) s.sets_frame s.has_set_frame g ≡ Ok base → UndoesCodes m base limit i g r →
     (r >>= λ u. Ok (u, s.is_interrupted)) ≡ (codes >>= λ cs. entered m (frame_of i) limit cs g)
 enters_by m limit i g s base r items (Err e) are is known at undoes = cc

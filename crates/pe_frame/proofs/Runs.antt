@@ -43,17 +43,17 @@ same c f (PushMachineFrame e ∷ before) s r p other m = same c f before s r p.1
 same c f (Noop ∷ before) s r p other m = same c f before s r p.1 other m
 
 -- no operation changes an XMM register
-pub same_wide : (f : Frame) (codes : List UnwindOperation) (s : Machine) → (run f codes s).xmm ≡ s.xmm
-same_wide f [] s = refl
-same_wide f (PushNonVolatile q ∷ before) s = same_wide f before s
-same_wide f (Alloc n ∷ before) s = same_wide f before s
-same_wide f (SetFPRegister ∷ before) s = same_wide f before s
-same_wide f (SaveNonVolatile q o ∷ before) s = same_wide f before s
-same_wide f (SaveXMM q o ∷ before) s = same_wide f before s
-same_wide f (Epilog a b ∷ before) s = same_wide f before s
-same_wide f (SaveXMM128 q o ∷ before) s = same_wide f before s
-same_wide f (PushMachineFrame e ∷ before) s = same_wide f before s
-same_wide f (Noop ∷ before) s = same_wide f before s
+pub same_xmm : (f : Frame) (codes : List UnwindOperation) (s : Machine) → (run f codes s).xmm ≡ s.xmm
+same_xmm f [] s = refl
+same_xmm f (PushNonVolatile q ∷ before) s = same_xmm f before s
+same_xmm f (Alloc n ∷ before) s = same_xmm f before s
+same_xmm f (SetFPRegister ∷ before) s = same_xmm f before s
+same_xmm f (SaveNonVolatile q o ∷ before) s = same_xmm f before s
+same_xmm f (SaveXMM q o ∷ before) s = same_xmm f before s
+same_xmm f (Epilog a b ∷ before) s = same_xmm f before s
+same_xmm f (SaveXMM128 q o ∷ before) s = same_xmm f before s
+same_xmm f (PushMachineFrame e ∷ before) s = same_xmm f before s
+same_xmm f (Noop ∷ before) s = same_xmm f before s
 
 -- the stack pointer after one is written
 pub pointer_set : (g : List ℕ) (v : ℕ) → length g ≡ 16 → get_or (set g 4 v) 4 0 ≡ v

@@ -6,7 +6,7 @@ use Rattle.pe_unwind.specs.declared.unwind_code.UnwindOperation.TheVariants.{Pus
 use Rattle.pe_frame.specs.Undoing.{Frame, offset_number, error_size}
 use Rattle.pe_frame.specs.Machine.{Machine, top, base, loaded, stored, run, slots, Apart, IsProlog}
 use Rattle.pe_frame.proofs.Words.{loaded-stored, loaded-apart}
-use Rattle.pe_frame.proofs.Runs.{entered, same, same_wide, slots_above}
+use Rattle.pe_frame.proofs.Runs.{entered, same, same_xmm, slots_above}
 
 -- each slot has what was saved there
 abbrev pub HoldsReturn : (ℕ → ℕ → Type 0) → Bool → Machine → Type 0
@@ -70,8 +70,8 @@ holds c f (SaveXMM128 r o ∷ before) s p =
     let a = base t + offset_number o in
     let v = get_or s.xmm (r.0 - 17) 0 in
     let w = get_or t.xmm (r.0 - 17) 0 in
-    let is : w ≡ v = ap (λ (xs : List ℕ). get_or xs (r.0 - 17) 0) (same_wide f before s) in
-    let small : v < 2 ^ 128 = (entered c f before s p.1).wide_values (r.0 - 17) in
+    let is : w ≡ v = ap (λ (xs : List ℕ). get_or xs (r.0 - 17) 0) (same_xmm f before s) in
+    let small : v < 2 ^ 128 = (entered c f before s p.1).xmm_values (r.0 - 17) in
     let low = stored_value t.memory a (w % 2 ^ 64) (v % 2 ^ 64) (ap (λ (k : ℕ). k % 2 ^ 64) is) (omega arith) in
     let high = stored_value (stored t.memory a (w % 2 ^ 64)) (a + 8) (w / 2 ^ 64) (v / 2 ^ 64) (ap (λ (k : ℕ). k / 2 ^ 64) is) (omega arith) in (
       loaded-apart (stored t.memory a (w % 2 ^ 64)) (a + 8) (w / 2 ^ 64) a (inr (omega arith)) ∙ low,

@@ -4,24 +4,24 @@ use Rattle.std.proofs.Common.{◌≡◌, ℕ, zero, suc, ◌<◌, Bool, true, fa
 use Rattle.pe_core.specs.declared.error.Error.{Error}
 use Rattle.pe_unwind.specs.declared.unwind_code.UnwindCode.{UnwindCode}
 use Rattle.pe_unwind.specs.declared.unwind_code.UnwindOperation.{UnwindOperation}
-use Rattle.pe_unwind.specs.CodeStream.{CodeStream, AreItems, GivesCode, with_left}
-use Rattle.pe_unwind.specs.UnwindCodes.{BeginsWithCode}
+use Rattle.pe_unwind.specs.CodeStream.{CodeStream, AreItems, ReturnsCode, with_left}
+use Rattle.pe_unwind.specs.UnwindCodes.{StartsWithCode}
 use Rattle.pe_unwind.proofs.Streams.{one_code}
 use Rattle.pe_frame.specs.declared.error.FrameError.{FrameError}
 use Rattle.pe_frame.specs.declared.record.Survey.{Survey}
 use Rattle.pe_frame.specs.declared.registers.Registers.{Registers}
 use Rattle.pe_frame.specs.Undoing.{◌>>=◌, has_run, ran, undone, undone_all, sets_frame, interrupts, is_framed, is_interrupted}
-use Rattle.pe_frame.specs.Steps.{codes_of}
-use Rattle.pe_frame.specs.Survey.{surveyed, joined, noted, undone_code}
+use Rattle.pe_frame.specs.Steps.{known_codes}
+use Rattle.pe_frame.specs.Survey.{surveyed, joined_surveys, noted, undone_code}
 
 -- what the iterator gave stands before what it has left
-pub code_before : (s t : CodeStream) (code : UnwindCode) (rest : List (Result UnwindCode Error)) → GivesCode s (Some (Ok code)) t → AreItems t rest → AreItems s (Ok code ∷ rest)
+pub code_before : (s t : CodeStream) (code : UnwindCode) (rest : List (Result UnwindCode Error)) → ReturnsCode s (Some (Ok code)) t → AreItems t rest → AreItems s (Ok code ∷ rest)
 code_before s t code rest h are = (h.0, h.1, subst (λ (x : CodeStream). AreItems x rest) h.3 are)
 
-pub fault_alone : (s t : CodeStream) (e : Error) → GivesCode s (Some (Err e)) t → AreItems s (Err e ∷ [])
-fault_alone s t e h = (h.0, h.1, h.2, refl)
+pub refusal_alone : (s t : CodeStream) (e : Error) → ReturnsCode s (Some (Err e)) t → AreItems s (Err e ∷ [])
+refusal_alone s t e h = (h.0, h.1, h.2, refl)
 
-pub none_left : (s t : CodeStream) → GivesCode s None t → AreItems s []
+pub none_left : (s t : CodeStream) → ReturnsCode s None t → AreItems s []
 none_left s t h = h.0
 
 or_none : (a : Bool) → (a || false) ≡ a
@@ -43,15 +43,15 @@ interrupted_before false o os = refl
 same_survey : (a b : Survey) → a.sets_frame ≡ b.sets_frame → a.has_set_frame ≡ b.has_set_frame → a.is_interrupted ≡ b.is_interrupted → a ≡ b
 same_survey a b e h k = grind arith
 
-surveyed_before : (limit : Option ℕ) (a : Survey) (c : UnwindCode) (cs : List UnwindCode) → joined a (surveyed limit (c ∷ cs)) ≡ joined (noted limit a c) (surveyed limit cs)
-surveyed_before limit a c cs = same_survey (joined a (surveyed limit (c ∷ cs))) (joined (noted limit a c) (surveyed limit cs))
+surveyed_before : (limit : Option ℕ) (a : Survey) (c : UnwindCode) (cs : List UnwindCode) → joined_surveys a (surveyed limit (c ∷ cs)) ≡ joined_surveys (noted limit a c) (surveyed limit cs)
+surveyed_before limit a c cs = same_survey (joined_surveys a (surveyed limit (c ∷ cs))) (joined_surveys (noted limit a c) (surveyed limit cs))
     (ap (λ (x : Bool). a.sets_frame || x) (framed_before true c.operation (ran None cs)) ∙ or_three a.sets_frame (is_framed (c.operation ∷ [])) (is_framed (ran None cs)))
     (ap (λ (x : Bool). a.has_set_frame || x) (framed_before (has_run limit c) c.operation (ran limit cs)) ∙ or_three a.has_set_frame (is_framed (ran limit (c ∷ []))) (is_framed (ran limit cs)))
     (ap (λ (x : Bool). a.is_interrupted || x) (interrupted_before (has_run limit c) c.operation (ran limit cs)) ∙ or_three a.is_interrupted (is_interrupted (ran limit (c ∷ []))) (is_interrupted (ran limit cs)))
 
 -- a survey of some codes and of those that are left
 abbrev pub all_surveyed : Option ℕ → Survey → Result (List UnwindCode) FrameError → Result Survey FrameError
-all_surveyed limit a codes = codes >>= λ cs. Ok (joined a (surveyed limit cs))
+all_surveyed limit a codes = codes >>= λ cs. Ok (joined_surveys a (surveyed limit cs))
 
 with_code : (limit : Option ℕ) (a : Survey) (c : UnwindCode) (codes : Result (List UnwindCode) FrameError) →
     all_surveyed limit a (codes >>= λ cs. Ok (c ∷ cs)) ≡ all_surveyed limit (noted limit a c) codes
@@ -59,16 +59,16 @@ with_code limit a c (Ok cs) = ap Ok (surveyed_before limit a c cs)
 with_code limit a c (Err e) = refl
 
 pub surveyed_code : (limit : Option ℕ) (a : Survey) (c : UnwindCode) (rest : List (Result UnwindCode Error)) →
-    all_surveyed limit a (codes_of (Ok c ∷ rest)) ≡ all_surveyed limit (noted limit a c) (codes_of rest)
-surveyed_code limit a c rest = with_code limit a c (codes_of rest)
+    all_surveyed limit a (known_codes (Ok c ∷ rest)) ≡ all_surveyed limit (noted limit a c) (known_codes rest)
+surveyed_code limit a c rest = with_code limit a c (known_codes rest)
 
-pub surveyed_none : (limit : Option ℕ) (a : Survey) → all_surveyed limit a (codes_of []) ≡ Ok a
-surveyed_none limit a = ap Ok (same_survey (joined a (surveyed limit [])) a (or_none a.sets_frame) (or_none a.has_set_frame) (or_none a.is_interrupted))
+pub surveyed_none : (limit : Option ℕ) (a : Survey) → all_surveyed limit a (known_codes []) ≡ Ok a
+surveyed_none limit a = ap Ok (same_survey (joined_surveys a (surveyed limit [])) a (or_none a.sets_frame) (or_none a.has_set_frame) (or_none a.is_interrupted))
 
-begins_some : (v f : ℕ) (b : List ℕ) (code : UnwindCode) (n : ℕ) → BeginsWithCode v f b code n → 0 < length b
-begins_some v f [] code zero h = absurd h.1
-begins_some v f [] code (suc n) h = absurd h.1
-begins_some v f (x ∷ b) code n h = omega arith
+starts_some : (v f : ℕ) (b : List ℕ) (code : UnwindCode) (n : ℕ) → StartsWithCode v f b code n → 0 < length b
+starts_some v f [] code zero h = absurd h.1
+starts_some v f [] code (suc n) h = absurd h.1
+starts_some v f (x ∷ b) code n h = omega arith
 
 -- the codes of a stream, of which none is refused
 abbrev pub AreCodes : CodeStream → List UnwindCode → Type 0
@@ -79,8 +79,8 @@ pub record HasNext (t : CodeStream) (code : UnwindCode) (codes : List UnwindCode
   pub is : codes ≡ code ∷ rest
   pub are : AreCodes t rest
 
-pub next_code : (s t : CodeStream) (code : UnwindCode) (codes : List UnwindCode) → GivesCode s (Some (Ok code)) t → AreCodes s codes → HasNext t code codes
-next_code s t code [] h are = absurd (omega (arith, begins_some s.version s.frame s.content code h.0 h.1, ap (λ (b : List ℕ). length b) are))
+pub next_code : (s t : CodeStream) (code : UnwindCode) (codes : List UnwindCode) → ReturnsCode s (Some (Ok code)) t → AreCodes s codes → HasNext t code codes
+next_code s t code [] h are = absurd (omega (arith, starts_some s.version s.frame s.content code h.0 h.1, ap (λ (b : List ℕ). length b) are))
 next_code s t code (c ∷ codes) h are =
     let same = one_code s.version s.frame s.content c code are.0 h.0 are.1 h.1 in
     let left : AreCodes (with_left s (drop h.0 s.content)) codes = subst (λ (n : ℕ). AreCodes (with_left s (drop n s.content)) codes) same.1 are.2 in
@@ -90,13 +90,13 @@ next_code s t code (c ∷ codes) h are =
       are = subst (λ (x : CodeStream). AreCodes x codes) (sym h.3) left;
     }
 
-pub no_fault : (s t : CodeStream) (e : Error) (codes : List UnwindCode) → GivesCode s (Some (Err e)) t → AreCodes s codes → ⊥
-no_fault s t e [] h are = omega (arith, h.0, ap (λ (b : List ℕ). length b) are)
-no_fault s t e (c ∷ codes) h are = h.1 c are.0 are.1
+pub no_refusal : (s t : CodeStream) (e : Error) (codes : List UnwindCode) → ReturnsCode s (Some (Err e)) t → AreCodes s codes → ⊥
+no_refusal s t e [] h are = omega (arith, h.0, ap (λ (b : List ℕ). length b) are)
+no_refusal s t e (c ∷ codes) h are = h.1 c are.0 are.1
 
-pub no_code : (s t : CodeStream) (codes : List UnwindCode) → GivesCode s None t → AreCodes s codes → codes ≡ []
+pub no_code : (s t : CodeStream) (codes : List UnwindCode) → ReturnsCode s None t → AreCodes s codes → codes ≡ []
 no_code s t [] h are = refl
-no_code s t (c ∷ codes) h are = absurd (omega (arith, begins_some s.version s.frame s.content c are.0 are.1, ap (λ (b : List ℕ). length b) h.0))
+no_code s t (c ∷ codes) h are = absurd (omega (arith, starts_some s.version s.frame s.content c are.0 are.1, ap (λ (b : List ℕ). length b) h.0))
 
 undone_if : (m : ℕ → Option ℕ) (base : ℕ) (b : Bool) (o : UnwindOperation) (os : List UnwindOperation) (g : Registers) →
     undone_all m base (if b then o ∷ os else os) g ≡ ((if b then undone m base o g else Ok g) >>= undone_all m base os)

@@ -8,8 +8,8 @@ use Rattle.pe_unwind.specs.declared.unwind_code.StackFrameOffset.{StackFrameOffs
 use Rattle.pe_unwind.specs.declared.unwind_code.UnwindOperation.{UnwindOperation}
 use Rattle.pe_unwind.specs.declared.unwind_code.UnwindOperation.TheVariants.{PushNonVolatile, Alloc, SetFPRegister, SaveNonVolatile, SaveXMM, Epilog, SaveXMM128, PushMachineFrame, Noop}
 use Rattle.pe_frame.specs.declared.registers.Registers.{Registers}
-use Rattle.pe_frame.specs.Undoing.{Frame, offset_number, error_size, is_interrupted, pointer, put_register, put_xmm, put_rip, number, above, integer, xmm, wide_number, undone, undone_all, raised, is_framed, base_of}
-use Rattle.pe_frame.specs.Machine.{Machine, top, base, base_by, loaded, run, SavesNone, MayMove, PushesLate, IsFrameRegister, IsProlog, KeepsFrame, saves, saves_wide, chosen}
+use Rattle.pe_frame.specs.Undoing.{Frame, offset_number, error_size, is_interrupted, pointer, put_register, put_xmm, put_rip, number, above, require_integer, require_xmm, xmm_number, undone, undone_all, raised, is_framed, base_of}
+use Rattle.pe_frame.specs.Machine.{Machine, top, base, base_by, loaded, run, SavesNone, MayMove, PushesLate, IsFrameRegister, IsProlog, KeepsFrame, saves, saves_xmm, chosen}
 use Rattle.pe_frame.specs.Frames.{IsAfter}
 use Rattle.pe_frame.proofs.Runs.{entered, count, sinks, pointer_set, pointer_other}
 use Rattle.pe_frame.proofs.Saved.{Holds}
@@ -42,10 +42,10 @@ base_saved None r o before t b (inl h) = absurd h
 base_saved None r o before t b (inr h) = h
 base_saved (Some c) r o before t b h = h
 
-base_wide : (frame : Option ℕ) (r : Register) (o : StackFrameOffset) (before : List UnwindOperation) (t b : ℕ) → HasBase frame (SaveXMM128 r o ∷ before) t b → base_by frame t ≡ b
-base_wide None r o before t b (inl h) = absurd h
-base_wide None r o before t b (inr h) = h
-base_wide (Some c) r o before t b h = h
+base_xmm : (frame : Option ℕ) (r : Register) (o : StackFrameOffset) (before : List UnwindOperation) (t b : ℕ) → HasBase frame (SaveXMM128 r o ∷ before) t b → base_by frame t ≡ b
+base_xmm None r o before t b (inl h) = absurd h
+base_xmm None r o before t b (inr h) = h
+base_xmm (Some c) r o before t b h = h
 
 base_wide_rest : (frame : Option ℕ) (r : Register) (o : StackFrameOffset) (before : List UnwindOperation) (t b : ℕ) → HasBase frame (SaveXMM128 r o ∷ before) t b → HasBase frame before t b
 base_wide_rest None r o before t b (inl h) = absurd h
@@ -93,12 +93,12 @@ above_ok a n small =
 pub number_ok : (m : ℕ → Option ℕ) (a v : ℕ) → m a ≡ Some v → number m a ≡ Ok v
 number_ok m a v e = rw e refl
 
-integer_ok : (o : UnwindOperation) (r : ℕ) → r < 16 → integer o r ≡ Ok r
+integer_ok : (o : UnwindOperation) (r : ℕ) → r < 16 → require_integer o r ≡ Ok r
 integer_ok o r small =
     let test : ltb r 16 ≡ true = lt-ltb r 16 small in
     rw test refl
 
-xmm_ok : (o : UnwindOperation) (r : ℕ) → 17 ≤ r → r < 33 → xmm o r ≡ Ok (r - 17)
+xmm_ok : (o : UnwindOperation) (r : ℕ) → 17 ≤ r → r < 33 → require_xmm o r ≡ Ok (r - 17)
 xmm_ok o r least most =
     let test : (leb 17 r && ltb r 33) ≡ true = grind (arith, nat_tests) in
     rw test refl
@@ -120,15 +120,15 @@ load_ok : (m : ℕ → Option ℕ) (b : ℕ) (r : Register) (o : StackFrameOffse
 load_ok m b r o g v small e room =
     rw (integer_ok (SaveNonVolatile r o) r.0 small) (rw (above_ok b (offset_number o) room) (rw (number_ok m (b + offset_number o) v e) refl))
 
-wide_ok : (m : ℕ → Option ℕ) (a v : ℕ) → m a ≡ Some (v % 2 ^ 64) → m (a + 8) ≡ Some (v / 2 ^ 64) → a + 8 < 2 ^ 64 → wide_number m a ≡ Ok v
-wide_ok m a v low high room =
+xmm_words_ok : (m : ℕ → Option ℕ) (a v : ℕ) → m a ≡ Some (v % 2 ^ 64) → m (a + 8) ≡ Some (v / 2 ^ 64) → a + 8 < 2 ^ 64 → xmm_number m a ≡ Ok v
+xmm_words_ok m a v low high room =
     let joined : v % 2 ^ 64 + v / 2 ^ 64 * 2 ^ 64 ≡ v = omega arith in
     rw (number_ok m a (v % 2 ^ 64) low) (rw (above_ok a 8 room) (rw (number_ok m (a + 8) (v / 2 ^ 64) high) (ap Ok joined)))
 
-load_wide : (m : ℕ → Option ℕ) (b : ℕ) (r : Register) (o : StackFrameOffset) (g : Registers) (v : ℕ) → 17 ≤ r.0 → r.0 < 33 → m (b + offset_number o) ≡ Some (v % 2 ^ 64) → m (b + offset_number o + 8) ≡ Some (v / 2 ^ 64) → b + offset_number o + 8 < 2 ^ 64 →
+load_xmm : (m : ℕ → Option ℕ) (b : ℕ) (r : Register) (o : StackFrameOffset) (g : Registers) (v : ℕ) → 17 ≤ r.0 → r.0 < 33 → m (b + offset_number o) ≡ Some (v % 2 ^ 64) → m (b + offset_number o + 8) ≡ Some (v / 2 ^ 64) → b + offset_number o + 8 < 2 ^ 64 →
     undone m b (SaveXMM128 r o) g ≡ Ok (put_xmm g (r.0 - 17) v)
-load_wide m b r o g v least most low high small =
-    rw (xmm_ok (SaveXMM128 r o) r.0 least most) (rw (above_ok b (offset_number o) (omega arith)) (rw (wide_ok m (b + offset_number o) v low high small) refl))
+load_xmm m b r o g v least most low high small =
+    rw (xmm_ok (SaveXMM128 r o) r.0 least most) (rw (above_ok b (offset_number o) (omega arith)) (rw (xmm_words_ok m (b + offset_number o) v low high small) refl))
 
 restored_by : (old now next : ℕ) (b same : Bool) → (same ≡ true → next ≡ old) → (same ≡ false → next ≡ now) → chosen b old next ≡ chosen (same || b) old now
 restored_by old now next true true is not = refl
@@ -164,15 +164,15 @@ pub record Undoes (m : ℕ → Option ℕ) (b : ℕ) (codes : List UnwindOperati
   pub entry : Registers
   pub is : undone_all m b codes g ≡ Ok entry
   pub count : length entry.general ≡ 16
-  pub wide_count : length entry.xmm ≡ 16
-  pub wide : (r : ℕ) → get_or entry.xmm r 0 ≡ chosen (saves_wide codes r) (get_or s.xmm r 0) (get_or g.xmm r 0)
+  pub xmm_count : length entry.xmm ≡ 16
+  pub xmm_registers : (r : ℕ) → get_or entry.xmm r 0 ≡ chosen (saves_xmm codes r) (get_or s.xmm r 0) (get_or g.xmm r 0)
   pub stack : LeavesAt codes s entry
   pub registers : (r : ℕ) → r ≢ 4 → get_or entry.general r 0 ≡ chosen (saves codes r) (get_or s.general r 0) (get_or g.general r 0)
 
 pub undoes : (m : ℕ → Option ℕ) (b : ℕ) (c : Bool) (f : Frame) (codes : List UnwindOperation) (s : Machine) (g : Registers) → IsProlog c f codes s → Holds (λ a v. m a ≡ Some v) c f codes s → length g.general ≡ 16 → length g.xmm ≡ 16
     → HasBase (run f codes s).frame codes (top (run f codes s)) b → Points (run f codes s).frame codes (top (run f codes s)) (pointer g) → Undoes m b codes s g
 undoes m b c f [] s g p h len wlen hb pt =
-    record { entry = g; is = refl; count = len; wide_count = wlen; wide = λ r. refl; stack = none_points s.frame [] (top s) (pointer g) p.frame pt; registers = λ r other. refl }
+    record { entry = g; is = refl; count = len; xmm_count = wlen; xmm_registers = λ r. refl; stack = none_points s.frame [] (top s) (pointer g) p.frame pt; registers = λ r other. refl }
 undoes m b c f (PushNonVolatile q ∷ before) s g p h len wlen hb pt =
     let t = top (run f before s) in
     let set_top = pointer_set (run f before s).general (t - 8) (count c f before s p.1) in
@@ -191,8 +191,8 @@ undoes m b c f (PushNonVolatile q ∷ before) s g p h len wlen hb pt =
       entry = rest.entry;
       is = then_all m b (PushNonVolatile q) before g next rest.entry step rest.is;
       count = rest.count;
-      wide_count = rest.wide_count;
-      wide = rest.wide;
+      xmm_count = rest.xmm_count;
+      xmm_registers = rest.xmm_registers;
       stack = rest.stack;
       registers = λ r other. rest.registers r other ∙ (moved (set g.general q.0 v) s.general (pointer g + 8) r (saves before r) other ∙ restored g.general s.general q.0 v r (saves before r) len p.0.0.number refl);
     }
@@ -213,8 +213,8 @@ undoes m b c f (Alloc n ∷ before) s g p h len wlen hb pt =
       entry = rest.entry;
       is = then_all m b (Alloc n) before g next rest.entry step rest.is;
       count = rest.count;
-      wide_count = rest.wide_count;
-      wide = rest.wide;
+      xmm_count = rest.xmm_count;
+      xmm_registers = rest.xmm_registers;
       stack = rest.stack;
       registers = λ r other. rest.registers r other ∙ moved g.general s.general (pointer g + n) r (saves before r) other;
     }
@@ -228,8 +228,8 @@ undoes m b c f (SetFPRegister ∷ before) s g p h len wlen hb pt =
       entry = rest.entry;
       is = then_all m b SetFPRegister before g next rest.entry refl rest.is;
       count = rest.count;
-      wide_count = rest.wide_count;
-      wide = rest.wide;
+      xmm_count = rest.xmm_count;
+      xmm_registers = rest.xmm_registers;
       stack = rest.stack;
       registers = λ r other. rest.registers r other ∙ moved g.general s.general b r (saves before r) other;
     }
@@ -248,23 +248,23 @@ undoes m b c f (SaveNonVolatile q o ∷ before) s g p h len wlen hb pt =
       entry = rest.entry;
       is = then_all m b (SaveNonVolatile q o) before g next rest.entry step rest.is;
       count = rest.count;
-      wide_count = rest.wide_count;
-      wide = rest.wide;
+      xmm_count = rest.xmm_count;
+      xmm_registers = rest.xmm_registers;
       stack = rest.stack;
       registers = λ r other. rest.registers r other ∙ restored g.general s.general q.0 v r (saves before r) len p.0.0.number refl;
     }
 undoes m b c f (SaveXMM r o ∷ before) s g p h len wlen hb pt = absurd p.0
 undoes m b c f (Epilog x y ∷ before) s g p h len wlen hb pt =
     let rest = undoes m b c f before s g p.1 h len wlen (base_weaker (run f before s).frame (Epilog x y ∷ before) before _ b (λ k. k) hb) (points_weaker (run f before s).frame (Epilog x y ∷ before) before _ (pointer g) (λ k. k) pt) in
-    record { entry = rest.entry; is = rest.is; count = rest.count; wide_count = rest.wide_count; wide = rest.wide; stack = rest.stack; registers = rest.registers }
+    record { entry = rest.entry; is = rest.is; count = rest.count; xmm_count = rest.xmm_count; xmm_registers = rest.xmm_registers; stack = rest.stack; registers = rest.registers }
 undoes m b c f (SaveXMM128 q o ∷ before) s g p h len wlen hb pt =
     let t = top (run f before s) in
-    let is_base : base (run f before s) ≡ b = base_wide (run f before s).frame q o before t b hb in
+    let is_base : base (run f before s) ≡ b = base_xmm (run f before s).frame q o before t b hb in
     let v = get_or s.xmm (q.0 - 17) 0 in
     let next : Registers = put_xmm g (q.0 - 17) v in
     let low : m (b + offset_number o) ≡ Some (v % 2 ^ 64) = ap (λ (k : ℕ). m (k + offset_number o)) (sym is_base) ∙ h.0 in
     let high : m (b + offset_number o + 8) ≡ Some (v / 2 ^ 64) = ap (λ (k : ℕ). m (k + offset_number o + 8)) (sym is_base) ∙ h.1.0 in
-    let step = load_wide m b q o g v p.0.0.least p.0.0.most low high (omega (arith, p.0.1)) in
+    let step = load_xmm m b q o g v p.0.0.least p.0.0.most low high (omega (arith, p.0.1)) in
     let wlen_next : length next.xmm ≡ 16 = length-set g.xmm (q.0 - 17) v ∙ wlen in
     let hb_next : HasBase (run f before s).frame before t b = base_wide_rest (run f before s).frame q o before t b hb in
     let rest = undoes m b c f before s next p.1 h.1.1 len wlen_next hb_next (points_weaker (run f before s).frame (SaveXMM128 q o ∷ before) before t (pointer g) (λ k. k) pt) in
@@ -272,8 +272,8 @@ undoes m b c f (SaveXMM128 q o ∷ before) s g p h len wlen hb pt =
       entry = rest.entry;
       is = then_all m b (SaveXMM128 q o) before g next rest.entry step rest.is;
       count = rest.count;
-      wide_count = rest.wide_count;
-      wide = λ r. rest.wide r ∙ restored g.xmm s.xmm (q.0 - 17) v r (saves_wide before r) wlen (omega (arith, p.0.0.most)) refl;
+      xmm_count = rest.xmm_count;
+      xmm_registers = λ r. rest.xmm_registers r ∙ restored g.xmm s.xmm (q.0 - 17) v r (saves_xmm before r) wlen (omega (arith, p.0.0.most)) refl;
       stack = rest.stack;
       registers = rest.registers;
     }
@@ -289,15 +289,15 @@ undoes m b c f (PushMachineFrame e ∷ []) s g p h len wlen hb pt =
       entry = next;
       is = then_all m b (PushMachineFrame e) [] g next next step refl;
       count = length-set g.general 4 q ∙ len;
-      wide_count = wlen;
-      wide = λ r. refl;
+      xmm_count = wlen;
+      xmm_registers = λ r. refl;
       stack = (pointer_set g.general q len, refl);
       registers = λ r other. moved g.general s.general q r false other;
     }
 undoes m b c f (PushMachineFrame e ∷ o ∷ before) s g p h len wlen hb pt = absurd p.0.0
 undoes m b c f (Noop ∷ before) s g p h len wlen hb pt =
     let rest = undoes m b c f before s g p.1 h len wlen (base_weaker (run f before s).frame (Noop ∷ before) before _ b (λ k. k) hb) (points_weaker (run f before s).frame (Noop ∷ before) before _ (pointer g) (λ k. k) pt) in
-    record { entry = rest.entry; is = rest.is; count = rest.count; wide_count = rest.wide_count; wide = rest.wide; stack = rest.stack; registers = rest.registers }
+    record { entry = rest.entry; is = rest.is; count = rest.count; xmm_count = rest.xmm_count; xmm_registers = rest.xmm_registers; stack = rest.stack; registers = rest.registers }
 
 -- the frame register and the base of the frame
 pub record IsSet (f : Frame) (codes : List UnwindOperation) (s : Machine) (b : ℕ) : Type 0 where

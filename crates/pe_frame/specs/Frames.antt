@@ -10,7 +10,7 @@ use Rattle.pe_unwind.specs.UnwindRecord.{UnwindInfoView, code_stream}
 use Rattle.pe_frame.specs.declared.registers.Registers.{Registers}
 use Rattle.pe_frame.specs.Undoing.{pointer, error_size, is_framed, is_interrupted, ran}
 use Rattle.pe_frame.specs.Steps.{frame_of}
-use Rattle.pe_frame.specs.Machine.{Machine, top, loaded, run, IsProlog, IsBody, saves, saves_wide, chosen}
+use Rattle.pe_frame.specs.Machine.{Machine, top, loaded, run, IsProlog, IsBody, saves, saves_xmm, chosen}
 
 -- a record, the codes that it has, and the machine where the code that it describes was entered
 pub record Part : Type 0 where
@@ -72,10 +72,10 @@ restored [] limit r value = value
 restored (p ∷ parts) limit r value =
     restored parts None r (chosen (saves (ran limit p.codes) r) (slice_index p.entry.general r) value)
 
-abbrev pub restored_wide : List Part → Option ℕ → ℕ → ℕ → ℕ
-restored_wide [] limit r value = value
-restored_wide (p ∷ parts) limit r value =
-    restored_wide parts None r (chosen (saves_wide (ran limit p.codes) r) (slice_index p.entry.xmm r) value)
+abbrev pub restored_xmm : List Part → Option ℕ → ℕ → ℕ → ℕ
+restored_xmm [] limit r value = value
+restored_xmm (p ∷ parts) limit r value =
+    restored_xmm parts None r (chosen (saves_xmm (ran limit p.codes) r) (slice_index p.entry.xmm r) value)
 
 -- the stack pointer is above the return address, and the instruction pointer at it; or both are as a machine frame has them
 abbrev pub IsAfter : List UnwindOperation → Machine → Registers → Type 0
@@ -94,4 +94,4 @@ Leaves (p ∷ q ∷ parts) limit u = Leaves (q ∷ parts) None u
 pub record IsCaller (parts : List Part) (limit : Option ℕ) (g u : Registers) : Type 0 where
   pub leaves : Leaves parts limit u
   pub registers : (r : ℕ) → r ≢ 4 → slice_index u.general r ≡ restored parts limit r (slice_index g.general r)
-  pub wide : (r : ℕ) → slice_index u.xmm r ≡ restored_wide parts limit r (slice_index g.xmm r)
+  pub xmm_registers : (r : ℕ) → slice_index u.xmm r ≡ restored_xmm parts limit r (slice_index g.xmm r)

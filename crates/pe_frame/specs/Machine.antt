@@ -20,8 +20,8 @@ abbrev pub stored : (ℕ → ℕ) → ℕ → ℕ → ℕ → ℕ
 stored m a v b = if nat_le a b && nat_lt b (a + 8) then v / 256 ^ (b - a) % 256 else m b
 
 -- the bytes after a number of 16 bytes is stored
-abbrev pub stored_wide : (ℕ → ℕ) → ℕ → ℕ → ℕ → ℕ
-stored_wide m a v = stored (stored m a (v % 2 ^ 64)) (a + 8) (v / 2 ^ 64)
+abbrev pub stored_xmm : (ℕ → ℕ) → ℕ → ℕ → ℕ → ℕ
+stored_xmm m a v = stored (stored m a (v % 2 ^ 64)) (a + 8) (v / 2 ^ 64)
 
 -- A machine: its integer registers, its XMM registers, its memory byte by byte and, once the frame register is set, the
 -- base of the frame.
@@ -53,7 +53,7 @@ done f SetFPRegister s =
 done f (SaveNonVolatile r o) s =
     record { general = s.general; xmm = s.xmm; memory = stored s.memory (base s + offset_number o) (slice_index s.general r.0); frame = s.frame }
 done f (SaveXMM128 r o) s =
-    record { general = s.general; xmm = s.xmm; memory = stored_wide s.memory (base s + offset_number o) (slice_index s.xmm (r.0 - 17)); frame = s.frame }
+    record { general = s.general; xmm = s.xmm; memory = stored_xmm s.memory (base s + offset_number o) (slice_index s.xmm (r.0 - 17)); frame = s.frame }
 done f other s = s
 
 -- the machine after these operations
@@ -106,8 +106,8 @@ pub record IsXmm (r : ℕ) : Type 0 where
 pub record IsEntered (s : Machine) : Type 0 where
   pub count : length s.general ≡ 16
   pub values : (r : ℕ) → slice_index s.general r < 2 ^ 64
-  pub wide_count : length s.xmm ≡ 16
-  pub wide_values : (r : ℕ) → slice_index s.xmm r < 2 ^ 128
+  pub xmm_count : length s.xmm ≡ 16
+  pub xmm_values : (r : ℕ) → slice_index s.xmm r < 2 ^ 128
   pub frame : s.frame ≡ None
 
 -- without a frame register the stack pointer stays once a register was saved by a store
@@ -169,7 +169,7 @@ KeepsFrame f codes (Some b) left g =
 -- is known of the memory.
 pub record IsBody (called : Bool) (f : Frame) (codes : List UnwindOperation) (s : Machine) (m : ℕ → Option ℕ) (g : Registers) : Type 0 where
   pub count : length g.general ≡ 16
-  pub wide_count : length g.xmm ≡ 16
+  pub xmm_count : length g.xmm ≡ 16
   pub frame : KeepsFrame f codes (run f codes s).frame (run f codes s).general g
   pub memory : AllByRecursion (λ a. m a ≡ Some (loaded (run f codes s).memory a)) (slots called f codes s)
 
@@ -180,10 +180,10 @@ saves (PushNonVolatile q ∷ before) r = q.0 == r || saves before r
 saves (SaveNonVolatile q o ∷ before) r = q.0 == r || saves before r
 saves (other ∷ before) r = saves before r
 
-abbrev pub saves_wide : List UnwindOperation → ℕ → Bool
-saves_wide [] r = false
-saves_wide (SaveXMM128 q o ∷ before) r = q.0 - 17 == r || saves_wide before r
-saves_wide (other ∷ before) r = saves_wide before r
+abbrev pub saves_xmm : List UnwindOperation → ℕ → Bool
+saves_xmm [] r = false
+saves_xmm (SaveXMM128 q o ∷ before) r = q.0 - 17 == r || saves_xmm before r
+saves_xmm (other ∷ before) r = saves_xmm before r
 
 -- what a register has once the operations are undone: what it had where they began, if one of them saved it; else what it has
 abbrev pub chosen : Bool → ℕ → ℕ → ℕ

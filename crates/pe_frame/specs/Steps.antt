@@ -11,14 +11,14 @@ use Rattle.pe_frame.specs.declared.registers.Registers.{Registers}
 use Rattle.pe_frame.specs.Undoing.{Frame, ◌>>=◌, entered, popped, pointer}
 
 -- the codes that items are, or the first that is none
-abbrev pub codes_of : List (Result UnwindCode Error) → Result (List UnwindCode) FrameError
-codes_of [] = Ok []
-codes_of (Ok c ∷ items) = codes_of items >>= λ codes. Ok (c ∷ codes)
-codes_of (Err e ∷ items) = Err (Codes e)
+abbrev pub known_codes : List (Result UnwindCode Error) → Result (List UnwindCode) FrameError
+known_codes [] = Ok []
+known_codes (Ok c ∷ items) = known_codes items >>= λ codes. Ok (c ∷ codes)
+known_codes (Err e ∷ items) = Err (Codes e)
 
 -- the codes of a record
 abbrev pub HasCodes : UnwindInfoView → Result (List UnwindCode) FrameError → Type 0
-HasCodes i codes = (items : List (Result UnwindCode Error)) × AreItems (code_stream i) items × (codes ≡ codes_of items)
+HasCodes i codes = (items : List (Result UnwindCode Error)) × AreItems (code_stream i) items × (codes ≡ known_codes items)
 
 abbrev pub frame_of : UnwindInfoView → Frame
 frame_of i = record { register = (i.frame_register).0; offset = i.frame_register_offset }
@@ -56,7 +56,7 @@ rising p u = if nat_lt p (pointer u) then Ok u else Err (NotRising (pointer u))
 abbrev pub returned : (ℕ → Option ℕ) → ℕ → (Registers × Bool) → Result Registers FrameError
 returned m p u = if u.1 then Ok u.0 else popped m u.0 >>= rising p
 
--- what a step gives, by the records of a function and the offset in it
+-- what a step returns, by the records of a function and the offset in it
 abbrev pub Steps : (ℕ → Option ℕ) → List UnwindInfoView → ℕ → Registers → Result Registers FrameError → Type 0
 Steps m plan offset g answer =
     (entry : Result (Registers × Bool) FrameError) × Undoes m plan (limit_of plan offset) false g entry
@@ -71,7 +71,7 @@ abbrev pub error_kind : FrameError → ErrorKind
 error_kind (Codes e) = OfCodes (kind_of e)
 error_kind other = OfStep other
 
--- an answer by the kind of its error
+-- a result, with an error by its kind
 abbrev pub by_kind : {A : Type 0} → Result A FrameError → Result A ErrorKind
 by_kind (Ok x) = Ok x
 by_kind (Err e) = Err (error_kind e)

@@ -19,15 +19,15 @@ abbrev pub nothing_known : Survey
 nothing_known = surveyed None []
 
 -- what is known of some codes and of others after them
-abbrev pub joined : Survey → Survey → Survey
-joined s t = record {
+abbrev pub joined_surveys : Survey → Survey → Survey
+joined_surveys s t = record {
   sets_frame = s.sets_frame || t.sets_frame;
   has_set_frame = s.has_set_frame || t.has_set_frame;
   is_interrupted = s.is_interrupted || t.is_interrupted;
 }
 
 abbrev pub noted : Option ℕ → Survey → UnwindCode → Survey
-noted limit s c = joined s (surveyed limit (c ∷ []))
+noted limit s c = joined_surveys s (surveyed limit (c ∷ []))
 
 -- the same of a record, if none of its codes is refused
 abbrev pub Surveys : Option ℕ → UnwindInfoView → Result Survey FrameError → Type 0

@@ -1,4 +1,4 @@
--- What undoing the operations of a prolog gives. (x64 exception handling: unwind procedure.)
+-- What undoing the operations of a prolog returns. (x64 exception handling: unwind procedure.)
 use Rattle.std.specs.Prelude.{ℕ, ◌+◌, ◌-◌, ◌*◌, ◌^◌, ◌&&◌, ◌||◌, ◌==◌, not, nat_le, nat_lt, Bool, true, false, if◌then◌else◌, List, [], ◌∷◌, slice_index, slice_set, Option, Some, None, Result, Ok, Err}
 use Rattle.pe_unwind.specs.declared.unwind_code.StackFrameOffset.{StackFrameOffset}
 use Rattle.pe_unwind.specs.declared.unwind_code.StackFrameOffset.TheVariants.{RSP, FP}
@@ -46,11 +46,11 @@ abbrev pub raised : ℕ → Registers → Result Registers FrameError
 raised n g = above (pointer g) n >>= λ a. Ok (put_register g 4 a)
 
 -- the number of an integer register, which is its own, and that of an XMM register, which follow the instruction pointer
-abbrev pub integer : UnwindOperation → ℕ → Result ℕ FrameError
-integer o r = if nat_lt r 16 then Ok r else Err (Operation o)
+abbrev pub require_integer : UnwindOperation → ℕ → Result ℕ FrameError
+require_integer o r = if nat_lt r 16 then Ok r else Err (Operation o)
 
-abbrev pub xmm : UnwindOperation → ℕ → Result ℕ FrameError
-xmm o r = if nat_le 17 r && nat_lt r 33 then Ok (r - 17) else Err (Operation o)
+abbrev pub require_xmm : UnwindOperation → ℕ → Result ℕ FrameError
+require_xmm o r = if nat_le 17 r && nat_lt r 33 then Ok (r - 17) else Err (Operation o)
 
 -- how far a saved register lies above the base of the frame
 abbrev pub offset_number : StackFrameOffset → ℕ
@@ -58,8 +58,8 @@ offset_number (RSP n) = n
 offset_number (FP n) = n
 
 -- the 16 bytes at an address, the low eight first
-abbrev pub wide_number : (ℕ → Option ℕ) → ℕ → Result ℕ FrameError
-wide_number m a =
+abbrev pub xmm_number : (ℕ → Option ℕ) → ℕ → Result ℕ FrameError
+xmm_number m a =
     number m a >>= λ low. above a 8 >>= λ b. number m b >>= λ high. Ok (low + high * 2 ^ 64)
 
 -- the bytes of an error code, if an interrupt pushed one
@@ -74,15 +74,15 @@ interrupted_at m a g =
 -- the registers before an operation. m is the memory, base the base of the frame
 abbrev pub undone : (ℕ → Option ℕ) → ℕ → UnwindOperation → Registers → Result Registers FrameError
 undone m base (PushNonVolatile r) g =
-    integer (PushNonVolatile r) r.0 >>= λ i. number m (pointer g) >>= λ v. raised 8 (put_register g i v)
+    require_integer (PushNonVolatile r) r.0 >>= λ i. number m (pointer g) >>= λ v. raised 8 (put_register g i v)
 undone m base (Alloc n) g = raised n g
 undone m base SetFPRegister g = Ok (put_register g 4 base)
 undone m base (SaveNonVolatile r o) g =
-    integer (SaveNonVolatile r o) r.0 >>= λ i. above base (offset_number o) >>= λ a. number m a >>= λ v. Ok (put_register g i v)
+    require_integer (SaveNonVolatile r o) r.0 >>= λ i. above base (offset_number o) >>= λ a. number m a >>= λ v. Ok (put_register g i v)
 undone m base (SaveXMM r o) g = Err (Operation (SaveXMM r o))
 undone m base (Epilog a b) g = Ok g
 undone m base (SaveXMM128 r o) g =
-    xmm (SaveXMM128 r o) r.0 >>= λ i. above base (offset_number o) >>= λ a. wide_number m a >>= λ v. Ok (put_xmm g i v)
+    require_xmm (SaveXMM128 r o) r.0 >>= λ i. above base (offset_number o) >>= λ a. xmm_number m a >>= λ v. Ok (put_xmm g i v)
 undone m base (PushMachineFrame e) g = above (pointer g) (error_size e) >>= λ a. interrupted_at m a g
 undone m base Noop g = Ok g
 

@@ -78,7 +78,7 @@ fn caller<M: Memory>(
 ///
 /// **A walk.** In the top frame `rva` is the instruction that is about to run: look the function up by it. In each other frame
 /// it is a return address, which may lie after the end of the function if the call is its last instruction: look up by
-/// `rva - 1`, and pass `rva` to this call. After a machine frame, which `PushMachineFrame` of the root record tells, `rva` is
+/// `rva - 1`, and pass `rva` to this call. After a machine frame, which `PushMachineFrame` of the root record shows, `rva` is
 /// again the instruction that is about to run. Where no function covers the address, call [`leaf`]. The walk ends where the
 /// caller's `rip` is 0 or lies in no image, or where a step is refused. As each step moves the stack pointer up it ends by
 /// itself, except past machine frames, which may lead to another stack: bound the number of frames there.

@@ -5,7 +5,7 @@ ghost use Rattle.pe_core.specs.Traits.{IsEquality};
 ghost use Rattle.pe_unwind.specs.UnwindRecord.{UnwindInfoView};
 ghost use Rattle.pe_frame.specs.declared.error.FrameError.{FrameError};
 ghost use Rattle.pe_frame.specs.declared.registers.Registers.{Registers};
-ghost use Rattle.pe_frame.specs.Memory.{word_of};
+ghost use Rattle.pe_frame.specs.Memory.{stack_word};
 ghost use Rattle.pe_frame.specs.Machine.{loaded};
 ghost use Rattle.pe_frame.specs.Frames.{Part, infos, left, registers_of, AreFrames, IsCaller};
 ghost use Rattle.pe_frame.specs.Samples.{all_known, home_part, inner_part, framed_part, interrupt_part};
@@ -13,9 +13,9 @@ ghost use Rattle.pe_frame.specs.Steps.{Steps, by_kind};
 
 use crate::registers::Registers;
 
-/// A step has an answer, and one alone, up to the numbers in a refusal of codes.
+/// A step has a result, and one alone, up to the numbers in a refusal of codes.
 #[tactic(auto, using(crate::proofs::OneStep::some_step))]
-pub fn one_answer_of_steps()
+pub fn one_result_of_steps()
     ensures exists { (m : ℕ → Option ℕ) (plan : List UnwindInfoView) (offset : ℕ) (g : Registers) →
         (x : Result Registers FrameError) × Steps m plan offset g x }
     ensures one { (m : ℕ → Option ℕ) (plan : List UnwindInfoView) (offset : ℕ) (g : Registers) (x y : Result Registers FrameError) →
@@ -39,7 +39,7 @@ pub fn prologs_are_undone()
 pub fn stacks_show_memory()
     ensures { (bytes : List ℕ) (start a : ℕ) (memory : ℕ → ℕ) →
         start ≤ a → a + 8 ≤ start + length bytes → a + 8 ≤ 2 ^ 64 → ((i : ℕ) → i < 8 → slice_index bytes (a - start + i) ≡ memory (a + i)) →
-        word_of bytes start a ≡ Some (loaded memory a) }
+        stack_word bytes start a ≡ Some (loaded memory a) }
 {}
 
 /// There are such frames: of a part in the body of a function, of one with a frame register, after its prolog and inside of

@@ -1,7 +1,7 @@
 //! One step of a stack walk on x64: the registers of a function's caller, from its own registers, its unwind records and
 //! the memory of its stack.
 //!
-//! A prolog pushes registers, allocates stack, may set a frame register and saves further registers. Unwind codes tell what
+//! A prolog pushes registers, allocates stack, may set a frame register and saves further registers. Unwind codes say what
 //! it did, the last step first, so that undoing them in turn leads back to the function's entry, where the stack pointer
 //! points at the return address. [Microsoft's page](https://learn.microsoft.com/cpp/build/exception-handling-x64) has the
 //! codes and the procedure.

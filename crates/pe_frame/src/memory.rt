@@ -1,7 +1,7 @@
 //! The memory that a step reads: the stack of the thread.
 
 ghost use Rattle.std.specs.Prelude.{◌≡◌, ℕ, Option};
-ghost use Rattle.pe_frame.specs.Memory.{word_of};
+ghost use Rattle.pe_frame.specs.Memory.{stack_word};
 
 use pe_core::u64_at;
 
@@ -28,7 +28,7 @@ pub struct Stack<'a> {
 }
 
 impl<'a> Memory for Stack<'a> {
-    ghost word = { λ s. word_of s.bytes.now s.start };
+    ghost word = { λ s. stack_word s.bytes.now s.start };
 
     fn u64_at(&self, address: u64) -> Option<u64> {
         if address < self.start || address > u64::MAX - (SIZE_OF_WORD - 1) {

@@ -142,7 +142,7 @@ fn undo_codes<M: Memory>(
     for item in info.unwind_codes() {
         let code = match item {
             Ok(code) => code,
-            Err(fault) => return Err(FrameError::Codes(fault)),
+            Err(refusal) => return Err(FrameError::Codes(refusal)),
         };
         match undo_code(code, limit, base, current, memory) {
             Ok(before) => current = before,

@@ -1,7 +1,7 @@
 //! Undoing one operation of a prolog.
 
 ghost use Rattle.std.specs.Prelude.{◌≡◌};
-ghost use Rattle.pe_frame.specs.Undoing.{offset_number, number, above, raised, integer, xmm, wide_number, interrupted_at, undone, popped};
+ghost use Rattle.pe_frame.specs.Undoing.{offset_number, number, above, raised, require_integer, require_xmm, xmm_number, interrupted_at, undone, popped};
 
 use crate::error::FrameError;
 use crate::memory::{Memory, SIZE_OF_WORD};
@@ -53,7 +53,7 @@ fn raise(by: u64, registers: Registers) -> Result<Registers, FrameError>
 
 /// The index of an integer register of an operation.
 fn integer(operation: UnwindOperation, register: Register) -> Result<usize, FrameError>
-    ensures { result ≡ integer operation register.0 }
+    ensures { result ≡ require_integer operation register.0 }
 {
     if register.0 < INTEGER_REGISTERS {
         Ok(usize::from(register.0))
@@ -64,7 +64,7 @@ fn integer(operation: UnwindOperation, register: Register) -> Result<usize, Fram
 
 /// The index of an XMM register of an operation.
 fn xmm(operation: UnwindOperation, register: Register) -> Result<usize, FrameError>
-    ensures { result ≡ xmm operation register.0 }
+    ensures { result ≡ require_xmm operation register.0 }
 {
     if XMM0 <= register.0 && register.0 <= XMM15 {
         Ok(usize::from(register.0 - XMM0))
@@ -83,8 +83,8 @@ fn bytes_above(offset: StackFrameOffset) -> u64
 }
 
 /// The number of the 16 bytes at an address.
-fn wide_number<M: Memory>(memory: &M, address: u64) -> Result<u128, FrameError>
-    ensures { result ≡ wide_number (M.word memory.now) address }
+fn xmm_number<M: Memory>(memory: &M, address: u64) -> Result<u128, FrameError>
+    ensures { result ≡ xmm_number (M.word memory.now) address }
 {
     let low = number(memory, address)?;
     let high = number(memory, above(address, SIZE_OF_WORD)?)?;
@@ -133,7 +133,7 @@ pub(crate) fn undo<M: Memory>(
         }
         UnwindOperation::SaveXMM128(register, offset) => {
             let index = xmm(operation, register)?;
-            registers.xmm[index] = wide_number(memory, above(base, bytes_above(offset))?)?;
+            registers.xmm[index] = xmm_number(memory, above(base, bytes_above(offset))?)?;
             Ok(registers)
         }
         UnwindOperation::PushMachineFrame(has_error_code) => {

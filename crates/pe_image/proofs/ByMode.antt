@@ -3,7 +3,7 @@ use Rattle.std.proofs.Common.{◌≡◌, ◌≢◌, ℕ, List, Some, Result, Ok,
 use Rattle.std.specs.Option.{option_map}
 use Rattle.std.specs.Prelude.{Vec}
 use Rattle.pe_core.specs.Modes.{none_if_refused, none_if_error}
-use Rattle.pe_core.specs.Refusals.{Refusal, Memory, Gives, GivesUnlessMemory, answer_by}
+use Rattle.pe_core.specs.Refusals.{Refusal, Memory, Returns, ReturnsUnlessMemory, answer_by}
 use Rattle.pe_core.specs.declared.data_directories.DataDirectory.{DataDirectory}
 use Rattle.pe_core.specs.declared.error.Error.{Error}
 use Rattle.pe_core.specs.declared.error.Error.TheVariants as errors
@@ -13,9 +13,9 @@ use Rattle.pe_core.specs.declared.options.ParseOptions.{ParseOptions}
 use Rattle.pe_core.specs.declared.section_table.SectionTable.{SectionTable}
 use Rattle.pe_resource.specs.Resources.{IsResource, resource_view}
 use Rattle.pe_resource.specs.declared.resource.ResourceData.{ResourceData}
-use Rattle.pe_records.specs.Certificates.{ListingBegins, Lists}
+use Rattle.pe_records.specs.Certificates.{ListingStarts, Lists}
 use Rattle.pe_records.specs.declared.certificate_table.AttributeCertificate.{AttributeCertificate}
-use Rattle.pe_image.specs.FieldSteps.{GivesResources}
+use Rattle.pe_image.specs.FieldSteps.{ReturnsResources}
 use Rattle.pe_image.specs.Memory.{MemoryOnlyIf}
 use Rattle.pe_image.proofs.NoMemory.{Lacks, memory_never}
 
@@ -30,7 +30,7 @@ by_mode view Permissive (Err (errors.Short at needed)) never = refl
 by_mode view mode (Err (errors.Memory e)) never = absurd (never refl)
 
 -- where the definition's answer is known, want of memory apart
-pub gives_by_mode : {X Y : Type 0} (view : X → Y) (mode : ParseMode) (parsed : Result X Error) (defined : Result Y Refusal) → Gives view parsed defined → GivesUnlessMemory (option_map view) (none_if_error mode parsed) (none_if_refused mode defined)
+pub gives_by_mode : {X Y : Type 0} (view : X → Y) (mode : ParseMode) (parsed : Result X Error) (defined : Result Y Refusal) → Returns view parsed defined → ReturnsUnlessMemory (option_map view) (none_if_error mode parsed) (none_if_refused mode defined)
 gives_by_mode view mode (Ok x) defined g = rw g refl
 gives_by_mode view Strict (Err (errors.Malformed reason)) defined g = rw g refl
 gives_by_mode view Strict (Err (errors.BadMagic magic)) defined g = rw g refl
@@ -40,13 +40,13 @@ gives_by_mode view Permissive (Err (errors.BadMagic magic)) defined g = rw g ref
 gives_by_mode view Permissive (Err (errors.Short at needed)) defined g = rw g refl
 gives_by_mode view mode (Err (errors.Memory e)) defined g = tt
 
-pub resources_by_mode : (opts : ParseOptions) (b : List ℕ) (sections : List SectionTable) (unit : ℕ) (d : DataDirectory) (parsed : Result ResourceData Error) → IsResource opts b d sections unit (answer_by resource_view parsed) → answer_by resource_view parsed ≢ Err Memory → GivesResources opts b sections unit (Some d) (none_if_error opts.parse_mode parsed)
+pub resources_by_mode : (opts : ParseOptions) (b : List ℕ) (sections : List SectionTable) (unit : ℕ) (d : DataDirectory) (parsed : Result ResourceData Error) → IsResource opts b d sections unit (answer_by resource_view parsed) → answer_by resource_view parsed ≢ Err Memory → ReturnsResources opts b sections unit (Some d) (none_if_error opts.parse_mode parsed)
 resources_by_mode opts b sections unit d parsed is never = (Some (answer_by resource_view parsed), is, by_mode resource_view opts.parse_mode parsed never)
 
 -- ---- memory
 
 -- what is no want of memory stays none
-pub never_by_mode : {X Y : Type 0} (view : X → Y) (mode : ParseMode) (parsed : Result X Error) (defined : Result Y Refusal) → Gives view parsed defined → Lacks defined → MemoryOnlyIf ⊥ (none_if_error mode parsed)
+pub never_by_mode : {X Y : Type 0} (view : X → Y) (mode : ParseMode) (parsed : Result X Error) (defined : Result Y Refusal) → Returns view parsed defined → Lacks defined → MemoryOnlyIf ⊥ (none_if_error mode parsed)
 never_by_mode view mode (Ok x) defined g l = tt
 never_by_mode view Strict (Err (errors.Malformed reason)) defined g l = tt
 never_by_mode view Strict (Err (errors.BadMagic magic)) defined g l = tt
@@ -67,12 +67,12 @@ never_if_not view Permissive (Err (errors.Short at needed)) l = tt
 never_if_not view mode (Err (errors.Memory e)) l = l refl
 
 -- a listing asks for memory once it has begun, in both modes
-pub begins_by_mode : {Z : Type 0} (b : List ℕ) (address size : ℕ) (mode : ParseMode) (parsed : Result (Vec AttributeCertificate Z) Error) → Lists b address size parsed → MemoryOnlyIf (ListingBegins b address size) (none_if_error mode parsed)
-begins_by_mode b address size mode (Ok x) l = tt
-begins_by_mode b address size Strict (Err (errors.Malformed reason)) l = tt
-begins_by_mode b address size Strict (Err (errors.BadMagic magic)) l = tt
-begins_by_mode b address size Strict (Err (errors.Short at needed)) l = tt
-begins_by_mode b address size Permissive (Err (errors.Malformed reason)) l = tt
-begins_by_mode b address size Permissive (Err (errors.BadMagic magic)) l = tt
-begins_by_mode b address size Permissive (Err (errors.Short at needed)) l = tt
-begins_by_mode b address size mode (Err (errors.Memory e)) l = l.1
+pub starts_by_mode : {Z : Type 0} (b : List ℕ) (address size : ℕ) (mode : ParseMode) (parsed : Result (Vec AttributeCertificate Z) Error) → Lists b address size parsed → MemoryOnlyIf (ListingStarts b address size) (none_if_error mode parsed)
+starts_by_mode b address size mode (Ok x) l = tt
+starts_by_mode b address size Strict (Err (errors.Malformed reason)) l = tt
+starts_by_mode b address size Strict (Err (errors.BadMagic magic)) l = tt
+starts_by_mode b address size Strict (Err (errors.Short at needed)) l = tt
+starts_by_mode b address size Permissive (Err (errors.Malformed reason)) l = tt
+starts_by_mode b address size Permissive (Err (errors.BadMagic magic)) l = tt
+starts_by_mode b address size Permissive (Err (errors.Short at needed)) l = tt
+starts_by_mode b address size mode (Err (errors.Memory e)) l = l.1

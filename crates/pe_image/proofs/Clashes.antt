@@ -79,19 +79,19 @@ all_so : {X : Type 0} (p q : X → Bool) → ((x : X) → p x ≡ true → q x �
 all_so p q f [] h = refl
 all_so p q f (x ∷ xs) h = both (q x) (list_all q xs) (f x (and_left _ _ h)) (all_so p q f xs (and_right _ _ h))
 
-in_front_of_all : (s : SectionTable) (behind : List SectionTable) → rises (s ∷ behind) ≡ true → list_all (in_front s) behind ≡ true
+in_front_of_all : (s : SectionTable) (after : List SectionTable) → rises (s ∷ after) ≡ true → list_all (in_front s) after ≡ true
 in_front_of_all s [] h = refl
-in_front_of_all s (t ∷ behind) h =
+in_front_of_all s (t ∷ after) h =
     let here : in_front s t ≡ true = and_left _ _ h in
-    both (in_front s t) (list_all (in_front s) behind) here
-    (all_so (in_front t) (in_front s) (λ u e. further s t u here e) behind (in_front_of_all t behind (and_right _ _ h)))
+    both (in_front s t) (list_all (in_front s) after) here
+    (all_so (in_front t) (in_front s) (λ u e. further s t u here e) after (in_front_of_all t after (and_right _ _ h)))
 
 pub rising_is_free : (sections : List SectionTable) → rises sections ≡ true → clash_free sections ≡ true
 rising_is_free [] h = refl
-rising_is_free (s ∷ behind) h =
-    both (list_all (λ t. not (clash s t)) behind) (clash_free behind)
-    (all_so (in_front s) (λ t. not (clash s t)) (λ t e. free s t e) behind (in_front_of_all s behind h))
-    (rising_is_free behind (and_right _ _ h))
+rising_is_free (s ∷ after) h =
+    both (list_all (λ t. not (clash s t)) after) (clash_free after)
+    (all_so (in_front s) (λ t. not (clash s t)) (λ t e. free s t e) after (in_front_of_all s after h))
+    (rising_is_free after (and_right _ _ h))
 
 -- ---- the same of sections that fall
 
@@ -99,21 +99,21 @@ rising_is_free (s ∷ behind) h =
 abbrev in_back : SectionTable → SectionTable → Bool
 in_back s t = same_section s t || nat_le (raw_end t) s.pointer_to_raw_data
 
-begins_behind : (s t : SectionTable) → nat_le (raw_end t) s.pointer_to_raw_data ≡ true → nat_lt (max s.pointer_to_raw_data t.pointer_to_raw_data) (min (raw_end s) (raw_end t)) ≡ false
-begins_behind s t h = grind (arith, nat_tests)
+starts_after : (s t : SectionTable) → nat_le (raw_end t) s.pointer_to_raw_data ≡ true → nat_lt (max s.pointer_to_raw_data t.pointer_to_raw_data) (min (raw_end s) (raw_end t)) ≡ false
+starts_after s t h = grind (arith, nat_tests)
 
 goes_down : (s t u : SectionTable) → nat_le (raw_end t) s.pointer_to_raw_data ≡ true → nat_le (raw_end u) t.pointer_to_raw_data ≡ true → nat_le (raw_end u) s.pointer_to_raw_data ≡ true
 goes_down s t u h k = grind (arith, nat_tests)
 
-free_behind : (s t : SectionTable) → in_back s t ≡ true → not (clash s t) ≡ true
-free_behind s t h =
+free_after : (s t : SectionTable) → in_back s t ≡ true → not (clash s t) ≡ true
+free_after s t h =
     let shared : Bool = nat_lt (max s.pointer_to_raw_data t.pointer_to_raw_data) (min (raw_end s) (raw_end t)) in
     by_cases (same_section s t)
     (λ e. ap not (not_both shared (same_section s t) e))
-    (λ e. ap not (not_shared shared (same_section s t) (begins_behind s t (sym (or_false _ (nat_le (raw_end t) s.pointer_to_raw_data) e) ∙ h))))
+    (λ e. ap not (not_shared shared (same_section s t) (starts_after s t (sym (or_false _ (nat_le (raw_end t) s.pointer_to_raw_data) e) ∙ h))))
 
-further_behind : (s t u : SectionTable) → in_back s t ≡ true → in_back t u ≡ true → in_back s u ≡ true
-further_behind s t u h k =
+further_after : (s t u : SectionTable) → in_back s t ≡ true → in_back t u ≡ true → in_back s u ≡ true
+further_after s t u h k =
     by_cases (same_section s t)
     (λ e. let one : s ≡ t = same s t e in rw one k)
     (λ e. let before : nat_le (raw_end t) s.pointer_to_raw_data ≡ true = sym (or_false _ (nat_le (raw_end t) s.pointer_to_raw_data) e) ∙ h in
@@ -121,19 +121,19 @@ further_behind s t u h k =
     (λ f. let one : t ≡ u = same t u f in rw (← one) h)
     (λ f. or_right (same_section s u) _ (goes_down s t u before (sym (or_false _ (nat_le (raw_end u) t.pointer_to_raw_data) f) ∙ k))))
 
-in_back_of_all : (s : SectionTable) (behind : List SectionTable) → falls (s ∷ behind) ≡ true → list_all (in_back s) behind ≡ true
+in_back_of_all : (s : SectionTable) (after : List SectionTable) → falls (s ∷ after) ≡ true → list_all (in_back s) after ≡ true
 in_back_of_all s [] h = refl
-in_back_of_all s (t ∷ behind) h =
+in_back_of_all s (t ∷ after) h =
     let here : in_back s t ≡ true = and_left _ _ h in
-    both (in_back s t) (list_all (in_back s) behind) here
-    (all_so (in_back t) (in_back s) (λ u e. further_behind s t u here e) behind (in_back_of_all t behind (and_right _ _ h)))
+    both (in_back s t) (list_all (in_back s) after) here
+    (all_so (in_back t) (in_back s) (λ u e. further_after s t u here e) after (in_back_of_all t after (and_right _ _ h)))
 
 pub falling_is_free : (sections : List SectionTable) → falls sections ≡ true → clash_free sections ≡ true
 falling_is_free [] h = refl
-falling_is_free (s ∷ behind) h =
-    both (list_all (λ t. not (clash s t)) behind) (clash_free behind)
-    (all_so (in_back s) (λ t. not (clash s t)) (λ t e. free_behind s t e) behind (in_back_of_all s behind h))
-    (falling_is_free behind (and_right _ _ h))
+falling_is_free (s ∷ after) h =
+    both (list_all (λ t. not (clash s t)) after) (clash_free after)
+    (all_so (in_back s) (λ t. not (clash s t)) (λ t e. free_after s t e) after (in_back_of_all s after h))
+    (falling_is_free after (and_right _ _ h))
 
 -- ---- sections that are equal to the next one
 
@@ -142,16 +142,16 @@ twice : (a c : Bool) → (a && (a && c)) ≡ (a && c)
 twice true c = refl
 twice false c = refl
 
-once_more : (s : SectionTable) (behind : List SectionTable) → clash_free (s ∷ s ∷ behind) ≡ clash_free (s ∷ behind)
-once_more s behind =
-    let a : Bool = list_all (λ t. not (clash s t)) behind in
+once_more : (s : SectionTable) (after : List SectionTable) → clash_free (s ∷ s ∷ after) ≡ clash_free (s ∷ after)
+once_more s after =
+    let a : Bool = list_all (λ t. not (clash s t)) after in
     let itself : not (clash s s) ≡ true = free s s (or_left (same_section s s) _ (same_itself s)) in
-    ap (λ b. (b && a) && (a && clash_free behind)) itself ∙ twice a (clash_free behind)
+    ap (λ b. (b && a) && (a && clash_free after)) itself ∙ twice a (clash_free after)
 
-pub passed_over : (s : SectionTable) (behind : List SectionTable) → is_next s behind ≡ true → clash_free behind ≡ clash_free (s ∷ behind)
+pub passed_over : (s : SectionTable) (after : List SectionTable) → is_next s after ≡ true → clash_free after ≡ clash_free (s ∷ after)
 passed_over s [] h = absurd cc
-passed_over s (t ∷ behind) h =
-    subst (λ (u : SectionTable). clash_free (t ∷ behind) ≡ clash_free (u ∷ t ∷ behind)) (sym (same s t h)) (sym (once_more t behind))
+passed_over s (t ∷ after) h =
+    subst (λ (u : SectionTable). clash_free (t ∷ after) ≡ clash_free (u ∷ t ∷ after)) (sym (same s t h)) (sym (once_more t after))
 
 pub next_passed_over : (sections : List SectionTable) (i : ℕ) (d : SectionTable) → i < length sections → clash_free (drop i sections) ≡ clash_free sections → is_next (get_or sections i d) (take (length sections - (i + 1)) (drop (i + 1) sections)) ≡ true → clash_free (drop (i + 1) sections) ≡ clash_free sections
 next_passed_over sections i d h e n =

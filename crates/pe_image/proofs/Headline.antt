@@ -7,7 +7,7 @@ use Rattle.pe_resource.specs.Resources.{ResourceView}
 use Rattle.pe_image.specs.Core.{CoreView, core_of}
 use Rattle.pe_image.specs.Fields.{Field, given_value}
 use Rattle.pe_image.specs.Headline.{AreDerived, AreAlone, IsOfCore, IsPermissive}
-use Rattle.pe_image.specs.Image.{ImageView, core_part, with_fields, demanded, first_fields_demanded, before_resources, AreResourcesOf, IsBehindCore, IsImage}
+use Rattle.pe_image.specs.Image.{ImageView, core_part, with_fields, demanded, first_fields_demanded, before_resources, AreResourcesOf, IsAfterCore, IsImage}
 use Rattle.pe_image.proofs.Permissive.{demanded_never, four_never}
 
 -- ---- a core with its fields is an image of that core, and the one that there is
@@ -30,21 +30,21 @@ from_answer : (b : List ℕ) (o : ParseOptions) (c : CoreView) (f : Field Resour
 from_answer b o c f (Err e) are given = absurd cc
 from_answer b o c f (Ok x) are given = let same : x ≡ with_fields b o c f = cc in rw same (of_core b o c f are)
 
-from_image : (b : List ℕ) (o : ParseOptions) (q : Result CoreView Refusal) (r : Result ImageView Refusal) → o.parse_mode ≡ Permissive → IsBehindCore b o (q >>= λ c. first_fields_demanded b o c >>= λ u. Ok c) r → IsPermissive b o q r
+from_image : (b : List ℕ) (o : ParseOptions) (q : Result CoreView Refusal) (r : Result ImageView Refusal) → o.parse_mode ≡ Permissive → IsAfterCore b o (q >>= λ c. first_fields_demanded b o c >>= λ u. Ok c) r → IsPermissive b o q r
 from_image b o (Err e) r h is = is
 from_image b o (Ok c) r h is =
-    let (f, are, given) : IsBehindCore b o (Ok c) r = rw (four_never b o c h) at is in
+    let (f, are, given) : IsAfterCore b o (Ok c) r = rw (four_never b o c h) at is in
     from_answer b o c f r are (rw (demanded_never o.parse_mode f h) at given)
 
-to_image : (b : List ℕ) (o : ParseOptions) (q : Result CoreView Refusal) (r : Result ImageView Refusal) → o.parse_mode ≡ Permissive → IsPermissive b o q r → IsBehindCore b o (q >>= λ c. first_fields_demanded b o c >>= λ u. Ok c) r
+to_image : (b : List ℕ) (o : ParseOptions) (q : Result CoreView Refusal) (r : Result ImageView Refusal) → o.parse_mode ≡ Permissive → IsPermissive b o q r → IsAfterCore b o (q >>= λ c. first_fields_demanded b o c >>= λ u. Ok c) r
 to_image b o (Err e) r h is = is
 to_image b o (Ok c) (Err e) h is = absurd is
 to_image b o (Ok c) (Ok x) h is =
     let (f, are, given) = is.directories.resources in
     let same : x ≡ with_fields b o c f = whole b o c x f is.core is.derived is.directories given in
     let answer : Ok x ≡ (demanded o.parse_mode f >>= λ u. Ok (with_fields b o c f)) = rw (demanded_never o.parse_mode f h) (ap (λ x. Ok x) same) in
-    let behind : IsBehindCore b o (Ok c) (Ok x) = (f, are, answer) in
-    rw (four_never b o c h) behind
+    let after : IsAfterCore b o (Ok c) (Ok x) = (f, are, answer) in
+    rw (four_never b o c h) after
 
 pub headline : (b : List ℕ) (o : ParseOptions) (r : Result ImageView Refusal) → o.parse_mode ≡ Permissive → IsImage b o r ↔ IsPermissive b o (core_of b o) r
 unfolding before_resources

@@ -13,7 +13,7 @@ use Rattle.pe_image.specs.Core.{CoreView, core_of}
 use Rattle.pe_image.specs.Image.{ImageView, IsImage}
 use Rattle.pe_image.specs.Overlay.{LeavesOverlay, all_fit, overlay}
 use Rattle.pe_image.specs.Pieces.{all_certificate_pieces, all_section_pieces, certificates_end}
-use Rattle.pe_image.specs.Writing.{GivesWritten, certificate_directory, certificates_by, certificates_written, image_by, image_end, image_pieces, image_tests, image_written, is_unit, section_tests, sections_written}
+use Rattle.pe_image.specs.Writing.{ReturnsWritten, certificate_directory, certificates_by, certificates_written, image_by, image_end, image_pieces, image_tests, image_written, is_unit, section_tests, sections_written}
 use Rattle.pe_image.proofs.ExceptionFields.{TableLaw, content_of_bytes}
 use Rattle.pe_image.proofs.RewrittenBytes.{value_is}
 
@@ -33,7 +33,7 @@ finds_scanned law b o c x v a found core is given finds sorted =
 left : (tests : List (Bool × Refusal)) (n m : ℕ) (x y : List ℕ) → outcome {Y = ℕ × List ℕ} tests (n, x) ≡ Ok (m, y) → y ≡ x
 left tests n m x y h = ap (λ (r : ℕ × List ℕ). r.1) (sym (value_is {Y = ℕ × List ℕ} tests (n, x) (m, y) h))
 
-image_by_leaves : (k : Option OptionalHeaderView) (b old new : List ℕ) (x : ImageView) (h : OptionalHeaderView) (r : Result ℕ Error) → k ≡ Some h → GivesWritten r (image_by k b x.header x.sections x.certificates old) old new → LeavesOverlay (image_pieces b x.header h x.sections x.certificates) r old new
+image_by_leaves : (k : Option OptionalHeaderView) (b old new : List ℕ) (x : ImageView) (h : OptionalHeaderView) (r : Result ℕ Error) → k ≡ Some h → ReturnsWritten r (image_by k b x.header x.sections x.certificates old) old new → LeavesOverlay (image_pieces b x.header h x.sections x.certificates) r old new
 image_by_leaves None b old new x h r there g = absurd cc
 image_by_leaves (Some o) b old new x h (Err e) there g = g.1
 image_by_leaves (Some o) b old new x h (Ok n) there g =
@@ -42,16 +42,16 @@ image_by_leaves (Some o) b old new x h (Ok n) there g =
     left (image_tests b x.header o x.sections (length old) pieces) (image_end x.header o x.sections x.certificates) n (overlay old pieces) new g
     ∙ ap (λ o. overlay old (image_pieces b x.header o x.sections x.certificates)) same
 
-pub image_leaves : (b old new : List ℕ) (x : ImageView) (h : OptionalHeaderView) (r : Result ℕ Error) → x.header.optional_header ≡ Some h → GivesWritten r (image_written b x old) old new → LeavesOverlay (image_pieces b x.header h x.sections x.certificates) r old new
+pub image_leaves : (b old new : List ℕ) (x : ImageView) (h : OptionalHeaderView) (r : Result ℕ Error) → x.header.optional_header ≡ Some h → ReturnsWritten r (image_written b x old) old new → LeavesOverlay (image_pieces b x.header h x.sections x.certificates) r old new
 image_leaves b old new x h r there g = image_by_leaves x.header.optional_header b old new x h r there g
 
-pub sections_leave : (b old new : List ℕ) (sections : List SectionTable) (unit : Option ℕ) (offset : ℕ) (r : Result ℕ Error) → GivesWritten r (sections_written b sections unit offset old) old new → LeavesOverlay (all_section_pieces b unit offset sections) r old new
+pub sections_leave : (b old new : List ℕ) (sections : List SectionTable) (unit : Option ℕ) (offset : ℕ) (r : Result ℕ Error) → ReturnsWritten r (sections_written b sections unit offset old) old new → LeavesOverlay (all_section_pieces b unit offset sections) r old new
 sections_leave b old new sections unit offset (Err e) g = g.1
 sections_leave b old new sections unit offset (Ok n) g =
     let pieces = all_section_pieces b unit offset sections in
     left ((is_unit unit, WriteAlignment) ∷ section_tests b sections (length old) pieces) (offset + 40 * length sections) n (overlay old pieces) new g
 
-certificates_by_leave : (k : Option OptionalHeaderView) (old new : List ℕ) (x : ImageView) (h : OptionalHeaderView) (r : Result ℕ Error) → k ≡ Some h → GivesWritten r (certificates_by k x.certificates old) old new → LeavesOverlay (all_certificate_pieces (certificate_directory h) x.certificates) r old new
+certificates_by_leave : (k : Option OptionalHeaderView) (old new : List ℕ) (x : ImageView) (h : OptionalHeaderView) (r : Result ℕ Error) → k ≡ Some h → ReturnsWritten r (certificates_by k x.certificates old) old new → LeavesOverlay (all_certificate_pieces (certificate_directory h) x.certificates) r old new
 certificates_by_leave None old new x h r there g = absurd cc
 certificates_by_leave (Some o) old new x h (Err e) there g = g.1
 certificates_by_leave (Some o) old new x h (Ok n) there g =
@@ -60,5 +60,5 @@ certificates_by_leave (Some o) old new x h (Ok n) there g =
     left ((all_fit (length old) pieces, WriteFit) ∷ []) (certificates_end (certificate_directory o) x.certificates) n (overlay old pieces) new g
     ∙ ap (λ o. overlay old (all_certificate_pieces (certificate_directory o) x.certificates)) same
 
-pub certificates_leave : (old new : List ℕ) (x : ImageView) (h : OptionalHeaderView) (r : Result ℕ Error) → x.header.optional_header ≡ Some h → GivesWritten r (certificates_written x old) old new → LeavesOverlay (all_certificate_pieces (certificate_directory h) x.certificates) r old new
+pub certificates_leave : (old new : List ℕ) (x : ImageView) (h : OptionalHeaderView) (r : Result ℕ Error) → x.header.optional_header ≡ Some h → ReturnsWritten r (certificates_written x old) old new → LeavesOverlay (all_certificate_pieces (certificate_directory h) x.certificates) r old new
 certificates_leave old new x h r there g = certificates_by_leave x.header.optional_header old new x h r there g

@@ -15,9 +15,9 @@ use Rattle.pe_image.specs.LayoutParts.{layout_of}
 use Rattle.pe_image.specs.declared.layout.Layout.{Layout}
 use Rattle.pe_image.specs.Core.{CoreView, core_of, sections_read}
 use Rattle.pe_image.specs.Fields.{Field, given_value}
-use Rattle.pe_image.specs.FieldSteps.{by_mode, list_by_mode, first_fields_in_turn, GivesResources}
-use Rattle.pe_image.specs.Image.{ImageView, FirstFieldsView, first_fields, image_of, with_fields, demanded, first_fields_demanded, before_resources, AreResourcesOf, IsBehindCore, IsImage, GivesImage}
-use Rattle.pe_image.specs.ImageSteps.{unless_refused, GivesBehindCore}
+use Rattle.pe_image.specs.FieldSteps.{by_mode, list_by_mode, first_fields_in_turn, ReturnsResources}
+use Rattle.pe_image.specs.Image.{ImageView, FirstFieldsView, first_fields, image_of, with_fields, demanded, first_fields_demanded, before_resources, AreResourcesOf, IsAfterCore, IsImage, ReturnsImage}
+use Rattle.pe_image.specs.ImageSteps.{unless_refused, ReturnsAfterCore}
 use Rattle.pe_image.specs.declared.pe.PE.{PE}
 use Rattle.pe_image.proofs.SectionsFirst.{sections_of_core}
 use Rattle.pe_image.proofs.Steps.{refused_test, passed_test, still_passes, unless, unless_memory, if_memory}
@@ -52,21 +52,21 @@ in_turn b opts c = simp (kept, kept_list, joined)
 
 -- ---- what is refused, and what is not
 
-behind_refusal : (b : List ℕ) (opts : ParseOptions) (r : Result CoreView Refusal) (e : Refusal) → r ≡ Err e → IsBehindCore b opts r (Err e)
-behind_refusal b opts (Ok c) e h = absurd cc
-behind_refusal b opts (Err refusal) e h = let same : e ≡ refusal = cc in ap (λ e. Err e) same
+after_refusal : (b : List ℕ) (opts : ParseOptions) (r : Result CoreView Refusal) (e : Refusal) → r ≡ Err e → IsAfterCore b opts r (Err e)
+after_refusal b opts (Ok c) e h = absurd cc
+after_refusal b opts (Err refusal) e h = let same : e ≡ refusal = cc in ap (λ e. Err e) same
 
-behind_core : (b : List ℕ) (opts : ParseOptions) (r : Result CoreView Refusal) (c : CoreView) (f : Field ResourceView) (answer : Result ImageView Refusal) → r ≡ Ok c → AreResourcesOf b opts c f → answer ≡ (demanded opts.parse_mode f >>= λ u. Ok (with_fields b opts c f)) → IsBehindCore b opts r answer
-behind_core b opts r c f answer given are is = rw given (f, are, is)
+after_core : (b : List ℕ) (opts : ParseOptions) (r : Result CoreView Refusal) (c : CoreView) (f : Field ResourceView) (answer : Result ImageView Refusal) → r ≡ Ok c → AreResourcesOf b opts c f → answer ≡ (demanded opts.parse_mode f >>= λ u. Ok (with_fields b opts c f)) → IsAfterCore b opts r answer
+after_core b opts r c f answer given are is = rw given (f, are, is)
 
-first_refused : (b : List ℕ) (opts : ParseOptions) (c : CoreView) (e : Refusal) → first_fields_in_turn b opts c ≡ Err e → IsBehindCore b opts (unless_refused b opts c) (Err e)
+first_refused : (b : List ℕ) (opts : ParseOptions) (c : CoreView) (e : Refusal) → first_fields_in_turn b opts c ≡ Err e → IsAfterCore b opts (unless_refused b opts c) (Err e)
 first_refused b opts c e h =
     let t : first_fields_demanded b opts c ≡ Err e = refused_test (first_fields_demanded b opts c) (first_fields b opts c) e (sym (in_turn b opts c) ∙ h) in
-    behind_refusal b opts (unless_refused b opts c) e (rw t refl)
+    after_refusal b opts (unless_refused b opts c) e (rw t refl)
 
-pub first_refused_unless : (b : List ℕ) (opts : ParseOptions) (c : CoreView) (e : Error) → UnlessMemory e (first_fields_in_turn b opts c ≡ Err (kind_of e)) → UnlessMemory e (IsBehindCore b opts (unless_refused b opts c) (Err (kind_of e)))
+pub first_refused_unless : (b : List ℕ) (opts : ParseOptions) (c : CoreView) (e : Error) → UnlessMemory e (first_fields_in_turn b opts c ≡ Err (kind_of e)) → UnlessMemory e (IsAfterCore b opts (unless_refused b opts c) (Err (kind_of e)))
 first_refused_unless b opts c e h =
-    unless_memory e (first_fields_in_turn b opts c ≡ Err (kind_of e)) (IsBehindCore b opts (unless_refused b opts c) (Err (kind_of e))) (first_refused b opts c (kind_of e)) h
+    unless_memory e (first_fields_in_turn b opts c ≡ Err (kind_of e)) (IsAfterCore b opts (unless_refused b opts c) (Err (kind_of e))) (first_refused b opts c (kind_of e)) h
 
 demanded_refused : {X : Type 0} (mode : ParseMode) (f : Field X) (e : Refusal) → Err e ≡ by_mode mode f → demanded mode f ≡ Err e
 demanded_refused Strict None e h = absurd cc
@@ -88,9 +88,9 @@ value_passed mode (Some (Ok y)) x h = cc
 value_passed Strict (Some (Err r)) x h = absurd cc
 value_passed Permissive (Some (Err r)) x h = cc
 
-pub last_refused : (b : List ℕ) (opts : ParseOptions) (c : CoreView) (first : FirstFieldsView) (f : Field ResourceView) (e : Refusal) → first_fields_in_turn b opts c ≡ Ok first → AreResourcesOf b opts c f → Err e ≡ by_mode opts.parse_mode f → IsBehindCore b opts (unless_refused b opts c) (Err e)
+pub last_refused : (b : List ℕ) (opts : ParseOptions) (c : CoreView) (first : FirstFieldsView) (f : Field ResourceView) (e : Refusal) → first_fields_in_turn b opts c ≡ Ok first → AreResourcesOf b opts c f → Err e ≡ by_mode opts.parse_mode f → IsAfterCore b opts (unless_refused b opts c) (Err e)
 last_refused b opts c first f e h are refused =
-    behind_core b opts (unless_refused b opts c) c f (Err e)
+    after_core b opts (unless_refused b opts c) c f (Err e)
     (still_passes (first_fields_demanded b opts c) (first_fields b opts c) first c (sym (in_turn b opts c) ∙ h))
     are (rw (demanded_refused opts.parse_mode f e refused) refl)
 
@@ -98,11 +98,11 @@ same_image : (b : List ℕ) (opts : ParseOptions) (c : CoreView) (f : Field Reso
 unfolding with_fields
 same_image b opts c f = refl
 
-pub accepted : (b : List ℕ) (opts : ParseOptions) (c : CoreView) (first : FirstFieldsView) (f : Field ResourceView) (resources : Option ResourceView) → first_fields_in_turn b opts c ≡ Ok first → AreResourcesOf b opts c f → Ok resources ≡ by_mode opts.parse_mode f → IsBehindCore b opts (unless_refused b opts c) (Ok (image_of c first resources))
+pub accepted : (b : List ℕ) (opts : ParseOptions) (c : CoreView) (first : FirstFieldsView) (f : Field ResourceView) (resources : Option ResourceView) → first_fields_in_turn b opts c ≡ Ok first → AreResourcesOf b opts c f → Ok resources ≡ by_mode opts.parse_mode f → IsAfterCore b opts (unless_refused b opts c) (Ok (image_of c first resources))
 accepted b opts c first f resources h are given =
     let fields : first_fields b opts c ≡ first = passed_test (first_fields_demanded b opts c) (first_fields b opts c) first (sym (in_turn b opts c) ∙ h) in
     let same : with_fields b opts c f ≡ image_of c first resources = same_image b opts c f ∙ (ap (λ first. image_of c first (given_value f)) fields ∙ ap (λ resources. image_of c first resources) (value_passed opts.parse_mode f resources given)) in
-    behind_core b opts (unless_refused b opts c) c f (Ok (image_of c first resources))
+    after_core b opts (unless_refused b opts c) c f (Ok (image_of c first resources))
     (still_passes (first_fields_demanded b opts c) (first_fields b opts c) first c (sym (in_turn b opts c) ∙ h))
     are (rw (demanded_passed opts.parse_mode f resources given) (ap (λ x. Ok x) (sym same)))
 
@@ -110,7 +110,7 @@ accepted b opts c first f resources h are given =
 
 core_refused : (b : List ℕ) (opts : ParseOptions) (e : Refusal) → core_of b opts ≡ Err e → IsImage b opts (Err e)
 unfolding before_resources
-core_refused b opts e h = behind_refusal b opts (core_of b opts >>= λ c. unless_refused b opts c) e (rw h refl)
+core_refused b opts e h = after_refusal b opts (core_of b opts >>= λ c. unless_refused b opts c) e (rw h refl)
 
 -- where an image has a core, its section headers were there before
 pub core_refused_unless : (b : List ℕ) (opts : ParseOptions) (e : Error) → UnlessMemory e (core_of b opts ≡ Err (kind_of e)) → UnlessMemory e (IsImage b opts (Err (kind_of e)))
@@ -120,14 +120,14 @@ core_refused_unless b opts e h = unless_memory e (core_of b opts ≡ Err (kind_o
 sections_first : (b : List ℕ) (opts : ParseOptions) (c : CoreView) → core_of b opts ≡ Ok c → IsOk (sections_read b opts)
 sections_first b opts c given = rw (sections_of_core b opts c given) refl
 
-with_core : (b : List ℕ) (opts : ParseOptions) (c : CoreView) (r : Result ImageView Refusal) → core_of b opts ≡ Ok c → IsBehindCore b opts (unless_refused b opts c) r → IsImage b opts r
+with_core : (b : List ℕ) (opts : ParseOptions) (c : CoreView) (r : Result ImageView Refusal) → core_of b opts ≡ Ok c → IsAfterCore b opts (unless_refused b opts c) r → IsImage b opts r
 unfolding before_resources
 with_core b opts c r given is = rw given is
 
-pub from_core : {Z : Type 0} (b : List ℕ) (opts : ParseOptions) (c : CoreView) (r : Result (PE Z) Error) → core_of b opts ≡ Ok c → GivesBehindCore b opts c r → GivesImage b opts r
+pub from_core : {Z : Type 0} (b : List ℕ) (opts : ParseOptions) (c : CoreView) (r : Result (PE Z) Error) → core_of b opts ≡ Ok c → ReturnsAfterCore b opts c r → ReturnsImage b opts r
 from_core b opts c (Ok p) given is = with_core b opts c (Ok _) given is
 from_core b opts c (Err e) given is = (
-  unless_memory e (IsBehindCore b opts (unless_refused b opts c) (Err (kind_of e))) (IsImage b opts (Err (kind_of e))) (with_core b opts c (Err (kind_of e)) given) is,
+  unless_memory e (IsAfterCore b opts (unless_refused b opts c) (Err (kind_of e))) (IsImage b opts (Err (kind_of e))) (with_core b opts c (Err (kind_of e)) given) is,
   if_memory e (IsOk (sections_read b opts)) (sections_first b opts c given),
 )
 
@@ -137,16 +137,16 @@ from_core b opts c (Err e) given is = (
 abbrev directory_in : ParseOptions → Layout → Option DataDirectory
 directory_in opts layout = if opts.parse_resources then layout.resources else None
 
-read_of : (b : List ℕ) (opts : ParseOptions) (c : CoreView) (layout : Layout) (sections : List SectionTable) (answer : Result (Option ResourceData) Error) → layout ≡ layout_of c.header.optional_header → sections ≡ c.sections → GivesResources opts b sections layout.file_alignment (directory_in opts layout) answer → (f : Field ResourceView) × AreResourcesOf b opts c f × (answer_by (option_map resource_view) answer ≡ by_mode opts.parse_mode f)
+read_of : (b : List ℕ) (opts : ParseOptions) (c : CoreView) (layout : Layout) (sections : List SectionTable) (answer : Result (Option ResourceData) Error) → layout ≡ layout_of c.header.optional_header → sections ≡ c.sections → ReturnsResources opts b sections layout.file_alignment (directory_in opts layout) answer → (f : Field ResourceView) × AreResourcesOf b opts c f × (answer_by (option_map resource_view) answer ≡ by_mode opts.parse_mode f)
 unfolding layout_of
 read_of b opts c layout sections answer lay sec given = rw (lay, sec) at given
 
-pub last_answer_refused : (b : List ℕ) (opts : ParseOptions) (c : CoreView) (first : FirstFieldsView) (layout : Layout) (sections : List SectionTable) (e : Error) → first_fields_in_turn b opts c ≡ Ok first → layout ≡ layout_of c.header.optional_header → sections ≡ c.sections → GivesResources opts b sections layout.file_alignment (directory_in opts layout) (Err e) → UnlessMemory e (IsBehindCore b opts (unless_refused b opts c) (Err (kind_of e)))
+pub last_answer_refused : (b : List ℕ) (opts : ParseOptions) (c : CoreView) (first : FirstFieldsView) (layout : Layout) (sections : List SectionTable) (e : Error) → first_fields_in_turn b opts c ≡ Ok first → layout ≡ layout_of c.header.optional_header → sections ≡ c.sections → ReturnsResources opts b sections layout.file_alignment (directory_in opts layout) (Err e) → UnlessMemory e (IsAfterCore b opts (unless_refused b opts c) (Err (kind_of e)))
 last_answer_refused b opts c first layout sections e h lay sec given =
     let (f, are, same) = read_of b opts c layout sections (Err e) lay sec given in
-    unless e (IsBehindCore b opts (unless_refused b opts c) (Err (kind_of e))) (last_refused b opts c first f (kind_of e) h are same)
+    unless e (IsAfterCore b opts (unless_refused b opts c) (Err (kind_of e))) (last_refused b opts c first f (kind_of e) h are same)
 
-pub last_answer : (b : List ℕ) (opts : ParseOptions) (c : CoreView) (first : FirstFieldsView) (layout : Layout) (sections : List SectionTable) (resources : Option ResourceData) (image : ImageView) → first_fields_in_turn b opts c ≡ Ok first → layout ≡ layout_of c.header.optional_header → sections ≡ c.sections → GivesResources opts b sections layout.file_alignment (directory_in opts layout) (Ok resources) → image ≡ image_of c first (option_map resource_view resources) → IsBehindCore b opts (unless_refused b opts c) (Ok image)
+pub last_answer : (b : List ℕ) (opts : ParseOptions) (c : CoreView) (first : FirstFieldsView) (layout : Layout) (sections : List SectionTable) (resources : Option ResourceData) (image : ImageView) → first_fields_in_turn b opts c ≡ Ok first → layout ≡ layout_of c.header.optional_header → sections ≡ c.sections → ReturnsResources opts b sections layout.file_alignment (directory_in opts layout) (Ok resources) → image ≡ image_of c first (option_map resource_view resources) → IsAfterCore b opts (unless_refused b opts c) (Ok image)
 last_answer b opts c first layout sections resources image h lay sec given seen =
     let (f, are, same) = read_of b opts c layout sections (Ok resources) lay sec given in
     rw seen (accepted b opts c first f (option_map resource_view resources) h are same)

@@ -8,7 +8,7 @@ use Rattle.std.proofs.lemmas.List.Edits.{paste_all, paste-paste}
 use lib.Seq.{paste}
 use Rattle.pe_core.specs.Bytes.{bytes_of, splice}
 use Rattle.pe_core.specs.Header.{OptionalHeaderView}
-use Rattle.pe_core.specs.Spelling.{spell_coff, spell_directory, spell_dos, spell_optional, spell_section, spell_standard32, spell_standard64, spell_windows32, spell_windows64}
+use Rattle.pe_core.specs.Spelling.{spell_coff, spell_directory, spell_dos, spell_optional, spell_section, spell_standard_fields_32, spell_standard_fields_64, spell_windows_fields_32, spell_windows_fields_64}
 use Rattle.pe_core.specs.declared.data_directories.DataDirectory.{DataDirectory}
 use Rattle.pe_core.specs.declared.header.CoffHeader.{CoffHeader}
 use Rattle.pe_core.specs.declared.header.DosHeader.{DosHeader}
@@ -63,20 +63,20 @@ pub length_coff : (c : CoffHeader) → length (spell_coff c) ≡ 20
 unfolding spell_coff
 length_coff c = simp (length-append, length-bytes_of) refl
 
-pub length_standard32 : (s : StandardFields) → length (spell_standard32 s) ≡ 28
-unfolding spell_standard32
+pub length_standard32 : (s : StandardFields) → length (spell_standard_fields_32 s) ≡ 28
+unfolding spell_standard_fields_32
 length_standard32 s = simp (length-append, length-bytes_of) refl
 
-pub length_standard64 : (s : StandardFields) → length (spell_standard64 s) ≡ 24
-unfolding spell_standard64
+pub length_standard64 : (s : StandardFields) → length (spell_standard_fields_64 s) ≡ 24
+unfolding spell_standard_fields_64
 length_standard64 s = simp (length-append, length-bytes_of) refl
 
-pub length_windows32 : (w : WindowsFields) → length (spell_windows32 w) ≡ 68
-unfolding spell_windows32
+pub length_windows32 : (w : WindowsFields) → length (spell_windows_fields_32 w) ≡ 68
+unfolding spell_windows_fields_32
 length_windows32 w = simp (length-append, length-bytes_of) refl
 
-pub length_windows64 : (w : WindowsFields) → length (spell_windows64 w) ≡ 88
-unfolding spell_windows64
+pub length_windows64 : (w : WindowsFields) → length (spell_windows_fields_64 w) ≡ 88
+unfolding spell_windows_fields_64
 length_windows64 w = simp (length-append, length-bytes_of) refl
 
 pub length_directory : (d : DataDirectory) → length (spell_directory d) ≡ 8
@@ -91,7 +91,7 @@ pub length_directories : (rows : List DataDirectory) → length (flat_map spell_
 length_directories [] = refl
 length_directories (d ∷ rows) = simp length-append (omega (arith, length_directory d, length_directories rows))
 
-fields_length : (t : Bool) (s : StandardFields) (w : WindowsFields) → length (cond t (spell_standard64 s ++ spell_windows64 w) (spell_standard32 s ++ spell_windows32 w)) ≡ cond t 112 96
+fields_length : (t : Bool) (s : StandardFields) (w : WindowsFields) → length (cond t (spell_standard_fields_64 s ++ spell_windows_fields_64 w) (spell_standard_fields_32 s ++ spell_windows_fields_32 w)) ≡ cond t 112 96
 fields_length true s w = simp (length-append, length_standard64, length_windows64) refl
 fields_length false s w = simp (length-append, length_standard32, length_windows32) refl
 
@@ -113,12 +113,12 @@ rows_next {b} {old} {now} {p} rows i d h l e =
     (laid_next (spell_directory (get_or rows i d)) 8 l (length_directory (get_or rows i d)) e)
 
 -- the room that the parts of an optional header have, by its magic
-pub wide_room : (o : OptionalHeaderView) (rows : List DataDirectory) (p n : ℕ) → rows ≡ o.data_directories → o.standard_fields.magic ≡ 0x20B → p + length (spell_optional o) ≤ n → p + 112 + 8 * length rows ≤ n
-wide_room o rows p n e t h =
+pub pe32_plus_room : (o : OptionalHeaderView) (rows : List DataDirectory) (p n : ℕ) → rows ≡ o.data_directories → o.standard_fields.magic ≡ 0x20B → p + length (spell_optional o) ≤ n → p + 112 + 8 * length rows ≤ n
+pe32_plus_room o rows p n e t h =
     let l : length (spell_optional o) ≡ 112 + 8 * length rows = length_optional o ∙ rw (t, e) refl in
     omega arith
 
-pub narrow_room : (o : OptionalHeaderView) (rows : List DataDirectory) (p n : ℕ) → rows ≡ o.data_directories → (o.standard_fields.magic ≡ 0x20B → ⊥) → p + length (spell_optional o) ≤ n → p + 96 + 8 * length rows ≤ n
-narrow_room o rows p n e t h =
+pub pe32_room : (o : OptionalHeaderView) (rows : List DataDirectory) (p n : ℕ) → rows ≡ o.data_directories → (o.standard_fields.magic ≡ 0x20B → ⊥) → p + length (spell_optional o) ≤ n → p + 96 + 8 * length rows ≤ n
+pe32_room o rows p n e t h =
     let l : length (spell_optional o) ≡ 96 + 8 * length rows = length_optional o ∙ rw (ne_eqb _ _ t, e) refl in
     omega arith

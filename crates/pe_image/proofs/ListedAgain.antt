@@ -68,9 +68,9 @@ left_by true m n old new h = sym (ap (bytes_in []) h)
 left_by false m n old new h = absurd cc
 
 -- what a successful write of certificates leaves
-pub left_behind : (old new : List ℕ) (d : DataDirectory) (cs : List CertificateView) (n : ℕ) → d.virtual_address ≤ length old → certificates_over (Some d) cs old ≡ Ok (n, new) →
+pub left_after : (old new : List ℕ) (d : DataDirectory) (cs : List CertificateView) (n : ℕ) → d.virtual_address ≤ length old → certificates_over (Some d) cs old ≡ Ok (n, new) →
     (d.virtual_address + length (written_certificates cs) ≤ length old) × (new ≡ splice old d.virtual_address (written_certificates cs))
-left_behind old new d cs n h e =
+left_after old new d cs n h e =
     let p : ℕ = d.virtual_address in
     let t : Bool = all_fit (length old) (row p cs) in
     let fit : all_fit (length old) (row p cs) ≡ true = fits_if {Y = ℕ × List ℕ} t (certificates_end (Some d) cs, overlay old (row p cs)) (n, new) e in
@@ -84,5 +84,5 @@ by_directory x o d old e f =
 pub listed_again : ((b buffer : List ℕ) (address size : ℕ) (cs : List CertificateView) → AreBytes b → address % 8 ≡ 0 → IsListing b address size cs → address + size ≤ length buffer → address + length (written_certificates cs) ≤ length buffer → IsListing (splice buffer address (written_certificates cs)) address size cs) →
     (b old new : List ℕ) (x : ImageView) (o : OptionalHeaderView) (d : DataDirectory) (n : ℕ) → x.header.optional_header ≡ Some o → certificate_directory o ≡ Some d → d.virtual_address % 8 ≡ 0 → AreBytes b → IsListing b d.virtual_address d.size x.certificates → d.virtual_address + d.size ≤ length old → certificates_written x old ≡ Ok (n, new) → IsListing new d.virtual_address d.size x.certificates
 listed_again law b old new x o d n e f m small listing room w =
-    let left = left_behind old new d x.certificates n (omega arith) (sym (by_directory x o d old e f) ∙ w) in
+    let left = left_after old new d x.certificates n (omega arith) (sym (by_directory x o d old e f) ∙ w) in
     subst (λ (r : List ℕ). IsListing r d.virtual_address d.size x.certificates) (sym left.1) (law b old d.virtual_address d.size x.certificates small m listing room left.0)

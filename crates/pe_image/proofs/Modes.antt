@@ -13,7 +13,7 @@ use Rattle.pe_resource.specs.Resources.{ResourceView, IsResource}
 use Rattle.pe_unwind.specs.ExceptionTable.{exception_at}
 use Rattle.pe_image.specs.Core.{CoreView, core_of, core_with}
 use Rattle.pe_image.specs.Fields.{Field, IsField, field, given_value, resource_directory}
-use Rattle.pe_image.specs.Image.{ImageView, with_fields, demanded, first_fields_demanded, before_resources, debug_of, exceptions_of, relocations_of, AreResourcesOf, IsBehindCore, IsImage}
+use Rattle.pe_image.specs.Image.{ImageView, with_fields, demanded, first_fields_demanded, before_resources, debug_of, exceptions_of, relocations_of, AreResourcesOf, IsAfterCore, IsImage}
 use Rattle.pe_image.specs.Layout.{directory, alignment}
 use Rattle.pe_image.proofs.SectionsFirst.{core_before}
 use Rattle.pe_image.proofs.Steps.{first_passed}
@@ -99,20 +99,20 @@ permissive_before : HeaderLaw → (b : List ℕ) (o : ParseOptions) (c : CoreVie
 unfolding before_resources
 permissive_before law b o c h = rw (permissive_core law b o c h) refl
 
-behind : HeaderLaw → DebugLaw → ResourceLaw → (b : List ℕ) (o : ParseOptions) (c : CoreView) (image : ImageView) (f : Field ResourceView) → core_of b (strict o) ≡ Ok c → first_fields_demanded b (strict o) c ≡ Ok tt → AreResourcesOf b (strict o) c f → Ok image ≡ (demanded Strict f >>= λ u. Ok (with_fields b (strict o) c f)) → IsImage b (permissive o) (Ok image)
-behind header debug resource b o c image f is four are given =
+after : HeaderLaw → DebugLaw → ResourceLaw → (b : List ℕ) (o : ParseOptions) (c : CoreView) (image : ImageView) (f : Field ResourceView) → core_of b (strict o) ≡ Ok c → first_fields_demanded b (strict o) c ≡ Ok tt → AreResourcesOf b (strict o) c f → Ok image ≡ (demanded Strict f >>= λ u. Ok (with_fields b (strict o) c f)) → IsImage b (permissive o) (Ok image)
+after header debug resource b o c image f is four are given =
     let passed : demanded Strict f ≡ Ok tt = first_passed (demanded Strict f) (λ u. Ok (with_fields b (strict o) c f)) image (sym given) in
     let same : with_fields b (strict o) c f ≡ with_fields b (permissive o) c f = same_fields debug b o c f (first_passed (demanded Strict (debug_of b (strict o) c)) _ tt four) in
     let shown : Ok image ≡ Ok (with_fields b (permissive o) c f) = rw (passed, same) at given in
     rw (permissive_before header b o c is) (f, same_resources resource b o c f passed are, shown)
 
-behind_core : HeaderLaw → DebugLaw → ResourceLaw → (b : List ℕ) (o : ParseOptions) (r : Result CoreView Refusal) (image : ImageView) → before_resources b (strict o) ≡ r → IsBehindCore b (strict o) r (Ok image) → IsImage b (permissive o) (Ok image)
+after_core : HeaderLaw → DebugLaw → ResourceLaw → (b : List ℕ) (o : ParseOptions) (r : Result CoreView Refusal) (image : ImageView) → before_resources b (strict o) ≡ r → IsAfterCore b (strict o) r (Ok image) → IsImage b (permissive o) (Ok image)
 unfolding before_resources
-behind_core header debug resource b o (Ok c) image h (f, are, given) =
+after_core header debug resource b o (Ok c) image h (f, are, given) =
     let core : core_of b (strict o) ≡ Ok c = core_before b (strict o) (core_of b (strict o)) c h in
-    behind header debug resource b o c image f core (four_kept b (strict o) (core_of b (strict o)) c core h) are given
-behind_core header debug resource b o (Err e) image h is = absurd cc
+    after header debug resource b o c image f core (four_kept b (strict o) (core_of b (strict o)) c core h) are given
+after_core header debug resource b o (Err e) image h is = absurd cc
 
 -- an image that strict mode gives is the one that permissive mode gives
 pub strict_image : HeaderLaw → DebugLaw → ResourceLaw → (b : List ℕ) (o : ParseOptions) (image : ImageView) → IsImage b (record o { parse_mode = Strict }) (Ok image) → IsImage b (record o { parse_mode = Permissive }) (Ok image)
-strict_image header debug resource b o image is = behind_core header debug resource b o (before_resources b (strict o)) image refl is
+strict_image header debug resource b o image is = after_core header debug resource b o (before_resources b (strict o)) image refl is

@@ -5,11 +5,11 @@ use Rattle.pe_core.specs.Bytes.{holds, le, range, record_at}
 use Rattle.pe_core.specs.Header.{header_at, header_tests, optional_header_tests, header}
 use Rattle.pe_core.specs.Records.{coff_header, dos_header, te_header}
 use Rattle.pe_core.specs.Options.{is_permissive}
-use Rattle.pe_core.specs.Places.{bytes_in}
+use Rattle.pe_core.specs.Offsets.{bytes_in}
 use Rattle.pe_core.specs.Refusals.{Refusal, Memory, Short, DebugBounds, DebugData, DebugSize, ExceptionBounds, ExceptionOffset, ExceptionSize, PogoSize, outcome, kind_of, IfMemory, ◌>>=◌}
 use Rattle.pe_core.specs.Relocations.{directory_bytes}
 use Rattle.pe_core.specs.SectionMap.{mapped, section_map}
-use Rattle.pe_core.specs.TerseHeader.{te_header_of, te_tests, reduced_header}
+use Rattle.pe_core.specs.TeImages.{te_header_of, te_tests, reduced_header}
 use Rattle.pe_core.specs.declared.error.Error.{Error}
 use Rattle.pe_core.specs.declared.error.Error.TheVariants as errors
 use Rattle.pe_core.specs.declared.data_directories.DataDirectory.{DataDirectory}
@@ -18,9 +18,9 @@ use Rattle.pe_core.specs.declared.options.ParseMode.TheVariants.{Strict, Permiss
 use Rattle.pe_core.specs.declared.options.ParseOptions.{ParseOptions}
 use Rattle.pe_core.specs.declared.section_table.SectionTable.{SectionTable}
 use Rattle.pe_records.specs.DebugDirectory.{directory_range, directory_table, first_of_type, range_at}
-use Rattle.pe_records.specs.DebugRecords.{characteristics_of, debug_data, features_of, of_entry, of_least_size, pdb20_at, pdb20_of, pdb20_record, pdb70_at, pdb70_of, pdb70_record, pogo_of, pogo_record, record_place, records, repro_of, repro_record, signed, some_of_entry}
+use Rattle.pe_records.specs.DebugRecords.{characteristics_of, debug_data, features_of, of_entry, of_least_size, pdb20_at, pdb20_of, pdb20_record, pdb70_at, pdb70_of, pdb70_record, pogo_of, pogo_record, record_offset, records, repro_of, repro_record, signed, some_of_entry}
 use Rattle.pe_records.specs.declared.debug.ImageDebugDirectory.{ImageDebugDirectory}
-use Rattle.pe_unwind.specs.ExceptionTable.{exception_at, exception_at_place}
+use Rattle.pe_unwind.specs.ExceptionTable.{exception_at, exception_at_offset}
 
 abbrev pub is_memory : Refusal → Bool
 is_memory Memory = true
@@ -77,12 +77,12 @@ header_owes_nothing b mode e P given = nothing_owed (header_at b mode) e P (head
 
 -- ---- headers of terse images
 
-terse_lacks : (b : List ℕ) → Lacks (te_header_of b)
+te_lacks : (b : List ℕ) → Lacks (te_header_of b)
 unfolding te_header_of te_tests
-terse_lacks b = outcome_lacks (te_tests b) (reduced_header (te_header b 0)) (refl, (refl, (refl, tt)))
+te_lacks b = outcome_lacks (te_tests b) (reduced_header (te_header b 0)) (refl, (refl, (refl, tt)))
 
-pub terse_header_owes_nothing : (b : List ℕ) (e : Error) (P : Type 0) → te_header_of b ≡ Err (kind_of e) → IfMemory e P
-terse_header_owes_nothing b e P given = nothing_owed (te_header_of b) e P (terse_lacks b) given
+pub te_header_owes_nothing : (b : List ℕ) (e : Error) (P : Type 0) → te_header_of b ≡ Err (kind_of e) → IfMemory e P
+te_header_owes_nothing b e P given = nothing_owed (te_header_of b) e P (te_lacks b) given
 
 -- ---- directories
 
@@ -96,16 +96,16 @@ if_lacks false r s l k = k
 
 -- ---- exception data and base relocations
 
-exception_place_lacks : (b : List ℕ) (size unit : ℕ) (place : Option ℕ) → Lacks (exception_at_place b size unit place)
-exception_place_lacks b size unit None = refl
-exception_place_lacks b size unit (Some p) =
+exception_offset_lacks : (b : List ℕ) (size unit : ℕ) (offset : Option ℕ) → Lacks (exception_at_offset b size unit offset)
+exception_offset_lacks b size unit None = refl
+exception_offset_lacks b size unit (Some p) =
     outcome_lacks ((p % 4 == 0, ExceptionOffset) ∷ (holds b p size, ExceptionBounds) ∷ []) (record { content = b; start = p; size = size; alignment = unit }) (refl, (refl, tt))
 
 pub exception_lacks : (width : ℕ) (b : List ℕ) (d : DataDirectory) (sections : List SectionTable) (unit : ℕ) (o : ParseOptions) → Lacks (exception_at width b d sections unit o)
 unfolding exception_at
 exception_lacks width b d sections unit o =
-    if_lacks (d.size % width == 0) (exception_at_place b d.size unit (section_map o sections unit d.virtual_address)) (Err ExceptionSize)
-    (exception_place_lacks b d.size unit (section_map o sections unit d.virtual_address)) refl
+    if_lacks (d.size % width == 0) (exception_at_offset b d.size unit (section_map o sections unit d.virtual_address)) (Err ExceptionSize)
+    (exception_offset_lacks b d.size unit (section_map o sections unit d.virtual_address)) refl
 
 mapped_lacks : (p : Option ℕ) → Lacks (mapped p)
 mapped_lacks None = refl
@@ -122,7 +122,7 @@ relocations_lack o b d sections unit =
 
 -- ---- debug data
 
-range_lacks : (b : List ℕ) (mode : ParseMode) (size : ℕ) (place : Option ℕ) → Lacks (range_at b mode size place)
+range_lacks : (b : List ℕ) (mode : ParseMode) (size : ℕ) (offset : Option ℕ) → Lacks (range_at b mode size offset)
 range_lacks b mode size None = refl
 range_lacks b mode size (Some p) =
     if_lacks (holds b p size) (Ok _) _ tt (if_lacks (is_permissive mode) (Ok _) (Err DebugBounds) tt refl)
@@ -164,12 +164,12 @@ some_entry_lacks f (Some e) l = then_lacks (f e) (λ r. Ok (Some r)) (l e) (λ r
 records_lack : (o : ParseOptions) (b : List ℕ) (fixup : ℕ) (t : List ℕ) → Lacks (records o b fixup t)
 unfolding records
 records_lack o b fixup t =
-    then_lacks (of_entry (pdb70_of o b) (first_of_type fixup 2 t)) _ (entry_lacks (pdb70_of o b) (first_of_type fixup 2 t) (λ e. pdb70_lacks o.parse_mode b (record_place o.resolve_rva e) e.size_of_data))
-    (λ a. then_lacks (of_entry (pdb20_of o b) (first_of_type fixup 2 t)) _ (entry_lacks (pdb20_of o b) (first_of_type fixup 2 t) (λ e. pdb20_lacks o.parse_mode b (record_place o.resolve_rva e) e.size_of_data))
-    (λ c. then_lacks (some_of_entry (features_of o b) (first_of_type fixup 12 t)) _ (some_entry_lacks (features_of o b) (first_of_type fixup 12 t) (λ e. one_test_lacks (holds b (record_place o.resolve_rva e) 20) Short _ refl))
-    (λ d. then_lacks (some_of_entry (characteristics_of o b) (first_of_type fixup 20 t)) _ (some_entry_lacks (characteristics_of o b) (first_of_type fixup 20 t) (λ e. one_test_lacks (holds b (record_place o.resolve_rva e) 4) Short _ refl))
-    (λ f. then_lacks (some_of_entry (repro_of o b) (first_of_type fixup 16 t)) _ (some_entry_lacks (repro_of o b) (first_of_type fixup 16 t) (λ e. repro_lacks b (record_place o.resolve_rva e) e))
-    (λ g. then_lacks (of_entry (pogo_of o b) (first_of_type fixup 13 t)) _ (entry_lacks (pogo_of o b) (first_of_type fixup 13 t) (λ e. pogo_lacks b (record_place o.resolve_rva e) e.size_of_data))
+    then_lacks (of_entry (pdb70_of o b) (first_of_type fixup 2 t)) _ (entry_lacks (pdb70_of o b) (first_of_type fixup 2 t) (λ e. pdb70_lacks o.parse_mode b (record_offset o.resolve_rva e) e.size_of_data))
+    (λ a. then_lacks (of_entry (pdb20_of o b) (first_of_type fixup 2 t)) _ (entry_lacks (pdb20_of o b) (first_of_type fixup 2 t) (λ e. pdb20_lacks o.parse_mode b (record_offset o.resolve_rva e) e.size_of_data))
+    (λ c. then_lacks (some_of_entry (features_of o b) (first_of_type fixup 12 t)) _ (some_entry_lacks (features_of o b) (first_of_type fixup 12 t) (λ e. one_test_lacks (holds b (record_offset o.resolve_rva e) 20) Short _ refl))
+    (λ d. then_lacks (some_of_entry (characteristics_of o b) (first_of_type fixup 20 t)) _ (some_entry_lacks (characteristics_of o b) (first_of_type fixup 20 t) (λ e. one_test_lacks (holds b (record_offset o.resolve_rva e) 4) Short _ refl))
+    (λ f. then_lacks (some_of_entry (repro_of o b) (first_of_type fixup 16 t)) _ (some_entry_lacks (repro_of o b) (first_of_type fixup 16 t) (λ e. repro_lacks b (record_offset o.resolve_rva e) e))
+    (λ g. then_lacks (of_entry (pogo_of o b) (first_of_type fixup 13 t)) _ (entry_lacks (pogo_of o b) (first_of_type fixup 13 t) (λ e. pogo_lacks b (record_offset o.resolve_rva e) e.size_of_data))
     (λ h. tt))))))
 
 pub debug_lacks : (o : ParseOptions) (b : List ℕ) (d : DataDirectory) (sections : List SectionTable) (unit fixup : ℕ) → Lacks (debug_data o b d sections unit fixup)

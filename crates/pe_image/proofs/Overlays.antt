@@ -43,11 +43,11 @@ one_more : (xs : List Piece) (q old : ℕ) (acc : Option Piece) → byte_of q (b
 one_more [] q old acc = refl
 one_more (x ∷ xs) q old acc = last_some xs x q (byte_of q old acc) old (λ c o. byte_of q c o) (λ c d y. refl)
 
-covered_first : (t : Bool) (x : Piece) (xs : List Piece) (q old : ℕ) → byte_of q (cond t (slice_index x.content (q - x.place)) old) (last_or None xs) ≡ byte_of q old (last_or None (cond t (x ∷ xs) xs))
+covered_first : (t : Bool) (x : Piece) (xs : List Piece) (q old : ℕ) → byte_of q (cond t (slice_index x.content (q - x.offset)) old) (last_or None xs) ≡ byte_of q old (last_or None (cond t (x ∷ xs) xs))
 covered_first true x xs q old = one_more xs q old (Some x)
 covered_first false x xs q old = refl
 
-pub byte_after_cons : (x : Piece) (xs : List Piece) (q old : ℕ) → byte_after xs q (cond (has_byte q x) (slice_index x.content (q - x.place)) old) ≡ byte_after (x ∷ xs) q old
+pub byte_after_cons : (x : Piece) (xs : List Piece) (q old : ℕ) → byte_after xs q (cond (has_byte q x) (slice_index x.content (q - x.offset)) old) ≡ byte_after (x ∷ xs) q old
 unfolding byte_after
 byte_after_cons x xs q old = covered_first (has_byte q x) x (filter (has_byte q) xs) q old
 
@@ -55,19 +55,19 @@ length-put : (xs : List Piece) (b : List ℕ) → all_fit (length b) xs ≡ true
 unfolding put_in_turn
 length-put [] b h = refl
 length-put (x ∷ xs) b h =
-    let l : length (splice b x.place x.content) ≡ length b = length-splice b x.place x.content (grind (arith, nat_tests)) in
-    let rest : all_fit (length (splice b x.place x.content)) xs ≡ true = rw l (grind (arith, nat_tests)) in
-    length-put xs (splice b x.place x.content) rest ∙ l
+    let l : length (splice b x.offset x.content) ≡ length b = length-splice b x.offset x.content (grind (arith, nat_tests)) in
+    let rest : all_fit (length (splice b x.offset x.content)) xs ≡ true = rw l (grind (arith, nat_tests)) in
+    length-put xs (splice b x.offset x.content) rest ∙ l
 
 get_or-put : (xs : List Piece) (b : List ℕ) (q : ℕ) → all_fit (length b) xs ≡ true → get_or (put_in_turn b xs) q 0 ≡ byte_after xs q (get_or b q 0)
 unfolding put_in_turn
 get_or-put [] b q h = unfold byte_after in refl
 get_or-put (x ∷ xs) b q h =
-    let inside : x.place + length x.content ≤ length b = grind (arith, nat_tests) in
-    let l : length (splice b x.place x.content) ≡ length b = length-splice b x.place x.content inside in
-    let rest : all_fit (length (splice b x.place x.content)) xs ≡ true = rw l (grind (arith, nat_tests)) in
-    get_or-put xs (splice b x.place x.content) q rest
-    ∙ (ap (byte_after xs q) (get_or-splice b x.place x.content q inside) ∙ byte_after_cons x xs q (get_or b q 0))
+    let inside : x.offset + length x.content ≤ length b = grind (arith, nat_tests) in
+    let l : length (splice b x.offset x.content) ≡ length b = length-splice b x.offset x.content inside in
+    let rest : all_fit (length (splice b x.offset x.content)) xs ≡ true = rw l (grind (arith, nat_tests)) in
+    get_or-put xs (splice b x.offset x.content) q rest
+    ∙ (ap (byte_after xs q) (get_or-splice b x.offset x.content q inside) ∙ byte_after_cons x xs q (get_or b q 0))
 
 -- pieces that are put one after the other are their overlay
 pub overlay_in_turn : (xs : List Piece) (b : List ℕ) → all_fit (length b) xs ≡ true → put_in_turn b xs ≡ overlay b xs
@@ -81,4 +81,4 @@ overlay_in_turn xs b h =
 pub put_append : (xs ys : List Piece) (b : List ℕ) → put_in_turn b (xs ++ ys) ≡ put_in_turn (put_in_turn b xs) ys
 unfolding put_in_turn
 put_append [] ys b = refl
-put_append (x ∷ xs) ys b = put_append xs ys (splice b x.place x.content)
+put_append (x ∷ xs) ys b = put_append xs ys (splice b x.offset x.content)

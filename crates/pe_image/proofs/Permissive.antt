@@ -11,7 +11,7 @@ use Rattle.pe_resource.specs.Resources.{ResourceView, IsResource}
 use Rattle.pe_image.specs.Core.{CoreView, core_of}
 use Rattle.pe_image.specs.Fields.{Field, IsField, given_value, resource_directory}
 use Rattle.pe_image.specs.Headline.{AreDerived}
-use Rattle.pe_image.specs.Image.{ImageView, core_part, with_fields, demanded, first_fields_demanded, before_resources, debug_of, exceptions_of, relocations_of, certificates_of, AreResourcesOf, IsBehindCore, IsImage}
+use Rattle.pe_image.specs.Image.{ImageView, core_part, with_fields, demanded, first_fields_demanded, before_resources, debug_of, exceptions_of, relocations_of, certificates_of, AreResourcesOf, IsAfterCore, IsImage}
 use Rattle.pe_image.specs.Layout.{alignment}
 use Rattle.pe_image.proofs.Steps.{passed_test}
 
@@ -21,15 +21,15 @@ use Rattle.pe_image.proofs.Steps.{passed_test}
 abbrev IsWhole : List ℕ → ParseOptions → CoreView → ImageView → Type 0
 IsWhole b o c x = (f : Field ResourceView) × AreResourcesOf b o c f × (x ≡ with_fields b o c f)
 
-whole_behind : (b : List ℕ) (o : ParseOptions) (c : CoreView) (x : ImageView) (r : Result CoreView Refusal) → (first_fields_demanded b o c >>= λ u. Ok c) ≡ r → IsBehindCore b o r (Ok x) → IsWhole b o c x
-whole_behind b o c x (Err e) h is = absurd cc
-whole_behind b o c x (Ok d) h (f, are, given) =
+whole_after : (b : List ℕ) (o : ParseOptions) (c : CoreView) (x : ImageView) (r : Result CoreView Refusal) → (first_fields_demanded b o c >>= λ u. Ok c) ≡ r → IsAfterCore b o r (Ok x) → IsWhole b o c x
+whole_after b o c x (Err e) h is = absurd cc
+whole_after b o c x (Ok d) h (f, are, given) =
     let same : d ≡ c = sym (passed_test (first_fields_demanded b o c) c d h) in
     (f, rw same at are, sym (passed_test (demanded o.parse_mode f) (with_fields b o c f) x (sym (rw same at given))))
 
 whole : (b : List ℕ) (o : ParseOptions) (c : CoreView) (x : ImageView) → core_of b o ≡ Ok c → IsImage b o (Ok x) → IsWhole b o c x
 unfolding before_resources
-whole b o c x h is = whole_behind b o c x (first_fields_demanded b o c >>= λ u. Ok c) refl (rw h at is)
+whole b o c x h is = whole_after b o c x (first_fields_demanded b o c >>= λ u. Ok c) refl (rw h at is)
 
 core_alone : (b : List ℕ) (o : ParseOptions) (c : CoreView) (f : Field ResourceView) → core_part (with_fields b o c f) ≡ c
 unfolding with_fields
@@ -96,18 +96,18 @@ same_kind k e h = cc
 never_refused : {X : Type 0} (r : Result X Refusal) (x : X) (e : Refusal) → r ≡ Ok x → r ≡ Err e → ⊥
 never_refused r x e h g = absurd cc
 
-accepted_behind : (b : List ℕ) (o : ParseOptions) (c : CoreView) (r : Result ImageView Refusal) (e : Refusal) → o.parse_mode ≡ Permissive → IsBehindCore b o (first_fields_demanded b o c >>= λ u. Ok c) r → r ≡ Err e → ⊥
-accepted_behind b o c r e h is refused =
-    let (f, are, given) : IsBehindCore b o (Ok c) r = rw (four_never b o c h) at is in
+accepted_after : (b : List ℕ) (o : ParseOptions) (c : CoreView) (r : Result ImageView Refusal) (e : Refusal) → o.parse_mode ≡ Permissive → IsAfterCore b o (first_fields_demanded b o c >>= λ u. Ok c) r → r ≡ Err e → ⊥
+accepted_after b o c r e h is refused =
+    let (f, are, given) : IsAfterCore b o (Ok c) r = rw (four_never b o c h) at is in
     never_refused r (with_fields b o c f) e (rw (demanded_never o.parse_mode f h) at given) refused
 
-refused_behind : (b : List ℕ) (o : ParseOptions) (q : Result CoreView Refusal) (r : Result ImageView Refusal) (e : Refusal) → o.parse_mode ≡ Permissive → IsBehindCore b o (q >>= λ c. first_fields_demanded b o c >>= λ u. Ok c) r → (r ≡ Err e) ↔ (q ≡ Err e)
-refused_behind b o (Err k) r e h is = (λ refused. ap (λ e. Err e) (same_kind {X = ImageView} k e (sym is ∙ refused)), λ refused. is ∙ ap (λ e. Err e) (same_kind {X = CoreView} k e refused))
-refused_behind b o (Ok c) r e h is = (λ refused. absurd (accepted_behind b o c r e h is refused), λ refused. absurd cc)
+refused_after : (b : List ℕ) (o : ParseOptions) (q : Result CoreView Refusal) (r : Result ImageView Refusal) (e : Refusal) → o.parse_mode ≡ Permissive → IsAfterCore b o (q >>= λ c. first_fields_demanded b o c >>= λ u. Ok c) r → (r ≡ Err e) ↔ (q ≡ Err e)
+refused_after b o (Err k) r e h is = (λ refused. ap (λ e. Err e) (same_kind {X = ImageView} k e (sym is ∙ refused)), λ refused. is ∙ ap (λ e. Err e) (same_kind {X = CoreView} k e refused))
+refused_after b o (Ok c) r e h is = (λ refused. absurd (accepted_after b o c r e h is refused), λ refused. absurd cc)
 
 pub refused_as_the_core : (b : List ℕ) (o : ParseOptions) (r : Result ImageView Refusal) (e : Refusal) → o.parse_mode ≡ Permissive → IsImage b o r → (r ≡ Err e) ↔ (core_of b o ≡ Err e)
 unfolding before_resources
-refused_as_the_core b o r e h is = refused_behind b o (core_of b o) r e h is
+refused_as_the_core b o r e h is = refused_after b o (core_of b o) r e h is
 
 -- ---- one image
 
@@ -121,14 +121,14 @@ one_field law b o sections unit (Some d) None g is also = absurd is
 one_field law b o sections unit (Some d) (Some r) None is also = absurd also
 one_field law b o sections unit (Some d) (Some r) (Some s) is also = ap (λ r. Some r) (law o b d sections unit r s is also)
 
-one_behind : OneResource → (b : List ℕ) (o : ParseOptions) (q : Result CoreView Refusal) (r s : Result ImageView Refusal) → IsBehindCore b o q r → IsBehindCore b o q s → r ≡ s
-one_behind law b o (Err e) r s is also = is ∙ sym also
-one_behind law b o (Ok c) r s (f, are, given) (g, too, shown) =
+one_after : OneResource → (b : List ℕ) (o : ParseOptions) (q : Result CoreView Refusal) (r s : Result ImageView Refusal) → IsAfterCore b o q r → IsAfterCore b o q s → r ≡ s
+one_after law b o (Err e) r s is also = is ∙ sym also
+one_after law b o (Ok c) r s (f, are, given) (g, too, shown) =
     let same : f ≡ g = one_field law b o c.sections (alignment c.header.optional_header) (resource_directory o c.header.optional_header) f g are too in
     given ∙ sym (rw (sym same) at shown)
 
 pub one_image : OneResource → (b : List ℕ) (o : ParseOptions) (r s : Result ImageView Refusal) → IsImage b o r → IsImage b o s → r ≡ s
-one_image law b o r s is also = one_behind law b o (before_resources b o) r s is also
+one_image law b o r s is also = one_after law b o (before_resources b o) r s is also
 
 -- ---- some image
 
@@ -140,11 +140,11 @@ some_field : SomeResource → (b : List ℕ) (o : ParseOptions) (sections : List
 some_field law b o sections unit None = (None, refl)
 some_field law b o sections unit (Some d) = let (r, is) = law o b d sections unit in (Some r, is)
 
-some_behind : SomeResource → (b : List ℕ) (o : ParseOptions) (q : Result CoreView Refusal) → (r : Result ImageView Refusal) × IsBehindCore b o q r
-some_behind law b o (Err e) = (Err e, refl)
-some_behind law b o (Ok c) =
+some_after : SomeResource → (b : List ℕ) (o : ParseOptions) (q : Result CoreView Refusal) → (r : Result ImageView Refusal) × IsAfterCore b o q r
+some_after law b o (Err e) = (Err e, refl)
+some_after law b o (Ok c) =
     let (f, are) = some_field law b o c.sections (alignment c.header.optional_header) (resource_directory o c.header.optional_header) in
     (demanded o.parse_mode f >>= λ u. Ok (with_fields b o c f), (f, are, refl))
 
 pub some_image : SomeResource → (b : List ℕ) (o : ParseOptions) → (r : Result ImageView Refusal) × IsImage b o r
-some_image law b o = some_behind law b o (before_resources b o)
+some_image law b o = some_after law b o (before_resources b o)

@@ -9,7 +9,7 @@ use Rattle.pe_core.specs.Exports.{ExportDataView}
 use Rattle.pe_core.specs.Imports.{ImportRecordView, entry_size, import_records}
 use Rattle.pe_core.specs.Refusals.{Refusal, Short, IfMemory, outcome, ◌>>=◌}
 use Rattle.pe_core.specs.Rows.{each, rows}
-use Rattle.pe_core.specs.Sections.{sections_of, sections_place}
+use Rattle.pe_core.specs.Sections.{sections_of, sections_offset}
 use Rattle.pe_core.specs.SectionMap.{mapped, section_map}
 use Rattle.pe_core.specs.declared.data_directories.DataDirectory.{DataDirectory}
 use Rattle.pe_core.specs.declared.error.Error.{Error}
@@ -31,7 +31,7 @@ no_rows b p n t none = rw none refl
 
 pub no_sections : (b : List ℕ) (h : HeaderView) (items : List SectionTable) → h.coff_header.number_of_sections ≡ 0 → items ≡ [] → sections_of b h ≡ Ok items
 no_sections b h items none empty =
-    no_rows b (sections_place h) h.coff_header.number_of_sections (holds b (sections_place h) (40 * h.coff_header.number_of_sections)) none ∙ ap (λ (xs : List SectionTable). Ok xs) (sym empty)
+    no_rows b (sections_offset h) h.coff_header.number_of_sections (holds b (sections_offset h) (40 * h.coff_header.number_of_sections)) none ∙ ap (λ (xs : List SectionTable). Ok xs) (sym empty)
 
 -- ---- by the kind of an error
 
@@ -46,9 +46,9 @@ from_nothing e P h = if_more e ⊥ P (λ n. absurd n) h
 
 -- ---- exports and imports
 
-imports_given : (place : ℕ → Option ℕ) (width : ℕ) (b : List ℕ) (d : Option DataDirectory) (records : Option (List ImportRecordView)) → import_data_of place width b d ≡ Ok records → IsSome records → IsSomeAnd d (λ d. IsSome (place d.virtual_address))
-imports_given place width b None records given some = absurd (let none : records ≡ None = cc in let clash = subst IsSome none some in cc)
-imports_given place width b (Some d) records given some = mapped_given (place d.virtual_address) (import_records place width b) records given
+imports_given : (offset : ℕ → Option ℕ) (width : ℕ) (b : List ℕ) (d : Option DataDirectory) (records : Option (List ImportRecordView)) → import_data_of offset width b d ≡ Ok records → IsSome records → IsSomeAnd d (λ d. IsSome (offset d.virtual_address))
+imports_given offset width b None records given some = absurd (let none : records ≡ None = cc in let clash = subst IsSome none some in cc)
+imports_given offset width b (Some d) records given some = mapped_given (offset d.virtual_address) (import_records offset width b) records given
   where
     mapped_given : (p : Option ℕ) (f : ℕ → Result (List ImportRecordView) Refusal) (records : Option (List ImportRecordView)) → (mapped p >>= f >>= λ r. Ok (Some r)) ≡ Ok records → IsSome p
     mapped_given None f records given = absurd cc

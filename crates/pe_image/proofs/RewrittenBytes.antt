@@ -12,7 +12,7 @@ use Rattle.pe_core.specs.Records.{dos_header, coff_header, section_table}
 use Rattle.pe_core.specs.Refusals.{Refusal, Short, BadMagic, HeaderPointer, outcome, ◌>>=◌}
 use Rattle.pe_core.specs.Rows.{each}
 use Rattle.pe_core.specs.SectionMap.{section_map}
-use Rattle.pe_core.specs.Sections.{raw_end, sections_of, sections_place}
+use Rattle.pe_core.specs.Sections.{raw_end, sections_of, sections_offset}
 use Rattle.pe_core.specs.Spelling.{spell_dos, spell_coff, spell_optional, spell_section}
 use Rattle.pe_core.specs.declared.data_directories.DataDirectory.{DataDirectory}
 use Rattle.pe_core.specs.declared.options.ParseMode.{ParseMode}
@@ -26,10 +26,10 @@ use Rattle.pe_records.specs.CertificateWriting.{spell_certificate, written_lengt
 use Rattle.pe_records.specs.declared.certificate_table.AttributeCertificateRevision.TheVariants.{Revision1_0, Revision2_0}
 use Rattle.pe_records.specs.declared.certificate_table.AttributeCertificateType.TheVariants.{X509, PkcsSignedData, Reserved1, TsStackSigned}
 use Rattle.pe_records.proofs.CertificateListings.{StandFrom, is_listing, unplaced}
-use Rattle.pe_records.proofs.CertificatesReadAgain.{next_place}
+use Rattle.pe_records.proofs.CertificatesReadAgain.{next_offset}
 use Rattle.pe_image.specs.Core.{CoreView, core_of, core_with, export_data_of, exports_of, import_directory, import_data_of, imports_of}
 use Rattle.pe_image.specs.Fields.{field, given_value}
-use Rattle.pe_image.specs.Image.{ImageView, before_resources, IsBehindCore, IsImage}
+use Rattle.pe_image.specs.Image.{ImageView, before_resources, IsAfterCore, IsImage}
 use Rattle.pe_image.specs.Layout.{alignment, directory, is_64}
 use Rattle.pe_image.specs.Overlay.{Piece, EndsInZeros, has_byte, byte_of, byte_after, last_piece, overlay}
 use Rattle.pe_image.specs.Pieces.{all_certificate_pieces, all_section_pieces, certificate_pieces, header_pieces, in_a_row, lacking, section_pieces}
@@ -59,7 +59,7 @@ kept_zeros b p n = inr (ap (λ (m : ℕ). replicate m 0) (sym (length-replicate 
 -- all pieces are such
 abbrev AllKept : List ℕ → List Piece → Type 0
 AllKept b [] = Unit {0}
-AllKept b (x ∷ xs) = Kept b x.place x.content × AllKept b xs
+AllKept b (x ∷ xs) = Kept b x.offset x.content × AllKept b xs
 
 all_append : (b : List ℕ) (xs ys : List Piece) → AllKept b xs → AllKept b ys → AllKept b (xs ++ ys)
 all_append b [] ys h k = k
@@ -68,9 +68,9 @@ all_append b (x ∷ xs) ys h k = (h.0, all_append b xs ys h.1 k)
 -- a piece that is such and has a byte for place q, if it is there
 abbrev CoversKept : List ℕ → ℕ → Option Piece → Type 0
 CoversKept b q None = Unit {0}
-CoversKept b q (Some x) = Kept b x.place x.content × (has_byte q x ≡ true)
+CoversKept b q (Some x) = Kept b x.offset x.content × (has_byte q x ≡ true)
 
-first_kept : (b : List ℕ) (q : ℕ) (x : Piece) (xs : List Piece) (before : Option Piece) (t : Bool) → has_byte q x ≡ t → Kept b x.place x.content → ((before : Option Piece) → CoversKept b q before → CoversKept b q (last_or before xs)) → CoversKept b q before → CoversKept b q (last_or before (cond t (x ∷ xs) xs))
+first_kept : (b : List ℕ) (q : ℕ) (x : Piece) (xs : List Piece) (before : Option Piece) (t : Bool) → has_byte q x ≡ t → Kept b x.offset x.content → ((before : Option Piece) → CoversKept b q before → CoversKept b q (last_or before xs)) → CoversKept b q before → CoversKept b q (last_or before (cond t (x ∷ xs) xs))
 first_kept b q x xs before true e h then k = then (Some x) (h, e)
 first_kept b q x xs before false e h then k = then before k
 
@@ -91,13 +91,13 @@ zero_at (suc n) zero = refl
 zero_at (suc n) (suc i) = zero_at n i
 
 -- the byte for place q of such a piece
-byte_kept : (b : List ℕ) (pieces : List Piece) (q : ℕ) (x : Piece) → last_piece pieces q ≡ Some x → Kept b x.place x.content → has_byte q x ≡ true → KeptByte b pieces q (get_or x.content (q - x.place) 0)
+byte_kept : (b : List ℕ) (pieces : List Piece) (q : ℕ) (x : Piece) → last_piece pieces q ≡ Some x → Kept b x.offset x.content → has_byte q x ≡ true → KeptByte b pieces q (get_or x.content (q - x.offset) 0)
 byte_kept b pieces q x e (inl those) h =
-    let above : x.place ≤ q = grind (arith, nat_tests) in
-    let below : q < x.place + length x.content = grind (arith, nat_tests) in
-    let place : x.place + (q - x.place) ≡ q = omega arith in
-    inl (those (q - x.place) (omega arith) ∙ ap (λ (n : ℕ). get_or b n 0) place)
-byte_kept b pieces q x e (inr zeros) h = inr (ap (λ (s : List ℕ). get_or s (q - x.place) 0) zeros ∙ zero_at (length x.content) (q - x.place), (x, e, zeros))
+    let above : x.offset ≤ q = grind (arith, nat_tests) in
+    let below : q < x.offset + length x.content = grind (arith, nat_tests) in
+    let offset : x.offset + (q - x.offset) ≡ q = omega arith in
+    inl (those (q - x.offset) (omega arith) ∙ ap (λ (n : ℕ). get_or b n 0) offset)
+byte_kept b pieces q x e (inr zeros) h = inr (ap (λ (s : List ℕ). get_or s (q - x.offset) 0) zeros ∙ zero_at (length x.content) (q - x.offset), (x, e, zeros))
 
 after_by : (b : List ℕ) (pieces : List Piece) (q : ℕ) (found : Option Piece) → last_piece pieces q ≡ found → CoversKept b q found → KeptByte b pieces q (byte_of q (get_or b q 0) found)
 after_by b pieces q None e k = inl refl
@@ -171,11 +171,11 @@ headers_kept b mode h o small e f =
 
 -- ---- sections
 
-section_kept : (b : List ℕ) (unit : Option ℕ) (place : ℕ) (s : SectionTable) → AreBytes b → s ≡ section_table b place → place + 40 ≤ length b → AllKept b (section_pieces b unit place s)
+section_kept : (b : List ℕ) (unit : Option ℕ) (offset : ℕ) (s : SectionTable) → AreBytes b → s ≡ section_table b offset → offset + 40 ≤ length b → AllKept b (section_pieces b unit offset s)
 unfolding section_pieces
-section_kept b unit place s small e h =
+section_kept b unit offset s small e h =
     let data_kept = kept_range b (range b s.pointer_to_raw_data s.size_of_raw_data) s.pointer_to_raw_data (s.pointer_to_raw_data + s.size_of_raw_data) refl in
-    let head = kept_range b (spell_section s) place (place + 40) (ap spell_section e ∙ spelled_section b place small h) in
+    let head = kept_range b (spell_section s) offset (offset + 40) (ap spell_section e ∙ spelled_section b offset small h) in
     (data_kept, (head, (kept_zeros b (raw_end s) (lacking s.size_of_raw_data unit), tt)))
 
 row_kept : (b : List ℕ) (unit : Option ℕ) (p : ℕ) (ss : List SectionTable) → AreBytes b → ((i : ℕ) → i < length ss → get_or ss i (section_table b 0) ≡ section_table b (p + 40 * i)) → (0 < length ss → p + 40 * length ss ≤ length b) → AllKept b (all_section_pieces b unit p ss)
@@ -187,15 +187,15 @@ row_kept b unit p (s ∷ ss) small is room =
     all_append b (section_pieces b unit p s) (all_section_pieces b unit (p + 40) ss)
     (section_kept b unit p s small here (omega arith))
     (row_kept b unit (p + 40) ss small
-    (λ i lt. let place : p + 40 * suc i ≡ p + 40 + 40 * i = omega arith in is (suc i) (omega arith) ∙ ap (section_table b) place)
+    (λ i lt. let offset : p + 40 * suc i ≡ p + 40 + 40 * i = omega arith in is (suc i) (omega arith) ∙ ap (section_table b) offset)
     (λ some. omega arith))
 
 room_for : (n p l : ℕ) → (n == 0 || nat_le (p + 40 * n) l) ≡ true → 0 < n → p + 40 * n ≤ l
 room_for n p l h some = grind (arith, nat_tests)
 
-sections_kept : (b : List ℕ) (unit : Option ℕ) (h : HeaderView) (ss : List SectionTable) → AreBytes b → sections_of b h ≡ Ok ss → AllKept b (all_section_pieces b unit (sections_place h) ss)
+sections_kept : (b : List ℕ) (unit : Option ℕ) (h : HeaderView) (ss : List SectionTable) → AreBytes b → sections_of b h ≡ Ok ss → AllKept b (all_section_pieces b unit (sections_offset h) ss)
 sections_kept b unit h ss small e =
-    let p : ℕ = sections_place h in
+    let p : ℕ = sections_offset h in
     let n : ℕ = h.coff_header.number_of_sections in
     let f : ℕ → SectionTable = λ i. section_table b (p + 40 * i) in
     let all = passed_first (n == 0 || holds b p (40 * n)) Short [] (each f n) ss e in
@@ -264,7 +264,7 @@ stand_kept : (b : List ℕ) (end p : ℕ) (cs : List CertificateView) (q : ℕ) 
 stand_kept b end p [] q small m s = tt
 stand_kept b end p (c ∷ cs) q small m s =
     let here : p % 8 ≡ 0 = m (omega arith) in
-    let next : s.1 ≡ p + written_length c = next_place b p c s.1 small here s.2 in
+    let next : s.1 ≡ p + written_length c = next_offset b p c s.1 small here s.2 in
     all_append b (certificate_pieces p c) (in_a_row certificate_pieces written_length (p + written_length c) cs)
     (certificate_kept b p c s.1 small s.2)
     (stand_kept b end (p + written_length c) cs q small (λ some. omega arith) (subst (λ (n : ℕ). StandFrom b end n cs q) next s.3))
@@ -272,8 +272,8 @@ stand_kept b end p (c ∷ cs) q small m s =
 table_kept : (b : List ℕ) (address size : ℕ) (cs : List CertificateView) → AreBytes b → (0 < length cs → address % 8 ≡ 0) → certificates_at b address size ≡ Ok cs → AllKept b (in_a_row certificate_pieces written_length address cs)
 table_kept b address size cs small m e =
     let l : IsListing b address size cs = is_listing b address size cs e in
-    let s : StandFrom b (address + size) address cs (l.place (length cs)) = rw l.first at (unplaced b (address + size) l.place cs l.stand) in
-    stand_kept b (address + size) address cs (l.place (length cs)) small m s
+    let s : StandFrom b (address + size) address cs (l.offset (length cs)) = rw l.first at (unplaced b (address + size) l.offset cs l.stand) in
+    stand_kept b (address + size) address cs (l.offset (length cs)) small m s
 
 none_kept : (b : List ℕ) (p : ℕ) (cs : List CertificateView) → cs ≡ [] → AllKept b (in_a_row certificate_pieces written_length p cs)
 none_kept b p cs e = subst (λ (cs : List CertificateView). AllKept b (in_a_row certificate_pieces written_length p cs)) (sym e) tt
@@ -292,11 +292,11 @@ field_kept b true (Some d) cs small m same = read_kept b d.virtual_address d.siz
 core_header : (b : List ℕ) (o : ParseOptions) (header : HeaderView) (sections : List SectionTable) (c : CoreView) → core_with b o header sections ≡ Ok c → c.header ≡ header
 unfolding core_with
 core_header b o header sections c h =
-    let place = section_map o sections (alignment header.optional_header) in
+    let offset = section_map o sections (alignment header.optional_header) in
     let width = entry_size (is_64 header.optional_header) in
-    let data_found = export_data_of place b (directory 0 header.optional_header) in
-    of_two {X = Option (List ImportRecordView)} {Y = List ImportView} (import_data_of place width b (import_directory o header.optional_header)) (λ found. imports_of place width b found)
-    (λ found list. record { header = header; sections = sections; export_data = data_found; exports = exports_of place b data_found; import_data = found; imports = list })
+    let data_found = export_data_of offset b (directory 0 header.optional_header) in
+    of_two {X = Option (List ImportRecordView)} {Y = List ImportView} (import_data_of offset width b (import_directory o header.optional_header)) (λ found. imports_of offset width b found)
+    (λ found list. record { header = header; sections = sections; export_data = data_found; exports = exports_of offset b data_found; import_data = found; imports = list })
     (λ (c : CoreView). c.header) header c (λ x y. refl) h
 
 header_then : (b : List ℕ) (o : ParseOptions) (header : HeaderView) (r : Result (List SectionTable) Refusal) (c : CoreView) → (r >>= λ sections. core_with b o header sections) ≡ Ok c → c.header ≡ header
@@ -314,15 +314,15 @@ header_of_core b o c h = header_first b o (header_at b o.parse_mode) c h
 then_those : (b : List ℕ) (r : Result HeaderView Refusal) (h : HeaderView) (ss : List SectionTable) → r ≡ Ok h → (r >>= λ header. sections_of b header) ≡ Ok ss → sections_of b h ≡ Ok ss
 then_those b r h ss e f = rw e at f
 
-core_behind : (b : List ℕ) (o : ParseOptions) (r : Result CoreView Refusal) (x : ImageView) → before_resources b o ≡ r → IsBehindCore b o r (Ok x) → (c : CoreView) × (core_of b o ≡ Ok c)
+core_after : (b : List ℕ) (o : ParseOptions) (r : Result CoreView Refusal) (x : ImageView) → before_resources b o ≡ r → IsAfterCore b o r (Ok x) → (c : CoreView) × (core_of b o ≡ Ok c)
 unfolding before_resources
-core_behind b o (Ok c) x h is = (c, core_before b o (core_of b o) c h)
-core_behind b o (Err e) x h is = absurd cc
+core_after b o (Ok c) x h is = (c, core_before b o (core_of b o) c h)
+core_after b o (Err e) x h is = absurd cc
 
 pieces_kept : (b : List ℕ) (o : ParseOptions) (x : ImageView) (h : OptionalHeaderView) → AreBytes b → IsImage b o (Ok x) → AreAligned x → x.header.optional_header ≡ Some h → AllKept b (image_pieces b x.header h x.sections x.certificates)
 unfolding image_pieces
 pieces_kept b o x h small is m e =
-    let (c, core) = core_behind b o (before_resources b o) x refl is in
+    let (c, core) = core_after b o (before_resources b o) x refl is in
     let same = core_of_image b o c x core is in
     let head : x.header ≡ c.header = ap (λ (c : CoreView). c.header) same in
     let rows : x.sections ≡ c.sections = ap (λ (c : CoreView). c.sections) same in
@@ -333,7 +333,7 @@ pieces_kept b o x h small is m e =
     let there : c.header.optional_header ≡ Some h = sym (ap (λ (h : HeaderView). h.optional_header) head) ∙ e in
     let listed : x.certificates ≡ unwrap_or (given_value (cond o.parse_attribute_certificates (field (λ d. certificates_at b d.virtual_address d.size) (certificate_directory h)) None)) [] =
     certificates_alone b o c x core is ∙ ap (λ (k : Option OptionalHeaderView). unwrap_or (given_value (cond o.parse_attribute_certificates (field (λ d. certificates_at b d.virtual_address d.size) (directory 4 k)) None)) []) there in
-    let sections : List Piece = all_section_pieces b (Some h.windows_fields.file_alignment) (sections_place x.header) x.sections in
+    let sections : List Piece = all_section_pieces b (Some h.windows_fields.file_alignment) (sections_offset x.header) x.sections in
     all_append b (header_pieces x.header h ++ sections) (all_certificate_pieces (certificate_directory h) x.certificates)
     (all_append b (header_pieces x.header h) sections (headers_kept b o.parse_mode x.header h small at_image e) (sections_kept b (Some h.windows_fields.file_alignment) x.header x.sections small read))
     (field_kept b o.parse_attribute_certificates (certificate_directory h) x.certificates small (λ d found some. m d (ap (directory 4) e ∙ found) some) listed)

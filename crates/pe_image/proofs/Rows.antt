@@ -28,45 +28,45 @@ pub all_fit_append : (n : ℕ) (xs ys : List Piece) → all_fit n (xs ++ ys) ≡
 all_fit_append n xs ys = list_all-append (fits n) xs ys
 
 -- what is left to be tested decides, and the row ends where the rest of it does
-pub record Left {X : Type 0} (f : ℕ → X → List Piece) (w : X → ℕ) (n start : ℕ) (xs : List X) (place : ℕ) (rest : List X) : Type 0 where
-  pub fit : all_fit n (in_a_row f w place rest) ≡ all_fit n (in_a_row f w start xs)
-  pub ends : row_end w place rest ≡ row_end w start xs
+pub record Left {X : Type 0} (f : ℕ → X → List Piece) (w : X → ℕ) (n start : ℕ) (xs : List X) (offset : ℕ) (rest : List X) : Type 0 where
+  pub fit : all_fit n (in_a_row f w offset rest) ≡ all_fit n (in_a_row f w start xs)
+  pub ends : row_end w offset rest ≡ row_end w start xs
 
 pub left_first : {X : Type 0} (f : ℕ → X → List Piece) (w : X → ℕ) (n start : ℕ) (xs : List X) → Left f w n start xs start xs
 left_first f w n start xs = record { fit = refl; ends = refl }
 
-pub left_next : {X : Type 0} (f : ℕ → X → List Piece) (w : X → ℕ) (n start : ℕ) (xs : List X) (place : ℕ) (x : X) (rest : List X) → Left f w n start xs place (x ∷ rest) → all_fit n (f place x) ≡ true → Left f w n start xs (place + w x) rest
-left_next f w n start xs place x rest l h = record {
-  fit = ap (λ t. t && all_fit n (in_a_row f w (place + w x) rest)) (sym h) ∙ (sym (all_fit_append n (f place x) (in_a_row f w (place + w x) rest)) ∙ l.fit);
+pub left_next : {X : Type 0} (f : ℕ → X → List Piece) (w : X → ℕ) (n start : ℕ) (xs : List X) (offset : ℕ) (x : X) (rest : List X) → Left f w n start xs offset (x ∷ rest) → all_fit n (f offset x) ≡ true → Left f w n start xs (offset + w x) rest
+left_next f w n start xs offset x rest l h = record {
+  fit = ap (λ t. t && all_fit n (in_a_row f w (offset + w x) rest)) (sym h) ∙ (sym (all_fit_append n (f offset x) (in_a_row f w (offset + w x) rest)) ∙ l.fit);
   ends = l.ends;
 }
 
-pub left_refused : {X : Type 0} (f : ℕ → X → List Piece) (w : X → ℕ) (n start : ℕ) (xs : List X) (place : ℕ) (x : X) (rest : List X) → Left f w n start xs place (x ∷ rest) → all_fit n (f place x) ≡ false → all_fit n (in_a_row f w start xs) ≡ false
-left_refused f w n start xs place x rest l h =
-    sym l.fit ∙ (all_fit_append n (f place x) (in_a_row f w (place + w x) rest) ∙ ap (λ t. t && all_fit n (in_a_row f w (place + w x) rest)) h)
+pub left_refused : {X : Type 0} (f : ℕ → X → List Piece) (w : X → ℕ) (n start : ℕ) (xs : List X) (offset : ℕ) (x : X) (rest : List X) → Left f w n start xs offset (x ∷ rest) → all_fit n (f offset x) ≡ false → all_fit n (in_a_row f w start xs) ≡ false
+left_refused f w n start xs offset x rest l h =
+    sym l.fit ∙ (all_fit_append n (f offset x) (in_a_row f w (offset + w x) rest) ∙ ap (λ t. t && all_fit n (in_a_row f w (offset + w x) rest)) h)
 
 -- what is still to be put leaves the same bytes, and all of it fits
-pub record Goes {X : Type 0} (f : ℕ → X → List Piece) (w : X → ℕ) (b : List ℕ) (start : ℕ) (xs : List X) (now : List ℕ) (place : ℕ) (rest : List X) : Type 0 where
-  pub same : put_in_turn now (in_a_row f w place rest) ≡ put_in_turn b (in_a_row f w start xs)
-  pub fit : all_fit (length b) (in_a_row f w place rest) ≡ true
-  pub ends : row_end w place rest ≡ row_end w start xs
+pub record Goes {X : Type 0} (f : ℕ → X → List Piece) (w : X → ℕ) (b : List ℕ) (start : ℕ) (xs : List X) (now : List ℕ) (offset : ℕ) (rest : List X) : Type 0 where
+  pub same : put_in_turn now (in_a_row f w offset rest) ≡ put_in_turn b (in_a_row f w start xs)
+  pub fit : all_fit (length b) (in_a_row f w offset rest) ≡ true
+  pub ends : row_end w offset rest ≡ row_end w start xs
 
 pub goes_first : {X : Type 0} (f : ℕ → X → List Piece) (w : X → ℕ) (b : List ℕ) (start : ℕ) (xs : List X) → all_fit (length b) (in_a_row f w start xs) ≡ true → Goes f w b start xs b start xs
 goes_first f w b start xs h = record { same = refl; fit = h; ends = refl }
 
-pub goes_fits : {X : Type 0} (f : ℕ → X → List Piece) (w : X → ℕ) (b : List ℕ) (start : ℕ) (xs : List X) (now : List ℕ) (place : ℕ) (x : X) (rest : List X) → Goes f w b start xs now place (x ∷ rest) → all_fit (length b) (f place x) ≡ true
-goes_fits f w b start xs now place x rest g = and_left _ _ (sym (all_fit_append (length b) (f place x) (in_a_row f w (place + w x) rest)) ∙ g.fit)
+pub goes_fits : {X : Type 0} (f : ℕ → X → List Piece) (w : X → ℕ) (b : List ℕ) (start : ℕ) (xs : List X) (now : List ℕ) (offset : ℕ) (x : X) (rest : List X) → Goes f w b start xs now offset (x ∷ rest) → all_fit (length b) (f offset x) ≡ true
+goes_fits f w b start xs now offset x rest g = and_left _ _ (sym (all_fit_append (length b) (f offset x) (in_a_row f w (offset + w x) rest)) ∙ g.fit)
 
-pub goes_next : {X : Type 0} (f : ℕ → X → List Piece) (w : X → ℕ) (b : List ℕ) (start : ℕ) (xs : List X) (now next : List ℕ) (place : ℕ) (x : X) (rest : List X) → Goes f w b start xs now place (x ∷ rest) → next ≡ put_in_turn now (f place x) → Goes f w b start xs next (place + w x) rest
-goes_next f w b start xs now next place x rest g e = record {
-  same = rw e (sym (put_append (f place x) (in_a_row f w (place + w x) rest) now) ∙ g.same);
-  fit = and_right _ _ (sym (all_fit_append (length b) (f place x) (in_a_row f w (place + w x) rest)) ∙ g.fit);
+pub goes_next : {X : Type 0} (f : ℕ → X → List Piece) (w : X → ℕ) (b : List ℕ) (start : ℕ) (xs : List X) (now next : List ℕ) (offset : ℕ) (x : X) (rest : List X) → Goes f w b start xs now offset (x ∷ rest) → next ≡ put_in_turn now (f offset x) → Goes f w b start xs next (offset + w x) rest
+goes_next f w b start xs now next offset x rest g e = record {
+  same = rw e (sym (put_append (f offset x) (in_a_row f w (offset + w x) rest) now) ∙ g.same);
+  fit = and_right _ _ (sym (all_fit_append (length b) (f offset x) (in_a_row f w (offset + w x) rest)) ∙ g.fit);
   ends = g.ends;
 }
 
-pub goes_last : {X : Type 0} (f : ℕ → X → List Piece) (w : X → ℕ) (b : List ℕ) (start : ℕ) (xs : List X) (now : List ℕ) (place : ℕ) → Goes f w b start xs now place [] → now ≡ put_in_turn b (in_a_row f w start xs)
+pub goes_last : {X : Type 0} (f : ℕ → X → List Piece) (w : X → ℕ) (b : List ℕ) (start : ℕ) (xs : List X) (now : List ℕ) (offset : ℕ) → Goes f w b start xs now offset [] → now ≡ put_in_turn b (in_a_row f w start xs)
 unfolding put_in_turn
-goes_last f w b start xs now place g = g.same
+goes_last f w b start xs now offset g = g.same
 
 -- the rest of a list from element i on
 pub rest_at : {X : Type 0} (xs : List X) (i : ℕ) (d : X) → i < length xs → drop i xs ≡ get_or xs i d ∷ drop (i + 1) xs

@@ -12,7 +12,7 @@ use Rattle.pe_core.specs.declared.section_table.SectionTable.{SectionTable}
 use Rattle.pe_resource.specs.Resources.{ResourceView}
 use Rattle.pe_image.specs.Core.{CoreView, core_of, core_with, sections_read, export_data_of, exports_of, import_directory, import_data_of, imports_of}
 use Rattle.pe_image.specs.Fields.{Field}
-use Rattle.pe_image.specs.Image.{ImageView, with_fields, demanded, first_fields_demanded, before_resources, IsBehindCore, IsImage, image_view, GivesImage}
+use Rattle.pe_image.specs.Image.{ImageView, with_fields, demanded, first_fields_demanded, before_resources, IsAfterCore, IsImage, image_view, ReturnsImage}
 use Rattle.pe_image.specs.Layout.{alignment, directory, is_64}
 use Rattle.pe_image.specs.declared.pe.PE.{PE}
 use Rattle.pe_image.proofs.Steps.{passed_test}
@@ -29,21 +29,21 @@ of_two (Ok x) f make part w z same h = of_one (f x) (make x) part w z (same x) h
 core_sections : (b : List ℕ) (o : ParseOptions) (header : HeaderView) (sections : List SectionTable) (c : CoreView) → core_with b o header sections ≡ Ok c → c.sections ≡ sections
 unfolding core_with
 core_sections b o header sections c h =
-    let place = section_map o sections (alignment header.optional_header) in
+    let offset = section_map o sections (alignment header.optional_header) in
     let width = entry_size (is_64 header.optional_header) in
-    let data_found = export_data_of place b (directory 0 header.optional_header) in
-    of_two {X = Option (List ImportRecordView)} {Y = List ImportView} (import_data_of place width b (import_directory o header.optional_header)) (λ found. imports_of place width b found)
-    (λ found list. record { header = header; sections = sections; export_data = data_found; exports = exports_of place b data_found; import_data = found; imports = list })
+    let data_found = export_data_of offset b (directory 0 header.optional_header) in
+    of_two {X = Option (List ImportRecordView)} {Y = List ImportView} (import_data_of offset width b (import_directory o header.optional_header)) (λ found. imports_of offset width b found)
+    (λ found list. record { header = header; sections = sections; export_data = data_found; exports = exports_of offset b data_found; import_data = found; imports = list })
     (λ (c : CoreView). c.sections) sections c (λ x y. refl) h
 
 core_header : (b : List ℕ) (o : ParseOptions) (header : HeaderView) (sections : List SectionTable) (c : CoreView) → core_with b o header sections ≡ Ok c → c.header ≡ header
 unfolding core_with
 core_header b o header sections c h =
-    let place = section_map o sections (alignment header.optional_header) in
+    let offset = section_map o sections (alignment header.optional_header) in
     let width = entry_size (is_64 header.optional_header) in
-    let data_found = export_data_of place b (directory 0 header.optional_header) in
-    of_two {X = Option (List ImportRecordView)} {Y = List ImportView} (import_data_of place width b (import_directory o header.optional_header)) (λ found. imports_of place width b found)
-    (λ found list. record { header = header; sections = sections; export_data = data_found; exports = exports_of place b data_found; import_data = found; imports = list })
+    let data_found = export_data_of offset b (directory 0 header.optional_header) in
+    of_two {X = Option (List ImportRecordView)} {Y = List ImportView} (import_data_of offset width b (import_directory o header.optional_header)) (λ found. imports_of offset width b found)
+    (λ found list. record { header = header; sections = sections; export_data = data_found; exports = exports_of offset b data_found; import_data = found; imports = list })
     (λ (c : CoreView). c.header) header c (λ x y. refl) h
 
 then_sections : (b : List ℕ) (o : ParseOptions) (header : HeaderView) (r : Result (List SectionTable) Refusal) (c : CoreView) → (r >>= λ sections. core_with b o header sections) ≡ Ok c → r ≡ Ok c.sections
@@ -82,16 +82,16 @@ pub core_before : (b : List ℕ) (o : ParseOptions) (r : Result CoreView Refusal
 core_before b o (Ok c) d h = ap (λ c. Ok c) (passed_test (first_fields_demanded b o c) c d h)
 core_before b o (Err e) d h = absurd cc
 
-behind : (b : List ℕ) (o : ParseOptions) (r : Result CoreView Refusal) (x : ImageView) → before_resources b o ≡ r → IsBehindCore b o r (Ok x) → sections_read b o ≡ Ok x.sections
+after : (b : List ℕ) (o : ParseOptions) (r : Result CoreView Refusal) (x : ImageView) → before_resources b o ≡ r → IsAfterCore b o r (Ok x) → sections_read b o ≡ Ok x.sections
 unfolding before_resources
-behind b o (Ok c) x h (f, are, given) =
+after b o (Ok c) x h (f, are, given) =
     let same : x ≡ with_fields b o c f = sym (passed_test (demanded o.parse_mode f) (with_fields b o c f) x (sym given)) in
     sections_of_core b o c (core_before b o (core_of b o) c h) ∙ ap (λ sections. Ok sections) (sym (ap (λ (x : ImageView). x.sections) same ∙ same_sections b o c f))
-behind b o (Err e) x h is = absurd cc
+after b o (Err e) x h is = absurd cc
 
 sections_of_image : (b : List ℕ) (o : ParseOptions) (x : ImageView) → IsImage b o (Ok x) → sections_read b o ≡ Ok x.sections
-sections_of_image b o x is = behind b o (before_resources b o) x refl is
+sections_of_image b o x is = after b o (before_resources b o) x refl is
 
-pub sections_given : {Z : Type 0} (b : List ℕ) (o : ParseOptions) (r : Result (PE Z) Error) → GivesImage b o r → IfOk r (λ p. sections_read b o ≡ Ok (image_view p).sections)
+pub sections_given : {Z : Type 0} (b : List ℕ) (o : ParseOptions) (r : Result (PE Z) Error) → ReturnsImage b o r → IfOk r (λ p. sections_read b o ≡ Ok (image_view p).sections)
 sections_given b o (Ok p) is = sections_of_image b o (image_view p) is
 sections_given b o (Err e) is = tt

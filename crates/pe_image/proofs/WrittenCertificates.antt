@@ -56,40 +56,40 @@ never_refused b p c r h e =
 -- ---- the test, certificate by certificate
 
 abbrev pub LeftCertificates : List ℕ → ℕ → List AttributeCertificate → ℕ → ℕ → Type 0
-LeftCertificates b start cs place i = Left certificate_pieces written_length (length b) start (map certificate_view cs) place (drop i (map certificate_view cs))
+LeftCertificates b start cs offset i = Left certificate_pieces written_length (length b) start (map certificate_view cs) offset (drop i (map certificate_view cs))
 
-pub certificate_left : (b : List ℕ) (start : ℕ) (cs : List AttributeCertificate) (place end i : ℕ) (d : AttributeCertificate) → i < length cs → LeftCertificates b start cs place i → written_end b place (certificate_view (get_or cs i d)) ≡ Ok end → LeftCertificates b start cs end (i + 1)
-certificate_left b start cs place end i d h l e =
+pub certificate_left : (b : List ℕ) (start : ℕ) (cs : List AttributeCertificate) (offset end i : ℕ) (d : AttributeCertificate) → i < length cs → LeftCertificates b start cs offset i → written_end b offset (certificate_view (get_or cs i d)) ≡ Ok end → LeftCertificates b start cs end (i + 1)
+certificate_left b start cs offset end i d h l e =
     let c : CertificateView = certificate_view (get_or cs i d) in
-    let fit : all_fit (length b) (certificate_pieces place c) ≡ true = fit_is b place c ∙ fits_if (holds b place (written_length c)) (place + written_length c) end e in
-    let same : end ≡ place + written_length c = end_is b place end c e in
-    rw same (left_next certificate_pieces written_length (length b) start (map certificate_view cs) place c (drop (i + 1) (map certificate_view cs)) (rw (rest_of_seen certificate_view cs i d h) at l) fit)
+    let fit : all_fit (length b) (certificate_pieces offset c) ≡ true = fit_is b offset c ∙ fits_if (holds b offset (written_length c)) (offset + written_length c) end e in
+    let same : end ≡ offset + written_length c = end_is b offset end c e in
+    rw same (left_next certificate_pieces written_length (length b) start (map certificate_view cs) offset c (drop (i + 1) (map certificate_view cs)) (rw (rest_of_seen certificate_view cs i d h) at l) fit)
 
-pub certificate_refused : (b : List ℕ) (start : ℕ) (cs : List AttributeCertificate) (place i end : ℕ) (d : AttributeCertificate) (r : Refusal) → i < length cs → LeftCertificates b start cs place i → written_end b place (certificate_view (get_or cs i d)) ≡ Err r → outcome ((all_fit (length b) (in_a_row certificate_pieces written_length start (map certificate_view cs)), WriteFit) ∷ []) end ≡ Err r
-certificate_refused b start cs place i end d r h l e =
+pub certificate_refused : (b : List ℕ) (start : ℕ) (cs : List AttributeCertificate) (offset i end : ℕ) (d : AttributeCertificate) (r : Refusal) → i < length cs → LeftCertificates b start cs offset i → written_end b offset (certificate_view (get_or cs i d)) ≡ Err r → outcome ((all_fit (length b) (in_a_row certificate_pieces written_length start (map certificate_view cs)), WriteFit) ∷ []) end ≡ Err r
+certificate_refused b start cs offset i end d r h l e =
     let c : CertificateView = certificate_view (get_or cs i d) in
-    let t : Bool = holds b place (written_length c) in
-    let unfit : all_fit (length b) (certificate_pieces place c) ≡ false = fit_is b place c ∙ unfit_if t (place + written_length c) r e in
-    refused_if t _ (place + written_length c) end r e (left_refused certificate_pieces written_length (length b) start (map certificate_view cs) place c (drop (i + 1) (map certificate_view cs)) (rw (rest_of_seen certificate_view cs i d h) at l) unfit)
+    let t : Bool = holds b offset (written_length c) in
+    let unfit : all_fit (length b) (certificate_pieces offset c) ≡ false = fit_is b offset c ∙ unfit_if t (offset + written_length c) r e in
+    refused_if t _ (offset + written_length c) end r e (left_refused certificate_pieces written_length (length b) start (map certificate_view cs) offset c (drop (i + 1) (map certificate_view cs)) (rw (rest_of_seen certificate_view cs i d h) at l) unfit)
 
-pub certificates_accepted : (b : List ℕ) (start : ℕ) (cs : List AttributeCertificate) (place i : ℕ) → length cs ≤ i → LeftCertificates b start cs place i → outcome ((all_fit (length b) (in_a_row certificate_pieces written_length start (map certificate_view cs)), WriteFit) ∷ []) (row_end written_length start (map certificate_view cs)) ≡ Ok place
-certificates_accepted b start cs place i h l =
-    let last : Left certificate_pieces written_length (length b) start (map certificate_view cs) place [] = rw (no_rest_of_seen certificate_view cs i h) at l in
-    accepted_if _ _ place last.fit last.ends
+pub certificates_accepted : (b : List ℕ) (start : ℕ) (cs : List AttributeCertificate) (offset i : ℕ) → length cs ≤ i → LeftCertificates b start cs offset i → outcome ((all_fit (length b) (in_a_row certificate_pieces written_length start (map certificate_view cs)), WriteFit) ∷ []) (row_end written_length start (map certificate_view cs)) ≡ Ok offset
+certificates_accepted b start cs offset i h l =
+    let last : Left certificate_pieces written_length (length b) start (map certificate_view cs) offset [] = rw (no_rest_of_seen certificate_view cs i h) at l in
+    accepted_if _ _ offset last.fit last.ends
 
 -- ---- the writing, certificate by certificate
 
 abbrev pub GoesCertificates : List ℕ → ℕ → List AttributeCertificate → List ℕ → ℕ → ℕ → Type 0
-GoesCertificates b start cs now place i = Goes certificate_pieces written_length b start (map certificate_view cs) now place (drop i (map certificate_view cs))
+GoesCertificates b start cs now offset i = Goes certificate_pieces written_length b start (map certificate_view cs) now offset (drop i (map certificate_view cs))
 
-pub next_fits : (b : List ℕ) (start : ℕ) (cs : List AttributeCertificate) (now : List ℕ) (place i : ℕ) (d : AttributeCertificate) → i < length cs → length now ≡ length b → GoesCertificates b start cs now place i → all_fit (length now) (certificate_pieces place (certificate_view (get_or cs i d))) ≡ true
-next_fits b start cs now place i d h l g =
-    rw l (goes_fits certificate_pieces written_length b start (map certificate_view cs) now place (certificate_view (get_or cs i d)) (drop (i + 1) (map certificate_view cs)) (rw (rest_of_seen certificate_view cs i d h) at g))
+pub next_fits : (b : List ℕ) (start : ℕ) (cs : List AttributeCertificate) (now : List ℕ) (offset i : ℕ) (d : AttributeCertificate) → i < length cs → length now ≡ length b → GoesCertificates b start cs now offset i → all_fit (length now) (certificate_pieces offset (certificate_view (get_or cs i d))) ≡ true
+next_fits b start cs now offset i d h l g =
+    rw l (goes_fits certificate_pieces written_length b start (map certificate_view cs) now offset (certificate_view (get_or cs i d)) (drop (i + 1) (map certificate_view cs)) (rw (rest_of_seen certificate_view cs i d h) at g))
 
-pub next_goes : (b : List ℕ) (start : ℕ) (cs : List AttributeCertificate) (now next : List ℕ) (place end i : ℕ) (d : AttributeCertificate) → i < length cs → GoesCertificates b start cs now place i → next ≡ put_in_turn now (certificate_pieces place (certificate_view (get_or cs i d))) → end ≡ place + written_length (certificate_view (get_or cs i d)) → GoesCertificates b start cs next end (i + 1)
-next_goes b start cs now next place end i d h g e f =
-    rw f (goes_next certificate_pieces written_length b start (map certificate_view cs) now next place (certificate_view (get_or cs i d)) (drop (i + 1) (map certificate_view cs)) (rw (rest_of_seen certificate_view cs i d h) at g) e)
+pub next_goes : (b : List ℕ) (start : ℕ) (cs : List AttributeCertificate) (now next : List ℕ) (offset end i : ℕ) (d : AttributeCertificate) → i < length cs → GoesCertificates b start cs now offset i → next ≡ put_in_turn now (certificate_pieces offset (certificate_view (get_or cs i d))) → end ≡ offset + written_length (certificate_view (get_or cs i d)) → GoesCertificates b start cs next end (i + 1)
+next_goes b start cs now next offset end i d h g e f =
+    rw f (goes_next certificate_pieces written_length b start (map certificate_view cs) now next offset (certificate_view (get_or cs i d)) (drop (i + 1) (map certificate_view cs)) (rw (rest_of_seen certificate_view cs i d h) at g) e)
 
-pub all_gone : (b : List ℕ) (start : ℕ) (cs : List AttributeCertificate) (now : List ℕ) (place i : ℕ) → length cs ≤ i → GoesCertificates b start cs now place i → now ≡ put_in_turn b (in_a_row certificate_pieces written_length start (map certificate_view cs))
-all_gone b start cs now place i h g =
-    goes_last certificate_pieces written_length b start (map certificate_view cs) now place (rw (no_rest_of_seen certificate_view cs i h) at g)
+pub all_gone : (b : List ℕ) (start : ℕ) (cs : List AttributeCertificate) (now : List ℕ) (offset i : ℕ) → length cs ≤ i → GoesCertificates b start cs now offset i → now ≡ put_in_turn b (in_a_row certificate_pieces written_length start (map certificate_view cs))
+all_gone b start cs now offset i h g =
+    goes_last certificate_pieces written_length b start (map certificate_view cs) now offset (rw (no_rest_of_seen certificate_view cs i h) at g)

@@ -5,7 +5,7 @@ use Rattle.std.specs.Int.{is_power_of_two}
 use Rattle.std.proofs.lemmas.Bool.{eqb-true}
 use Rattle.std.proofs.lemmas.Nat.{ones_le_self}
 use Rattle.pe_core.specs.Header.{HeaderView, OptionalHeaderView}
-use Rattle.pe_core.specs.Sections.{sections_place}
+use Rattle.pe_core.specs.Sections.{sections_offset}
 use Rattle.pe_core.specs.declared.data_directories.DataDirectory.{DataDirectory}
 use Rattle.pe_core.specs.declared.section_table.SectionTable.{SectionTable}
 use Rattle.pe_records.specs.Certificates.{CertificateView}
@@ -20,10 +20,10 @@ pub positive : (n : ℕ) → is_power_of_two n ≡ true → 0 < n
 positive n e = omega (arith, ones_le_self n, eqb-true _ _ e)
 
 -- what is handed to the writer of the sections is of the image
-pub record IsOf (b : List ℕ) (h : HeaderView) (o : OptionalHeaderView) (sections : List SectionTable) (source : List ℕ) (unit : Option ℕ) (place : ℕ) (given : List SectionTable) : Type 0 where
+pub record IsOf (b : List ℕ) (h : HeaderView) (o : OptionalHeaderView) (sections : List SectionTable) (source : List ℕ) (unit : Option ℕ) (offset : ℕ) (given : List SectionTable) : Type 0 where
   pub source_is : source ≡ b
   pub unit_is : unit ≡ Some o.windows_fields.file_alignment
-  pub place_is : place ≡ sections_place h
+  pub offset_is : offset ≡ sections_offset h
   pub sections_are : given ≡ sections
 
 -- the three parts of the pieces
@@ -31,17 +31,17 @@ parts_fit : (n : ℕ) (xs ys zs : List Piece) → all_fit n ((xs ++ ys) ++ zs) �
 parts_fit n xs ys zs h = sym (all_fit_append n (xs ++ ys) zs ∙ ap (λ b. b && all_fit n zs) (all_fit_append n xs ys)) ∙ h
 
 abbrev section_part : List ℕ → HeaderView → OptionalHeaderView → List SectionTable → List Piece
-section_part b h o sections = all_section_pieces b (Some o.windows_fields.file_alignment) (sections_place h) sections
+section_part b h o sections = all_section_pieces b (Some o.windows_fields.file_alignment) (sections_offset h) sections
 
 pub headers_fit_too : (n : ℕ) (b : List ℕ) (h : HeaderView) (o : OptionalHeaderView) (sections : List SectionTable) (cs : List CertificateView) → all_fit n (image_pieces b h o sections cs) ≡ true → all_fit n (header_pieces h o) ≡ true
 unfolding image_pieces
 headers_fit_too n b h o sections cs f =
     and_left _ _ (and_left _ _ (parts_fit n (header_pieces h o) (section_part b h o sections) (all_certificate_pieces (certificate_directory o) cs) f))
 
-pub sections_fit_too : (n m : ℕ) (b : List ℕ) (h : HeaderView) (o : OptionalHeaderView) (sections : List SectionTable) (cs : List CertificateView) (source : List ℕ) (unit : Option ℕ) (place : ℕ) (given : List SectionTable) → m ≡ n → IsOf b h o sections source unit place given → all_fit n (image_pieces b h o sections cs) ≡ true → all_fit m (all_section_pieces source unit place given) ≡ true
+pub sections_fit_too : (n m : ℕ) (b : List ℕ) (h : HeaderView) (o : OptionalHeaderView) (sections : List SectionTable) (cs : List CertificateView) (source : List ℕ) (unit : Option ℕ) (offset : ℕ) (given : List SectionTable) → m ≡ n → IsOf b h o sections source unit offset given → all_fit n (image_pieces b h o sections cs) ≡ true → all_fit m (all_section_pieces source unit offset given) ≡ true
 unfolding image_pieces
-sections_fit_too n m b h o sections cs source unit place given same is f =
-    rw (same, is.source_is, is.unit_is, is.place_is, is.sections_are)
+sections_fit_too n m b h o sections cs source unit offset given same is f =
+    rw (same, is.source_is, is.unit_is, is.offset_is, is.sections_are)
     (and_right _ _ (and_left _ _ (parts_fit n (header_pieces h o) (section_part b h o sections) (all_certificate_pieces (certificate_directory o) cs) f)))
 
 pub certificates_fit_too : (n m : ℕ) (b : List ℕ) (h : HeaderView) (o : OptionalHeaderView) (sections : List SectionTable) (cs given : List CertificateView) (d : Option DataDirectory) → m ≡ n → d ≡ certificate_directory o → given ≡ cs → all_fit n (image_pieces b h o sections cs) ≡ true → all_fit m (all_certificate_pieces d given) ≡ true
@@ -50,10 +50,10 @@ certificates_fit_too n m b h o sections cs given d same e k f =
     rw (same, e, k) (and_right _ _ (parts_fit n (header_pieces h o) (section_part b h o sections) (all_certificate_pieces (certificate_directory o) cs) f))
 
 -- the three parts are put one after the other
-pub put_image : (old one two three b : List ℕ) (h : HeaderView) (o : OptionalHeaderView) (sections : List SectionTable) (cs given : List CertificateView) (d : Option DataDirectory) (source : List ℕ) (unit : Option ℕ) (place : ℕ) (ss : List SectionTable) → IsOf b h o sections source unit place ss → d ≡ certificate_directory o → given ≡ cs → one ≡ put_in_turn old (header_pieces h o) → two ≡ put_in_turn one (all_section_pieces source unit place ss) → three ≡ put_in_turn two (all_certificate_pieces d given) → three ≡ put_in_turn old (image_pieces b h o sections cs)
+pub put_image : (old one two three b : List ℕ) (h : HeaderView) (o : OptionalHeaderView) (sections : List SectionTable) (cs given : List CertificateView) (d : Option DataDirectory) (source : List ℕ) (unit : Option ℕ) (offset : ℕ) (ss : List SectionTable) → IsOf b h o sections source unit offset ss → d ≡ certificate_directory o → given ≡ cs → one ≡ put_in_turn old (header_pieces h o) → two ≡ put_in_turn one (all_section_pieces source unit offset ss) → three ≡ put_in_turn two (all_certificate_pieces d given) → three ≡ put_in_turn old (image_pieces b h o sections cs)
 unfolding image_pieces
-put_image old one two three b h o sections cs given d source unit place ss is e k f g i =
-    let second : two ≡ put_in_turn one (section_part b h o sections) = rw (is.source_is, is.unit_is, is.place_is, is.sections_are) at g in
+put_image old one two three b h o sections cs given d source unit offset ss is e k f g i =
+    let second : two ≡ put_in_turn one (section_part b h o sections) = rw (is.source_is, is.unit_is, is.offset_is, is.sections_are) at g in
     let third : three ≡ put_in_turn two (all_certificate_pieces (certificate_directory o) cs) = rw (e, k) at i in
     let a = put_append (header_pieces h o ++ section_part b h o sections) (all_certificate_pieces (certificate_directory o) cs) old in
     let c = put_append (header_pieces h o) (section_part b h o sections) old in

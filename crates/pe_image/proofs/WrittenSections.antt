@@ -17,9 +17,9 @@ use Rattle.pe_image.proofs.Rows.{Left, left_next, left_refused, Goes, goes_fits,
 use Rattle.pe_image.proofs.Steps.{accepted_if, value_if}
 
 -- the pieces of a section fit exactly if its data, its header and its zeros do
-pub section_fit : (n : ℕ) (b : List ℕ) (unit : Option ℕ) (place : ℕ) (s : SectionTable) → length s.name ≡ 8 → holds b s.pointer_to_raw_data s.size_of_raw_data ≡ true → all_fit n (section_pieces b unit place s) ≡ (nat_le (raw_end s) n && (nat_le (place + 40) n && nat_le (raw_end s + lacking s.size_of_raw_data unit) n))
+pub section_fit : (n : ℕ) (b : List ℕ) (unit : Option ℕ) (offset : ℕ) (s : SectionTable) → length s.name ≡ 8 → holds b s.pointer_to_raw_data s.size_of_raw_data ≡ true → all_fit n (section_pieces b unit offset s) ≡ (nat_le (raw_end s) n && (nat_le (offset + 40) n && nat_le (raw_end s + lacking s.size_of_raw_data unit) n))
 unfolding section_pieces
-section_fit n b unit place s h i =
+section_fit n b unit offset s h i =
     let inside : raw_end s ≤ length b = grind (arith, nat_tests) in
     let d : length (range b s.pointer_to_raw_data s.size_of_raw_data) ≡ s.size_of_raw_data = length-between b s.pointer_to_raw_data (raw_end s) inside ∙ (omega arith) in
     let z : length {A = ℕ} (replicate (lacking s.size_of_raw_data unit) 0) ≡ lacking s.size_of_raw_data unit = length-replicate _ 0 in
@@ -42,47 +42,47 @@ headers_end p (s ∷ sections) = headers_end (p + 40) sections ∙ omega arith
 -- ---- the test, section by section
 
 abbrev pub LeftSections : ℕ → List ℕ → Option ℕ → ℕ → List SectionTable → ℕ → ℕ → Type 0
-LeftSections n b unit start sections place i = Left (section_pieces b unit) header_width n start sections place (drop i sections)
+LeftSections n b unit start sections offset i = Left (section_pieces b unit) header_width n start sections offset (drop i sections)
 
-pub section_left : (n : ℕ) (b : List ℕ) (unit : Option ℕ) (start : ℕ) (sections : List SectionTable) (place end i : ℕ) (d : SectionTable) → i < length sections → LeftSections n b unit start sections place i → outcome ((all_fit n (section_pieces b unit place (get_or sections i d)), WriteFit) ∷ []) (place + 40) ≡ Ok end → LeftSections n b unit start sections end (i + 1)
-section_left n b unit start sections place end i d h l e =
+pub section_left : (n : ℕ) (b : List ℕ) (unit : Option ℕ) (start : ℕ) (sections : List SectionTable) (offset end i : ℕ) (d : SectionTable) → i < length sections → LeftSections n b unit start sections offset i → outcome ((all_fit n (section_pieces b unit offset (get_or sections i d)), WriteFit) ∷ []) (offset + 40) ≡ Ok end → LeftSections n b unit start sections end (i + 1)
+section_left n b unit start sections offset end i d h l e =
     let s : SectionTable = get_or sections i d in
-    let t : Bool = all_fit n (section_pieces b unit place s) in
-    let same : end ≡ place + 40 = value_if t (place + 40) end e in
-    rw same (left_next (section_pieces b unit) header_width n start sections place s (drop (i + 1) sections) (rw (rest_at sections i d h) at l) (fits_if t (place + 40) end e))
+    let t : Bool = all_fit n (section_pieces b unit offset s) in
+    let same : end ≡ offset + 40 = value_if t (offset + 40) end e in
+    rw same (left_next (section_pieces b unit) header_width n start sections offset s (drop (i + 1) sections) (rw (rest_at sections i d h) at l) (fits_if t (offset + 40) end e))
 
-pub section_refused : (n : ℕ) (b : List ℕ) (unit : Option ℕ) (start : ℕ) (sections : List SectionTable) (place i end : ℕ) (d : SectionTable) (r : Refusal) → i < length sections → LeftSections n b unit start sections place i → outcome ((all_fit n (section_pieces b unit place (get_or sections i d)), WriteFit) ∷ []) (place + 40) ≡ Err r → outcome ((all_fit n (all_section_pieces b unit start sections), WriteFit) ∷ []) end ≡ Err r
-section_refused n b unit start sections place i end d r h l e =
+pub section_refused : (n : ℕ) (b : List ℕ) (unit : Option ℕ) (start : ℕ) (sections : List SectionTable) (offset i end : ℕ) (d : SectionTable) (r : Refusal) → i < length sections → LeftSections n b unit start sections offset i → outcome ((all_fit n (section_pieces b unit offset (get_or sections i d)), WriteFit) ∷ []) (offset + 40) ≡ Err r → outcome ((all_fit n (all_section_pieces b unit start sections), WriteFit) ∷ []) end ≡ Err r
+section_refused n b unit start sections offset i end d r h l e =
     let s : SectionTable = get_or sections i d in
-    let t : Bool = all_fit n (section_pieces b unit place s) in
-    refused_if t _ (place + 40) end r e (left_refused (section_pieces b unit) header_width n start sections place s (drop (i + 1) sections) (rw (rest_at sections i d h) at l) (unfit_if t (place + 40) r e))
+    let t : Bool = all_fit n (section_pieces b unit offset s) in
+    refused_if t _ (offset + 40) end r e (left_refused (section_pieces b unit) header_width n start sections offset s (drop (i + 1) sections) (rw (rest_at sections i d h) at l) (unfit_if t (offset + 40) r e))
 
-pub sections_accepted : (n : ℕ) (b : List ℕ) (unit : Option ℕ) (start : ℕ) (sections : List SectionTable) (place i : ℕ) → length sections ≤ i → LeftSections n b unit start sections place i → outcome ((all_fit n (all_section_pieces b unit start sections), WriteFit) ∷ []) (start + 40 * length sections) ≡ Ok place
-sections_accepted n b unit start sections place i h l =
-    let last : Left (section_pieces b unit) header_width n start sections place [] = rw (drop_all i sections h) at l in
-    accepted_if _ _ place last.fit (last.ends ∙ headers_end start sections)
+pub sections_accepted : (n : ℕ) (b : List ℕ) (unit : Option ℕ) (start : ℕ) (sections : List SectionTable) (offset i : ℕ) → length sections ≤ i → LeftSections n b unit start sections offset i → outcome ((all_fit n (all_section_pieces b unit start sections), WriteFit) ∷ []) (start + 40 * length sections) ≡ Ok offset
+sections_accepted n b unit start sections offset i h l =
+    let last : Left (section_pieces b unit) header_width n start sections offset [] = rw (drop_all i sections h) at l in
+    accepted_if _ _ offset last.fit (last.ends ∙ headers_end start sections)
 
 -- ---- the writing, section by section
 
 abbrev pub GoesSections : List ℕ → List ℕ → Option ℕ → ℕ → List SectionTable → List ℕ → ℕ → ℕ → Type 0
-GoesSections old b unit start sections now place i = Goes (section_pieces b unit) header_width old start sections now place (drop i sections)
+GoesSections old b unit start sections now offset i = Goes (section_pieces b unit) header_width old start sections now offset (drop i sections)
 
-pub next_fits : (old b : List ℕ) (unit : Option ℕ) (start : ℕ) (sections : List SectionTable) (now : List ℕ) (place i : ℕ) (d : SectionTable) → i < length sections → length now ≡ length old → GoesSections old b unit start sections now place i → all_fit (length now) (section_pieces b unit place (get_or sections i d)) ≡ true
-next_fits old b unit start sections now place i d h l g =
-    rw l (goes_fits (section_pieces b unit) header_width old start sections now place (get_or sections i d) (drop (i + 1) sections) (rw (rest_at sections i d h) at g))
+pub next_fits : (old b : List ℕ) (unit : Option ℕ) (start : ℕ) (sections : List SectionTable) (now : List ℕ) (offset i : ℕ) (d : SectionTable) → i < length sections → length now ≡ length old → GoesSections old b unit start sections now offset i → all_fit (length now) (section_pieces b unit offset (get_or sections i d)) ≡ true
+next_fits old b unit start sections now offset i d h l g =
+    rw l (goes_fits (section_pieces b unit) header_width old start sections now offset (get_or sections i d) (drop (i + 1) sections) (rw (rest_at sections i d h) at g))
 
-pub next_goes : (old b : List ℕ) (unit : Option ℕ) (start : ℕ) (sections : List SectionTable) (now next : List ℕ) (place i : ℕ) (d : SectionTable) → i < length sections → GoesSections old b unit start sections now place i → next ≡ put_in_turn now (section_pieces b unit place (get_or sections i d)) → GoesSections old b unit start sections next (place + 40) (i + 1)
-next_goes old b unit start sections now next place i d h g e =
-    goes_next (section_pieces b unit) header_width old start sections now next place (get_or sections i d) (drop (i + 1) sections) (rw (rest_at sections i d h) at g) e
+pub next_goes : (old b : List ℕ) (unit : Option ℕ) (start : ℕ) (sections : List SectionTable) (now next : List ℕ) (offset i : ℕ) (d : SectionTable) → i < length sections → GoesSections old b unit start sections now offset i → next ≡ put_in_turn now (section_pieces b unit offset (get_or sections i d)) → GoesSections old b unit start sections next (offset + 40) (i + 1)
+next_goes old b unit start sections now next offset i d h g e =
+    goes_next (section_pieces b unit) header_width old start sections now next offset (get_or sections i d) (drop (i + 1) sections) (rw (rest_at sections i d h) at g) e
 
-pub all_gone : (old b : List ℕ) (unit : Option ℕ) (start : ℕ) (sections : List SectionTable) (now : List ℕ) (place i : ℕ) → length sections ≤ i → GoesSections old b unit start sections now place i → now ≡ put_in_turn old (all_section_pieces b unit start sections)
-all_gone old b unit start sections now place i h g =
-    goes_last (section_pieces b unit) header_width old start sections now place (rw (drop_all i sections h) at g)
+pub all_gone : (old b : List ℕ) (unit : Option ℕ) (start : ℕ) (sections : List SectionTable) (now : List ℕ) (offset i : ℕ) → length sections ≤ i → GoesSections old b unit start sections now offset i → now ≡ put_in_turn old (all_section_pieces b unit start sections)
+all_gone old b unit start sections now offset i h g =
+    goes_last (section_pieces b unit) header_width old start sections now offset (rw (drop_all i sections h) at g)
 
-place_fits : (n : ℕ) (b : List ℕ) (unit : Option ℕ) (place : ℕ) (s : SectionTable) → all_fit n (section_pieces b unit place s) ≡ true → place ≤ n
+offset_fits : (n : ℕ) (b : List ℕ) (unit : Option ℕ) (offset : ℕ) (s : SectionTable) → all_fit n (section_pieces b unit offset s) ≡ true → offset ≤ n
 unfolding section_pieces
-place_fits n b unit place s h = grind (arith, nat_tests)
+offset_fits n b unit offset s h = grind (arith, nat_tests)
 
-pub place_inside : (old b : List ℕ) (unit : Option ℕ) (start : ℕ) (sections : List SectionTable) (now : List ℕ) (place i : ℕ) (d : SectionTable) → i < length sections → length now ≡ length old → GoesSections old b unit start sections now place i → place ≤ length now
-place_inside old b unit start sections now place i d h l g =
-    place_fits (length now) b unit place (get_or sections i d) (next_fits old b unit start sections now place i d h l g)
+pub offset_inside : (old b : List ℕ) (unit : Option ℕ) (start : ℕ) (sections : List SectionTable) (now : List ℕ) (offset i : ℕ) (d : SectionTable) → i < length sections → length now ≡ length old → GoesSections old b unit start sections now offset i → offset ≤ length now
+offset_inside old b unit start sections now offset i d h l g =
+    offset_fits (length now) b unit offset (get_or sections i d) (next_fits old b unit start sections now offset i d h l g)

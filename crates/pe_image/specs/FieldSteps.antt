@@ -28,8 +28,8 @@ list_by_mode mode None = Ok []
 list_by_mode mode (Some r) = empty_if_refused mode [] r
 
 -- the result of reading the resources of a directory, by mode
-abbrev pub GivesResources : ParseOptions → List ℕ → List SectionTable → ℕ → Option DataDirectory → Result (Option ResourceData) Error → Type 0
-GivesResources opts b sections unit d answer =
+abbrev pub ReturnsResources : ParseOptions → List ℕ → List SectionTable → ℕ → Option DataDirectory → Result (Option ResourceData) Error → Type 0
+ReturnsResources opts b sections unit d answer =
     (f : Field ResourceView) × IsField (λ d r. IsResource opts b d sections unit r) d f × (answer_by (option_map resource_view) answer ≡ by_mode opts.parse_mode f)
 
 -- the view of the fields before the resources

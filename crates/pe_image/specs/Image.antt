@@ -164,17 +164,17 @@ unfoldable pub before_resources : List ℕ → ParseOptions → Result CoreView 
 before_resources b opts = core_of b opts >>= λ c. first_fields_demanded b opts c >>= λ u. Ok c
 
 -- this is the image of a core with its resources, or the first refusal: of the core, of the resources
-abbrev pub IsBehindCore : List ℕ → ParseOptions → Result CoreView Refusal → Result ImageView Refusal → Type 0
-IsBehindCore b opts (Err refusal) r = r ≡ Err refusal
-IsBehindCore b opts (Ok c) r =
+abbrev pub IsAfterCore : List ℕ → ParseOptions → Result CoreView Refusal → Result ImageView Refusal → Type 0
+IsAfterCore b opts (Err refusal) r = r ≡ Err refusal
+IsAfterCore b opts (Ok c) r =
     (resources : Field ResourceView) × AreResourcesOf b opts c resources
     × (r ≡ (demanded opts.parse_mode resources >>= λ u. Ok (with_fields b opts c resources)))
 
 -- this is the image of these bytes with these options, or its refusal
 abbrev pub IsImage : List ℕ → ParseOptions → Result ImageView Refusal → Type 0
-IsImage b opts r = IsBehindCore b opts (before_resources b opts) r
+IsImage b opts r = IsAfterCore b opts (before_resources b opts) r
 
 -- the result of reading an image; memory runs out only after the headers and the section headers were accepted
-abbrev pub GivesImage : {Z : Type 0} → List ℕ → ParseOptions → Result (PE Z) Error → Type 0
-GivesImage b opts (Ok p) = IsImage b opts (Ok (image_view p))
-GivesImage b opts (Err e) = UnlessMemory e (IsImage b opts (Err (kind_of e))) × IfMemory e (IsOk (sections_read b opts))
+abbrev pub ReturnsImage : {Z : Type 0} → List ℕ → ParseOptions → Result (PE Z) Error → Type 0
+ReturnsImage b opts (Ok p) = IsImage b opts (Ok (image_view p))
+ReturnsImage b opts (Err e) = UnlessMemory e (IsImage b opts (Err (kind_of e))) × IfMemory e (IsOk (sections_read b opts))

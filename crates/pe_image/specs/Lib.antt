@@ -8,7 +8,7 @@ pub mod LayoutParts
 pub mod CoreParts
 pub mod FieldSteps
 pub mod ImageSteps
-pub mod Terse
+pub mod Te
 pub mod Objects
 pub mod Overlay
 pub mod Pieces

@@ -8,7 +8,7 @@ use Rattle.pe_core.specs.declared.data_directories.DataDirectory.{DataDirectory}
 use Rattle.pe_core.specs.declared.error.Error.{Error}
 use Rattle.pe_core.specs.declared.options.ParseOptions.{ParseOptions}
 use Rattle.pe_core.specs.declared.section_table.SectionTable.{SectionTable}
-use Rattle.pe_records.specs.Certificates.{ListingBegins}
+use Rattle.pe_records.specs.Certificates.{ListingStarts}
 use Rattle.pe_image.specs.Core.{export_data_of, import_directory}
 use Rattle.pe_image.specs.Layout.{alignment, directory}
 
@@ -26,12 +26,12 @@ abbrev pub HasImports : ParseOptions → List SectionTable → Option OptionalHe
 HasImports opts sections o = IsSomeAnd (import_directory opts o) (λ d. IsSome (section_map opts sections (alignment o) d.virtual_address))
 
 -- the directory is there, and its table starts with a certificate
-abbrev pub BeginsCertificates : List ℕ → Option DataDirectory → Type 0
-BeginsCertificates b d = IsSomeAnd d (λ d. ListingBegins b d.virtual_address d.size)
+abbrev pub StartsCertificates : List ℕ → Option DataDirectory → Type 0
+StartsCertificates b d = IsSomeAnd d (λ d. ListingStarts b d.virtual_address d.size)
 
 -- the certificate table starts with a certificate, and `parse_attribute_certificates` is on
 abbrev pub HasCertificates : List ℕ → ParseOptions → Option OptionalHeaderView → Type 0
-HasCertificates b opts o = BeginsCertificates b (if opts.parse_attribute_certificates then directory 4 o else None)
+HasCertificates b opts o = StartsCertificates b (if opts.parse_attribute_certificates then directory 4 o else None)
 
 -- reading an image asks for memory only for section headers, exports, imports with their libraries, and certificates,
 -- and only after the headers and the section headers were accepted

@@ -5,7 +5,7 @@ use Rattle.pe_core.specs.Records.{coff_header}
 use Rattle.pe_core.specs.Refusals.{Refusal, ◌>>=◌}
 use Rattle.pe_core.specs.Sections.{sections_at}
 use Rattle.pe_core.specs.Strings.{strings_of, strings_view}
-use Rattle.pe_core.specs.Symbols.{symbols_of, table_view}
+use Rattle.pe_core.specs.Symbols.{symbols_of, symbol_table_view}
 use Rattle.pe_core.specs.declared.header.CoffHeader.{CoffHeader}
 use Rattle.pe_core.specs.declared.section_table.SectionTable.{SectionTable}
 use Rattle.pe_image.specs.declared.coff.Coff.{Coff}
@@ -19,7 +19,7 @@ pub record ObjectView : Type 0 where
 
 -- the view of an object
 abbrev pub object_view : {Z : Type 0} → Coff Z → ObjectView
-object_view c = record { header = c.header; sections = c.sections.items; symbols = table_view c.symbols; strings = strings_view c.strings }
+object_view c = record { header = c.header; sections = c.sections.items; symbols = symbol_table_view c.symbols; strings = strings_view c.strings }
 
 -- the section headers of an object: after its header and the optional header, whose size the header contains
 abbrev pub object_sections : List ℕ → CoffHeader → Result (List SectionTable) Refusal

@@ -6,21 +6,21 @@ use Rattle.pe_core.specs.declared.error.Error.{Error}
 
 -- a piece: some bytes, and the offset that they are written at
 pub record Piece : Type 0 where
-  pub place : ℕ
+  pub offset : ℕ
   pub content : List ℕ
 
 -- the piece with the bytes s at offset p
 abbrev pub piece : ℕ → List ℕ → Piece
-piece p s = record { place = p; content = s }
+piece p s = record { offset = p; content = s }
 
 -- the piece covers offset q
 abbrev pub has_byte : ℕ → Piece → Bool
-has_byte q x = nat_le x.place q && nat_lt q (x.place + length x.content)
+has_byte q x = nat_le x.offset q && nat_lt q (x.offset + length x.content)
 
 -- the byte of the piece at offset q; without a piece the old byte
 abbrev pub byte_of : ℕ → ℕ → Option Piece → ℕ
 byte_of q old None = old
-byte_of q old (Some x) = slice_index x.content (q - x.place)
+byte_of q old (Some x) = slice_index x.content (q - x.offset)
 
 -- the last piece that covers offset q
 abbrev pub last_piece : List Piece → ℕ → Option Piece
@@ -36,7 +36,7 @@ overlay b pieces = each (λ q. byte_after pieces q (slice_index b q)) (length b)
 
 -- the piece fits into n bytes
 abbrev pub fits : ℕ → Piece → Bool
-fits n x = nat_le (x.place + length x.content) n
+fits n x = nat_le (x.offset + length x.content) n
 
 -- every piece fits into n bytes
 abbrev pub all_fit : ℕ → List Piece → Bool

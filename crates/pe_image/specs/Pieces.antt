@@ -38,11 +38,11 @@ abbrev pub lacking : ℕ → Option ℕ → ℕ
 lacking n None = 0
 lacking n (Some unit) = if n % unit == 0 then 0 else unit - n % unit
 
--- a section's data, its header at `place`, and the zeros after its data; b is the file that the data is taken from
+-- a section's data, its header at `offset`, and the zeros after its data; b is the file that the data is taken from
 unfoldable pub section_pieces : List ℕ → Option ℕ → ℕ → SectionTable → List Piece
-section_pieces b unit place s =
+section_pieces b unit offset s =
     piece s.pointer_to_raw_data (range b s.pointer_to_raw_data s.size_of_raw_data)
-    ∷ piece place (spell_section s)
+    ∷ piece offset (spell_section s)
     ∷ piece (raw_end s) (replicate (lacking s.size_of_raw_data unit) 0)
     ∷ []
 
@@ -50,9 +50,9 @@ section_pieces b unit place s =
 abbrev pub header_width : SectionTable → ℕ
 header_width s = 40
 
--- the pieces of sections, whose headers follow one another from `place` on
+-- the pieces of sections, whose headers follow one another from `offset` on
 abbrev pub all_section_pieces : List ℕ → Option ℕ → ℕ → List SectionTable → List Piece
-all_section_pieces b unit place sections = in_a_row (section_pieces b unit) header_width place sections
+all_section_pieces b unit offset sections = in_a_row (section_pieces b unit) header_width offset sections
 
 -- a certificate: its header, its body and zeros up to a multiple of eight
 abbrev pub certificate_pieces : ℕ → CertificateView → List Piece

@@ -8,7 +8,7 @@ use Rattle.pe_core.specs.Bytes.{holds}
 use Rattle.pe_core.specs.Directories.{present}
 use Rattle.pe_core.specs.Header.{HeaderView, OptionalHeaderView}
 use Rattle.pe_core.specs.Refusals.{Refusal, NoOptionalHeader, WriteAlignment, WriteSymbols, WriteOverlap, WriteSection, WriteFit, kind_of, outcome}
-use Rattle.pe_core.specs.Sections.{raw_end, sections_place}
+use Rattle.pe_core.specs.Sections.{raw_end, sections_offset}
 use Rattle.pe_core.specs.declared.data_directories.DataDirectory.{DataDirectory}
 use Rattle.pe_core.specs.declared.error.Error.{Error}
 use Rattle.pe_core.specs.declared.section_table.SectionTable.{SectionTable}
@@ -19,9 +19,9 @@ use Rattle.pe_image.specs.Overlay.{Piece, all_fit, overlay}
 use Rattle.pe_image.specs.Pieces.{all_certificate_pieces, all_section_pieces, certificates_end, header_pieces}
 
 -- the number returned and the bytes left are the defined ones; a refusal is the defined one, and changes nothing
-abbrev pub GivesWritten : Result ℕ Error → Result (ℕ × List ℕ) Refusal → List ℕ → List ℕ → Type 0
-GivesWritten (Ok n) defined old new = defined ≡ Ok (n, new)
-GivesWritten (Err e) defined old new = (defined ≡ Err (kind_of e)) × (new ≡ old)
+abbrev pub ReturnsWritten : Result ℕ Error → Result (ℕ × List ℕ) Refusal → List ℕ → List ℕ → Type 0
+ReturnsWritten (Ok n) defined old new = defined ≡ Ok (n, new)
+ReturnsWritten (Err e) defined old new = (defined ≡ Err (kind_of e)) × (new ≡ old)
 
 -- an offset moves to the number returned; a refusal leaves it unchanged
 abbrev pub Moves : Result ℕ Error → ℕ → ℕ → Type 0
@@ -46,7 +46,7 @@ clash s t = nat_lt (max s.pointer_to_raw_data t.pointer_to_raw_data) (min (raw_e
 -- no section clashes with a later one of the list
 abbrev pub clash_free : List SectionTable → Bool
 clash_free [] = true
-clash_free (s ∷ behind) = list_all (λ t. not (clash s t)) behind && clash_free behind
+clash_free (s ∷ after) = list_all (λ t. not (clash s t)) after && clash_free after
 
 -- the data of every section is in b
 abbrev pub all_in_source : List ℕ → List SectionTable → Bool
@@ -106,7 +106,7 @@ later s (Some t) = if nat_lt t.pointer_to_raw_data s.pointer_to_raw_data then So
 -- the last section with the greatest raw pointer
 abbrev pub last_in_file : List SectionTable → Option SectionTable
 last_in_file [] = None
-last_in_file (s ∷ behind) = later s (last_in_file behind)
+last_in_file (s ∷ after) = later s (last_in_file after)
 
 -- the end of a section's data; 0 without a section
 abbrev pub end_of : Option SectionTable → ℕ
@@ -121,7 +121,7 @@ last_raw_end sections = end_of (last_in_file sections)
 unfoldable pub image_pieces : List ℕ → HeaderView → OptionalHeaderView → List SectionTable → List CertificateView → List Piece
 image_pieces b h o sections cs =
     header_pieces h o
-    ++ all_section_pieces b (Some o.windows_fields.file_alignment) (sections_place h) sections
+    ++ all_section_pieces b (Some o.windows_fields.file_alignment) (sections_offset h) sections
     ++ all_certificate_pieces (certificate_directory o) cs
 
 -- the tests of writing these pieces over n bytes, in their order
@@ -133,7 +133,7 @@ image_tests b h o sections n pieces =
 
 -- the greatest of three offsets: the start of the section table, the end of the last data, the end of the certificates
 abbrev pub image_end : HeaderView → OptionalHeaderView → List SectionTable → List CertificateView → ℕ
-image_end h o sections cs = max (max (sections_place h) (last_raw_end sections)) (certificates_end (certificate_directory o) cs)
+image_end h o sections cs = max (max (sections_offset h) (last_raw_end sections)) (certificates_end (certificate_directory o) cs)
 
 -- an image with an optional header over the old bytes; refused without one
 abbrev pub image_by : Option OptionalHeaderView → List ℕ → HeaderView → List SectionTable → List CertificateView → List ℕ → Result (ℕ × List ℕ) Refusal

@@ -2,7 +2,7 @@
 //! header says where the symbols are. The string table follows the symbols. Layout:
 //! <https://learn.microsoft.com/windows/win32/debug/pe-format>. A linker or a symbol dumper starts with `Coff::parse`.
 
-ghost use Rattle.pe_core.specs.Refusals.{GivesUnlessMemoryAfter};
+ghost use Rattle.pe_core.specs.Refusals.{ReturnsUnlessMemoryAfter};
 
 use pe_core::{CoffHeader, Result, SectionTable, Strtab, SymbolTable};
 use std::alloc::{Allocator, Global};
@@ -30,12 +30,12 @@ impl<'a, A: Allocator + Copy + Drop> Coff<'a, A> {
     /// are truncated; `Memory`; `Short` if the symbols are truncated; `StringTable` if the string table is.
     #[tactic(auto, unfolding(crate::specs::Objects::object_of))]
     pub fn parse(alloc: A, bytes: &'a [u8]) -> Result<Coff<'a, A>>
-        ensures { GivesUnlessMemoryAfter (sections_of_object bytes.entry.now) object_view result (object_of bytes.entry.now) }
+        ensures { ReturnsUnlessMemoryAfter (sections_of_object bytes.entry.now) object_view result (object_of bytes.entry.now) }
     {
         let header = CoffHeader::parse(bytes, 0)?;
         // The section table follows the optional header, which an object usually doesn't have.
-        let place = SIZE_OF_COFF_HEADER + header.size_of_optional_header as usize;
-        let sections = header.sections(alloc, bytes, place)?;
+        let offset = SIZE_OF_COFF_HEADER + header.size_of_optional_header as usize;
+        let sections = header.sections(alloc, bytes, offset)?;
         Ok(Coff {
             header,
             sections,

@@ -8,7 +8,7 @@ ghost use Rattle.std.specs.Option.{option_map};
 ghost use Rattle.pe_core.specs.Exports.{export_data_view, export_view};
 ghost use Rattle.pe_core.specs.Header.{header_view};
 ghost use Rattle.pe_core.specs.Imports.{entry_size, import_data_view, import_view};
-ghost use Rattle.pe_core.specs.Refusals.{GivesUnlessMemory, GivesUnlessMemoryAfter};
+ghost use Rattle.pe_core.specs.Refusals.{ReturnsUnlessMemory, ReturnsUnlessMemoryAfter};
 ghost use Rattle.pe_core.specs.SectionMap.{section_map};
 ghost use Rattle.pe_core.specs.Sections.{sections_of};
 ghost use Rattle.pe_image.specs.Core.{export_data_of, exports_of, import_data_of, imports_of, core_with, sections_read, core_of, AreLibrariesOf};
@@ -38,7 +38,7 @@ fn sections<A: Allocator + Copy + Drop>(
     bytes: &[u8],
     header: &Header<'_>,
 ) -> Result<Vec<SectionTable, A>>
-    ensures sections { GivesUnlessMemoryAfter (sections_of bytes.now (header_view header.now)) (λ v. v.items) result (sections_of bytes.now (header_view header.now)) }
+    ensures sections { ReturnsUnlessMemoryAfter (sections_of bytes.now (header_view header.now)) (λ v. v.items) result (sections_of bytes.now (header_view header.now)) }
     ensures memory { MemoryOnlyIf (0 < (header_view header.now).coff_header.number_of_sections) result }
 {
     // Memory is asked for only if there are sections.
@@ -70,7 +70,7 @@ fn exports<'a, A: Allocator + Copy + Drop>(
     file_alignment: u32,
     export_data: &Option<ExportData<'a>>,
 ) -> Result<Vec<Export<'a>, A>>
-    ensures exports { GivesUnlessMemory (λ v. map export_view v.items) result
+    ensures exports { ReturnsUnlessMemory (λ v. map export_view v.items) result
         (Ok (exports_of (section_map opts.now sections.now file_alignment) bytes.entry.now (option_map export_data_view export_data.now))) }
     ensures memory { MemoryOnlyIf (IsSome (option_map export_data_view export_data.now)) result }
 {
@@ -88,7 +88,7 @@ fn import_data<'a, A: Allocator + Copy + Drop>(
     sections: &[SectionTable],
     layout: &Layout,
 ) -> Result<Option<ImportData<'a, A>>>
-    ensures directory { GivesUnlessMemory (option_map import_data_view) result
+    ensures directory { ReturnsUnlessMemory (option_map import_data_view) result
         (import_data_of (section_map opts.now sections.now layout.now.file_alignment) (entry_size layout.now.is_64) bytes.entry.now
         (if opts.now.parse_imports then layout.now.imports else None)) }
     ensures memory { MemoryOnlyIf (IsSomeAnd (if opts.now.parse_imports then layout.now.imports else None)
@@ -125,7 +125,7 @@ fn imports<'a, A: Allocator + Copy + Drop>(
     layout: &Layout,
     import_data: &Option<ImportData<'a, A>>,
 ) -> Result<Vec<Import<'a>, A>>
-    ensures imports { GivesUnlessMemory (λ v. map import_view v.items) result
+    ensures imports { ReturnsUnlessMemory (λ v. map import_view v.items) result
         (imports_of (section_map opts.now sections.now layout.now.file_alignment) (entry_size layout.now.is_64) bytes.entry.now (option_map import_data_view import_data.now)) }
     ensures memory { MemoryOnlyIf (IsSome (option_map import_data_view import_data.now)) result }
 {
@@ -162,7 +162,7 @@ impl<'a, A: Allocator + Copy + Drop> Core<'a, A> {
         header: Header<'a>,
         sections: Vec<SectionTable, A>,
     ) -> Result<Core<'a, A>>
-        ensures core { GivesUnlessMemory core_view result (core_with bytes.entry.now opts.now (header_view header.entry) sections.items) }
+        ensures core { ReturnsUnlessMemory core_view result (core_with bytes.entry.now opts.now (header_view header.entry) sections.items) }
         ensures memory { MemoryOnlyIf (HasExports bytes.entry.now opts.now sections.items (header_view header.entry).optional_header
             ⊎ HasImports opts.now sections.items (header_view header.entry).optional_header) result }
         ensures libraries { IfOk result CoreHasLibraries }
@@ -189,7 +189,7 @@ impl<'a, A: Allocator + Copy + Drop> Core<'a, A> {
     /// import directory, the imports. Memory is asked for only if the headers and the section headers are valid.
     #[tactic(auto, using(crate::proofs::NoMemory::header_owes_nothing, crate::proofs::Requests::asks_for_sections, crate::proofs::Requests::asks_for_core), unfolding(crate::specs::Core::core_of))]
     pub fn read(alloc: A, bytes: &'a [u8], opts: &ParseOptions) -> Result<Core<'a, A>>
-        ensures core { GivesUnlessMemoryAfter (sections_read bytes.entry.now opts.now) core_view result (core_of bytes.entry.now opts.now) }
+        ensures core { ReturnsUnlessMemoryAfter (sections_read bytes.entry.now opts.now) core_view result (core_of bytes.entry.now opts.now) }
         ensures memory { MemoryOnlyIf (AsksForMemory bytes.entry.now opts.now) result }
         ensures libraries { IfOk result CoreHasLibraries }
     {

@@ -4,7 +4,7 @@
 
 ghost use Rattle.std.specs.Prelude.{◌≡◌, map, None, if◌then◌else◌};
 ghost use Rattle.std.specs.Option.{option_map};
-ghost use Rattle.pe_core.specs.Refusals.{GivesUnlessMemory, answer_by};
+ghost use Rattle.pe_core.specs.Refusals.{ReturnsUnlessMemory, answer_by};
 ghost use Rattle.pe_core.specs.Relocations.{directory_bytes};
 ghost use Rattle.pe_records.specs.Certificates.{certificate_view, certificates_at};
 ghost use Rattle.pe_records.specs.DebugRecords.{debug_view, debug_data};
@@ -13,8 +13,8 @@ ghost use Rattle.pe_unwind.specs.ExceptionTable.{exception_at};
 ghost use Rattle.pe_image.specs.CoreParts.{core_view};
 ghost use Rattle.pe_image.specs.Fields.{field, exceptions_for, IsResourceField};
 ghost use Rattle.pe_image.specs.LayoutParts.{layout_of};
-ghost use Rattle.pe_image.specs.Memory.{BeginsCertificates, HasCertificates, MemoryOnlyIf};
-ghost use Rattle.pe_image.specs.FieldSteps.{by_mode, list_by_mode, first_fields_view, first_fields_in_turn, GivesResources};
+ghost use Rattle.pe_image.specs.Memory.{StartsCertificates, HasCertificates, MemoryOnlyIf};
+ghost use Rattle.pe_image.specs.FieldSteps.{by_mode, list_by_mode, first_fields_view, first_fields_in_turn, ReturnsResources};
 
 use crate::core_image::Core;
 use crate::layout::Layout;
@@ -35,7 +35,7 @@ fn debug_data<'a>(
     sections: &[SectionTable],
     layout: &Layout,
 ) -> Result<Option<DebugData<'a>>>
-    ensures data { GivesUnlessMemory (option_map debug_view) result (by_mode opts.now.parse_mode
+    ensures data { ReturnsUnlessMemory (option_map debug_view) result (by_mode opts.now.parse_mode
         (field (λ d. debug_data opts.now bytes.entry.now d sections.now layout.now.file_alignment 0) layout.now.debug)) }
     ensures no_memory { MemoryOnlyIf ⊥ result }
 {
@@ -56,7 +56,7 @@ fn exception_data<'a>(
     machine: u16,
     layout: &Layout,
 ) -> Result<Option<ExceptionData<'a>>>
-    ensures data { GivesUnlessMemory (λ d. d) result (by_mode opts.now.parse_mode (exceptions_for machine
+    ensures data { ReturnsUnlessMemory (λ d. d) result (by_mode opts.now.parse_mode (exceptions_for machine
         (λ width d. exception_at width bytes.entry.now d sections.now layout.now.file_alignment opts.now) layout.now.exceptions)) }
     ensures no_memory { MemoryOnlyIf ⊥ result }
 {
@@ -84,7 +84,7 @@ fn relocation_data<'a>(
     sections: &[SectionTable],
     layout: &Layout,
 ) -> Result<Option<RelocationData<'a>>>
-    ensures data { GivesUnlessMemory (option_map (λ r. r.bytes.now)) result (by_mode opts.now.parse_mode
+    ensures data { ReturnsUnlessMemory (option_map (λ r. r.bytes.now)) result (by_mode opts.now.parse_mode
         (field (λ d. directory_bytes opts.now bytes.entry.now d sections.now layout.now.file_alignment) layout.now.relocations)) }
     ensures no_memory { MemoryOnlyIf ⊥ result }
 {
@@ -97,16 +97,16 @@ fn relocation_data<'a>(
 }
 
 /// The certificates, by mode. Empty if `parse_attribute_certificates` is off.
-#[tactic(auto, using(crate::proofs::ByMode::begins_by_mode))]
+#[tactic(auto, using(crate::proofs::ByMode::starts_by_mode))]
 fn certificates<'a, A: Allocator + Copy>(
     alloc: A,
     bytes: &'a [u8],
     opts: &ParseOptions,
     layout: &Layout,
 ) -> Result<CertificateDirectoryTable<'a, A>>
-    ensures certificates { GivesUnlessMemory (λ found. map certificate_view found.items) result (list_by_mode opts.now.parse_mode
+    ensures certificates { ReturnsUnlessMemory (λ found. map certificate_view found.items) result (list_by_mode opts.now.parse_mode
         (if opts.now.parse_attribute_certificates then field (λ d. certificates_at bytes.entry.now d.virtual_address d.size) layout.now.certificates else None)) }
-    ensures memory { MemoryOnlyIf (BeginsCertificates bytes.entry.now (if opts.now.parse_attribute_certificates then layout.now.certificates else None)) result }
+    ensures memory { MemoryOnlyIf (StartsCertificates bytes.entry.now (if opts.now.parse_attribute_certificates then layout.now.certificates else None)) result }
 {
     if !opts.parse_attribute_certificates {
         return Ok(Vec::new(alloc));
@@ -115,8 +115,8 @@ fn certificates<'a, A: Allocator + Copy>(
         return Ok(Vec::new(alloc));
     };
     // The address of this directory is a file offset, not an RVA: certificates are not part of the loaded image.
-    let place = directory.virtual_address as usize;
-    let parsed = enumerate_certificates(alloc, bytes, place, directory.size as usize);
+    let offset = directory.virtual_address as usize;
+    let parsed = enumerate_certificates(alloc, bytes, offset, directory.size as usize);
     match opts.parse_mode.none_if_refused(parsed)? {
         Some(found) => Ok(found),
         None => Ok(Vec::new(alloc)),
@@ -132,7 +132,7 @@ pub fn resource_data<'a, A: Allocator + Copy + Drop>(
     sections: &[SectionTable],
     layout: &Layout,
 ) -> Result<Option<ResourceData<'a>>>
-    ensures resources { GivesResources opts.now bytes.entry.now sections.now layout.now.file_alignment
+    ensures resources { ReturnsResources opts.now bytes.entry.now sections.now layout.now.file_alignment
         (if opts.now.parse_resources then layout.now.resources else None) result }
     ensures no_memory { MemoryOnlyIf ⊥ result }
 {
@@ -168,7 +168,7 @@ impl<'a, A: Allocator + Copy + Drop> FirstFields<'a, A> {
         layout: &Layout,
     ) -> Result<FirstFields<'a, A>>
         requires { layout.now ≡ layout_of (core_view core.now).header.optional_header }
-        ensures fields { GivesUnlessMemory first_fields_view result (first_fields_in_turn bytes.entry.now opts.now (core_view core.now)) }
+        ensures fields { ReturnsUnlessMemory first_fields_view result (first_fields_in_turn bytes.entry.now opts.now (core_view core.now)) }
         ensures memory { MemoryOnlyIf (HasCertificates bytes.entry.now opts.now (core_view core.now).header.optional_header) result }
     {
         let machine = core.header.coff_header.machine;

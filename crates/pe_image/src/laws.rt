@@ -24,7 +24,7 @@ ghost use Rattle.pe_image.specs.Headline.{AreDerived, IsPermissive};
 ghost use Rattle.pe_image.specs.Image.{HasLibraries, ImageView, core_part, AreResourcesOf, IsImage, certificates_of, debug_of, exceptions_of, image_view, libraries_of, relocations_of};
 ghost use Rattle.pe_image.specs.Overlay.{EndsInZeros, LeavesOverlay, Piece, all_fit, overlay};
 ghost use Rattle.pe_image.specs.Pieces.{all_certificate_pieces, all_section_pieces};
-ghost use Rattle.pe_image.specs.Writing.{AreAligned, GivesWritten, certificate_directory, certificates_written, clash, image_pieces, image_written, sections_written};
+ghost use Rattle.pe_image.specs.Writing.{AreAligned, ReturnsWritten, certificate_directory, certificates_written, clash, image_pieces, image_written, sections_written};
 ghost use Rattle.pe_image.specs.WritingSteps.{put_in_turn};
 ghost use Rattle.pe_image.specs.declared.pe.PE.{PE};
 
@@ -51,11 +51,11 @@ pub fn headline_calls()
     ensures entries { (b : List ℕ) (o : ParseOptions) (c : CoreView) (x : ImageView) (v : ExceptionView) → core_of b o ≡ Ok c → IsImage b o (Ok x) →
         x.exception_data ≡ Some v → length (functions (table_of v)) ≡ v.size / 12 }
     ensures image { (b old new : List ℕ) (x : ImageView) (h : OptionalHeaderView) (r : Result ℕ Error) → x.header.optional_header ≡ Some h →
-        GivesWritten r (image_written b x old) old new → LeavesOverlay (image_pieces b x.header h x.sections x.certificates) r old new }
+        ReturnsWritten r (image_written b x old) old new → LeavesOverlay (image_pieces b x.header h x.sections x.certificates) r old new }
     ensures sections { (b old new : List ℕ) (sections : List SectionTable) (unit : Option ℕ) (offset : ℕ) (r : Result ℕ Error) →
-        GivesWritten r (sections_written b sections unit offset old) old new → LeavesOverlay (all_section_pieces b unit offset sections) r old new }
+        ReturnsWritten r (sections_written b sections unit offset old) old new → LeavesOverlay (all_section_pieces b unit offset sections) r old new }
     ensures certificates { (old new : List ℕ) (x : ImageView) (h : OptionalHeaderView) (r : Result ℕ Error) → x.header.optional_header ≡ Some h →
-        GivesWritten r (certificates_written x old) old new → LeavesOverlay (all_certificate_pieces (certificate_directory h) x.certificates) r old new }
+        ReturnsWritten r (certificates_written x old) old new → LeavesOverlay (all_certificate_pieces (certificate_directory h) x.certificates) r old new }
 {
     pe_unwind::laws::x64::exception_data_are_of_their_bytes();
 }

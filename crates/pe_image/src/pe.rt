@@ -10,8 +10,8 @@ ghost use Rattle.pe_resource.specs.Resources.{resource_view};
 ghost use Rattle.pe_image.specs.FieldSteps.{first_fields_view};
 ghost use Rattle.pe_image.specs.Core.{sections_read};
 ghost use Rattle.pe_image.specs.CoreParts.{core_view, CoreHasLibraries};
-ghost use Rattle.pe_image.specs.Image.{image_of, image_view, source_of, HasLibraries, GivesImage};
-ghost use Rattle.pe_image.specs.ImageSteps.{GivesBehindCore};
+ghost use Rattle.pe_image.specs.Image.{image_of, image_view, source_of, HasLibraries, ReturnsImage};
+ghost use Rattle.pe_image.specs.ImageSteps.{ReturnsAfterCore};
 ghost use Rattle.pe_image.specs.LayoutParts.{layout_of};
 ghost use Rattle.pe_image.specs.Memory.{AsksForMemory, HasCertificates, MemoryOnlyIf};
 
@@ -171,7 +171,7 @@ impl<'a, A: Allocator + Copy + Drop> PE<'a, A> {
         core: Core<'a, A>,
     ) -> Result<PE<'a, A>>
         requires { CoreHasLibraries core }
-        ensures image { GivesBehindCore bytes.entry.now opts.now (core_view core.entry) result }
+        ensures image { ReturnsAfterCore bytes.entry.now opts.now (core_view core.entry) result }
         ensures memory { MemoryOnlyIf (HasCertificates bytes.entry.now opts.now (core_view core.entry).header.optional_header) result }
         ensures libraries { IfOk result HasLibraries }
         ensures source { IfOk result (λ p. source_of p ≡ bytes.entry.now) }
@@ -185,7 +185,7 @@ impl<'a, A: Allocator + Copy + Drop> PE<'a, A> {
     /// Reads the image in `bytes`, a whole file, in strict mode and with all directories. Errors: those of
     /// `parse_with_opts` in strict mode, in the same order.
     pub fn parse(alloc: A, bytes: &'a [u8]) -> Result<PE<'a, A>>
-        ensures image { GivesImage bytes.entry.now default_options result }
+        ensures image { ReturnsImage bytes.entry.now default_options result }
         ensures memory { MemoryOnlyIf (AsksForMemory bytes.entry.now default_options) result }
         ensures sections { IfOk result (λ p. sections_read bytes.entry.now default_options ≡ Ok (image_view p).sections) }
         ensures libraries { IfOk result HasLibraries }
@@ -205,7 +205,7 @@ impl<'a, A: Allocator + Copy + Drop> PE<'a, A> {
     /// both modes, and only if the headers and the section headers are valid. An allocation failure never empties a
     /// field.
     pub fn parse_with_opts(alloc: A, bytes: &'a [u8], opts: &ParseOptions) -> Result<PE<'a, A>>
-        ensures image { GivesImage bytes.entry.now opts.now result }
+        ensures image { ReturnsImage bytes.entry.now opts.now result }
         ensures memory { MemoryOnlyIf (AsksForMemory bytes.entry.now opts.now) result }
         ensures sections { IfOk result (λ p. sections_read bytes.entry.now opts.now ≡ Ok (image_view p).sections) }
         ensures libraries { IfOk result HasLibraries }

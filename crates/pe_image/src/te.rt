@@ -2,7 +2,7 @@
 //! offsets in the file still count from the start of the PE image. `TE::parse` subtracts the bytes that the file is
 //! shorter.
 
-ghost use Rattle.pe_core.specs.Refusals.{GivesUnlessMemoryAfter};
+ghost use Rattle.pe_core.specs.Refusals.{ReturnsUnlessMemoryAfter};
 
 use pe_core::{ParseOptions, Result, SectionTable, TeHeader};
 use pe_records::DebugData;
@@ -23,14 +23,14 @@ pub struct TE<'a, A: Allocator + Copy + Drop = Global> {
 }
 
 impl<'a, A: Allocator + Copy + Drop> TE<'a, A> {
-    ghost use Rattle.pe_image.specs.Terse.{terse_view, terse_sections, terse_of};
+    ghost use Rattle.pe_image.specs.Te.{te_view, te_sections, te_of};
 
     /// Reads the TE image in `bytes`, a whole file. Errors, in this order: those of the header, `Short`, `BadMagic`,
     /// `TeSize`; `Short` if the section headers are truncated; `Memory`; those of the debug data. The debug data is
     /// read with `ParseOptions::te`: in strict mode, and with RVAs as file offsets.
-    #[tactic(auto, using(crate::proofs::NoMemory::terse_header_owes_nothing), unfolding(crate::specs::Terse::terse_of, pe_core::specs::TerseHeader::te_sections_of))]
+    #[tactic(auto, using(crate::proofs::NoMemory::te_header_owes_nothing), unfolding(crate::specs::Te::te_of, pe_core::specs::TeImages::te_sections_of))]
     pub fn parse(alloc: A, bytes: &'a [u8]) -> Result<TE<'a, A>>
-        ensures { GivesUnlessMemoryAfter (terse_sections bytes.entry.now) terse_view result (terse_of bytes.entry.now) }
+        ensures { ReturnsUnlessMemoryAfter (te_sections bytes.entry.now) te_view result (te_of bytes.entry.now) }
     {
         let header = TeHeader::parse(bytes)?;
         let sections = header.sections(alloc, bytes)?;

@@ -13,12 +13,12 @@ mod sections;
 
 ghost use Rattle.std.specs.Prelude.{◌≡◌, ◌<◌, [], ◌∷◌, IsTrue, OnOk, Some, length, map};
 ghost use Rattle.pe_core.specs.Header.{header_view, optional_header_view};
-ghost use Rattle.pe_core.specs.Refusals.{Gives, WriteFit, outcome};
+ghost use Rattle.pe_core.specs.Refusals.{Returns, WriteFit, outcome};
 ghost use Rattle.pe_records.specs.Certificates.{certificate_view};
 ghost use Rattle.pe_image.specs.Overlay.{all_fit};
 ghost use Rattle.pe_image.specs.WritingSteps.{put_in_turn};
 ghost use Rattle.pe_image.specs.Image.{image_view, source_of};
-ghost use Rattle.pe_image.specs.Writing.{Moves, GivesWritten, all_in_source, certificates_written, image_by, image_end, image_pieces, image_tests, image_written, sections_written};
+ghost use Rattle.pe_image.specs.Writing.{Moves, ReturnsWritten, all_in_source, certificates_written, image_by, image_end, image_pieces, image_tests, image_written, sections_written};
 
 use crate::pe::PE;
 use crate::write::certificates::{require_table, set_table, write_table};
@@ -36,7 +36,7 @@ impl<'a, A: Allocator + Copy + Drop> PE<'a, A> {
     /// Errors, in this order, each of which leaves the buffer as it was: `NoOptionalHeader`; `WriteFit` if the
     /// certificates don't all fit into the buffer.
     pub fn write_certificates(&self, buffer: &mut [u8]) -> Result<usize>
-        ensures { GivesWritten result (certificates_written (image_view self.now) buffer.old) buffer.old buffer.new }
+        ensures { ReturnsWritten result (certificates_written (image_view self.now) buffer.old) buffer.old buffer.new }
     {
         match &self.header.optional_header {
             None => Err(Error::Malformed(Reason::NoOptionalHeader)),
@@ -62,7 +62,7 @@ impl<'a, A: Allocator + Copy + Drop> PE<'a, A> {
         offset: &mut usize,
         file_alignment: Option<usize>,
     ) -> Result<usize>
-        ensures written { GivesWritten result (sections_written (source_of self.now) (image_view self.now).sections file_alignment offset.old buffer.old) buffer.old buffer.new }
+        ensures written { ReturnsWritten result (sections_written (source_of self.now) (image_view self.now).sections file_alignment offset.old buffer.old) buffer.old buffer.new }
         ensures offset { Moves result offset.old offset.new }
     {
         let writer = SectionWriter {
@@ -93,11 +93,11 @@ impl<'a, A: Allocator + Copy + Drop> PE<'a, A> {
     fn require_pieces(&self, buffer: &[u8], optional: &OptionalHeader) -> Result<usize>
         requires unit { 0 < optional.now.windows_fields.file_alignment }
         requires inside { IsTrue (all_in_source (source_of self.now) self.now.sections.items) }
-        ensures { Gives (λ end. end) result
+        ensures { Returns (λ end. end) result
             (outcome ((all_fit (length buffer.now) (image_pieces (source_of self.now) (header_view self.now.header) (optional_header_view optional.now) self.now.sections.items (map certificate_view self.now.certificates.items)), WriteFit) ∷ []) (image_end (header_view self.now.header) (optional_header_view optional.now) self.now.sections.items (map certificate_view self.now.certificates.items))) }
     {
         require_headers(buffer, &self.header, optional)?;
-        let table = self.header.sections_place();
+        let table = self.header.sections_offset();
         self.section_writer(optional).require(buffer, table)?;
         let directory = optional.data_directories.get_certificate_table();
         let end = require_table(buffer, directory, &self.certificates)?;
@@ -107,7 +107,7 @@ impl<'a, A: Allocator + Copy + Drop> PE<'a, A> {
     /// Tests for all errors of `write_into` but the first, in their order. Returns what `write_into` returns.
     #[tactic(auto, using(crate::proofs::WrittenImages::positive), unfolding(crate::specs::Writing::image_tests))]
     fn require_image(&self, buffer: &[u8], optional: &OptionalHeader) -> Result<usize>
-        ensures answer { Gives (λ end. end) result
+        ensures returned { Returns (λ end. end) result
             (outcome (image_tests (source_of self.now) (header_view self.now.header) (optional_header_view optional.now) self.now.sections.items (length buffer.now) (image_pieces (source_of self.now) (header_view self.now.header) (optional_header_view optional.now) self.now.sections.items (map certificate_view self.now.certificates.items))) (image_end (header_view self.now.header) (optional_header_view optional.now) self.now.sections.items (map certificate_view self.now.certificates.items))) }
         ensures unit { OnOk result (0 < optional.now.windows_fields.file_alignment) }
         ensures inside { OnOk result (IsTrue (all_in_source (source_of self.now) self.now.sections.items)) }
@@ -134,7 +134,7 @@ impl<'a, A: Allocator + Copy + Drop> PE<'a, A> {
     {
         set_headers(buffer, &self.header, optional);
         self.section_writer(optional)
-            .set(buffer, self.header.sections_place());
+            .set(buffer, self.header.sections_offset());
         let directory = optional.data_directories.get_certificate_table();
         set_table(buffer, directory, &self.certificates);
     }
@@ -142,7 +142,7 @@ impl<'a, A: Allocator + Copy + Drop> PE<'a, A> {
     /// Writes the image with this optional header.
     #[tactic(auto, unfolding(crate::specs::Writing::image_tests))]
     fn write_with(&self, buffer: &mut [u8], optional: &OptionalHeader) -> Result<usize>
-        ensures { GivesWritten result (image_by (Some (optional_header_view optional.now)) (source_of self.now) (header_view self.now.header) self.now.sections.items (map certificate_view self.now.certificates.items) buffer.old) buffer.old buffer.new }
+        ensures { ReturnsWritten result (image_by (Some (optional_header_view optional.now)) (source_of self.now) (header_view self.now.header) self.now.sections.items (map certificate_view self.now.certificates.items) buffer.old) buffer.old buffer.new }
     {
         let end = self.require_image(buffer, optional)?;
         self.set_pieces(buffer, optional);
@@ -166,7 +166,7 @@ impl<'a, A: Allocator + Copy + Drop> PE<'a, A> {
     /// two unequal sections share a byte of the file; `WriteSection` if the data of a section is not in the file that
     /// the image was read from; `WriteFit` if the pieces don't all fit into the buffer.
     pub fn write_into(&self, buffer: &mut [u8]) -> Result<usize>
-        ensures { GivesWritten result (image_written (source_of self.now) (image_view self.now) buffer.old) buffer.old buffer.new }
+        ensures { ReturnsWritten result (image_written (source_of self.now) (image_view self.now) buffer.old) buffer.old buffer.new }
     {
         match &self.header.optional_header {
             None => Err(Error::Malformed(Reason::NoOptionalHeader)),

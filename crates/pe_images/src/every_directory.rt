@@ -31,7 +31,7 @@ fn headers_of_all(alloc: Global) -> Result<Vec<u8>, AllocError> {
 }
 
 /// Two functions, exports at 0x300 with two names, imports at 0x400 from two libraries, resources at 0x500, relocations at
-/// 0x600, three debug entries at 0x640 with their records behind, and two certificates at 0xA00.
+/// 0x600, three debug entries at 0x640 with their records after them, and two certificates at 0xA00.
 pub fn with_every_directory(alloc: Global) -> Result<Vec<u8>, AllocError> {
     let mut bytes = headers_of_all(alloc)?;
     let functions = with_functions(alloc)?;
@@ -87,8 +87,8 @@ pub fn with_every_directory(alloc: Global) -> Result<Vec<u8>, AllocError> {
     Ok(bytes)
 }
 
-/// The part of the library with every directory behind its headers, over zeros where the headers are.
-fn behind_headers(alloc: Global) -> Result<Vec<u8>, AllocError> {
+/// The part of the library with every directory after its headers, over zeros where the headers are.
+fn after_headers(alloc: Global) -> Result<Vec<u8>, AllocError> {
     let mut bytes = with_every_directory(alloc)?;
     for byte in bytes.iter_mut().take(0x200) {
         *byte = 0;
@@ -99,7 +99,7 @@ fn behind_headers(alloc: Global) -> Result<Vec<u8>, AllocError> {
 /// A library of PE32 with every directory but the exceptions. Its debug entries have records of PDB 2.0, counts of VC
 /// features, extended characteristics, a hash of Repro and parts of POGO.
 pub fn with_every_directory_of_x86(alloc: Global) -> Result<Vec<u8>, AllocError> {
-    let mut bytes = behind_headers(alloc)?;
+    let mut bytes = after_headers(alloc)?;
     put(
         &mut bytes,
         &[

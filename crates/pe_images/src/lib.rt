@@ -8,19 +8,19 @@ pub use every_directory::{
     with_every_directory, with_every_directory_and_records, with_every_directory_of_arm64,
     with_every_directory_of_x86,
 };
-pub use objects::{object, terse, terse_with_debug};
+pub use objects::{object, te, te_with_debug};
 use std::alloc::{AllocError, Global};
 
-/// Puts each part at its place. What does not fit is left out.
+/// Puts each part at its offset. What does not fit is left out.
 pub fn put(bytes: &mut [u8], parts: &[(usize, &[u8])]) {
-    for (place, part) in parts {
-        for (byte, slot) in part.iter().zip(bytes.iter_mut().skip(*place)) {
+    for (offset, part) in parts {
+        for (byte, slot) in part.iter().zip(bytes.iter_mut().skip(*offset)) {
             *slot = *byte;
         }
     }
 }
 
-/// Zeros, with the parts at their places.
+/// Zeros, with the parts at their offsets.
 pub fn image(alloc: Global, len: usize, parts: &[(usize, &[u8])]) -> Result<Vec<u8>, AllocError> {
     let mut bytes = vec![in alloc; 0; len]?;
     put(&mut bytes, parts);
@@ -85,7 +85,7 @@ pub fn with_debug(alloc: Global) -> Result<Vec<u8>, AllocError> {
     )
 }
 
-/// The same with a certificate behind its section.
+/// The same with a certificate after its section.
 pub fn with_certificate(alloc: Global) -> Result<Vec<u8>, AllocError> {
     let mut bytes = with_debug(alloc)?;
     let certificate = [9, 0, 0, 0, 0, 2, 2, 0, 0xAA];
@@ -154,7 +154,7 @@ pub fn with_imports(alloc: Global) -> Result<Vec<u8>, AllocError> {
     Ok(bytes)
 }
 
-/// The data of a resource directory, for an image whose addresses are places: version information of the version
+/// The data of a resource directory, for an image whose RVAs are file offsets: version information of the version
 /// 3.11.3150.0, whose comments are `B`, and the manifest `<a>`.
 pub fn resources(alloc: Global) -> Result<Vec<u8>, AllocError> {
     let entries = [

@@ -1,10 +1,10 @@
-//! A terse image and an object.
+//! A TE image and an object.
 
 use crate::{image, put};
 use std::alloc::{AllocError, Global};
 
-/// A terse image of 80 bytes with one section, of which 0x100 bytes of headers more than its own were dropped.
-pub fn terse(alloc: Global) -> Result<Vec<u8>, AllocError> {
+/// A TE image of 80 bytes with one section, of which 0x100 bytes of headers more than its own were dropped.
+pub fn te(alloc: Global) -> Result<Vec<u8>, AllocError> {
     image(
         alloc,
         80,
@@ -17,10 +17,10 @@ pub fn terse(alloc: Global) -> Result<Vec<u8>, AllocError> {
     )
 }
 
-/// The same with the debug entries of a record of PDB 7.0 and of a time stamp, at 0x50 and behind. The first has its
-/// address 0x100 above the record's place 0x90, and a place of the file that leads nowhere.
-pub fn terse_with_debug(alloc: Global) -> Result<Vec<u8>, AllocError> {
-    let mut bytes = image(alloc, 0xAE, &[(0, &terse(alloc)?)])?;
+/// The same with the debug entries of a record of PDB 7.0 and of a time stamp, at 0x50 and after. The first has its
+/// RVA 0x100 above the record's offset 0x90, and a file offset that leads nowhere.
+pub fn te_with_debug(alloc: Global) -> Result<Vec<u8>, AllocError> {
+    let mut bytes = image(alloc, 0xAE, &[(0, &te(alloc)?)])?;
     put(
         &mut bytes,
         &[
@@ -36,7 +36,7 @@ pub fn terse_with_debug(alloc: Global) -> Result<Vec<u8>, AllocError> {
     Ok(bytes)
 }
 
-/// An object of 220 bytes that an assembler made: one section, seven rows of symbols, and one long name.
+/// An object of 220 bytes that an assembler made: one section, seven entries of symbols, and one long name.
 pub fn object(alloc: Global) -> Result<Vec<u8>, AllocError> {
     image(
         alloc,

@@ -76,7 +76,7 @@ pub plan_cycle : (law : RecordLaw) (t : Table) (b : List ℕ) (f : RuntimeFuncti
 plan_cycle law t b f (Ok is) p = (λ e. cc, λ never. absurd (ends law t b f None is p tt never))
 plan_cycle law t b f (Err Memory) p = (λ e. cc, λ never. absurd (ends law t b f None p.0 p.1 tt never))
 plan_cycle law t b f (Err FunctionCycle) p = (λ e. p, λ never. refl)
-plan_cycle law t b f (Err fault) p = (λ e. cc, λ never. absurd (ends law t b f (Some p.0) p.1.0 p.1.1 (fault, (λ e. cc), p.2) never))
+plan_cycle law t b f (Err refusal) p = (λ e. cc, λ never. absurd (ends law t b f (Some p.0) p.1.0 p.1.1 (refusal, (λ e. cc), p.2) never))
 
 pub found_cycle : (law : RecordLaw) (t : Table) (b : List ℕ) (found : Option RuntimeFunction) (x : Result (Option (List UnwindInfoView)) Refusal) → PlansFound t b found x → (x ≡ Err FunctionCycle) ↔ IsSomeAnd found (NeverEnds t b)
 found_cycle law t b None x p = (λ e. absurd (let clash : Path (Result (Option (List UnwindInfoView)) Refusal) (Ok None) (Err FunctionCycle) = sym p ∙ e in cc), λ never. absurd never)

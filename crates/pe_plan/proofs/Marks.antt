@@ -78,8 +78,8 @@ pub comes_to_root : (t : Table) (b : List ℕ) (f current : RuntimeFunction) (is
 comes_to_root t b f current is i saved m u root = chain_more t b (Some f) None current is i m.chain u root
 
 -- a record that is refused
-pub comes_to_fault : (law : RecordLaw) (t : Table) (b : List ℕ) (f current : RuntimeFunction) (is : List UnwindInfoView) (k : Refusal) (saved : ℕ) → Marked t b f is current saved → Unwinds t b current.unwind_info_address (Err k) → Counts t b f (Err k)
-comes_to_fault law t b f current is Memory saved m u = law.no_memory t b current.unwind_info_address u
-comes_to_fault law t b f current is FunctionCycle saved m u =
+pub comes_to_refusal : (law : RecordLaw) (t : Table) (b : List ℕ) (f current : RuntimeFunction) (is : List UnwindInfoView) (k : Refusal) (saved : ℕ) → Marked t b f is current saved → Unwinds t b current.unwind_info_address (Err k) → Counts t b f (Err k)
+comes_to_refusal law t b f current is Memory saved m u = law.no_memory t b current.unwind_info_address u
+comes_to_refusal law t b f current is FunctionCycle saved m u =
     inr (current, (is, m.chain), (law.cycle t b current.unwind_info_address (Err FunctionCycle) u).0 refl)
-comes_to_fault law t b f current is fault saved m u = (current, (is, m.chain), u)
+comes_to_refusal law t b f current is refusal saved m u = (current, (is, m.chain), u)

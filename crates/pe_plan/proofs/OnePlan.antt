@@ -36,7 +36,7 @@ cycle_or_ends : (t : Table) (b : List ℕ) (f : RuntimeFunction) (x : Result (Li
 cycle_or_ends t b f (Ok is) p there = inr (record { records = is; end = None; chain = p; stops = tt; answers = refl })
 cycle_or_ends t b f (Err Memory) p there = absurd (there refl)
 cycle_or_ends t b f (Err FunctionCycle) p there = inl refl
-cycle_or_ends t b f (Err fault) p there = inr (record { records = p.1.0; end = Some p.0; chain = p.1.1; stops = (fault, (λ e. cc), p.2); answers = (fault, p.2, refl) })
+cycle_or_ends t b f (Err refusal) p there = inr (record { records = p.1.0; end = Some p.0; chain = p.1.1; stops = (refusal, (λ e. cc), p.2); answers = (refusal, p.2, refl) })
 
 one_answer : (law : RecordLaw) (t : Table) (b : List ℕ) (is js : List UnwindInfoView) (end final : Option RuntimeFunction) (x y : Result (List UnwindInfoView) Refusal) → is ≡ js → end ≡ final → Answers t b is end x → Answers t b js final y → x ≡ y
 one_answer law t b is js None None x y same at v w = v ∙ ap (λ (rs : List UnwindInfoView). Ok rs) same ∙ sym w
@@ -44,7 +44,7 @@ one_answer law t b is js None (Some g) x y same at v w = cc
 one_answer law t b is js (Some f) None x y same at v w = cc
 one_answer law t b is js (Some f) (Some g) x y same at v w =
     let here : f ≡ g = cc in
-    let fault = law.one t b g.unwind_info_address (Err v.0) (Err w.0) (rw here at v.1) w.1 in
+    let refusal = law.one t b g.unwind_info_address (Err v.0) (Err w.0) (rw here at v.1) w.1 in
     let kind : v.0 ≡ w.0 = cc in
     v.2 ∙ ap (λ (k : Refusal). Err k) kind ∙ sym w.2
 

@@ -6,8 +6,8 @@ use Rattle.pe_core.specs.Refusals.{Refusal, Memory, FunctionCycle, outcome, ◌>
 use Rattle.pe_unwind.specs.declared.function_table.RuntimeFunction.{RuntimeFunction}
 use Rattle.pe_unwind.specs.FunctionTable.{function_at}
 use Rattle.pe_unwind.specs.Links.{Table}
-use Rattle.pe_unwind.specs.UnwindRecord.{Exception, Termination, UnwindInfoView, Ending, behind_codes, ending_at, flags_at, handles_exceptions, handles_termination, is_chained, unwind_record, unwind_tests}
-use Rattle.pe_unwind.specs.Unwinding.{Unwinds, record_at_address, record_at_place}
+use Rattle.pe_unwind.specs.UnwindRecord.{Exception, Termination, UnwindInfoView, Ending, after_codes, ending_at, flags_at, handles_exceptions, handles_termination, is_chained, unwind_record, unwind_tests}
+use Rattle.pe_unwind.specs.Unwinding.{Unwinds, record_at_address, record_at_offset}
 use Rattle.pe_plan.specs.Plans.{IsChain, PlansFrom}
 use Rattle.pe_plan.proofs.Chains.{one_more}
 use Rattle.pe_plan.proofs.Rings.{AreBelow, below_more, many_go_on}
@@ -47,21 +47,21 @@ small_ending b q flags small = small_by_flags b q (is_chained flags) (handles_ex
 
 small_record : (b : List ℕ) (p : ℕ) → AreBytes b → IsSmall (unwind_record b p).chained_info
 unfolding unwind_record
-small_record b p small = small_ending b (behind_codes b p) (flags_at b p) small
+small_record b p small = small_ending b (after_codes b p) (flags_at b p) small
 
 tested : (tests : List (Bool × Refusal)) (x v : UnwindInfoView) → outcome tests x ≡ Ok v → x ≡ v
 tested [] x v h = cc
 tested ((true, refusal) ∷ tests) x v h = tested tests x v h
 tested ((false, refusal) ∷ tests) x v h = absurd cc
 
-small_at : (b : List ℕ) (place : Option ℕ) (i : UnwindInfoView) → AreBytes b → Ok i ≡ record_at_place b place → IsSmall i.chained_info
+small_at : (b : List ℕ) (offset : Option ℕ) (i : UnwindInfoView) → AreBytes b → Ok i ≡ record_at_offset b offset → IsSmall i.chained_info
 small_at b None i small e = absurd cc
 small_at b (Some p) i small e =
     subst (λ (j : UnwindInfoView). IsSmall j.chained_info) (tested (unwind_tests b p) (unwind_record b p) i (sym e)) (small_record b p small)
 
 small_at_end : (t : Table) (b : List ℕ) (i : UnwindInfoView) (end : Result ℕ Refusal) → AreBytes b → Ok i ≡ (end >>= record_at_address t b) → IsSmall i.chained_info
 small_at_end t b i (Err k) small e = absurd cc
-small_at_end t b i (Ok a) small e = small_at b (t.place a) i small e
+small_at_end t b i (Ok a) small e = small_at b (t.offset a) i small e
 
 small_next : (t : Table) (b : List ℕ) (u : ℕ) (i : UnwindInfoView) → AreBytes b → Unwinds t b u (Ok i) → IsSmall i.chained_info
 small_next t b u i small w = small_at_end t b i w.0 small w.2
@@ -98,7 +98,7 @@ by_refusal : (law : RecordLaw) (t : Table) (b : List ℕ) (f current : RuntimeFu
 by_refusal law t b f current is Memory chain u = absurd (law.no_memory t b current.unwind_info_address u)
 by_refusal law t b f current is FunctionCycle chain u =
     (Err FunctionCycle, inr (current, (is, chain), (law.cycle t b current.unwind_info_address (Err FunctionCycle) u).0 refl), λ e. cc)
-by_refusal law t b f current is fault chain u = (Err fault, (current, (is, chain), u), λ e. cc)
+by_refusal law t b f current is refusal chain u = (Err refusal, (current, (is, chain), u), λ e. cc)
 
 by_record : (law : RecordLaw) (t : Table) (b : List ℕ) (f : RuntimeFunction) (n m : ℕ) (r : Reached t b f n m) (x : Result UnwindInfoView Refusal) → AreBytes b → 2 ^ 32 ≤ n → Unwinds t b r.current.unwind_info_address x → Reached t b f n (suc m) ⊎ Planned t b f
 by_record law t b f n m r (Err k) small big u = inr (by_refusal law t b f r.current r.records k r.chain u)

@@ -149,7 +149,7 @@ takes_all t b f count records current s all = ends_at t b f count records s.rest
 pub counted : (t : Table) (b : List ℕ) (f : RuntimeFunction) (k : Refusal) → Counts t b f (Err k) → PlansFrom t b f (Err k)
 counted t b f Memory c = absurd c
 counted t b f FunctionCycle c = c
-counted t b f fault c = c
+counted t b f refusal c = c
 
 pub taken : (t : Table) (b : List ℕ) (f : RuntimeFunction) (n : ℕ) (x : Result (List UnwindInfoView) Refusal) → HasLength t b f n → Takes t b f x → PlansFrom t b f x
 taken t b f n (Ok is) h s = s

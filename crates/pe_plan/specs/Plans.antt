@@ -45,7 +45,7 @@ abbrev pub PlansFrom : Table → List ℕ → RuntimeFunction → Result (List U
 PlansFrom t b f (Ok is) = IsChain t b (Some f) is None
 PlansFrom t b f (Err Memory) = (is : List UnwindInfoView) × IsChain t b (Some f) is None
 PlansFrom t b f (Err FunctionCycle) = NeverEnds t b f
-PlansFrom t b f (Err fault) = (g : RuntimeFunction) × ComesTo t b (Some f) g × Unwinds t b g.unwind_info_address (Err fault)
+PlansFrom t b f (Err refusal) = (g : RuntimeFunction) × ComesTo t b (Some f) g × Unwinds t b g.unwind_info_address (Err refusal)
 
 -- the same for the function that lookup found, if it found one
 abbrev pub PlansFound : Table → List ℕ → Option RuntimeFunction → Result (Option (List UnwindInfoView)) Refusal → Type 0

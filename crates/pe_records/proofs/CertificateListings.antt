@@ -2,11 +2,11 @@
 use Rattle.std.proofs.Common.{Bool, cond, ◌≡◌, ℕ, zero, suc, ◌+◌, ◌<◌, ◌≤◌, true, false, nat_lt, nat_le, inl, inr, length, map, slice_get, Some, List, [], ◌∷◌, ◌++◌, Result, Ok, Err, Vec, refl, ap, sym, ◌∙◌, subst, arith}
 use Rattle.std.proofs.lemmas.Bool.Decides.{nat_tests}
 use Rattle.std.proofs.lemmas.List.{length-append, map_push}
-use Rattle.pe_core.specs.Refusals.{Refusal, Memory, CertificateTable, kind_of, IfMemory, GivesUnlessMemory, ◌>>=◌}
+use Rattle.pe_core.specs.Refusals.{Refusal, Memory, CertificateTable, kind_of, IfMemory, ReturnsUnlessMemory, ◌>>=◌}
 use Rattle.pe_core.specs.declared.error.Error.{Error}
 use Rattle.pe_core.specs.declared.error.Error.TheVariants as errors
 use Rattle.pe_records.specs.declared.certificate_table.AttributeCertificate.{AttributeCertificate}
-use Rattle.pe_records.specs.Certificates.{CertificateView, certificate_at, certificate, certificate_tests, Stand, IsListing, CannotGoOn, IsRefused, ListingBegins, certificates_from, certificates_at, certificate_view, Lists}
+use Rattle.pe_records.specs.Certificates.{CertificateView, certificate_at, certificate, certificate_tests, Stand, IsListing, CannotGoOn, IsRefused, ListingStarts, certificates_from, certificates_at, certificate_view, Lists}
 
 -- the certificates stand one behind the other from p on, each begins before the end, and the last ends at q
 abbrev pub StandFrom : List ℕ → ℕ → ℕ → List CertificateView → ℕ → Type 0
@@ -34,64 +34,64 @@ shifted p f zero = p
 shifted p f (suc i) = f i
 
 pub record Placed (b : List ℕ) (end p : ℕ) (cs : List CertificateView) (q : ℕ) : Type 0 where
-  pub place : ℕ → ℕ
-  pub first : place 0 ≡ p
-  pub stand : Stand b end place cs
-  pub last : place (length cs) ≡ q
+  pub offset : ℕ → ℕ
+  pub first : offset 0 ≡ p
+  pub stand : Stand b end offset cs
+  pub last : offset (length cs) ≡ q
 
 shifted_before : (end p : ℕ) (f : ℕ → ℕ) (n : ℕ) → p < end → ((i : ℕ) → i < n → f i < end) → (i : ℕ) → i < suc n → shifted p f i < end
 shifted_before end p f n h k zero lt = h
 shifted_before end p f n h k (suc i) lt = k i (omega arith)
 
-shifted_behind : (b : List ℕ) (p : ℕ) (f : ℕ → ℕ) (c : CertificateView) (cs : List CertificateView) → certificate_at b p ≡ Ok (c, f 0) → ((i : ℕ) (d : CertificateView) → slice_get cs i ≡ Some d → certificate_at b (f i) ≡ Ok (d, f (suc i))) → (i : ℕ) (d : CertificateView) → slice_get (c ∷ cs) i ≡ Some d → certificate_at b (shifted p f i) ≡ Ok (d, shifted p f (suc i))
-shifted_behind b p f c cs e k zero d same = let is : c ≡ d = cc in rw (← is) e
-shifted_behind b p f c cs e k (suc i) d same = k i d same
+shifted_after : (b : List ℕ) (p : ℕ) (f : ℕ → ℕ) (c : CertificateView) (cs : List CertificateView) → certificate_at b p ≡ Ok (c, f 0) → ((i : ℕ) (d : CertificateView) → slice_get cs i ≡ Some d → certificate_at b (f i) ≡ Ok (d, f (suc i))) → (i : ℕ) (d : CertificateView) → slice_get (c ∷ cs) i ≡ Some d → certificate_at b (shifted p f i) ≡ Ok (d, shifted p f (suc i))
+shifted_after b p f c cs e k zero d same = let is : c ≡ d = cc in rw (← is) e
+shifted_after b p f c cs e k (suc i) d same = k i d same
 
 pub placed : (b : List ℕ) (end p : ℕ) (cs : List CertificateView) (q : ℕ) → StandFrom b end p cs q → Placed b end p cs q
 placed b end p [] q s = record {
-  place = λ i. p;
+  offset = λ i. p;
   first = refl;
-  stand = record { before_end = λ i h. absurd (omega arith); behind = λ i c h. cc };
+  stand = record { before_end = λ i h. absurd (omega arith); after = λ i c h. cc };
   last = s;
 }
 placed b end p (c ∷ cs) q s =
     let rest : Placed b end s.1 cs q = placed b end s.1 cs q s.3 in
-    let here : certificate_at b p ≡ Ok (c, rest.place 0) = rw rest.first s.2 in
+    let here : certificate_at b p ≡ Ok (c, rest.offset 0) = rw rest.first s.2 in
     record {
-      place = shifted p rest.place;
+      offset = shifted p rest.offset;
       first = refl;
       stand = record {
-        before_end = shifted_before end p rest.place (length cs) s.0 rest.stand.before_end;
-        behind = shifted_behind b p rest.place c cs here rest.stand.behind;
+        before_end = shifted_before end p rest.offset (length cs) s.0 rest.stand.before_end;
+        after = shifted_after b p rest.offset c cs here rest.stand.after;
       };
       last = rest.last;
     }
 
-pub unplaced : (b : List ℕ) (end : ℕ) (place : ℕ → ℕ) (cs : List CertificateView) → Stand b end place cs → StandFrom b end (place 0) cs (place (length cs))
-unplaced b end place [] s = refl
-unplaced b end place (c ∷ cs) s = (
+pub unplaced : (b : List ℕ) (end : ℕ) (offset : ℕ → ℕ) (cs : List CertificateView) → Stand b end offset cs → StandFrom b end (offset 0) cs (offset (length cs))
+unplaced b end offset [] s = refl
+unplaced b end offset (c ∷ cs) s = (
   s.before_end 0 (omega arith),
-  place 1,
-  s.behind 0 c refl,
-  unplaced b end (λ i. place (suc i)) cs (record { before_end = λ i h. s.before_end (suc i) (omega arith); behind = λ i d h. s.behind (suc i) d h }),
+  offset 1,
+  s.after 0 c refl,
+  unplaced b end (λ i. offset (suc i)) cs (record { before_end = λ i h. s.before_end (suc i) (omega arith); after = λ i d h. s.after (suc i) d h }),
 )
 
 pub listing : (b : List ℕ) (address size end : ℕ) (cs : List CertificateView) (q : ℕ) → address + size ≤ length b → end ≡ address + size → StandFrom b end address cs q → end ≤ q → IsListing b address size cs
 listing b address size end cs q h same s k =
     let is : Placed b (address + size) address cs q = placed b (address + size) address cs q (rw same at s) in
-    record { within = h; place = is.place; first = is.first; stand = is.stand; last = omega (arith, is.last) }
+    record { within = h; offset = is.offset; first = is.first; stand = is.stand; last = omega (arith, is.last) }
 
 pub refused : (b : List ℕ) (address size end : ℕ) (cs : List CertificateView) (q : ℕ) (r : Refusal) → address + size ≤ length b → end ≡ address + size → StandFrom b end address cs q → q < end → certificate_at b q ≡ Err r → CannotGoOn b address size r
 refused b address size end cs q r h same s k e =
     let is : Placed b (address + size) address cs q = placed b (address + size) address cs q (rw same at s) in
-    record { within = h; certificates = cs; place = is.place; first = is.first; stand = is.stand; last = omega (arith, is.last); refused = rw is.last e }
+    record { within = h; certificates = cs; offset = is.offset; first = is.first; stand = is.stand; last = omega (arith, is.last); refused = rw is.last e }
 
 -- where there is room for one more and it is read, a beginning stands
-pub begun : (b : List ℕ) (address size end : ℕ) (cs : List CertificateView) (c : CertificateView) (q r : ℕ) → address + size ≤ length b → end ≡ address + size → StandFrom b end address cs q → q < end → certificate_at b q ≡ Ok (c, r) → ListingBegins b address size
+pub begun : (b : List ℕ) (address size end : ℕ) (cs : List CertificateView) (c : CertificateView) (q r : ℕ) → address + size ≤ length b → end ≡ address + size → StandFrom b end address cs q → q < end → certificate_at b q ≡ Ok (c, r) → ListingStarts b address size
 begun b address size end cs c q r h same s k e =
     let more : StandFrom b end address (cs ++ c ∷ []) r = stand_push b end address cs c q r s k e in
     let is : Placed b (address + size) address (cs ++ c ∷ []) r = placed b (address + size) address (cs ++ c ∷ []) r (rw same at more) in
-    record { within = h; certificates = cs ++ c ∷ []; some = omega (arith, length-append cs (c ∷ [])); place = is.place; first = is.first; stand = is.stand }
+    record { within = h; certificates = cs ++ c ∷ []; some = omega (arith, length-append cs (c ∷ [])); offset = is.offset; first = is.first; stand = is.stand }
 
 -- a certificate is not refused for memory
 not_for_memory : (b : List ℕ) (p : ℕ) → certificate_at b p ≡ Err Memory → ⊥
@@ -139,15 +139,15 @@ outside m n h = grind (arith, nat_tests)
 pub listing_is : (b : List ℕ) (address size : ℕ) (cs : List CertificateView) → IsListing b address size cs → certificates_at b address size ≡ Ok cs
 unfolding certificates_at
 listing_is b address size cs l =
-    let s : StandFrom b (address + size) address cs (l.place (length cs)) = rw l.first at (unplaced b (address + size) l.place cs l.stand) in
-    rw (inside (address + size) (length b) l.within) (from_is b (address + size) size address cs (l.place (length cs)) s l.last (omega arith))
+    let s : StandFrom b (address + size) address cs (l.offset (length cs)) = rw l.first at (unplaced b (address + size) l.offset cs l.stand) in
+    rw (inside (address + size) (length b) l.within) (from_is b (address + size) size address cs (l.offset (length cs)) s l.last (omega arith))
 
 cannot_go_on : (b : List ℕ) (address size : ℕ) (r : Refusal) → CannotGoOn b address size r → certificates_at b address size ≡ Err r
 unfolding certificates_at
 cannot_go_on b address size r l =
     let cs : List CertificateView = l.certificates in
-    let s : StandFrom b (address + size) address cs (l.place (length cs)) = rw l.first at (unplaced b (address + size) l.place cs l.stand) in
-    rw (inside (address + size) (length b) l.within) (from_refuses b (address + size) size address cs (l.place (length cs)) r s l.last l.refused (omega arith))
+    let s : StandFrom b (address + size) address cs (l.offset (length cs)) = rw l.first at (unplaced b (address + size) l.offset cs l.stand) in
+    rw (inside (address + size) (length b) l.within) (from_refuses b (address + size) size address cs (l.offset (length cs)) r s l.last l.refused (omega arith))
 
 past : (b : List ℕ) (address size : ℕ) → length b < address + size → certificates_at b address size ≡ Err CertificateTable
 unfolding certificates_at
@@ -158,7 +158,7 @@ refusal_is b address size r (inl h) = past b address size h.0 ∙ ap (λ (x : Re
 refusal_is b address size r (inr h) = cannot_go_on b address size r h
 
 -- what lists a table gives its listing
-pub listed_is : {Z : Type 0} (b : List ℕ) (address size : ℕ) (r : Result (Vec AttributeCertificate Z) Error) → Lists b address size r → GivesUnlessMemory (λ (v : Vec AttributeCertificate Z). map certificate_view v.items) r (certificates_at b address size)
+pub listed_is : {Z : Type 0} (b : List ℕ) (address size : ℕ) (r : Result (Vec AttributeCertificate Z) Error) → Lists b address size r → ReturnsUnlessMemory (λ (v : Vec AttributeCertificate Z). map certificate_view v.items) r (certificates_at b address size)
 listed_is b address size (Ok v) l = listing_is b address size (map certificate_view v.items) l
 listed_is b address size (Err (errors.Malformed x)) l = refusal_is b address size (kind_of (errors.Malformed x)) l.0
 listed_is b address size (Err (errors.BadMagic x)) l = refusal_is b address size (kind_of (errors.BadMagic x)) l.0

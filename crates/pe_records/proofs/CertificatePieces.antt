@@ -62,8 +62,8 @@ three_pieces b p c h =
     let h8 : length (spell_certificate c) ≡ 8 = length-spell c in
     let two : splice (splice b p (spell_certificate c)) (p + 8) c.body ≡ splice b p (spell_certificate c ++ c.body) =
     ap (λ (n : ℕ). splice (splice b p (spell_certificate c)) (p + n) c.body) (sym h8) ∙ splice-splice b p (spell_certificate c) c.body h in
-    let place : p + 8 + length c.body ≡ p + length (spell_certificate c ++ c.body) = simp length-append (omega arith) in
-    sym (rw (two, place) (splice-splice b p (spell_certificate c ++ c.body) (padding c) h))
+    let offset : p + 8 + length c.body ≡ p + length (spell_certificate c ++ c.body) = simp length-append (omega arith) in
+    sym (rw (two, offset) (splice-splice b p (spell_certificate c ++ c.body) (padding c) h))
 
 -- the first of several certificates, and then the others
 pub in_turn : (b : List ℕ) (p : ℕ) (c : CertificateView) (cs : List CertificateView) → p ≤ length b → splice b p (written_certificates (c ∷ cs)) ≡ splice (splice b p (written_certificate c)) (p + written_length c) (written_certificates cs)

@@ -14,24 +14,24 @@ use Rattle.pe_records.proofs.CertificatePieces.{length_written}
 use Rattle.pe_records.specs.CertificateWriting.{spell_certificate, padding, written_certificate, written_certificates, written_length, IsWhole}
 
 -- an element behind a front
-behind : (f xs : List ℕ) (p i k : ℕ) → length f ≡ p → k ≡ p + i → get_or (f ++ xs) k 0 ≡ get_or xs i 0
-behind f xs p i k e j = subst (λ (n : ℕ). get_or (f ++ xs) n 0 ≡ get_or xs i 0) (ap (λ (n : ℕ). n + i) e ∙ sym j) (get_or-append-add f xs i 0)
+after : (f xs : List ℕ) (p i k : ℕ) → length f ≡ p → k ≡ p + i → get_or (f ++ xs) k 0 ≡ get_or xs i 0
+after f xs p i k e j = subst (λ (n : ℕ). get_or (f ++ xs) n 0 ≡ get_or xs i 0) (ap (λ (n : ℕ). n + i) e ∙ sym j) (get_or-append-add f xs i 0)
 
 -- the numbers that stand behind a front
 le_four : (f xs : List ℕ) (p i n : ℕ) → length f ≡ p → get_or xs i 0 ≡ n % 256 → get_or xs (i + 1) 0 ≡ n / 256 % 256 → get_or xs (i + 2) 0 ≡ n / 256 / 256 % 256 → get_or xs (i + 3) 0 ≡ n / 256 / 256 / 256 % 256 → n < 2 ^ 32 → le (f ++ xs) (p + i) 4 ≡ n
 unfolding le
 le_four f xs p i n e a0 a1 a2 a3 small =
-    let b0 = behind f xs p i (p + i + 0) e (omega arith) in
-    let b1 = behind f xs p (i + 1) (p + i + 1) e (omega arith) in
-    let b2 = behind f xs p (i + 2) (p + i + 2) e (omega arith) in
-    let b3 = behind f xs p (i + 3) (p + i + 3) e (omega arith) in
+    let b0 = after f xs p i (p + i + 0) e (omega arith) in
+    let b1 = after f xs p (i + 1) (p + i + 1) e (omega arith) in
+    let b2 = after f xs p (i + 2) (p + i + 2) e (omega arith) in
+    let b3 = after f xs p (i + 3) (p + i + 3) e (omega arith) in
     omega arith
 
 le_two : (f xs : List ℕ) (p i n : ℕ) → length f ≡ p → get_or xs i 0 ≡ n % 256 → get_or xs (i + 1) 0 ≡ n / 256 % 256 → n < 2 ^ 16 → le (f ++ xs) (p + i) 2 ≡ n
 unfolding le
 le_two f xs p i n e a0 a1 small =
-    let b0 = behind f xs p i (p + i + 0) e (omega arith) in
-    let b1 = behind f xs p (i + 1) (p + i + 1) e (omega arith) in
+    let b0 = after f xs p i (p + i + 0) e (omega arith) in
+    let b1 = after f xs p (i + 1) (p + i + 1) e (omega arith) in
     omega arith
 
 pub record RevisionKept (r : AttributeCertificateRevision) : Type 0 where
@@ -72,9 +72,9 @@ body_is f h m z p n e l k =
     ap (λ (i : ℕ). take i (drop (p + 8) (f ++ (h ++ (m ++ z))))) s ∙ ap (take n) d ∙ take_at m z n k
 
 -- a certificate that is written behind a front
-read_behind : (f tail : List ℕ) (p : ℕ) (c : CertificateView) → IsWhole c → p % 8 ≡ 0 → length f ≡ p → certificate_at (f ++ (written_certificate c ++ tail)) p ≡ Ok (c, p + written_length c)
+read_after : (f tail : List ℕ) (p : ℕ) (c : CertificateView) → IsWhole c → p % 8 ≡ 0 → length f ≡ p → certificate_at (f ++ (written_certificate c ++ tail)) p ≡ Ok (c, p + written_length c)
 unfolding spell_certificate bytes_of
-read_behind f tail p c w m front =
+read_after f tail p c w m front =
     let fits : c.length < 2 ^ 32 = w.fits in
     let size : length c.body ≡ c.length - 8 = w.body in
     let h : List ℕ = spell_certificate c in
@@ -92,7 +92,7 @@ read_behind f tail p c w m front =
 
 pub read_again : (b : List ℕ) (p : ℕ) (c : CertificateView) → IsWhole c → p % 8 ≡ 0 → p + written_length c ≤ length b → certificate_at (splice b p (written_certificate c)) p ≡ Ok (c, p + written_length c)
 unfolding splice
-read_again b p c w m room = read_behind (take p b) (drop (p + length (written_certificate c)) b) p c w m (length-take-le p b (omega arith))
+read_again b p c w m room = read_after (take p b) (drop (p + length (written_certificate c)) b) p c w m (length-take-le p b (omega arith))
 
 -- ---- what is read is whole
 
@@ -123,31 +123,31 @@ whole b p c q small e =
     let r : Read b p c q = read b p c q e in
     record { fits = omega (arith, le_small b p small, r.size); body = ap length r.body ∙ range_length b (p + 8) (c.length - 8) r.inside }
 
-pub next_place : (b : List ℕ) (p : ℕ) (c : CertificateView) (q : ℕ) → AreBytes b → p % 8 ≡ 0 → certificate_at b p ≡ Ok (c, q) → q ≡ p + written_length c
-next_place b p c q small m e =
+pub next_offset : (b : List ℕ) (p : ℕ) (c : CertificateView) (q : ℕ) → AreBytes b → p % 8 ≡ 0 → certificate_at b p ≡ Ok (c, q) → q ≡ p + written_length c
+next_offset b p c q small m e =
     let r : Read b p c q = read b p c q e in
     let w : IsWhole c = whole b p c q small e in
     omega (arith, r.next, w.body)
 
 -- ---- certificates that are written one behind the other
 
-listed_behind : (b : List ℕ) (end p : ℕ) (cs : List CertificateView) (q : ℕ) (f tail : List ℕ) → AreBytes b → StandFrom b end p cs q → p % 8 ≡ 0 → length f ≡ p → StandFrom (f ++ (written_certificates cs ++ tail)) end p cs q
-listed_behind b end p [] q f tail small s m front = s
-listed_behind b end p (c ∷ cs) q f tail small s m front =
+listed_after : (b : List ℕ) (end p : ℕ) (cs : List CertificateView) (q : ℕ) (f tail : List ℕ) → AreBytes b → StandFrom b end p cs q → p % 8 ≡ 0 → length f ≡ p → StandFrom (f ++ (written_certificates cs ++ tail)) end p cs q
+listed_after b end p [] q f tail small s m front = s
+listed_after b end p (c ∷ cs) q f tail small s m front =
     let w : IsWhole c = whole b p c s.1 small s.2 in
-    let next : s.1 ≡ p + written_length c = next_place b p c s.1 small m s.2 in
+    let next : s.1 ≡ p + written_length c = next_offset b p c s.1 small m s.2 in
     let rest : List ℕ = written_certificates cs in
     let bytes : f ++ (written_certificates (c ∷ cs) ++ tail) ≡ f ++ (written_certificate c ++ (rest ++ tail)) = ap (λ (x : List ℕ). f ++ x) (append_assoc (written_certificate c) rest tail) in
     let moved : (f ++ written_certificate c) ++ (rest ++ tail) ≡ f ++ (written_certificates (c ∷ cs) ++ tail) = append_assoc f (written_certificate c) (rest ++ tail) ∙ sym bytes in
-    let here : certificate_at (f ++ (written_certificates (c ∷ cs) ++ tail)) p ≡ Ok (c, s.1) = rw (bytes, next) (read_behind f (rest ++ tail) p c w m front) in
+    let here : certificate_at (f ++ (written_certificates (c ∷ cs) ++ tail)) p ≡ Ok (c, s.1) = rw (bytes, next) (read_after f (rest ++ tail) p c w m front) in
     let long : length (f ++ written_certificate c) ≡ s.1 = omega (arith, length-append f (written_certificate c), length_written c, front, next) in
-    (s.0, s.1, here, subst (λ (x : List ℕ). StandFrom x end s.1 cs q) moved (listed_behind b end s.1 cs q (f ++ written_certificate c) tail small s.3 (omega (arith, next, m)) long))
+    (s.0, s.1, here, subst (λ (x : List ℕ). StandFrom x end s.1 cs q) moved (listed_after b end s.1 cs q (f ++ written_certificate c) tail small s.3 (omega (arith, next, m)) long))
 
 pub listed_again : (b old : List ℕ) (address size : ℕ) (cs : List CertificateView) → AreBytes b → address % 8 ≡ 0 → IsListing b address size cs → address + size ≤ length old → address + length (written_certificates cs) ≤ length old → IsListing (splice old address (written_certificates cs)) address size cs
 unfolding splice
 listed_again b old address size cs small m l room fit =
-    let s : StandFrom b (address + size) address cs (l.place (length cs)) = rw l.first at (unplaced b (address + size) l.place cs l.stand) in
+    let s : StandFrom b (address + size) address cs (l.offset (length cs)) = rw l.first at (unplaced b (address + size) l.offset cs l.stand) in
     let tail : List ℕ = drop (address + length (written_certificates cs)) old in
     let long : address + size ≤ length (take address old ++ (written_certificates cs ++ tail)) = simp (length-append, length-take, length-drop) (omega arith) in
-    listing (take address old ++ (written_certificates cs ++ tail)) address size (address + size) cs (l.place (length cs)) long refl
-    (listed_behind b (address + size) address cs (l.place (length cs)) (take address old) tail small s m (length-take-le address old (omega arith))) l.last
+    listing (take address old ++ (written_certificates cs ++ tail)) address size (address + size) cs (l.offset (length cs)) long refl
+    (listed_after b (address + size) address cs (l.offset (length cs)) (take address old) tail small s m (length-take-le address old (omega arith))) l.last

@@ -12,7 +12,7 @@ use Rattle.pe_core.specs.declared.options.ParseOptions.{ParseOptions}
 use Rattle.pe_core.specs.declared.section_table.SectionTable.{SectionTable}
 use Rattle.pe_records.specs.declared.debug.ImageDebugDirectory.{ImageDebugDirectory}
 use Rattle.pe_records.specs.DebugDirectory.{directory_range, directory_table, range_at, first_of_type}
-use Rattle.pe_records.specs.DebugRecords.{DebugFields, Pdb70, Pdb20, pdb70_record, pdb20_record, pdb70_of, pdb20_of, of_entry, records, debug_data, record_place}
+use Rattle.pe_records.specs.DebugRecords.{DebugFields, Pdb70, Pdb20, pdb70_record, pdb20_record, pdb70_of, pdb20_of, of_entry, records, debug_data, record_offset}
 
 -- the same options in a mode
 abbrev in_mode : ParseMode → ParseOptions → ParseOptions
@@ -31,9 +31,9 @@ bounded : (inside : Bool) (x y z : ByteRange) → (if inside then Ok x else Err 
 bounded true x y z e = e
 bounded false x y z e = absurd cc
 
-strict_range_at : (b : List ℕ) (size : ℕ) (place : Option ℕ) (r : ByteRange) → range_at b Strict size place ≡ Ok r → range_at b Permissive size place ≡ Ok r
+strict_range_at : (b : List ℕ) (size : ℕ) (offset : Option ℕ) (r : ByteRange) → range_at b Strict size offset ≡ Ok r → range_at b Permissive size offset ≡ Ok r
 strict_range_at b size None r e = e
-strict_range_at b size (Some place) r e = bounded (holds b place size) (record { place = place; length = size }) (record { place = min place (length b); length = length b - place }) r e
+strict_range_at b size (Some offset) r e = bounded (holds b offset size) (record { offset = offset; length = size }) (record { offset = min offset (length b); length = length b - offset }) r e
 
 strict_range : (o : ParseOptions) (b : List ℕ) (d : DataDirectory) (sections : List SectionTable) (alignment : ℕ) (r : ByteRange) → directory_range (in_mode Strict o) b d sections alignment ≡ Ok r → directory_range (in_mode Permissive o) b d sections alignment ≡ Ok r
 unfolding directory_range
@@ -54,10 +54,10 @@ unfolding pdb20_record
 strict_pdb20_record b p size x e = sized (nat_lt size 16) _ x e
 
 pub strict_pdb70 : (o : ParseOptions) (b : List ℕ) (e : ImageDebugDirectory) (x : Option Pdb70) → pdb70_of (record o { parse_mode = Strict }) b e ≡ Ok x → pdb70_of (record o { parse_mode = Permissive }) b e ≡ Ok x
-strict_pdb70 o b e x h = strict_pdb70_record b (record_place o.resolve_rva e) e.size_of_data x h
+strict_pdb70 o b e x h = strict_pdb70_record b (record_offset o.resolve_rva e) e.size_of_data x h
 
 pub strict_pdb20 : (o : ParseOptions) (b : List ℕ) (e : ImageDebugDirectory) (x : Option Pdb20) → pdb20_of (record o { parse_mode = Strict }) b e ≡ Ok x → pdb20_of (record o { parse_mode = Permissive }) b e ≡ Ok x
-strict_pdb20 o b e x h = strict_pdb20_record b (record_place o.resolve_rva e) e.size_of_data x h
+strict_pdb20 o b e x h = strict_pdb20_record b (record_offset o.resolve_rva e) e.size_of_data x h
 
 of_entry_too : {X : Type 0} (f g : ImageDebugDirectory → Result (Option X) Refusal) → ((e : ImageDebugDirectory) (x : Option X) → f e ≡ Ok x → g e ≡ Ok x) → (entry : Option ImageDebugDirectory) (x : Option X) → of_entry f entry ≡ Ok x → of_entry g entry ≡ Ok x
 of_entry_too f g h None x e = e

@@ -9,5 +9,5 @@ pub mod CertificateListings
 pub mod CertificatePieces
 pub mod CertificatesReadAgain
 pub mod FirstEntries
-pub mod PartsInPlace
+pub mod PartsInOffset
 pub mod DebugEquality

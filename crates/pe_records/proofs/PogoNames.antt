@@ -3,11 +3,11 @@ use Rattle.std.proofs.Common.{◌≡◌, ◌≢◌, ℕ, ◌+◌, ◌-◌, ◌<�
 use Rattle.std.proofs.lemmas.List.{get_or-take}
 use Rattle.pe_core.specs.Bytes.{le}
 use Rattle.pe_core.specs.SectionMap.{rounded_up}
-use Rattle.pe_records.specs.Pogo.{Entry, BeginsWith, BeginsWithNone}
+use Rattle.pe_records.specs.Pogo.{Entry, StartsWith, StartsWithNone}
 
 -- the entry whose name ends at the first zero behind the numbers
-pub begins_from : (b rest name : List ℕ) (r s k n : ℕ) → rest ≡ drop 8 b → k < length rest → get_or rest k 0 ≡ 0 → ((j : ℕ) → j < k → get_or rest j 0 ≢ 0) → name ≡ take (k + 1) rest → r ≡ le b 0 4 → s ≡ le b 4 4 → n ≡ rounded_up (8 + k + 1) 4 → n ≤ length b → BeginsWith b (record { rva = r; size = s; name = name }) n
-begins_from b rest name r s k n d lt here before is er es en whole =
+pub starts_from : (b rest name : List ℕ) (r s k n : ℕ) → rest ≡ drop 8 b → k < length rest → get_or rest k 0 ≡ 0 → ((j : ℕ) → j < k → get_or rest j 0 ≢ 0) → name ≡ take (k + 1) rest → r ≡ le b 0 4 → s ≡ le b 4 4 → n ≡ rounded_up (8 + k + 1) 4 → n ≤ length b → StartsWith b (record { rva = r; size = s; name = name }) n
+starts_from b rest name r s k n d lt here before is er es en whole =
     let len : length name ≡ k + 1 = ap length is ∙ length-take-le (k + 1) rest (omega arith) in
     let at : (j : ℕ) → j < k + 1 → get_or name j 0 ≡ get_or rest j 0 = λ j h. ap (λ (x : List ℕ). get_or x j 0) is ∙ get_or-take (k + 1) rest j 0 h in
     let last : length name - 1 ≡ k = omega arith in
@@ -25,11 +25,11 @@ begins_from b rest name r s k n d lt here before is er es en whole =
     }
 
 -- a byte of the name is one of the bytes behind the numbers
-in_rest : (b : List ℕ) (e : Entry) (n k : ℕ) → BeginsWith b e n → k < length e.name → get_or e.name k 0 ≡ get_or (drop 8 b) k 0
+in_rest : (b : List ℕ) (e : Entry) (n k : ℕ) → StartsWith b e n → k < length e.name → get_or e.name k 0 ≡ get_or (drop 8 b) k 0
 in_rest b e n k h lt = ap (λ (x : List ℕ). get_or x k 0) h.name ∙ get_or-take (length e.name) (drop 8 b) k 0 lt
 
 -- no name is shorter than another
-not_shorter : (b : List ℕ) (e f : Entry) (n m : ℕ) → BeginsWith b e n → BeginsWith b f m → length e.name < length f.name → ⊥
+not_shorter : (b : List ℕ) (e f : Entry) (n m : ℕ) → StartsWith b e n → StartsWith b f m → length e.name < length f.name → ⊥
 not_shorter b e f n m h k lt =
     let i : ℕ = length e.name - 1 in
     let some : 0 < length e.name = h.named.some in
@@ -46,8 +46,8 @@ entry_from_fields e f p q r =
     ∙ ap (λ (x : List ℕ). let y : Entry = record { rva = f.rva; size = f.size; name = x } in y) r
 
 -- bytes begin with one entry
-pub begins_once : (b : List ℕ) (e f : Entry) (n m : ℕ) → BeginsWith b e n → BeginsWith b f m → (e ≡ f) × (n ≡ m)
-begins_once b e f n m h k =
+pub starts_once : (b : List ℕ) (e f : Entry) (n m : ℕ) → StartsWith b e n → StartsWith b f m → (e ≡ f) × (n ≡ m)
+starts_once b e f n m h k =
     let up : length e.name ≤ length f.name = not_above (length f.name) (length e.name) (not_shorter b f e m n k h) in
     let down : length f.name ≤ length e.name = not_above (length e.name) (length f.name) (not_shorter b e f n m h k) in
     let same : length e.name ≡ length f.name = omega arith in (
@@ -56,19 +56,19 @@ begins_once b e f n m h k =
     )
 
 -- a rest that is too short, or has no zero, or is cut, begins with no entry
-pub none_short : (b : List ℕ) → length b < 8 → BeginsWithNone b
+pub none_short : (b : List ℕ) → length b < 8 → StartsWithNone b
 none_short b lt = λ e n h. let whole : n ≤ length b = h.whole in let padded : n ≡ rounded_up (8 + length e.name) 4 = h.padded in omega arith
 
-pub none_unended : (b rest : List ℕ) → rest ≡ drop 8 b → ((j : ℕ) → j < length rest → get_or rest j 0 ≢ 0) → BeginsWithNone b
-none_unended b rest d all = λ e n h.
+pub none_unterminated : (b rest : List ℕ) → rest ≡ drop 8 b → ((j : ℕ) → j < length rest → get_or rest j 0 ≢ 0) → StartsWithNone b
+none_unterminated b rest d all = λ e n h.
     let some : 0 < length e.name = h.named.some in
     let whole : n ≤ length b = h.whole in
     let padded : n ≡ rounded_up (8 + length e.name) 4 = h.padded in
     let long : length rest ≡ length b - 8 = ap length d ∙ length-drop 8 b in
     all (length e.name - 1) (omega arith) (ap (λ (x : List ℕ). get_or x (length e.name - 1) 0) d ∙ sym (in_rest b e n (length e.name - 1) h (omega arith)) ∙ h.named.last)
 
-pub none_cut : (b rest : List ℕ) (k : ℕ) → rest ≡ drop 8 b → k < length rest → get_or rest k 0 ≡ 0 → ((j : ℕ) → j < k → get_or rest j 0 ≢ 0) → length b < rounded_up (8 + k + 1) 4 → BeginsWithNone b
-none_cut b rest k d lt here before cut = λ e n h.
+pub none_truncated : (b rest : List ℕ) (k : ℕ) → rest ≡ drop 8 b → k < length rest → get_or rest k 0 ≡ 0 → ((j : ℕ) → j < k → get_or rest j 0 ≢ 0) → length b < rounded_up (8 + k + 1) 4 → StartsWithNone b
+none_truncated b rest k d lt here before cut = λ e n h.
     let whole : n ≤ length b = h.whole in
     let padded : n ≡ rounded_up (8 + length e.name) 4 = h.padded in
     let shorter : length e.name < k + 1 = omega arith in

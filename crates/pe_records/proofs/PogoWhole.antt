@@ -4,8 +4,8 @@ use Rattle.std.proofs.lemmas.Bool.{cases_lt}
 use Rattle.pe_core.specs.Bytes.{le}
 use Rattle.pe_core.specs.Refusals.{Refusal}
 use Rattle.pe_core.specs.SectionMap.{rounded_up}
-use Rattle.pe_records.specs.Pogo.{Entry, Entries, BeginsWith, BeginsWithNone, fault}
-use Rattle.pe_records.proofs.PogoNames.{begins_from, none_short, none_unended, none_cut}
+use Rattle.pe_records.specs.Pogo.{Entry, Entries, StartsWith, StartsWithNone, refusal}
+use Rattle.pe_records.proofs.PogoNames.{starts_from, none_short, none_unterminated, none_truncated}
 
 -- ---- the first zero of some bytes, if they have one
 
@@ -13,37 +13,37 @@ abbrev pub NoZeroBefore : List ℕ → ℕ → Type 0
 NoZeroBefore b k = (j : ℕ) → j < k → get_or b j 0 ≢ 0
 
 record FirstZero (b : List ℕ) : Type 0 where
-  pub place : ℕ
-  pub within : place < length b
-  pub here : get_or b place 0 ≡ 0
-  pub before : NoZeroBefore b place
+  pub offset : ℕ
+  pub within : offset < length b
+  pub here : get_or b offset 0 ≡ 0
+  pub before : NoZeroBefore b offset
 
-behind : (x k : ℕ) (b : List ℕ) → NoZeroBefore b k → NoZeroBefore (suc x ∷ b) (suc k)
-behind x k b h zero lt = λ e. omega (arith, e)
-behind x k b h (suc j) lt = h j (omega (arith, lt))
+after : (x k : ℕ) (b : List ℕ) → NoZeroBefore b k → NoZeroBefore (suc x ∷ b) (suc k)
+after x k b h zero lt = λ e. omega (arith, e)
+after x k b h (suc j) lt = h j (omega (arith, lt))
 
 zero_or_none : (b : List ℕ) → FirstZero b ⊎ NoZeroBefore b (length b)
 zero_or_none [] = inr (λ j h. absurd (omega (arith, h)))
-zero_or_none (zero ∷ b) = inl (record { place = 0; within = omega arith; here = refl; before = λ j h. absurd (omega (arith, h)) })
+zero_or_none (zero ∷ b) = inl (record { offset = 0; within = omega arith; here = refl; before = λ j h. absurd (omega (arith, h)) })
 zero_or_none (suc x ∷ b) = elim (zero_or_none b) [
-  | inl z ↦ inl (record { place = suc z.place; within = omega (arith, z.within); here = z.here; before = behind x z.place b z.before })
-  | inr h ↦ inr (behind x (length b) b h)
+  | inl z ↦ inl (record { offset = suc z.offset; within = omega (arith, z.within); here = z.here; before = after x z.offset b z.before })
+  | inr h ↦ inr (after x (length b) b h)
 ]
 
 -- ---- the entry at the front, if there is one
 
 abbrev pub Front : List ℕ → Type 0
-Front b = ((e : Entry) × (n : ℕ) × BeginsWith b e n) ⊎ BeginsWithNone b
+Front b = ((e : Entry) × (n : ℕ) × StartsWith b e n) ⊎ StartsWithNone b
 
 front_from : (b : List ℕ) → FirstZero (drop 8 b) → Front b
 front_from b z =
-    let n : ℕ = rounded_up (8 + z.place + 1) 4 in
+    let n : ℕ = rounded_up (8 + z.offset + 1) 4 in
     elim (cases_lt (length b) n) [
-      | inl h ↦ inr (none_cut b (drop 8 b) z.place refl z.within z.here z.before h)
+      | inl h ↦ inr (none_truncated b (drop 8 b) z.offset refl z.within z.here z.before h)
       | inr h ↦ inl (
-        record { rva = le b 0 4; size = le b 4 4; name = take (z.place + 1) (drop 8 b) },
+        record { rva = le b 0 4; size = le b 4 4; name = take (z.offset + 1) (drop 8 b) },
         n,
-        begins_from b (drop 8 b) (take (z.place + 1) (drop 8 b)) (le b 0 4) (le b 4 4) z.place n refl z.within z.here z.before refl refl refl refl h,
+        starts_from b (drop 8 b) (take (z.offset + 1) (drop 8 b)) (le b 0 4) (le b 4 4) z.offset n refl z.within z.here z.before refl refl refl refl h,
       )
     ]
 
@@ -52,7 +52,7 @@ front b = elim (cases_lt (length b) 8) [
   | inl h ↦ inr (none_short b h)
   | inr h ↦ elim (zero_or_none (drop 8 b)) [
     | inl z ↦ front_from b z
-    | inr none ↦ inr (none_unended b (drop 8 b) refl none)
+    | inr none ↦ inr (none_unterminated b (drop 8 b) refl none)
   ]
 ]
 
@@ -61,7 +61,7 @@ front b = elim (cases_lt (length b) 8) [
 abbrev pub Reading : List ℕ → Type 0
 Reading b = (xs : List (Result Entry Refusal)) × Entries b xs
 
-some_bytes : (b : List ℕ) (e : Entry) (n : ℕ) → BeginsWith b e n → 0 < n
+some_bytes : (b : List ℕ) (e : Entry) (n : ℕ) → StartsWith b e n → 0 < n
 some_bytes b e n h = let padded : n ≡ rounded_up (8 + length e.name) 4 = h.padded in omega arith
 
 -- the entry at the front, and those behind it
@@ -70,7 +70,7 @@ reading_step b some more = elim (front b) [
   | inl e ↦
       let rest = more e.1 (some_bytes b e.0 e.1 e.2) in
       (Ok e.0 ∷ rest.0, (some, e.1, e.2, rest.1))
-  | inr none ↦ (Err (fault b) ∷ [], (some, none, refl, refl))
+  | inr none ↦ (Err (refusal b) ∷ [], (some, none, refl, refl))
 ]
 
 reading_of : (n : ℕ) (b : List ℕ) → length b ≤ n → Reading b

@@ -80,14 +80,14 @@ unfoldable pub certificate_at : List ℕ → ℕ → Result (CertificateView × 
 certificate_at b p = outcome (certificate_tests b p) (certificate b p)
 
 -- the offset after a refusal at offset p: after the header, if there is one
-abbrev pub place_after_refusal : ℕ → Refusal → ℕ
-place_after_refusal p Short = p
-place_after_refusal p _ = p + 8
+abbrev pub offset_after_refusal : ℕ → Refusal → ℕ
+offset_after_refusal p Short = p
+offset_after_refusal p _ = p + 8
 
 -- what a parse at offset p returns, and where it leaves the offset
 abbrev pub Parses : List ℕ → ℕ → Result AttributeCertificate Error → ℕ → Type 0
 Parses b p (Ok c) after = certificate_at b p ≡ Ok (certificate_view c, after)
-Parses b p (Err e) after = (certificate_at b p ≡ Err (kind_of e)) × (after ≡ place_after_refusal p (kind_of e))
+Parses b p (Err e) after = (certificate_at b p ≡ Err (kind_of e)) × (after ≡ offset_after_refusal p (kind_of e))
 
 -- what finding the revision, and the type, of a number returns
 abbrev pub FindsRevision : ℕ → Result AttributeCertificateRevision Error → Type 0
@@ -100,48 +100,48 @@ FindsType n (Err e) = (is_type n ≡ false) × (kind_of e ≡ CertificateType)
 
 -- ---- the table
 
--- these certificates follow one another: certificate i is at `place i`, which is before the end, and the offset after
--- it is `place (suc i)`
-pub record Stand (b : List ℕ) (end : ℕ) (place : ℕ → ℕ) (cs : List CertificateView) : Type 0 where
-  pub before_end : (i : ℕ) → i < length cs → place i < end
-  pub behind : (i : ℕ) (c : CertificateView) → slice_get cs i ≡ Some c → certificate_at b (place i) ≡ Ok (c, place (suc i))
+-- these certificates follow one another: certificate i is at `offset i`, which is before the end, and the offset after
+-- it is `offset (suc i)`
+pub record Stand (b : List ℕ) (end : ℕ) (offset : ℕ → ℕ) (cs : List CertificateView) : Type 0 where
+  pub before_end : (i : ℕ) → i < length cs → offset i < end
+  pub after : (i : ℕ) (c : CertificateView) → slice_get cs i ≡ Some c → certificate_at b (offset i) ≡ Ok (c, offset (suc i))
 
--- these are the certificates of the table: they start at its offset, and the last place is not before its end
+-- these are the certificates of the table: they start at its offset, and the last offset is not before its end
 pub record IsListing (b : List ℕ) (address size : ℕ) (cs : List CertificateView) : Type 0 where
   pub within : address + size ≤ length b
-  pub place : ℕ → ℕ
-  pub first : place 0 ≡ address
-  pub stand : Stand b (address + size) place cs
-  pub last : address + size ≤ place (length cs)
+  pub offset : ℕ → ℕ
+  pub first : offset 0 ≡ address
+  pub stand : Stand b (address + size) offset cs
+  pub last : address + size ≤ offset (length cs)
 
 -- a listing can't go on: its first certificates are there, but none is at the offset after them, which is before the
 -- end
 pub record CannotGoOn (b : List ℕ) (address size : ℕ) (refusal : Refusal) : Type 0 where
   pub within : address + size ≤ length b
   pub certificates : List CertificateView
-  pub place : ℕ → ℕ
-  pub first : place 0 ≡ address
-  pub stand : Stand b (address + size) place certificates
-  pub last : place (length certificates) < address + size
-  pub refused : certificate_at b (place (length certificates)) ≡ Err refusal
+  pub offset : ℕ → ℕ
+  pub first : offset 0 ≡ address
+  pub stand : Stand b (address + size) offset certificates
+  pub last : offset (length certificates) < address + size
+  pub refused : certificate_at b (offset (length certificates)) ≡ Err refusal
 
 -- the refusal of a table: it ends past the file, or a listing can't go on
 abbrev pub IsRefused : List ℕ → ℕ → ℕ → Refusal → Type 0
 IsRefused b address size refusal = ((length b < address + size) × (refusal ≡ CertificateTable)) ⊎ CannotGoOn b address size refusal
 
 -- the table has the first certificates of a listing, one or more
-pub record ListingBegins (b : List ℕ) (address size : ℕ) : Type 0 where
+pub record ListingStarts (b : List ℕ) (address size : ℕ) : Type 0 where
   pub within : address + size ≤ length b
   pub certificates : List CertificateView
   pub some : 0 < length certificates
-  pub place : ℕ → ℕ
-  pub first : place 0 ≡ address
-  pub stand : Stand b (address + size) place certificates
+  pub offset : ℕ → ℕ
+  pub first : offset 0 ≡ address
+  pub stand : Stand b (address + size) offset certificates
 
 -- what listing a table returns; memory may run out, but is allocated only once a certificate of the table is read
 abbrev pub Lists : {Z : Type 0} → List ℕ → ℕ → ℕ → Result (Vec AttributeCertificate Z) Error → Type 0
 Lists b address size (Ok v) = IsListing b address size (map certificate_view v.items)
-Lists b address size (Err e) = UnlessMemory e (IsRefused b address size (kind_of e)) × IfMemory e (ListingBegins b address size)
+Lists b address size (Err e) = UnlessMemory e (IsRefused b address size (kind_of e)) × IfMemory e (ListingStarts b address size)
 
 -- ---- the same as a function, for definitions that go on from the list; it is proved to be the listing
 

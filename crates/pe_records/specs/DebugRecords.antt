@@ -22,8 +22,8 @@ use Rattle.pe_records.specs.declared.debug.records.ReproInfo.TheVariants as repr
 use Rattle.pe_records.specs.declared.debug.records.VCFeatureInfo.{VCFeatureInfo}
 
 -- the file offset of an entry's record
-abbrev pub record_place : Bool → ImageDebugDirectory → ℕ
-record_place resolve e = if resolve then e.pointer_to_raw_data else e.address_of_raw_data
+abbrev pub record_offset : Bool → ImageDebugDirectory → ℕ
+record_offset resolve e = if resolve then e.pointer_to_raw_data else e.address_of_raw_data
 
 -- a record that needs at least this many bytes, by the size in its entry
 abbrev pub of_least_size : {X : Type 0} → ParseMode → ℕ → ℕ → Result (Option X) Refusal → Result (Option X) Refusal
@@ -151,22 +151,22 @@ pogo_record b p size =
 
 -- each is read at the file offset of its entry's record
 abbrev pub pdb70_of : ParseOptions → List ℕ → ImageDebugDirectory → Result (Option Pdb70) Refusal
-pdb70_of o b e = pdb70_record o.parse_mode b (record_place o.resolve_rva e) e.size_of_data
+pdb70_of o b e = pdb70_record o.parse_mode b (record_offset o.resolve_rva e) e.size_of_data
 
 abbrev pub pdb20_of : ParseOptions → List ℕ → ImageDebugDirectory → Result (Option Pdb20) Refusal
-pdb20_of o b e = pdb20_record o.parse_mode b (record_place o.resolve_rva e) e.size_of_data
+pdb20_of o b e = pdb20_record o.parse_mode b (record_offset o.resolve_rva e) e.size_of_data
 
 abbrev pub features_of : ParseOptions → List ℕ → ImageDebugDirectory → Result VCFeatureInfo Refusal
-features_of o b e = features_record b (record_place o.resolve_rva e)
+features_of o b e = features_record b (record_offset o.resolve_rva e)
 
 abbrev pub characteristics_of : ParseOptions → List ℕ → ImageDebugDirectory → Result ExDllCharacteristicsInfo Refusal
-characteristics_of o b e = characteristics_record b (record_place o.resolve_rva e)
+characteristics_of o b e = characteristics_record b (record_offset o.resolve_rva e)
 
 abbrev pub repro_of : ParseOptions → List ℕ → ImageDebugDirectory → Result Repro Refusal
-repro_of o b e = repro_record b (record_place o.resolve_rva e) e
+repro_of o b e = repro_record b (record_offset o.resolve_rva e) e
 
 abbrev pub pogo_of : ParseOptions → List ℕ → ImageDebugDirectory → Result (Option Pogo) Refusal
-pogo_of o b e = pogo_record b (record_place o.resolve_rva e) e.size_of_data
+pogo_of o b e = pogo_record b (record_offset o.resolve_rva e) e.size_of_data
 
 -- ---- the records of a table: each of the first whole entry of its type
 
@@ -192,8 +192,8 @@ pub record DebugFields : Type 0 where
   pub pogo : Option Pogo
 
 -- the bytes of the table, and its fixup
-abbrev pub table_of : declared.DebugData → List ℕ
-table_of d = d.table.now
+abbrev pub debug_table_of : declared.DebugData → List ℕ
+debug_table_of d = d.table.now
 
 abbrev pub fixup_of_data : declared.DebugData → ℕ
 fixup_of_data d = d.rva_offset
@@ -201,7 +201,7 @@ fixup_of_data d = d.rva_offset
 -- these debug data as callers see them
 abbrev pub debug_view : declared.DebugData → DebugFields
 debug_view d = record {
-  table = table_of d;
+  table = debug_table_of d;
   fixup = fixup_of_data d;
   pdb70 = option_map pdb70_view d.codeview_pdb70_debug_info;
   pdb20 = option_map pdb20_view d.codeview_pdb20_debug_info;

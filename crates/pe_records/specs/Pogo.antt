@@ -14,8 +14,8 @@ pub record Entry : Type 0 where
   pub name : List ℕ
 
 -- this entry as callers see it
-abbrev pub entry_of : POGOInfoEntry → Entry
-entry_of e = record { rva = e.rva; size = e.size; name = e.name.now }
+abbrev pub pogo_entry_of : POGOInfoEntry → Entry
+pogo_entry_of e = record { rva = e.rva; size = e.size; name = e.name.now }
 
 -- a name's last byte is its only zero
 pub record IsName (name : List ℕ) : Type 0 where
@@ -24,7 +24,7 @@ pub record IsName (name : List ℕ) : Type 0 where
   pub only : (k : ℕ) → k + 1 < length name → slice_index name k ≢ 0
 
 -- the bytes start with the n bytes of an entry: two numbers, the name, and any bytes up to a multiple of four
-pub record BeginsWith (b : List ℕ) (e : Entry) (n : ℕ) : Type 0 where
+pub record StartsWith (b : List ℕ) (e : Entry) (n : ℕ) : Type 0 where
   pub rva : e.rva ≡ le b 0 4
   pub size : e.size ≡ le b 4 4
   pub named : IsName e.name
@@ -33,35 +33,35 @@ pub record BeginsWith (b : List ℕ) (e : Entry) (n : ℕ) : Type 0 where
   pub whole : n ≤ length b
 
 -- the bytes start with no entry
-abbrev pub BeginsWithNone : List ℕ → Type 0
-BeginsWithNone b = (e : Entry) (n : ℕ) → BeginsWith b e n → ⊥
+abbrev pub StartsWithNone : List ℕ → Type 0
+StartsWithNone b = (e : Entry) (n : ℕ) → StartsWith b e n → ⊥
 
 -- the refusal of a rest that starts with no entry
-abbrev pub fault : List ℕ → Refusal
-fault b = if nat_lt (length b) 8 then Short else PogoName
+abbrev pub refusal : List ℕ → Refusal
+refusal b = if nat_lt (length b) 8 then Short else PogoName
 
 -- these are the entries of a stream, and one refusal for a rest that starts with no entry
 abbrev pub Entries : List ℕ → List (Result Entry Refusal) → Type 0
 Entries b [] = b ≡ []
-Entries b (Ok e ∷ more) = (b ≢ []) × (n : ℕ) × BeginsWith b e n × Entries (drop n b) more
-Entries b (Err r ∷ more) = (b ≢ []) × BeginsWithNone b × (r ≡ fault b) × (more ≡ [])
+Entries b (Ok e ∷ more) = (b ≢ []) × (n : ℕ) × StartsWith b e n × Entries (drop n b) more
+Entries b (Err r ∷ more) = (b ≢ []) × StartsWithNone b × (r ≡ refusal b) × (more ≡ [])
 
 -- what one call of next returns, and the bytes that it leaves
-abbrev pub GivesPogoEntry : List ℕ → Option (Result POGOInfoEntry Error) → List ℕ → Type 0
-GivesPogoEntry b None left = (b ≡ []) × (left ≡ [])
-GivesPogoEntry b (Some (Ok e)) left = (b ≢ []) × (n : ℕ) × BeginsWith b (entry_of e) n × (left ≡ drop n b)
-GivesPogoEntry b (Some (Err e)) left = (b ≢ []) × BeginsWithNone b × (kind_of e ≡ fault b) × (left ≡ [])
+abbrev pub ReturnsPogoEntry : List ℕ → Option (Result POGOInfoEntry Error) → List ℕ → Type 0
+ReturnsPogoEntry b None left = (b ≡ []) × (left ≡ [])
+ReturnsPogoEntry b (Some (Ok e)) left = (b ≢ []) × (n : ℕ) × StartsWith b (pogo_entry_of e) n × (left ≡ drop n b)
+ReturnsPogoEntry b (Some (Err e)) left = (b ≢ []) × StartsWithNone b × (kind_of e ≡ refusal b) × (left ≡ [])
 
 -- what reading the entry at the start of the bytes returns
 abbrev pub Reads : List ℕ → Result (POGOInfoEntry × ℕ) Error → Type 0
-Reads b (Ok x) = BeginsWith b (entry_of x.0) x.1
-Reads b (Err e) = BeginsWithNone b × (kind_of e ≡ fault b)
+Reads b (Ok x) = StartsWith b (pogo_entry_of x.0) x.1
+Reads b (Err e) = StartsWithNone b × (kind_of e ≡ refusal b)
 
 -- the bytes that an iterator has left
-abbrev pub stream_of : POGOEntryIterator → List ℕ
-stream_of s = s.bytes.now
+abbrev pub pogo_bytes_left : POGOEntryIterator → List ℕ
+pogo_bytes_left s = s.bytes.now
 
 -- an item, with its error as a refusal
 abbrev pub stream_item_of : Result POGOInfoEntry Error → Result Entry Refusal
-stream_item_of (Ok e) = Ok (entry_of e)
+stream_item_of (Ok e) = Ok (pogo_entry_of e)
 stream_item_of (Err e) = Err (kind_of e)

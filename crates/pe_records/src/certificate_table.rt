@@ -4,12 +4,12 @@
 
 ghost use Rattle.std.specs.Prelude.{◌≡◌, ◌+◌, ◌-◌, ◌<◌, ◌≤◌, ◌^◌, [], ◌∷◌, ◌++◌, length, map, replicate};
 ghost use Rattle.pe_core.specs.Bytes.{holds, put};
-ghost use Rattle.pe_core.specs.Refusals.{WriteFit, outcome, Gives, GivesUnlessMemory};
+ghost use Rattle.pe_core.specs.Refusals.{WriteFit, outcome, Returns, ReturnsUnlessMemory};
 ghost use Rattle.pe_core.specs.SectionMap.{rounded_up};
 ghost use Rattle.pe_records.specs.Certificates.{FindsRevision, FindsType, Lists, certificate_view, certificates_at};
 
 use pe_core::{
-    Error, Reason, Result, data_at, number16, number32, require_bytes, require_room, rounded_up,
+    Error, Reason, Result, data_at, read_u16, read_u32, require_bytes, require_room, rounded_up,
 };
 use std::alloc::{Allocator, Global};
 
@@ -98,17 +98,17 @@ impl<'a> AttributeCertificate<'a> {
     pub fn parse(bytes: &'a [u8], offset: &mut usize) -> Result<AttributeCertificate<'a>>
         ensures { Parses bytes.entry.now offset.old result offset.new }
     {
-        let place = *offset;
-        require_bytes(bytes, place, 8)?;
-        let length = number32(bytes, place);
-        let revision = number16(bytes, place + 4);
-        let certificate_type = number16(bytes, place + 6);
-        *offset = place + 8;
+        let start = *offset;
+        require_bytes(bytes, start, 8)?;
+        let length = read_u32(bytes, start);
+        let revision = read_u16(bytes, start + 4);
+        let certificate_type = read_u16(bytes, start + 6);
+        *offset = start + 8;
         let body = length.saturating_sub(8) as usize;
-        let certificate = data_at(bytes, place + 8, body, Reason::CertificateSize(length))?;
+        let certificate = data_at(bytes, start + 8, body, Reason::CertificateSize(length))?;
         let revision = AttributeCertificateRevision::try_from(revision)?;
         let certificate_type = AttributeCertificateType::try_from(certificate_type)?;
-        *offset = rounded_up(place + 8 + body, UNIT);
+        *offset = rounded_up(start + 8 + body, UNIT);
         Ok(AttributeCertificate {
             length,
             revision,
@@ -153,18 +153,18 @@ impl<'a> AttributeCertificate<'a> {
     }
 
     /// Writes the header with `length` as it stands, the body, and zeros up to a multiple of eight bytes counted from
-    /// the offset `place`. Returns the offset after them. Errors: `WriteFit` if they do not fit in `out`; then nothing
+    /// the `offset`. Returns the offset after them. Errors: `WriteFit` if they do not fit in `out`; then nothing
     /// is changed.
     #[tactic(auto, using(crate::proofs::CertificatePieces::length_written), unfolding(pe_core::specs::Bytes::splice))]
-    pub fn write_into(&self, out: &mut [u8], place: usize) -> Result<usize>
-        ensures fit { Gives (λ end. end) result (written_end out.old place (certificate_view self.now)) }
-        ensures after { out.new ≡ put out.old place (written_certificate (certificate_view self.now)) }
+    pub fn write_into(&self, out: &mut [u8], offset: usize) -> Result<usize>
+        ensures fit { Returns (λ end. end) result (written_end out.old offset (certificate_view self.now)) }
+        ensures after { out.new ≡ put out.old offset (written_certificate (certificate_view self.now)) }
     {
         let size = rounded_up(8 + self.certificate.len(), UNIT);
-        require_room(out, place, size)?;
-        let end = place + size;
+        require_room(out, offset, size)?;
+        let end = offset + size;
         let header = self.header();
-        fill_piece(&mut out[place..end], header, self.certificate);
+        fill_piece(&mut out[offset..end], header, self.certificate);
         Ok(end)
     }
 }
@@ -207,7 +207,7 @@ pub fn enumerate_certificates<'a, A: Allocator>(
     size: usize,
 ) -> Result<CertificateDirectoryTable<'a, A>>
     ensures listing { Lists bytes.entry.now address size result }
-    ensures value { GivesUnlessMemory (λ certificates. map certificate_view certificates.items) result (certificates_at bytes.entry.now address size) }
+    ensures value { ReturnsUnlessMemory (λ certificates. map certificate_view certificates.items) result (certificates_at bytes.entry.now address size) }
 {
     certificates_of_table(alloc, bytes, address, size)
 }

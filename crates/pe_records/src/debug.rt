@@ -14,12 +14,12 @@ ghost use Rattle.std.specs.List.{find, range_with_len};
 ghost use Rattle.std.specs.Iterator.{at_most, UpTo};
 ghost use Rattle.std.specs.Iterator.SizeHint.{IsWithinCount};
 ghost use Rattle.std.specs.Option.{option_map};
-ghost use Rattle.pe_core.specs.Refusals.{Gives};
+ghost use Rattle.pe_core.specs.Refusals.{Returns};
 ghost use Rattle.pe_core.specs.Options.{default_options};
-ghost use Rattle.pe_core.specs.Places.{IsWithin};
-ghost use Rattle.pe_core.specs.TerseHeader.{reduced};
-ghost use Rattle.pe_records.specs.DebugDirectory.{entry_at, directory_range, directory_table, GivesEntry, rest_of, fixup_of, count, first_of_type};
-ghost use Rattle.pe_records.specs.DebugRecords.{debug_data, debug_view, record_place, records, table_of, fixup_of_data, of_entry, some_of_entry, pdb70_view, pdb70_of, pdb20_view, pdb20_of, features_of, characteristics_of, repro_view, repro_of, pogo_view, pogo_of};
+ghost use Rattle.pe_core.specs.Offsets.{IsWithin};
+ghost use Rattle.pe_core.specs.TeImages.{reduced};
+ghost use Rattle.pe_records.specs.DebugDirectory.{debug_entry_at, directory_range, directory_table, ReturnsEntry, debug_bytes_left, fixup_of, debug_entry_count, first_of_type};
+ghost use Rattle.pe_records.specs.DebugRecords.{debug_data, debug_view, record_offset, records, debug_table_of, fixup_of_data, of_entry, some_of_entry, pdb70_view, pdb70_of, pdb20_view, pdb20_of, features_of, characteristics_of, repro_view, repro_of, pogo_view, pogo_of};
 
 pub use codeview::{CodeviewPDB20DebugInfo, CodeviewPDB70DebugInfo};
 pub use constants::{
@@ -43,7 +43,7 @@ pub use constants::{
 use first_entries::FirstEntries;
 use pe_core::{
     ByteRange, DataDirectory, Error, ParseMode, ParseOptions, Reason, Result, SectionTable,
-    mapped_offset, number16, number32, require_bytes, split_entry,
+    mapped_offset, read_u16, read_u32, require_bytes, split_entry,
 };
 pub use pogo::{POGOEntryIterator, POGOInfo, POGOInfoEntry};
 pub use records::{ExDllCharacteristicsInfo, ReproInfo, VCFeatureInfo};
@@ -80,27 +80,27 @@ fn reduced(address: u32, fixup: u32) -> u32
 impl ImageDebugDirectory {
     /// Reads the entry at an offset where its 28 bytes are known to be. The fixup is subtracted from its RVA and its
     /// file offset.
-    #[tactic(auto, unfolding(crate::specs::DebugDirectory::entry_at))]
-    pub(crate) fn at(bytes: &[u8], place: usize, fixup: u32) -> ImageDebugDirectory
-        requires { place + 28 ≤ length bytes.now }
-        ensures { result ≡ entry_at fixup bytes.now place }
+    #[tactic(auto, unfolding(crate::specs::DebugDirectory::debug_entry_at))]
+    pub(crate) fn at(bytes: &[u8], offset: usize, fixup: u32) -> ImageDebugDirectory
+        requires { offset + 28 ≤ length bytes.now }
+        ensures { result ≡ debug_entry_at fixup bytes.now offset }
     {
         ImageDebugDirectory {
-            characteristics: number32(bytes, place),
-            time_date_stamp: number32(bytes, place + 4),
-            major_version: number16(bytes, place + 8),
-            minor_version: number16(bytes, place + 10),
-            data_type: number32(bytes, place + 12),
-            size_of_data: number32(bytes, place + 16),
-            address_of_raw_data: reduced(number32(bytes, place + 20), fixup),
-            pointer_to_raw_data: reduced(number32(bytes, place + 24), fixup),
+            characteristics: read_u32(bytes, offset),
+            time_date_stamp: read_u32(bytes, offset + 4),
+            major_version: read_u16(bytes, offset + 8),
+            minor_version: read_u16(bytes, offset + 10),
+            data_type: read_u32(bytes, offset + 12),
+            size_of_data: read_u32(bytes, offset + 16),
+            address_of_raw_data: reduced(read_u32(bytes, offset + 20), fixup),
+            pointer_to_raw_data: reduced(read_u32(bytes, offset + 24), fixup),
         }
     }
 
     /// The file offset of the entry's record: `pointer_to_raw_data` with `resolve_rva`, else `address_of_raw_data`, as
     /// in images whose RVAs are file offsets.
-    pub fn record_place(&self, opts: &ParseOptions) -> u32
-        ensures { result ≡ record_place opts.now.resolve_rva self.now }
+    pub fn record_offset(&self, opts: &ParseOptions) -> u32
+        ensures { result ≡ record_offset opts.now.resolve_rva self.now }
     {
         if opts.resolve_rva {
             self.pointer_to_raw_data
@@ -113,7 +113,7 @@ impl ImageDebugDirectory {
 /// The first whole entry of the type, in the order of the table.
 fn find_entry(bytes: &[u8], fixup: u32, data_type: u32) -> Option<ImageDebugDirectory>
     ensures { result ≡ find (λ e. e.data_type == data_type)
-        (map (λ i. entry_at fixup bytes.now (28 * i)) (range_with_len 0 (length bytes.now / 28))) }
+        (map (λ i. debug_entry_at fixup bytes.now (28 * i)) (range_with_len 0 (length bytes.now / 28))) }
 {
     let whole = bytes.len() / IMAGE_DEBUG_DIRECTORY_SIZE;
     (0..whole)
@@ -136,7 +136,7 @@ impl<'a> ImageDebugDirectoryIterator<'a> {
     /// The entries of these bytes, 28 bytes each. `rva_offset`, the fixup, is subtracted from the RVA and the file
     /// offset of each record, modulo 2^32: pass 0, or for a TE image `TeHeader::rva_offset`.
     pub fn new(bytes: &'a [u8], rva_offset: u32) -> Self
-        ensures rest { rest_of result ≡ bytes.entry.now }
+        ensures rest { debug_bytes_left result ≡ bytes.entry.now }
         ensures fixup { fixup_of result ≡ rva_offset }
     {
         ImageDebugDirectoryIterator { bytes, rva_offset }
@@ -145,7 +145,7 @@ impl<'a> ImageDebugDirectoryIterator<'a> {
     /// The first whole entry of the type among those that are left.
     #[tactic(auto, using(crate::proofs::EntriesInOrder::whole_as_map))]
     pub fn find_type(&self, data_type: u32) -> Option<ImageDebugDirectory>
-        ensures { result ≡ first_of_type (fixup_of self.now) data_type (rest_of self.now) }
+        ensures { result ≡ first_of_type (fixup_of self.now) data_type (debug_bytes_left self.now) }
     {
         find_entry(self.bytes, self.rva_offset, data_type)
     }
@@ -154,11 +154,11 @@ impl<'a> ImageDebugDirectoryIterator<'a> {
 impl<'a> Iterator for ImageDebugDirectoryIterator<'a> {
     type Item = Result<ImageDebugDirectory>;
 
-    ghost next_gives = { λ s r t. GivesEntry (fixup_of s) (rest_of s) r (rest_of t) × (fixup_of t ≡ fixup_of s) };
+    ghost next_gives = { λ s r t. ReturnsEntry (fixup_of s) (debug_bytes_left s) r (debug_bytes_left t) × (fixup_of t ≡ fixup_of s) };
 
-    ghost remaining = { λ s. at_most (count (rest_of s)) };
+    ghost remaining = { λ s. at_most (debug_entry_count (debug_bytes_left s)) };
 
-    #[tactic(auto, using(crate::proofs::EntriesInOrder::entries_more, crate::proofs::EntriesInOrder::entries_cut, crate::proofs::EntriesInOrder::entries_none))]
+    #[tactic(auto, using(crate::proofs::EntriesInOrder::entries_more, crate::proofs::EntriesInOrder::entries_truncated, crate::proofs::EntriesInOrder::entries_none))]
     fn next(&mut self) -> Option<Result<ImageDebugDirectory>> {
         match split_entry(&mut self.bytes, IMAGE_DEBUG_DIRECTORY_SIZE)? {
             Ok(bytes) => Some(Ok(ImageDebugDirectory::at(bytes, 0, self.rva_offset))),
@@ -167,9 +167,9 @@ impl<'a> Iterator for ImageDebugDirectoryIterator<'a> {
     }
 
     fn size_hint(&self) -> (usize, Option<usize>)
-        ensures lower { IsWithinCount result.0 (at_most (count (rest_of self.now))) }
-        ensures upper { IfSome result.1 (UpTo (at_most (count (rest_of self.now)))) }
-        ensures exact { result ≡ (count (rest_of self.now), Some (count (rest_of self.now))) }
+        ensures lower { IsWithinCount result.0 (at_most (debug_entry_count (debug_bytes_left self.now))) }
+        ensures upper { IfSome result.1 (UpTo (at_most (debug_entry_count (debug_bytes_left self.now)))) }
+        ensures exact { result ≡ (debug_entry_count (debug_bytes_left self.now), Some (debug_entry_count (debug_bytes_left self.now))) }
     {
         let entries = self.len();
         (entries, Some(entries))
@@ -186,15 +186,15 @@ impl<'a> ExactSizeIterator for ImageDebugDirectoryIterator<'a> {
 #[tactic(auto, unfolding(crate::specs::DebugDirectory::directory_table))]
 fn table<'a>(
     bytes: &'a [u8],
-    dd: DataDirectory,
+    directory: DataDirectory,
     sections: &[SectionTable],
     file_alignment: u32,
     opts: &ParseOptions,
 ) -> Result<&'a [u8]>
-    ensures { Gives (λ s. s.now) result
-        (directory_table opts.now bytes.entry.now dd sections.now file_alignment) }
+    ensures { Returns (λ s. s.now) result
+        (directory_table opts.now bytes.entry.now directory sections.now file_alignment) }
 {
-    let range = DebugData::table_range(bytes, dd, sections, file_alignment, opts)?;
+    let range = DebugData::table_range(bytes, directory, sections, file_alignment, opts)?;
     Ok(range.of(bytes))
 }
 
@@ -227,7 +227,7 @@ impl<'a> DebugData<'a> {
         opts: &ParseOptions,
         rva_offset: u32,
     ) -> Result<DebugData<'a>>
-        ensures { Gives debug_view result (records opts.now bytes.entry.now rva_offset table.entry.now) }
+        ensures { Returns debug_view result (records opts.now bytes.entry.now rva_offset table.entry.now) }
     {
         let first = FirstEntries::of_table(table, rva_offset);
         Ok(DebugData {
@@ -249,30 +249,30 @@ impl<'a> DebugData<'a> {
     #[tactic(auto, unfolding(crate::specs::DebugDirectory::directory_range))]
     pub fn table_range(
         bytes: &[u8],
-        dd: DataDirectory,
+        directory: DataDirectory,
         sections: &[SectionTable],
         file_alignment: u32,
         opts: &ParseOptions,
     ) -> Result<ByteRange>
-        ensures range { Gives (λ r. r) result
-            (directory_range opts.now bytes.now dd sections.now file_alignment) }
+        ensures range { Returns (λ r. r) result
+            (directory_range opts.now bytes.now directory sections.now file_alignment) }
         ensures within { IfOk result (IsWithin bytes.now) }
     {
-        let place = mapped_offset(dd.virtual_address, sections, file_alignment, opts)?;
-        let size = dd.size as usize;
-        match (require_bytes(bytes, place, size), opts.parse_mode) {
+        let offset = mapped_offset(directory.virtual_address, sections, file_alignment, opts)?;
+        let size = directory.size as usize;
+        match (require_bytes(bytes, offset, size), opts.parse_mode) {
             (Ok(()), _) => Ok(ByteRange {
-                place,
+                offset,
                 length: size,
             }),
             (Err(_), ParseMode::Strict) => {
-                let end = place.saturating_add(size) as u64;
+                let end = offset.saturating_add(size) as u64;
                 Err(Error::Malformed(Reason::DebugBounds(end)))
             }
             (Err(_), ParseMode::Permissive) => {
-                let start = place.min(bytes.len());
+                let start = offset.min(bytes.len());
                 Ok(ByteRange {
-                    place: start,
+                    offset: start,
                     length: bytes.len() - start,
                 })
             }
@@ -283,16 +283,16 @@ impl<'a> DebugData<'a> {
     /// `parse_with_opts_and_fixup`.
     pub fn parse(
         bytes: &'a [u8],
-        dd: DataDirectory,
+        directory: DataDirectory,
         sections: &[SectionTable],
         file_alignment: u32,
     ) -> Result<DebugData<'a>>
-        ensures { Gives debug_view result
-            (debug_data default_options bytes.entry.now dd sections.now file_alignment 0) }
+        ensures { Returns debug_view result
+            (debug_data default_options bytes.entry.now directory sections.now file_alignment 0) }
     {
         DebugData::parse_with_opts(
             bytes,
-            dd,
+            directory,
             sections,
             file_alignment,
             &ParseOptions::default(),
@@ -302,15 +302,15 @@ impl<'a> DebugData<'a> {
     /// Parses the debug data of a directory with no fixup. Errors: those of `parse_with_opts_and_fixup`.
     pub fn parse_with_opts(
         bytes: &'a [u8],
-        dd: DataDirectory,
+        directory: DataDirectory,
         sections: &[SectionTable],
         file_alignment: u32,
         opts: &ParseOptions,
     ) -> Result<DebugData<'a>>
-        ensures { Gives debug_view result
-            (debug_data opts.now bytes.entry.now dd sections.now file_alignment 0) }
+        ensures { Returns debug_view result
+            (debug_data opts.now bytes.entry.now directory sections.now file_alignment 0) }
     {
-        DebugData::parse_with_opts_and_fixup(bytes, dd, sections, file_alignment, opts, 0)
+        DebugData::parse_with_opts_and_fixup(bytes, directory, sections, file_alignment, opts, 0)
     }
 
     /// Parses the debug data of a directory. `bytes` is the whole file. `rva_offset`, the fixup, is subtracted from
@@ -322,16 +322,16 @@ impl<'a> DebugData<'a> {
     #[tactic(auto, unfolding(crate::specs::DebugRecords::debug_data))]
     pub fn parse_with_opts_and_fixup(
         bytes: &'a [u8],
-        dd: DataDirectory,
+        directory: DataDirectory,
         sections: &[SectionTable],
         file_alignment: u32,
         opts: &ParseOptions,
         rva_offset: u32,
     ) -> Result<DebugData<'a>>
-        ensures { Gives debug_view result
-            (debug_data opts.now bytes.entry.now dd sections.now file_alignment rva_offset) }
+        ensures { Returns debug_view result
+            (debug_data opts.now bytes.entry.now directory sections.now file_alignment rva_offset) }
     {
-        let table = table(bytes, dd, sections, file_alignment, opts)?;
+        let table = table(bytes, directory, sections, file_alignment, opts)?;
         DebugData::of_table(bytes, table, opts, rva_offset)
     }
 
@@ -345,14 +345,14 @@ impl<'a> DebugData<'a> {
 
     /// The first whole entry of the type, one of `IMAGE_DEBUG_TYPE_*`.
     pub fn find_type(&self, data_type: u32) -> Option<ImageDebugDirectory>
-        ensures { result ≡ first_of_type (fixup_of_data self.now) data_type (table_of self.now) }
+        ensures { result ≡ first_of_type (fixup_of_data self.now) data_type (debug_table_of self.now) }
     {
         self.entries().find_type(data_type)
     }
 
     /// The entries of the debug directory.
     pub fn entries(&self) -> ImageDebugDirectoryIterator<'a>
-        ensures rest { rest_of result ≡ table_of self.now }
+        ensures rest { debug_bytes_left result ≡ debug_table_of self.now }
         ensures fixup { fixup_of result ≡ fixup_of_data self.now }
     {
         ImageDebugDirectoryIterator::new(self.table, self.rva_offset)
@@ -385,7 +385,7 @@ fn pdb70_of<'a>(
     entry: Option<ImageDebugDirectory>,
     opts: &ParseOptions,
 ) -> Result<Option<CodeviewPDB70DebugInfo<'a>>>
-    ensures { Gives (option_map pdb70_view) result (of_entry (pdb70_of opts.now bytes.entry.now) entry) }
+    ensures { Returns (option_map pdb70_view) result (of_entry (pdb70_of opts.now bytes.entry.now) entry) }
 {
     match entry {
         Some(entry) => CodeviewPDB70DebugInfo::parse_with_opts(bytes, &entry, opts),
@@ -399,7 +399,7 @@ fn pdb20_of<'a>(
     entry: Option<ImageDebugDirectory>,
     opts: &ParseOptions,
 ) -> Result<Option<CodeviewPDB20DebugInfo<'a>>>
-    ensures { Gives (option_map pdb20_view) result (of_entry (pdb20_of opts.now bytes.entry.now) entry) }
+    ensures { Returns (option_map pdb20_view) result (of_entry (pdb20_of opts.now bytes.entry.now) entry) }
 {
     match entry {
         Some(entry) => CodeviewPDB20DebugInfo::parse_with_opts(bytes, &entry, opts),
@@ -413,7 +413,7 @@ fn features_of(
     entry: Option<ImageDebugDirectory>,
     opts: &ParseOptions,
 ) -> Result<Option<VCFeatureInfo>>
-    ensures { Gives (λ r. r) result (some_of_entry (features_of opts.now bytes.now) entry) }
+    ensures { Returns (λ r. r) result (some_of_entry (features_of opts.now bytes.now) entry) }
 {
     match entry {
         Some(entry) => Ok(Some(VCFeatureInfo::parse_with_opts(bytes, &entry, opts)?)),
@@ -427,7 +427,7 @@ fn characteristics_of(
     entry: Option<ImageDebugDirectory>,
     opts: &ParseOptions,
 ) -> Result<Option<ExDllCharacteristicsInfo>>
-    ensures { Gives (λ r. r) result (some_of_entry (characteristics_of opts.now bytes.now) entry) }
+    ensures { Returns (λ r. r) result (some_of_entry (characteristics_of opts.now bytes.now) entry) }
 {
     match entry {
         Some(entry) => Ok(Some(ExDllCharacteristicsInfo::parse_with_opts(bytes, &entry, opts)?)),
@@ -441,7 +441,7 @@ fn repro_of<'a>(
     entry: Option<ImageDebugDirectory>,
     opts: &ParseOptions,
 ) -> Result<Option<ReproInfo<'a>>>
-    ensures { Gives (option_map repro_view) result (some_of_entry (repro_of opts.now bytes.entry.now) entry) }
+    ensures { Returns (option_map repro_view) result (some_of_entry (repro_of opts.now bytes.entry.now) entry) }
 {
     match entry {
         Some(entry) => Ok(Some(ReproInfo::parse_with_opts(bytes, &entry, opts)?)),
@@ -455,7 +455,7 @@ fn pogo_of<'a>(
     entry: Option<ImageDebugDirectory>,
     opts: &ParseOptions,
 ) -> Result<Option<POGOInfo<'a>>>
-    ensures { Gives (option_map pogo_view) result (of_entry (pogo_of opts.now bytes.entry.now) entry) }
+    ensures { Returns (option_map pogo_view) result (of_entry (pogo_of opts.now bytes.entry.now) entry) }
 {
     match entry {
         Some(entry) => POGOInfo::parse_with_opts(bytes, &entry, opts),

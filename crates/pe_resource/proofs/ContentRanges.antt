@@ -2,7 +2,7 @@
 use Rattle.std.proofs.Common.{◌≡◌, ℕ, ◌+◌, ◌≤◌, Bool, true, false, List, [], ◌∷◌, length, Option, Some, None, Result, Ok, Err, refl, ap, sym, ◌∙◌, subst, arith}
 use Rattle.std.proofs.lemmas.Bool.Decides.{nat_tests}
 use Rattle.pe_core.specs.Bytes.{holds}
-use Rattle.pe_core.specs.Places.{IsWithin}
+use Rattle.pe_core.specs.Offsets.{IsWithin}
 use Rattle.pe_core.specs.Refusals.{Refusal, Short, ResourceBounds, outcome, ◌>>=◌}
 use Rattle.pe_core.specs.declared.byte_range.ByteRange.{ByteRange}
 use Rattle.pe_core.specs.declared.data_directories.DataDirectory.{DataDirectory}
@@ -15,7 +15,7 @@ use Rattle.pe_resource.specs.declared.version.VersionName.TheVariants as names
 use Rattle.pe_resource.specs.declared.version.VsFixedFileInfo.{VsFixedFileInfo}
 use Rattle.pe_resource.specs.Contents.{map_of, IsThere, data_entry_at, file_range, named_range, range_in, IsContentRange, content_of, IsContent, version_of_content, IsVersion}
 use Rattle.pe_resource.specs.Resources.{ResourceView, no_resources, FirstDirectoryView, first_directory, IsOfFirst, resources_with, AreResources, IsResource, IsResourceRange, IsManifestIn, IsVersionIn}
-use Rattle.pe_resource.specs.VersionFields.{VersionView, file_strings, fixed_info_of, name_of, value_named, version_in, value_range_in}
+use Rattle.pe_resource.specs.VersionFields.{VersionView, file_strings, fixed_info_of, version_key, value_named, version_in, value_range_in}
 use Rattle.pe_resource.specs.VersionStrings.{VersionString, strings, read, value_of, value_range}
 use Rattle.pe_resource.proofs.OneAnswer.{one_content}
 use Rattle.pe_resource.proofs.ValueRanges.{value_there}
@@ -38,7 +38,7 @@ tested false e r s h = absurd cc
 file_within : (f : List ℕ) (size : ℕ) (o : Option ℕ) (r : ByteRange) → file_range f size o ≡ Ok r → IsWithin f r
 file_within f size None r h = absurd cc
 file_within f size (Some p) r h =
-    let is = tested (holds f p size) ResourceBounds (record { place = p; length = size }) r h in
+    let is = tested (holds f p size) ResourceBounds (record { offset = p; length = size }) r h in
     let fits : p + size ≤ length f = grind (arith, nat_tests, is.0) in
     subst (IsWithin f) is.1 fits
 
@@ -113,7 +113,7 @@ version_in_range o f d sections alignment x r h k = version_of_first (map_of o s
 
 -- ---- version information by its parts
 
-named : (name : VersionName) (ss : List VersionString) → value_of (name_of name) ss ≡ value_named name (file_strings ss)
+named : (name : VersionName) (ss : List VersionString) → value_of (version_key name) ss ≡ value_named name (file_strings ss)
 named names.Comments ss = refl
 named names.CompanyName ss = refl
 named names.FileDescription ss = refl
@@ -144,7 +144,7 @@ version_strings b v h = (parts_by b (fixed_info_of b) v refl h).1
 pub version_named : (b : List ℕ) (v : VersionView) (name : VersionName) → version_in b ≡ Ok v → (r : Option ByteRange) × (value_range_in name b ≡ Ok r) × IsThere b r (value_named name v.strings)
 unfolding value_range_in
 version_named b v name h = (
-  value_range (name_of name) 0 (read (strings b)),
-  ap (λ (f : Result (Option VsFixedFileInfo) Refusal). f >>= λ _. Ok (value_range (name_of name) 0 (read (strings b)))) (version_fixed b v h),
-  subst (IsThere b (value_range (name_of name) 0 (read (strings b)))) (named name (read (strings b)) ∙ ap (value_named name) (version_strings b v h)) (value_there (name_of name) b),
+  value_range (version_key name) 0 (read (strings b)),
+  ap (λ (f : Result (Option VsFixedFileInfo) Refusal). f >>= λ _. Ok (value_range (version_key name) 0 (read (strings b)))) (version_fixed b v h),
+  subst (IsThere b (value_range (version_key name) 0 (read (strings b)))) (named name (read (strings b)) ∙ ap (value_named name) (version_strings b v h)) (value_there (version_key name) b),
 )

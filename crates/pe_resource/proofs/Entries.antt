@@ -12,15 +12,15 @@ use Rattle.pe_resource.specs.declared.entry.ResourceEntry.{ResourceEntry}
 use Rattle.pe_resource.specs.ResourceEntries.{entry_at, entries, items_left}
 
 -- a number behind the k bytes that are dropped
-le_behind : (b : List ℕ) (k p q n : ℕ) → q ≡ k + p → le (drop k b) p n ≡ le b q n
+le_after : (b : List ℕ) (k p q n : ℕ) → q ≡ k + p → le (drop k b) p n ≡ le b q n
 unfolding le
-le_behind b k p q zero e = refl
-le_behind b k p q (suc n) e =
+le_after b k p q zero e = refl
+le_after b k p q (suc n) e =
     let here : get_or (drop k b) (p + n) 0 ≡ get_or b (q + n) 0 = get_or-drop k b (p + n) 0 ∙ ap (λ (i : ℕ). get_or b i 0) (omega arith) in
-    ap (λ (x : ℕ). x + get_or (drop k b) (p + n) 0 * 256 ^ n) (le_behind b k p q n e) ∙ ap (λ (x : ℕ). le b q n + x * 256 ^ n) here
+    ap (λ (x : ℕ). x + get_or (drop k b) (p + n) 0 * 256 ^ n) (le_after b k p q n e) ∙ ap (λ (x : ℕ). le b q n + x * 256 ^ n) here
 
-entry_behind : (b : List ℕ) (p q : ℕ) → q ≡ 8 + p → entry_at (drop 8 b) p ≡ entry_at b q
-entry_behind b p q e = simp (le_behind b 8 p q 4 e, le_behind b 8 (p + 4) (q + 4) 4 (omega arith)) refl
+entry_after : (b : List ℕ) (p q : ℕ) → q ≡ 8 + p → entry_at (drop 8 b) p ≡ entry_at b q
+entry_after b p q e = simp (le_after b 8 p q 4 e, le_after b 8 (p + 4) (q + 4) 4 (omega arith)) refl
 
 moved : {X : Type 0} (f g : ℕ → X) (a n : ℕ) → ((i : ℕ) → f (i + 1) ≡ g i) → map f (range_with_len (a + 1) n) ≡ map g (range_with_len a n)
 moved f g a zero h = refl
@@ -33,7 +33,7 @@ entries_more b h =
     let fewer : length b / 8 ≡ (length b - 8) / 8 + 1 = omega arith in
     let n : length b / 8 ≡ suc (length (drop 8 b) / 8) = rw (length-drop 8 b) (omega (arith, fewer)) in
     ap (λ (k : ℕ). map (λ i. entry_at b (8 * i)) (range_with_len 0 k)) n
-    ∙ ap (λ (xs : List ResourceEntry). entry_at b 0 ∷ xs) (moved (λ i. entry_at b (8 * i)) (λ i. entry_at (drop 8 b) (8 * i)) 0 (length (drop 8 b) / 8) (λ i. sym (entry_behind b (8 * i) (8 * (i + 1)) (grind arith))))
+    ∙ ap (λ (xs : List ResourceEntry). entry_at b 0 ∷ xs) (moved (λ i. entry_at b (8 * i)) (λ i. entry_at (drop 8 b) (8 * i)) 0 (length (drop 8 b) / 8) (λ i. sym (entry_after b (8 * i) (8 * (i + 1)) (grind arith))))
 
 entries_none : (b : List ℕ) → length b < 8 → entries b ≡ []
 unfolding entries

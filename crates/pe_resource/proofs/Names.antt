@@ -1,14 +1,16 @@
 -- A key's units are a plain name's exactly where its text is the name.
-use Rattle.std.proofs.Common.{◌≡◌, ◌≢◌, ℕ, suc, ◌+◌, ◌*◌, ◌%◌, ◌==◌, ◌&&◌, Bool, true, false, not, List, [], ◌∷◌, ◌++◌, map, length, take, Option, Some, None, is_some, unwrap_or, if◌then◌else◌, ◌↔◌, refl, ap, sym, ◌∙◌, subst, arith, IsTrue}
+use Rattle.std.proofs.Common.{◌≡◌, ℕ, zero, suc, get_or, ◌<◌, ◌+◌, ◌-◌, ◌*◌, ◌%◌, ◌==◌, ◌&&◌, Bool, true, false, not, List, [], ◌∷◌, ◌++◌, map, length, take, drop, take_all, ◌≤◌, Option, Some, None, is_some, unwrap_or, if◌then◌else◌, ◌↔◌, refl, ap, sym, ◌∙◌, subst, arith, IsTrue}
 use Rattle.std.proofs.lemmas.Bool.{false≢true}
 use Rattle.std.proofs.lemmas.Bool.Decides.{nat_tests}
+use Rattle.std.proofs.lemmas.List.{places}
+use Rattle.pe_core.specs.Bytes.{range}
 use Rattle.std.proofs.lemmas.Slice.Eq.{bytes_eq-Decides}
 use Rattle.std.proofs.lemmas.Str.{encode_ascii, encodes_same}
 use Rattle.std.specs.Char.Utf16.{utf16_chars, lone_unit_char, is_high_surrogate, is_low_surrogate, surrogate_pair_char, has_unpaired_surrogate, utf16_lossy_chars}
 use Rattle.std.specs.List.{list_all, list_any}
 use Rattle.std.specs.Prelude.{nat_lt, nat_le}
 use Rattle.std.specs.Str.{encode_utf8_all}
-use Rattle.pe_resource.specs.VersionStrings.{units, before_zero, key_length, text, is_name, is_plain, IsPlain}
+use Rattle.pe_resource.specs.VersionStrings.{units, before_zero, key_length, text, is_name, is_plain, IsPlain, ArePlain}
 
 -- ---- characters below 128
 
@@ -126,17 +128,32 @@ same_test true false f g = absurd (false≢true (f refl))
 same_test false true f g = absurd (false≢true (g refl))
 same_test false false f g = refl
 
-pub name_odd : (b name : List ℕ) → length b % 2 ≡ 1 → false ≡ is_name name (text b)
-unfolding text
-name_odd b name odd =
-    let test : (length b % 2 == 1) ≡ true = grind (arith, nat_tests) in
-    rw test refl
+-- the bytes of a key have no zero unit
+before_twice_at : (t : Bool) (u : ℕ) (us : List ℕ) → (u == 0) ≡ t → before_zero (before_zero us) ≡ before_zero us → before_zero (if t then [] else u ∷ before_zero us) ≡ (if t then [] else u ∷ before_zero us)
+before_twice_at true u us test later = refl
+before_twice_at false u us test later = rw test (ap (λ (l : List ℕ). u ∷ l) later)
 
-pub name_even : (b name bytes front : List ℕ) (r : Bool) → length b % 2 ≢ 1 → IsPlain name → bytes ≡ name → front ≡ take (key_length b 0) b → (IsTrue r ↔ (units front ≡ bytes)) → r ≡ is_name name (text b)
+before_twice : (us : List ℕ) → before_zero (before_zero us) ≡ before_zero us
+before_twice [] = refl
+before_twice (u ∷ us) = before_twice_at (u == 0) u us refl (before_twice us)
+
+pub whole_key : (b : List ℕ) (p n : ℕ) → n ≡ key_length b p → p + n ≤ length b → key_length (range b p n) 0 ≡ length (range b p n)
+whole_key b p n is fits =
+    let size : length (range b p n) ≡ n = grind (arith, places) in
+    let cut : p + n - p ≡ key_length b p = omega (arith, is) in
+    let same : units (range b p n) ≡ before_zero (units (drop p b)) = ap (λ (m : ℕ). units (take m (drop p b))) cut ∙ units_front (drop p b) in
+    ap (λ (us : List ℕ). 2 * length (before_zero us)) same ∙ ap (λ (us : List ℕ). 2 * length us) (before_twice (units (drop p b))) ∙ sym is ∙ sym size
+
+pub name_whole : (key name bytes : List ℕ) (r : Bool) → key_length key 0 ≡ length key → IsPlain name → bytes ≡ name → (IsTrue r ↔ (units key ≡ bytes)) → r ≡ is_name name (text key)
 unfolding text
-name_even b name bytes front r even plain named is told =
-    let test : (length b % 2 == 1) ≡ false = grind (arith, nat_tests) in
-    let same : units front ≡ before_zero (units b) = ap units is ∙ units_front b in
-    rw test (same_test r (is_name name (text_of_units (before_zero (units b))))
-    (λ h. subst (λ (us : List ℕ). is_name name (text_of_units us) ≡ true) (sym named ∙ sym (told.0 h) ∙ same) (name_at_units name plain))
-    (λ h. told.1 (same ∙ units_at (has_unpaired_surrogate (before_zero (units b))) (before_zero (units b)) name plain h ∙ sym named)))
+name_whole key name bytes r size plain named reported =
+    let test : (length key % 2 == 1) ≡ false = grind (arith, nat_tests, size) in
+    let same : units key ≡ before_zero (units key) = ap units (sym (take_all (length key) key (omega arith)) ∙ ap (λ (n : ℕ). take n key) (sym size)) ∙ units_front key in
+    rw test (same_test r (is_name name (text_of_units (before_zero (units key))))
+    (λ h. subst (λ (us : List ℕ). is_name name (text_of_units us) ≡ true) (sym named ∙ sym (reported.0 h) ∙ same) (name_at_units name plain))
+    (λ h. reported.1 (same ∙ units_at (has_unpaired_surrogate (before_zero (units key))) (before_zero (units key)) name plain h ∙ sym named)))
+
+pub plain_at : {X : Type 0} (f : X → List ℕ) (xs : List X) (i : ℕ) (d : X) → ArePlain (map f xs) → i < length xs → IsPlain (f (get_or xs i d))
+plain_at f [] i d h lt = absurd (omega arith)
+plain_at f (x ∷ xs) zero d h lt = (both (list_all is_plain (f x)) (list_all (list_all is_plain) (map f xs)) h).0
+plain_at f (x ∷ xs) (suc i) d h lt = plain_at f xs i d (both (list_all is_plain (f x)) (list_all (list_all is_plain) (map f xs)) h).1 (omega arith)

@@ -3,7 +3,7 @@ use Rattle.std.proofs.Common.{◌≡◌, ◌≢◌, ℕ, zero, suc, ◌==◌, �
 use Rattle.std.specs.Prelude.{nat_le, codes}
 use Rattle.pe_core.specs.Bytes.{holds, le, range, record_at}
 use Rattle.pe_core.specs.Options.{is_permissive}
-use Rattle.pe_core.specs.Places.{bytes_in}
+use Rattle.pe_core.specs.Offsets.{bytes_in}
 use Rattle.pe_core.specs.Refusals.{Refusal, Memory, Short, Unmapped, ResourceBounds, ResourceCycle, outcome, ◌>>=◌}
 use Rattle.pe_core.specs.Refusals as refusals
 use Rattle.pe_core.specs.SectionMap.{section_map}
@@ -15,12 +15,12 @@ use Rattle.pe_core.specs.declared.section_table.SectionTable.{SectionTable}
 use Rattle.pe_resource.specs.declared.directory.ImageResourceDirectory.{ImageResourceDirectory}
 use Rattle.pe_resource.specs.declared.entry.ResourceEntry.{ResourceEntry}
 use Rattle.pe_resource.specs.Contents.{map_of, IsLeaf, file_range, file_bytes, named_range, data_entry_at, range_in, IsContentRange, content_of, IsContent, version_of_content, IsVersion}
-use Rattle.pe_resource.specs.Directories.{directory_at, directory_at_place, directory_of, count}
-use Rattle.pe_resource.specs.ResourceEntries.{with_id, is_directory, data_place}
+use Rattle.pe_resource.specs.Directories.{directory_at, directory_at_offset, directory_of, count}
+use Rattle.pe_resource.specs.ResourceEntries.{with_id, is_directory, data_offset}
 use Rattle.pe_resource.specs.ResourceWalk.{Walks}
 use Rattle.pe_resource.specs.Resources.{ResourceView, no_resources, first_entries_in, FirstDirectoryView, first_directory, IsOfFirst, AreResources, IsResource}
 use Rattle.pe_resource.specs.VersionFields.{VersionView, version_in, fixed_info_of, fixed_info_in, fixed_info_at}
-use Rattle.pe_resource.specs.VersionStrings.{VersionString, string_at, whole_string_at, string_and_next, is_short_text, value_bytes, value_place, then_more, strings_in, strings, read, all_read, value_of}
+use Rattle.pe_resource.specs.VersionStrings.{VersionString, version_string_at, whole_string_at, string_and_next, is_short_text, value_bytes, value_offset, then_more, strings_in, strings, read, all_read, value_of}
 
 abbrev NotMemory : {X : Type 0} → Result X Refusal → Type 0
 NotMemory r = r ≡ Err Memory → ⊥
@@ -55,11 +55,11 @@ walk_not b e (Err other) h = absurd h
 
 leaf_not : (b : List ℕ) (o : Option ResourceEntry) (r : Result (Option ℕ) Refusal) → IsLeaf b o r → NotMemory r
 leaf_not b None r h = subst NotMemory (sym h) (given None)
-leaf_not b (Some e) r h = subst NotMemory (sym h.2) (then_not h.0 (λ v. Ok (data_place v)) (walk_not b e h.0 h.1) (λ v. given (data_place v)))
+leaf_not b (Some e) r h = subst NotMemory (sym h.2) (then_not h.0 (λ v. Ok (data_offset v)) (walk_not b e h.0 h.1) (λ v. given (data_offset v)))
 
 file_range_not : (f : List ℕ) (size : ℕ) (o : Option ℕ) → NotMemory (file_range f size o)
 file_range_not f size None = not_kind Unmapped (λ s. cc)
-file_range_not f size (Some p) = one_test (holds f p size) ResourceBounds (record { place = p; length = size }) (λ s. cc)
+file_range_not f size (Some p) = one_test (holds f p size) ResourceBounds (record { offset = p; length = size }) (λ s. cc)
 
 file_bytes_not : (f : List ℕ) (size : ℕ) (o : Option ℕ) → NotMemory (file_bytes f size o)
 file_bytes_not f size o = then_not (file_range f size o) (λ r. Ok (bytes_in f r)) (file_range_not f size o) (λ r. given (bytes_in f r))
@@ -91,9 +91,9 @@ string_at_not true false true false c n p = not_kind refusals.ResourceString (λ
 string_at_not true false true true false n p = not_kind refusals.ResourceString (λ s. cc)
 string_at_not true false true true true n p = given p
 
-string_not : (b : List ℕ) → NotMemory (string_at b 0)
+string_not : (b : List ℕ) → NotMemory (version_string_at b 0)
 unfolding whole_string_at
-string_not b = string_at_not (holds b 0 2) (le b 0 2 == 0) (holds b 2 4) (is_short_text b 0) (holds b (value_place b 0) (value_bytes b 0)) 2 (string_and_next b 0)
+string_not b = string_at_not (holds b 0 2) (le b 0 2 == 0) (holds b 2 4) (is_short_text b 0) (holds b (value_offset b 0) (value_bytes b 0)) 2 (string_and_next b 0)
 
 more_not : (rest : List ℕ → List (Result VersionString Refusal)) (b : List ℕ) (r : Result (Option VersionString × ℕ) Refusal) → NotMemory r → ((c : List ℕ) → NotMemory (all_read (rest c))) → NotMemory (all_read (then_more rest b r))
 more_not rest b (Err e) h k = not_kind e (same_kind e h)
@@ -106,7 +106,7 @@ or_nothing false xs h = h
 
 strings_in_not : (n : ℕ) (b : List ℕ) → NotMemory (all_read (strings_in n b))
 strings_in_not zero b = given tt
-strings_in_not (suc n) b = or_nothing (length b == 0) (then_more (strings_in n) b (string_at b 0)) (more_not (strings_in n) b (string_at b 0) (string_not b) (strings_in_not n))
+strings_in_not (suc n) b = or_nothing (length b == 0) (then_more (strings_in n) b (version_string_at b 0)) (more_not (strings_in n) b (version_string_at b 0) (string_not b) (strings_in_not n))
 
 strings_not : (b : List ℕ) → NotMemory (all_read (strings b))
 unfolding strings
@@ -134,13 +134,13 @@ version_no_memory map f b es r h =
 
 -- ---- resources
 
-directory_not : (b : List ℕ) (o : Option ℕ) → NotMemory (directory_at_place b o)
+directory_not : (b : List ℕ) (o : Option ℕ) → NotMemory (directory_at_offset b o)
 directory_not b None = not_kind Unmapped (λ s. cc)
 directory_not b (Some p) = one_test (holds b p 16) Short (directory_of b p) (λ s. cc)
 
-directory_at_not : (o : ParseOptions) (b : List ℕ) (dd : DataDirectory) (sections : List SectionTable) (alignment : ℕ) → NotMemory (directory_at o b dd sections alignment)
+directory_at_not : (o : ParseOptions) (b : List ℕ) (data_directory : DataDirectory) (sections : List SectionTable) (alignment : ℕ) → NotMemory (directory_at o b data_directory sections alignment)
 unfolding directory_at
-directory_at_not o b dd sections alignment = directory_not b (section_map o sections alignment dd.virtual_address)
+directory_at_not o b data_directory sections alignment = directory_not b (section_map o sections alignment data_directory.virtual_address)
 
 by_mode : {X : Type 0} (t : Bool) (x : X) → NotMemory (if t then Ok x else Err ResourceBounds)
 by_mode true x = given x
@@ -155,11 +155,11 @@ first_entries_not : (mode : ParseMode) (body : List ℕ) (d : ImageResourceDirec
 unfolding first_entries_in
 first_entries_not mode body d = entries_at_not (nat_le 16 (length body)) (holds body 16 (8 * count d)) (is_permissive mode) (range body 16 (8 * count d)) []
 
-first_directory_not : (o : ParseOptions) (f : List ℕ) (dd : DataDirectory) (sections : List SectionTable) (alignment : ℕ) → NotMemory (first_directory o f dd sections alignment)
+first_directory_not : (o : ParseOptions) (f : List ℕ) (data_directory : DataDirectory) (sections : List SectionTable) (alignment : ℕ) → NotMemory (first_directory o f data_directory sections alignment)
 unfolding first_directory
-first_directory_not o f dd sections alignment =
-    then_not (directory_at o f dd sections alignment) _ (directory_at_not o f dd sections alignment)
-    (λ d. then_not (file_bytes f dd.size (map_of o sections alignment dd.virtual_address)) _ (file_bytes_not f dd.size (map_of o sections alignment dd.virtual_address))
+first_directory_not o f data_directory sections alignment =
+    then_not (directory_at o f data_directory sections alignment) _ (directory_at_not o f data_directory sections alignment)
+    (λ d. then_not (file_bytes f data_directory.size (map_of o sections alignment data_directory.virtual_address)) _ (file_bytes_not f data_directory.size (map_of o sections alignment data_directory.virtual_address))
     (λ bytes. then_not (first_entries_in o.parse_mode bytes d) _ (first_entries_not o.parse_mode bytes d) (λ t. given _)))
 
 resources_not : (map : ℕ → Option ℕ) (f : List ℕ) (d : FirstDirectoryView) (r : Result ResourceView Refusal) → AreResources map f d r → NotMemory r
@@ -172,6 +172,6 @@ of_first_not map f (Err e) r not_q h = subst NotMemory (sym h) (not_kind e (same
 of_first_not map f (Ok None) r not_q h = subst NotMemory (sym h) (given _)
 of_first_not map f (Ok (Some d)) r not_q h = resources_not map f d r h
 
-pub resource_no_memory : (o : ParseOptions) (f : List ℕ) (dd : DataDirectory) (sections : List SectionTable) (alignment : ℕ) (r : Result ResourceView Refusal) → IsResource o f dd sections alignment r → r ≢ Err Memory
-resource_no_memory o f dd sections alignment r h =
-    of_first_not (map_of o sections alignment) f (first_directory o f dd sections alignment) r (first_directory_not o f dd sections alignment) h
+pub resource_no_memory : (o : ParseOptions) (f : List ℕ) (data_directory : DataDirectory) (sections : List SectionTable) (alignment : ℕ) (r : Result ResourceView Refusal) → IsResource o f data_directory sections alignment r → r ≢ Err Memory
+resource_no_memory o f data_directory sections alignment r h =
+    of_first_not (map_of o sections alignment) f (first_directory o f data_directory sections alignment) r (first_directory_not o f data_directory sections alignment) h

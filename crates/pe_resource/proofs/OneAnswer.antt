@@ -8,7 +8,7 @@ use Rattle.pe_core.specs.declared.section_table.SectionTable.{SectionTable}
 use Rattle.pe_core.proofs.Pigeonhole.{stop_once}
 use Rattle.pe_resource.specs.declared.entry.ResourceEntry.{ResourceEntry}
 use Rattle.pe_resource.specs.Contents.{map_of, IsLeaf, range_in, IsContentRange, content_of, IsContent, version_of_content, IsVersion}
-use Rattle.pe_resource.specs.ResourceEntries.{with_id, is_directory, data_place}
+use Rattle.pe_resource.specs.ResourceEntries.{with_id, is_directory, data_offset}
 use Rattle.pe_resource.specs.ResourceWalk.{step, decided, passes, Decides, Walks}
 use Rattle.pe_resource.specs.Resources.{ResourceView, no_resources, FirstDirectoryView, first_directory, IsOfFirst, resources_with, AreResources, IsResource, IsResourceRange}
 use Rattle.pe_resource.specs.VersionFields.{VersionView}
@@ -45,7 +45,7 @@ one_leaf : (b : List ℕ) (o : Option ResourceEntry) (r s : Result (Option ℕ) 
 one_leaf b None r s h k = h ∙ sym k
 one_leaf b (Some e) r s h k =
     let same : h.0 ≡ k.0 = one_walk b is_directory e h.0 k.0 h.1 k.1 in
-    h.2 ∙ ap (λ (w : Result ResourceEntry Refusal). w >>= λ v. Ok (data_place v)) same ∙ sym k.2
+    h.2 ∙ ap (λ (w : Result ResourceEntry Refusal). w >>= λ v. Ok (data_offset v)) same ∙ sym k.2
 
 one_content_range : (map : ℕ → Option ℕ) (f b : List ℕ) (es : List ResourceEntry) (id : ℕ) (r s : Result (Option ByteRange) Refusal) → IsContentRange map f b es id r → IsContentRange map f b es id s → r ≡ s
 one_content_range map f b es id r s h k =

@@ -9,11 +9,11 @@ use Rattle.pe_core.specs.declared.options.ParseOptions.{ParseOptions}
 use Rattle.pe_core.specs.declared.section_table.SectionTable.{SectionTable}
 use Rattle.pe_resource.specs.declared.entry.ResourceEntry.{ResourceEntry}
 use Rattle.pe_resource.specs.Contents.{map_of, IsLeaf, range_in, IsContentRange, content_of, IsContent, version_of_content, IsVersion}
-use Rattle.pe_resource.specs.ResourceEntries.{directory_place, with_id, is_directory, data_place}
+use Rattle.pe_resource.specs.ResourceEntries.{directory_offset, with_id, is_directory, data_offset}
 use Rattle.pe_resource.specs.ResourceWalk.{step, decided, passed_on, passes, Walks}
 use Rattle.pe_resource.specs.Resources.{ResourceView, no_resources, FirstDirectoryView, first_directory, IsOfFirst, resources_with, AreResources, IsResource, IsResourceRange}
 use Rattle.pe_resource.specs.VersionFields.{VersionView}
-use Rattle.pe_resource.proofs.Walks.{only_short, place_decides, places_below}
+use Rattle.pe_resource.proofs.Walks.{only_short, offset_decides, offsets_below}
 
 -- ---- walks
 
@@ -33,7 +33,7 @@ Walked b p e = (r : Result ResourceEntry Refusal) × Walks b p e r
 
 at_last : (b : List ℕ) (p : ResourceEntry → Bool) (e : ResourceEntry) (k : ℕ) (w : ResourceEntry) (s : Result (Option ResourceEntry) Refusal) → after (passes b p) k e ≡ Some w → step b w ≡ s → passed_on p s ≡ None → Walked b p e
 at_last b p e k w (Err f) to is none =
-    let short : f ≡ Short = only_short b (directory_place w) f is in
+    let short : f ≡ Short = only_short b (directory_offset w) f is in
     (Err Short, (k, w, to, ap (decided p w) (is ∙ ap (λ (f : Refusal). Err f) short)))
 at_last b p e k w (Ok None) to is none = (Ok w, (k, w, to, ap (decided p w) is))
 at_last b p e k w (Ok (Some v)) to is none = (Ok v, (k, w, to, ap (decided p w) is ∙ failing p v (p v) refl none))
@@ -42,7 +42,7 @@ pub some_walk : (b : List ℕ) (p : ResourceEntry → Bool) (e : ResourceEntry) 
 some_walk b p e =
     ⊎_elim
     (λ (more : IsSome (after (passes b p) (suc (length b)) e)).
-    (Err ResourceCycle, never_stops (passes b p) directory_place (length b) (follows_from_decides (passes b p) directory_place (place_decides b p)) (places_below b p) e more))
+    (Err ResourceCycle, never_stops (passes b p) directory_offset (length b) (follows_from_decides (passes b p) directory_offset (offset_decides b p)) (offsets_below b p) e more))
     (λ (stops : (j : ℕ) × (j < suc (length b)) × StopsAfter (passes b p) e j).
     let (w, to, none) = last (passes b p) stops.0 e stops.2 in at_last b p e stops.0 w (step b w) to refl none)
     (goes_or_stops (passes b p) (suc (length b)) e)
@@ -51,7 +51,7 @@ some_walk b p e =
 
 some_leaf : (b : List ℕ) (o : Option ResourceEntry) → (r : Result (Option ℕ) Refusal) × IsLeaf b o r
 some_leaf b None = (Ok None, refl)
-some_leaf b (Some e) = let (w, walks) = some_walk b is_directory e in (w >>= λ v. Ok (data_place v), (w, walks, refl))
+some_leaf b (Some e) = let (w, walks) = some_walk b is_directory e in (w >>= λ v. Ok (data_offset v), (w, walks, refl))
 
 some_content_range : (map : ℕ → Option ℕ) (f b : List ℕ) (es : List ResourceEntry) (id : ℕ) → (r : Result (Option ByteRange) Refusal) × IsContentRange map f b es id r
 some_content_range map f b es id = let (leaf, is) = some_leaf b (with_id id es) in (leaf >>= range_in map f b, (leaf, is, refl))

@@ -6,7 +6,7 @@ use Rattle.pe_core.specs.Refusals.{Refusal, Short, outcome, kind_of}
 use Rattle.pe_core.specs.Refusals as refusals
 use Rattle.pe_core.specs.declared.error.Error.{Error}
 use Rattle.pe_resource.specs.declared.string.ResourceString.{ResourceString}
-use Rattle.pe_resource.specs.VersionStrings.{VersionString, string_view, string_at, whole_string_at, string_and_next, is_short_text, value_bytes, value_place, GivesString, then_more, strings_in, strings, all_read}
+use Rattle.pe_resource.specs.VersionStrings.{VersionString, string_view, version_string_at, whole_string_at, string_and_next, is_short_text, value_bytes, value_offset, ReturnsString, then_more, strings_in, strings, all_read}
 
 abbrev Pair : Type 0
 Pair = Option VersionString × ℕ
@@ -23,19 +23,19 @@ read_as true false true false c e f g n p s q h = cc
 read_as true false true true false e f g n p s q h = cc
 read_as true false true true true e f g n p s q h = (refl, cc)
 
-pub string_read : (b : List ℕ) (s : VersionString) (q : ℕ) → string_at b 0 ≡ Ok (Some s, q) → (holds b (value_place b 0) (value_bytes b 0) ≡ true) × (string_and_next b 0 ≡ (Some s, q))
+pub string_read : (b : List ℕ) (s : VersionString) (q : ℕ) → version_string_at b 0 ≡ Ok (Some s, q) → (holds b (value_offset b 0) (value_bytes b 0) ≡ true) × (string_and_next b 0 ≡ (Some s, q))
 unfolding whole_string_at
-string_read b s q h = read_as (holds b 0 2) (le b 0 2 == 0) (holds b 2 4) (is_short_text b 0) (holds b (value_place b 0) (value_bytes b 0)) Short refusals.ResourceString refusals.ResourceString 2 (string_and_next b 0) s q h
+string_read b s q h = read_as (holds b 0 2) (le b 0 2 == 0) (holds b 2 4) (is_short_text b 0) (holds b (value_offset b 0) (value_bytes b 0)) Short refusals.ResourceString refusals.ResourceString 2 (string_and_next b 0) s q h
 
 -- a string ends behind where it begins
-pub further : (b : List ℕ) (s : VersionString) (q : ℕ) → string_at b 0 ≡ Ok (Some s, q) → 0 < q
-unfolding string_and_next value_place
+pub further : (b : List ℕ) (s : VersionString) (q : ℕ) → version_string_at b 0 ≡ Ok (Some s, q) → 0 < q
+unfolding string_and_next value_offset
 further b s q h =
     let end : (string_and_next b 0).1 ≡ q = ap (λ (x : Pair). x.1) (string_read b s q h).1 in
     omega (arith, end)
 
 -- the bound on the bytes doesn't matter
-agree_at : (f g : List ℕ → Items) (b : List ℕ) (r : Result Pair Refusal) → string_at b 0 ≡ r → ((q : ℕ) → 0 < q → f (drop q b) ≡ g (drop q b)) → then_more f b r ≡ then_more g b r
+agree_at : (f g : List ℕ → Items) (b : List ℕ) (r : Result Pair Refusal) → version_string_at b 0 ≡ r → ((q : ℕ) → 0 < q → f (drop q b) ≡ g (drop q b)) → then_more f b r ≡ then_more g b r
 agree_at f g b (Err e) is h = refl
 agree_at f g b (Ok (None, q)) is h = refl
 agree_at f g b (Ok (Some s, q)) is h = ap (λ (xs : Items). Ok s ∷ xs) (h q (further b s q is))
@@ -46,44 +46,44 @@ agree zero (suc m) b h k = let test : (length b == 0) ≡ true = grind (arith, n
 agree (suc n) zero b h k = let test : (length b == 0) ≡ true = grind (arith, nat_tests) in rw test refl
 agree (suc n) (suc m) b h k =
     ap (λ (xs : Items). if length b == 0 then [] else xs)
-    (agree_at (strings_in n) (strings_in m) b (string_at b 0) refl (λ q some. agree n m (drop q b) (grind (arith, length-drop {A = ℕ})) (grind (arith, length-drop {A = ℕ}))))
+    (agree_at (strings_in n) (strings_in m) b (version_string_at b 0) refl (λ q some. agree n m (drop q b) (grind (arith, length-drop {A = ℕ})) (grind (arith, length-drop {A = ℕ}))))
 
 -- the strings by the first one
-pub strings_begin : (b : List ℕ) → b ≢ [] → strings b ≡ then_more strings b (string_at b 0)
+pub strings_start : (b : List ℕ) → b ≢ [] → strings b ≡ then_more strings b (version_string_at b 0)
 unfolding strings
-strings_begin [] ne = absurd (ne refl)
-strings_begin (x ∷ xs) ne =
+strings_start [] ne = absurd (ne refl)
+strings_start (x ∷ xs) ne =
     let test : (length (x ∷ xs) == 0) ≡ false = grind (arith, nat_tests) in
-    rw test (agree_at (strings_in (length xs)) strings (x ∷ xs) (string_at (x ∷ xs) 0) refl
+    rw test (agree_at (strings_in (length xs)) strings (x ∷ xs) (version_string_at (x ∷ xs) 0) refl
     (λ q some. agree (length xs) (length (drop q (x ∷ xs))) (drop q (x ∷ xs)) (grind (arith, length-drop {A = ℕ})) (omega arith)))
 
-pub strings_more : (b left : List ℕ) (s : ResourceString) → GivesString b (Some (Ok s)) left → strings b ≡ Ok (string_view s) ∷ strings left
-strings_more b left s h = strings_begin b h.0 ∙ ap (then_more strings b) h.2 ∙ ap (λ (r : List ℕ). Ok (string_view s) ∷ strings r) (sym h.3)
+pub strings_more : (b left : List ℕ) (s : ResourceString) → ReturnsString b (Some (Ok s)) left → strings b ≡ Ok (string_view s) ∷ strings left
+strings_more b left s h = strings_start b h.0 ∙ ap (then_more strings b) h.2 ∙ ap (λ (r : List ℕ). Ok (string_view s) ∷ strings r) (sym h.3)
 
-pub strings_fault : (b left : List ℕ) (e : Error) → GivesString b (Some (Err e)) left → strings b ≡ Err (kind_of e) ∷ []
-strings_fault b left e h = strings_begin b h.0 ∙ ap (then_more strings b) h.1
+pub strings_refusal : (b left : List ℕ) (e : Error) → ReturnsString b (Some (Err e)) left → strings b ≡ Err (kind_of e) ∷ []
+strings_refusal b left e h = strings_start b h.0 ∙ ap (then_more strings b) h.1
 
 pub strings_empty : strings [] ≡ []
 unfolding strings
 strings_empty = refl
 
-ends : (b : List ℕ) (q : ℕ) → string_at b 0 ≡ Ok (None, q) → strings b ≡ []
+ends : (b : List ℕ) (q : ℕ) → version_string_at b 0 ≡ Ok (None, q) → strings b ≡ []
 ends [] q h = strings_empty
-ends (x ∷ xs) q h = strings_begin (x ∷ xs) (λ e. cc) ∙ ap (then_more strings (x ∷ xs)) h
+ends (x ∷ xs) q h = strings_start (x ∷ xs) (λ e. cc) ∙ ap (then_more strings (x ∷ xs)) h
 
-pub strings_none : (b left : List ℕ) → GivesString b None left → strings b ≡ []
-strings_none b left h = ⊎_elim (λ (e : b ≡ []). ap strings e ∙ strings_empty) (λ (k : (q : ℕ) × (string_at b 0 ≡ Ok (None, q))). ends b k.0 k.1) h.0
+pub strings_none : (b left : List ℕ) → ReturnsString b None left → strings b ≡ []
+strings_none b left h = ⊎_elim (λ (e : b ≡ []). ap strings e ∙ strings_empty) (λ (k : (q : ℕ) × (version_string_at b 0 ≡ Ok (None, q))). ends b k.0 k.1) h.0
 
 -- ---- passes over the strings
 
 abbrev Item : Type 0
 Item = Result ResourceString Error
 
-pub reads_on : (b left : List ℕ) (item : Item) (s : ResourceString) (all : Result (Unit {0}) Refusal) → GivesString b (Some item) left → item ≡ Ok s → all_read (strings b) ≡ all → all_read (strings left) ≡ all
-reads_on b left item s all h is e = sym (ap all_read (strings_more b left s (subst (λ (i : Item). GivesString b (Some i) left) is h))) ∙ e
+pub reads_on : (b left : List ℕ) (item : Item) (s : ResourceString) (all : Result (Unit {0}) Refusal) → ReturnsString b (Some item) left → item ≡ Ok s → all_read (strings b) ≡ all → all_read (strings left) ≡ all
+reads_on b left item s all h is e = sym (ap all_read (strings_more b left s (subst (λ (i : Item). ReturnsString b (Some i) left) is h))) ∙ e
 
-pub reads_fault : (b left : List ℕ) (item : Item) (r : Error) (all : Result (Unit {0}) Refusal) → GivesString b (Some item) left → item ≡ Err r → all_read (strings b) ≡ all → all ≡ Err (kind_of r)
-reads_fault b left item r all h is e = sym e ∙ ap all_read (strings_fault b left r (subst (λ (i : Item). GivesString b (Some i) left) is h))
+pub reads_refusal : (b left : List ℕ) (item : Item) (r : Error) (all : Result (Unit {0}) Refusal) → ReturnsString b (Some item) left → item ≡ Err r → all_read (strings b) ≡ all → all ≡ Err (kind_of r)
+reads_refusal b left item r all h is e = sym e ∙ ap all_read (strings_refusal b left r (subst (λ (i : Item). ReturnsString b (Some i) left) is h))
 
-pub reads_all : (b left : List ℕ) (all : Result (Unit {0}) Refusal) → GivesString b None left → all_read (strings b) ≡ all → all ≡ Ok tt
+pub reads_all : (b left : List ℕ) (all : Result (Unit {0}) Refusal) → ReturnsString b None left → all_read (strings b) ≡ all → all ≡ Ok tt
 reads_all b left all h e = sym e ∙ ap all_read (strings_none b left h)

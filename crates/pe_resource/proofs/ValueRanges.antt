@@ -1,18 +1,19 @@
 -- Where values lie among strings.
-use Rattle.std.proofs.Common.{◌≡◌, ℕ, zero, suc, ◌+◌, ◌-◌, ◌<◌, ◌≤◌, Bool, true, false, List, [], ◌∷◌, length, drop, length-drop, Option, Some, None, Result, Ok, Err, if◌then◌else◌, refl, ap, sym, ◌∙◌, subst, arith}
+use Rattle.std.proofs.Common.{◌≡◌, ℕ, zero, suc, ◌+◌, ◌-◌, ◌<◌, ◌≤◌, Bool, true, false, List, [], ◌∷◌, length, drop, length-drop, All, IfSome, map, ext_get_or, get_or, Option, Some, None, Result, Ok, Err, if◌then◌else◌, refl, ap, sym, ◌∙◌, subst, arith}
 use Rattle.std.proofs.lemmas.Bool.Decides.{nat_tests}
-use Rattle.std.proofs.lemmas.List.{places, same_lists}
-use Rattle.std.specs.Option.{option_map}
+use Rattle.std.proofs.lemmas.List.{places, same_lists, get_or-map, length-map}
+use Rattle.std.specs.Option.{option_map, option_or}
 use Rattle.std.specs.Prelude.{nat_le}
 use Rattle.pe_core.specs.Bytes.{range, holds}
-use Rattle.pe_core.specs.Places.{bytes_in, IsWithin}
-use Rattle.pe_core.specs.Refusals.{Refusal}
+use Rattle.pe_core.specs.Offsets.{bytes_in, IsWithin}
+use Rattle.pe_core.specs.Refusals.{Refusal, ◌>>=◌}
 use Rattle.pe_core.specs.declared.byte_range.ByteRange.{ByteRange}
 use Rattle.pe_core.specs.declared.error.Error.{Error}
 use Rattle.pe_resource.specs.declared.string.ResourceString.{ResourceString}
 use Rattle.pe_resource.specs.Contents.{IsThere, inner, content_of}
-use Rattle.pe_resource.specs.VersionStrings.{VersionString, string_view, string_at, string_and_next, key_length, value_bytes, value_place, value_begin, value_range, lengthened, up_to_four, GivesString, then_more, strings, read, value_of, is_name, text}
-use Rattle.pe_resource.proofs.StringLists.{string_read, further, strings_begin, strings_empty, strings_more, strings_fault, strings_none}
+use Rattle.pe_resource.specs.VersionStrings.{VersionString, string_view, version_string_at, string_and_next, key_length, value_bytes, value_offset, value_start, value_range, lengthened, up_to_four, ReturnsString, then_more, strings, read, all_read, value_of, value_ranges, is_name, text}
+use Rattle.pe_resource.proofs.StringLists.{string_read, further, strings_start, strings_empty, strings_more, strings_none, reads_all}
+use Rattle.pe_resource.proofs.Names.{whole_key}
 
 abbrev Pair : Type 0
 Pair = Option VersionString × ℕ
@@ -21,8 +22,8 @@ length_of_range : (b : List ℕ) (p n : ℕ) → p + n ≤ length b → length (
 length_of_range b p n h = grind (arith, places)
 
 -- a range behind bytes that are dropped
-range_behind : (b : List ℕ) (k p n : ℕ) → p + n ≤ length (drop k b) → range (drop k b) p n ≡ range b (k + p) n
-range_behind b k p n h = same_lists _ _ (grind (arith, places)) (λ j d lt. grind (arith, places))
+range_after : (b : List ℕ) (k p n : ℕ) → p + n ≤ length (drop k b) → range (drop k b) p n ≡ range b (k + p) n
+range_after b k p n h = same_lists _ _ (grind (arith, places)) (λ j d lt. grind (arith, places))
 
 -- a range of a range
 range_in_range : (b : List ℕ) (p n q m : ℕ) → p + n ≤ length b → q + m ≤ n → range b (p + q) m ≡ range (range b p n) q m
@@ -30,11 +31,11 @@ range_in_range b p n q m h i = same_lists _ _ (grind (arith, places)) (λ j d lt
 
 pub inner_bytes : (b : List ℕ) (outer r : ByteRange) → IsWithin b outer → IsWithin (bytes_in b outer) r → IsWithin b (inner outer r) × (bytes_in b (inner outer r) ≡ bytes_in (bytes_in b outer) r)
 inner_bytes b outer r h i =
-    let size : length (bytes_in b outer) ≡ outer.length = length_of_range b outer.place outer.length h in
-    (omega (arith, size, i, h), range_in_range b outer.place outer.length r.place r.length h (omega (arith, size, i)))
+    let size : length (bytes_in b outer) ≡ outer.length = length_of_range b outer.offset outer.length h in
+    (omega (arith, size, i, h), range_in_range b outer.offset outer.length r.offset r.length h (omega (arith, size, i)))
 
-drop_behind : (b : List ℕ) (k q : ℕ) → drop q (drop k b) ≡ drop (k + q) b
-drop_behind b k q = same_lists _ _ (grind (arith, places)) (λ j d lt. grind (arith, places))
+drop_after : (b : List ℕ) (k q : ℕ) → drop q (drop k b) ≡ drop (k + q) b
+drop_after b k q = same_lists _ _ (grind (arith, places)) (λ j d lt. grind (arith, places))
 
 -- ---- one string
 
@@ -42,17 +43,17 @@ fits_by : (t : Bool) (v n m l : ℕ) → nat_le (v + n) l ≡ t → nat_le (v + 
 fits_by true v n m l h k = grind (arith, nat_tests)
 fits_by false v n m l h k = grind (arith, nat_tests)
 
-lengthened_fits : (b : List ℕ) (p : ℕ) → holds b (value_place b p) (value_bytes b p) ≡ true → value_place b p + lengthened b p ≤ length b
+lengthened_fits : (b : List ℕ) (p : ℕ) → holds b (value_offset b p) (value_bytes b p) ≡ true → value_offset b p + lengthened b p ≤ length b
 unfolding lengthened
-lengthened_fits b p h = fits_by (holds b (value_place b p) (up_to_four (value_bytes b p))) (value_place b p) (up_to_four (value_bytes b p)) (value_bytes b p) (length b) refl h
+lengthened_fits b p h = fits_by (holds b (value_offset b p) (up_to_four (value_bytes b p))) (value_offset b p) (up_to_four (value_bytes b p)) (value_bytes b p) (length b) refl h
 
-key_fits : (b : List ℕ) (n : ℕ) → value_place b 0 + n ≤ length b → 6 + key_length b 6 ≤ length b
-unfolding value_place
+key_fits : (b : List ℕ) (n : ℕ) → value_offset b 0 + n ≤ length b → 6 + key_length b 6 ≤ length b
+unfolding value_offset
 key_fits b n h = omega arith
 
-begins : (b : List ℕ) → up_to_four (6 + key_length b 6 + 2) ≡ value_place b 0
-unfolding value_place
-begins b = refl
+starts : (b : List ℕ) → up_to_four (6 + key_length b 6 + 2) ≡ value_offset b 0
+unfolding value_offset
+starts b = refl
 
 abbrev key_in : Option VersionString → List ℕ
 key_in None = []
@@ -64,11 +65,11 @@ value_in (Some s) = s.value
 
 -- the value of a string lies behind its key, and ends where the next string begins
 pub record IsPlaced (b : List ℕ) (s : VersionString) (q : ℕ) : Type 0 where
-  pub end : value_begin s + length s.value ≡ q
+  pub end : value_start s + length s.value ≡ q
   pub within : q ≤ length b
-  pub value : s.value ≡ range b (value_begin s) (length s.value)
+  pub value : s.value ≡ range b (value_start s) (length s.value)
 
-placed : (b : List ℕ) (s : VersionString) (q v n : ℕ) → value_begin s ≡ v → v + n ≡ q → v + n ≤ length b → s.value ≡ range b v n → IsPlaced b s q
+placed : (b : List ℕ) (s : VersionString) (q v n : ℕ) → value_start s ≡ v → v + n ≡ q → v + n ≤ length b → s.value ≡ range b v n → IsPlaced b s q
 placed b s q v n begin next fits value =
     let many : length s.value ≡ n = ap length value ∙ length_of_range b v n fits in
     record {
@@ -77,16 +78,16 @@ placed b s q v n begin next fits value =
       value = value ∙ (rw (begin, many) refl);
     }
 
-pub string_placed : (b : List ℕ) (s : VersionString) (q : ℕ) → string_at b 0 ≡ Ok (Some s, q) → IsPlaced b s q
+pub string_placed : (b : List ℕ) (s : VersionString) (q : ℕ) → version_string_at b 0 ≡ Ok (Some s, q) → IsPlaced b s q
 unfolding string_and_next
 string_placed b s q h =
     let reads = string_read b s q h in
-    let fits : value_place b 0 + lengthened b 0 ≤ length b = lengthened_fits b 0 reads.0 in
+    let fits : value_offset b 0 + lengthened b 0 ≤ length b = lengthened_fits b 0 reads.0 in
     let key : range b 6 (key_length b 6) ≡ s.key = ap (λ (x : Pair). key_in x.0) reads.1 in
-    let value : range b (value_place b 0) (lengthened b 0) ≡ s.value = ap (λ (x : Pair). value_in x.0) reads.1 in
-    let next : value_place b 0 + lengthened b 0 ≡ q = ap (λ (x : Pair). x.1) reads.1 in
+    let value : range b (value_offset b 0) (lengthened b 0) ≡ s.value = ap (λ (x : Pair). value_in x.0) reads.1 in
+    let next : value_offset b 0 + lengthened b 0 ≡ q = ap (λ (x : Pair). x.1) reads.1 in
     let many : length s.key ≡ key_length b 6 = ap length (sym key) ∙ length_of_range b 6 (key_length b 6) (key_fits b (lengthened b 0) fits) in
-    placed b s q (value_place b 0) (lengthened b 0) (ap (λ (n : ℕ). up_to_four (6 + n + 2)) many ∙ begins b) next fits (sym value)
+    placed b s q (value_offset b 0) (lengthened b 0) (ap (λ (n : ℕ). up_to_four (6 + n + 2)) many ∙ starts b) next fits (sym value)
 
 -- ---- all strings
 
@@ -94,26 +95,26 @@ there_by : (t : Bool) (f : List ℕ) (s : VersionString) (r : ByteRange) (rest :
 there_by true f s r rest o within value later = (within, ap (λ (v : List ℕ). Some v) value)
 there_by false f s r rest o within value later = later
 
-there_at : (name f b : List ℕ) (p : ℕ) (r : Result Pair Refusal) → string_at b 0 ≡ r → b ≡ drop p f → p ≤ length f → ((q : ℕ) → 0 < q → q ≤ length b → IsThere f (value_range name (p + q) (read (strings (drop q b)))) (value_of name (read (strings (drop q b))))) → IsThere f (value_range name p (read (then_more strings b r))) (value_of name (read (then_more strings b r)))
-there_at name f b p (Err e) is behind in_file later = refl
-there_at name f b p (Ok (None, q)) is behind in_file later = refl
-there_at name f b p (Ok (Some s, q)) is behind in_file later =
+there_at : (name f b : List ℕ) (p : ℕ) (r : Result Pair Refusal) → version_string_at b 0 ≡ r → b ≡ drop p f → p ≤ length f → ((q : ℕ) → 0 < q → q ≤ length b → IsThere f (value_range name (p + q) (read (strings (drop q b)))) (value_of name (read (strings (drop q b))))) → IsThere f (value_range name p (read (then_more strings b r))) (value_of name (read (then_more strings b r)))
+there_at name f b p (Err e) is after in_file later = refl
+there_at name f b p (Ok (None, q)) is after in_file later = refl
+there_at name f b p (Ok (Some s, q)) is after in_file later =
     let string : IsPlaced b s q = string_placed b s q is in
-    let size : length b ≡ length f - p = ap length behind ∙ length-drop p f in
-    let fits : value_begin s + length s.value ≤ length (drop p f) = subst (λ (c : List ℕ). value_begin s + length s.value ≤ length c) behind (omega (arith, string.end, string.within)) in
-    let value : s.value ≡ range f (p + value_begin s) (length s.value) = string.value ∙ ap (λ (c : List ℕ). range c (value_begin s) (length s.value)) behind ∙ range_behind f p (value_begin s) (length s.value) fits in
-    there_by (is_name name (text s.key)) f s (record { place = p + value_begin s; length = length s.value }) _ _
+    let size : length b ≡ length f - p = ap length after ∙ length-drop p f in
+    let fits : value_start s + length s.value ≤ length (drop p f) = subst (λ (c : List ℕ). value_start s + length s.value ≤ length c) after (omega (arith, string.end, string.within)) in
+    let value : s.value ≡ range f (p + value_start s) (length s.value) = string.value ∙ ap (λ (c : List ℕ). range c (value_start s) (length s.value)) after ∙ range_after f p (value_start s) (length s.value) fits in
+    there_by (is_name name (text s.key)) f s (record { offset = p + value_start s; length = length s.value }) _ _
     (omega (arith, string.end, string.within, size)) value
     (subst (λ (n : ℕ). IsThere f (value_range name (p + n) (read (strings (drop q b)))) (value_of name (read (strings (drop q b))))) (sym string.end) (later q (further b s q is) string.within))
 
 there_within : (n : ℕ) (name f b : List ℕ) (p : ℕ) → length b ≤ n → b ≡ drop p f → p ≤ length f → IsThere f (value_range name p (read (strings b))) (value_of name (read (strings b)))
-there_within n name f [] p h behind in_file = subst (λ (xs : List (Result VersionString Refusal)). IsThere f (value_range name p (read xs)) (value_of name (read xs))) (sym strings_empty) refl
-there_within zero name f (x ∷ xs) p h behind in_file = absurd (omega arith)
-there_within (suc n) name f (x ∷ xs) p h behind in_file =
-    let size : length (x ∷ xs) ≡ length f - p = ap length behind ∙ length-drop p f in
-    subst (λ (ys : List (Result VersionString Refusal)). IsThere f (value_range name p (read ys)) (value_of name (read ys))) (sym (strings_begin (x ∷ xs) (λ e. cc)))
-    (there_at name f (x ∷ xs) p (string_at (x ∷ xs) 0) refl behind in_file
-    (λ q some inside. there_within n name f (drop q (x ∷ xs)) (p + q) (grind (arith, length-drop {A = ℕ})) (ap (drop q) behind ∙ drop_behind f p q) (omega (arith, size))))
+there_within n name f [] p h after in_file = subst (λ (xs : List (Result VersionString Refusal)). IsThere f (value_range name p (read xs)) (value_of name (read xs))) (sym strings_empty) refl
+there_within zero name f (x ∷ xs) p h after in_file = absurd (omega arith)
+there_within (suc n) name f (x ∷ xs) p h after in_file =
+    let size : length (x ∷ xs) ≡ length f - p = ap length after ∙ length-drop p f in
+    subst (λ (ys : List (Result VersionString Refusal)). IsThere f (value_range name p (read ys)) (value_of name (read ys))) (sym (strings_start (x ∷ xs) (λ e. cc)))
+    (there_at name f (x ∷ xs) p (version_string_at (x ∷ xs) 0) refl after in_file
+    (λ q some inside. there_within n name f (drop q (x ∷ xs)) (p + q) (grind (arith, length-drop {A = ℕ})) (ap (drop q) after ∙ drop_after f p q) (omega (arith, size))))
 
 pub value_there : (name b : List ℕ) → IsThere b (value_range name 0 (read (strings b))) (value_of name (read (strings b)))
 value_there name b = there_within (length b) name b b 0 (omega arith) refl (omega arith)
@@ -131,50 +132,92 @@ range_of_value name b = bytes_there b (value_range name 0 (read (strings b))) (v
 abbrev Item : Type 0
 Item = Result ResourceString Error
 
-given : (b left : List ℕ) (item : Item) (s : ResourceString) → GivesString b (Some item) left → item ≡ Ok s → GivesString b (Some (Ok s)) left
-given b left item s h is = subst (λ (i : Item). GivesString b (Some i) left) is h
+given : (b left : List ℕ) (item : Item) (s : ResourceString) → ReturnsString b (Some item) left → item ≡ Ok s → ReturnsString b (Some (Ok s)) left
+given b left item s h is = subst (λ (i : Item). ReturnsString b (Some i) left) is h
 
 -- a string's value and what is left are no more than what was left before
-pub value_ends : (b left : List ℕ) (item : Item) (s : ResourceString) → GivesString b (Some item) left → item ≡ Ok s → value_begin (string_view s) + length s.value.now + length left ≡ length b
+pub value_ends : (b left : List ℕ) (item : Item) (s : ResourceString) → ReturnsString b (Some item) left → item ≡ Ok s → value_start (string_view s) + length s.value.now + length left ≡ length b
 value_ends b left item s h is =
     let gives = given b left item s h is in
     let string : IsPlaced b (string_view s) gives.1 = string_placed b (string_view s) gives.1 gives.2 in
     let rest : length left ≡ length b - gives.1 = ap length gives.3 ∙ length-drop gives.1 b in
     omega (arith, rest, string.end, string.within)
 
-pub fault_leaves_none : (b left : List ℕ) (item : Item) (r : Error) → GivesString b (Some item) left → item ≡ Err r → length left ≡ 0
-fault_leaves_none b left item r h is = let fault = subst (λ (i : Item). GivesString b (Some i) left) is h in ap length fault.2
+-- the key of a string is measured
+pub key_measured : (b left : List ℕ) (item : Item) (s : ResourceString) → ReturnsString b (Some item) left → item ≡ Ok s → key_length s.key.now 0 ≡ length s.key.now
+unfolding string_and_next value_offset
+key_measured b left item s h is =
+    let gives = given b left item s h is in
+    let reads = string_read b (string_view s) gives.1 gives.2 in
+    let fits : value_offset b 0 + lengthened b 0 ≤ length b = lengthened_fits b 0 reads.0 in
+    let key : range b 6 (key_length b 6) ≡ s.key.now = ap (λ (x : Pair). key_in x.0) reads.1 in
+    subst (λ (k : List ℕ). key_length k 0 ≡ length k) key (whole_key b 6 (key_length b 6) refl (key_fits b (lengthened b 0) fits))
 
-range_found : (name : List ℕ) (p : ℕ) (s : VersionString) (ss : List VersionString) → is_name name (text s.key) ≡ true → value_range name p (s ∷ ss) ≡ Some (record { place = p + value_begin s; length = length s.value })
-range_found name p s ss h = rw h refl
+abbrev if_here : Bool → ByteRange → Option ByteRange
+if_here t r = if t then Some r else None
 
-range_passed : (name : List ℕ) (p : ℕ) (s : VersionString) (ss : List VersionString) → is_name name (text s.key) ≡ false → value_range name p (s ∷ ss) ≡ value_range name (p + (value_begin s + length s.value)) ss
-range_passed name p s ss h = rw h refl
+one_by : (t : Bool) (here range : ByteRange) (rest old v : Option ByteRange) → range ≡ here → option_or old (if t then Some here else rest) ≡ v → option_or (option_or old (if_here t range)) rest ≡ v
+one_by t here range rest (Some r) v is e = e
+one_by true here range rest None v is e = ap (λ (r : ByteRange). Some r) is ∙ e
+one_by false here range rest None v is e = e
 
-abbrev range_among : List ℕ → ℕ → List (Result VersionString Refusal) → Option ByteRange
-range_among name p xs = value_range name p (read xs)
-
-pub range_on : (size : ℕ) (name b left : List ℕ) (item : Item) (s : ResourceString) (v : Option ByteRange) → length b ≤ size → GivesString b (Some item) left → item ≡ Ok s → is_name name (text s.key.now) ≡ false → value_range name (size - length b) (read (strings b)) ≡ v → value_range name (size - length left) (read (strings left)) ≡ v
-range_on size name b left item s v inside h is other e =
+-- what is kept of a name, one string further
+pub one_further : (size : ℕ) (name b left : List ℕ) (item : Item) (s : ResourceString) (old new v : Option ByteRange) → length b ≤ size → ReturnsString b (Some item) left → item ≡ Ok s → new ≡ option_or old (if_here (is_name name (text s.key.now)) (record { offset = size - length left - length s.value.now; length = length s.value.now })) → option_or old (value_range name (size - length b) (read (strings b))) ≡ v → option_or new (value_range name (size - length left) (read (strings left))) ≡ v
+one_further size name b left item s old new v inside h is kept e =
     let ends = value_ends b left item s h is in
-    let next : size - length left ≡ size - length b + (value_begin (string_view s) + length s.value.now) = omega (arith, ends, inside) in
-    ap (λ (p : ℕ). value_range name p (read (strings left))) next
-    ∙ sym (ap (range_among name (size - length b)) (strings_more b left s (given b left item s h is)) ∙ range_passed name (size - length b) (string_view s) (read (strings left)) other)
-    ∙ e
+    let offset : size - length left - length s.value.now ≡ size - length b + value_start (string_view s) = omega (arith, ends, inside) in
+    let next : size - length left ≡ size - length b + (value_start (string_view s) + length s.value.now) = omega (arith, ends, inside) in
+    ap (λ (o : Option ByteRange). option_or o (value_range name (size - length left) (read (strings left)))) kept
+    ∙ ap (λ (p : ℕ). option_or (option_or old (if_here (is_name name (text s.key.now)) (record { offset = size - length left - length s.value.now; length = length s.value.now }))) (value_range name p (read (strings left)))) next
+    ∙ one_by (is_name name (text s.key.now)) (record { offset = size - length b + value_start (string_view s); length = length s.value.now }) _ _ old v
+    (ap (λ (p : ℕ). record { offset = p; length = length s.value.now }) offset)
+    (ap (λ (xs : List (Result VersionString Refusal)). option_or old (value_range name (size - length b) (read xs))) (sym (strings_more b left s (given b left item s h is))) ∙ e)
 
-pub range_here : (size : ℕ) (name b left : List ℕ) (item : Item) (s : ResourceString) (v : Option ByteRange) → length b ≤ size → GivesString b (Some item) left → item ≡ Ok s → is_name name (text s.key.now) ≡ true → value_range name (size - length b) (read (strings b)) ≡ v → Some (record { place = size - length left - length s.value.now; length = length s.value.now }) ≡ v
-range_here size name b left item s v inside h is same e =
-    let ends = value_ends b left item s h is in
-    let place : size - length left - length s.value.now ≡ size - length b + value_begin (string_view s) = omega (arith, ends, inside) in
-    ◌∙◌ {b = Some (record { place = size - length b + value_begin (string_view s); length = length s.value.now })}
-    (ap (λ (p : ℕ). Some (record { place = p; length = length s.value.now })) place)
-    (sym (ap (range_among name (size - length b)) (strings_more b left s (given b left item s h is)) ∙ range_found name (size - length b) (string_view s) (read (strings left)) same) ∙ e)
+kept_alone : (o : Option ByteRange) → option_or o None ≡ o
+kept_alone None = refl
+kept_alone (Some r) = refl
 
-pub range_fault : (size : ℕ) (name b left : List ℕ) (item : Item) (r : Error) (v : Option ByteRange) → GivesString b (Some item) left → item ≡ Err r → value_range name (size - length b) (read (strings b)) ≡ v → value_range name (size - length left) (read (strings left)) ≡ v
-range_fault size name b left item r v h is e =
-    let fault = subst (λ (i : Item). GivesString b (Some i) left) is h in
-    ap (λ (l : List ℕ). range_among name (size - length left) (strings l)) fault.2 ∙ ap (range_among name (size - length left)) strings_empty
-    ∙ sym (ap (range_among name (size - length b)) (strings_fault b left r fault)) ∙ e
+-- and at the end
+all_kept : (p : ℕ) (name b left : List ℕ) (old v : Option ByteRange) → ReturnsString b None left → option_or old (value_range name p (read (strings b))) ≡ v → v ≡ old
+all_kept p name b left old v h e =
+    sym e ∙ ap (λ (xs : List (Result VersionString Refusal)). option_or old (value_range name p (read xs))) (strings_none b left h) ∙ kept_alone old
 
-pub range_none : (size : ℕ) (name b left : List ℕ) (v : Option ByteRange) → GivesString b None left → value_range name (size - length b) (read (strings b)) ≡ v → None ≡ v
-range_none size name b left v h e = sym (ap (range_among name (size - length b)) (strings_none b left h)) ∙ e
+-- before the first string nothing is kept
+pub start_kept : (name b left : List ℕ) (old : Option ByteRange) → left ≡ b → old ≡ None → option_or old (value_range name (length b - length left) (read (strings left))) ≡ value_range name 0 (read (strings b))
+start_kept name b left old is none =
+    let start : length b - length b ≡ 0 = omega arith in
+    ap (λ (o : Option ByteRange). option_or o (value_range name (length b - length left) (read (strings left)))) none
+    ∙ ap (λ (l : List ℕ). value_range name (length b - length l) (read (strings l))) is ∙ ap (λ (p : ℕ). value_range name p (read (strings b))) start
+
+within_there : (b : List ℕ) (r : Option ByteRange) (v : Option (List ℕ)) → IsThere b r v → IfSome r (IsWithin b)
+within_there b None v h = tt
+within_there b (Some r) v h = h.0
+
+pub all_within : (names : List (List ℕ)) (b : List ℕ) → All (λ r. IfSome r (IsWithin b)) (map (λ name. value_range name 0 (read (strings b))) names)
+all_within names b k d h =
+    let at = get_or-map (λ (name : List ℕ). value_range name 0 (read (strings b))) names k [] d (omega (arith, h, length-map names (λ (name : List ℕ). value_range name 0 (read (strings b))))) in
+    subst (λ (r : Option ByteRange). IfSome r (IsWithin b)) (sym at) (within_there b _ _ (value_there (get_or names k []) b))
+
+-- after the last string: what is kept is what was sought
+pub found : {X : Type 0} (now : X → List ℕ) (keys : List X) (all b left : List ℕ) (ranges : List (Option ByteRange)) → ReturnsString b None left → length ranges ≡ length keys → all_read (strings b) ≡ all_read (strings all) → ((k : ℕ) → k < length keys → option_or (get_or ranges k None) (value_range (get_or (map now keys) k []) (length all - length b) (read (strings b))) ≡ value_range (get_or (map now keys) k []) 0 (read (strings all))) → (value_ranges (map now keys) all ≡ Ok ranges) × All (λ r. IfSome r (IsWithin all)) ranges
+unfolding value_ranges
+found now keys all b left ranges ends many reads kept =
+    let range_of : List ℕ → Option ByteRange = λ name. value_range name 0 (read (strings all)) in
+    let named : length (map now keys) ≡ length keys = length-map keys now in
+    let ranged : length (map range_of (map now keys)) ≡ length (map now keys) = length-map (map now keys) range_of in
+    let same : map range_of (map now keys) ≡ ranges = ext_get_or None (map range_of (map now keys)) ranges (ranged ∙ named ∙ sym many)
+    (λ k h. get_or-map range_of (map now keys) k [] None (omega (arith, h, ranged)) ∙ all_kept (length all - length b) (get_or (map now keys) k []) b left (get_or ranges k None) _ ends (kept k (omega (arith, h, ranged, named)))) in (
+      ap (λ (r : Result (Unit {0}) Refusal). r >>= λ _. Ok (map range_of (map now keys))) (reads_all b left (all_read (strings all)) ends reads) ∙ ap (λ (rs : List (Option ByteRange)). Ok rs) same,
+      subst (All (λ r. IfSome r (IsWithin all))) same (all_within (map now keys) all),
+    )
+
+read_by : {X : Type 0} (r : Result (Unit {0}) Refusal) (x y : X) → (r >>= λ _. Ok x) ≡ Ok y → (r ≡ Ok tt) × (x ≡ y)
+read_by (Ok tt) x y h = (refl, cc)
+read_by (Err e) x y h = absurd cc
+
+pub value_of_range : (names : List (List ℕ)) (b : List ℕ) (ranges : List (Option ByteRange)) (k : ℕ) (d : Option ByteRange) → value_ranges names b ≡ Ok ranges → k < length names → content_of b (get_or ranges k d) ≡ value_of (get_or names k []) (read (strings b))
+unfolding value_ranges
+value_of_range names b ranges k d h lt =
+    let same = (read_by (all_read (strings b)) (map (λ (name : List ℕ). value_range name 0 (read (strings b))) names) ranges h).1 in
+    ap (λ (rs : List (Option ByteRange)). content_of b (get_or rs k d)) (sym same)
+    ∙ ap (content_of b) (get_or-map (λ (name : List ℕ). value_range name 0 (read (strings b))) names k [] d lt) ∙ range_of_value (get_or names k []) b

@@ -7,23 +7,23 @@ use Rattle.pe_core.specs.Bytes.{holds}
 use Rattle.pe_core.specs.Refusals.{Refusal, Memory, Short, ResourceCycle, outcome}
 use Rattle.pe_core.proofs.Pigeonhole.{follows_from_decides, never_stops, repeats, stops_at, after_more}
 use Rattle.pe_resource.specs.declared.entry.ResourceEntry.{ResourceEntry}
-use Rattle.pe_resource.specs.ResourceEntries.{directory_place}
-use Rattle.pe_resource.specs.ResourceWalk.{first_at, step, decided, passed_on, passes, IsEndless, Decides, Walks}
+use Rattle.pe_resource.specs.ResourceEntries.{directory_offset}
+use Rattle.pe_resource.specs.ResourceWalk.{first_at, step, decided, passed_on, passes, IsEndlessWalk, Decides, Walks}
 
-pub place_decides : (b : List ℕ) (p : ResourceEntry → Bool) → KeyDecides (passes b p) directory_place
-place_decides b p x y same = ap (λ (q : ℕ). passed_on p (first_at b q)) same
+pub offset_decides : (b : List ℕ) (p : ResourceEntry → Bool) → KeyDecides (passes b p) directory_offset
+offset_decides b p x y same = ap (λ (q : ℕ). passed_on p (first_at b q)) same
 
 past_end : (b : List ℕ) (q : ℕ) → length b < q + 16 → first_at b q ≡ Err Short
 unfolding first_at
 past_end b q h =
     let test : holds b q 16 ≡ false = grind (arith, nat_tests) in rw test refl
 
-pub places_below : (b : List ℕ) (p : ResourceEntry → Bool) → HasKeysBelow (passes b p) directory_place (length b)
-places_below b p x a to =
+pub offsets_below : (b : List ℕ) (p : ResourceEntry → Bool) → HasKeysBelow (passes b p) directory_offset (length b)
+offsets_below b p x a to =
     ⊎_elim
-    (λ (past : length b < directory_place x + 16). absurd (let none : passes b p x ≡ None = ap (passed_on p) (past_end b (directory_place x) past) in cc))
-    (λ (inside : directory_place x + 16 ≤ length b). omega arith)
-    (cases_lt (length b) (directory_place x + 16))
+    (λ (past : length b < directory_offset x + 16). absurd (let none : passes b p x ≡ None = ap (passed_on p) (past_end b (directory_offset x) past) in cc))
+    (λ (inside : directory_offset x + 16 ≤ length b). omega arith)
+    (cases_lt (length b) (directory_offset x + 16))
 
 -- the walk has come to this entry, and the saved place is that of an earlier one or its own
 pub record WalkedTo (b : List ℕ) (p : ResourceEntry → Bool) (e : ResourceEntry) (k : ℕ) (current : ResourceEntry) (saved : ℕ) : Type 0 where
@@ -33,10 +33,10 @@ pub record WalkedTo (b : List ℕ) (p : ResourceEntry → Bool) (e : ResourceEnt
   pub seen : ResourceEntry
   pub to_seen : after (passes b p) before e ≡ Some seen
   pub from_seen : after (passes b p) since seen ≡ Some current
-  pub place : directory_place seen ≡ saved
+  pub offset : directory_offset seen ≡ saved
 
-pub walk_starts : (b : List ℕ) (p : ResourceEntry → Bool) (e : ResourceEntry) → WalkedTo b p e 0 e (directory_place e)
-walk_starts b p e = record { reached = refl; before = 0; since = 0; seen = e; to_seen = refl; from_seen = refl; place = refl }
+pub walk_starts : (b : List ℕ) (p : ResourceEntry → Bool) (e : ResourceEntry) → WalkedTo b p e 0 e (directory_offset e)
+walk_starts b p e = record { reached = refl; before = 0; since = 0; seen = e; to_seen = refl; from_seen = refl; offset = refl }
 
 -- what the step and the predicate say of the next entry
 pub passes_next : (b : List ℕ) (p : ResourceEntry → Bool) (x w : ResourceEntry) → step b x ≡ Ok (Some w) → p w ≡ true → passes b p x ≡ Some w
@@ -45,37 +45,37 @@ passes_next b p x w is passed = ap (passed_on p) is ∙ rw passed refl
 one_more : (b : List ℕ) (p : ResourceEntry → Bool) (x y w : ResourceEntry) (k : ℕ) → after (passes b p) k x ≡ Some y → passes b p y ≡ Some w → after (passes b p) (k + 1) x ≡ Some w
 one_more b p x y w k to next = rw add-one (after_more (passes b p) k x y to ∙ next)
 
-pub keeps_saved : (b : List ℕ) (p : ResourceEntry → Bool) (e : ResourceEntry) (k : ℕ) (x w : ResourceEntry) (saved place : ℕ) → WalkedTo b p e k x saved → passes b p x ≡ Some w → place ≡ saved → WalkedTo b p e (k + 1) w place
-keeps_saved b p e k x w saved place h next is = record {
+pub keeps_saved : (b : List ℕ) (p : ResourceEntry → Bool) (e : ResourceEntry) (k : ℕ) (x w : ResourceEntry) (saved offset : ℕ) → WalkedTo b p e k x saved → passes b p x ≡ Some w → offset ≡ saved → WalkedTo b p e (k + 1) w offset
+keeps_saved b p e k x w saved offset h next is = record {
   reached = one_more b p e x w k h.reached next;
   before = h.before;
   since = h.since + 1;
   seen = h.seen;
   to_seen = h.to_seen;
   from_seen = one_more b p h.seen x w h.since h.from_seen next;
-  place = h.place ∙ sym is;
+  offset = h.offset ∙ sym is;
 }
 
-pub moves_saved : (b : List ℕ) (p : ResourceEntry → Bool) (e : ResourceEntry) (k : ℕ) (x w : ResourceEntry) (saved place : ℕ) → WalkedTo b p e k x saved → passes b p x ≡ Some w → place ≡ directory_place w → WalkedTo b p e (k + 1) w place
-moves_saved b p e k x w saved place h next is = record {
+pub moves_saved : (b : List ℕ) (p : ResourceEntry → Bool) (e : ResourceEntry) (k : ℕ) (x w : ResourceEntry) (saved offset : ℕ) → WalkedTo b p e k x saved → passes b p x ≡ Some w → offset ≡ directory_offset w → WalkedTo b p e (k + 1) w offset
+moves_saved b p e k x w saved offset h next is = record {
   reached = one_more b p e x w k h.reached next;
   before = k + 1;
   since = 0;
   seen = w;
   to_seen = one_more b p e x w k h.reached next;
   from_seen = refl;
-  place = sym is;
+  offset = sym is;
 }
 
-pub comes_again : (b : List ℕ) (p : ResourceEntry → Bool) (e : ResourceEntry) (k : ℕ) (x w : ResourceEntry) (saved : ℕ) → WalkedTo b p e k x saved → passes b p x ≡ Some w → directory_place w ≡ saved → IsEndless b p e
+pub comes_again : (b : List ℕ) (p : ResourceEntry → Bool) (e : ResourceEntry) (k : ℕ) (x w : ResourceEntry) (saved : ℕ) → WalkedTo b p e k x saved → passes b p x ≡ Some w → directory_offset w ≡ saved → IsEndlessWalk b p e
 comes_again b p e k x w saved h next same =
-    repeats (passes b p) directory_place (place_decides b p) e h.seen w h.before h.since h.to_seen
-    (after_more (passes b p) h.since h.seen x h.from_seen ∙ next) (h.place ∙ sym same)
+    repeats (passes b p) directory_offset (offset_decides b p) e h.seen w h.before h.since h.to_seen
+    (after_more (passes b p) h.since h.seen x h.from_seen ∙ next) (h.offset ∙ sym same)
 
-pub too_long : (b : List ℕ) (p : ResourceEntry → Bool) (e : ResourceEntry) (k : ℕ) (x : ResourceEntry) (saved : ℕ) → WalkedTo b p e k x saved → k ≡ length b + 1 → IsEndless b p e
+pub too_long : (b : List ℕ) (p : ResourceEntry → Bool) (e : ResourceEntry) (k : ℕ) (x : ResourceEntry) (saved : ℕ) → WalkedTo b p e k x saved → k ≡ length b + 1 → IsEndlessWalk b p e
 too_long b p e k x saved h same =
     let more : after (passes b p) (suc (length b)) e ≡ Some x = subst (λ (m : ℕ). after (passes b p) m e ≡ Some x) (same ∙ add-one (length b)) h.reached in
-    never_stops (passes b p) directory_place (length b) (follows_from_decides (passes b p) directory_place (place_decides b p)) (places_below b p) e (ap is_some more)
+    never_stops (passes b p) directory_offset (length b) (follows_from_decides (passes b p) directory_offset (offset_decides b p)) (offsets_below b p) e (ap is_some more)
 
 -- what decides passes nothing on
 none_at : (b : Bool) (v : ResourceEntry) (r : Result ResourceEntry Refusal) → cond b None (Some (Ok v)) ≡ Some r → cond b (Some v) None ≡ None
@@ -87,10 +87,10 @@ none_from_decided p w (Err e) r h = refl
 none_from_decided p w (Ok None) r h = refl
 none_from_decided p w (Ok (Some v)) r h = none_at (p v) v r h
 
-decided_ends : (b : List ℕ) (p : ResourceEntry → Bool) (e : ResourceEntry) (r : Result ResourceEntry Refusal) → Decides b p e r → IsEndless b p e → ⊥
+decided_ends : (b : List ℕ) (p : ResourceEntry → Bool) (e : ResourceEntry) (r : Result ResourceEntry Refusal) → Decides b p e r → IsEndlessWalk b p e → ⊥
 decided_ends b p e r d never = stops_at (passes b p) d.0 e d.1 d.2 (none_from_decided p d.1 (step b d.1) r d.3) never
 
-pub cycle_is_endless : (b : List ℕ) (p : ResourceEntry → Bool) (e : ResourceEntry) (r : Result ResourceEntry Refusal) → Walks b p e r → (r ≡ Err ResourceCycle) ↔ IsEndless b p e
+pub cycle_is_endless : (b : List ℕ) (p : ResourceEntry → Bool) (e : ResourceEntry) (r : Result ResourceEntry Refusal) → Walks b p e r → (r ≡ Err ResourceCycle) ↔ IsEndlessWalk b p e
 cycle_is_endless b p e (Ok v) d = (λ same. cc, λ never. absurd (decided_ends b p e (Ok v) d never))
 cycle_is_endless b p e (Err Short) d = (λ same. cc, λ never. absurd (decided_ends b p e (Err Short) d never))
 cycle_is_endless b p e (Err ResourceCycle) d = (λ same. d, λ never. refl)
@@ -107,11 +107,11 @@ unfolding first_at
 only_short b q e h = short_at _ _ _ e h
 
 pub no_memory_answer : {X : Type 0} (b : List ℕ) (x : ResourceEntry) (f : Refusal) → step b x ≡ Err f → Path (Result X Refusal) (Err f) (Err Memory) → ⊥
-no_memory_answer b x f is e = let same : f ≡ Short = only_short b (directory_place x) f is in let other : f ≡ Memory = cc in cc
+no_memory_answer b x f is e = let same : f ≡ Short = only_short b (directory_offset x) f is in let other : f ≡ Memory = cc in cc
 
-pub walks_fault : (b : List ℕ) (p : ResourceEntry → Bool) (e : ResourceEntry) (k : ℕ) (x : ResourceEntry) (saved : ℕ) (f : Refusal) → WalkedTo b p e k x saved → step b x ≡ Err f → Walks b p e (Err f)
-walks_fault b p e k x saved f h is =
-    let same : f ≡ Short = only_short b (directory_place x) f is in
+pub walks_refusal : (b : List ℕ) (p : ResourceEntry → Bool) (e : ResourceEntry) (k : ℕ) (x : ResourceEntry) (saved : ℕ) (f : Refusal) → WalkedTo b p e k x saved → step b x ≡ Err f → Walks b p e (Err f)
+walks_refusal b p e k x saved f h is =
+    let same : f ≡ Short = only_short b (directory_offset x) f is in
     let short : step b x ≡ Err Short = subst (λ (g : Refusal). step b x ≡ Err g) same is in
     subst (λ (g : Refusal). Walks b p e (Err g)) (sym same) (k, x, h.reached, ap (decided p x) short)
 
@@ -125,10 +125,10 @@ decides_failing b p e k x w saved h is failed = (k, x, h.reached, ap (decided p 
 other_value : {X Y : Type 0} (j k : Refusal) → Path (Result X Refusal) (Err j) (Err k) → Path (Result Y Refusal) (Err j) (Err k)
 other_value j k h = let same : j ≡ k = cc in ap (λ (e : Refusal). Err e) same
 
-pub given_no_cycle : (b : List ℕ) (p : ResourceEntry → Bool) (e v : ResourceEntry) → Walks b p e (Ok v) → Path (Result (Option ResourceEntry) Refusal) (Ok (Some v)) (Err ResourceCycle) ↔ IsEndless b p e
+pub given_no_cycle : (b : List ℕ) (p : ResourceEntry → Bool) (e v : ResourceEntry) → Walks b p e (Ok v) → Path (Result (Option ResourceEntry) Refusal) (Ok (Some v)) (Err ResourceCycle) ↔ IsEndlessWalk b p e
 given_no_cycle b p e v d = (λ same. cc, λ never. absurd (decided_ends b p e (Ok v) d never))
 
-pub refused_cycle : (b : List ℕ) (p : ResourceEntry → Bool) (e : ResourceEntry) (f : Refusal) → Walks b p e (Err f) → Path (Result (Option ResourceEntry) Refusal) (Err f) (Err ResourceCycle) ↔ IsEndless b p e
+pub refused_cycle : (b : List ℕ) (p : ResourceEntry → Bool) (e : ResourceEntry) (f : Refusal) → Walks b p e (Err f) → Path (Result (Option ResourceEntry) Refusal) (Err f) (Err ResourceCycle) ↔ IsEndlessWalk b p e
 refused_cycle b p e f d = (
   λ same. (cycle_is_endless b p e (Err f) d).0 (other_value f ResourceCycle same),
   λ never. other_value f ResourceCycle ((cycle_is_endless b p e (Err f) d).1 never),

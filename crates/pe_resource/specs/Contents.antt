@@ -3,7 +3,7 @@
 use Rattle.std.specs.Prelude.{◌≡◌, ℕ, ◌+◌, List, [], ◌∷◌, Option, Some, None, Result, Ok, Err}
 use Rattle.std.specs.Option.{option_map}
 use Rattle.pe_core.specs.Bytes.{le, holds, record_at}
-use Rattle.pe_core.specs.Places.{bytes_in, IsWithin}
+use Rattle.pe_core.specs.Offsets.{bytes_in, IsWithin}
 use Rattle.pe_core.specs.Refusals.{Refusal, Unmapped, ResourceBounds, outcome, ◌>>=◌}
 use Rattle.pe_core.specs.SectionMap.{section_map}
 use Rattle.pe_core.specs.declared.byte_range.ByteRange.{ByteRange}
@@ -11,7 +11,7 @@ use Rattle.pe_core.specs.declared.options.ParseOptions.{ParseOptions}
 use Rattle.pe_core.specs.declared.section_table.SectionTable.{SectionTable}
 use Rattle.pe_resource.specs.declared.content.ResourceDataEntry.{ResourceDataEntry}
 use Rattle.pe_resource.specs.declared.entry.ResourceEntry.{ResourceEntry}
-use Rattle.pe_resource.specs.ResourceEntries.{with_id, is_directory, data_place}
+use Rattle.pe_resource.specs.ResourceEntries.{with_id, is_directory, data_offset}
 use Rattle.pe_resource.specs.ResourceWalk.{Walks}
 use Rattle.pe_resource.specs.VersionFields.{VersionView, version_in}
 
@@ -23,7 +23,7 @@ map_of o sections alignment = section_map o sections alignment
 -- `None` without an entry, or if the walk ends at a directory
 abbrev pub IsLeaf : List ℕ → Option ResourceEntry → Result (Option ℕ) Refusal → Type 0
 IsLeaf b None r = r ≡ Ok None
-IsLeaf b (Some e) r = (w : Result ResourceEntry Refusal) × Walks b is_directory e w × (r ≡ (w >>= λ v. Ok (data_place v)))
+IsLeaf b (Some e) r = (w : Result ResourceEntry Refusal) × Walks b is_directory e w × (r ≡ (w >>= λ v. Ok (data_offset v)))
 
 -- the data entry at p, 16 bytes
 unfoldable pub data_entry_at : List ℕ → ℕ → ResourceDataEntry
@@ -41,16 +41,16 @@ IsThere f (Some r) v = IsWithin f r × (v ≡ Some (bytes_in f r))
 
 -- a range inside the range `outer`, as a range of all bytes
 abbrev pub inner : ByteRange → ByteRange → ByteRange
-inner outer r = record { place = outer.place + r.place; length = r.length }
+inner outer r = record { offset = outer.offset + r.offset; length = r.length }
 
 -- the file range of `size` bytes at an offset; refused without an offset, and if the bytes are not in the file
 abbrev pub file_range : List ℕ → ℕ → Option ℕ → Result ByteRange Refusal
 file_range f size None = Err Unmapped
-file_range f size (Some p) = outcome ((holds f p size, ResourceBounds) ∷ []) (record { place = p; length = size })
+file_range f size (Some p) = outcome ((holds f p size, ResourceBounds) ∷ []) (record { offset = p; length = size })
 
 -- the bytes of this range
 abbrev pub file_bytes : List ℕ → ℕ → Option ℕ → Result (List ℕ) Refusal
-file_bytes f size place = file_range f size place >>= λ r. Ok (bytes_in f r)
+file_bytes f size offset = file_range f size offset >>= λ r. Ok (bytes_in f r)
 
 -- the file range of the content of the data entry at p
 unfoldable pub named_range : (ℕ → Option ℕ) → List ℕ → List ℕ → ℕ → Result ByteRange Refusal

@@ -26,13 +26,13 @@ abbrev pub count : ImageResourceDirectory → ℕ
 count d = min (d.number_of_named_entries + d.number_of_id_entries) 65535
 
 -- the directory at an offset; refused without an offset
-abbrev pub directory_at_place : List ℕ → Option ℕ → Result ImageResourceDirectory Refusal
-directory_at_place b None = Err Unmapped
-directory_at_place b (Some p) = record_at b p 16 (directory_of b p)
+abbrev pub directory_at_offset : List ℕ → Option ℕ → Result ImageResourceDirectory Refusal
+directory_at_offset b None = Err Unmapped
+directory_at_offset b (Some p) = record_at b p 16 (directory_of b p)
 
 -- the directory at the RVA of a data directory
 unfoldable pub directory_at : ParseOptions → List ℕ → DataDirectory → List SectionTable → ℕ → Result ImageResourceDirectory Refusal
-directory_at o b d sections alignment = directory_at_place b (section_map o sections alignment d.virtual_address)
+directory_at o b d sections alignment = directory_at_offset b (section_map o sections alignment d.virtual_address)
 
 -- the entries of a directory, which start at p
 abbrev pub entries_at : List ℕ → ℕ → ImageResourceDirectory → Result (List ResourceEntry) Refusal

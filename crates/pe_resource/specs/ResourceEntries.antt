@@ -19,8 +19,8 @@ abbrev pub has_name : ResourceEntry → Bool
 has_name e = e.name_or_id / 2 ^ 31 == 1
 
 -- the offset of its name: the low 31 bits
-abbrev pub name_place : ResourceEntry → ℕ
-name_place e = e.name_or_id % 2 ^ 31
+abbrev pub name_offset : ResourceEntry → ℕ
+name_offset e = e.name_or_id % 2 ^ 31
 
 -- its id: the low 16 bits, unless it has a name
 abbrev pub id_of : ResourceEntry → Option ℕ
@@ -31,12 +31,12 @@ abbrev pub is_directory : ResourceEntry → Bool
 is_directory e = e.offset_to_data_or_directory / 2 ^ 31 == 1
 
 -- the offset of that directory: the low 31 bits
-abbrev pub directory_place : ResourceEntry → ℕ
-directory_place e = e.offset_to_data_or_directory % 2 ^ 31
+abbrev pub directory_offset : ResourceEntry → ℕ
+directory_offset e = e.offset_to_data_or_directory % 2 ^ 31
 
 -- the offset of its data entry, unless it leads to a directory
-abbrev pub data_place : ResourceEntry → Option ℕ
-data_place e = if is_directory e then None else Some e.offset_to_data_or_directory
+abbrev pub data_offset : ResourceEntry → Option ℕ
+data_offset e = if is_directory e then None else Some e.offset_to_data_or_directory
 
 -- the entry at p, 8 bytes
 abbrev pub entry_at : List ℕ → ℕ → ResourceEntry

@@ -8,7 +8,7 @@ use Rattle.pe_core.specs.Chains.{after, NeverStops}
 use Rattle.pe_core.specs.Refusals.{Refusal, Short, ResourceCycle, outcome}
 use Rattle.pe_resource.specs.declared.entry.ResourceEntry.{ResourceEntry}
 use Rattle.pe_resource.specs.Directories.{directory_of, count}
-use Rattle.pe_resource.specs.ResourceEntries.{entry_at, directory_place}
+use Rattle.pe_resource.specs.ResourceEntries.{entry_at, directory_offset}
 
 -- the first entry of the directory at p, if it has entries; refused if the directory or its entries are truncated
 unfoldable pub first_at : List ℕ → ℕ → Result (Option ResourceEntry) Refusal
@@ -18,7 +18,7 @@ first_at b p =
 
 -- the first entry of the directory that an entry leads to
 abbrev pub step : List ℕ → ResourceEntry → Result (Option ResourceEntry) Refusal
-step b e = first_at b (directory_place e)
+step b e = first_at b (directory_offset e)
 
 -- the result, if a step decides it: a refusal, the entry itself if its directory has no entries, or the next entry if
 -- it fails the predicate
@@ -38,8 +38,8 @@ abbrev pub passes : List ℕ → (ResourceEntry → Bool) → ResourceEntry → 
 passes b p w = passed_on p (step b w)
 
 -- no step of the walk decides the result
-abbrev pub IsEndless : List ℕ → (ResourceEntry → Bool) → ResourceEntry → Type 0
-IsEndless b p e = NeverStops (passes b p) e
+abbrev pub IsEndlessWalk : List ℕ → (ResourceEntry → Bool) → ResourceEntry → Type 0
+IsEndlessWalk b p e = NeverStops (passes b p) e
 
 -- after some entries a step decides this result
 abbrev pub Decides : List ℕ → (ResourceEntry → Bool) → ResourceEntry → Result ResourceEntry Refusal → Type 0
@@ -49,7 +49,7 @@ Decides b p e r = (k : ℕ) × (w : ResourceEntry) × (after (passes b p) k e �
 abbrev pub Walks : List ℕ → (ResourceEntry → Bool) → ResourceEntry → Result ResourceEntry Refusal → Type 0
 Walks b p e (Ok v) = Decides b p e (Ok v)
 Walks b p e (Err Short) = Decides b p e (Err Short)
-Walks b p e (Err ResourceCycle) = IsEndless b p e
+Walks b p e (Err ResourceCycle) = IsEndlessWalk b p e
 Walks b p e (Err _) = ⊥
 
 -- the result is never `Ok(None)`, and P holds for it

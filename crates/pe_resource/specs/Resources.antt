@@ -70,9 +70,9 @@ first_directory_view d = record { directory = d.directory; bytes = d.bytes.now; 
 -- the first directory at the RVA of a data directory, whose size is that of the data; `None` if the data is shorter
 -- than a directory
 unfoldable pub first_directory : ParseOptions → List ℕ → DataDirectory → List SectionTable → ℕ → Result (Option FirstDirectoryView) Refusal
-first_directory o f dd sections alignment =
-    directory_at o f dd sections alignment >>= λ d.
-    file_bytes f dd.size (map_of o sections alignment dd.virtual_address) >>= λ bytes.
+first_directory o f data_directory sections alignment =
+    directory_at o f data_directory sections alignment >>= λ d.
+    file_bytes f data_directory.size (map_of o sections alignment data_directory.virtual_address) >>= λ bytes.
     first_entries_in o.parse_mode bytes d >>= λ table.
     Ok (option_map (λ t. record { directory = d; bytes = bytes; entries = entries t }) table)
 
@@ -95,13 +95,13 @@ AreResources map f d r =
 
 -- these are the resources of a data directory, or the first refusal
 abbrev pub IsResource : ParseOptions → List ℕ → DataDirectory → List SectionTable → ℕ → Result ResourceView Refusal → Type 0
-IsResource o f dd sections alignment r =
-    IsOfFirst no_resources (AreResources (map_of o sections alignment) f) (first_directory o f dd sections alignment) r
+IsResource o f data_directory sections alignment r =
+    IsOfFirst no_resources (AreResources (map_of o sections alignment) f) (first_directory o f data_directory sections alignment) r
 
 -- this is the file range of the content of the first resource with an id, or the first refusal on the way to it
 abbrev pub IsResourceRange : ParseOptions → List ℕ → DataDirectory → ℕ → List SectionTable → ℕ → Result (Option ByteRange) Refusal → Type 0
-IsResourceRange o f dd id sections alignment r =
-    IsOfFirst None (λ d. IsContentRange (map_of o sections alignment) f d.bytes d.entries id) (first_directory o f dd sections alignment) r
+IsResourceRange o f data_directory id sections alignment r =
+    IsOfFirst None (λ d. IsContentRange (map_of o sections alignment) f d.bytes d.entries id) (first_directory o f data_directory sections alignment) r
 
 -- the range is found, it is in the file, and the manifest is its bytes
 abbrev pub IsManifestIn : List ℕ → Result (Option ByteRange) Refusal → Option (List ℕ) → Type 0

@@ -71,19 +71,19 @@ fixed_info_of b = all_read (strings b) >>= λ _. fixed_info_in (value_of (codes 
 -- ---- the strings of a file
 
 -- the characters of the twelve names
-abbrev pub name_of : VersionName → List ℕ
-name_of names.Comments = codes "Comments"
-name_of names.CompanyName = codes "CompanyName"
-name_of names.FileDescription = codes "FileDescription"
-name_of names.FileVersion = codes "FileVersion"
-name_of names.InternalName = codes "InternalName"
-name_of names.LegalCopyright = codes "LegalCopyright"
-name_of names.LegalTrademarks = codes "LegalTrademarks"
-name_of names.OriginalFilename = codes "OriginalFilename"
-name_of names.PrivateBuild = codes "PrivateBuild"
-name_of names.ProductName = codes "ProductName"
-name_of names.ProductVersion = codes "ProductVersion"
-name_of names.SpecialBuild = codes "SpecialBuild"
+abbrev pub version_key : VersionName → List ℕ
+version_key names.Comments = codes "Comments"
+version_key names.CompanyName = codes "CompanyName"
+version_key names.FileDescription = codes "FileDescription"
+version_key names.FileVersion = codes "FileVersion"
+version_key names.InternalName = codes "InternalName"
+version_key names.LegalCopyright = codes "LegalCopyright"
+version_key names.LegalTrademarks = codes "LegalTrademarks"
+version_key names.OriginalFilename = codes "OriginalFilename"
+version_key names.PrivateBuild = codes "PrivateBuild"
+version_key names.ProductName = codes "ProductName"
+version_key names.ProductVersion = codes "ProductVersion"
+version_key names.SpecialBuild = codes "SpecialBuild"
 
 -- the values of the twelve names
 pub record FileStrings : Type 0 where
@@ -160,9 +160,9 @@ MayBeText None = ⊥
 MayBeText (Some v) = length v % 2 ≡ 0
 
 -- the result of reading a value as a text; memory runs out only if the value may be a text
-abbrev pub GivesText : {Y Z : Type 0} → Result (Option (String Z)) Y → Option (List ℕ) → Type 0
-GivesText (Ok s) value = option_map string_bytes s ≡ text_in value
-GivesText (Err e) value = MayBeText value
+abbrev pub ReturnsText : {Y Z : Type 0} → Result (Option (String Z)) Y → Option (List ℕ) → Type 0
+ReturnsText (Ok s) value = option_map string_bytes s ≡ text_in value
+ReturnsText (Err e) value = MayBeText value
 
 -- ---- both together
 
@@ -181,4 +181,4 @@ version_in b = fixed_info_of b >>= λ f. Ok (record { fixed_info = f; strings = 
 
 -- the range of the value of a name in version information; refused if the version information is
 unfoldable pub value_range_in : VersionName → List ℕ → Result (Option ByteRange) Refusal
-value_range_in name b = fixed_info_of b >>= λ _. Ok (value_range (name_of name) 0 (read (strings b)))
+value_range_in name b = fixed_info_of b >>= λ _. Ok (value_range (version_key name) 0 (read (strings b)))

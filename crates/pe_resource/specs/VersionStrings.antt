@@ -1,11 +1,11 @@
 -- Strings of version information. (This project's profile.)
-use Rattle.std.specs.Prelude.{◌≡◌, ℕ, zero, suc, ◌+◌, ◌*◌, ◌%◌, ◌==◌, ◌≢◌, ◌⊎◌, Bool, true, false, List, [], ◌∷◌, length, drop, Option, Some, None, Result, Ok, Err, nat_le, nat_lt, ◌&&◌, if◌then◌else◌}
+use Rattle.std.specs.Prelude.{◌≡◌, ℕ, zero, suc, ◌+◌, ◌*◌, ◌%◌, ◌==◌, ◌≢◌, ◌⊎◌, Bool, true, false, List, [], ◌∷◌, map, length, drop, Option, Some, None, Result, Ok, Err, nat_le, nat_lt, ◌&&◌, if◌then◌else◌}
 use Rattle.std.specs.Char.Utf16.{has_unpaired_surrogate, utf16_lossy_chars}
 use Rattle.std.specs.List.{find, list_all}
 use Rattle.std.specs.Option.{option_map}
 use Rattle.std.specs.Str.{encode_utf8_all, bytes_eq}
 use Rattle.pe_core.specs.Bytes.{le, holds, range}
-use Rattle.pe_core.specs.Refusals.{Refusal, Short, outcome, kind_of}
+use Rattle.pe_core.specs.Refusals.{Refusal, Short, outcome, kind_of, ◌>>=◌}
 use Rattle.pe_core.specs.Refusals as refusals
 use Rattle.pe_core.specs.SectionMap.{rounded_up}
 use Rattle.pe_core.specs.declared.byte_range.ByteRange.{ByteRange}
@@ -62,8 +62,8 @@ abbrev pub up_to_four : ℕ → ℕ
 up_to_four n = rounded_up n 4
 
 -- the start of the value of the string at p: after the key and its zero code unit, at a multiple of four
-unfoldable pub value_place : List ℕ → ℕ → ℕ
-value_place b p = up_to_four (p + 6 + key_length b (p + 6) + 2)
+unfoldable pub value_offset : List ℕ → ℕ → ℕ
+value_offset b p = up_to_four (p + 6 + key_length b (p + 6) + 2)
 
 -- the size of the value in bytes, by its length and its type
 abbrev pub value_bytes : List ℕ → ℕ → ℕ
@@ -72,7 +72,7 @@ value_bytes b p = if le b (p + 4) 2 == 1 then 2 * le b (p + 2) 2 else le b (p + 
 -- the same, rounded up to a multiple of four if these bytes are there
 unfoldable pub lengthened : List ℕ → ℕ → ℕ
 lengthened b p =
-    if holds b (value_place b p) (up_to_four (value_bytes b p)) then up_to_four (value_bytes b p) else value_bytes b p
+    if holds b (value_offset b p) (up_to_four (value_bytes b p)) then up_to_four (value_bytes b p) else value_bytes b p
 
 -- the string at p, and the start of the next one
 unfoldable pub string_and_next : List ℕ → ℕ → Option VersionString × ℕ
@@ -82,9 +82,9 @@ string_and_next b p = (
     value_len = le b (p + 2) 2;
     text_type = le b (p + 4) 2;
     key = range b (p + 6) (key_length b (p + 6));
-    value = range b (value_place b p) (lengthened b p);
+    value = range b (value_offset b p) (lengthened b p);
   }),
-  value_place b p + lengthened b p,
+  value_offset b p + lengthened b p,
 )
 
 -- a text has at most 32,767 code units
@@ -96,34 +96,34 @@ unfoldable pub whole_string_at : List ℕ → ℕ → Result (Option VersionStri
 whole_string_at b p = outcome
     ((holds b (p + 2) 4, Short)
     ∷ (is_short_text b p, refusals.ResourceString)
-    ∷ (holds b (value_place b p) (value_bytes b p), refusals.ResourceString)
+    ∷ (holds b (value_offset b p) (value_bytes b p), refusals.ResourceString)
     ∷ [])
     (string_and_next b p)
 
 -- the string at p and the start of the next one, or the first refusal; a length of 0 ends the strings
-abbrev pub string_at : List ℕ → ℕ → Result (Option VersionString × ℕ) Refusal
-string_at b p =
+abbrev pub version_string_at : List ℕ → ℕ → Result (Option VersionString × ℕ) Refusal
+version_string_at b p =
     if holds b p 2 then (if le b p 2 == 0 then Ok (None, p + 2) else whole_string_at b p) else Err Short
 
 -- the result of parsing at p, and the offset q after it; a refusal leaves the offset at p
-abbrev pub Parses : List ℕ → ℕ → Result (Option ResourceString) Error → ℕ → Type 0
-Parses b p (Ok s) q = string_at b p ≡ Ok (option_map string_view s, q)
-Parses b p (Err e) q = (string_at b p ≡ Err (kind_of e)) × (q ≡ p)
+abbrev pub ParsesString : List ℕ → ℕ → Result (Option ResourceString) Error → ℕ → Type 0
+ParsesString b p (Ok s) q = version_string_at b p ≡ Ok (option_map string_view s, q)
+ParsesString b p (Err e) q = (version_string_at b p ≡ Err (kind_of e)) × (q ≡ p)
 
 -- ---- the strings of a byte string
 
 -- these are the strings of b: each is read at the start of the bytes that the one before left; they end if no bytes are
 -- left, at a length of 0, and after a refusal
 abbrev pub Strings : List ℕ → List (Result VersionString Refusal) → Type 0
-Strings b [] = (b ≡ []) ⊎ ((q : ℕ) × (string_at b 0 ≡ Ok (None, q)))
-Strings b (Ok s ∷ more) = (b ≢ []) × (q : ℕ) × (string_at b 0 ≡ Ok (Some s, q)) × Strings (drop q b) more
-Strings b (Err e ∷ more) = (b ≢ []) × (string_at b 0 ≡ Err e) × (more ≡ [])
+Strings b [] = (b ≡ []) ⊎ ((q : ℕ) × (version_string_at b 0 ≡ Ok (None, q)))
+Strings b (Ok s ∷ more) = (b ≢ []) × (q : ℕ) × (version_string_at b 0 ≡ Ok (Some s, q)) × Strings (drop q b) more
+Strings b (Err e ∷ more) = (b ≢ []) × (version_string_at b 0 ≡ Err e) × (more ≡ [])
 
 -- the result of one call of `next`, and the bytes that it leaves
-abbrev pub GivesString : List ℕ → Option (Result ResourceString Error) → List ℕ → Type 0
-GivesString b None left = ((b ≡ []) ⊎ ((q : ℕ) × (string_at b 0 ≡ Ok (None, q)))) × (left ≡ [])
-GivesString b (Some (Ok s)) left = (b ≢ []) × (q : ℕ) × (string_at b 0 ≡ Ok (Some (string_view s), q)) × (left ≡ drop q b)
-GivesString b (Some (Err e)) left = (b ≢ []) × (string_at b 0 ≡ Err (kind_of e)) × (left ≡ [])
+abbrev pub ReturnsString : List ℕ → Option (Result ResourceString Error) → List ℕ → Type 0
+ReturnsString b None left = ((b ≡ []) ⊎ ((q : ℕ) × (version_string_at b 0 ≡ Ok (None, q)))) × (left ≡ [])
+ReturnsString b (Some (Ok s)) left = (b ≢ []) × (q : ℕ) × (version_string_at b 0 ≡ Ok (Some (string_view s), q)) × (left ≡ drop q b)
+ReturnsString b (Some (Err e)) left = (b ≢ []) × (version_string_at b 0 ≡ Err (kind_of e)) × (left ≡ [])
 
 -- the bytes that an iterator has left
 abbrev pub rest_of : ResourceStringIterator → List ℕ
@@ -143,7 +143,7 @@ then_more rest b (Ok (Some s, q)) = Ok s ∷ rest (drop q b)
 -- the strings of at most n bytes
 abbrev pub strings_in : ℕ → List ℕ → List (Result VersionString Refusal)
 strings_in zero b = []
-strings_in (suc n) b = if length b == 0 then [] else then_more (strings_in n) b (string_at b 0)
+strings_in (suc n) b = if length b == 0 then [] else then_more (strings_in n) b (version_string_at b 0)
 
 -- the strings of b, as a function
 unfoldable pub strings : List ℕ → List (Result VersionString Refusal)
@@ -173,15 +173,19 @@ value_of name ss = option_map (λ s. s.value) (with_key name ss)
 
 -- the start of a string's value, from the start of the string: after its head of 6 bytes, its key and the zero code
 -- unit
-abbrev pub value_begin : VersionString → ℕ
-value_begin s = up_to_four (6 + length s.key + 2)
+abbrev pub value_start : VersionString → ℕ
+value_start s = up_to_four (6 + length s.key + 2)
 
 -- the range of the value of the first string with a name, if the first of the strings starts at p
 abbrev pub value_range : List ℕ → ℕ → List VersionString → Option ByteRange
 value_range name p [] = None
 value_range name p (s ∷ ss) =
-    if is_name name (text s.key) then Some (record { place = p + value_begin s; length = length s.value })
-    else value_range name (p + (value_begin s + length s.value)) ss
+    if is_name name (text s.key) then Some (record { offset = p + value_start s; length = length s.value })
+    else value_range name (p + (value_start s + length s.value)) ss
+
+-- the range of the value of each name, or the first refusal of a string
+unfoldable pub value_ranges : List (List ℕ) → List ℕ → Result (List (Option ByteRange)) Refusal
+value_ranges names b = all_read (strings b) >>= λ _. Ok (map (λ name. value_range name 0 (read (strings b))) names)
 
 -- the character is ASCII and not zero
 abbrev pub is_plain : ℕ → Bool
@@ -190,3 +194,7 @@ is_plain c = nat_lt 0 c && nat_lt c 128
 -- every character is ASCII and not zero
 abbrev pub IsPlain : List ℕ → Type 0
 IsPlain name = list_all is_plain name ≡ true
+
+-- the same of every character of these names
+abbrev pub ArePlain : List (List ℕ) → Type 0
+ArePlain names = list_all (list_all is_plain) names ≡ true

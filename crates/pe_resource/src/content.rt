@@ -4,15 +4,15 @@
 
 ghost use Rattle.std.specs.Prelude.{◌≡◌, ◌+◌, ◌≤◌, length, IfOk, IfSome};
 ghost use Rattle.std.specs.Option.{option_map};
-ghost use Rattle.pe_core.specs.Places.{IsWithin};
-ghost use Rattle.pe_core.specs.Refusals.{Gives, answer_by};
+ghost use Rattle.pe_core.specs.Offsets.{IsWithin};
+ghost use Rattle.pe_core.specs.Refusals.{Returns, answer_by};
 ghost use Rattle.pe_resource.specs.Contents.{map_of, IsLeaf, data_entry_at, file_range, named_range, range_in, IsContentRange, IsContent};
 ghost use Rattle.pe_resource.specs.ResourceEntries.{entries_left, with_id};
 
 use crate::directory::ResourceEntryIterator;
 use crate::entry::walk;
 use pe_core::{
-    ByteRange, Error, ParseOptions, Reason, Result, SectionTable, mapped_offset, number32,
+    ByteRange, Error, ParseOptions, Reason, Result, SectionTable, mapped_offset, read_u32,
     require_bytes,
 };
 
@@ -35,17 +35,17 @@ pub struct ResourceDataEntry {
 }
 
 impl ResourceDataEntry {
-    /// Reads the data entry at `place`. The caller has checked that its 16 bytes are there.
+    /// Reads the data entry at `offset`. The caller has checked that its 16 bytes are there.
     #[tactic(auto, unfolding(crate::specs::Contents::data_entry_at))]
-    fn at(bytes: &[u8], place: usize) -> ResourceDataEntry
-        requires { place + 16 ≤ length bytes.now }
-        ensures { result ≡ data_entry_at bytes.now place }
+    fn at(bytes: &[u8], offset: usize) -> ResourceDataEntry
+        requires { offset + 16 ≤ length bytes.now }
+        ensures { result ≡ data_entry_at bytes.now offset }
     {
         ResourceDataEntry {
-            offset_to_data: number32(bytes, place),
-            size: number32(bytes, place + 4),
-            code_page: number32(bytes, place + 8),
-            reserved: number32(bytes, place + 12),
+            offset_to_data: read_u32(bytes, offset),
+            size: read_u32(bytes, offset + 4),
+            code_page: read_u32(bytes, offset + 8),
+            reserved: read_u32(bytes, offset + 12),
         }
     }
 }
@@ -73,34 +73,34 @@ pub(crate) fn file_range(
     file_alignment: u32,
     opts: &ParseOptions,
 ) -> Result<ByteRange>
-    ensures range { Gives (λ r. r) result (file_range pe.now size (map_of opts.now sections.now file_alignment address)) }
+    ensures range { Returns (λ r. r) result (file_range pe.now size (map_of opts.now sections.now file_alignment address)) }
     ensures within { IfOk result (IsWithin pe.now) }
 {
-    let place = mapped_offset(address, sections, file_alignment, opts)?;
+    let offset = mapped_offset(address, sections, file_alignment, opts)?;
     let length = size as usize;
-    if pe.len() < length || pe.len() - length < place {
-        let end = (place as u64).saturating_add(length as u64);
+    if pe.len() < length || pe.len() - length < offset {
+        let end = (offset as u64).saturating_add(length as u64);
         return Err(Error::Malformed(Reason::ResourceBounds(end)));
     }
-    Ok(ByteRange { place, length })
+    Ok(ByteRange { offset, length })
 }
 
-/// The file range of the content of the data entry at `place`.
+/// The file range of the content of the data entry at `offset`.
 #[tactic(auto, unfolding(crate::specs::Contents::named_range))]
 fn named_range(
     pe: &[u8],
     bytes: &[u8],
-    place: u32,
+    offset: u32,
     sections: &[SectionTable],
     file_alignment: u32,
     opts: &ParseOptions,
 ) -> Result<ByteRange>
-    ensures range { Gives (λ r. r) result (named_range (map_of opts.now sections.now file_alignment) pe.now bytes.now place) }
+    ensures range { Returns (λ r. r) result (named_range (map_of opts.now sections.now file_alignment) pe.now bytes.now offset) }
     ensures within { IfOk result (IsWithin pe.now) }
 {
-    let place = place as usize;
-    require_bytes(bytes, place, SIZE_OF_DATA_ENTRY)?;
-    let entry = ResourceDataEntry::at(bytes, place);
+    let offset = offset as usize;
+    require_bytes(bytes, offset, SIZE_OF_DATA_ENTRY)?;
+    let entry = ResourceDataEntry::at(bytes, offset);
     file_range(
         pe,
         entry.offset_to_data,
@@ -126,7 +126,7 @@ pub(crate) fn content_range(
 {
     match leaf(bytes, it, id)? {
         None => Ok(None),
-        Some(place) => Ok(Some(named_range(pe, bytes, place, sections, file_alignment, opts)?)),
+        Some(offset) => Ok(Some(named_range(pe, bytes, offset, sections, file_alignment, opts)?)),
     }
 }
 

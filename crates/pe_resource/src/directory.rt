@@ -7,14 +7,14 @@ ghost use Rattle.std.specs.Prelude.{◌≡◌, ◌+◌, ◌*◌, ◌≤◌, leng
 ghost use Rattle.std.specs.Iterator.{UpTo, YieldsFirstBy, item_count};
 ghost use Rattle.std.specs.Iterator.SizeHint.{IsWithinCount};
 ghost use Rattle.pe_core.specs.Options.{default_options};
-ghost use Rattle.pe_core.specs.Refusals.{Gives, answer_by};
+ghost use Rattle.pe_core.specs.Refusals.{Returns, answer_by};
 ghost use Rattle.pe_resource.specs.Directories.{directory_of, directory_at, count, entries_at};
 ghost use Rattle.pe_resource.specs.ResourceEntries.{entries, entries_left, items_left, with_id};
 
 use crate::constants::RESOURCE_ENTRY_SIZE;
 use crate::entry::ResourceEntry;
 use pe_core::{
-    DataDirectory, ParseOptions, Result, SectionTable, mapped_offset, number16, number32,
+    DataDirectory, ParseOptions, Result, SectionTable, mapped_offset, read_u16, read_u32,
     require_bytes, slice_at,
 };
 
@@ -39,50 +39,61 @@ pub struct ImageResourceDirectory {
 }
 
 impl ImageResourceDirectory {
-    /// Reads the directory at `place`. The caller has checked that its 16 bytes are there.
+    /// Reads the directory at `offset`. The caller has checked that its 16 bytes are there.
     #[tactic(auto, unfolding(crate::specs::Directories::directory_of))]
-    pub(crate) fn at(bytes: &[u8], place: usize) -> ImageResourceDirectory
-        requires { place + 16 ≤ length bytes.now }
-        ensures { result ≡ directory_of bytes.now place }
+    pub(crate) fn at(bytes: &[u8], offset: usize) -> ImageResourceDirectory
+        requires { offset + 16 ≤ length bytes.now }
+        ensures { result ≡ directory_of bytes.now offset }
     {
         ImageResourceDirectory {
-            characteristics: number32(bytes, place),
-            time_date_stamp: number32(bytes, place + 4),
-            major_version: number16(bytes, place + 8),
-            minor_version: number16(bytes, place + 10),
-            number_of_named_entries: number16(bytes, place + 12),
-            number_of_id_entries: number16(bytes, place + 14),
+            characteristics: read_u32(bytes, offset),
+            time_date_stamp: read_u32(bytes, offset + 4),
+            major_version: read_u16(bytes, offset + 8),
+            minor_version: read_u16(bytes, offset + 10),
+            number_of_named_entries: read_u16(bytes, offset + 12),
+            number_of_id_entries: read_u16(bytes, offset + 14),
         }
     }
 
     /// Reads the first resource directory with the default options. See `parse_with_opts`.
     pub fn parse(
         bytes: &[u8],
-        dd: DataDirectory,
+        data_directory: DataDirectory,
         sections: &[SectionTable],
         file_alignment: u32,
     ) -> Result<ImageResourceDirectory>
-        ensures { Gives (λ d. d) result (directory_at default_options bytes.now dd sections.now file_alignment) }
+        ensures { Returns (λ d. d) result (directory_at default_options bytes.now data_directory sections.now file_alignment) }
     {
         let opts = ParseOptions::default();
-        ImageResourceDirectory::parse_with_opts(bytes, dd, sections, file_alignment, &opts)
+        ImageResourceDirectory::parse_with_opts(
+            bytes,
+            data_directory,
+            sections,
+            file_alignment,
+            &opts,
+        )
     }
 
-    /// Reads the first resource directory: that at the RVA of the data directory `dd`. `bytes` is the whole file.
+    /// Reads the first resource directory: that at the RVA of `data_directory`. `bytes` is the whole file.
     /// Errors, in this order: `Unmapped` if the RVA is not mapped; `Short` if the 16 bytes are truncated.
     #[tactic(auto, unfolding(crate::specs::Directories::directory_at))]
     pub fn parse_with_opts(
         bytes: &[u8],
-        dd: DataDirectory,
+        data_directory: DataDirectory,
         sections: &[SectionTable],
         file_alignment: u32,
         opts: &ParseOptions,
     ) -> Result<ImageResourceDirectory>
-        ensures { Gives (λ d. d) result (directory_at opts.now bytes.now dd sections.now file_alignment) }
+        ensures { Returns (λ d. d) result (directory_at opts.now bytes.now data_directory sections.now file_alignment) }
     {
-        let place = mapped_offset(dd.virtual_address, sections, file_alignment, opts)?;
-        require_bytes(bytes, place, SIZE_OF_DIRECTORY)?;
-        Ok(ImageResourceDirectory::at(bytes, place))
+        let offset = mapped_offset(
+            data_directory.virtual_address,
+            sections,
+            file_alignment,
+            opts,
+        )?;
+        require_bytes(bytes, offset, SIZE_OF_DIRECTORY)?;
+        Ok(ImageResourceDirectory::at(bytes, offset))
     }
 
     /// The number of entries: the sum of both counts, at most 65,535.
@@ -104,7 +115,7 @@ impl ImageResourceDirectory {
     /// they are truncated. All entries are one read, so an offset past the end of `bytes` is `Short` even without
     /// entries.
     pub fn next_iter<'a>(&self, offset: usize, bytes: &'a [u8]) -> Result<ResourceEntryIterator<'a>>
-        ensures { Gives entries_left result (entries_at bytes.entry.now offset self.now) }
+        ensures { Returns entries_left result (entries_at bytes.entry.now offset self.now) }
     {
         let table = slice_at(bytes, offset, self.entries_size())?;
         Ok(ResourceEntryIterator::new(table))

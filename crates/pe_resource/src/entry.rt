@@ -5,16 +5,16 @@
 
 ghost use Rattle.std.specs.Prelude.{◌≡◌, ◌≢◌, ◌+◌, ◌*◌, ◌<◌, ◌≤◌, ◌↔◌, ℕ, Bool, length, Ok, Err, IfOk, IsSome};
 ghost use Rattle.std.specs.Fn.{FnReturnsAt};
-ghost use Rattle.pe_core.specs.Refusals.{Gives, Memory, ResourceCycle, answer_by};
+ghost use Rattle.pe_core.specs.Refusals.{Returns, Memory, ResourceCycle, answer_by};
 ghost use Rattle.pe_resource.specs.declared.entry.ResourceEntry.{ResourceEntry};
-ghost use Rattle.pe_resource.specs.ResourceEntries.{entry_of, number_of, entry_at, has_name, name_place, id_of, is_directory, directory_place, data_place, has_id};
-ghost use Rattle.pe_resource.specs.ResourceWalk.{first_at, step, Walks, IsEndless, IsSteady, Found};
+ghost use Rattle.pe_resource.specs.ResourceEntries.{entry_of, number_of, entry_at, has_name, name_offset, id_of, is_directory, directory_offset, data_offset, has_id};
+ghost use Rattle.pe_resource.specs.ResourceWalk.{first_at, step, Walks, IsEndlessWalk, IsSteady, Found};
 
 use crate::constants::{
     IMAGE_RESOURCE_DATA_IS_DIRECTORY, IMAGE_RESOURCE_MASK, IMAGE_RESOURCE_NAME_IS_STRING,
 };
 use crate::directory::{ImageResourceDirectory, SIZE_OF_DIRECTORY};
-use pe_core::{Error, Reason, Result, number32, require_bytes};
+use pe_core::{Error, Reason, Result, read_u32, require_bytes};
 use std::alloc::Allocator;
 
 /// An entry of a resource directory, 8 bytes: a name or an id, and the offset of what it leads to.
@@ -41,14 +41,14 @@ impl From<u64> for ResourceEntry {
 }
 
 impl ResourceEntry {
-    /// Reads the entry at `place`. The caller has checked that its 8 bytes are there.
-    pub(crate) fn at(bytes: &[u8], place: usize) -> ResourceEntry
-        requires { place + 8 ≤ length bytes.now }
-        ensures { result ≡ entry_at bytes.now place }
+    /// Reads the entry at `offset`. The caller has checked that its 8 bytes are there.
+    pub(crate) fn at(bytes: &[u8], offset: usize) -> ResourceEntry
+        requires { offset + 8 ≤ length bytes.now }
+        ensures { result ≡ entry_at bytes.now offset }
     {
         ResourceEntry {
-            name_or_id: number32(bytes, place),
-            offset_to_data_or_directory: number32(bytes, place + 4),
+            name_or_id: read_u32(bytes, offset),
+            offset_to_data_or_directory: read_u32(bytes, offset + 4),
         }
     }
 
@@ -68,7 +68,7 @@ impl ResourceEntry {
 
     /// The low 31 bits of `name_or_id`: the offset of the name from the first directory, if the entry has a name.
     pub fn name_offset(&self) -> u32
-        ensures { result ≡ name_place self.now }
+        ensures { result ≡ name_offset self.now }
     {
         self.name_or_id & IMAGE_RESOURCE_MASK
     }
@@ -94,14 +94,14 @@ impl ResourceEntry {
     /// The low 31 bits of `offset_to_data_or_directory`: the offset of the directory from the first directory, if the
     /// entry leads to a directory.
     pub fn offset_to_directory(&self) -> u32
-        ensures { result ≡ directory_place self.now }
+        ensures { result ≡ directory_offset self.now }
     {
         self.offset_to_data_or_directory & IMAGE_RESOURCE_MASK
     }
 
     /// The offset of the data entry from the first directory. `None` if the entry leads to a directory.
     pub fn offset_to_data(&self) -> Option<u32>
-        ensures { result ≡ data_place self.now }
+        ensures { result ≡ data_offset self.now }
     {
         if self.data_is_directory() {
             None
@@ -123,7 +123,7 @@ impl ResourceEntry {
     /// Returns the first entry of the directory that this entry leads to, whatever bit 31 says. `bytes` starts with the
     /// first directory. `None` if the directory has no entries. `Short` if the directory or its entries are truncated.
     pub fn next_depth(&self, bytes: &[u8]) -> Result<Option<ResourceEntry>>
-        ensures { Gives (λ e. e) result (step bytes.now self.now) }
+        ensures { Returns (λ e. e) result (step bytes.now self.now) }
     {
         first_at(bytes, self.offset_to_directory() as usize)
     }
@@ -144,7 +144,7 @@ impl ResourceEntry {
         requires { P.IsAlwaysCallable predicate }
         ensures walks { (p : ResourceEntry → Bool) → IsSteady P.Fn predicate p → Found (answer_by (λ e. e) result) (Walks bytes.now p self.now) }
         ensures cycle { (p : ResourceEntry → Bool) → IsSteady P.Fn predicate p →
-            ((answer_by (λ e. e) result ≡ Err ResourceCycle) ↔ IsEndless bytes.now p self.now) }
+            ((answer_by (λ e. e) result ≡ Err ResourceCycle) ↔ IsEndlessWalk bytes.now p self.now) }
         ensures entry { IfOk result (λ e. IsSome e) }
         ensures no_memory { answer_by (λ e. e) result ≢ Err Memory }
     {
@@ -152,19 +152,19 @@ impl ResourceEntry {
     }
 }
 
-/// The first entry of the directory at `place`. `None` if it has no entries, `Short` if it or its entries are
+/// The first entry of the directory at `offset`. `None` if it has no entries, `Short` if it or its entries are
 /// truncated.
 #[tactic(auto, unfolding(crate::specs::ResourceWalk::first_at))]
-fn first_at(bytes: &[u8], place: usize) -> Result<Option<ResourceEntry>>
-    ensures { Gives (λ e. e) result (first_at bytes.now place) }
+fn first_at(bytes: &[u8], offset: usize) -> Result<Option<ResourceEntry>>
+    ensures { Returns (λ e. e) result (first_at bytes.now offset) }
 {
-    require_bytes(bytes, place, SIZE_OF_DIRECTORY)?;
-    let directory = ImageResourceDirectory::at(bytes, place);
-    require_bytes(bytes, place + SIZE_OF_DIRECTORY, directory.entries_size())?;
+    require_bytes(bytes, offset, SIZE_OF_DIRECTORY)?;
+    let directory = ImageResourceDirectory::at(bytes, offset);
+    require_bytes(bytes, offset + SIZE_OF_DIRECTORY, directory.entries_size())?;
     if directory.count() == 0 {
         return Ok(None);
     }
-    Ok(Some(ResourceEntry::at(bytes, place + SIZE_OF_DIRECTORY)))
+    Ok(Some(ResourceEntry::at(bytes, offset + SIZE_OF_DIRECTORY)))
 }
 
 /// Calls the predicate.
@@ -198,13 +198,13 @@ pub(crate) fn walk<P: Fn(&ResourceEntry) -> bool>(
         if !is_passed(&predicate, &entry) {
             return Ok(entry);
         }
-        let place = entry.offset_to_directory();
-        if place == saved {
-            return Err(Error::Malformed(Reason::ResourceCycle(place)));
+        let offset = entry.offset_to_directory();
+        if offset == saved {
+            return Err(Error::Malformed(Reason::ResourceCycle(offset)));
         }
         current = entry;
         if steps + 1 == power {
-            saved = place;
+            saved = offset;
             power = power.saturating_mul(2);
         }
     }

@@ -5,8 +5,8 @@
 ghost use Rattle.std.specs.Prelude.{◌≡◌, ◌≢◌, Err, Ok, IfOk, IfSome};
 ghost use Rattle.std.specs.Option.{option_map};
 ghost use Rattle.pe_core.specs.Options.{default_options};
-ghost use Rattle.pe_core.specs.Places.{IsWithin};
-ghost use Rattle.pe_core.specs.Refusals.{Gives, Memory, answer_by};
+ghost use Rattle.pe_core.specs.Offsets.{IsWithin};
+ghost use Rattle.pe_core.specs.Refusals.{Returns, Memory, answer_by};
 ghost use Rattle.pe_resource.specs.Contents.{map_of};
 ghost use Rattle.pe_resource.specs.Directories.{count};
 ghost use Rattle.pe_resource.specs.ResourceEntries.{entries, entries_left};
@@ -60,7 +60,7 @@ fn first_entries<'a>(
     directory: &ImageResourceDirectory,
     mode: ParseMode,
 ) -> Result<Option<&'a [u8]>>
-    ensures { Gives (option_map (λ s. s.now)) result (first_entries_in mode data.entry.now directory.now) }
+    ensures { Returns (option_map (λ s. s.now)) result (first_entries_in mode data.entry.now directory.now) }
 {
     let fits = SIZE_OF_DIRECTORY <= data.len();
     let size = directory.entries_size();
@@ -88,16 +88,16 @@ impl<'a> FirstDirectory<'a> {
     #[tactic(auto, unfolding(crate::specs::Resources::first_directory))]
     fn parse(
         bytes: &'a [u8],
-        dd: DataDirectory,
+        data_directory: DataDirectory,
         sections: &[SectionTable],
         file_alignment: u32,
         opts: &ParseOptions,
     ) -> Result<Option<FirstDirectory<'a>>>
-        ensures { Gives (option_map first_directory_view) result (first_directory opts.now bytes.entry.now dd sections.now file_alignment) }
+        ensures { Returns (option_map first_directory_view) result (first_directory opts.now bytes.entry.now data_directory sections.now file_alignment) }
     {
         let directory = ImageResourceDirectory::parse_with_opts(
             bytes,
-            dd,
+            data_directory,
             sections,
             file_alignment,
             opts,
@@ -105,10 +105,10 @@ impl<'a> FirstDirectory<'a> {
         let DataDirectory {
             virtual_address,
             size,
-        } = dd;
+        } = data_directory;
         let range = file_range(bytes, virtual_address, size, sections, file_alignment, opts)?;
         let data = range.of(bytes);
-        match first_entries(data, range.place, &directory, opts.parse_mode)? {
+        match first_entries(data, range.offset, &directory, opts.parse_mode)? {
             None => Ok(None),
             Some(table) => Ok(Some(FirstDirectory {
                 directory,
@@ -132,18 +132,25 @@ impl<'a> ResourceData<'a> {
     pub fn parse<A: Allocator + Copy + Drop>(
         alloc: A,
         bytes: &'a [u8],
-        dd: DataDirectory,
+        data_directory: DataDirectory,
         sections: &[SectionTable],
         file_alignment: u32,
     ) -> Result<ResourceData<'a>>
-        ensures resource { IsResource default_options bytes.entry.now dd sections.now file_alignment (answer_by resource_view result) }
+        ensures resource { IsResource default_options bytes.entry.now data_directory sections.now file_alignment (answer_by resource_view result) }
         ensures no_memory { answer_by resource_view result ≢ Err Memory }
     {
         let opts = ParseOptions::default();
-        ResourceData::parse_with_opts(alloc, bytes, dd, sections, file_alignment, &opts)
+        ResourceData::parse_with_opts(
+            alloc,
+            bytes,
+            data_directory,
+            sections,
+            file_alignment,
+            &opts,
+        )
     }
 
-    /// Reads the resources at the RVA of the data directory `dd`. `bytes` is the whole file. The data is the `dd.size`
+    /// Reads the resources at the RVA of `data_directory`. `bytes` is the whole file. The data is the `data_directory.size`
     /// bytes at that RVA. Errors, in this order:
     /// - of the first directory: `Unmapped` if the RVA is not mapped, `Short` if the directory is truncated;
     /// - `ResourceBounds` if the data is not in the file;
@@ -157,15 +164,15 @@ impl<'a> ResourceData<'a> {
     pub fn parse_with_opts<A: Allocator + Copy + Drop>(
         _alloc: A,
         bytes: &'a [u8],
-        dd: DataDirectory,
+        data_directory: DataDirectory,
         sections: &[SectionTable],
         file_alignment: u32,
         opts: &ParseOptions,
     ) -> Result<ResourceData<'a>>
-        ensures resource { IsResource opts.now bytes.entry.now dd sections.now file_alignment (answer_by resource_view result) }
+        ensures resource { IsResource opts.now bytes.entry.now data_directory sections.now file_alignment (answer_by resource_view result) }
         ensures no_memory { answer_by resource_view result ≢ Err Memory }
     {
-        ResourceData::of_directory(bytes, dd, sections, file_alignment, opts)
+        ResourceData::of_directory(bytes, data_directory, sections, file_alignment, opts)
     }
 
     /// Returns the file range of the content of the first resource with this id, such as `RT_VERSION` or `RT_MANIFEST`:
@@ -178,16 +185,16 @@ impl<'a> ResourceData<'a> {
     /// mapped, `ResourceBounds` if its content is not in the file. Other resources cause no errors.
     pub fn content_range(
         bytes: &[u8],
-        dd: DataDirectory,
+        data_directory: DataDirectory,
         id: u16,
         sections: &[SectionTable],
         file_alignment: u32,
         opts: &ParseOptions,
     ) -> Result<Option<ByteRange>>
-        ensures range { IsResourceRange opts.now bytes.now dd id sections.now file_alignment (answer_by (λ r. r) result) }
+        ensures range { IsResourceRange opts.now bytes.now data_directory id sections.now file_alignment (answer_by (λ r. r) result) }
         ensures within { IfOk result (λ r. IfSome r (IsWithin bytes.now)) }
     {
-        match FirstDirectory::parse(bytes, dd, sections, file_alignment, opts)? {
+        match FirstDirectory::parse(bytes, data_directory, sections, file_alignment, opts)? {
             None => Ok(None),
             Some(first) => {
                 let it = first.entries();
@@ -199,14 +206,14 @@ impl<'a> ResourceData<'a> {
     /// Reads the resources: `parse_with_opts`.
     fn of_directory(
         bytes: &'a [u8],
-        dd: DataDirectory,
+        data_directory: DataDirectory,
         sections: &[SectionTable],
         file_alignment: u32,
         opts: &ParseOptions,
     ) -> Result<ResourceData<'a>>
-        ensures { IsResource opts.now bytes.entry.now dd sections.now file_alignment (answer_by resource_view result) }
+        ensures { IsResource opts.now bytes.entry.now data_directory sections.now file_alignment (answer_by resource_view result) }
     {
-        match FirstDirectory::parse(bytes, dd, sections, file_alignment, opts)? {
+        match FirstDirectory::parse(bytes, data_directory, sections, file_alignment, opts)? {
             None => Ok(ResourceData::default()),
             Some(first) => ResourceData::of_first(bytes, first, sections, file_alignment, opts),
         }

@@ -3,17 +3,17 @@
 //! (<https://learn.microsoft.com/windows/win32/menurc/vs-versioninfo>) they are a tree of blocks. Here the tree is read
 //! flat: the next string starts where a value ends, so a block is followed by its children.
 
-ghost use Rattle.std.specs.Prelude.{◌≡◌, ◌+◌, ◌-◌, ◌*◌, ◌/◌, ◌==◌, ◌<◌, ◌≤◌, ◌^◌, ◌↔◌, length, OnOk, IfOk, IfSome, IsTrue, Some, take};
+ghost use Rattle.std.specs.Prelude.{All, EachIndex, slice_index_or, map, [], None, if◌then◌else◌, ◌≡◌, ◌+◌, ◌-◌, ◌*◌, ◌/◌, ◌==◌, ◌<◌, ◌≤◌, ◌^◌, ◌↔◌, length, OnOk, IfOk, IfSome, IsTrue, Some, take};
 ghost use Rattle.std.specs.Iterator.{at_most};
-ghost use Rattle.std.specs.Option.{option_map};
+ghost use Rattle.std.specs.Option.{option_map, option_or};
 ghost use Rattle.pe_core.specs.Bytes.{le};
-ghost use Rattle.pe_core.specs.Places.{IsWithin};
-ghost use Rattle.pe_core.specs.Refusals.{Gives, kind_of};
-ghost use Rattle.pe_resource.specs.VersionFields.{GivesText};
-ghost use Rattle.pe_resource.specs.VersionStrings.{Parses, GivesString, VersionString, string_view, key_length, value_place, units, before_zero, text, is_name, IsPlain, rest_of, strings, read, all_read, value_of, value_range};
+ghost use Rattle.pe_core.specs.Offsets.{IsWithin};
+ghost use Rattle.pe_core.specs.Refusals.{Returns, kind_of};
+ghost use Rattle.pe_resource.specs.VersionFields.{ReturnsText};
+ghost use Rattle.pe_resource.specs.VersionStrings.{ParsesString, ReturnsString, VersionString, string_view, key_length, value_offset, units, before_zero, text, is_name, IsPlain, ArePlain, rest_of, strings, read, all_read, value_of, value_range, value_ranges};
 
 use crate::constants::RESOURCE_STRING_FIELD_ALIGNMENT;
-use pe_core::{ByteRange, Error, Reason, Result, number16, require_bytes, rounded_up};
+use pe_core::{ByteRange, Error, Reason, Result, read_u16, require_bytes, rounded_up};
 use std::alloc::{AllocError, Allocator};
 
 /// `text_type` of a string with a binary value.
@@ -47,18 +47,18 @@ pub struct ResourceString<'a> {
     pub value: &'a [u8],
 }
 
-/// The size in bytes of the code units at `place`, up to the first zero code unit or the end.
+/// The size in bytes of the code units at `offset`, up to the first zero code unit or the end.
 #[tactic(auto, using(crate::proofs::Keys::key_more, crate::proofs::Keys::key_end, crate::proofs::Keys::key_none))]
-fn key_length(bytes: &[u8], place: usize) -> usize
-    requires { place ≤ length bytes.now }
-    ensures key { result ≡ key_length bytes.now place }
-    ensures within { place + result ≤ length bytes.now }
+fn key_length(bytes: &[u8], offset: usize) -> usize
+    requires { offset ≤ length bytes.now }
+    ensures key { result ≡ key_length bytes.now offset }
+    ensures within { offset + result ≤ length bytes.now }
 {
-    let mut end = place;
-    while end + 1 < bytes.len() && number16(bytes, end) != 0 {
+    let mut end = offset;
+    while end + 1 < bytes.len() && read_u16(bytes, end) != 0 {
         end += SIZE_OF_UNIT;
     }
-    end - place
+    end - offset
 }
 
 impl<'a> ResourceString<'a> {
@@ -68,47 +68,47 @@ impl<'a> ResourceString<'a> {
     ///
     /// Errors, in this order, each of which leaves `offset` unchanged: `Short` if the length, the value length or the
     /// type is truncated; `ResourceString` if a text has more than 32,767 code units, or if the value is truncated.
-    #[tactic(auto, unfolding(crate::specs::VersionStrings::whole_string_at, crate::specs::VersionStrings::string_and_next, crate::specs::VersionStrings::lengthened, crate::specs::VersionStrings::value_place))]
+    #[tactic(auto, unfolding(crate::specs::VersionStrings::whole_string_at, crate::specs::VersionStrings::string_and_next, crate::specs::VersionStrings::lengthened, crate::specs::VersionStrings::value_offset))]
     pub fn parse(bytes: &'a [u8], offset: &mut usize) -> Result<Option<ResourceString<'a>>>
-        ensures string { Parses bytes.entry.now offset.old result offset.new }
+        ensures string { ParsesString bytes.entry.now offset.old result offset.new }
         ensures within { OnOk result (offset.new ≤ length bytes.entry.now) }
         ensures further { OnOk result (offset.old < offset.new) }
     {
-        let place = *offset;
-        require_bytes(bytes, place, 2)?;
-        let len = number16(bytes, place);
+        let start = *offset;
+        require_bytes(bytes, start, 2)?;
+        let len = read_u16(bytes, start);
         if len == 0 {
-            *offset = place + 2;
+            *offset = start + 2;
             return Ok(None);
         }
-        require_bytes(bytes, place + 2, 4)?;
-        let value_len = number16(bytes, place + 2);
-        let text_type = number16(bytes, place + 4);
-        let key = key_length(bytes, place + SIZE_OF_HEAD);
-        let key_end = place + SIZE_OF_HEAD + key + SIZE_OF_UNIT;
-        let value_place = rounded_up(key_end, RESOURCE_STRING_FIELD_ALIGNMENT);
+        require_bytes(bytes, start + 2, 4)?;
+        let value_len = read_u16(bytes, start + 2);
+        let text_type = read_u16(bytes, start + 4);
+        let key = key_length(bytes, start + SIZE_OF_HEAD);
+        let key_end = start + SIZE_OF_HEAD + key + SIZE_OF_UNIT;
+        let value_offset = rounded_up(key_end, RESOURCE_STRING_FIELD_ALIGNMENT);
         let size = if text_type == TEXT {
             SIZE_OF_UNIT * usize::from(value_len)
         } else {
             usize::from(value_len)
         };
         let too_long = text_type == TEXT && MOST_UNITS < value_len;
-        if too_long || bytes.len() < size || bytes.len() - size < value_place {
-            return Err(Error::Malformed(Reason::ResourceString(place_in_refusal(place))));
+        if too_long || bytes.len() < size || bytes.len() - size < value_offset {
+            return Err(Error::Malformed(Reason::ResourceString(offset_in_refusal(start))));
         }
         let longer = rounded_up(size, RESOURCE_STRING_FIELD_ALIGNMENT);
-        let size = if longer <= bytes.len() - value_place {
+        let size = if longer <= bytes.len() - value_offset {
             longer
         } else {
             size
         };
-        *offset = value_place + size;
+        *offset = value_offset + size;
         Ok(Some(ResourceString {
             len,
             value_len,
             text_type,
-            key: &bytes[place + SIZE_OF_HEAD..place + SIZE_OF_HEAD + key],
-            value: &bytes[value_place..value_place + size],
+            key: &bytes[start + SIZE_OF_HEAD..start + SIZE_OF_HEAD + key],
+            value: &bytes[value_offset..value_offset + size],
         }))
     }
 
@@ -131,7 +131,7 @@ impl<'a> ResourceString<'a> {
         &self,
         alloc: A,
     ) -> std::result::Result<Option<String<A>>, AllocError>
-        ensures { GivesText result (Some (string_view self.now).key) }
+        ensures { ReturnsText result (Some (string_view self.now).key) }
     {
         text_of(alloc, self.key)
     }
@@ -142,17 +142,34 @@ impl<'a> ResourceString<'a> {
         &self,
         alloc: A,
     ) -> std::result::Result<Option<String<A>>, AllocError>
-        ensures { GivesText result (Some self.now.value.now) }
+        ensures { ReturnsText result (Some self.now.value.now) }
     {
         text_of(alloc, self.value)
     }
 
-    /// Whether the text of the key is this name.
+    /// Whether the text of the key is this name. The text is not built, so no memory is asked for.
+    #[tactic(auto, using(crate::proofs::Names::name_whole))]
     fn has_key(&self, name: &str) -> bool
-        requires { IsPlain name.now }
+        requires plain { IsPlain name.now }
+        requires whole { key_length self.now.key.now 0 ≡ length self.now.key.now }
         ensures { result ≡ is_name name.now (text (string_view self.now).key) }
     {
-        is_text(self.key, name)
+        same_units(self.key, name.as_bytes())
+    }
+
+    /// Keeps a range for each key that is the key of this string, where none is kept.
+    fn keep_range(&self, keys: &[&str], kept: &mut [Option<ByteRange>], range: ByteRange)
+        requires plain { ArePlain (map (λ key. key.now) keys.now) }
+        requires whole { key_length self.now.key.now 0 ≡ length self.now.key.now }
+        requires many { length kept.old ≡ length keys.now }
+        ensures many { length kept.new ≡ length keys.now }
+        ensures kept { EachIndex keys.now (λ i. slice_index_or kept.new i None ≡ option_or (slice_index_or kept.old i None) (if is_name (slice_index_or (map (λ key. key.now) keys.now) i []) (text (string_view self.now).key) then Some range else None)) }
+    {
+        for i in 0..keys.len() {
+            if kept[i].is_none() && self.has_key(keys[i]) {
+                kept[i] = Some(range);
+            }
+        }
     }
 }
 
@@ -165,23 +182,11 @@ fn same_units(bytes: &[u8], name: &[u8]) -> bool
         return false;
     }
     for i in 0..name.len() {
-        if number16(bytes, SIZE_OF_UNIT * i) != u16::from(name[i]) {
+        if read_u16(bytes, SIZE_OF_UNIT * i) != u16::from(name[i]) {
             return false;
         }
     }
     true
-}
-
-/// Whether the text in `bytes` is this name. The text is not built, so no memory is asked for.
-fn is_text(bytes: &[u8], name: &str) -> bool
-    requires { IsPlain name.now }
-    ensures { result ≡ is_name name.now (text bytes.now) }
-{
-    if bytes.len() % 2 == 1 {
-        return false;
-    }
-    let units = bytes.split_at(key_length(bytes, 0)).0;
-    same_units(units, name.as_bytes())
 }
 
 /// The text in `bytes`, in UTF-16 up to the first zero code unit. `None` if there is none.
@@ -190,7 +195,7 @@ pub(crate) fn text_of<A: Allocator + Copy + Drop>(
     alloc: A,
     bytes: &[u8],
 ) -> std::result::Result<Option<String<A>>, AllocError>
-    ensures { GivesText result (Some bytes.now) }
+    ensures { ReturnsText result (Some bytes.now) }
 {
     if bytes.len() % 2 == 1 {
         return Ok(None);
@@ -213,7 +218,7 @@ fn units_before_zero<A: Allocator + Drop>(
     let mut units = Vec::new(alloc);
     let mut rest = bytes;
     while SIZE_OF_UNIT <= rest.len() {
-        let unit = number16(rest, 0);
+        let unit = read_u16(rest, 0);
         if unit == 0 {
             return Ok(units);
         }
@@ -243,7 +248,7 @@ impl<'a> ResourceStringIterator<'a> {
 impl<'a> Iterator for ResourceStringIterator<'a> {
     type Item = Result<ResourceString<'a>>;
 
-    ghost next_gives = { λ s r t. GivesString (rest_of s) r (rest_of t) };
+    ghost next_gives = { λ s r t. ReturnsString (rest_of s) r (rest_of t) };
 
     ghost remaining = { λ s. at_most (length (rest_of s)) };
 
@@ -271,8 +276,8 @@ impl<'a> Iterator for ResourceStringIterator<'a> {
 }
 
 /// The offset of a string as it is in `Reason::ResourceString`: the greatest `u32` if it is greater.
-fn place_in_refusal(place: usize) -> u32 {
-    u32::try_from(place).unwrap_or(u32::MAX)
+fn offset_in_refusal(offset: usize) -> u32 {
+    u32::try_from(offset).unwrap_or(u32::MAX)
 }
 
 /// The same error with its offset moved by `start`: offsets of the iterator count from a string, those of callers from
@@ -285,60 +290,42 @@ fn counted_from(start: usize, error: Error) -> Error
             at: start.saturating_add(at),
             needed,
         },
-        Error::Malformed(Reason::ResourceString(place)) => {
-            let place = place_in_refusal(start.saturating_add(place as usize));
-            Error::Malformed(Reason::ResourceString(place))
+        Error::Malformed(Reason::ResourceString(offset)) => {
+            let offset = offset_in_refusal(start.saturating_add(offset as usize));
+            Error::Malformed(Reason::ResourceString(offset))
         }
         other => other,
     }
 }
 
-/// Returns the error of the first string that has one. Offsets count from the start of `data`.
-pub(crate) fn require_strings(data: &[u8]) -> Result<()>
-    ensures { Gives (λ u. u) result (all_read (strings data.now)) }
+/// Returns for each key the range of the value of the first string with this key, from the start of `data`, in one pass
+/// over the strings, or the error of the first string that has one.
+pub(crate) fn value_ranges<const N: usize>(
+    data: &[u8],
+    keys: &[&str],
+) -> Result<[Option<ByteRange>; N]>
+    requires many { length keys.now ≡ N }
+    requires plain { ArePlain (map (λ key. key.now) keys.now) }
+    ensures ranges { Returns (λ r. r) result (value_ranges (map (λ key. key.now) keys.now) data.now) }
+    ensures within { IfOk result (λ r. All (λ range. IfSome range (IsWithin data.now)) r) }
 {
+    let mut ranges = [None; N];
     let mut left = ResourceStringIterator::new(data);
     let mut start = 0;
     while let Some(item) = left.next() {
         match item {
-            Ok(_) => start = data.len().saturating_sub(left.bytes.len()),
+            Ok(string) => {
+                start = data.len() - left.bytes.len();
+                // A value ends where the next string starts.
+                let length = string.value.len();
+                let range = ByteRange {
+                    offset: start - length,
+                    length,
+                };
+                string.keep_range(keys, &mut ranges, range);
+            }
             Err(error) => return Err(counted_from(start, error)),
         }
     }
-    Ok(())
-}
-
-/// The range of the value of the first string with this key, from the start of `data`.
-pub(crate) fn value_range(data: &[u8], name: &str) -> Option<ByteRange>
-    requires { IsPlain name.now }
-    ensures range { result ≡ value_range name.now 0 (read (strings data.now)) }
-    ensures within { IfSome result (IsWithin data.now) }
-{
-    let mut left = ResourceStringIterator::new(data);
-    while let Some(item) = left.next() {
-        match item {
-            Ok(string) => {
-                if string.has_key(name) {
-                    let length = string.value.len();
-                    // A value ends where the next string starts.
-                    let place = data.len() - left.bytes.len() - length;
-                    return Some(ByteRange { place, length });
-                }
-            }
-            Err(_) => {}
-        }
-    }
-    None
-}
-
-/// The value of the first string with this key.
-#[tactic(auto, using(crate::proofs::ValueRanges::range_of_value))]
-pub(crate) fn first_value<'a>(data: &'a [u8], name: &str) -> Option<&'a [u8]>
-    requires { IsPlain name.now }
-    ensures { option_map (λ s. s.now) result ≡ value_of name.now (read (strings data.entry.now)) }
-{
-    match value_range(data, name) {
-        Some(range) => Some(range.of(data)),
-        None => None,
-    }
+    Ok(ranges)
 }

@@ -3,48 +3,41 @@
 //! <https://learn.microsoft.com/windows/win32/menurc/vs-versioninfo>. Callers get it from `ResourceData`, and then the
 //! texts from the getters of `StringFileInfo`.
 
-ghost use Rattle.std.specs.Prelude.{◌≡◌, ◌≢◌, ◌+◌, ◌==◌, ◌≤◌, length, Err, IfOk, IfSome, string_bytes};
+ghost use Rattle.std.specs.Prelude.{All, Ok, map, slice_index_or, [], ◌<◌, ◌≡◌, ◌≢◌, ◌+◌, ◌==◌, ◌≤◌, length, Err, IfOk, IfSome, string_bytes};
 ghost use Rattle.std.specs.Option.{option_map};
-ghost use Rattle.pe_core.specs.Places.{IsWithin};
-ghost use Rattle.pe_core.specs.Refusals.{Gives, Memory, answer_by};
+ghost use Rattle.pe_core.specs.Offsets.{IsWithin};
+ghost use Rattle.pe_core.specs.Refusals.{Returns, Memory, answer_by};
 ghost use Rattle.pe_resource.specs.Contents.{map_of, content_of, version_of_content, IsVersion};
 ghost use Rattle.pe_resource.specs.ResourceEntries.{entries_left};
-ghost use Rattle.pe_resource.specs.VersionFields.{version_of_halves, high_half, low_half, version_text, fixed_info_at, fixed_info_in, fixed_info_of, name_of, file_strings, file_strings_view, GivesText, version_view, version_in, value_range_in};
-ghost use Rattle.pe_resource.specs.VersionStrings.{strings, read, value_of, IsPlain};
+ghost use Rattle.pe_resource.specs.VersionFields.{version_of_halves, high_half, low_half, version_text, fixed_info_at, fixed_info_in, fixed_info_of, version_key, file_strings, file_strings_view, ReturnsText, version_view, version_in, value_range_in};
+ghost use Rattle.pe_resource.specs.VersionStrings.{strings, read, value_of, value_ranges, IsPlain};
 
 use crate::constants::{RT_VERSION, VS_FFI_SIGNATURE, VS_VERSION_INFO_KEY};
 use crate::content::content;
 use crate::directory::ResourceEntryIterator;
-use crate::string::{first_value, require_strings, text_of, value_range};
-use pe_core::{ByteRange, Error, ParseOptions, Result, SectionTable, number32};
+use crate::string::{text_of, value_ranges};
+use pe_core::{ByteRange, Error, ParseOptions, Result, SectionTable, read_u32};
 use std::alloc::{AllocError, Allocator};
 
 /// The size of the fixed file information in bytes.
 const SIZE_OF_FIXED_INFO: usize = 52;
 
-const COMMENTS: &str = "Comments";
-
-const COMPANY_NAME: &str = "CompanyName";
-
-const FILE_DESCRIPTION: &str = "FileDescription";
-
-const FILE_VERSION: &str = "FileVersion";
-
-const INTERNAL_NAME: &str = "InternalName";
-
-const LEGAL_COPYRIGHT: &str = "LegalCopyright";
-
-const LEGAL_TRADEMARKS: &str = "LegalTrademarks";
-
-const ORIGINAL_FILENAME: &str = "OriginalFilename";
-
-const PRIVATE_BUILD: &str = "PrivateBuild";
-
-const PRODUCT_NAME: &str = "ProductName";
-
-const PRODUCT_VERSION: &str = "ProductVersion";
-
-const SPECIAL_BUILD: &str = "SpecialBuild";
+/// The keys of the values that are read: of the fixed file information, and the twelve names in their order.
+const KEYS: [&str; 13] = [
+    VS_VERSION_INFO_KEY,
+    "Comments",
+    "CompanyName",
+    "FileDescription",
+    "FileVersion",
+    "InternalName",
+    "LegalCopyright",
+    "LegalTrademarks",
+    "OriginalFilename",
+    "PrivateBuild",
+    "ProductName",
+    "ProductVersion",
+    "SpecialBuild",
+];
 
 /// The four numbers in decimal digits, joined by dots.
 fn dotted<A: Allocator + Copy + Drop>(
@@ -145,26 +138,26 @@ pub struct VsFixedFileInfo {
 }
 
 impl VsFixedFileInfo {
-    /// Reads the fixed file information at `place`. The caller has checked that its 52 bytes are there.
+    /// Reads the fixed file information at `offset`. The caller has checked that its 52 bytes are there.
     #[tactic(auto, unfolding(crate::specs::VersionFields::fixed_info_at))]
-    fn at(bytes: &[u8], place: usize) -> VsFixedFileInfo
-        requires { place + 52 ≤ length bytes.now }
-        ensures { result ≡ fixed_info_at bytes.now place }
+    fn at(bytes: &[u8], offset: usize) -> VsFixedFileInfo
+        requires { offset + 52 ≤ length bytes.now }
+        ensures { result ≡ fixed_info_at bytes.now offset }
     {
         VsFixedFileInfo {
-            signature: number32(bytes, place),
-            struct_version: number32(bytes, place + 4),
-            file_version_ms: number32(bytes, place + 8),
-            file_version_ls: number32(bytes, place + 12),
-            product_version_ms: number32(bytes, place + 16),
-            product_version_ls: number32(bytes, place + 20),
-            file_flags_mask: number32(bytes, place + 24),
-            file_flags: number32(bytes, place + 28),
-            file_os: number32(bytes, place + 32),
-            file_type: number32(bytes, place + 36),
-            file_subtype: number32(bytes, place + 40),
-            file_date_ms: number32(bytes, place + 44),
-            file_date_ls: number32(bytes, place + 48),
+            signature: read_u32(bytes, offset),
+            struct_version: read_u32(bytes, offset + 4),
+            file_version_ms: read_u32(bytes, offset + 8),
+            file_version_ls: read_u32(bytes, offset + 12),
+            product_version_ms: read_u32(bytes, offset + 16),
+            product_version_ls: read_u32(bytes, offset + 20),
+            file_flags_mask: read_u32(bytes, offset + 24),
+            file_flags: read_u32(bytes, offset + 28),
+            file_os: read_u32(bytes, offset + 32),
+            file_type: read_u32(bytes, offset + 36),
+            file_subtype: read_u32(bytes, offset + 40),
+            file_date_ms: read_u32(bytes, offset + 44),
+            file_date_ls: read_u32(bytes, offset + 48),
         }
     }
 
@@ -173,12 +166,12 @@ impl VsFixedFileInfo {
     ///
     /// Errors, in this order: those of the first string that cannot be read, `Short` or `ResourceString`; `Short` if
     /// the value has fewer than 52 bytes. Offsets in errors count from the start of `data`.
-    #[tactic(auto, using(crate::proofs::ValueRanges::range_of_value), unfolding(crate::specs::VersionFields::fixed_info_of))]
+    #[tactic(auto, using(crate::proofs::ValueRanges::range_of_value), unfolding(crate::specs::VersionStrings::value_ranges, crate::specs::VersionFields::fixed_info_of))]
     pub fn of_strings(data: &[u8]) -> Result<Option<VsFixedFileInfo>>
-        ensures { Gives (λ f. f) result (fixed_info_of data.now) }
+        ensures { Returns (λ f. f) result (fixed_info_of data.now) }
     {
-        require_strings(data)?;
-        fixed_info_in(data, value_range(data, VS_VERSION_INFO_KEY))
+        let ranges = value_ranges::<1>(data, &[VS_VERSION_INFO_KEY])?;
+        fixed_info_in(data, ranges[0])
     }
 
     /// Whether the signature is `VS_FFI_SIGNATURE`.
@@ -236,23 +229,10 @@ pub enum VersionName {
 impl VersionName {
     /// The name as it is in the keys of strings.
     fn key(self) -> &'static str
-        ensures name { result.now ≡ name_of self }
+        ensures name { result.now ≡ version_key self }
         ensures plain { IsPlain result.now }
     {
-        match self {
-            VersionName::Comments => COMMENTS,
-            VersionName::CompanyName => COMPANY_NAME,
-            VersionName::FileDescription => FILE_DESCRIPTION,
-            VersionName::FileVersion => FILE_VERSION,
-            VersionName::InternalName => INTERNAL_NAME,
-            VersionName::LegalCopyright => LEGAL_COPYRIGHT,
-            VersionName::LegalTrademarks => LEGAL_TRADEMARKS,
-            VersionName::OriginalFilename => ORIGINAL_FILENAME,
-            VersionName::PrivateBuild => PRIVATE_BUILD,
-            VersionName::ProductName => PRODUCT_NAME,
-            VersionName::ProductVersion => PRODUCT_VERSION,
-            VersionName::SpecialBuild => SPECIAL_BUILD,
-        }
+        KEYS[1 + self as usize]
     }
 
     /// Returns the range of the value of the first string with this name: its bytes, with the padding to a multiple of
@@ -260,13 +240,14 @@ impl VersionName {
     /// its start. `None` without such a string.
     ///
     /// Errors: those of `VsFixedFileInfo::of_strings`, in the same order.
-    #[tactic(auto, unfolding(crate::specs::VersionFields::value_range_in))]
+    #[tactic(auto, using(crate::proofs::ValueRanges::range_of_value), unfolding(crate::specs::VersionStrings::value_ranges, crate::specs::VersionFields::fixed_info_of, crate::specs::VersionFields::value_range_in))]
     pub fn value_range(self, data: &[u8]) -> Result<Option<ByteRange>>
-        ensures range { Gives (λ r. r) result (value_range_in self data.now) }
+        ensures range { Returns (λ r. r) result (value_range_in self data.now) }
         ensures within { IfOk result (λ r. IfSome r (IsWithin data.now)) }
     {
-        VsFixedFileInfo::of_strings(data)?;
-        Ok(value_range(data, self.key()))
+        let ranges = value_ranges::<2>(data, &[VS_VERSION_INFO_KEY, self.key()])?;
+        fixed_info_in(data, ranges[0])?;
+        Ok(ranges[1])
     }
 }
 
@@ -293,7 +274,7 @@ fn text_in<A: Allocator + Copy + Drop>(
     alloc: A,
     value: Option<&[u8]>,
 ) -> std::result::Result<Option<String<A>>, AllocError>
-    ensures { GivesText result (option_map (λ v. v.now) value.entry) }
+    ensures { ReturnsText result (option_map (λ v. v.now) value.entry) }
 {
     match value {
         Some(bytes) => text_of(alloc, bytes),
@@ -302,33 +283,13 @@ fn text_in<A: Allocator + Copy + Drop>(
 }
 
 impl<'a> StringFileInfo<'a> {
-    /// Finds the values of the twelve names in version information.
-    fn of_strings(data: &'a [u8]) -> StringFileInfo<'a>
-        ensures { file_strings_view result ≡ file_strings (read (strings data.entry.now)) }
-    {
-        StringFileInfo {
-            comments: first_value(data, COMMENTS),
-            company_name: first_value(data, COMPANY_NAME),
-            file_description: first_value(data, FILE_DESCRIPTION),
-            file_version: first_value(data, FILE_VERSION),
-            internal_name: first_value(data, INTERNAL_NAME),
-            legal_copyright: first_value(data, LEGAL_COPYRIGHT),
-            legal_trademarks: first_value(data, LEGAL_TRADEMARKS),
-            original_filename: first_value(data, ORIGINAL_FILENAME),
-            private_build: first_value(data, PRIVATE_BUILD),
-            product_name: first_value(data, PRODUCT_NAME),
-            product_version: first_value(data, PRODUCT_VERSION),
-            special_build: first_value(data, SPECIAL_BUILD),
-        }
-    }
-
     /// Returns additional information about the file. `None` if no string has the key `Comments`, or if its value is
     /// not a text. `AllocError` if memory ran out.
     pub fn comments<A: Allocator + Copy + Drop>(
         &self,
         alloc: A,
     ) -> std::result::Result<Option<String<A>>, AllocError>
-        ensures { GivesText result (file_strings_view self.now).comments }
+        ensures { ReturnsText result (file_strings_view self.now).comments }
     {
         text_in(alloc, self.comments)
     }
@@ -339,7 +300,7 @@ impl<'a> StringFileInfo<'a> {
         &self,
         alloc: A,
     ) -> std::result::Result<Option<String<A>>, AllocError>
-        ensures { GivesText result (file_strings_view self.now).company_name }
+        ensures { ReturnsText result (file_strings_view self.now).company_name }
     {
         text_in(alloc, self.company_name)
     }
@@ -350,7 +311,7 @@ impl<'a> StringFileInfo<'a> {
         &self,
         alloc: A,
     ) -> std::result::Result<Option<String<A>>, AllocError>
-        ensures { GivesText result (file_strings_view self.now).file_description }
+        ensures { ReturnsText result (file_strings_view self.now).file_description }
     {
         text_in(alloc, self.file_description)
     }
@@ -361,7 +322,7 @@ impl<'a> StringFileInfo<'a> {
         &self,
         alloc: A,
     ) -> std::result::Result<Option<String<A>>, AllocError>
-        ensures { GivesText result (file_strings_view self.now).file_version }
+        ensures { ReturnsText result (file_strings_view self.now).file_version }
     {
         text_in(alloc, self.file_version)
     }
@@ -372,7 +333,7 @@ impl<'a> StringFileInfo<'a> {
         &self,
         alloc: A,
     ) -> std::result::Result<Option<String<A>>, AllocError>
-        ensures { GivesText result (file_strings_view self.now).internal_name }
+        ensures { ReturnsText result (file_strings_view self.now).internal_name }
     {
         text_in(alloc, self.internal_name)
     }
@@ -383,7 +344,7 @@ impl<'a> StringFileInfo<'a> {
         &self,
         alloc: A,
     ) -> std::result::Result<Option<String<A>>, AllocError>
-        ensures { GivesText result (file_strings_view self.now).legal_copyright }
+        ensures { ReturnsText result (file_strings_view self.now).legal_copyright }
     {
         text_in(alloc, self.legal_copyright)
     }
@@ -394,7 +355,7 @@ impl<'a> StringFileInfo<'a> {
         &self,
         alloc: A,
     ) -> std::result::Result<Option<String<A>>, AllocError>
-        ensures { GivesText result (file_strings_view self.now).legal_trademarks }
+        ensures { ReturnsText result (file_strings_view self.now).legal_trademarks }
     {
         text_in(alloc, self.legal_trademarks)
     }
@@ -405,7 +366,7 @@ impl<'a> StringFileInfo<'a> {
         &self,
         alloc: A,
     ) -> std::result::Result<Option<String<A>>, AllocError>
-        ensures { GivesText result (file_strings_view self.now).original_filename }
+        ensures { ReturnsText result (file_strings_view self.now).original_filename }
     {
         text_in(alloc, self.original_filename)
     }
@@ -416,7 +377,7 @@ impl<'a> StringFileInfo<'a> {
         &self,
         alloc: A,
     ) -> std::result::Result<Option<String<A>>, AllocError>
-        ensures { GivesText result (file_strings_view self.now).private_build }
+        ensures { ReturnsText result (file_strings_view self.now).private_build }
     {
         text_in(alloc, self.private_build)
     }
@@ -427,7 +388,7 @@ impl<'a> StringFileInfo<'a> {
         &self,
         alloc: A,
     ) -> std::result::Result<Option<String<A>>, AllocError>
-        ensures { GivesText result (file_strings_view self.now).product_name }
+        ensures { ReturnsText result (file_strings_view self.now).product_name }
     {
         text_in(alloc, self.product_name)
     }
@@ -438,7 +399,7 @@ impl<'a> StringFileInfo<'a> {
         &self,
         alloc: A,
     ) -> std::result::Result<Option<String<A>>, AllocError>
-        ensures { GivesText result (file_strings_view self.now).product_version }
+        ensures { ReturnsText result (file_strings_view self.now).product_version }
     {
         text_in(alloc, self.product_version)
     }
@@ -449,7 +410,7 @@ impl<'a> StringFileInfo<'a> {
         &self,
         alloc: A,
     ) -> std::result::Result<Option<String<A>>, AllocError>
-        ensures { GivesText result (file_strings_view self.now).special_build }
+        ensures { ReturnsText result (file_strings_view self.now).special_build }
     {
         text_in(alloc, self.special_build)
     }
@@ -464,11 +425,29 @@ pub struct VersionInfo<'a> {
     pub string_info: StringFileInfo<'a>,
 }
 
+/// The bytes in this range of `data`, if there is a range.
+fn bytes_in<'a>(data: &'a [u8], range: Option<ByteRange>) -> Option<&'a [u8]>
+    requires { IfSome range (IsWithin data.now) }
+    ensures { option_map (λ v. v.now) result ≡ content_of data.entry.now range }
+{
+    Some(range?.of(data))
+}
+
+/// The value of a key, by its index in `KEYS`.
+fn value_in<'a>(data: &'a [u8], ranges: &[Option<ByteRange>; 13], index: usize) -> Option<&'a [u8]>
+    requires key { index < 13 }
+    requires ranges { value_ranges (map (λ key. key.now) KEYS) data.now ≡ Ok ranges.now }
+    requires within { All (λ range. IfSome range (IsWithin data.now)) ranges.now }
+    ensures { option_map (λ v. v.now) result ≡ value_of (slice_index_or (map (λ key. key.now) KEYS) index []) (read (strings data.entry.now)) }
+{
+    bytes_in(data, ranges[index])
+}
+
 /// The fixed file information in this range of `data`, if there is a range. `Short` if the range has fewer than 52
 /// bytes.
 fn fixed_info_in(data: &[u8], value: Option<ByteRange>) -> Result<Option<VsFixedFileInfo>>
     requires { IfSome value (IsWithin data.now) }
-    ensures { Gives (λ f. f) result (fixed_info_in (content_of data.now value)) }
+    ensures { Returns (λ f. f) result (fixed_info_in (content_of data.now value)) }
 {
     let Some(range) = value else {
         return Ok(None);
@@ -476,7 +455,7 @@ fn fixed_info_in(data: &[u8], value: Option<ByteRange>) -> Result<Option<VsFixed
     let bytes = range.of(data);
     if bytes.len() < SIZE_OF_FIXED_INFO {
         return Err(Error::Short {
-            at: range.place,
+            at: range.offset,
             needed: SIZE_OF_FIXED_INFO,
         });
     }
@@ -485,20 +464,33 @@ fn fixed_info_in(data: &[u8], value: Option<ByteRange>) -> Result<Option<VsFixed
 
 impl<'a> VersionInfo<'a> {
     /// Reads the version information in `data`.
-    #[tactic(auto, unfolding(crate::specs::VersionFields::version_in))]
+    #[tactic(auto, using(crate::proofs::ValueRanges::range_of_value), unfolding(crate::specs::VersionStrings::value_ranges, crate::specs::VersionFields::fixed_info_of, crate::specs::VersionFields::version_in))]
     fn of_strings(data: &'a [u8]) -> Result<VersionInfo<'a>>
-        ensures { Gives version_view result (version_in data.entry.now) }
+        ensures { Returns version_view result (version_in data.entry.now) }
     {
-        let fixed_info = VsFixedFileInfo::of_strings(data)?;
+        let ranges = value_ranges::<13>(data, &KEYS)?;
         Ok(VersionInfo {
-            fixed_info,
-            string_info: StringFileInfo::of_strings(data),
+            fixed_info: fixed_info_in(data, ranges[0])?,
+            string_info: StringFileInfo {
+                comments: value_in(data, &ranges, 1),
+                company_name: value_in(data, &ranges, 2),
+                file_description: value_in(data, &ranges, 3),
+                file_version: value_in(data, &ranges, 4),
+                internal_name: value_in(data, &ranges, 5),
+                legal_copyright: value_in(data, &ranges, 6),
+                legal_trademarks: value_in(data, &ranges, 7),
+                original_filename: value_in(data, &ranges, 8),
+                private_build: value_in(data, &ranges, 9),
+                product_name: value_in(data, &ranges, 10),
+                product_version: value_in(data, &ranges, 11),
+                special_build: value_in(data, &ranges, 12),
+            },
         })
     }
 
     /// Reads the version information in the content of a resource, if there is one.
     fn of_content(content: Option<&'a [u8]>) -> Result<Option<VersionInfo<'a>>>
-        ensures { Gives (option_map version_view) result (version_of_content (option_map (λ s. s.now) content.entry)) }
+        ensures { Returns (option_map version_view) result (version_of_content (option_map (λ s. s.now) content.entry)) }
     {
         match content {
             None => Ok(None),

@@ -17,23 +17,23 @@ unfolding bytes_of
 length-bytes_of zero number = refl
 length-bytes_of (suc n) number = ap suc (length-bytes_of n (number / 256))
 
-byte_behind : (front : List ℕ) (x : ℕ) (rest : List ℕ) (p : ℕ) → length front ≡ p → slice_index (front ++ x ∷ rest) p ≡ x
-byte_behind front x rest p e = grind (arith, places)
+byte_after : (front : List ℕ) (x : ℕ) (rest : List ℕ) (p : ℕ) → length front ≡ p → slice_index (front ++ x ∷ rest) p ≡ x
+byte_after front x rest p e = grind (arith, places)
 
 -- the number behind what stands in front of it
-le-behind : (n number : ℕ) (front rest : List ℕ) (p : ℕ) → length front ≡ p → number < 256 ^ n → le (front ++ (bytes_of n number ++ rest)) p n ≡ number
+le-after : (n number : ℕ) (front rest : List ℕ) (p : ℕ) → length front ≡ p → number < 256 ^ n → le (front ++ (bytes_of n number ++ rest)) p n ≡ number
 unfolding bytes_of
-le-behind zero number front rest p e small = le-zero _ p ∙ omega arith
-le-behind (suc n) number front rest p e small =
+le-after zero number front rest p e small = le-zero _ p ∙ omega arith
+le-after (suc n) number front rest p e small =
     let x = number % 256 in
-    let behind = bytes_of n (number / 256) ++ rest in
+    let after = bytes_of n (number / 256) ++ rest in
     let below : number / 256 < 256 ^ n = omega (arith, pow-suc 256 n) in
-    let moved : (front ++ x ∷ []) ++ behind ≡ front ++ x ∷ behind = append_assoc front (x ∷ []) behind in
+    let moved : (front ++ x ∷ []) ++ after ≡ front ++ x ∷ after = append_assoc front (x ∷ []) after in
     let count : length (front ++ x ∷ []) ≡ suc p = omega (arith, length-append front (x ∷ [])) in
-    let others : le ((front ++ x ∷ []) ++ behind) (suc p) n ≡ number / 256 = le-behind n (number / 256) (front ++ x ∷ []) rest (suc p) count below in
-    let same : le (front ++ x ∷ behind) (suc p) n ≡ number / 256 = rw moved at others in
-    let first : slice_index (front ++ x ∷ behind) p ≡ x = byte_behind front x behind p e in
-    omega (arith, le-cons (front ++ x ∷ behind) p n, same, first)
+    let others : le ((front ++ x ∷ []) ++ after) (suc p) n ≡ number / 256 = le-after n (number / 256) (front ++ x ∷ []) rest (suc p) count below in
+    let same : le (front ++ x ∷ after) (suc p) n ≡ number / 256 = rw moved at others in
+    let first : slice_index (front ++ x ∷ after) p ≡ x = byte_after front x after p e in
+    omega (arith, le-cons (front ++ x ∷ after) p n, same, first)
 
 length_word : (t : Bool) (o : Option ℕ) → is_some o ≡ t → length (word_bytes o) ≡ (if t then 4 else 0)
 length_word true (Some w) e = length-bytes_of 4 w
@@ -48,7 +48,7 @@ some_map None = refl
 -- the parts at their places
 read_word : (t : Bool) (o : Option ℕ) (front rest : List ℕ) (p : ℕ) → is_some o ≡ t → IfSome o (λ w. w < 2 ^ 32) → length front ≡ p →
     (if t then Some (le (front ++ (word_bytes o ++ rest)) p 4) else None) ≡ o
-read_word true (Some w) front rest p e small at = ap (λ (n : ℕ). Some n) (le-behind 4 w front rest p at small)
+read_word true (Some w) front rest p e small at = ap (λ (n : ℕ). Some n) (le-after 4 w front rest p at small)
 read_word true None front rest p e small at = absurd cc
 read_word false (Some w) front rest p e small at = absurd cc
 read_word false None front rest p e small at = refl
@@ -61,7 +61,7 @@ read_handler : (t : Bool) (o : Option Arm64HandlerView) (front rest : List ℕ) 
 read_handler true (Some h) front rest p e small same at =
     let word : List ℕ = bytes_of 4 h.rva in
     let count : length (front ++ word) ≡ p + 4 = omega (arith, length-append front word, length-bytes_of 4 h.rva) in
-    let number : le (front ++ (word ++ rest)) p 4 ≡ h.rva = le-behind 4 h.rva front rest p at small in
+    let number : le (front ++ (word ++ rest)) p 4 ≡ h.rva = le-after 4 h.rva front rest p at small in
     let data_at : drop (p + 4) (front ++ (word ++ rest)) ≡ h.bytes = ap (drop (p + 4)) (sym (append_assoc front word rest)) ∙ dropped (front ++ word) rest (p + 4) count ∙ sym same in
     ap (λ (n : ℕ). Some (record { rva = n; bytes = drop (p + 4) (front ++ (word ++ rest)) })) number ∙ ap (λ (d : List ℕ). Some (record { rva = h.rva; bytes = d })) data_at
 read_handler true None front rest p e small same at = absurd cc
@@ -109,8 +109,8 @@ read b rest p i are words =
     let size_w : length w ≡ x = length_word (has_extension i.header) i.extension are.extension in
     let some_r : is_some (option_map (λ h. h.rva) i.handler) ≡ has_handler i.header = some_map i.handler ∙ are.handler in
     let size_r : length r ≡ n = length_word (has_handler i.header) (option_map (λ h. h.rva) i.handler) some_r in
-    let behind : length (drop p b) ≡ 4 + x + s + c + n + length rest = ap (λ (l : List ℕ). length l) are.joined ∙ length_of_parts h w i.scopes i.codes r rest ∙ omega (arith, size_h, size_w, size_r, are.scopes, are.codes) in
-    let total : length b ≡ p + 4 + x + s + c + n + length rest = omega (arith, behind, length-drop p b) in
+    let after : length (drop p b) ≡ 4 + x + s + c + n + length rest = ap (λ (l : List ℕ). length l) are.joined ∙ length_of_parts h w i.scopes i.codes r rest ∙ omega (arith, size_h, size_w, size_r, are.scopes, are.codes) in
+    let total : length b ≡ p + 4 + x + s + c + n + length rest = omega (arith, after, length-drop p b) in
     let size_f : length f ≡ p = length-take-le p b (omega (arith, total)) in
     let at_header : b ≡ f ++ (h ++ (w ++ (i.scopes ++ (i.codes ++ (r ++ rest))))) = sym (take-append-drop p b) ∙ ap (λ (l : List ℕ). f ++ l) are.joined in
     let at_extension : b ≡ (f ++ h) ++ (w ++ (i.scopes ++ (i.codes ++ (r ++ rest)))) = at_header ∙ sym (append_assoc f h (w ++ (i.scopes ++ (i.codes ++ (r ++ rest))))) in
@@ -121,11 +121,11 @@ read b rest p i are words =
     let before_scopes : length ((f ++ h) ++ w) ≡ p + 4 + x = omega (arith, length-append (f ++ h) w, before_extension, size_w) in
     let before_codes : length (((f ++ h) ++ w) ++ i.scopes) ≡ p + 4 + x + s = omega (arith, length-append ((f ++ h) ++ w) i.scopes, before_scopes, are.scopes) in
     let before_handler : length ((((f ++ h) ++ w) ++ i.scopes) ++ i.codes) ≡ p + 4 + x + s + c = omega (arith, length-append (((f ++ h) ++ w) ++ i.scopes) i.codes, before_codes, are.codes) in
-    let first : le b p 4 ≡ i.header = ap (λ (l : List ℕ). le l p 4) at_header ∙ le-behind 4 i.header f (w ++ (i.scopes ++ (i.codes ++ (r ++ rest)))) p size_f words.header in
+    let first : le b p 4 ≡ i.header = ap (λ (l : List ℕ). le l p 4) at_header ∙ le-after 4 i.header f (w ++ (i.scopes ++ (i.codes ++ (r ++ rest)))) p size_f words.header in
     let second : extension_at b (p + 4) i.header ≡ i.extension = ap (λ (l : List ℕ). extension_at l (p + 4) i.header) at_extension ∙ read_word (has_extension i.header) i.extension (f ++ h) (i.scopes ++ (i.codes ++ (r ++ rest))) (p + 4) are.extension words.extension before_extension in
     let scopes : range b (p + 4 + x) s ≡ i.scopes = ap (λ (l : List ℕ). range l (p + 4 + x) s) at_scopes ∙ read_range ((f ++ h) ++ w) i.scopes (i.codes ++ (r ++ rest)) (p + 4 + x) s before_scopes are.scopes in
     let codes : range b (p + 4 + x + s) c ≡ i.codes = ap (λ (l : List ℕ). range l (p + 4 + x + s) c) at_codes ∙ read_range (((f ++ h) ++ w) ++ i.scopes) i.codes (r ++ rest) (p + 4 + x + s) c before_codes are.codes in
-    let handler : handler_at b (p + 4 + x + s + c) i.header ≡ i.handler = ap (λ (l : List ℕ). handler_at l (p + 4 + x + s + c) i.header) at_handler ∙ read_handler (has_handler i.header) i.handler ((((f ++ h) ++ w) ++ i.scopes) ++ i.codes) rest (p + 4 + x + s + c) are.handler words.handler are.behind before_handler in
+    let handler : handler_at b (p + 4 + x + s + c) i.header ≡ i.handler = ap (λ (l : List ℕ). handler_at l (p + 4 + x + s + c) i.header) at_handler ∙ read_handler (has_handler i.header) i.handler ((((f ++ h) ++ w) ++ i.scopes) ++ i.codes) rest (p + 4 + x + s + c) are.handler words.handler are.after before_handler in
     let value : info_with b p i.header i.extension ≡ i = same_info i (range b (p + 4 + x) s) (range b (p + 4 + x + s) c) (handler_at b (p + 4 + x + s + c) i.header) scopes codes handler in
     by_words b p i (le b p 4) (extension_at b (p + 4) (le b p 4)) first (ap (extension_at b (p + 4)) first ∙ second)
     (all_pass (holds b p 4) (bits i.header 18 2 == 0) (holds b (p + 4) x) (holds b (p + 4 + x) s) (holds b (p + 4 + x + s) c) (holds b (p + 4 + x + s + c) n) Short Arm64Version Short Short Short Short (info_with b p i.header i.extension) (held b p 4 (omega (arith, total))) (ap (λ (k : ℕ). k == 0) are.version) (held b (p + 4) x (omega (arith, total))) (held b (p + 4 + x) s (omega (arith, total))) (held b (p + 4 + x + s) c (omega (arith, total))) (held b (p + 4 + x + s + c) n (omega (arith, total)))

@@ -7,7 +7,7 @@ use Rattle.pe_unwind.specs.declared.arm64.codes.Arm64UnwindCode.TheVariants.{All
 use Rattle.std.proofs.lemmas.Grind.{common_steps}
 use Rattle.std.proofs.lemmas.List.{length-append}
 use Rattle.pe_unwind.proofs.Arm64Lengths.{len_of_encoding}
-use Rattle.pe_unwind.specs.Arm64Encoding.{encoding, Legal, BeginsWithArm64Code, BeginsWithNoArm64Code, IsCutArm64Code}
+use Rattle.pe_unwind.specs.Arm64Encoding.{encoding, Legal, StartsWithArm64Code, StartsWithNoArm64Code, IsTruncatedArm64Code}
 use Rattle.pe_unwind.specs.Arm64CodeLengths.{len_at}
 
 -- the code of one byte from C0h on
@@ -210,8 +210,8 @@ take_front : (a b : List ℕ) → take (length a) (a ++ b) ≡ a
 take_front a b = grind (arith, common_steps)
 
 -- the bytes of one code are no beginning of another's
-pub begins_once : (bytes : List ℕ) (c d : Arm64UnwindCode) → BeginsWithArm64Code bytes c → BeginsWithArm64Code bytes d → c ≡ d
-begins_once bytes c d h k =
+pub starts_once : (bytes : List ℕ) (c d : Arm64UnwindCode) → StartsWithArm64Code bytes c → StartsWithArm64Code bytes d → c ≡ d
+starts_once bytes c d h k =
     let len_c : len_at (get_or bytes 0 0) (get_or bytes 1 0) ≡ length (encoding c) = rw (← h.spelled) at (len_of_encoding c (drop (length (encoding c)) bytes) h.legal) in
     let len_d : len_at (get_or bytes 0 0) (get_or bytes 1 0) ≡ length (encoding d) = rw (← k.spelled) at (len_of_encoding d (drop (length (encoding d)) bytes) k.legal) in
     let front_c : take (length (encoding c)) bytes ≡ encoding c = ap (take (length (encoding c))) h.spelled ∙ take_front (encoding c) (drop (length (encoding c)) bytes) in
@@ -226,21 +226,21 @@ whole_front : (a : List ℕ) → a ≡ a ++ drop (length a) a
 whole_front a = grind (arith, common_steps)
 
 -- a code's bytes begin with it
-whole_begins : (c : Arm64UnwindCode) → Legal c → BeginsWithArm64Code (encoding c) c
-whole_begins c legal = record { legal = legal; spelled = whole_front (encoding c) }
+whole_starts : (c : Arm64UnwindCode) → Legal c → StartsWithArm64Code (encoding c) c
+whole_starts c legal = record { legal = legal; spelled = whole_front (encoding c) }
 
 -- a code's bytes without their end begin with no code
-none_of_more : (bytes : List ℕ) (d c : Arm64UnwindCode) (missing : List ℕ) → Legal d → 0 < length missing → bytes ++ missing ≡ encoding d → BeginsWithArm64Code bytes c → ⊥
+none_of_more : (bytes : List ℕ) (d c : Arm64UnwindCode) (missing : List ℕ) → Legal d → 0 < length missing → bytes ++ missing ≡ encoding d → StartsWithArm64Code bytes c → ⊥
 none_of_more bytes d c missing legal some spelled h =
     let n : ℕ = length (encoding c) in
     let fits : n ≤ length bytes = omega (arith, ap (λ (x : List ℕ). length x) h.spelled, length-append (encoding c) (drop n bytes)) in
     let first : encoding d ≡ encoding c ++ (drop n bytes ++ missing) = sym spelled ∙ ap (λ (x : List ℕ). x ++ missing) h.spelled ∙ append_assoc (encoding c) (drop n bytes) missing in
-    let c_first : BeginsWithArm64Code (encoding d) c = record { legal = h.legal; spelled = first ∙ ap (λ (x : List ℕ). encoding c ++ x) (sym (ap (drop n) first ∙ drop_front (encoding c) (drop n bytes ++ missing))) } in
-    let same : c ≡ d = begins_once (encoding d) c d c_first (whole_begins d legal) in
+    let c_first : StartsWithArm64Code (encoding d) c = record { legal = h.legal; spelled = first ∙ ap (λ (x : List ℕ). encoding c ++ x) (sym (ap (drop n) first ∙ drop_front (encoding c) (drop n bytes ++ missing))) } in
+    let same : c ≡ d = starts_once (encoding d) c d c_first (whole_starts d legal) in
     let long : length (encoding d) ≡ length bytes + length missing = sym (ap (λ (x : List ℕ). length x) spelled) ∙ length-append bytes missing in
     let as_long : n ≡ length (encoding d) = ap (λ (x : Arm64UnwindCode). length (encoding x)) same in
     omega arith
 
 -- what is cut begins with no code
-pub cut_begins_none : (bytes : List ℕ) → IsCutArm64Code bytes → BeginsWithNoArm64Code bytes
-cut_begins_none bytes cut = λ c h. none_of_more bytes cut.code c cut.missing cut.legal cut.some cut.spelled h
+pub cut_starts_none : (bytes : List ℕ) → IsTruncatedArm64Code bytes → StartsWithNoArm64Code bytes
+cut_starts_none bytes cut = λ c h. none_of_more bytes cut.code c cut.missing cut.legal cut.some cut.spelled h

@@ -8,11 +8,11 @@ use Rattle.pe_core.proofs.NumberBytes.{bytes_of-le}
 use Rattle.pe_core.specs.Bytes.{AreBytes, le, bytes_of, holds, range}
 use Rattle.std.proofs.lemmas.Bool.{eqb-true}
 use Rattle.pe_core.specs.Refusals.{Refusal, Short, Arm64Version, outcome}
-use Rattle.pe_unwind.specs.Arm64Record.{Arm64HandlerView, Arm64InfoView, extension_size, extension_at, scope_count, code_words, handler_size, handler_at, scopes_place, codes_place, handler_place, record_size, info_with, info_tests, info_at, size_at, word_bytes, AreRecord}
+use Rattle.pe_unwind.specs.Arm64Record.{Arm64HandlerView, Arm64InfoView, extension_size, extension_at, scope_count, code_words, handler_size, handler_at, scopes_offset, codes_offset, handler_offset, record_size, info_with, info_tests, info_at, size_at, word_bytes, AreRecord}
 use Rattle.pe_unwind.specs.Arm64Words.{bits, has_handler, has_extension}
-use Rattle.pe_core.specs.Places.{StandAt}
-use Rattle.pe_unwind.specs.Places.{StandLast, Arm64PartsStand}
-use Rattle.pe_unwind.proofs.Places.{range_stands, tail_stands}
+use Rattle.pe_core.specs.Offsets.{StandAt}
+use Rattle.pe_unwind.specs.Offsets.{StandLast, Arm64PartsStand}
+use Rattle.pe_unwind.proofs.Offsets.{range_stands, tail_stands}
 
 -- what is given passed its tests
 passed : {Y : Type 0} (s t u v w x : Bool) (i j k l m n : Refusal) (y o : Y) →
@@ -53,9 +53,9 @@ next_handler : (t : Bool) (b : List ℕ) (p : ℕ) → AreBytes b → p + (if t 
 next_handler true b p small h = next_word b p small h
 next_handler false b p small h = let none : p + 0 ≡ p = omega arith in rw none refl
 
-data_behind : (t : Bool) (b : List ℕ) (q : ℕ) → IfSome (handler_if t b q) (λ h. h.bytes ≡ drop (q + (if t then 4 else 0)) b)
-data_behind true b q = refl
-data_behind false b q = tt
+data_after : (t : Bool) (b : List ℕ) (q : ℕ) → IfSome (handler_if t b q) (λ h. h.bytes ≡ drop (q + (if t then 4 else 0)) b)
+data_after true b q = refl
+data_after false b q = tt
 
 there_if : {X : Type 0} (t : Bool) (x : X) → is_some (if t then Some x else None) ≡ t
 there_if true x = refl
@@ -73,8 +73,8 @@ chain : {a b c d e f g : List ℕ} (v w x y z : List ℕ) → a ≡ v ++ b → b
 chain v w x y z h i j k l m = simp (h, i, j, k, l, m) refl
 
 parts : (b : List ℕ) (p header : ℕ) (extension : Option ℕ) → AreBytes b → header ≡ le b p 4 → extension ≡ extension_at b (p + 4) header →
-    p + 4 ≤ length b → bits header 18 2 ≡ 0 → p + 4 + extension_size header ≤ length b → scopes_place p header + 4 * scope_count header extension ≤ length b →
-    codes_place p header extension + 4 * code_words header extension ≤ length b → handler_place p header extension + handler_size header ≤ length b →
+    p + 4 ≤ length b → bits header 18 2 ≡ 0 → p + 4 + extension_size header ≤ length b → scopes_offset p header + 4 * scope_count header extension ≤ length b →
+    codes_offset p header extension + 4 * code_words header extension ≤ length b → handler_offset p header extension + handler_size header ≤ length b →
     AreRecord (drop p b) (info_with b p header extension) (drop (p + record_size header extension) b)
 parts b p header extension small first second h v hx hs hc hh =
     let x : ℕ = extension_size header in
@@ -98,7 +98,7 @@ parts b p header extension small first second h v hx hs hc hh =
       scopes = length_range b (p + 4 + x) s hs;
       codes = length_range b (p + 4 + x + s) c hc;
       handler = there_if (has_handler header) (record { rva = le b (p + 4 + x + s + c) 4; bytes = drop (p + 4 + x + s + c + 4) b });
-      behind = subst (λ (d : List ℕ). IfSome i.handler (λ h. h.bytes ≡ d)) rest (data_behind (has_handler header) b (p + 4 + x + s + c));
+      after = subst (λ (d : List ℕ). IfSome i.handler (λ h. h.bytes ≡ d)) rest (data_after (has_handler header) b (p + 4 + x + s + c));
     }
 
 -- the facts of a record that is given
@@ -106,23 +106,23 @@ record Given (b : List ℕ) (p header : ℕ) (extension : Option ℕ) (i : Arm64
   first : p + 4 ≤ length b
   version : bits header 18 2 ≡ 0
   second : p + 4 + extension_size header ≤ length b
-  scopes : scopes_place p header + 4 * scope_count header extension ≤ length b
-  codes : codes_place p header extension + 4 * code_words header extension ≤ length b
-  handler : handler_place p header extension + handler_size header ≤ length b
+  scopes : scopes_offset p header + 4 * scope_count header extension ≤ length b
+  codes : codes_offset p header extension + 4 * code_words header extension ≤ length b
+  handler : handler_offset p header extension + handler_size header ≤ length b
   value : info_with b p header extension ≡ i
 
 facts : (b : List ℕ) (p header : ℕ) (extension : Option ℕ) (i : Arm64InfoView) → outcome (info_tests b p header extension) (info_with b p header extension) ≡ Ok i → Given b p header extension i
 facts b p header extension i e =
     let s : ℕ = 4 * scope_count header extension in
     let c : ℕ = 4 * code_words header extension in
-    let t = passed (holds b p 4) (bits header 18 2 == 0) (holds b (p + 4) (extension_size header)) (holds b (scopes_place p header) s) (holds b (codes_place p header extension) c) (holds b (handler_place p header extension) (handler_size header)) Short Arm64Version Short Short Short Short (info_with b p header extension) i e in
+    let t = passed (holds b p 4) (bits header 18 2 == 0) (holds b (p + 4) (extension_size header)) (holds b (scopes_offset p header) s) (holds b (codes_offset p header extension) c) (holds b (handler_offset p header extension) (handler_size header)) Short Arm64Version Short Short Short Short (info_with b p header extension) i e in
     record {
       first = there b p 4 t.0;
       version = eqb-true _ _ t.1;
       second = there b (p + 4) (extension_size header) t.2;
-      scopes = there b (scopes_place p header) s t.3;
-      codes = there b (codes_place p header extension) c t.4;
-      handler = there b (handler_place p header extension) (handler_size header) t.5;
+      scopes = there b (scopes_offset p header) s t.3;
+      codes = there b (codes_offset p header extension) c t.4;
+      handler = there b (handler_offset p header extension) (handler_size header) t.5;
       value = t.6;
     }
 
@@ -158,16 +158,16 @@ inside b p i given =
     subst (λ (j : Arm64InfoView). p + record_size j.header j.extension ≤ length b) g.value (subst (λ (k : ℕ). k ≤ length b) sum g.handler)
 
 -- and a handler's data are the bytes behind it
-pub behind_record : (b : List ℕ) (p : ℕ) (i : Arm64InfoView) → info_at b p ≡ Ok i → IfSome i.handler (λ h. h.bytes ≡ drop (p + record_size i.header i.extension) b)
+pub after_record : (b : List ℕ) (p : ℕ) (i : Arm64InfoView) → info_at b p ≡ Ok i → IfSome i.handler (λ h. h.bytes ≡ drop (p + record_size i.header i.extension) b)
 unfolding info_at
-behind_record b p i given =
+after_record b p i given =
     let header : ℕ = le b p 4 in
     let extension : Option ℕ = extension_at b (p + 4) header in
-    let q : ℕ = handler_place p header extension in
+    let q : ℕ = handler_offset p header extension in
     let g = facts b p header extension i given in
     let sum : q + handler_size header ≡ p + record_size header extension = end p (extension_size header) (4 * scope_count header extension) (4 * code_words header extension) (handler_size header) in
     subst (λ (j : Arm64InfoView). IfSome j.handler (λ h. h.bytes ≡ drop (p + record_size j.header j.extension) b)) g.value
-    (subst (λ (k : ℕ). IfSome (handler_at b q header) (λ h. h.bytes ≡ drop k b)) sum (data_behind (has_handler header) b q))
+    (subst (λ (k : ℕ). IfSome (handler_at b q header) (λ h. h.bytes ≡ drop k b)) sum (data_after (has_handler header) b q))
 
 -- and its parts are ranges of the bytes
 data_stands : (t : Bool) (b : List ℕ) (q : ℕ) → IfSome (handler_if t b q) (λ h. StandLast b h.bytes)
@@ -181,11 +181,11 @@ parts_stand b p i given =
     let extension : Option ℕ = extension_at b (p + 4) header in
     let g = facts b p header extension i given in
     let s : ℕ = 4 * scope_count header extension in
-    let count : length (range b (scopes_place p header) s) ≡ s = length_range b (scopes_place p header) s g.scopes in
-    let codes : StandAt b (codes_place p header extension) (range b (codes_place p header extension) (4 * code_words header extension)) =
-    range_stands b (codes_place p header extension) (4 * code_words header extension) g.codes in
+    let count : length (range b (scopes_offset p header) s) ≡ s = length_range b (scopes_offset p header) s g.scopes in
+    let codes : StandAt b (codes_offset p header extension) (range b (codes_offset p header extension) (4 * code_words header extension)) =
+    range_stands b (codes_offset p header extension) (4 * code_words header extension) g.codes in
     subst (λ (j : Arm64InfoView). Arm64PartsStand b p j) g.value record {
-      scopes = range_stands b (scopes_place p header) s g.scopes;
+      scopes = range_stands b (scopes_offset p header) s g.scopes;
       codes = rw count codes;
-      tail = data_stands (has_handler header) b (handler_place p header extension);
+      tail = data_stands (has_handler header) b (handler_offset p header extension);
     }

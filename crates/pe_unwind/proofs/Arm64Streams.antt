@@ -11,16 +11,16 @@ use Rattle.pe_core.specs.declared.error.Reason.TheVariants as reasons
 use Rattle.pe_unwind.specs.declared.arm64.codes.Arm64UnwindCode.{Arm64UnwindCode}
 use Rattle.pe_unwind.specs.declared.arm64.codes.Arm64UnwindCodeData.{Arm64UnwindCodeData}
 use Rattle.pe_unwind.specs.declared.arm64.codes.Arm64UnwindCodeIterator.{Arm64UnwindCodeIterator}
-use Rattle.pe_unwind.specs.Arm64Encoding.{encoding, Legal, BeginsWithArm64Code, BeginsWithNoArm64Code}
-use Rattle.pe_unwind.specs.Arm64Tiling.{CodePlace, stream_place, IsItem, Tiles, GivesArm64Code, codes_of, Joins}
+use Rattle.pe_unwind.specs.Arm64Encoding.{encoding, Legal, StartsWithArm64Code, StartsWithNoArm64Code}
+use Rattle.pe_unwind.specs.Arm64Tiling.{CodeOffset, stream_offset, IsItem, Tiles, ReturnsArm64Code, codes_of, Joins}
 use Rattle.pe_unwind.specs.FunctionTable.{answer_of}
-use Rattle.pe_unwind.proofs.Arm64OneCode.{begins_once, cut_begins_none}
+use Rattle.pe_unwind.proofs.Arm64OneCode.{starts_once, cut_starts_none}
 use Rattle.pe_unwind.proofs.Arm64Whole.{code_or_cut}
 
 abbrev pub Next : Arm64UnwindCodeIterator → Option (Result Arm64UnwindCodeData Error) → Arm64UnwindCodeIterator → Type 0
-Next s r t = GivesArm64Code (stream_place s) r (stream_place t)
+Next s r t = ReturnsArm64Code (stream_offset s) r (stream_offset t)
 
-abbrev pub TilesFrom : CodePlace → List (Result Arm64UnwindCodeData Error) → Type 0
+abbrev pub TilesFrom : CodeOffset → List (Result Arm64UnwindCodeData Error) → Type 0
 TilesFrom s xs = Tiles s.content s.at xs
 
 nothing_left : (bytes : List ℕ) (at : ℕ) (xs : List (Result Arm64UnwindCodeData Error)) → length bytes ≤ at → Tiles bytes at xs → xs ≡ []
@@ -29,17 +29,17 @@ nothing_left bytes at (Ok item ∷ xs) over h = absurd (omega (arith, over, h.0)
 nothing_left bytes at (Err e ∷ xs) over h = absurd (omega (arith, over, h.0))
 
 -- the items of a whole run tile the bytes from where the iterator stood
-pub tiles_from_yields : (s t u : Arm64UnwindCodeIterator) (xs : List (Result Arm64UnwindCodeData Error)) → Yields Next s xs t → Next t None u → TilesFrom (stream_place s) xs
-tiles_from_yields s t u [] y end = subst (λ (r : Arm64UnwindCodeIterator). TilesFrom (stream_place r) []) (sym y) end.0
+pub tiles_from_yields : (s t u : Arm64UnwindCodeIterator) (xs : List (Result Arm64UnwindCodeData Error)) → Yields Next s xs t → Next t None u → TilesFrom (stream_offset s) xs
+tiles_from_yields s t u [] y end = subst (λ (r : Arm64UnwindCodeIterator). TilesFrom (stream_offset r) []) (sym y) end.0
 tiles_from_yields s t u (Ok item ∷ xs) y end =
     let j : Arm64UnwindCodeIterator = y.0 in
-    let rest : TilesFrom (stream_place j) xs = tiles_from_yields j t u xs y.2 end in
-    (y.1.0, y.1.1, subst (λ (p : CodePlace). TilesFrom p xs) y.1.2 rest)
+    let rest : TilesFrom (stream_offset j) xs = tiles_from_yields j t u xs y.2 end in
+    (y.1.0, y.1.1, subst (λ (p : CodeOffset). TilesFrom p xs) y.1.2 rest)
 tiles_from_yields s t u (Err e ∷ xs) y end =
     let j : Arm64UnwindCodeIterator = y.0 in
-    let rest : TilesFrom (stream_place j) xs = tiles_from_yields j t u xs y.2 end in
-    let over : Tiles (stream_place s).content (length (stream_place s).content) xs = subst (λ (p : CodePlace). TilesFrom p xs) y.1.2 rest in
-    (y.1.0, y.1.1, nothing_left (stream_place s).content (length (stream_place s).content) xs (omega arith) over)
+    let rest : TilesFrom (stream_offset j) xs = tiles_from_yields j t u xs y.2 end in
+    let over : Tiles (stream_offset s).content (length (stream_offset s).content) xs = subst (λ (p : CodeOffset). TilesFrom p xs) y.1.2 rest in
+    (y.1.0, y.1.1, nothing_left (stream_offset s).content (length (stream_offset s).content) xs (omega arith) over)
 
 item_of : ℕ → Arm64UnwindCode → ℕ → Arm64UnwindCodeData
 item_of offset code len = record { offset = offset; code = code; len = len }
@@ -52,7 +52,7 @@ item_from_fields d e offset code len =
 -- at one place of the bytes is one code
 one_item : (bytes : List ℕ) (at : ℕ) (d e : Arm64UnwindCodeData) → IsItem bytes at (Ok d) → IsItem bytes at (Ok e) → d ≡ e
 one_item bytes at d e h k =
-    let code : d.code ≡ e.code = begins_once (drop at bytes) d.code e.code h.0 k.0 in
+    let code : d.code ≡ e.code = starts_once (drop at bytes) d.code e.code h.0 k.0 in
     let len : d.len ≡ e.len = h.2 ∙ ap (λ (c : Arm64UnwindCode). length (encoding c)) code ∙ sym k.2 in
     item_from_fields d e (h.1 ∙ sym k.1) code len
 
@@ -77,20 +77,20 @@ some_bytes c legal = grind (arith, common_steps)
 drop_more : (bytes : List ℕ) (m n : ℕ) → drop n (drop m bytes) ≡ drop (m + n) bytes
 drop_more bytes m n = grind (arith, common_steps)
 
-begins_some : (bytes : List ℕ) (c : Arm64UnwindCode) → BeginsWithArm64Code bytes c → 0 < length bytes
-begins_some bytes c h =
+starts_some : (bytes : List ℕ) (c : Arm64UnwindCode) → StartsWithArm64Code bytes c → 0 < length bytes
+starts_some bytes c h =
     let some = some_bytes c h.legal in
     omega (arith, some.0, ap (λ (x : List ℕ). length x) h.spelled, length-append (encoding c) (drop (length (encoding c)) bytes))
 
-none_of_no_bytes : BeginsWithNoArm64Code []
-none_of_no_bytes c h = absurd (omega (arith, begins_some [] c h))
+none_of_no_bytes : StartsWithNoArm64Code []
+none_of_no_bytes c h = absurd (omega (arith, starts_some [] c h))
 
 -- behind a code at a place stand the bytes from the place of the next on
 code_then_rest : (bytes : List ℕ) (at : ℕ) (item : Arm64UnwindCodeData) → IsItem bytes at (Ok item) → drop at bytes ≡ encoding item.code ++ drop (at + item.len) bytes
 code_then_rest bytes at item h =
-    let behind : drop (length (encoding item.code)) (drop at bytes) ≡ drop (at + item.len) bytes =
+    let after : drop (length (encoding item.code)) (drop at bytes) ≡ drop (at + item.len) bytes =
     drop_more bytes at (length (encoding item.code)) ∙ ap (λ (n : ℕ). drop (at + n) bytes) (sym h.2) in
-    h.0.spelled ∙ ap (λ (x : List ℕ). encoding item.code ++ x) behind
+    h.0.spelled ∙ ap (λ (x : List ℕ). encoding item.code ++ x) after
 
 -- a tiling's codes are the bytes, one behind the other, up to a rest
 pub joined : (bytes : List ℕ) (at : ℕ) (xs : List (Result Arm64UnwindCodeData Error)) → Tiles bytes at xs → Joins (drop at bytes) xs
@@ -116,7 +116,7 @@ joined bytes at (Err e ∷ xs) h = record {
 }
 
 -- what begins with no code has fewer than five bytes
-short_rest : (bytes : List ℕ) → 0 < length bytes → All (λ x. x < 256) bytes → BeginsWithNoArm64Code bytes → length bytes < 5
+short_rest : (bytes : List ℕ) → 0 < length bytes → All (λ x. x < 256) bytes → StartsWithNoArm64Code bytes → length bytes < 5
 short_rest bytes some all none =
     elim (code_or_cut bytes some all) [
       | inl code ↦ absurd (none code.0 code.1)
@@ -149,9 +149,9 @@ tiling_step bytes (x ∷ left) at here all more =
     elim (code_or_cut (drop at bytes) (omega (arith, length-drop at bytes, some)) (All-drop (λ x. x < 256) at bytes all)) [
       | inl code ↦
           let bound = some_bytes code.0 code.1.legal in
-          let behind = more (length (encoding code.0)) bound.0 in
-          (Ok (record { offset = at; code = code.0; len = length (encoding code.0) }) ∷ behind.0, (some, (code.1, refl, refl), behind.1))
-      | inr cut ↦ (Err (Malformed (reasons.Arm64Cut at)) ∷ [], (some, (cut_begins_none (drop at bytes) cut, refl), refl))
+          let after = more (length (encoding code.0)) bound.0 in
+          (Ok (record { offset = at; code = code.0; len = length (encoding code.0) }) ∷ after.0, (some, (code.1, refl, refl), after.1))
+      | inr cut ↦ (Err (Malformed (reasons.Arm64Cut at)) ∷ [], (some, (cut_starts_none (drop at bytes) cut, refl), refl))
     ]
 
 tiling_of_left : (n : ℕ) (bytes : List ℕ) (at : ℕ) → length bytes ≤ at + n → All (λ x. x < 256) bytes → Tiling bytes at

@@ -5,7 +5,7 @@ use Rattle.std.proofs.lemmas.Bool.Decides.{nat_tests}
 use Rattle.pe_unwind.specs.declared.arm64.codes.Arm64UnwindCode.{Arm64UnwindCode}
 use Rattle.pe_unwind.specs.declared.arm64.codes.Arm64UnwindCode.TheVariants.{Reserved}
 use Rattle.std.proofs.Math.Seq.{drop-append_seam}
-use Rattle.pe_unwind.specs.Arm64Encoding.{encoding, Legal, BeginsWithArm64Code, IsCutArm64Code}
+use Rattle.pe_unwind.specs.Arm64Encoding.{encoding, Legal, StartsWithArm64Code, IsTruncatedArm64Code}
 use Rattle.pe_unwind.specs.Arm64CodeLengths.{len_at, Encodes}
 use Rattle.pe_unwind.proofs.Arm64OneCode.{one, two, three, four}
 
@@ -45,13 +45,13 @@ len_of_one : (b c : ℕ) → len_at b c ≡ 1 → len_at b 0 ≡ 1
 len_of_one b c h = grind (arith, nat_tests)
 
 -- the bytes of a code, and what follows, begin with it
-begins : (bytes rest : List ℕ) (code : Arm64UnwindCode) → Legal code → encoding code ≡ bytes → BeginsWithArm64Code (bytes ++ rest) code
-begins bytes rest code legal spelled = record {
+starts : (bytes rest : List ℕ) (code : Arm64UnwindCode) → Legal code → encoding code ≡ bytes → StartsWithArm64Code (bytes ++ rest) code
+starts bytes rest code legal spelled = record {
   legal = legal;
   spelled = subst (λ (x : List ℕ). bytes ++ rest ≡ x ++ drop (length x) (bytes ++ rest)) (sym spelled) (ap (λ (x : List ℕ). bytes ++ x) (sym (drop-append_seam bytes rest)));
 }
 
-cut : (bytes missing : List ℕ) (code : Arm64UnwindCode) → Legal code → 0 < length missing → encoding code ≡ bytes ++ missing → IsCutArm64Code bytes
+cut : (bytes missing : List ℕ) (code : Arm64UnwindCode) → Legal code → 0 < length missing → encoding code ≡ bytes ++ missing → IsTruncatedArm64Code bytes
 cut bytes missing code legal some spelled = record { code = code; missing = missing; legal = legal; some = some; spelled = sym spelled }
 
 -- each is below 256, one by one
@@ -64,15 +64,15 @@ bytes_of_all [] all = tt
 bytes_of_all (x ∷ xs) all = (all 0 0 (omega arith), bytes_of_all xs (λ k d h. all (suc k) d (omega (arith, h))))
 
 abbrev pub Answer : List ℕ → Type 0
-Answer b = ((c : Arm64UnwindCode) × BeginsWithArm64Code b c) ⊎ IsCutArm64Code b
+Answer b = ((c : Arm64UnwindCode) × StartsWithArm64Code b c) ⊎ IsTruncatedArm64Code b
 
 -- bytes whose first code has one byte, two, three, four or five
 with_one : (b : ℕ) (rest : List ℕ) → b < 256 → len_at b 0 ≡ 1 → Answer (b ∷ rest)
-with_one b rest r h = inl (one b, begins (b ∷ []) rest (one b) (one_legal b r h) (one_spelled b r h))
+with_one b rest r h = inl (one b, starts (b ∷ []) rest (one b) (one_legal b r h) (one_spelled b r h))
 
 with_two : (b : ℕ) (rest : List ℕ) → b < 256 → AreBytes rest → len_at b (get_or rest 0 0) ≡ 2 → Answer (b ∷ rest)
 with_two b [] r all h = inr (cut (b ∷ []) (0 ∷ []) (two b 0) (two_legal b 0 r (omega arith) h) (omega arith) (two_spelled b 0 r (omega arith) h))
-with_two b (c ∷ rest) r all h = inl (two b c, begins (b ∷ c ∷ []) rest (two b c) (two_legal b c r all.0 h) (two_spelled b c r all.0 h))
+with_two b (c ∷ rest) r all h = inl (two b c, starts (b ∷ c ∷ []) rest (two b c) (two_legal b c r all.0 h) (two_spelled b c r all.0 h))
 
 with_three : (b : ℕ) (rest : List ℕ) → b < 256 → AreBytes rest → len_at b (get_or rest 0 0) ≡ 3 → Answer (b ∷ rest)
 with_three b [] r all h =
@@ -80,7 +80,7 @@ with_three b [] r all h =
 with_three b (c ∷ []) r all h =
     inr (cut (b ∷ c ∷ []) (0 ∷ []) (three b c 0) (three_legal b c 0 r all.0 (omega arith) h) (omega arith) (three_spelled b c 0 r all.0 (omega arith) h))
 with_three b (c ∷ d ∷ rest) r all h =
-    inl (three b c d, begins (b ∷ c ∷ d ∷ []) rest (three b c d) (three_legal b c d r all.0 all.1.0 h) (three_spelled b c d r all.0 all.1.0 h))
+    inl (three b c d, starts (b ∷ c ∷ d ∷ []) rest (three b c d) (three_legal b c d r all.0 all.1.0 h) (three_spelled b c d r all.0 all.1.0 h))
 
 with_four : (b : ℕ) (rest : List ℕ) → b < 256 → AreBytes rest → len_at b (get_or rest 0 0) ≡ 4 → Answer (b ∷ rest)
 with_four b [] r all h =
@@ -93,7 +93,7 @@ with_four b (c ∷ d ∷ []) r all h =
     let z : 0 < 256 = omega arith in
     inr (cut (b ∷ c ∷ d ∷ []) (0 ∷ []) (four b c d 0) (four_legal b c d 0 r all.0 all.1.0 z h) (omega arith) (four_spelled b c d 0 r all.0 all.1.0 z h))
 with_four b (c ∷ d ∷ e ∷ rest) r all h =
-    inl (four b c d e, begins (b ∷ c ∷ d ∷ e ∷ []) rest (four b c d e) (four_legal b c d e r all.0 all.1.0 all.1.1.0 h) (four_spelled b c d e r all.0 all.1.0 all.1.1.0 h))
+    inl (four b c d e, starts (b ∷ c ∷ d ∷ e ∷ []) rest (four b c d e) (four_legal b c d e r all.0 all.1.0 all.1.1.0 h) (four_spelled b c d e r all.0 all.1.0 all.1.1.0 h))
 
 abbrev pub five : ℕ → ℕ → ℕ → ℕ → Arm64UnwindCode
 five c d e f = Reserved 0xFB (16777216 * c + 65536 * d + 256 * e + f) 4
@@ -110,10 +110,10 @@ with_five (c ∷ d ∷ []) all = let z : 0 < 256 = omega arith in five_cut (0xFB
 with_five (c ∷ d ∷ e ∷ []) all = let z : 0 < 256 = omega arith in five_cut (0xFB ∷ c ∷ d ∷ e ∷ []) (0 ∷ []) c d e 0 (omega arith) refl all.0 all.1.0 all.1.1.0 z
 with_five (c ∷ d ∷ e ∷ f ∷ rest) all =
     let code = five_spelled c d e f all.0 all.1.0 all.1.1.0 all.1.1.1.0 in
-    inl (five c d e f, begins (0xFB ∷ c ∷ d ∷ e ∷ f ∷ []) rest (five c d e f) code.legal code.spelled)
+    inl (five c d e f, starts (0xFB ∷ c ∷ d ∷ e ∷ f ∷ []) rest (five c d e f) code.legal code.spelled)
 
 -- every byte string but the empty one begins with a code, or is cut
-pub code_or_cut : (b : List ℕ) → 0 < length b → All (λ x. x < 256) b → ((c : Arm64UnwindCode) × BeginsWithArm64Code b c) ⊎ IsCutArm64Code b
+pub code_or_cut : (b : List ℕ) → 0 < length b → All (λ x. x < 256) b → ((c : Arm64UnwindCode) × StartsWithArm64Code b c) ⊎ IsTruncatedArm64Code b
 code_or_cut [] some all = absurd (omega (arith, some))
 code_or_cut (b ∷ rest) some h256 =
     let all : AreBytes (b ∷ rest) = bytes_of_all (b ∷ rest) h256 in

@@ -13,8 +13,8 @@ same_at : (fs : List RuntimeFunction) (i : ℕ) (d f : RuntimeFunction) → i < 
 same_at fs i d f h = ap (λ (g : RuntimeFunction). g.begin_address) (get_or_default fs i d f h)
 
 -- begins never fall, also of one entry
-begin_le : (fs : List RuntimeFunction) (d : RuntimeFunction) → NeverFalls fs → (i j : ℕ) → i ≤ j → j < length fs → (get_or fs i d).begin_address ≤ (get_or fs j d).begin_address
-begin_le fs d ordered i j h l =
+start_le : (fs : List RuntimeFunction) (d : RuntimeFunction) → NeverFalls fs → (i j : ℕ) → i ≤ j → j < length fs → (get_or fs i d).begin_address ≤ (get_or fs j d).begin_address
+start_le fs d ordered i j h l =
     ⊎_elim
     (λ (lt : i < j). ordered i j d lt l)
     (λ (ge : j ≤ i). let same : i ≡ j = omega arith in rw same (omega arith))
@@ -28,8 +28,8 @@ scan_covering fs a k f ordered apart l is covers =
     let end : (get_or fs k f).end_address ≡ f.end_address = ap (λ (g : RuntimeFunction). g.end_address) is in
     let kept : filter (λ g. leb g.begin_address a) fs ≡ take (k + 1) fs =
     filter_first (λ g. leb g.begin_address a) fs (k + 1)
-    (λ i d h m. let below : (get_or fs i d).begin_address ≤ a = omega (arith, same_at fs i d f m, begin_le fs f ordered i k (omega arith) l, begin, covers.0) in grind (arith, nat_tests))
-    (λ i d h m. let above : a < (get_or fs i d).begin_address = omega (arith, same_at fs i d f m, begin_le fs f ordered (k + 1) i h m, apart k f (omega arith), end, covers.1) in grind (arith, nat_tests)) in
+    (λ i d h m. let below : (get_or fs i d).begin_address ≤ a = omega (arith, same_at fs i d f m, start_le fs f ordered i k (omega arith) l, begin, covers.0) in grind (arith, nat_tests))
+    (λ i d h m. let above : a < (get_or fs i d).begin_address = omega (arith, same_at fs i d f m, start_le fs f ordered (k + 1) i h m, apart k f (omega arith), end, covers.1) in grind (arith, nat_tests)) in
     let last : last_or None (take (k + 1) fs) ≡ Some f = ap (last_or None) (take_more fs k f l) ∙ last_or-append None (take k fs) (get_or fs k f) ∙ ap (λ (g : RuntimeFunction). Some g) is in
     before_end-inside a (last_or None (filter (λ g. leb g.begin_address a) fs)) f (ap (last_or None) kept ∙ last) covers.1
 

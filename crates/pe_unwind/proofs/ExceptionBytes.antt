@@ -8,7 +8,7 @@ use Rattle.pe_core.specs.SectionMap.{section_map}
 use Rattle.pe_core.specs.declared.data_directories.DataDirectory.{DataDirectory}
 use Rattle.pe_core.specs.declared.options.ParseOptions.{ParseOptions}
 use Rattle.pe_core.specs.declared.section_table.SectionTable.{SectionTable}
-use Rattle.pe_unwind.specs.ExceptionTable.{ExceptionView, exception_at, exception_at_place}
+use Rattle.pe_unwind.specs.ExceptionTable.{ExceptionView, exception_at, exception_at_offset}
 
 -- the bytes, and the alignment by which addresses are mapped
 abbrev pub IsOf : List ℕ → ℕ → ExceptionView → Type 0
@@ -19,15 +19,15 @@ tested [] x v h = cc
 tested ((true, refusal) ∷ tests) x v h = tested tests x v h
 tested ((false, refusal) ∷ tests) x v h = absurd cc
 
-at_place : (b : List ℕ) (size unit : ℕ) (place : Option ℕ) (v : ExceptionView) → exception_at_place b size unit place ≡ Ok v → IsOf b unit v
-at_place b size unit None v h = absurd cc
-at_place b size unit (Some p) v h =
+at_offset : (b : List ℕ) (size unit : ℕ) (offset : Option ℕ) (v : ExceptionView) → exception_at_offset b size unit offset ≡ Ok v → IsOf b unit v
+at_offset b size unit None v h = absurd cc
+at_offset b size unit (Some p) v h =
     let same : record { content = b; start = p; size = size; alignment = unit } ≡ v = tested ((p % 4 == 0, ExceptionOffset) ∷ (holds b p size, ExceptionBounds) ∷ []) (record { content = b; start = p; size = size; alignment = unit }) v h in
     (ap (λ (v : ExceptionView). v.content) (sym same), ap (λ (v : ExceptionView). v.alignment) (sym same))
 
-if_whole : (whole : Bool) (b : List ℕ) (size unit : ℕ) (place : Option ℕ) (v : ExceptionView) → (if whole then exception_at_place b size unit place else Err ExceptionSize) ≡ Ok v → IsOf b unit v
-if_whole true b size unit place v h = at_place b size unit place v h
-if_whole false b size unit place v h = absurd cc
+if_whole : (whole : Bool) (b : List ℕ) (size unit : ℕ) (offset : Option ℕ) (v : ExceptionView) → (if whole then exception_at_offset b size unit offset else Err ExceptionSize) ≡ Ok v → IsOf b unit v
+if_whole true b size unit offset v h = at_offset b size unit offset v h
+if_whole false b size unit offset v h = absurd cc
 
 pub in_directory : (width : ℕ) (b : List ℕ) (d : DataDirectory) (sections : List SectionTable) (unit : ℕ) (o : ParseOptions) (v : ExceptionView) → exception_at width b d sections unit o ≡ Ok v → IsOf b unit v
 unfolding exception_at
@@ -52,13 +52,13 @@ after_tests false t x v f h = absurd cc
 held : (b : List ℕ) (p n : ℕ) → holds b p n ≡ true → p + n ≤ length b
 held b p n e = grind (arith, nat_tests)
 
-inside_at_place : (b : List ℕ) (size unit : ℕ) (place : Option ℕ) (v : ExceptionView) → exception_at_place b size unit place ≡ Ok v → IsInside v
-inside_at_place b size unit None v h = absurd cc
-inside_at_place b size unit (Some p) v h = after_tests (p % 4 == 0) (holds b p size) (record { content = b; start = p; size = size; alignment = unit }) v (held b p size) h
+inside_at_offset : (b : List ℕ) (size unit : ℕ) (offset : Option ℕ) (v : ExceptionView) → exception_at_offset b size unit offset ≡ Ok v → IsInside v
+inside_at_offset b size unit None v h = absurd cc
+inside_at_offset b size unit (Some p) v h = after_tests (p % 4 == 0) (holds b p size) (record { content = b; start = p; size = size; alignment = unit }) v (held b p size) h
 
-inside_if_whole : (t : Bool) (b : List ℕ) (size unit : ℕ) (place : Option ℕ) (v : ExceptionView) → (if t then exception_at_place b size unit place else Err ExceptionSize) ≡ Ok v → IsInside v
-inside_if_whole true b size unit place v h = inside_at_place b size unit place v h
-inside_if_whole false b size unit place v h = absurd cc
+inside_if_whole : (t : Bool) (b : List ℕ) (size unit : ℕ) (offset : Option ℕ) (v : ExceptionView) → (if t then exception_at_offset b size unit offset else Err ExceptionSize) ≡ Ok v → IsInside v
+inside_if_whole true b size unit offset v h = inside_at_offset b size unit offset v h
+inside_if_whole false b size unit offset v h = absurd cc
 
 pub inside_directory : (width : ℕ) (b : List ℕ) (d : DataDirectory) (sections : List SectionTable) (unit : ℕ) (o : ParseOptions) (v : ExceptionView) → exception_at width b d sections unit o ≡ Ok v → IsInside v
 unfolding exception_at

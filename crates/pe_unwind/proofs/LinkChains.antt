@@ -8,30 +8,30 @@ use Rattle.pe_core.specs.Chains.{after, NeverStops, FollowsKey, HasKeysBelow, Ke
 use Rattle.pe_core.proofs.Pigeonhole.{never_stops, repeats, after_more}
 use Rattle.pe_unwind.specs.FunctionTable.{Finds, function_at, functions}
 use Rattle.pe_core.specs.Bytes.{holds}
-use Rattle.pe_unwind.specs.UnwindRecord.{UnwindInfoView, unwind_tests, unwind_record, ending_holds, behind_codes, flags_at, version_at, count_at}
+use Rattle.pe_unwind.specs.UnwindRecord.{UnwindInfoView, unwind_tests, unwind_record, ending_holds, after_codes, flags_at, version_at, count_at}
 use Rattle.pe_core.specs.declared.options.ParseOptions.{ParseOptions}
 use Rattle.pe_core.specs.declared.section_table.SectionTable.{SectionTable}
 use Rattle.pe_unwind.specs.declared.function_table.RuntimeFunction.{RuntimeFunction}
 use Rattle.pe_unwind.specs.ExceptionTable.{ExceptionView, table_of}
-use Rattle.pe_unwind.specs.Unwinding.{Unwinds, UnwindsFound, UnwindsAt, record_at_place, record_at_address}
-use Rattle.pe_unwind.specs.Links.{Table, IsOdd, count, entry_at, link, next, address_of, IsEndless, Follows, links_of}
+use Rattle.pe_unwind.specs.Unwinding.{Unwinds, UnwindsFound, UnwindsAt, record_at_offset, record_at_address}
+use Rattle.pe_unwind.specs.Links.{Table, IsOdd, table_count, link_entry_at, link, next, address_of, IsEndless, Follows, links_of}
 use Rattle.pe_unwind.specs.LinkSteps.{Leads}
 
-pub next_ok : (t : Table) (u p : ℕ) → u % 2 ≡ 1 → t.place (u - 1) ≡ Some p → t.start ≤ p → (p - t.start) % 12 ≡ 0 → (p - t.start) / 12 < count t → next t u ≡ Some ((function_at t.entries (p - t.start)).unwind_info_address)
-unfolding next link entry_at
+pub next_ok : (t : Table) (u p : ℕ) → u % 2 ≡ 1 → t.offset (u - 1) ≡ Some p → t.start ≤ p → (p - t.start) % 12 ≡ 0 → (p - t.start) / 12 < table_count t → next t u ≡ Some ((function_at t.entries (p - t.start)).unwind_info_address)
+unfolding next link link_entry_at
 next_ok t u p odd is from whole inside =
     let test : eqb (u % 2) 1 ≡ true = grind (arith, nat_tests) in
-    let entry : (leb t.start p && eqb ((p - t.start) % 12) 0 && ltb ((p - t.start) / 12) (count t)) ≡ true = grind (arith, nat_tests) in
+    let entry : (leb t.start p && eqb ((p - t.start) % 12) 0 && ltb ((p - t.start) / 12) (table_count t)) ≡ true = grind (arith, nat_tests) in
     let same : 12 * ((p - t.start) / 12) ≡ p - t.start = omega arith in
     rw test (rw is (rw entry (ap (λ (q : ℕ). Some ((function_at t.entries q).unwind_info_address)) same)))
 
-pub next-unmapped : (t : Table) (u : ℕ) → IsOdd u → t.place (u - 1) ≡ None → next t u ≡ None
+pub next-unmapped : (t : Table) (u : ℕ) → IsOdd u → t.offset (u - 1) ≡ None → next t u ≡ None
 unfolding next link
 next-unmapped t u odd none =
     let test : eqb (u % 2) 1 ≡ true = grind (arith, nat_tests) in
     rw test (rw none refl)
 
-pub next-no_entry : (t : Table) (u p : ℕ) → IsOdd u → t.place (u - 1) ≡ Some p → entry_at t p ≡ None → next t u ≡ None
+pub next-no_entry : (t : Table) (u p : ℕ) → IsOdd u → t.offset (u - 1) ≡ Some p → link_entry_at t p ≡ None → next t u ≡ None
 unfolding next link
 next-no_entry t u p odd is none =
     let test : eqb (u % 2) 1 ≡ true = grind (arith, nat_tests) in
@@ -53,26 +53,26 @@ cond_of_some : (b : Bool) (o : Option ℕ) (y : ℕ) → cond b o None ≡ Some 
 cond_of_some true o y h = (refl, h)
 cond_of_some false o y h = cc
 
-entry_some : (t : Table) (p i : ℕ) → entry_at t p ≡ Some i → i < count t
-unfolding entry_at
+entry_some : (t : Table) (p i : ℕ) → link_entry_at t p ≡ Some i → i < table_count t
+unfolding link_entry_at
 entry_some t p i h =
-    let found = cond_some (leb t.start p && eqb ((p - t.start) % 12) 0 && ltb ((p - t.start) / 12) (count t)) ((p - t.start) / 12) i h in
-    let test : (leb t.start p && eqb ((p - t.start) % 12) 0 && ltb ((p - t.start) / 12) (count t)) ≡ true = found.0 in
+    let found = cond_some (leb t.start p && eqb ((p - t.start) % 12) 0 && ltb ((p - t.start) / 12) (table_count t)) ((p - t.start) / 12) i h in
+    let test : (leb t.start p && eqb ((p - t.start) % 12) 0 && ltb ((p - t.start) / 12) (table_count t)) ≡ true = found.0 in
     let same : (p - t.start) / 12 ≡ i = found.1 in
     grind (arith, nat_tests)
 
-link_some : (t : Table) (u i : ℕ) → link t u ≡ Some i → IsOdd u × (i < count t)
+link_some : (t : Table) (u i : ℕ) → link t u ≡ Some i → IsOdd u × (i < table_count t)
 unfolding link
 link_some t u i h =
-    let found = cond_of_some (eqb (u % 2) 1) (option_and_then (entry_at t) (t.place (u - 1))) i h in
+    let found = cond_of_some (eqb (u % 2) 1) (option_and_then (link_entry_at t) (t.offset (u - 1))) i h in
     let test : eqb (u % 2) 1 ≡ true = found.0 in
-    (grind (arith, nat_tests), option_and_then_some (entry_at t) (t.place (u - 1)) i found.1 (λ p _ e. entry_some t p i e))
+    (grind (arith, nat_tests), option_and_then_some (link_entry_at t) (t.offset (u - 1)) i found.1 (λ p _ e. entry_some t p i e))
 
 pub follows_key : (t : Table) → FollowsKey (next t) (key t)
 follows_key t x y a b same to_a to_b =
     (next_some t x a to_a).1 ∙ ap (address_of t) same ∙ sym (next_some t y b to_b).1
 
-pub keys_below : (t : Table) → HasKeysBelow (next t) (key t) (count t)
+pub keys_below : (t : Table) → HasKeysBelow (next t) (key t) (table_count t)
 keys_below t x a to = (link_some t x (key t x) (next_some t x a to).0).1
 
 odd_at : (t : Table) (u : ℕ) (o : Option ℕ) → next t u ≡ o → IsSome o → IsOdd u
@@ -88,10 +88,10 @@ pub endless-from_never_stops : (t : Table) (u : ℕ) → NeverStops (next t) u �
 endless-from_never_stops t u never k = endless_at t u k (after (next t) k u) refl (never k) never
 
 -- more links than entries
-pub cycles : (t : Table) (u v : ℕ) → after (next t) (count t + 1) u ≡ Some v → IsEndless t u
+pub cycles : (t : Table) (u v : ℕ) → after (next t) (table_count t + 1) u ≡ Some v → IsEndless t u
 cycles t u v h =
-    let more : after (next t) (suc (count t)) u ≡ Some v = subst (λ (m : ℕ). after (next t) m u ≡ Some v) (add-one (count t)) h in
-    endless-from_never_stops t u (never_stops (next t) (key t) (count t) (follows_key t) (keys_below t) u (ap is_some more))
+    let more : after (next t) (suc (table_count t)) u ≡ Some v = subst (λ (m : ℕ). after (next t) m u ≡ Some v) (add-one (table_count t)) h in
+    endless-from_never_stops t u (never_stops (next t) (key t) (table_count t) (follows_key t) (keys_below t) u (ap is_some more))
 
 -- a refusal of one step is the refusal of the chain
 pub follows-from_leads : (t : Table) (u k v : ℕ) (e : Refusal) → after (next t) k u ≡ Some v → v % 2 ≢ 0 → Leads t v (Err e) → Follows t u (Err e)
@@ -154,7 +154,7 @@ comes_again t u k v w saved h to same =
     (repeats (next t) (λ x. x) (address_decides t) u saved w h.before h.since h.to_saved (after_more (next t) h.since saved v h.from_saved ∙ to) (sym same))
 
 -- more links than entries were followed
-pub too_long : (t : Table) (u k v saved : ℕ) → FollowedTo t u k v saved → k ≡ count t + 1 → IsEndless t u
+pub too_long : (t : Table) (u k v saved : ℕ) → FollowedTo t u k v saved → k ≡ table_count t + 1 → IsEndless t u
 too_long t u k v saved h same = cycles t u v (subst (λ (m : ℕ). after (next t) m u ≡ Some v) same h.reached)
 
 -- a record is refused as one of these
@@ -175,16 +175,16 @@ five_tests true true false d e y k h = refused_as Short k tt h
 five_tests true false c d e y k h = refused_as UnwindVersion k tt h
 five_tests false b c d e y k h = refused_as Short k tt h
 
-record_refusal : (b : List ℕ) (o : Option ℕ) (k : Refusal) → record_at_place b o ≡ Err k → IsRecordRefusal k
+record_refusal : (b : List ℕ) (o : Option ℕ) (k : Refusal) → record_at_offset b o ≡ Err k → IsRecordRefusal k
 unfolding unwind_tests
 record_refusal b None k h = refused_as Unmapped k tt h
-record_refusal b (Some p) k h = five_tests (holds b p 1) (version_at b p == 1 || version_at b p == 2) (holds b p 4) (holds b (p + 4) (2 * count_at b p)) (ending_holds b (behind_codes b p) (flags_at b p)) (unwind_record b p) k h
+record_refusal b (Some p) k h = five_tests (holds b p 1) (version_at b p == 1 || version_at b p == 2) (holds b p 4) (holds b (p + 4) (2 * count_at b p)) (ending_holds b (after_codes b p) (flags_at b p)) (unwind_record b p) k h
 
 other_value : {X Y : Type 0} (j k : Refusal) → Path (Result X Refusal) (Err j) (Err k) → Path (Result Y Refusal) (Err j) (Err k)
 other_value j k h = let same : j ≡ k = cc in ap (λ (e : Refusal). Err e) same
 
 cycle_at_end : (t : Table) (b : List ℕ) (u : ℕ) (end : Result ℕ Refusal) → Follows t u end → ((end >>= record_at_address t b) ≡ Err FunctionCycle) ↔ IsEndless t u
-cycle_at_end t b u (Ok v) f = (λ e. absurd (record_refusal b (t.place v) FunctionCycle e), λ endless. absurd (let e = (cycle_is_endless t u (Ok v) f).1 endless in cc))
+cycle_at_end t b u (Ok v) f = (λ e. absurd (record_refusal b (t.offset v) FunctionCycle e), λ endless. absurd (let e = (cycle_is_endless t u (Ok v) f).1 endless in cc))
 cycle_at_end t b u (Err k) f = (
   λ e. (cycle_is_endless t u (Err k) f).0 (other_value k FunctionCycle e),
   λ endless. other_value k FunctionCycle ((cycle_is_endless t u (Err k) f).1 endless),
@@ -195,7 +195,7 @@ pub unwinds_cycle : (t : Table) (b : List ℕ) (u : ℕ) (answer : Result Unwind
 unwinds_cycle t b u answer w = rw w.2 (cycle_at_end t b u w.0 w.1)
 
 no_memory_at_end : (t : Table) (b : List ℕ) (u : ℕ) (end : Result ℕ Refusal) → Follows t u end → (end >>= record_at_address t b) ≡ Err Memory → ⊥
-no_memory_at_end t b u (Ok v) f e = absurd (record_refusal b (t.place v) Memory e)
+no_memory_at_end t b u (Ok v) f e = absurd (record_refusal b (t.offset v) Memory e)
 no_memory_at_end t b u (Err Unmapped) f e = cc
 no_memory_at_end t b u (Err FunctionLink) f e = cc
 no_memory_at_end t b u (Err FunctionCycle) f e = cc
@@ -224,14 +224,14 @@ unwinds_at_code v sections opts a found answer finds unwinds = record {
 }
 
 -- places where no entry stands
-pub no_entry-before : (t : Table) (p : ℕ) → p < t.start → entry_at t p ≡ None
-unfolding entry_at
+pub no_entry-before : (t : Table) (p : ℕ) → p < t.start → link_entry_at t p ≡ None
+unfolding link_entry_at
 no_entry-before t p h = grind (arith, nat_tests)
 
-pub no_entry-inside : (t : Table) (p : ℕ) → (p - t.start) % 12 ≢ 0 → entry_at t p ≡ None
-unfolding entry_at
+pub no_entry-inside : (t : Table) (p : ℕ) → (p - t.start) % 12 ≢ 0 → link_entry_at t p ≡ None
+unfolding link_entry_at
 no_entry-inside t p h = grind (arith, nat_tests)
 
-pub no_entry-behind : (t : Table) (p : ℕ) → count t ≤ (p - t.start) / 12 → entry_at t p ≡ None
-unfolding entry_at
-no_entry-behind t p h = grind (arith, nat_tests)
+pub no_entry-after : (t : Table) (p : ℕ) → table_count t ≤ (p - t.start) / 12 → link_entry_at t p ≡ None
+unfolding link_entry_at
+no_entry-after t p h = grind (arith, nat_tests)

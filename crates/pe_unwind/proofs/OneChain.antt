@@ -32,13 +32,13 @@ next-even t u even =
     rw test refl
 
 -- what the last address of a chain answers
-abbrev at_place : Option ℕ → Result ℕ Refusal
-at_place None = Err Unmapped
-at_place (Some p) = Err FunctionLink
+abbrev at_offset : Option ℕ → Result ℕ Refusal
+at_offset None = Err Unmapped
+at_offset (Some p) = Err FunctionLink
 
 -- a chain that ends comes to a last address, which decides the answer
 abbrev EndsWith : Table → ℕ → Result ℕ Refusal → Type 0
-EndsWith t u a = (v : ℕ) × Reaches t u v × (next t v ≡ None) × (a ≡ (if v % 2 == 0 then Ok v else at_place (t.place (v - 1))))
+EndsWith t u a = (v : ℕ) × Reaches t u v × (next t v ≡ None) × (a ≡ (if v % 2 == 0 then Ok v else at_offset (t.offset (v - 1))))
 
 ends_or_cycles : (t : Table) (u : ℕ) (a : Result ℕ Refusal) → Follows t u a → (a ≡ Err FunctionCycle) ⊎ EndsWith t u a
 ends_or_cycles t u (Ok v) f =
@@ -46,17 +46,17 @@ ends_or_cycles t u (Ok v) f =
     inr (v, f.0, next-even t v f.1, rw test refl)
 ends_or_cycles t u (Err Unmapped) f =
     let test : eqb (f.0 % 2) 0 ≡ false = grind (arith, nat_tests, f.2) in
-    inr (f.0, f.1, next-unmapped t f.0 f.2 f.3, rw test (sym (ap at_place f.3)))
+    inr (f.0, f.1, next-unmapped t f.0 f.2 f.3, rw test (sym (ap at_offset f.3)))
 ends_or_cycles t u (Err FunctionLink) f =
     let test : eqb (f.0 % 2) 0 ≡ false = grind (arith, nat_tests, f.2) in
-    inr (f.0, f.1, next-no_entry t f.0 f.3 f.2 f.4 f.5, rw test (sym (ap at_place f.4)))
+    inr (f.0, f.1, next-no_entry t f.0 f.3 f.2 f.4 f.5, rw test (sym (ap at_offset f.4)))
 ends_or_cycles t u (Err FunctionCycle) f = inl refl
 ends_or_cycles t u (Err other) f = absurd f
 
 one_end : (t : Table) (u : ℕ) (a b : Result ℕ Refusal) → EndsWith t u a → EndsWith t u b → a ≡ b
 one_end t u a b x y =
     let same : x.0 ≡ y.0 = stop_once (next t) x.1.0 y.1.0 u x.0 y.0 x.2 y.2 x.1.1 y.1.1 in
-    x.3 ∙ ap (λ (v : ℕ). if v % 2 == 0 then Ok v else at_place (t.place (v - 1))) same ∙ sym y.3
+    x.3 ∙ ap (λ (v : ℕ). if v % 2 == 0 then Ok v else at_offset (t.offset (v - 1))) same ∙ sym y.3
 
 pub one_answer : (t : Table) (u : ℕ) (a b : Result ℕ Refusal) → Follows t u a → Follows t u b → a ≡ b
 one_answer t u a b f g =

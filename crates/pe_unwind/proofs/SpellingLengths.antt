@@ -6,53 +6,53 @@ use Rattle.pe_unwind.specs.declared.unwind_code.UnwindOperation.{UnwindOperation
 use Rattle.pe_unwind.specs.declared.unwind_code.UnwindCode.{UnwindCode}
 use Rattle.pe_core.specs.Bytes.{AreBytes, le}
 use Rattle.pe_unwind.specs.declared.unwind_code.UnwindOperation.TheVariants.{PushNonVolatile, Alloc, SetFPRegister, SaveNonVolatile, SaveXMM, Epilog, SaveXMM128, PushMachineFrame, Noop}
-use Rattle.pe_unwind.specs.UnwindCodes.{SpellsOperation, BeginsWithCode, IsCutCode, integer, xmm, offset}
+use Rattle.pe_unwind.specs.UnwindCodes.{SpellsOperation, StartsWithCode, IsTruncatedCode, integer, xmm, offset}
 use Rattle.pe_unwind.specs.CodeSlots.{slots_at}
 
-one_slot : (v f place op info : ℕ) (o : UnwindOperation) → SpellsOperation v f place op info [] o → slots_at v op info ≡ Some 1
-one_slot v f place op info o h = grind (arith, nat_tests)
+one_slot : (v f code_offset op info : ℕ) (o : UnwindOperation) → SpellsOperation v f code_offset op info [] o → slots_at v op info ≡ Some 1
+one_slot v f code_offset op info o h = grind (arith, nat_tests)
 
-two_slots : (v f place op info a b : ℕ) (o : UnwindOperation) → SpellsOperation v f place op info (a ∷ b ∷ []) o → slots_at v op info ≡ Some 2
-two_slots v f place op info a b o h = grind (arith, nat_tests)
+two_slots : (v f code_offset op info a b : ℕ) (o : UnwindOperation) → SpellsOperation v f code_offset op info (a ∷ b ∷ []) o → slots_at v op info ≡ Some 2
+two_slots v f code_offset op info a b o h = grind (arith, nat_tests)
 
-three_slots : (v f place op info a b c d : ℕ) (o : UnwindOperation) → SpellsOperation v f place op info (a ∷ b ∷ c ∷ d ∷ []) o → slots_at v op info ≡ Some 3
-three_slots v f place op info a b c d o h = grind (arith, nat_tests)
+three_slots : (v f code_offset op info a b c d : ℕ) (o : UnwindOperation) → SpellsOperation v f code_offset op info (a ∷ b ∷ c ∷ d ∷ []) o → slots_at v op info ≡ Some 3
+three_slots v f code_offset op info a b c d o h = grind (arith, nat_tests)
 
 -- a line of the table has so many slots
 abbrev pub HasSlots : ℕ → ℕ → ℕ → ℕ → Type 0
 HasSlots v op info n = (k : ℕ) × (slots_at v op info ≡ Some k) × (n ≡ 2 * k)
 
-spelled_len : (v f place op info : ℕ) (more : List ℕ) (o : UnwindOperation) → SpellsOperation v f place op info more o → HasSlots v op info (2 + length more)
-spelled_len v f place op info [] o h = (1, one_slot v f place op info o h, omega arith)
-spelled_len v f place op info (a ∷ []) o h = absurd h
-spelled_len v f place op info (a ∷ b ∷ []) o h = (2, two_slots v f place op info a b o h, omega arith)
-spelled_len v f place op info (a ∷ b ∷ c ∷ []) o h = absurd h
-spelled_len v f place op info (a ∷ b ∷ c ∷ d ∷ []) o h = (3, three_slots v f place op info a b c d o h, omega arith)
-spelled_len v f place op info (a ∷ b ∷ c ∷ d ∷ e ∷ more) o h = absurd h
+spelled_len : (v f code_offset op info : ℕ) (more : List ℕ) (o : UnwindOperation) → SpellsOperation v f code_offset op info more o → HasSlots v op info (2 + length more)
+spelled_len v f code_offset op info [] o h = (1, one_slot v f code_offset op info o h, omega arith)
+spelled_len v f code_offset op info (a ∷ []) o h = absurd h
+spelled_len v f code_offset op info (a ∷ b ∷ []) o h = (2, two_slots v f code_offset op info a b o h, omega arith)
+spelled_len v f code_offset op info (a ∷ b ∷ c ∷ []) o h = absurd h
+spelled_len v f code_offset op info (a ∷ b ∷ c ∷ d ∷ []) o h = (3, three_slots v f code_offset op info a b c d o h, omega arith)
+spelled_len v f code_offset op info (a ∷ b ∷ c ∷ d ∷ e ∷ more) o h = absurd h
 
 -- a spelling at the front has the slots that its second byte tells
-pub begins_slots : (v f : ℕ) (bytes : List ℕ) (code : UnwindCode) (n : ℕ) → BeginsWithCode v f bytes code n → HasSlots v (get_or bytes 1 0 % 16) (get_or bytes 1 0 / 16) n
-begins_slots v f [] code zero h = absurd h.1
-begins_slots v f [] code (suc n) h = absurd h.1
-begins_slots v f (a ∷ []) code zero h = absurd h.1
-begins_slots v f (a ∷ []) code (suc zero) h = absurd h.1
-begins_slots v f (a ∷ []) code (suc (suc n)) h = absurd h.1
-begins_slots v f (a ∷ b ∷ more) code zero h = absurd h.1
-begins_slots v f (a ∷ b ∷ more) code (suc zero) h = absurd h.1
-begins_slots v f (a ∷ b ∷ more) code (suc (suc n)) h =
+pub starts_slots : (v f : ℕ) (bytes : List ℕ) (code : UnwindCode) (n : ℕ) → StartsWithCode v f bytes code n → HasSlots v (get_or bytes 1 0 % 16) (get_or bytes 1 0 / 16) n
+starts_slots v f [] code zero h = absurd h.1
+starts_slots v f [] code (suc n) h = absurd h.1
+starts_slots v f (a ∷ []) code zero h = absurd h.1
+starts_slots v f (a ∷ []) code (suc zero) h = absurd h.1
+starts_slots v f (a ∷ []) code (suc (suc n)) h = absurd h.1
+starts_slots v f (a ∷ b ∷ more) code zero h = absurd h.1
+starts_slots v f (a ∷ b ∷ more) code (suc zero) h = absurd h.1
+starts_slots v f (a ∷ b ∷ more) code (suc (suc n)) h =
     let found = spelled_len v f a (b % 16) (b / 16) (take n more) code.operation h.1.1 in
     (found.0, found.1, omega (arith, found.2, h.0, length-take-le n more (omega (arith, h.0))))
 
 -- no line of the table
-pub none-no_slots : (v f : ℕ) (bytes : List ℕ) (code : UnwindCode) (n : ℕ) → slots_at v (get_or bytes 1 0 % 16) (get_or bytes 1 0 / 16) ≡ None → BeginsWithCode v f bytes code n → ⊥
+pub none-no_slots : (v f : ℕ) (bytes : List ℕ) (code : UnwindCode) (n : ℕ) → slots_at v (get_or bytes 1 0 % 16) (get_or bytes 1 0 / 16) ≡ None → StartsWithCode v f bytes code n → ⊥
 none-no_slots v f bytes code n none h =
-    let found = begins_slots v f bytes code n h in
+    let found = starts_slots v f bytes code n h in
     let is : slots_at v (get_or bytes 1 0 % 16) (get_or bytes 1 0 / 16) ≡ Some found.0 = found.1 in cc
 
 -- too few slots
-pub none-cut : (v f : ℕ) (bytes : List ℕ) (code : UnwindCode) (n k : ℕ) → slots_at v (get_or bytes 1 0 % 16) (get_or bytes 1 0 / 16) ≡ Some k → length bytes < 2 * k → BeginsWithCode v f bytes code n → ⊥
+pub none-cut : (v f : ℕ) (bytes : List ℕ) (code : UnwindCode) (n k : ℕ) → slots_at v (get_or bytes 1 0 % 16) (get_or bytes 1 0 / 16) ≡ Some k → length bytes < 2 * k → StartsWithCode v f bytes code n → ⊥
 none-cut v f bytes code n k is cut h =
-    let found = begins_slots v f bytes code n h in
+    let found = starts_slots v f bytes code n h in
     let same : k ≡ found.0 = let e : Some k ≡ Some found.0 = sym is ∙ found.1 in cc in
     omega (arith, found.2, h.0)
 
@@ -83,45 +83,45 @@ three_at_most v op info k h = grind (arith, nat_tests)
 
 -- an operation that these operands spell
 abbrev pub Spelled : ℕ → ℕ → ℕ → ℕ → ℕ → List ℕ → Type 0
-Spelled v f place op info more = (o : UnwindOperation) × SpellsOperation v f place op info more o
+Spelled v f code_offset op info more = (o : UnwindOperation) × SpellsOperation v f code_offset op info more o
 
-one_spelled : (v f place op info : ℕ) → HasOneSlot v op info → Spelled v f place op info []
+one_spelled : (v f code_offset op info : ℕ) → HasOneSlot v op info → Spelled v f code_offset op info []
 unfolding HasOneSlot
-one_spelled v f place op info (inl h) = (PushNonVolatile (integer info), inl (h, refl))
-one_spelled v f place op info (inr (inl h)) = (Alloc (info * 8 + 8), inr (inl (h, refl)))
-one_spelled v f place op info (inr (inr (inl h))) = (SetFPRegister, inr (inr (inl (h, refl))))
-one_spelled v f place op info (inr (inr (inr (inl h)))) = (Epilog place info, inr (inr (inr (inl (h.0, h.1, refl)))))
-one_spelled v f place op info (inr (inr (inr (inr h)))) = (PushMachineFrame (info == 1), inr (inr (inr (inr (h.0, h.1, refl)))))
+one_spelled v f code_offset op info (inl h) = (PushNonVolatile (integer info), inl (h, refl))
+one_spelled v f code_offset op info (inr (inl h)) = (Alloc (info * 8 + 8), inr (inl (h, refl)))
+one_spelled v f code_offset op info (inr (inr (inl h))) = (SetFPRegister, inr (inr (inl (h, refl))))
+one_spelled v f code_offset op info (inr (inr (inr (inl h)))) = (Epilog code_offset info, inr (inr (inr (inl (h.0, h.1, refl)))))
+one_spelled v f code_offset op info (inr (inr (inr (inr h)))) = (PushMachineFrame (info == 1), inr (inr (inr (inr (h.0, h.1, refl)))))
 
-two_spelled : (v f place op info a b : ℕ) → HasTwoSlots v op info → Spelled v f place op info (a ∷ b ∷ [])
+two_spelled : (v f code_offset op info a b : ℕ) → HasTwoSlots v op info → Spelled v f code_offset op info (a ∷ b ∷ [])
 unfolding HasTwoSlots
-two_spelled v f place op info a b (inl h) = (Alloc ((a + 256 * b) * 8), inl (h.0, h.1, refl))
-two_spelled v f place op info a b (inr (inl h)) = (SaveNonVolatile (integer info) (offset f ((a + 256 * b) * 8)), inr (inl (h, refl)))
-two_spelled v f place op info a b (inr (inr (inl h))) = (SaveXMM (xmm info) (offset f ((a + 256 * b) * 16)), inr (inr (inl (h.0, h.1, refl))))
-two_spelled v f place op info a b (inr (inr (inr h))) = (SaveXMM128 (xmm info) (offset f ((a + 256 * b) * 16)), inr (inr (inr (h, refl))))
+two_spelled v f code_offset op info a b (inl h) = (Alloc ((a + 256 * b) * 8), inl (h.0, h.1, refl))
+two_spelled v f code_offset op info a b (inr (inl h)) = (SaveNonVolatile (integer info) (offset f ((a + 256 * b) * 8)), inr (inl (h, refl)))
+two_spelled v f code_offset op info a b (inr (inr (inl h))) = (SaveXMM (xmm info) (offset f ((a + 256 * b) * 16)), inr (inr (inl (h.0, h.1, refl))))
+two_spelled v f code_offset op info a b (inr (inr (inr h))) = (SaveXMM128 (xmm info) (offset f ((a + 256 * b) * 16)), inr (inr (inr (h, refl))))
 
-three_spelled : (v f place op info a b c d : ℕ) → HasThreeSlots v op info → Spelled v f place op info (a ∷ b ∷ c ∷ d ∷ [])
+three_spelled : (v f code_offset op info a b c d : ℕ) → HasThreeSlots v op info → Spelled v f code_offset op info (a ∷ b ∷ c ∷ d ∷ [])
 unfolding HasThreeSlots
-three_spelled v f place op info a b c d (inl h) = (Alloc (a + 256 * b + 65536 * c + 16777216 * d), inl (h.0, h.1, refl))
-three_spelled v f place op info a b c d (inr (inl h)) = (SaveNonVolatile (integer info) (offset f (a + 256 * b + 65536 * c + 16777216 * d)), inr (inl (h, refl)))
-three_spelled v f place op info a b c d (inr (inr (inl h))) = (SaveXMM128 (xmm info) (offset f (a + 256 * b + 65536 * c + 16777216 * d)), inr (inr (inl (h.0, h.1, refl))))
-three_spelled v f place op info a b c d (inr (inr (inr (inl h)))) = (Noop, inr (inr (inr (inl (h.0, h.1, refl)))))
-three_spelled v f place op info a b c d (inr (inr (inr (inr h)))) = (SaveXMM128 (xmm info) (offset f (a + 256 * b + 65536 * c + 16777216 * d)), inr (inr (inr (inr (h, refl)))))
+three_spelled v f code_offset op info a b c d (inl h) = (Alloc (a + 256 * b + 65536 * c + 16777216 * d), inl (h.0, h.1, refl))
+three_spelled v f code_offset op info a b c d (inr (inl h)) = (SaveNonVolatile (integer info) (offset f (a + 256 * b + 65536 * c + 16777216 * d)), inr (inl (h, refl)))
+three_spelled v f code_offset op info a b c d (inr (inr (inl h))) = (SaveXMM128 (xmm info) (offset f (a + 256 * b + 65536 * c + 16777216 * d)), inr (inr (inl (h.0, h.1, refl))))
+three_spelled v f code_offset op info a b c d (inr (inr (inr (inl h)))) = (Noop, inr (inr (inr (inl (h.0, h.1, refl)))))
+three_spelled v f code_offset op info a b c d (inr (inr (inr (inr h)))) = (SaveXMM128 (xmm info) (offset f (a + 256 * b + 65536 * c + 16777216 * d)), inr (inr (inr (inr (h, refl)))))
 
 -- operands of the right length spell some operation
-pub all_spelled : (v f place op info k : ℕ) (more : List ℕ) → slots_at v op info ≡ Some k → 2 + length more ≡ 2 * k → Spelled v f place op info more
-all_spelled v f place op info k [] is n =
+pub all_spelled : (v f code_offset op info k : ℕ) (more : List ℕ) → slots_at v op info ≡ Some k → 2 + length more ≡ 2 * k → Spelled v f code_offset op info more
+all_spelled v f code_offset op info k [] is n =
     let one : k ≡ 1 = omega arith in
-    one_spelled v f place op info (lines_of_one v op info (rw one at is))
-all_spelled v f place op info k (a ∷ []) is n = absurd (omega arith)
-all_spelled v f place op info k (a ∷ b ∷ []) is n =
+    one_spelled v f code_offset op info (lines_of_one v op info (rw one at is))
+all_spelled v f code_offset op info k (a ∷ []) is n = absurd (omega arith)
+all_spelled v f code_offset op info k (a ∷ b ∷ []) is n =
     let two : k ≡ 2 = omega arith in
-    two_spelled v f place op info a b (lines_of_two v op info (rw two at is))
-all_spelled v f place op info k (a ∷ b ∷ c ∷ []) is n = absurd (omega arith)
-all_spelled v f place op info k (a ∷ b ∷ c ∷ d ∷ []) is n =
+    two_spelled v f code_offset op info a b (lines_of_two v op info (rw two at is))
+all_spelled v f code_offset op info k (a ∷ b ∷ c ∷ []) is n = absurd (omega arith)
+all_spelled v f code_offset op info k (a ∷ b ∷ c ∷ d ∷ []) is n =
     let three : k ≡ 3 = omega arith in
-    three_spelled v f place op info a b c d (lines_of_three v op info (rw three at is))
-all_spelled v f place op info k (a ∷ b ∷ c ∷ d ∷ e ∷ more) is n = absurd (omega (arith, three_at_most v op info k is))
+    three_spelled v f code_offset op info a b c d (lines_of_three v op info (rw three at is))
+all_spelled v f code_offset op info k (a ∷ b ∷ c ∷ d ∷ e ∷ more) is n = absurd (omega (arith, three_at_most v op info k is))
 
 zeros : ℕ → List ℕ
 zeros zero = []
@@ -139,7 +139,7 @@ zeros_are_bytes (suc n) zero = omega arith
 zeros_are_bytes (suc n) (suc k) = zeros_are_bytes n k
 
 -- one byte
-pub cut_one : (v f : ℕ) (bytes : List ℕ) → 0 < length bytes → length bytes < 2 → IsCutCode v f bytes
+pub cut_one : (v f : ℕ) (bytes : List ℕ) → 0 < length bytes → length bytes < 2 → IsTruncatedCode v f bytes
 unfolding zeros
 cut_one v f [] some less = absurd (omega arith)
 cut_one v f (a ∷ []) some less = record {
@@ -152,7 +152,7 @@ cut_one v f (a ∷ []) some less = record {
 cut_one v f (a ∷ b ∷ more) some less = absurd (omega arith)
 
 -- too few slots
-pub cut_slots : (v f : ℕ) (bytes : List ℕ) (k : ℕ) → 2 ≤ length bytes → slots_at v (get_or bytes 1 0 % 16) (get_or bytes 1 0 / 16) ≡ Some k → length bytes < 2 * k → IsCutCode v f bytes
+pub cut_slots : (v f : ℕ) (bytes : List ℕ) (k : ℕ) → 2 ≤ length bytes → slots_at v (get_or bytes 1 0 % 16) (get_or bytes 1 0 / 16) ≡ Some k → length bytes < 2 * k → IsTruncatedCode v f bytes
 cut_slots v f [] k some is less = absurd (omega arith)
 cut_slots v f (a ∷ []) k some is less = absurd (omega arith)
 cut_slots v f (a ∷ b ∷ more) k some is less =
@@ -169,7 +169,7 @@ cut_slots v f (a ∷ b ∷ more) k some is less =
     }
 
 -- no line of the table: no bytes make a code
-pub no_slots-not_cut : (v f : ℕ) (bytes : List ℕ) → 2 ≤ length bytes → slots_at v (get_or bytes 1 0 % 16) (get_or bytes 1 0 / 16) ≡ None → IsCutCode v f bytes → ⊥
+pub no_slots-not_cut : (v f : ℕ) (bytes : List ℕ) → 2 ≤ length bytes → slots_at v (get_or bytes 1 0 % 16) (get_or bytes 1 0 / 16) ≡ None → IsTruncatedCode v f bytes → ⊥
 no_slots-not_cut v f [] some none cut = omega arith
 no_slots-not_cut v f (a ∷ []) some none cut = omega arith
 no_slots-not_cut v f (a ∷ b ∷ more) some none cut =
@@ -186,23 +186,23 @@ unfolding le
 long_at_2 b = omega arith
 
 -- the bytes at the front spell the code
-pub begins_2 : (v f : ℕ) (b : List ℕ) (o : UnwindOperation) → 2 ≤ length b → SpellsOperation v f (get_or b 0 0) (get_or b 1 0 % 16) (get_or b 1 0 / 16) [] o → BeginsWithCode v f b (record { code_offset = get_or b 0 0; operation = o }) 2
-begins_2 v f [] o l h = absurd (omega arith)
-begins_2 v f (a ∷ []) o l h = absurd (omega arith)
-begins_2 v f (a ∷ b ∷ more) o l h = (l, (refl, h))
+pub starts_2 : (v f : ℕ) (b : List ℕ) (o : UnwindOperation) → 2 ≤ length b → SpellsOperation v f (get_or b 0 0) (get_or b 1 0 % 16) (get_or b 1 0 / 16) [] o → StartsWithCode v f b (record { code_offset = get_or b 0 0; operation = o }) 2
+starts_2 v f [] o l h = absurd (omega arith)
+starts_2 v f (a ∷ []) o l h = absurd (omega arith)
+starts_2 v f (a ∷ b ∷ more) o l h = (l, (refl, h))
 
-pub begins_4 : (v f : ℕ) (b : List ℕ) (o : UnwindOperation) → 4 ≤ length b → SpellsOperation v f (get_or b 0 0) (get_or b 1 0 % 16) (get_or b 1 0 / 16) (get_or b 2 0 ∷ get_or b 3 0 ∷ []) o → BeginsWithCode v f b (record { code_offset = get_or b 0 0; operation = o }) 4
-begins_4 v f [] o l h = absurd (omega arith)
-begins_4 v f (a ∷ []) o l h = absurd (omega arith)
-begins_4 v f (a ∷ b ∷ []) o l h = absurd (omega arith)
-begins_4 v f (a ∷ b ∷ c ∷ []) o l h = absurd (omega arith)
-begins_4 v f (a ∷ b ∷ c ∷ d ∷ more) o l h = (l, (refl, h))
+pub starts_4 : (v f : ℕ) (b : List ℕ) (o : UnwindOperation) → 4 ≤ length b → SpellsOperation v f (get_or b 0 0) (get_or b 1 0 % 16) (get_or b 1 0 / 16) (get_or b 2 0 ∷ get_or b 3 0 ∷ []) o → StartsWithCode v f b (record { code_offset = get_or b 0 0; operation = o }) 4
+starts_4 v f [] o l h = absurd (omega arith)
+starts_4 v f (a ∷ []) o l h = absurd (omega arith)
+starts_4 v f (a ∷ b ∷ []) o l h = absurd (omega arith)
+starts_4 v f (a ∷ b ∷ c ∷ []) o l h = absurd (omega arith)
+starts_4 v f (a ∷ b ∷ c ∷ d ∷ more) o l h = (l, (refl, h))
 
-pub begins_6 : (v f : ℕ) (b : List ℕ) (o : UnwindOperation) → 6 ≤ length b → SpellsOperation v f (get_or b 0 0) (get_or b 1 0 % 16) (get_or b 1 0 / 16) (get_or b 2 0 ∷ get_or b 3 0 ∷ get_or b 4 0 ∷ get_or b 5 0 ∷ []) o → BeginsWithCode v f b (record { code_offset = get_or b 0 0; operation = o }) 6
-begins_6 v f [] o l h = absurd (omega arith)
-begins_6 v f (a ∷ []) o l h = absurd (omega arith)
-begins_6 v f (a ∷ b ∷ []) o l h = absurd (omega arith)
-begins_6 v f (a ∷ b ∷ c ∷ []) o l h = absurd (omega arith)
-begins_6 v f (a ∷ b ∷ c ∷ d ∷ []) o l h = absurd (omega arith)
-begins_6 v f (a ∷ b ∷ c ∷ d ∷ e ∷ []) o l h = absurd (omega arith)
-begins_6 v f (a ∷ b ∷ c ∷ d ∷ e ∷ g ∷ more) o l h = (l, (refl, h))
+pub starts_6 : (v f : ℕ) (b : List ℕ) (o : UnwindOperation) → 6 ≤ length b → SpellsOperation v f (get_or b 0 0) (get_or b 1 0 % 16) (get_or b 1 0 / 16) (get_or b 2 0 ∷ get_or b 3 0 ∷ get_or b 4 0 ∷ get_or b 5 0 ∷ []) o → StartsWithCode v f b (record { code_offset = get_or b 0 0; operation = o }) 6
+starts_6 v f [] o l h = absurd (omega arith)
+starts_6 v f (a ∷ []) o l h = absurd (omega arith)
+starts_6 v f (a ∷ b ∷ []) o l h = absurd (omega arith)
+starts_6 v f (a ∷ b ∷ c ∷ []) o l h = absurd (omega arith)
+starts_6 v f (a ∷ b ∷ c ∷ d ∷ []) o l h = absurd (omega arith)
+starts_6 v f (a ∷ b ∷ c ∷ d ∷ e ∷ []) o l h = absurd (omega arith)
+starts_6 v f (a ∷ b ∷ c ∷ d ∷ e ∷ g ∷ more) o l h = (l, (refl, h))

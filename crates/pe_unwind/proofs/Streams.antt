@@ -11,23 +11,23 @@ use Rattle.pe_core.specs.declared.error.Reason.TheVariants as reasons
 use Rattle.pe_unwind.specs.declared.unwind_code.UnwindCode.{UnwindCode}
 use Rattle.pe_unwind.specs.declared.unwind_code.UnwindCodeIterator.{UnwindCodeIterator}
 use Rattle.pe_unwind.specs.declared.unwind_code.UnwindOperation.{UnwindOperation}
-use Rattle.pe_unwind.specs.CodeStream.{CodeStream, AreItems, GivesCode, stream_of, with_left}
+use Rattle.pe_unwind.specs.CodeStream.{CodeStream, AreItems, ReturnsCode, stream_of, with_left}
 use Rattle.pe_unwind.specs.FunctionTable.{answer_of}
 use Rattle.pe_unwind.specs.CodeSlots.{slots_at}
-use Rattle.pe_unwind.specs.UnwindCodes.{SpellsOperation, Spells, BeginsWithCode, BeginsWithNoCode, IsFault}
-use Rattle.pe_unwind.proofs.SpellingLengths.{all_spelled, begins_slots, cut_one, cut_slots, no_slots-not_cut, none-cut, none-no_slots}
+use Rattle.pe_unwind.specs.UnwindCodes.{SpellsOperation, Spells, StartsWithCode, StartsWithNoCode, IsCodeRefusal}
+use Rattle.pe_unwind.proofs.SpellingLengths.{all_spelled, starts_slots, cut_one, cut_slots, no_slots-not_cut, none-cut, none-no_slots}
 
 abbrev pub Next : UnwindCodeIterator → Option (Result UnwindCode Error) → UnwindCodeIterator → Type 0
-Next s r t = GivesCode (stream_of s) r (stream_of t)
+Next s r t = ReturnsCode (stream_of s) r (stream_of t)
 
-begins_some : (v f : ℕ) (b : List ℕ) (code : UnwindCode) (n : ℕ) → BeginsWithCode v f b code n → 0 < length b
-begins_some v f [] code zero h = absurd h.1
-begins_some v f [] code (suc n) h = absurd h.1
-begins_some v f (x ∷ b) code n h = omega arith
+starts_some : (v f : ℕ) (b : List ℕ) (code : UnwindCode) (n : ℕ) → StartsWithCode v f b code n → 0 < length b
+starts_some v f [] code zero h = absurd h.1
+starts_some v f [] code (suc n) h = absurd h.1
+starts_some v f (x ∷ b) code n h = omega arith
 
 nothing_left : (s : CodeStream) (xs : List (Result UnwindCode Error)) → s.content ≡ [] → AreItems s xs → xs ≡ []
 nothing_left s [] e h = refl
-nothing_left s (Ok code ∷ xs) e h = absurd (omega (arith, begins_some s.version s.frame s.content code h.0 h.1, ap (λ (b : List ℕ). length b) e))
+nothing_left s (Ok code ∷ xs) e h = absurd (omega (arith, starts_some s.version s.frame s.content code h.0 h.1, ap (λ (b : List ℕ). length b) e))
 nothing_left s (Err x ∷ xs) e h = absurd (omega (arith, h.0, ap (λ (b : List ℕ). length b) e))
 
 pub items_from_yields : (s t u : UnwindCodeIterator) (xs : List (Result UnwindCode Error)) → Yields Next s xs t → Next t None u → AreItems (stream_of s) xs
@@ -42,54 +42,54 @@ items_from_yields s t u (Err e ∷ xs) y end =
     (y.1.0, y.1.1, y.1.2, nothing_left (stream_of j) xs (ap (λ (r : CodeStream). r.content) y.1.3) rest)
 
 -- one line spells one operation
-one_operation : (v f place op info : ℕ) (more : List ℕ) (o r : UnwindOperation) → SpellsOperation v f place op info more o → SpellsOperation v f place op info more r → o ≡ r
-one_operation v f place op info [] o r h k = grind arith
-one_operation v f place op info (a ∷ []) o r h k = absurd h
-one_operation v f place op info (a ∷ b ∷ []) o r h k = grind arith
-one_operation v f place op info (a ∷ b ∷ c ∷ []) o r h k = absurd h
-one_operation v f place op info (a ∷ b ∷ c ∷ d ∷ []) o r h k = grind arith
-one_operation v f place op info (a ∷ b ∷ c ∷ d ∷ e ∷ more) o r h k = absurd h
+one_operation : (v f offset op info : ℕ) (more : List ℕ) (o r : UnwindOperation) → SpellsOperation v f offset op info more o → SpellsOperation v f offset op info more r → o ≡ r
+one_operation v f offset op info [] o r h k = grind arith
+one_operation v f offset op info (a ∷ []) o r h k = absurd h
+one_operation v f offset op info (a ∷ b ∷ []) o r h k = grind arith
+one_operation v f offset op info (a ∷ b ∷ c ∷ []) o r h k = absurd h
+one_operation v f offset op info (a ∷ b ∷ c ∷ d ∷ []) o r h k = grind arith
+one_operation v f offset op info (a ∷ b ∷ c ∷ d ∷ e ∷ more) o r h k = absurd h
 
 one_spelled : (v f : ℕ) (x : List ℕ) (c d : UnwindCode) → Spells v f x c → Spells v f x d → c ≡ d
 one_spelled v f [] c d h k = absurd h
 one_spelled v f (a ∷ []) c d h k = absurd h
 one_spelled v f (a ∷ b ∷ more) c d h k =
-    let place : c.code_offset ≡ d.code_offset = h.0 ∙ sym k.0 in
+    let offset : c.code_offset ≡ d.code_offset = h.0 ∙ sym k.0 in
     let same : c.operation ≡ d.operation = one_operation v f a (b % 16) (b / 16) more c.operation d.operation h.1 k.1 in
-    ap (λ (p : ℕ). record { code_offset = p; operation = c.operation }) place ∙ ap (λ (o : UnwindOperation). record { code_offset = d.code_offset; operation = o }) same
+    ap (λ (p : ℕ). record { code_offset = p; operation = c.operation }) offset ∙ ap (λ (o : UnwindOperation). record { code_offset = d.code_offset; operation = o }) same
 
-same_length : (v f : ℕ) (b : List ℕ) (c d : UnwindCode) (m n : ℕ) → BeginsWithCode v f b c m → BeginsWithCode v f b d n → m ≡ n
+same_length : (v f : ℕ) (b : List ℕ) (c d : UnwindCode) (m n : ℕ) → StartsWithCode v f b c m → StartsWithCode v f b d n → m ≡ n
 same_length v f b c d m n h k =
-    let x = begins_slots v f b c m h in
-    let y = begins_slots v f b d n k in
+    let x = starts_slots v f b c m h in
+    let y = starts_slots v f b d n k in
     let same : x.0 ≡ y.0 = let e : Some x.0 ≡ Some y.0 = sym x.1 ∙ y.1 in cc in
     omega (arith, x.2, y.2, same)
 
 -- bytes begin with one code at most
-pub one_code : (v f : ℕ) (b : List ℕ) (c d : UnwindCode) (m n : ℕ) → BeginsWithCode v f b c m → BeginsWithCode v f b d n → (c ≡ d) × (m ≡ n)
+pub one_code : (v f : ℕ) (b : List ℕ) (c d : UnwindCode) (m n : ℕ) → StartsWithCode v f b c m → StartsWithCode v f b d n → (c ≡ d) × (m ≡ n)
 one_code v f b c d m n h k =
     let same : m ≡ n = same_length v f b c d m n h k in
     (one_spelled v f (take n b) c d (subst (λ (i : ℕ). Spells v f (take i b) c) same h.1) k.1, same)
 
-one_fault_bad : (v f : ℕ) (b : List ℕ) (j : Refusal) → IsFault v f b BadCode → IsFault v f b j → BadCode ≡ j
-one_fault_bad v f b Short h k = absurd (h k)
-one_fault_bad v f b BadCode h k = refl
-one_fault_bad v f b other h k = absurd k
+one_refusal_bad : (v f : ℕ) (b : List ℕ) (j : Refusal) → IsCodeRefusal v f b BadCode → IsCodeRefusal v f b j → BadCode ≡ j
+one_refusal_bad v f b Short h k = absurd (h k)
+one_refusal_bad v f b BadCode h k = refl
+one_refusal_bad v f b other h k = absurd k
 
-one_fault_short : (v f : ℕ) (b : List ℕ) (j : Refusal) → IsFault v f b Short → IsFault v f b j → Short ≡ j
-one_fault_short v f b Short h k = refl
-one_fault_short v f b BadCode h k = absurd (k h)
-one_fault_short v f b other h k = absurd k
+one_refusal_short : (v f : ℕ) (b : List ℕ) (j : Refusal) → IsCodeRefusal v f b Short → IsCodeRefusal v f b j → Short ≡ j
+one_refusal_short v f b Short h k = refl
+one_refusal_short v f b BadCode h k = absurd (k h)
+one_refusal_short v f b other h k = absurd k
 
-one_fault : (v f : ℕ) (b : List ℕ) (i j : Refusal) → IsFault v f b i → IsFault v f b j → i ≡ j
-one_fault v f b Short j h k = one_fault_short v f b j h k
-one_fault v f b BadCode j h k = one_fault_bad v f b j h k
-one_fault v f b other j h k = absurd h
+one_refusal : (v f : ℕ) (b : List ℕ) (i j : Refusal) → IsCodeRefusal v f b i → IsCodeRefusal v f b j → i ≡ j
+one_refusal v f b Short j h k = one_refusal_short v f b j h k
+one_refusal v f b BadCode j h k = one_refusal_bad v f b j h k
+one_refusal v f b other j h k = absurd h
 
 -- a stream has one list of items, up to the numbers in its refusal
 pub one_reading : (s : CodeStream) (xs ys : List (Result UnwindCode Error)) → AreItems s xs → AreItems s ys → map answer_of xs ≡ map answer_of ys
 one_reading s [] ys h k = sym (ap (map answer_of) (nothing_left s ys h k))
-one_reading s (Ok c ∷ xs) [] h k = absurd (omega (arith, begins_some s.version s.frame s.content c h.0 h.1, ap (λ (b : List ℕ). length b) k))
+one_reading s (Ok c ∷ xs) [] h k = absurd (omega (arith, starts_some s.version s.frame s.content c h.0 h.1, ap (λ (b : List ℕ). length b) k))
 one_reading s (Ok c ∷ xs) (Err e ∷ ys) h k = absurd (k.1 c h.0 h.1)
 one_reading s (Ok c ∷ xs) (Ok d ∷ ys) h k =
     let same = one_code s.version s.frame s.content c d h.0 k.0 h.1 k.1 in
@@ -99,7 +99,7 @@ one_reading s (Ok c ∷ xs) (Ok d ∷ ys) h k =
 one_reading s (Err e ∷ xs) [] h k = absurd (omega (arith, h.0, ap (λ (b : List ℕ). length b) k))
 one_reading s (Err e ∷ xs) (Ok d ∷ ys) h k = absurd (h.1 d k.0 k.1)
 one_reading s (Err e ∷ xs) (Err x ∷ ys) h k =
-    ap (λ (r : Refusal). Err r ∷ map answer_of xs) (one_fault s.version s.frame s.content (kind_of e) (kind_of x) h.2 k.2)
+    ap (λ (r : Refusal). Err r ∷ map answer_of xs) (one_refusal s.version s.frame s.content (kind_of e) (kind_of x) h.2 k.2)
     ∙ ap (λ (zs : List (Result UnwindCode Error)). Err (kind_of x) ∷ map answer_of zs) (h.3 ∙ sym k.3)
 
 -- ---- a stream has a list of items
@@ -107,9 +107,9 @@ one_reading s (Err e ∷ xs) (Err x ∷ ys) h k =
 -- a code that the bytes begin with, or that they begin with none, and what refuses them
 abbrev FirstItem : ℕ → ℕ → List ℕ → Type 0
 FirstItem v f b =
-    ((code : UnwindCode) × (n : ℕ) × BeginsWithCode v f b code n × (0 < n)) ⊎ (BeginsWithNoCode v f b × (e : Error) × IsFault v f b (kind_of e))
+    ((code : UnwindCode) × (n : ℕ) × StartsWithCode v f b code n × (0 < n)) ⊎ (StartsWithNoCode v f b × (e : Error) × IsCodeRefusal v f b (kind_of e))
 
-none_in_one : (v f a : ℕ) (code : UnwindCode) (n : ℕ) → BeginsWithCode v f (a ∷ []) code n → ⊥
+none_in_one : (v f a : ℕ) (code : UnwindCode) (n : ℕ) → StartsWithCode v f (a ∷ []) code n → ⊥
 none_in_one v f a code zero h = h.1
 none_in_one v f a code (suc zero) h = h.1
 none_in_one v f a code (suc (suc n)) h = omega (arith, h.0)
@@ -145,10 +145,10 @@ HasItems v f b = (xs : List (Result UnwindCode Error)) × AreItems (record { con
 items_by : (v f k : ℕ) (b : List ℕ) → length b ≤ suc k → ((d : List ℕ) → length d ≤ k → HasItems v f d) → 0 < length b → HasItems v f b
 items_by v f k b le more some =
     ⊎_elim
-    (λ (found : (code : UnwindCode) × (n : ℕ) × BeginsWithCode v f b code n × (0 < n)).
+    (λ (found : (code : UnwindCode) × (n : ℕ) × StartsWithCode v f b code n × (0 < n)).
     let rest : HasItems v f (drop found.1 b) = more (drop found.1 b) (omega (arith, le, found.3, found.2.0, length-drop found.1 b)) in
     (Ok found.0 ∷ rest.0, (found.1, found.2, rest.1)))
-    (λ (none : BeginsWithNoCode v f b × (e : Error) × IsFault v f b (kind_of e)). (Err none.1 ∷ [], (some, none.0, none.2, refl)))
+    (λ (none : StartsWithNoCode v f b × (e : Error) × IsCodeRefusal v f b (kind_of e)). (Err none.1 ∷ [], (some, none.0, none.2, refl)))
     (first_item v f b some)
 
 has_items : (v f k : ℕ) (b : List ℕ) → length b ≤ k → HasItems v f b

@@ -107,16 +107,16 @@ Legal PacSignLr = Unit {0}
 Legal (Reserved opcode value n) = IsReserved opcode value n
 
 -- the bytes start with those of this legal code
-pub record BeginsWithArm64Code (bytes : List ℕ) (code : Arm64UnwindCode) : Type 0 where
+pub record StartsWithArm64Code (bytes : List ℕ) (code : Arm64UnwindCode) : Type 0 where
   pub legal : Legal code
   pub spelled : bytes ≡ encoding code ++ drop (length (encoding code)) bytes
 
 -- the bytes start with no code
-abbrev pub BeginsWithNoArm64Code : List ℕ → Type 0
-BeginsWithNoArm64Code bytes = (code : Arm64UnwindCode) → BeginsWithArm64Code bytes code → ⊥
+abbrev pub StartsWithNoArm64Code : List ℕ → Type 0
+StartsWithNoArm64Code bytes = (code : Arm64UnwindCode) → StartsWithArm64Code bytes code → ⊥
 
 -- the bytes are a truncated legal code: some more bytes make them whole
-pub record IsCutArm64Code (bytes : List ℕ) : Type 0 where
+pub record IsTruncatedArm64Code (bytes : List ℕ) : Type 0 where
   pub code : Arm64UnwindCode
   pub missing : List ℕ
   pub legal : Legal code

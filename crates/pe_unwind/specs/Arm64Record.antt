@@ -66,14 +66,14 @@ abbrev pub handler_at : List ℕ → ℕ → ℕ → Option Arm64HandlerView
 handler_at b q header = if has_handler header then Some (record { rva = le b q 4; bytes = drop (q + 4) b }) else None
 
 -- the parts of a record follow one another: header, extension word, scopes, codes, RVA of the handler
-abbrev pub scopes_place : ℕ → ℕ → ℕ
-scopes_place p header = p + 4 + extension_size header
+abbrev pub scopes_offset : ℕ → ℕ → ℕ
+scopes_offset p header = p + 4 + extension_size header
 
-abbrev pub codes_place : ℕ → ℕ → Option ℕ → ℕ
-codes_place p header extension = scopes_place p header + 4 * scope_count header extension
+abbrev pub codes_offset : ℕ → ℕ → Option ℕ → ℕ
+codes_offset p header extension = scopes_offset p header + 4 * scope_count header extension
 
-abbrev pub handler_place : ℕ → ℕ → Option ℕ → ℕ
-handler_place p header extension = codes_place p header extension + 4 * code_words header extension
+abbrev pub handler_offset : ℕ → ℕ → Option ℕ → ℕ
+handler_offset p header extension = codes_offset p header extension + 4 * code_words header extension
 
 -- the size of a record with these words is the sum of its parts
 abbrev pub record_size : ℕ → Option ℕ → ℕ
@@ -84,9 +84,9 @@ abbrev pub info_with : List ℕ → ℕ → ℕ → Option ℕ → Arm64InfoView
 info_with b p header extension = record {
   header = header;
   extension = extension;
-  scopes = range b (scopes_place p header) (4 * scope_count header extension);
-  codes = range b (codes_place p header extension) (4 * code_words header extension);
-  handler = handler_at b (handler_place p header extension) header;
+  scopes = range b (scopes_offset p header) (4 * scope_count header extension);
+  codes = range b (codes_offset p header extension) (4 * code_words header extension);
+  handler = handler_at b (handler_offset p header extension) header;
 }
 
 -- its tests, in order, and what each refuses
@@ -95,9 +95,9 @@ info_tests b p header extension =
     (holds b p 4, Short)
     ∷ (bits header 18 2 == 0, Arm64Version)
     ∷ (holds b (p + 4) (extension_size header), Short)
-    ∷ (holds b (scopes_place p header) (4 * scope_count header extension), Short)
-    ∷ (holds b (codes_place p header extension) (4 * code_words header extension), Short)
-    ∷ (holds b (handler_place p header extension) (handler_size header), Short)
+    ∷ (holds b (scopes_offset p header) (4 * scope_count header extension), Short)
+    ∷ (holds b (codes_offset p header extension) (4 * code_words header extension), Short)
+    ∷ (holds b (handler_offset p header extension) (handler_size header), Short)
     ∷ []
 
 -- the record at offset p, or its first refusal
@@ -131,7 +131,7 @@ pub record AreRecord (bytes : List ℕ) (i : Arm64InfoView) (rest : List ℕ) : 
   pub scopes : length i.scopes ≡ 4 * scope_count i.header i.extension
   pub codes : length i.codes ≡ 4 * code_words i.header i.extension
   pub handler : is_some i.handler ≡ has_handler i.header
-  pub behind : IfSome i.handler (λ h. h.bytes ≡ rest)
+  pub after : IfSome i.handler (λ h. h.bytes ≡ rest)
 
 -- the words of a record fit four bytes
 pub record HasWords (i : Arm64InfoView) : Type 0 where

@@ -6,23 +6,23 @@ use Rattle.pe_core.specs.Refusals.{Refusal, Arm64Stream, Arm64Cut, kind_of, outc
 use Rattle.pe_core.specs.declared.error.Error.{Error}
 use Rattle.pe_unwind.specs.declared.arm64.codes.Arm64UnwindCodeData.{Arm64UnwindCodeData}
 use Rattle.pe_unwind.specs.declared.arm64.codes.Arm64UnwindCodeIterator.{Arm64UnwindCodeIterator}
-use Rattle.pe_unwind.specs.Arm64Encoding.{encoding, BeginsWithArm64Code, BeginsWithNoArm64Code}
+use Rattle.pe_unwind.specs.Arm64Encoding.{encoding, StartsWithArm64Code, StartsWithNoArm64Code}
 
 -- the bytes of the whole stream, and the offset of the next code
-pub record CodePlace : Type 0 where
+pub record CodeOffset : Type 0 where
   pub content : List ℕ
   pub at : ℕ
 
 -- the stream of an iterator, and its offset in it
-abbrev pub stream_place : Arm64UnwindCodeIterator → CodePlace
-stream_place s = record { content = s.bytes.now; at = s.offset }
+abbrev pub stream_offset : Arm64UnwindCodeIterator → CodeOffset
+stream_offset s = record { content = s.bytes.now; at = s.offset }
 
 -- how many bytes are left
-abbrev pub left_at : CodePlace → ℕ
+abbrev pub left_at : CodeOffset → ℕ
 left_at s = length s.content - s.at
 
 -- a stream is whole words of four bytes, at most 4,294,967,292 bytes, read from an offset that is not past its end
-abbrev pub stream_at : List ℕ → ℕ → Result CodePlace Refusal
+abbrev pub stream_at : List ℕ → ℕ → Result CodeOffset Refusal
 stream_at bytes start =
     outcome ((length bytes % 4 == 0, Arm64Stream) ∷ (nat_le start (length bytes), Arm64Stream) ∷ (nat_le (length bytes) 4294967292, Arm64Stream) ∷ [])
     (record { content = bytes; at = start })
@@ -30,13 +30,13 @@ stream_at bytes start =
 -- this is the item at an offset: the code that starts there, with its offset and size, or an error if none starts
 -- there
 abbrev pub IsItem : List ℕ → ℕ → Result Arm64UnwindCodeData Error → Type 0
-IsItem bytes at (Ok item) = BeginsWithArm64Code (drop at bytes) item.code × (item.offset ≡ at) × (item.len ≡ length (encoding item.code))
-IsItem bytes at (Err e) = BeginsWithNoArm64Code (drop at bytes) × (kind_of e ≡ Arm64Cut)
+IsItem bytes at (Ok item) = StartsWithArm64Code (drop at bytes) item.code × (item.offset ≡ at) × (item.len ≡ length (encoding item.code))
+IsItem bytes at (Err e) = StartsWithNoArm64Code (drop at bytes) × (kind_of e ≡ Arm64Cut)
 
 -- the offset of the next item; nothing follows an error
-abbrev pub behind : List ℕ → ℕ → Result Arm64UnwindCodeData Error → ℕ
-behind bytes at (Ok item) = at + item.len
-behind bytes at (Err e) = length bytes
+abbrev pub offset_after_code : List ℕ → ℕ → Result Arm64UnwindCodeData Error → ℕ
+offset_after_code bytes at (Ok item) = at + item.len
+offset_after_code bytes at (Err e) = length bytes
 
 -- these are all items from an offset on: codes that follow one another, and one error if no code starts the rest;
 -- nothing follows an error
@@ -46,10 +46,10 @@ Tiles bytes at (Ok item ∷ items) = (at < length bytes) × IsItem bytes at (Ok 
 Tiles bytes at (Err e ∷ items) = (at < length bytes) × IsItem bytes at (Err e) × (items ≡ [])
 
 -- what one call of next returns, and where it leaves the iterator
-abbrev pub GivesArm64Code : CodePlace → Option (Result Arm64UnwindCodeData Error) → CodePlace → Type 0
-GivesArm64Code s None t = (length s.content ≤ s.at) × (t ≡ s)
-GivesArm64Code s (Some item) t =
-    (s.at < length s.content) × IsItem s.content s.at item × (t ≡ record { content = s.content; at = behind s.content s.at item })
+abbrev pub ReturnsArm64Code : CodeOffset → Option (Result Arm64UnwindCodeData Error) → CodeOffset → Type 0
+ReturnsArm64Code s None t = (length s.content ≤ s.at) × (t ≡ s)
+ReturnsArm64Code s (Some item) t =
+    (s.at < length s.content) × IsItem s.content s.at item × (t ≡ record { content = s.content; at = offset_after_code s.content s.at item })
 
 -- the bytes of all codes among the items, one after the other
 abbrev pub codes_of : List (Result Arm64UnwindCodeData Error) → List ℕ
@@ -62,5 +62,5 @@ codes_of (Err e ∷ items) = codes_of items
 pub record Joins (bytes : List ℕ) (items : List (Result Arm64UnwindCodeData Error)) : Type 0 where
   pub rest : List ℕ
   pub joined : bytes ≡ codes_of items ++ rest
-  pub none : BeginsWithNoArm64Code rest
+  pub none : StartsWithNoArm64Code rest
   pub cut : IsTrue (list_any is_err items) ↔ (0 < length rest)

@@ -11,16 +11,16 @@ use Rattle.pe_unwind.specs.Arm64Words.{bits}
 use Rattle.pe_unwind.specs.ExceptionTable.{ExceptionView}
 
 -- the unwind record at a file offset; without one the RVA is unmapped
-abbrev pub info_at_place : List ℕ → Option ℕ → Result Arm64InfoView Refusal
-info_at_place b None = Err Unmapped
-info_at_place b (Some p) = info_at b p
+abbrev pub info_at_offset : List ℕ → Option ℕ → Result Arm64InfoView Refusal
+info_at_offset b None = Err Unmapped
+info_at_offset b (Some p) = info_at b p
 
 -- the file offset of the unwind record of an entry; none if its unwind data are packed
-abbrev pub place_of_function : ExceptionView → List SectionTable → ParseOptions → Arm64RuntimeFunction → Option (Result ℕ Refusal)
-place_of_function v sections opts f =
+abbrev pub offset_of_function : ExceptionView → List SectionTable → ParseOptions → Arm64RuntimeFunction → Option (Result ℕ Refusal)
+offset_of_function v sections opts f =
     if is_packed f then None else Some (mapped (section_map opts sections v.alignment (4 * bits f.unwind_data 2 30)))
 
 -- the unwind record of an entry; none if its unwind data are packed
 abbrev pub info_of_function : ExceptionView → List SectionTable → ParseOptions → Arm64RuntimeFunction → Option (Result Arm64InfoView Refusal)
 info_of_function v sections opts f =
-    if is_packed f then None else Some (info_at_place v.content (section_map opts sections v.alignment (4 * bits f.unwind_data 2 30)))
+    if is_packed f then None else Some (info_at_offset v.content (section_map opts sections v.alignment (4 * bits f.unwind_data 2 30)))

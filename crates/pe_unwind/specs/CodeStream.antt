@@ -4,7 +4,7 @@ use Rattle.pe_core.specs.Refusals.{kind_of}
 use Rattle.pe_core.specs.declared.error.Error.{Error}
 use Rattle.pe_unwind.specs.declared.unwind_code.UnwindCode.{UnwindCode}
 use Rattle.pe_unwind.specs.declared.unwind_code.UnwindCodeIterator.{UnwindCodeIterator}
-use Rattle.pe_unwind.specs.UnwindCodes.{BeginsWithCode, BeginsWithNoCode, IsFault}
+use Rattle.pe_unwind.specs.UnwindCodes.{StartsWithCode, StartsWithNoCode, IsCodeRefusal}
 
 -- the bytes of the codes, and the version and frame register by which they are read
 pub record CodeStream : Type 0 where
@@ -25,15 +25,15 @@ abbrev pub with_left : CodeStream → List ℕ → CodeStream
 with_left s left = record { content = left; version = s.version; frame = s.frame }
 
 -- what one call of next returns, and the stream that it leaves
-abbrev pub GivesCode : CodeStream → Option (Result UnwindCode Error) → CodeStream → Type 0
-GivesCode s None t = (s.content ≡ []) × (t ≡ s)
-GivesCode s (Some (Ok code)) t = (n : ℕ) × BeginsWithCode s.version s.frame s.content code n × (0 < n) × (t ≡ with_left s (drop n s.content))
-GivesCode s (Some (Err e)) t =
-    (0 < length s.content) × BeginsWithNoCode s.version s.frame s.content × IsFault s.version s.frame s.content (kind_of e) × (t ≡ with_left s [])
+abbrev pub ReturnsCode : CodeStream → Option (Result UnwindCode Error) → CodeStream → Type 0
+ReturnsCode s None t = (s.content ≡ []) × (t ≡ s)
+ReturnsCode s (Some (Ok code)) t = (n : ℕ) × StartsWithCode s.version s.frame s.content code n × (0 < n) × (t ≡ with_left s (drop n s.content))
+ReturnsCode s (Some (Err e)) t =
+    (0 < length s.content) × StartsWithNoCode s.version s.frame s.content × IsCodeRefusal s.version s.frame s.content (kind_of e) × (t ≡ with_left s [])
 
 -- these are the items of a stream: codes that follow one another, and one error if no code starts the rest
 abbrev pub AreItems : CodeStream → List (Result UnwindCode Error) → Type 0
 AreItems s [] = s.content ≡ []
-AreItems s (Ok code ∷ items) = (n : ℕ) × BeginsWithCode s.version s.frame s.content code n × AreItems (with_left s (drop n s.content)) items
+AreItems s (Ok code ∷ items) = (n : ℕ) × StartsWithCode s.version s.frame s.content code n × AreItems (with_left s (drop n s.content)) items
 AreItems s (Err e ∷ items) =
-    (0 < length s.content) × BeginsWithNoCode s.version s.frame s.content × IsFault s.version s.frame s.content (kind_of e) × (items ≡ [])
+    (0 < length s.content) × StartsWithNoCode s.version s.frame s.content × IsCodeRefusal s.version s.frame s.content (kind_of e) × (items ≡ [])

@@ -20,22 +20,22 @@ pub record ExceptionView : Type 0 where
 
 -- the range of the function table in the file, and its bytes
 abbrev pub table_range : ExceptionView → ByteRange
-table_range v = record { place = v.start; length = v.size }
+table_range v = record { offset = v.start; length = v.size }
 
 abbrev pub table_of : ExceptionView → List ℕ
 table_of v = range v.content v.start v.size
 
 -- a directory of this size at a file offset; without one its RVA is unmapped
-abbrev pub exception_at_place : List ℕ → ℕ → ℕ → Option ℕ → Result ExceptionView Refusal
-exception_at_place b size alignment None = Err Unmapped
-exception_at_place b size alignment (Some p) =
+abbrev pub exception_at_offset : List ℕ → ℕ → ℕ → Option ℕ → Result ExceptionView Refusal
+exception_at_offset b size alignment None = Err Unmapped
+exception_at_offset b size alignment (Some p) =
     outcome ((p % 4 == 0, ExceptionOffset) ∷ (holds b p size, ExceptionBounds) ∷ []) (record { content = b; start = p; size = size; alignment = alignment })
 
 -- the exception directory whose entries have this width
 unfoldable pub exception_at : ℕ → List ℕ → DataDirectory → List SectionTable → ℕ → ParseOptions → Result ExceptionView Refusal
 exception_at width b directory sections alignment opts =
     if directory.size % width == 0
-    then exception_at_place b directory.size alignment (section_map opts sections alignment directory.virtual_address)
+    then exception_at_offset b directory.size alignment (section_map opts sections alignment directory.virtual_address)
     else Err ExceptionSize
 
 -- the entry of a table with this index

@@ -1,5 +1,5 @@
 -- The x64 function table, and what lookup finds in it. (x64 exception handling: function table.)
-use Rattle.std.specs.Prelude.{◌≡◌, ℕ, ◌+◌, ◌<◌, ◌≤◌, List, Option, Some, None, Result, Ok, Err, if◌then◌else◌, nat_le, nat_lt, filter, length, AllPairs, Contains, IfSome}
+use Rattle.std.specs.Prelude.{◌≡◌, ℕ, ◌+◌, ◌<◌, ◌≤◌, ⊤, List, [], ◌∷◌, ◌++◌, Option, Some, None, Result, Ok, Err, if◌then◌else◌, nat_le, nat_lt, filter, length, AllPairs, Contains, IfSome}
 use Rattle.std.specs.List.{last_or, AllAdjacentBelow}
 use Rattle.std.specs.Int.Digits.{digits_of}
 use Rattle.pe_core.specs.Bytes.{le}
@@ -55,10 +55,26 @@ if_before_end a (Some f) = if nat_lt a f.end_address then Some f else None
 unfoldable pub scan : List RuntimeFunction → ℕ → Option RuntimeFunction
 scan fs a = if_before_end a (last_or None (filter (λ f. nat_le f.begin_address a) fs))
 
+-- the entries start with one that starts after the RVA, if there is one
+abbrev pub StartsAfter : ℕ → List RuntimeFunction → Type 0
+StartsAfter a [] = ⊤
+StartsAfter a (f ∷ fs) = a < f.begin_address
+
+-- where lookup stops, in any table: the entry before that position starts at or before the RVA, the entry after it starts
+-- after the RVA, and lookup finds the one before it, if the RVA is before its end. A table sorted by start RVA has one
+-- such position.
+unfoldable pub StopsBetween : List RuntimeFunction → ℕ → Option RuntimeFunction → Type 0
+StopsBetween fs a found =
+    (before : List RuntimeFunction) × (after : List RuntimeFunction) × (fs ≡ before ++ after)
+    × IfSome (last_or None before) (λ f. f.begin_address ≤ a)
+    × StartsAfter a after
+    × (found ≡ if_before_end a (last_or None before))
+
 -- what lookup finds: an entry that covers the RVA, or none; in a table sorted by start RVA, what a linear scan finds
 pub record Finds (fs : List RuntimeFunction) (a : ℕ) (found : Option RuntimeFunction) : Type 0 where
   pub entry : IfSome found (Contains fs)
   pub covers : IfSome found (Covers a)
+  pub stops : StopsBetween fs a found
   pub scanned : NeverFalls fs → found ≡ scan fs a
 
 -- how many binary digits a number has; 0 has none

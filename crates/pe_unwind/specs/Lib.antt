@@ -16,4 +16,4 @@ pub mod Arm64Unwinding
 pub mod Arm64Encoding
 pub mod Arm64CodeLengths
 pub mod Arm64Tiling
-pub mod Places
+pub mod Offsets

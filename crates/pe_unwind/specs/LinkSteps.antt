@@ -1,11 +1,11 @@
 -- One link between entries. Only contracts of private functions cite it.
 use Rattle.std.specs.Prelude.{◌≡◌, ℕ, ◌-◌, Some, None, Result, Ok, Err}
 use Rattle.pe_core.specs.Refusals.{Refusal, Unmapped, FunctionLink}
-use Rattle.pe_unwind.specs.Links.{Table, entry_at, next}
+use Rattle.pe_unwind.specs.Links.{Table, link_entry_at, next}
 
 -- the result of following one odd RVA
 abbrev pub Leads : Table → ℕ → Result ℕ Refusal → Type 0
 Leads t u (Ok v) = next t u ≡ Some v
-Leads t u (Err Unmapped) = t.place (u - 1) ≡ None
-Leads t u (Err FunctionLink) = (p : ℕ) × (t.place (u - 1) ≡ Some p) × (entry_at t p ≡ None)
+Leads t u (Err Unmapped) = t.offset (u - 1) ≡ None
+Leads t u (Err FunctionLink) = (p : ℕ) × (t.offset (u - 1) ≡ Some p) × (link_entry_at t p ≡ None)
 Leads t u (Err other) = ⊥

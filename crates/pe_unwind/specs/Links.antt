@@ -13,11 +13,11 @@ use Rattle.pe_unwind.specs.FunctionTable.{function_at}
 pub record Table : Type 0 where
   pub entries : List ℕ
   pub start : ℕ
-  pub place : ℕ → Option ℕ
+  pub offset : ℕ → Option ℕ
 
 -- the table of an exception directory, by a section map
 abbrev pub links_by : ExceptionView → SectionMapView → Table
-links_by v m = record { entries = table_of v; start = v.start; place = offset_in m }
+links_by v m = record { entries = table_of v; start = v.start; offset = offset_in m }
 
 -- the same by the map of these sections, with these options and the directory's own file alignment
 abbrev pub links_of : ExceptionView → List SectionTable → ParseOptions → Table
@@ -25,11 +25,11 @@ links_of v sections opts = links_by v (map_view opts sections v.alignment)
 
 -- the same, as the code that follows links has it
 abbrev pub table_view : Links → Table
-table_view l = record { entries = l.table.now; start = l.start; place = offset_in l.sections.now }
+table_view l = record { entries = l.table.now; start = l.start; offset = offset_in l.sections.now }
 
 -- how many whole entries there are
-abbrev pub count : Table → ℕ
-count t = length t.entries / 12
+abbrev pub table_count : Table → ℕ
+table_count t = length t.entries / 12
 
 -- an odd unwind RVA is a link
 abbrev pub IsOdd : ℕ → Type 0
@@ -40,13 +40,13 @@ abbrev pub IsEven : ℕ → Type 0
 IsEven u = u % 2 ≡ 0
 
 -- the index of the entry that starts at a file offset, if one does
-unfoldable pub entry_at : Table → ℕ → Option ℕ
-entry_at t p =
-    if nat_le t.start p && (p - t.start) % 12 == 0 && nat_lt ((p - t.start) / 12) (count t) then Some ((p - t.start) / 12) else None
+unfoldable pub link_entry_at : Table → ℕ → Option ℕ
+link_entry_at t p =
+    if nat_le t.start p && (p - t.start) % 12 == 0 && nat_lt ((p - t.start) / 12) (table_count t) then Some ((p - t.start) / 12) else None
 
 -- the index of the entry to which an odd RVA is a link
 unfoldable pub link : Table → ℕ → Option ℕ
-link t u = if u % 2 == 1 then option_and_then (entry_at t) (t.place (u - 1)) else None
+link t u = if u % 2 == 1 then option_and_then (link_entry_at t) (t.offset (u - 1)) else None
 
 -- the unwind RVA of an entry
 abbrev pub address_of : Table → ℕ → ℕ
@@ -67,7 +67,7 @@ Reaches t u v = (k : ℕ) × (after (next t) k u ≡ Some v)
 -- the result of following the links from u: the even RVA at their end, or why there is none
 abbrev pub Follows : Table → ℕ → Result ℕ Refusal → Type 0
 Follows t u (Ok v) = Reaches t u v × IsEven v
-Follows t u (Err Unmapped) = (v : ℕ) × Reaches t u v × IsOdd v × (t.place (v - 1) ≡ None)
-Follows t u (Err FunctionLink) = (v : ℕ) × Reaches t u v × IsOdd v × (p : ℕ) × (t.place (v - 1) ≡ Some p) × (entry_at t p ≡ None)
+Follows t u (Err Unmapped) = (v : ℕ) × Reaches t u v × IsOdd v × (t.offset (v - 1) ≡ None)
+Follows t u (Err FunctionLink) = (v : ℕ) × Reaches t u v × IsOdd v × (p : ℕ) × (t.offset (v - 1) ≡ Some p) × (link_entry_at t p ≡ None)
 Follows t u (Err FunctionCycle) = IsEndless t u
 Follows t u (Err other) = ⊥

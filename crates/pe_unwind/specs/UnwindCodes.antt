@@ -24,41 +24,41 @@ offset f n = if f == 0 then RSP n else FP n
 
 -- the operation of an opcode and its info, which these bytes follow: one case for each line of the table
 abbrev pub SpellsOperation : ℕ → ℕ → ℕ → ℕ → ℕ → List ℕ → UnwindOperation → Type 0
-SpellsOperation v f place op info [] o =
+SpellsOperation v f code_offset op info [] o =
     ((op ≡ UWOP_PUSH_NONVOL) × (o ≡ PushNonVolatile (integer info)))
     ⊎ (((op ≡ UWOP_ALLOC_SMALL) × (o ≡ Alloc (info * 8 + 8)))
     ⊎ (((op ≡ UWOP_SET_FPREG) × (o ≡ SetFPRegister))
-    ⊎ (((op ≡ UWOP_EPILOG) × (v ≡ 2) × (o ≡ Epilog place info))
+    ⊎ (((op ≡ UWOP_EPILOG) × (v ≡ 2) × (o ≡ Epilog code_offset info))
     ⊎ ((op ≡ UWOP_PUSH_MACHFRAME) × (info < 2) × (o ≡ PushMachineFrame (info == 1))))))
-SpellsOperation v f place op info (a ∷ b ∷ []) o =
+SpellsOperation v f code_offset op info (a ∷ b ∷ []) o =
     ((op ≡ UWOP_ALLOC_LARGE) × (info ≡ 0) × (o ≡ Alloc ((a + 256 * b) * 8)))
     ⊎ (((op ≡ UWOP_SAVE_NONVOL) × (o ≡ SaveNonVolatile (integer info) (offset f ((a + 256 * b) * 8))))
     ⊎ (((op ≡ UWOP_EPILOG) × (v ≡ 1) × (o ≡ SaveXMM (xmm info) (offset f ((a + 256 * b) * 16))))
     ⊎ ((op ≡ UWOP_SAVE_XMM128) × (o ≡ SaveXMM128 (xmm info) (offset f ((a + 256 * b) * 16))))))
-SpellsOperation v f place op info (a ∷ b ∷ c ∷ d ∷ []) o =
+SpellsOperation v f code_offset op info (a ∷ b ∷ c ∷ d ∷ []) o =
     ((op ≡ UWOP_ALLOC_LARGE) × (info ≡ 1) × (o ≡ Alloc (a + 256 * b + 65536 * c + 16777216 * d)))
     ⊎ (((op ≡ UWOP_SAVE_NONVOL_FAR) × (o ≡ SaveNonVolatile (integer info) (offset f (a + 256 * b + 65536 * c + 16777216 * d))))
     ⊎ (((op ≡ UWOP_SPARE_CODE) × (v ≡ 1) × (o ≡ SaveXMM128 (xmm info) (offset f (a + 256 * b + 65536 * c + 16777216 * d))))
     ⊎ (((op ≡ UWOP_SPARE_CODE) × (v ≡ 2) × (o ≡ Noop))
     ⊎ ((op ≡ UWOP_SAVE_XMM128_FAR) × (o ≡ SaveXMM128 (xmm info) (offset f (a + 256 * b + 65536 * c + 16777216 * d)))))))
-SpellsOperation v f place op info other o = ⊥
+SpellsOperation v f code_offset op info other o = ⊥
 
 -- the bytes spell the code, for version v and frame register f
 abbrev pub Spells : ℕ → ℕ → List ℕ → UnwindCode → Type 0
-Spells v f (place ∷ second ∷ more) code =
-    (code.code_offset ≡ place) × SpellsOperation v f place (second % 16) (second / 16) more code.operation
+Spells v f (code_offset ∷ second ∷ more) code =
+    (code.code_offset ≡ code_offset) × SpellsOperation v f code_offset (second % 16) (second / 16) more code.operation
 Spells v f other code = ⊥
 
 -- the bytes start with the code, which has n bytes
-abbrev pub BeginsWithCode : ℕ → ℕ → List ℕ → UnwindCode → ℕ → Type 0
-BeginsWithCode v f bytes code n = (n ≤ length bytes) × Spells v f (take n bytes) code
+abbrev pub StartsWithCode : ℕ → ℕ → List ℕ → UnwindCode → ℕ → Type 0
+StartsWithCode v f bytes code n = (n ≤ length bytes) × Spells v f (take n bytes) code
 
 -- the bytes start with no code
-abbrev pub BeginsWithNoCode : ℕ → ℕ → List ℕ → Type 0
-BeginsWithNoCode v f bytes = (code : UnwindCode) (n : ℕ) → BeginsWithCode v f bytes code n → ⊥
+abbrev pub StartsWithNoCode : ℕ → ℕ → List ℕ → Type 0
+StartsWithNoCode v f bytes = (code : UnwindCode) (n : ℕ) → StartsWithCode v f bytes code n → ⊥
 
 -- the bytes are a truncated code: some missing bytes make them whole
-pub record IsCutCode (v f : ℕ) (bytes : List ℕ) : Type 0 where
+pub record IsTruncatedCode (v f : ℕ) (bytes : List ℕ) : Type 0 where
   pub code : UnwindCode
   pub missing : List ℕ
   pub are_bytes : AreBytes missing
@@ -66,7 +66,7 @@ pub record IsCutCode (v f : ℕ) (bytes : List ℕ) : Type 0 where
   pub spelled : Spells v f (bytes ++ missing) code
 
 -- the refusal of bytes that start with no code
-abbrev pub IsFault : ℕ → ℕ → List ℕ → Refusal → Type 0
-IsFault v f bytes Short = IsCutCode v f bytes
-IsFault v f bytes BadCode = IsCutCode v f bytes → ⊥
-IsFault v f bytes other = ⊥
+abbrev pub IsCodeRefusal : ℕ → ℕ → List ℕ → Refusal → Type 0
+IsCodeRefusal v f bytes Short = IsTruncatedCode v f bytes
+IsCodeRefusal v f bytes BadCode = IsTruncatedCode v f bytes → ⊥
+IsCodeRefusal v f bytes other = ⊥

@@ -91,13 +91,13 @@ abbrev pub count_at : List ℕ → ℕ → ℕ
 count_at b p = le b (p + 2) 1
 
 -- the offset after the codes; an odd count leaves out one more slot
-abbrev pub behind_codes : List ℕ → ℕ → ℕ
-behind_codes b p = p + 4 + 2 * (count_at b p + count_at b p % 2)
+abbrev pub after_codes : List ℕ → ℕ → ℕ
+after_codes b p = p + 4 + 2 * (count_at b p + count_at b p % 2)
 
 -- the record at offset p
 unfoldable pub unwind_record : List ℕ → ℕ → UnwindInfoView
 unwind_record b p =
-    let ending = ending_at b (behind_codes b p) (flags_at b p) in
+    let ending = ending_at b (after_codes b p) (flags_at b p) in
     record {
       version = version_at b p;
       size_of_prolog = le b (p + 1) 1;
@@ -115,7 +115,7 @@ unwind_tests b p =
     ∷ (version_at b p == 1 || version_at b p == 2, UnwindVersion)
     ∷ (holds b p 4, Short)
     ∷ (holds b (p + 4) (2 * count_at b p), Short)
-    ∷ (ending_holds b (behind_codes b p) (flags_at b p), Short)
+    ∷ (ending_holds b (after_codes b p) (flags_at b p), Short)
     ∷ []
 
 -- the codes of a record, read by its version and frame register

@@ -11,17 +11,17 @@ use Rattle.pe_unwind.specs.Links.{Table, Follows, IsEndless, links_of}
 use Rattle.pe_unwind.specs.UnwindRecord.{UnwindInfoView, unwind_tests, unwind_record}
 
 -- the unwind record at a file offset; without one the RVA is unmapped
-abbrev pub record_at_place : List ℕ → Option ℕ → Result UnwindInfoView Refusal
-record_at_place b None = Err Unmapped
-record_at_place b (Some p) = outcome (unwind_tests b p) (unwind_record b p)
+abbrev pub record_at_offset : List ℕ → Option ℕ → Result UnwindInfoView Refusal
+record_at_offset b None = Err Unmapped
+record_at_offset b (Some p) = outcome (unwind_tests b p) (unwind_record b p)
 
 -- the unwind record at an RVA
 abbrev pub record_at_address : Table → List ℕ → ℕ → Result UnwindInfoView Refusal
-record_at_address t b a = record_at_place b (t.place a)
+record_at_address t b a = record_at_offset b (t.offset a)
 
 -- the result for the file offset of an unwind RVA's record: that of the RVA at the end of its links, or their refusal
 abbrev pub FindsRecord : Table → ℕ → Result ℕ Refusal → Type 0
-FindsRecord t u answer = (end : Result ℕ Refusal) × Follows t u end × (answer ≡ (end >>= λ a. mapped (t.place a)))
+FindsRecord t u answer = (end : Result ℕ Refusal) × Follows t u end × (answer ≡ (end >>= λ a. mapped (t.offset a)))
 
 -- the result for the record of an unwind RVA: the record at the end of its links, or their refusal
 abbrev pub Unwinds : Table → List ℕ → ℕ → Result UnwindInfoView Refusal → Type 0

@@ -52,12 +52,12 @@ impl<'a> ExceptionData<'a> {
     ghost use Rattle.std.specs.Prelude.{◌≡◌, ◌+◌, ◌<◌, ◌==◌, ◌↔◌, length, Err, IsOkAnd};
     ghost use Rattle.std.specs.Option.{option_map};
     ghost use Rattle.pe_core.specs.Options.{default_options};
-    ghost use Rattle.pe_core.specs.Places.{IsWithin};
-    ghost use Rattle.pe_core.specs.Refusals.{Gives, FunctionCycle, answer_by};
+    ghost use Rattle.pe_core.specs.Offsets.{IsWithin};
+    ghost use Rattle.pe_core.specs.Refusals.{Returns, FunctionCycle, answer_by};
     ghost use Rattle.pe_unwind.specs.ExceptionTable.{exception_at, table_range, table_of, function_of};
     ghost use Rattle.pe_unwind.specs.Arm64Functions.{arm64_functions, arm64_function_items, items_of_arm64_functions, arm64_function_of};
     ghost use Rattle.pe_unwind.specs.Arm64Record.{info_view};
-    ghost use Rattle.pe_unwind.specs.Arm64Unwinding.{place_of_function, info_of_function};
+    ghost use Rattle.pe_unwind.specs.Arm64Unwinding.{offset_of_function, info_of_function};
     ghost use Rattle.pe_unwind.specs.FunctionTable.{functions, function_items, items_of_functions, answer_of, Finds};
     ghost use Rattle.pe_core.specs.SectionMap.{map_view};
     ghost use Rattle.pe_unwind.specs.Links.{IsEndless, links_by, links_of, table_view};
@@ -71,7 +71,7 @@ impl<'a> ExceptionData<'a> {
         sections: &[SectionTable],
         file_alignment: u32,
     ) -> Result<ExceptionData<'a>>
-        ensures { Gives (λ d. d) result (exception_at 12 bytes.entry.now directory sections.now file_alignment default_options) }
+        ensures { Returns (λ d. d) result (exception_at 12 bytes.entry.now directory sections.now file_alignment default_options) }
     {
         ExceptionData::parse_with_opts(
             bytes,
@@ -94,7 +94,7 @@ impl<'a> ExceptionData<'a> {
         file_alignment: u32,
         opts: &ParseOptions,
     ) -> Result<ExceptionData<'a>>
-        ensures { Gives (λ d. d) result (exception_at 12 bytes.entry.now directory sections.now file_alignment opts.now) }
+        ensures { Returns (λ d. d) result (exception_at 12 bytes.entry.now directory sections.now file_alignment opts.now) }
     {
         let width = SIZE_OF_FUNCTION;
         ExceptionData::parse_table(bytes, directory, sections, file_alignment, opts, width)
@@ -109,7 +109,7 @@ impl<'a> ExceptionData<'a> {
         file_alignment: u32,
         opts: &ParseOptions,
     ) -> Result<ExceptionData<'a>>
-        ensures { Gives (λ d. d) result (exception_at 8 bytes.entry.now directory sections.now file_alignment opts.now) }
+        ensures { Returns (λ d. d) result (exception_at 8 bytes.entry.now directory sections.now file_alignment opts.now) }
     {
         let width = SIZE_OF_ARM64_FUNCTION;
         ExceptionData::parse_table(bytes, directory, sections, file_alignment, opts, width)
@@ -126,7 +126,7 @@ impl<'a> ExceptionData<'a> {
         width: usize,
     ) -> Result<ExceptionData<'a>>
         requires { 0 < width }
-        ensures { Gives (λ d. d) result (exception_at width bytes.entry.now directory sections.now file_alignment opts.now) }
+        ensures { Returns (λ d. d) result (exception_at width bytes.entry.now directory sections.now file_alignment opts.now) }
     {
         let DataDirectory {
             virtual_address,
@@ -159,7 +159,7 @@ impl<'a> ExceptionData<'a> {
         ensures within { IsWithin self.now.content result }
     {
         ByteRange {
-            place: self.offset,
+            offset: self.offset,
             length: self.size,
         }
     }
@@ -204,7 +204,7 @@ impl<'a> ExceptionData<'a> {
 
     /// The x64 entry with this index, which counts entries. Errors: `FunctionIndex` if the index is not below `len()`.
     pub fn get_function(&self, index: usize) -> Result<RuntimeFunction>
-        ensures { Gives (λ f. f) result (function_of (table_of self.now) index) }
+        ensures { Returns (λ f. f) result (function_of (table_of self.now) index) }
     {
         RuntimeFunction::of_table(self.table_bytes(), index)
     }
@@ -219,7 +219,7 @@ impl<'a> ExceptionData<'a> {
     /// The ARM64 entry with this index, which counts entries. Errors: `FunctionIndex` if the index is not below
     /// `len_arm64()`.
     pub fn get_function_arm64(&self, index: usize) -> Result<Arm64RuntimeFunction>
-        ensures { Gives (λ f. f) result (arm64_function_of (table_of self.now) index) }
+        ensures { Returns (λ f. f) result (arm64_function_of (table_of self.now) index) }
     {
         Arm64RuntimeFunction::of_table(self.table_bytes(), index)
     }
@@ -268,7 +268,7 @@ impl<'a> ExceptionData<'a> {
     ///
     /// Errors: `Unmapped` if the RVA of a link is not mapped; `FunctionLink` if no whole entry starts there;
     /// `FunctionCycle` if the links never end; then `Unmapped` if the RVA at their end is not mapped.
-    pub fn record_place(
+    pub fn record_offset(
         &self,
         unwind_address: u32,
         sections: &[SectionTable],
@@ -277,7 +277,7 @@ impl<'a> ExceptionData<'a> {
         ensures { FindsRecord (links_of self.now sections.now opts.now) unwind_address (answer_of result) }
     {
         let sections = self.section_map(sections, opts);
-        self.links(&sections).record_place(unwind_address)
+        self.links(&sections).record_offset(unwind_address)
     }
 
     /// The unwind record of an x64 function, with the default options. Errors: those of `get_unwind_info_with_opts`.
@@ -329,8 +329,8 @@ impl<'a> ExceptionData<'a> {
     fn linked_record(&self, links: &Links<'a, '_>, address: u32) -> Result<UnwindInfo<'a>>
         ensures { Unwinds (table_view links.now) self.now.content address (answer_by unwind_view result) }
     {
-        let place = links.record_place(address)?;
-        UnwindInfo::parse(self.bytes, place)
+        let offset = links.record_offset(address)?;
+        UnwindInfo::parse(self.bytes, offset)
     }
 
     /// The unwind record of an ARM64 function, with the default options, as `get_unwind_info_arm64_with_opts` reads
@@ -356,8 +356,8 @@ impl<'a> ExceptionData<'a> {
     ) -> Option<Result<Arm64UnwindInfo<'a>>>
         ensures { option_map (answer_by info_view) result ≡ info_of_function self.now sections.now opts.now function }
     {
-        match self.record_place_arm64(function, sections, opts)? {
-            Ok(place) => Some(Arm64UnwindInfo::parse(self.bytes, place)),
+        match self.record_offset_arm64(function, sections, opts)? {
+            Ok(offset) => Some(Arm64UnwindInfo::parse(self.bytes, offset)),
             Err(error) => Some(Err(error)),
         }
     }
@@ -365,13 +365,13 @@ impl<'a> ExceptionData<'a> {
     /// The file offset of the unwind record of an ARM64 function. `None` if its unwind data are packed into the entry.
     ///
     /// Errors: `Unmapped` if the RVA of the record is not mapped.
-    pub fn record_place_arm64(
+    pub fn record_offset_arm64(
         &self,
         function: Arm64RuntimeFunction,
         sections: &[SectionTable],
         opts: &ParseOptions,
     ) -> Option<Result<usize>>
-        ensures { option_map answer_of result ≡ place_of_function self.now sections.now opts.now function }
+        ensures { option_map answer_of result ≡ offset_of_function self.now sections.now opts.now function }
     {
         if function.is_packed() {
             return None;

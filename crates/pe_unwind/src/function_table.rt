@@ -6,11 +6,11 @@ ghost use Rattle.std.specs.Prelude.{◌≡◌, ◌+◌, ◌/◌, ◌≤◌, leng
 ghost use Rattle.std.specs.Iterator.{UpTo, YieldsFirstBy, item_count};
 ghost use Rattle.std.specs.Iterator.SizeHint.{IsWithinCount};
 ghost use Rattle.pe_core.specs.CountedTable.{after_read};
-ghost use Rattle.pe_core.specs.Refusals.{Gives};
+ghost use Rattle.pe_core.specs.Refusals.{Returns};
 ghost use Rattle.pe_unwind.specs.ExceptionTable.{function_of};
 ghost use Rattle.pe_unwind.specs.FunctionTable.{function_at, functions, function_items, items_of_functions, answer_of, Finds, digits};
 
-use pe_core::{CountedTable, Error, Reason, Result, number32, split_entry};
+use pe_core::{CountedTable, Error, Reason, Result, read_u32, split_entry};
 
 /// The size of an entry in bytes.
 pub(crate) const SIZE_OF_FUNCTION: usize = 12;
@@ -29,15 +29,15 @@ pub struct RuntimeFunction {
     pub unwind_info_address: u32,
 }
 
-/// Reads the entry at a place that is known to have one.
-pub(crate) fn read_function(bytes: &[u8], place: usize) -> RuntimeFunction
-    requires { place + 12 ≤ length bytes.now }
-    ensures { result ≡ function_at bytes.now place }
+/// Reads the entry at an offset in the bytes that is known to have one.
+pub(crate) fn read_function(bytes: &[u8], offset: usize) -> RuntimeFunction
+    requires { offset + 12 ≤ length bytes.now }
+    ensures { result ≡ function_at bytes.now offset }
 {
     RuntimeFunction {
-        begin_address: number32(bytes, place),
-        end_address: number32(bytes, place + 4),
-        unwind_info_address: number32(bytes, place + 8),
+        begin_address: read_u32(bytes, offset),
+        end_address: read_u32(bytes, offset + 4),
+        unwind_info_address: read_u32(bytes, offset + 8),
     }
 }
 
@@ -45,7 +45,7 @@ impl RuntimeFunction {
     /// The entry of a table with this index, which counts entries. Errors: `FunctionIndex` unless the table has more
     /// whole entries than that.
     pub fn of_table(table: &[u8], index: usize) -> Result<RuntimeFunction>
-        ensures { Gives (λ f. f) result (function_of table.now index) }
+        ensures { Returns (λ f. f) result (function_of table.now index) }
     {
         if index < table.len() / SIZE_OF_FUNCTION {
             Ok(read_function(table, SIZE_OF_FUNCTION * index))
@@ -77,7 +77,7 @@ impl<'a> Iterator for RuntimeFunctionIterator<'a> {
 
     ghost remaining = { item_count items_of_functions };
 
-    #[tactic(auto, using(crate::proofs::Entries::functions_more, crate::proofs::Entries::functions_cut, crate::proofs::Entries::functions_none))]
+    #[tactic(auto, using(crate::proofs::Entries::functions_more, crate::proofs::Entries::functions_truncated, crate::proofs::Entries::functions_none))]
     fn next(&mut self) -> Option<Result<RuntimeFunction>> {
         match split_entry(&mut self.bytes, SIZE_OF_FUNCTION)? {
             Ok(bytes) => Some(Ok(read_function(bytes, 0))),
@@ -106,12 +106,12 @@ impl<'a> ExactSizeIterator for RuntimeFunctionIterator<'a> {
 }
 
 /// Reads the entry at an offset in the table where one is known to be. It counts as one read.
-fn next_function(table: &mut CountedTable, place: usize) -> RuntimeFunction
-    requires { place + 12 ≤ length table.old.content }
-    ensures value { result ≡ function_at table.old.content place }
+fn next_function(table: &mut CountedTable, offset: usize) -> RuntimeFunction
+    requires { offset + 12 ≤ length table.old.content }
+    ensures value { result ≡ function_at table.old.content offset }
     ensures counts { table.new ≡ after_read table.old }
 {
-    let [begin_address, end_address, unwind_info_address] = table.triple_at(place).unwrap();
+    let [begin_address, end_address, unwind_info_address] = table.triple_at(offset).unwrap();
     RuntimeFunction {
         begin_address,
         end_address,
@@ -122,8 +122,9 @@ fn next_function(table: &mut CountedTable, place: usize) -> RuntimeFunction
 /// Returns the entry that covers an RVA, by binary search. It reads at most as many entries as their number has binary
 /// digits; `table` counts these reads.
 ///
-/// In a table sorted by start RVA it returns the last entry that starts at or before the RVA, if the RVA is before its
-/// end. In any other table it returns some entry that covers the RVA, or `None`.
+/// It stops between two neighbouring entries, the first of which starts at or before the RVA and the second after it
+/// (either may be missing), and returns the first if the RVA is before its end. A table sorted by start RVA has one such
+/// position, so there it returns what a linear scan finds. In any other table which position it is depends on the search.
 #[tactic(auto, using(crate::proofs::Searches::length_functions))]
 pub fn search(table: &mut CountedTable, rva: u32) -> Option<RuntimeFunction>
     ensures found { Finds (functions table.old.content) rva result }

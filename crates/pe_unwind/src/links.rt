@@ -29,15 +29,15 @@ impl<'a, 'b> Links<'a, 'b> {
         requires { address % 2 ≡ 1 }
         ensures { Leads (table_view self.now) address (answer_of result) }
     {
-        let place = self.sections.offset_of(address - 1)?;
+        let offset = self.sections.offset_of(address - 1)?;
         // The start is tested first, so that no difference below is negative.
-        if place < self.start
-            || (place - self.start) % SIZE_OF_FUNCTION != 0
-            || self.table.len() / SIZE_OF_FUNCTION <= (place - self.start) / SIZE_OF_FUNCTION
+        if offset < self.start
+            || (offset - self.start) % SIZE_OF_FUNCTION != 0
+            || self.table.len() / SIZE_OF_FUNCTION <= (offset - self.start) / SIZE_OF_FUNCTION
         {
             return Err(Error::Malformed(Reason::FunctionLink(address)));
         }
-        Ok(read_function(self.table, place - self.start).unwind_info_address)
+        Ok(read_function(self.table, offset - self.start).unwind_info_address)
     }
 
     /// The even RVA at the end of the links from `address`. This is Brent's algorithm: one RVA is saved after 1, 2, 4,
@@ -67,7 +67,7 @@ impl<'a, 'b> Links<'a, 'b> {
     }
 
     /// The file offset of the record at the end of the links. Errors: those of `end_of`; `Unmapped`.
-    pub fn record_place(&self, address: u32) -> Result<usize>
+    pub fn record_offset(&self, address: u32) -> Result<usize>
         ensures { FindsRecord (table_view self.now) address (answer_of result) }
     {
         let last = self.end_of(address)?;

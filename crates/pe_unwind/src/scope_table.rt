@@ -5,10 +5,10 @@ ghost use Rattle.std.specs.Prelude.{◌≡◌, ◌+◌, ◌≤◌, length, IfSom
 ghost use Rattle.std.specs.Iterator.{UpTo, YieldsFirst, item_count};
 ghost use Rattle.std.specs.Iterator.SizeHint.{IsWithinCount};
 ghost use Rattle.pe_core.specs.Bytes.{record_at};
-ghost use Rattle.pe_core.specs.Refusals.{Gives};
+ghost use Rattle.pe_core.specs.Refusals.{Returns};
 ghost use Rattle.pe_unwind.specs.ScopeTable.{scope_at, scopes, scopes_left};
 
-use pe_core::{Result, number32, require_bytes, split_entry};
+use pe_core::{Result, read_u32, require_bytes, split_entry};
 
 /// The size of an entry in bytes.
 pub(crate) const SIZE_OF_SCOPE: usize = 16;
@@ -28,25 +28,25 @@ pub struct ScopeTableEntry {
 }
 
 /// Reads the entry at an offset where one is known to be.
-fn read_scope(bytes: &[u8], place: usize) -> ScopeTableEntry
-    requires { place + 16 ≤ length bytes.now }
-    ensures { result ≡ scope_at bytes.now place }
+fn read_scope(bytes: &[u8], offset: usize) -> ScopeTableEntry
+    requires { offset + 16 ≤ length bytes.now }
+    ensures { result ≡ scope_at bytes.now offset }
 {
     ScopeTableEntry {
-        begin: number32(bytes, place),
-        end: number32(bytes, place + 4),
-        handler: number32(bytes, place + 8),
-        target: number32(bytes, place + 12),
+        begin: read_u32(bytes, offset),
+        end: read_u32(bytes, offset + 4),
+        handler: read_u32(bytes, offset + 8),
+        target: read_u32(bytes, offset + 12),
     }
 }
 
 impl ScopeTableEntry {
     /// The entry of 16 bytes at an offset in the bytes. Errors: `Short` if it is truncated.
-    pub fn parse(bytes: &[u8], place: usize) -> Result<ScopeTableEntry>
-        ensures { Gives (λ s. s) result (record_at bytes.now place 16 (scope_at bytes.now place)) }
+    pub fn parse(bytes: &[u8], offset: usize) -> Result<ScopeTableEntry>
+        ensures { Returns (λ s. s) result (record_at bytes.now offset 16 (scope_at bytes.now offset)) }
     {
-        require_bytes(bytes, place, SIZE_OF_SCOPE)?;
-        Ok(read_scope(bytes, place))
+        require_bytes(bytes, offset, SIZE_OF_SCOPE)?;
+        Ok(read_scope(bytes, offset))
     }
 }
 

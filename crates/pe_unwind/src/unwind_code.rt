@@ -6,13 +6,13 @@ ghost use Rattle.std.specs.Prelude.{◌≡◌, ◌+◌, ◌*◌, ◌/◌, ◌%�
 ghost use Rattle.std.specs.Iterator.{at_most, UpTo};
 ghost use Rattle.std.specs.Iterator.SizeHint.{IsWithinCount};
 ghost use Rattle.pe_core.specs.Refusals.{kind_of};
-ghost use Rattle.pe_unwind.specs.UnwindCodes.{SpellsOperation, BeginsWithCode, BeginsWithNoCode, IsFault, offset};
+ghost use Rattle.pe_unwind.specs.UnwindCodes.{SpellsOperation, StartsWithCode, StartsWithNoCode, IsCodeRefusal, offset};
 ghost use Rattle.pe_unwind.specs.CodeSlots.{slots_at};
 ghost use Rattle.pe_unwind.specs.declared.unwind_code.TheConstants.{UWOP_ALLOC_LARGE, UWOP_ALLOC_SMALL, UWOP_EPILOG, UWOP_PUSH_MACHFRAME, UWOP_PUSH_NONVOL, UWOP_SAVE_NONVOL, UWOP_SAVE_NONVOL_FAR, UWOP_SAVE_XMM128, UWOP_SAVE_XMM128_FAR, UWOP_SET_FPREG, UWOP_SPARE_CODE};
-ghost use Rattle.pe_unwind.specs.CodeStream.{stream_of, slots_left, GivesCode};
+ghost use Rattle.pe_unwind.specs.CodeStream.{stream_of, slots_left, ReturnsCode};
 
 use crate::register::Register;
-use pe_core::{Error, Reason, Result, number16, number32};
+use pe_core::{Error, Reason, Result, read_u16, read_u32};
 
 /// The size of a slot in bytes.
 const SIZE_OF_SLOT: usize = 2;
@@ -122,18 +122,18 @@ fn slots(version: u8, opcode: u8, info: u8) -> Option<usize>
     }
 }
 
-/// The operation of a code of one slot. `place` is its first byte.
-fn short_operation(version: u8, place: u8, opcode: u8, info: u8) -> UnwindOperation
+/// The operation of a code of one slot. `code_offset` is its first byte.
+fn short_operation(version: u8, code_offset: u8, opcode: u8, info: u8) -> UnwindOperation
     requires { (opcode ≡ UWOP_PUSH_NONVOL) ⊎ ((opcode ≡ UWOP_ALLOC_SMALL) ⊎ ((opcode ≡ UWOP_SET_FPREG)
         ⊎ (((opcode ≡ UWOP_EPILOG) × (version ≡ 2)) ⊎ ((opcode ≡ UWOP_PUSH_MACHFRAME) × (info < 2))))) }
-    ensures { (f : ℕ) → SpellsOperation version f place opcode info [] result }
+    ensures { (f : ℕ) → SpellsOperation version f code_offset opcode info [] result }
 {
     match opcode {
         UWOP_PUSH_NONVOL => UnwindOperation::PushNonVolatile(Register(info)),
         UWOP_ALLOC_SMALL => UnwindOperation::Alloc(u32::from(info) * 8 + 8),
         UWOP_SET_FPREG => UnwindOperation::SetFPRegister,
         UWOP_EPILOG => UnwindOperation::Epilog {
-            offset_low_or_size: place,
+            offset_low_or_size: code_offset,
             offset_high_or_flags: info,
         },
         UWOP_PUSH_MACHFRAME => UnwindOperation::PushMachineFrame(info == 1),
@@ -152,7 +152,7 @@ fn middle_operation(
     requires line { ((opcode ≡ UWOP_ALLOC_LARGE) × (info ≡ 0)) ⊎ ((opcode ≡ UWOP_SAVE_NONVOL)
         ⊎ (((opcode ≡ UWOP_EPILOG) × (version ≡ 1)) ⊎ (opcode ≡ UWOP_SAVE_XMM128))) }
     requires info { info < 16 }
-    ensures { (place a b : ℕ) → operand ≡ a + 256 * b → SpellsOperation version frame_register.0 place opcode info (a ∷ b ∷ []) result }
+    ensures { (code_offset a b : ℕ) → operand ≡ a + 256 * b → SpellsOperation version frame_register.0 code_offset opcode info (a ∷ b ∷ []) result }
 {
     let value = u32::from(operand);
     match opcode {
@@ -184,8 +184,8 @@ fn long_operation(
     requires line { ((opcode ≡ UWOP_ALLOC_LARGE) × (info ≡ 1)) ⊎ ((opcode ≡ UWOP_SAVE_NONVOL_FAR)
         ⊎ (((opcode ≡ UWOP_SPARE_CODE) × ((version ≡ 1) ⊎ (version ≡ 2))) ⊎ (opcode ≡ UWOP_SAVE_XMM128_FAR))) }
     requires info { info < 16 }
-    ensures { (place a b c d : ℕ) → operand ≡ a + 256 * b + 65536 * c + 16777216 * d →
-        SpellsOperation version frame_register.0 place opcode info (a ∷ b ∷ c ∷ d ∷ []) result }
+    ensures { (code_offset a b c d : ℕ) → operand ≡ a + 256 * b + 65536 * c + 16777216 * d →
+        SpellsOperation version frame_register.0 code_offset opcode info (a ∷ b ∷ c ∷ d ∷ []) result }
 {
     let xmm = Register(info + 17);
     let offset = frame_offset(frame_register, operand);
@@ -204,8 +204,8 @@ fn slots_there(version: u8, bytes: &[u8]) -> Result<usize>
     requires some { 0 < length bytes.now }
     ensures slots { IfOk result (λ n. slots_at version (slice_index bytes.now 1 % 16) (slice_index bytes.now 1 / 16) ≡ Some n) }
     ensures range { IfOk result (λ n. (1 ≤ n) × (n ≤ 3) × (2 * n ≤ length bytes.now)) }
-    ensures none { OnErr result ((f : ℕ) → BeginsWithNoCode version f bytes.now) }
-    ensures fault { IfErr result (λ e. (f : ℕ) → IsFault version f bytes.now (kind_of e)) }
+    ensures none { OnErr result ((f : ℕ) → StartsWithNoCode version f bytes.now) }
+    ensures refusal { IfErr result (λ e. (f : ℕ) → IsCodeRefusal version f bytes.now (kind_of e)) }
 {
     if bytes.len() < SIZE_OF_SLOT {
         return Err(Error::Short {
@@ -237,7 +237,7 @@ fn operation_at(
     requires least { 1 ≤ count }
     requires most { count ≤ 3 }
     requires fits { 2 * count ≤ length bytes.now }
-    ensures { BeginsWithCode version frame_register.0 bytes.now (record { code_offset = slice_index bytes.now 0; operation = result }) (2 * count) }
+    ensures { StartsWithCode version frame_register.0 bytes.now (record { code_offset = slice_index bytes.now 0; operation = result }) (2 * count) }
 {
     let second = bytes[1];
     let opcode = second % 16;
@@ -249,14 +249,14 @@ fn operation_at(
             frame_register,
             opcode,
             info,
-            number16(bytes, SIZE_OF_SLOT),
+            read_u16(bytes, SIZE_OF_SLOT),
         ),
         _ => long_operation(
             version,
             frame_register,
             opcode,
             info,
-            number32(bytes, SIZE_OF_SLOT),
+            read_u32(bytes, SIZE_OF_SLOT),
         ),
     }
 }
@@ -264,10 +264,10 @@ fn operation_at(
 /// The code at the start of the bytes, and its size in bytes. Errors: those of `slots_there`.
 fn code_at(version: u8, frame_register: Register, bytes: &[u8]) -> Result<(UnwindCode, usize)>
     requires some { 0 < length bytes.now }
-    ensures ok { IfOk result (λ x. BeginsWithCode version frame_register.0 bytes.now x.0 x.1) }
+    ensures ok { IfOk result (λ x. StartsWithCode version frame_register.0 bytes.now x.0 x.1) }
     ensures len { IfOk result (λ x. (2 ≤ x.1) × (x.1 ≤ length bytes.now)) }
-    ensures none { OnErr result (BeginsWithNoCode version frame_register.0 bytes.now) }
-    ensures fault { IfErr result (λ e. IsFault version frame_register.0 bytes.now (kind_of e)) }
+    ensures none { OnErr result (StartsWithNoCode version frame_register.0 bytes.now) }
+    ensures refusal { IfErr result (λ e. IsCodeRefusal version frame_register.0 bytes.now (kind_of e)) }
 {
     let count = slots_there(version, bytes)?;
     let code = UnwindCode {
@@ -309,7 +309,7 @@ impl<'a> UnwindCodeIterator<'a> {
 impl<'a> Iterator for UnwindCodeIterator<'a> {
     type Item = Result<UnwindCode>;
 
-    ghost next_gives = { λ s r t. GivesCode (stream_of s) r (stream_of t) };
+    ghost next_gives = { λ s r t. ReturnsCode (stream_of s) r (stream_of t) };
 
     ghost remaining = { λ s. at_most (slots_left (stream_of s)) };
 

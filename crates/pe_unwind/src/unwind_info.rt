@@ -4,7 +4,7 @@
 
 ghost use Rattle.std.specs.Prelude.{◌≡◌, [], ◌∷◌};
 ghost use Rattle.std.specs.Option.{option_map};
-ghost use Rattle.pe_core.specs.Refusals.{Gives, Short, outcome};
+ghost use Rattle.pe_core.specs.Refusals.{Returns, Short, outcome};
 ghost use Rattle.pe_unwind.specs.CodeStream.{stream_of};
 ghost use Rattle.pe_unwind.specs.ScopeTable.{scopes_left};
 ghost use Rattle.pe_unwind.specs.UnwindRecord.{handler_view, ending_view, unwind_view, ending_holds, ending_at, unwind_tests, unwind_record, code_stream, scope_table_size, scope_table_at, scope_table_of};
@@ -13,7 +13,7 @@ use crate::function_table::{RuntimeFunction, SIZE_OF_FUNCTION, read_function};
 use crate::register::Register;
 use crate::scope_table::{SIZE_OF_SCOPE, ScopeTableIterator};
 use crate::unwind_code::{UnwindCode, UnwindCodeIterator};
-use pe_core::{Error, Reason, Result, number8, number32, require_bytes, slice_at, u8_at, u32_at};
+use pe_core::{Error, Reason, Result, read_u8, read_u32, require_bytes, slice_at, u8_at, u32_at};
 
 /// The handler of a function, called when an exception passes through it: its RVA, and the handler's data, which are
 /// all bytes after that RVA in the record, up to the end of the file.
@@ -48,21 +48,21 @@ pub struct UnwindInfo<'a> {
 #[tactic(auto, unfolding(crate::specs::UnwindRecord::ending_holds, crate::specs::UnwindRecord::ending_at))]
 fn ending(
     bytes: &[u8],
-    place: usize,
+    offset: usize,
     flags: u8,
 ) -> Result<(Option<RuntimeFunction>, Option<UnwindHandler<'_>>)>
-    ensures { Gives ending_view result (outcome ((ending_holds bytes.now place flags, Short) ∷ []) (ending_at bytes.now place flags)) }
+    ensures { Returns ending_view result (outcome ((ending_holds bytes.now offset flags, Short) ∷ []) (ending_at bytes.now offset flags)) }
 {
     if flags / 4 % 2 == 1 {
-        require_bytes(bytes, place, SIZE_OF_FUNCTION)?;
-        return Ok((Some(read_function(bytes, place)), None));
+        require_bytes(bytes, offset, SIZE_OF_FUNCTION)?;
+        return Ok((Some(read_function(bytes, offset)), None));
     }
     if flags % 2 == 0 && flags / 2 % 2 == 0 {
         return Ok((None, None));
     }
-    require_bytes(bytes, place, 4)?;
-    let address = number32(bytes, place);
-    let data = bytes.split_at(place + 4).1;
+    require_bytes(bytes, offset, 4)?;
+    let address = read_u32(bytes, offset);
+    let data = bytes.split_at(offset + 4).1;
     let handler = if flags % 2 == 1 {
         UnwindHandler::ExceptionHandler(address, data)
     } else {
@@ -99,7 +99,7 @@ impl<'a> UnwindInfo<'a> {
     /// `Short` if the rest of the header, the codes, or the chained function or the handler's RVA are truncated.
     #[tactic(auto, unfolding(crate::specs::UnwindRecord::unwind_tests, crate::specs::UnwindRecord::unwind_record))]
     pub fn parse(bytes: &'a [u8], offset: usize) -> Result<UnwindInfo<'a>>
-        ensures { Gives unwind_view result (outcome (unwind_tests bytes.entry.now offset) (unwind_record bytes.entry.now offset)) }
+        ensures { Returns unwind_view result (outcome (unwind_tests bytes.entry.now offset) (unwind_record bytes.entry.now offset)) }
     {
         let first = u8_at(bytes, offset)?;
         let version = first % 8;
@@ -107,15 +107,15 @@ impl<'a> UnwindInfo<'a> {
             return Err(Error::Malformed(Reason::UnwindVersion(version)));
         }
         require_bytes(bytes, offset, 4)?;
-        let count = usize::from(number8(bytes, offset + 2));
-        let frame = number8(bytes, offset + 3);
+        let count = usize::from(read_u8(bytes, offset + 2));
+        let frame = read_u8(bytes, offset + 3);
         let code_bytes = slice_at(bytes, offset + 4, 2 * count)?;
         // The codes are padded to an even number of slots.
-        let behind = offset + 4 + 2 * (count + count % 2);
-        let (chained_info, handler) = ending(bytes, behind, first / 8)?;
+        let after = offset + 4 + 2 * (count + count % 2);
+        let (chained_info, handler) = ending(bytes, after, first / 8)?;
         Ok(UnwindInfo {
             version,
-            size_of_prolog: number8(bytes, offset + 1),
+            size_of_prolog: read_u8(bytes, offset + 1),
             frame_register: Register(frame % 16),
             frame_register_offset: u32::from(frame / 16) * 16,
             chained_info,

@@ -2,14 +2,18 @@
 use Rattle.std.proofs.Common.{◌≡◌, ℕ, List, [], Option, None, Ok, refl}
 use Rattle.pe_core.specs.Options.{default_options}
 use Rattle.pe_image.specs.Image.{ImageView, IsImage}
-use Rattle.pe_unwind.specs.FunctionTable.{Finds, scan}
+use Rattle.pe_unwind.specs.FunctionTable.{Finds, StopsBetween, scan}
 use Rattle.pe_unwind.specs.declared.function_table.RuntimeFunction.{RuntimeFunction}
 use Rattle.peinfo.specs.Find.{IsFindText, functions_of, found_line}
+
+pub nothing_stops : (a : ℕ) → StopsBetween [] a None
+unfolding StopsBetween
+nothing_stops a = ([], [], refl, tt, tt, refl)
 
 -- nothing is found among no functions
 pub nothing_found : (a : ℕ) → Finds [] a None
 unfolding scan
-nothing_found a = record { entry = tt; covers = tt; scanned = λ _. refl }
+nothing_found a = record { entry = tt; covers = tt; stops = nothing_stops a; scanned = λ _. refl }
 
 pub find_text : (b : List ℕ) (image : ImageView) (a : ℕ) (found : Option RuntimeFunction) (text : List ℕ) → IsImage b default_options (Ok image) → Finds (functions_of image.header.coff_header.machine image.exception_data) a found → text ≡ found_line found → IsFindText b a text
 find_text b image a found text given finds shown = record { image = image; given = given; found = found; finds = finds; shown = shown }

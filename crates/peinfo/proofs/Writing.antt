@@ -3,7 +3,7 @@ use Rattle.std.proofs.Common.{◌<◌, ◌≡◌, ℕ, arith, List, [], ◌∷�
 use Rattle.std.proofs.lemmas.List.{take-append-drop, take_at, append-nil}
 use Rattle.std.proofs.lemmas.Bool.{cases_lt}
 use Rattle.std.specs.Io.KnownBytes.{Appends, Keeps}
-use Rattle.peinfo.specs.Output.{MOST, one_more, AppendsBeginning, RoseOrFull}
+use Rattle.peinfo.specs.Output.{MOST, one_more_failure, AppendsBeginning, RoseOrFull}
 
 Appends-then : (a b c : Option (List ℕ)) (x y : List ℕ) → Appends a b x → Appends b c y → Appends a c (x ++ y)
 Appends-then None b c x y p q = tt
@@ -51,7 +51,7 @@ pub ends : (old now : Option (List ℕ)) (text rest : List ℕ) → IsPartWritte
 ends old now text [] so_far e = rw (so_far.parts, append-nil so_far.done) so_far.written
 ends old now text (x ∷ rest) so_far e = absurd (omega arith)
 
-pub rises : (old new : ℕ) → new ≡ one_more old → RoseOrFull old new
+pub rises : (old new : ℕ) → new ≡ one_more_failure old → RoseOrFull old new
 rises old new e = elim (cases_lt old MOST) [ inl lt ↦ inl (omega arith) | inr le ↦ inr (omega arith) ]
 
 pub ruleset steps = (starts, goes_on, stops, ends, rises)

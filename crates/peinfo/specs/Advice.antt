@@ -20,7 +20,7 @@ IsAdvice text (Err refusal) = text ≡ codes ""
 
 -- the advice on an image that is refused in this mode: none in permissive mode, else by what permissive mode returns.
 -- An allocation can fail only once the headers and the section headers are read
-abbrev pub GivesAdvice : {E : Type 0} → List ℕ → ParseMode → Result (Bor (List ℕ)) E → Type 0
-GivesAdvice b Permissive (Ok text) = text.now ≡ codes ""
-GivesAdvice b Strict (Ok text) = (image : Result ImageView Refusal) × IsImage b permissive_options image × IsAdvice text.now image
-GivesAdvice b mode (Err e) = (mode ≡ Strict) × IsOk (sections_read b permissive_options)
+abbrev pub ReturnsAdvice : {E : Type 0} → List ℕ → ParseMode → Result (Bor (List ℕ)) E → Type 0
+ReturnsAdvice b Permissive (Ok text) = text.now ≡ codes ""
+ReturnsAdvice b Strict (Ok text) = (image : Result ImageView Refusal) × IsImage b permissive_options image × IsAdvice text.now image
+ReturnsAdvice b mode (Err e) = (mode ≡ Strict) × IsOk (sections_read b permissive_options)

@@ -6,12 +6,12 @@ use Rattle.pe_records.specs.Certificates.{CertificateView, revision_number, type
 use Rattle.peinfo.specs.Hex.{hex}
 
 -- the end of a line, from after the length on
-unfoldable pub line_end : ℕ → ℕ → List ℕ
-line_end revision kind = codes " " ++ hex 4 revision ++ codes " " ++ hex 4 kind ++ codes "\n"
+unfoldable pub certificate_line_end : ℕ → ℕ → List ℕ
+certificate_line_end revision kind = codes " " ++ hex 4 revision ++ codes " " ++ hex 4 kind ++ codes "\n"
 
 -- a line by its three numbers
 unfoldable pub certificate_text : ℕ → ℕ → ℕ → List ℕ
-certificate_text size revision kind = codes "certificate " ++ decimal size ++ line_end revision kind
+certificate_text size revision kind = codes "certificate " ++ decimal size ++ certificate_line_end revision kind
 
 -- the line of a certificate: its length, and the numbers of its revision and its type
 unfoldable pub certificate_line : CertificateView → List ℕ

@@ -30,10 +30,10 @@ file_of (commands.ChainAt file rva) = file.now
 file_of (commands.Rewrite file out) = file.now
 
 -- no argument after the file, or `--permissive`
-abbrev pub mode_of : List (List ℕ) → Option ParseMode
-mode_of [] = Some Strict
-mode_of (word ∷ []) = if bytes_eq word (codes "--permissive") then Some Permissive else None
-mode_of (word ∷ more ∷ rest) = None
+abbrev pub flag_mode : List (List ℕ) → Option ParseMode
+flag_mode [] = Some Strict
+flag_mode (argument ∷ []) = if bytes_eq argument (codes "--permissive") then Some Permissive else None
+flag_mode (argument ∷ more ∷ rest) = None
 
 -- the code is at least the first of these, and at most the last
 abbrev pub is_between : ℕ → ℕ → ℕ → Bool
@@ -47,26 +47,26 @@ digit_of code =
     else (if is_between 97 102 code then Some (code - 87) else None))
 
 -- the number of these digits, after others that make the number `front`
-unfoldable pub number_behind : ℕ → List ℕ → Option ℕ
-number_behind front [] = Some front
-number_behind front (code ∷ codes) = option_and_then (λ digit. number_behind (16 * front + digit) codes) (digit_of code)
+unfoldable pub number_after : ℕ → List ℕ → Option ℕ
+number_after front [] = Some front
+number_after front (code ∷ codes) = option_and_then (λ digit. number_after (16 * front + digit) codes) (digit_of code)
 
 -- the RVA of one to eight hexadecimal digits
 abbrev pub rva_of : List ℕ → Option ℕ
-rva_of word = if nat_le 1 (length word) && nat_le (length word) 8 then number_behind 0 word else None
+rva_of argument = if nat_le 1 (length argument) && nat_le (length argument) 8 then number_after 0 argument else None
 
 -- an RVA after the file, and nothing more or `--chain`
 abbrev pub asked_at : List ℕ → List (List ℕ) → Option Asked
 asked_at file [] = None
-asked_at file (word ∷ []) = option_map (λ rva. FunctionAt file rva) (rva_of word)
-asked_at file (word ∷ flag ∷ []) = if bytes_eq flag (codes "--chain") then option_map (λ rva. RecordsAt file rva) (rva_of word) else None
-asked_at file (word ∷ flag ∷ more ∷ rest) = None
+asked_at file (argument ∷ []) = option_map (λ rva. FunctionAt file rva) (rva_of argument)
+asked_at file (argument ∷ flag ∷ []) = if bytes_eq flag (codes "--chain") then option_map (λ rva. RecordsAt file rva) (rva_of argument) else None
+asked_at file (argument ∷ flag ∷ more ∷ rest) = None
 
 -- the argument after the file, if it is the only one
-abbrev pub one_word : List (List ℕ) → Option (List ℕ)
-one_word [] = None
-one_word (word ∷ []) = Some word
-one_word (word ∷ more ∷ rest) = None
+abbrev pub one_argument : List (List ℕ) → Option (List ℕ)
+one_argument [] = None
+one_argument (argument ∷ []) = Some argument
+one_argument (argument ∷ more ∷ rest) = None
 
 -- `list FILE`, `list FILE --permissive`, `at FILE HEXRVA`, `at FILE HEXRVA --chain` or `rewrite FILE OUT`, and nothing
 -- else
@@ -74,6 +74,6 @@ abbrev pub asked_of : List (List ℕ) → Option Asked
 asked_of [] = None
 asked_of (name ∷ []) = None
 asked_of (name ∷ file ∷ rest) =
-    if bytes_eq name (codes "list") then option_map (λ mode. ListOf file mode) (mode_of rest)
+    if bytes_eq name (codes "list") then option_map (λ mode. ListOf file mode) (flag_mode rest)
     else (if bytes_eq name (codes "at") then asked_at file rest
-    else (if bytes_eq name (codes "rewrite") then option_map (λ out. RewriteTo file out) (one_word rest) else None))
+    else (if bytes_eq name (codes "rewrite") then option_map (λ out. RewriteTo file out) (one_argument rest) else None))

@@ -3,7 +3,7 @@ use Rattle.std.specs.Prelude.{ℕ, ◌++◌, List, [], Option, Some, None, Resul
 use Rattle.std.specs.List.{flat_map}
 use Rattle.std.specs.Fmt.{decimal}
 use Rattle.pe_core.specs.Refusals.{Refusal}
-use Rattle.pe_records.specs.DebugDirectory.{entries, count}
+use Rattle.pe_records.specs.DebugDirectory.{debug_entries, debug_entry_count}
 use Rattle.pe_records.specs.DebugRecords.{DebugFields}
 use Rattle.pe_records.specs.declared.debug.ImageDebugDirectory.{ImageDebugDirectory}
 use Rattle.peinfo.specs.Hex.{hex}
@@ -15,13 +15,13 @@ entry_line e =
     ++ codes " " ++ hex 8 e.address_of_raw_data ++ codes " " ++ hex 8 e.pointer_to_raw_data ++ codes "\n"
 
 -- a line for an entry, and one for a truncated entry
-abbrev pub item_line : Result ImageDebugDirectory Refusal → List ℕ
-item_line (Ok e) = entry_line e
-item_line (Err refusal) = codes "debug cut\n"
+abbrev pub debug_item_line : Result ImageDebugDirectory Refusal → List ℕ
+debug_item_line (Ok e) = entry_line e
+debug_item_line (Err refusal) = codes "debug cut\n"
 
 -- the lines of the entries of a table
 abbrev pub entry_lines : ℕ → List ℕ → List ℕ
-entry_lines fixup table = flat_map item_line (entries fixup table)
+entry_lines fixup table = flat_map debug_item_line (debug_entries fixup table)
 
 -- the lines of debug data, if there is any
 abbrev pub debug_lines : Option DebugFields → List ℕ
@@ -31,4 +31,4 @@ debug_lines (Some debug) = entry_lines debug.fixup debug.table
 -- the count of these lines
 abbrev pub line_count : Option DebugFields → ℕ
 line_count None = 0
-line_count (Some debug) = count debug.table
+line_count (Some debug) = debug_entry_count debug.table

@@ -33,6 +33,6 @@ abbrev pub IsFindRefusal : List ℕ → Error → Type 0
 IsFindRefusal b e = UnlessMemory e (IsImage b default_options (Err (kind_of e))) × IfMemory e (IsOk (sections_read b default_options))
 
 -- the result of making that text of an image
-abbrev pub GivesFindText : {Z : Type 0} → List ℕ → ℕ → Result (Vec ℕ Z) Error → Type 0
-GivesFindText b address (Ok text) = IsFindText b address text.items
-GivesFindText b address (Err e) = IsFindRefusal b e
+abbrev pub ReturnsFindText : {Z : Type 0} → List ℕ → ℕ → Result (Vec ℕ Z) Error → Type 0
+ReturnsFindText b address (Ok text) = IsFindText b address text.items
+ReturnsFindText b address (Err e) = IsFindRefusal b e

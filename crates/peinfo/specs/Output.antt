@@ -21,8 +21,8 @@ abbrev pub MOST : ℕ
 MOST = 2 ^ 64 - 1
 
 -- one failure more, or still the greatest value
-abbrev pub one_more : ℕ → ℕ
-one_more n = min (n + 1) MOST
+abbrev pub one_more_failure : ℕ → ℕ
+one_more_failure n = min (n + 1) MOST
 
 -- the count rose, or is at its greatest value
 abbrev pub RoseOrFull : ℕ → ℕ → Type 0

@@ -26,15 +26,15 @@ unfoldable pub numbers_text : UnwindInfoView → List ℕ
 numbers_text i = number_text i.version ++ number_text i.size_of_prolog ++ number_text i.frame_register.0 ++ number_text i.frame_register_offset
 
 -- the end of its line: a word for what follows its codes, by its chained function and its handler
-abbrev pub line_end : Option RuntimeFunction → Option HandlerView → List ℕ
-line_end (Some f) handler = codes " chained\n"
-line_end None (Some (Exception address bytes)) = codes " exception\n"
-line_end None (Some (Termination address bytes)) = codes " termination\n"
-line_end None None = codes " plain\n"
+abbrev pub record_line_end : Option RuntimeFunction → Option HandlerView → List ℕ
+record_line_end (Some f) handler = codes " chained\n"
+record_line_end None (Some (Exception address bytes)) = codes " exception\n"
+record_line_end None (Some (Termination address bytes)) = codes " termination\n"
+record_line_end None None = codes " plain\n"
 
 -- the line of a record
 unfoldable pub record_line : UnwindInfoView → List ℕ
-record_line i = codes "record" ++ numbers_text i ++ line_end i.chained_info i.handler
+record_line i = codes "record" ++ numbers_text i ++ record_line_end i.chained_info i.handler
 
 -- a line for each record
 abbrev pub record_lines : List UnwindInfoView → List ℕ
@@ -68,6 +68,6 @@ IsPlanRefusal b address e =
     × IfMemory e (IsOk (sections_read b default_options))
 
 -- the result of making that text of an image
-abbrev pub GivesPlanText : {Z : Type 0} → List ℕ → ℕ → Result (Vec ℕ Z) Error → Type 0
-GivesPlanText b address (Ok text) = IsPlanText b address text.items
-GivesPlanText b address (Err e) = IsPlanRefusal b address e
+abbrev pub ReturnsPlanText : {Z : Type 0} → List ℕ → ℕ → Result (Vec ℕ Z) Error → Type 0
+ReturnsPlanText b address (Ok text) = IsPlanText b address text.items
+ReturnsPlanText b address (Err e) = IsPlanRefusal b address e

@@ -37,6 +37,6 @@ abbrev pub IsReportRefusal : List ℕ → ParseOptions → Error → Type 0
 IsReportRefusal b opts e = UnlessMemory e (IsImage b opts (Err (kind_of e))) × IfMemory e (IsOk (sections_read b opts))
 
 -- the result of making that text of an image
-abbrev pub GivesReport : {Z : Type 0} → List ℕ → ParseOptions → Result (Vec ℕ Z) Error → Type 0
-GivesReport b opts (Ok text) = IsReport b opts text.items
-GivesReport b opts (Err e) = IsReportRefusal b opts e
+abbrev pub ReturnsReport : {Z : Type 0} → List ℕ → ParseOptions → Result (Vec ℕ Z) Error → Type 0
+ReturnsReport b opts (Ok text) = IsReport b opts text.items
+ReturnsReport b opts (Err e) = IsReportRefusal b opts e

@@ -28,6 +28,6 @@ IsRewriteRefusal b e =
     × IfMemory e (IsOk (sections_read b default_options))
 
 -- the result of making these bytes
-abbrev pub GivesRewritten : {Z : Type 0} → List ℕ → Result (Vec ℕ Z) Error → Type 0
-GivesRewritten b (Ok text) = IsRewritten b text.items
-GivesRewritten b (Err e) = IsRewriteRefusal b e
+abbrev pub ReturnsRewritten : {Z : Type 0} → List ℕ → Result (Vec ℕ Z) Error → Type 0
+ReturnsRewritten b (Ok text) = IsRewritten b text.items
+ReturnsRewritten b (Err e) = IsRewriteRefusal b e

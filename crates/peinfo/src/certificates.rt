@@ -4,20 +4,20 @@
 
 ghost use Rattle.std.specs.Prelude.{◌≡◌, ◌++◌, map, OnOk};
 ghost use Rattle.pe_records.specs.Certificates.{certificate_view};
-ghost use Rattle.peinfo.specs.CertificateLines.{line_end, certificate_text, certificate_line, certificate_lines};
+ghost use Rattle.peinfo.specs.CertificateLines.{certificate_line_end, certificate_text, certificate_line, certificate_lines};
 
-use crate::digits::{hex_4, push_decimal};
+use crate::digits::{hex4_digits, push_decimal};
 use pe_image::AttributeCertificate;
 use std::alloc::{AllocError, Allocator};
 
 /// The end of a line, from after the length on.
-#[tactic(auto, unfolding(crate::specs::CertificateLines::line_end, crate::specs::Hex::hex))]
+#[tactic(auto, unfolding(crate::specs::CertificateLines::certificate_line_end, crate::specs::Hex::hex))]
 fn line_end(revision: u16, certificate_type: u16) -> [u8; 11]
-    ensures { result ≡ line_end revision certificate_type }
+    ensures { result ≡ certificate_line_end revision certificate_type }
 {
     let mut line = *b" 0000 0000\n";
-    line[1..5].copy_from_slice(&hex_4(revision));
-    line[6..10].copy_from_slice(&hex_4(certificate_type));
+    line[1..5].copy_from_slice(&hex4_digits(revision));
+    line[6..10].copy_from_slice(&hex4_digits(certificate_type));
     line
 }
 

@@ -35,16 +35,16 @@ impl<'a> Command<'a> {
     }
 }
 
-ghost use Rattle.peinfo.specs.Command.{mode_of, asked_at, asked_of, asked_by, digit_of, number_behind, rva_of, one_word};
+ghost use Rattle.peinfo.specs.Command.{flag_mode, asked_at, asked_of, asked_by, digit_of, number_after, rva_of, one_argument};
 
 /// The mode that the arguments after the file ask for.
 #[tactic(auto, using(crate::proofs::Words::shapes))]
-fn mode_of(words: &[String]) -> Option<ParseMode>
-    ensures { result ≡ mode_of (map string_bytes words.now) }
+fn mode_of(arguments: &[String]) -> Option<ParseMode>
+    ensures { result ≡ flag_mode (map string_bytes arguments.now) }
 {
-    match words {
+    match arguments {
         [] => Some(ParseMode::Strict),
-        [word] if word.as_str() == "--permissive" => Some(ParseMode::Permissive),
+        [argument] if argument.as_str() == "--permissive" => Some(ParseMode::Permissive),
         _ => None,
     }
 }
@@ -64,10 +64,10 @@ fn digit_of(code: u8) -> Option<u8>
 }
 
 /// The number of at most eight hexadecimal digits.
-#[tactic(auto, using(crate::proofs::Numbers::steps), unfolding(crate::specs::Command::number_behind))]
+#[tactic(auto, using(crate::proofs::Numbers::steps), unfolding(crate::specs::Command::number_after))]
 fn number_of(digits: &[u8]) -> Option<u32>
     requires { length digits.now ≤ 8 }
-    ensures { result ≡ number_behind 0 digits.now }
+    ensures { result ≡ number_after 0 digits.now }
 {
     let mut number = 0u64;
     for code in digits {
@@ -79,27 +79,27 @@ fn number_of(digits: &[u8]) -> Option<u32>
 }
 
 /// The RVA in an argument of one to eight hexadecimal digits.
-fn rva_of(word: &[u8]) -> Option<u32>
-    ensures { result ≡ rva_of word.now }
+fn rva_of(argument: &[u8]) -> Option<u32>
+    ensures { result ≡ rva_of argument.now }
 {
-    if word.is_empty() || word.len() > 8 {
+    if argument.is_empty() || argument.len() > 8 {
         return None;
     }
-    number_of(word)
+    number_of(argument)
 }
 
 /// The command of the arguments after `at` and the file.
 #[tactic(auto, using(crate::proofs::Words::shapes))]
-fn asked_at<'a>(file: &'a str, words: &[String]) -> Option<Command<'a>>
-    ensures { option_map asked_by result ≡ asked_at file.entry.now (map string_bytes words.now) }
+fn asked_at<'a>(file: &'a str, arguments: &[String]) -> Option<Command<'a>>
+    ensures { option_map asked_by result ≡ asked_at file.entry.now (map string_bytes arguments.now) }
 {
-    match words {
-        [word] => {
-            let rva = rva_of(word.as_bytes())?;
+    match arguments {
+        [argument] => {
+            let rva = rva_of(argument.as_bytes())?;
             Some(Command::At { file, rva })
         }
-        [word, flag] if flag.as_str() == "--chain" => {
-            let rva = rva_of(word.as_bytes())?;
+        [argument, flag] if flag.as_str() == "--chain" => {
+            let rva = rva_of(argument.as_bytes())?;
             Some(Command::ChainAt { file, rva })
         }
         _ => None,
@@ -108,28 +108,28 @@ fn asked_at<'a>(file: &'a str, words: &[String]) -> Option<Command<'a>>
 
 /// The argument after the file, if it is the only one.
 #[tactic(auto, using(crate::proofs::Words::shapes))]
-fn one_word<'a>(words: &'a [String]) -> Option<&'a str>
-    ensures { option_map (λ word. word.now) result ≡ one_word (map string_bytes words.now) }
+fn one_argument<'a>(arguments: &'a [String]) -> Option<&'a str>
+    ensures { option_map (λ argument. argument.now) result ≡ one_argument (map string_bytes arguments.now) }
 {
-    match words {
-        [word] => Some(word.as_str()),
+    match arguments {
+        [argument] => Some(argument.as_str()),
         _ => None,
     }
 }
 
 /// The command of the arguments after the program's name. `None` where they are misused.
 #[tactic(auto, using(crate::proofs::Words::shapes))]
-pub fn command_of<'a>(words: &'a [String]) -> Option<Command<'a>>
-    ensures { option_map asked_by result ≡ asked_of (map string_bytes words.now) }
+pub fn command_of<'a>(arguments: &'a [String]) -> Option<Command<'a>>
+    ensures { option_map asked_by result ≡ asked_of (map string_bytes arguments.now) }
 {
-    match words {
+    match arguments {
         [name, file, rest @ ..] if name.as_str() == "list" => {
             let mode = mode_of(rest)?;
             Some(Command::List { file, mode })
         }
         [name, file, rest @ ..] if name.as_str() == "at" => asked_at(file, rest),
         [name, file, rest @ ..] if name.as_str() == "rewrite" => {
-            let out = one_word(rest)?;
+            let out = one_argument(rest)?;
             Some(Command::Rewrite { file, out })
         }
         _ => None,

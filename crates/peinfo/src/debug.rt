@@ -4,12 +4,12 @@
 
 ghost use Rattle.std.specs.Prelude.{◌≡◌, ◌++◌, codes, OnOk};
 ghost use Rattle.std.specs.Option.{option_map};
-ghost use Rattle.pe_records.specs.DebugDirectory.{rest_of, fixup_of};
+ghost use Rattle.pe_records.specs.DebugDirectory.{debug_bytes_left, fixup_of};
 ghost use Rattle.pe_records.specs.DebugRecords.{debug_view};
 ghost use Rattle.peinfo.specs.Hex.{hex};
 ghost use Rattle.peinfo.specs.DebugEntries.{entry_line, entry_lines, debug_lines, line_count};
 
-use crate::digits::{hex_8, push_decimal};
+use crate::digits::{hex8_digits, push_decimal};
 use pe_image::{DebugData, ImageDebugDirectory, ImageDebugDirectoryIterator};
 use std::alloc::{AllocError, Allocator};
 
@@ -19,8 +19,8 @@ fn line_end(address: u32, pointer: u32) -> [u8; 19]
     ensures { result ≡ codes " " ++ hex 8 address ++ codes " " ++ hex 8 pointer ++ codes "\n" }
 {
     let mut line = *b" 00000000 00000000\n";
-    line[1..9].copy_from_slice(&hex_8(address));
-    line[10..18].copy_from_slice(&hex_8(pointer));
+    line[1..9].copy_from_slice(&hex8_digits(address));
+    line[10..18].copy_from_slice(&hex8_digits(pointer));
     line
 }
 
@@ -55,7 +55,7 @@ fn push_entries<A: Allocator>(
     entries: ImageDebugDirectoryIterator,
 ) -> Result<(), AllocError>
     ensures { OnOk result
-        (text.new.items ≡ text.old.items ++ entry_lines (fixup_of entries.entry) (rest_of entries.entry)) }
+        (text.new.items ≡ text.old.items ++ entry_lines (fixup_of entries.entry) (debug_bytes_left entries.entry)) }
 {
     for item in entries {
         match item {

@@ -18,7 +18,7 @@ fn last_digit(n: u64) -> u8
 
 /// The four hexadecimal digits, with leading zeros.
 #[tactic(auto, unfolding(crate::specs::Hex::hex))]
-pub fn hex_4(n: u16) -> [u8; 4]
+pub fn hex4_digits(n: u16) -> [u8; 4]
     ensures { result ≡ hex 4 n }
 {
     let number = u64::from(n);
@@ -32,7 +32,7 @@ pub fn hex_4(n: u16) -> [u8; 4]
 
 /// The eight hexadecimal digits, with leading zeros.
 #[tactic(auto, unfolding(crate::specs::Hex::hex))]
-pub fn hex_8(n: u32) -> [u8; 8]
+pub fn hex8_digits(n: u32) -> [u8; 8]
     ensures { result ≡ hex 8 n }
 {
     let n = u64::from(n);
@@ -50,7 +50,7 @@ pub fn hex_8(n: u32) -> [u8; 8]
 
 /// The sixteen hexadecimal digits, with leading zeros.
 #[tactic(auto, unfolding(crate::specs::Hex::hex))]
-pub fn hex_16(n: u64) -> [u8; 16]
+pub fn hex16_digits(n: u64) -> [u8; 16]
     ensures { result ≡ hex 16 n }
 {
     [

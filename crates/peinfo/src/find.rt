@@ -3,7 +3,7 @@
 ghost use Rattle.std.specs.Prelude.{◌≡◌, ◌++◌, OnOk};
 ghost use Rattle.pe_unwind.specs.FunctionTable.{Finds};
 ghost use Rattle.peinfo.specs.Engine.{Reports};
-ghost use Rattle.peinfo.specs.Find.{functions_of, found_line, IsFindText, IsFindRefusal, GivesFindText};
+ghost use Rattle.peinfo.specs.Find.{functions_of, found_line, IsFindText, IsFindRefusal, ReturnsFindText};
 ghost use Rattle.peinfo.specs.Output.{writer_of, failures_of};
 
 use crate::counted_out::CountedOut;
@@ -14,7 +14,6 @@ use std::alloc::{AllocError, Allocator};
 use std::io;
 
 /// The function that covers the RVA, if x64 exception data has one.
-#[tactic(auto, using(crate::proofs::FindTexts::nothing_found))]
 pub fn found_in(
     machine: u16,
     exceptions: &Option<ExceptionData>,
@@ -51,7 +50,7 @@ fn text_of<A: Allocator + Copy + Drop>(
     bytes: &[u8],
     rva: u32,
 ) -> pe_image::Result<Vec<u8, A>>
-    ensures { GivesFindText bytes.now rva result }
+    ensures { ReturnsFindText bytes.now rva result }
 {
     let image = PE::parse(alloc, bytes)?;
     let machine = image.header.coff_header.machine;

@@ -8,7 +8,7 @@ ghost use Rattle.pe_unwind.specs.FunctionTable.{items_of_functions};
 ghost use Rattle.peinfo.specs.Hex.{hex};
 ghost use Rattle.peinfo.specs.FunctionLines.{function_line, function64_line, item_lines};
 
-use crate::digits::hex_8;
+use crate::digits::hex8_digits;
 use pe_image::{
     Arm64RuntimeFunction, Arm64RuntimeFunctionIterator, RuntimeFunction, RuntimeFunctionIterator,
 };
@@ -20,9 +20,9 @@ fn line_end(begin: u32, end: u32, unwind: u32) -> [u8; 27]
     ensures { result ≡ hex 8 begin ++ codes " " ++ hex 8 end ++ codes " " ++ hex 8 unwind ++ codes "\n" }
 {
     let mut line = *b"00000000 00000000 00000000\n";
-    line[..8].copy_from_slice(&hex_8(begin));
-    line[9..17].copy_from_slice(&hex_8(end));
-    line[18..26].copy_from_slice(&hex_8(unwind));
+    line[..8].copy_from_slice(&hex8_digits(begin));
+    line[9..17].copy_from_slice(&hex8_digits(end));
+    line[18..26].copy_from_slice(&hex8_digits(unwind));
     line
 }
 
@@ -65,8 +65,8 @@ fn line_end_64(begin: u32, unwind: u32) -> [u8; 18]
     ensures { result ≡ hex 8 begin ++ codes " " ++ hex 8 unwind ++ codes "\n" }
 {
     let mut line = *b"00000000 00000000\n";
-    line[..8].copy_from_slice(&hex_8(begin));
-    line[9..17].copy_from_slice(&hex_8(unwind));
+    line[..8].copy_from_slice(&hex8_digits(begin));
+    line[9..17].copy_from_slice(&hex8_digits(unwind));
     line
 }
 

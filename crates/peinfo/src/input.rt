@@ -48,7 +48,7 @@ fn make_room<A: Allocator>(bytes: &mut Vec<u8, A>, filled: usize) -> Result<(), 
 }
 
 /// One read, to after the bytes that are filled.
-fn read_behind<R: Read>(reader: &mut R, bytes: &mut [u8], filled: usize) -> io::Result<usize>
+fn read_after<R: Read>(reader: &mut R, bytes: &mut [u8], filled: usize) -> io::Result<usize>
     requires { filled + 65536 ≤ length bytes.old }
     ensures front { take filled bytes.new ≡ take filled bytes.old }
     ensures fits { IfOk result (λ n. filled + n ≤ length bytes.new) }
@@ -76,7 +76,7 @@ pub fn read_all<A: Allocator, R: Read>(alloc: A, reader: &mut R) -> Result<Vec<u
         if make_room(&mut bytes, filled).is_err() {
             return Err(ReadError::Memory);
         }
-        match read_behind(reader, &mut bytes, filled) {
+        match read_after(reader, &mut bytes, filled) {
             Ok(0) => {
                 bytes.truncate(filled);
                 return Ok(bytes);

@@ -18,11 +18,11 @@ mod rewrite;
 
 ghost use Rattle.std.specs.Prelude.{◌≡◌, ◌↔◌, ◌≤◌, ◌≢◌, map, IsNone, IfErr};
 ghost use Rattle.std.specs.String.{string_bytes};
-ghost use Rattle.peinfo.specs.Advice.{GivesAdvice};
+ghost use Rattle.peinfo.specs.Advice.{ReturnsAdvice};
 ghost use Rattle.peinfo.specs.FileKinds.{other_kind, starts_with_a_machine};
 ghost use Rattle.peinfo.specs.Command.{asked_of};
 ghost use Rattle.peinfo.specs.Outcome.{outcome_of};
-ghost use Rattle.peinfo.specs.declared.outcome.Outcome.TheVariants.{Misused, Fault};
+ghost use Rattle.peinfo.specs.declared.outcome.Outcome.TheVariants.{Misused, FileError};
 
 use command::{Command, command_of};
 use counted_out::CountedOut;
@@ -44,20 +44,20 @@ const USAGE: &str =
 
 /// The bytes of a file, or the outcome of a failure to read them, which is one line on standard error.
 fn bytes_of<R: Files + Eprint + AllocGlobal>(rt: &R, path: &str) -> Result<Vec<u8>, Outcome>
-    ensures { IfErr result (λ outcome. outcome ≡ Fault) }
+    ensures { IfErr result (λ outcome. outcome ≡ FileError) }
 {
     let mut file = match fs::open(rt, path) {
         Ok(file) => file,
         Err(error) => {
             let _ = eprintln!(rt; "peinfo: {path:?} can't be opened: {error}");
-            return Err(Outcome::Fault);
+            return Err(Outcome::FileError);
         }
     };
     match read_all(rt.alloc(), &mut file) {
         Ok(bytes) => Ok(bytes),
         Err(error) => {
             let _ = eprintln!(rt; "peinfo: {path:?} can't be read: {error}");
-            Err(Outcome::Fault)
+            Err(Outcome::FileError)
         }
     }
 }
@@ -140,13 +140,13 @@ fn outcome_of<R: Eprint, W: io::Write>(
     rt: &R,
     source: Source,
     target: Target,
-    answer: Result<(), ReportError>,
+    engine_result: Result<(), ReportError>,
     out: &CountedOut<W>,
     advice: &str,
 ) -> Outcome
-    ensures { result ≡ outcome_of answer }
+    ensures { result ≡ outcome_of engine_result }
 {
-    match answer {
+    match engine_result {
         Ok(()) => Outcome::Done,
         Err(ReportError::Parse(refusal)) => {
             say_refused(rt, source, &refusal, advice);
@@ -154,7 +154,7 @@ fn outcome_of<R: Eprint, W: io::Write>(
         }
         Err(ReportError::Write) => {
             say_unwritten(rt, source.path, target, out.cause());
-            Outcome::Fault
+            Outcome::FileError
         }
     }
 }
@@ -166,7 +166,7 @@ fn advice_on<A: Allocator + Copy + Drop>(
     bytes: &[u8],
     mode: ParseMode,
 ) -> Result<&'static str, AllocError>
-    ensures { GivesAdvice bytes.now mode result }
+    ensures { ReturnsAdvice bytes.now mode result }
 {
     if mode == ParseMode::Permissive {
         return Ok("");
@@ -185,13 +185,13 @@ fn list<R: Print + Eprint + AllocGlobal>(rt: &R, source: Source, mode: ParseMode
 {
     let opts = ParseOptions::default().with_parse_mode(mode);
     let mut out = CountedOut::new(io::writer(rt));
-    let answer = report(rt.alloc(), source.bytes, &opts, &mut out);
-    let advice = match answer {
+    let engine_result = report(rt.alloc(), source.bytes, &opts, &mut out);
+    let advice = match engine_result {
         Ok(()) | Err(ReportError::Write | ReportError::Parse(Error::Memory(_))) => "",
         // The image is read once more, in permissive mode, to know whether the option helps.
         Err(ReportError::Parse(_)) => advice_on(rt.alloc(), source.bytes, mode).unwrap_or(""),
     };
-    outcome_of(rt, source, Target::Output, answer, &out, advice)
+    outcome_of(rt, source, Target::Output, engine_result, &out, advice)
 }
 
 /// Shows the function that covers an RVA of the image in a file.
@@ -199,8 +199,8 @@ fn at<R: Print + Eprint + AllocGlobal>(rt: &R, source: Source, rva: u32) -> Outc
     ensures { result ≢ Misused }
 {
     let mut out = CountedOut::new(io::writer(rt));
-    let answer = find(rt.alloc(), source.bytes, rva, &mut out);
-    outcome_of(rt, source, Target::Output, answer, &out, "")
+    let engine_result = find(rt.alloc(), source.bytes, rva, &mut out);
+    outcome_of(rt, source, Target::Output, engine_result, &out, "")
 }
 
 /// Shows the function that covers an RVA of the image in a file, and its records up to the root of their chain.
@@ -208,8 +208,8 @@ fn chain_at<R: Print + Eprint + AllocGlobal>(rt: &R, source: Source, rva: u32) -
     ensures { result ≢ Misused }
 {
     let mut out = CountedOut::new(io::writer(rt));
-    let answer = plan(rt.alloc(), source.bytes, rva, &mut out);
-    outcome_of(rt, source, Target::Output, answer, &out, "")
+    let engine_result = plan(rt.alloc(), source.bytes, rva, &mut out);
+    outcome_of(rt, source, Target::Output, engine_result, &out, "")
 }
 
 /// Writes the image in a file anew, to a file that must not exist. That file is made once the image's file is read, and
@@ -221,12 +221,12 @@ fn rewrite_to<R: Files + Eprint + AllocGlobal>(rt: &R, source: Source, target: &
         Ok(file) => file,
         Err(error) => {
             let _ = eprintln!(rt; "peinfo: {target:?} can't be made: {error}");
-            return Outcome::Fault;
+            return Outcome::FileError;
         }
     };
     let mut out = CountedOut::new(file);
-    let answer = rewrite(rt.alloc(), source.bytes, &mut out);
-    outcome_of(rt, source, Target::File(target), answer, &out, "")
+    let engine_result = rewrite(rt.alloc(), source.bytes, &mut out);
+    outcome_of(rt, source, Target::File(target), engine_result, &out, "")
 }
 
 /// Reads the file of a command, and runs the command on its bytes.
@@ -296,7 +296,7 @@ fn main(rt: HostRuntime) -> ExitCode {
         Err(error) if error.kind() == io::ErrorKind::InvalidData => misused(&rt).status(),
         Err(error) => {
             let _ = eprintln!(rt; "peinfo: the arguments can't be read: {error}");
-            Outcome::Fault.status()
+            Outcome::FileError.status()
         }
     };
     ExitCode::from(status)

@@ -12,7 +12,7 @@ pub enum Outcome {
     /// The arguments ask for no command.
     Misused,
     /// A file or standard output failed.
-    Fault,
+    FileError,
 }
 
 impl Outcome {
@@ -26,7 +26,7 @@ impl Outcome {
             Outcome::Done => 0,
             Outcome::Refused => 1,
             Outcome::Misused => 2,
-            Outcome::Fault => 3,
+            Outcome::FileError => 3,
         }
     }
 }

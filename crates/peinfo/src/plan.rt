@@ -7,7 +7,7 @@ ghost use Rattle.pe_core.specs.Refusals.{answer_by};
 ghost use Rattle.pe_unwind.specs.UnwindRecord.{unwind_view};
 ghost use Rattle.peinfo.specs.Engine.{Reports};
 ghost use Rattle.peinfo.specs.Output.{writer_of, failures_of};
-ghost use Rattle.peinfo.specs.Plan.{line_end, number_text, numbers_text, record_line, record_lines, PlansRecords, IsPlanText, IsPlanRefusal, GivesPlanText};
+ghost use Rattle.peinfo.specs.Plan.{record_line_end, number_text, numbers_text, record_line, record_lines, PlansRecords, IsPlanText, IsPlanRefusal, ReturnsPlanText};
 
 use crate::counted_out::CountedOut;
 use crate::digits::push_decimal;
@@ -22,7 +22,7 @@ use std::io;
 
 /// The end of a record's line: a word for what follows its codes.
 fn line_end(info: &UnwindInfo) -> &'static [u8]
-    ensures { result.now ≡ line_end (unwind_view info.now).chained_info (unwind_view info.now).handler }
+    ensures { result.now ≡ record_line_end (unwind_view info.now).chained_info (unwind_view info.now).handler }
 {
     match (&info.chained_info, &info.handler) {
         (Some(_), _) => b" chained\n",
@@ -100,7 +100,7 @@ fn text_of<A: Allocator + Copy + Drop>(
     bytes: &[u8],
     rva: u32,
 ) -> pe_image::Result<Vec<u8, A>>
-    ensures { GivesPlanText bytes.now rva result }
+    ensures { ReturnsPlanText bytes.now rva result }
 {
     let image = PE::parse(alloc, bytes)?;
     let machine = image.header.coff_header.machine;

@@ -3,11 +3,11 @@
 ghost use Rattle.std.specs.Prelude.{◌≡◌, ◌++◌, IfOk, OnOk};
 ghost use Rattle.pe_image.specs.Image.{image_view};
 ghost use Rattle.peinfo.specs.Engine.{Reports};
-ghost use Rattle.peinfo.specs.Report.{image_line, report_text, IsReport, IsReportRefusal, GivesReport};
+ghost use Rattle.peinfo.specs.Report.{image_line, report_text, IsReport, IsReportRefusal, ReturnsReport};
 ghost use Rattle.peinfo.specs.Output.{writer_of, failures_of};
 
 use crate::counted_out::CountedOut;
-use crate::digits::{hex_8, hex_16};
+use crate::digits::{hex8_digits, hex16_digits};
 use crate::engine::{ReportError, write_text};
 use crate::{certificates, debug, exceptions};
 use pe_image::{PE, ParseOptions};
@@ -30,9 +30,9 @@ fn push_image_line<A: Allocator>(
     text.extend_from_slice(b"image ")?;
     text.extend_from_slice(width)?;
     text.extend_from_slice(b" entry ")?;
-    text.extend_from_slice(&hex_8(entry))?;
+    text.extend_from_slice(&hex8_digits(entry))?;
     text.extend_from_slice(b" base ")?;
-    text.extend_from_slice(&hex_16(base))?;
+    text.extend_from_slice(&hex16_digits(base))?;
     text.push(b'\n')?;
     Ok(())
 }
@@ -65,7 +65,7 @@ fn text_of<A: Allocator + Copy + Drop>(
     bytes: &[u8],
     opts: &ParseOptions,
 ) -> pe_image::Result<Vec<u8, A>>
-    ensures { GivesReport bytes.now opts.now result }
+    ensures { ReturnsReport bytes.now opts.now result }
 {
     let image = PE::parse_with_opts(alloc, bytes, opts)?;
     let text = text_of_image(alloc, &image)?;

@@ -2,7 +2,7 @@
 
 ghost use Rattle.peinfo.specs.Engine.{Reports};
 ghost use Rattle.peinfo.specs.Output.{writer_of, failures_of};
-ghost use Rattle.peinfo.specs.Rewrite.{IsRewritten, IsRewriteRefusal, GivesRewritten};
+ghost use Rattle.peinfo.specs.Rewrite.{IsRewritten, IsRewriteRefusal, ReturnsRewritten};
 
 use crate::counted_out::CountedOut;
 use crate::engine::{ReportError, write_text};
@@ -12,7 +12,7 @@ use std::io;
 
 /// The bytes of the image with its pieces written over them, or the error of reading or writing it.
 fn bytes_of<A: Allocator + Copy + Drop>(alloc: A, bytes: &[u8]) -> pe_image::Result<Vec<u8, A>>
-    ensures { GivesRewritten bytes.now result }
+    ensures { ReturnsRewritten bytes.now result }
 {
     let image = PE::parse(alloc, bytes)?;
     let mut copy = Vec::with_capacity(alloc, bytes.len())?;

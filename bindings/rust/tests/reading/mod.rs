@@ -135,15 +135,15 @@ fn read_arm64_codes(record: &Arm64Record, start: u32, seen: &mut Seen) {
     let Some(codes) = seen.item(answer) else {
         return;
     };
-    let mut place = start;
+    let mut offset = start;
     for code in codes {
         let Some(code) = seen.item(code) else {
             continue;
         };
         seen.codes += 1;
-        assert_eq!(code.offset, place);
+        assert_eq!(code.offset, offset);
         assert!((1..=5).contains(&code.length));
-        place += code.length;
+        offset += code.length;
     }
 }
 
@@ -224,7 +224,7 @@ pub fn read_all(bytes: &[u8], mode: Mode, most: usize) -> Seen {
     for section in image.sections() {
         std::hint::black_box(section.name().len());
     }
-    std::hint::black_box(image.place(image.info().entry));
+    std::hint::black_box(image.offset(image.info().entry));
     read_debug(&image, &mut seen);
     read_certificates(&image, &mut seen);
     read_functions(&image, &mut seen);

@@ -101,7 +101,7 @@ pub fn equal_ranges_have_equal_bytes()
 
 /// A default has zeros.
 pub fn defaults_are_zeros()
-    ensures { (x : ByteRange) → ⟦<ByteRange as Default>⟧.is_default x → x ≡ record { place = 0; length = 0 } }
+    ensures { (x : ByteRange) → ⟦<ByteRange as Default>⟧.is_default x → x ≡ record { offset = 0; length = 0 } }
 {}
 
 /// A clone equals its original.

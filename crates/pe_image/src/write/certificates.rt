@@ -3,12 +3,12 @@
 //! <https://learn.microsoft.com/windows/win32/debug/pe-format>, attribute certificate table.
 
 ghost use Rattle.std.specs.Prelude.{◌≡◌, ◌+◌, [], ◌∷◌, IsTrue, length, map};
-ghost use Rattle.pe_core.specs.Refusals.{Gives, WriteFit, outcome};
+ghost use Rattle.pe_core.specs.Refusals.{Returns, WriteFit, outcome};
 ghost use Rattle.pe_records.specs.Certificates.{certificate_view};
 ghost use Rattle.pe_records.specs.CertificateWriting.{written_end, written_length};
 ghost use Rattle.pe_image.specs.Overlay.{all_fit};
 ghost use Rattle.pe_image.specs.Pieces.{all_certificate_pieces, certificate_pieces, certificates_end, in_a_row, row_end};
-ghost use Rattle.pe_image.specs.Writing.{GivesWritten, certificates_over};
+ghost use Rattle.pe_image.specs.Writing.{ReturnsWritten, certificates_over};
 ghost use Rattle.pe_image.specs.WritingSteps.{put_in_turn};
 
 use pe_core::{DataDirectory, Result, require_room, rounded_up};
@@ -17,17 +17,17 @@ use pe_records::AttributeCertificate;
 /// The alignment of certificates in bytes: a written one is padded to a multiple of it.
 const UNIT: usize = 8;
 
-/// The offset after a certificate that is written at `place`, or `WriteFit` if it doesn't fit.
+/// The offset after a certificate that is written at `offset`, or `WriteFit` if it doesn't fit.
 fn require_certificate(
     buffer: &[u8],
-    place: usize,
+    offset: usize,
     certificate: &AttributeCertificate<'_>,
 ) -> Result<usize>
-    ensures { Gives (λ end. end) result (written_end buffer.now place (certificate_view certificate.now)) }
+    ensures { Returns (λ end. end) result (written_end buffer.now offset (certificate_view certificate.now)) }
 {
     let size = rounded_up(8 + certificate.certificate.len(), UNIT);
-    require_room(buffer, place, size)?;
-    Ok(place + size)
+    require_room(buffer, offset, size)?;
+    Ok(offset + size)
 }
 
 /// The offset after certificates that are written one after the other from `start` on, or `WriteFit` if they don't all
@@ -37,28 +37,32 @@ fn require_certificates(
     start: usize,
     certificates: &[AttributeCertificate<'_>],
 ) -> Result<usize>
-    ensures { Gives (λ end. end) result
+    ensures { Returns (λ end. end) result
         (outcome ((all_fit (length buffer.now) (in_a_row certificate_pieces written_length start (map certificate_view certificates.now)), WriteFit) ∷ [])
         (row_end written_length start (map certificate_view certificates.now))) }
 {
-    let mut place = start;
+    let mut offset = start;
     for i in 0..certificates.len() {
-        place = require_certificate(buffer, place, &certificates[i])?;
+        offset = require_certificate(buffer, offset, &certificates[i])?;
     }
-    Ok(place)
+    Ok(offset)
 }
 
 /// Writes a certificate, and returns the offset after it. The caller has checked that it fits.
 #[tactic(auto, using(crate::proofs::WrittenCertificates::put_in_three))]
-fn set_certificate(buffer: &mut [u8], place: usize, certificate: &AttributeCertificate<'_>) -> usize
-    requires { IsTrue (all_fit (length buffer.old) (certificate_pieces place (certificate_view certificate.now))) }
-    ensures after { buffer.new ≡ put_in_turn buffer.old (certificate_pieces place (certificate_view certificate.now)) }
-    ensures end { result ≡ place + written_length (certificate_view certificate.now) }
+fn set_certificate(
+    buffer: &mut [u8],
+    offset: usize,
+    certificate: &AttributeCertificate<'_>,
+) -> usize
+    requires { IsTrue (all_fit (length buffer.old) (certificate_pieces offset (certificate_view certificate.now))) }
+    ensures after { buffer.new ≡ put_in_turn buffer.old (certificate_pieces offset (certificate_view certificate.now)) }
+    ensures end { result ≡ offset + written_length (certificate_view certificate.now) }
 {
-    match certificate.write_into(buffer, place) {
+    match certificate.write_into(buffer, offset) {
         Ok(end) => end,
         // Never taken: the certificate fits.
-        Err(_) => place,
+        Err(_) => offset,
     }
 }
 
@@ -67,9 +71,9 @@ fn set_certificates(buffer: &mut [u8], start: usize, certificates: &[AttributeCe
     requires { IsTrue (all_fit (length buffer.old) (in_a_row certificate_pieces written_length start (map certificate_view certificates.now))) }
     ensures { buffer.new ≡ put_in_turn buffer.old (in_a_row certificate_pieces written_length start (map certificate_view certificates.now)) }
 {
-    let mut place = start;
+    let mut offset = start;
     for i in 0..certificates.len() {
-        place = set_certificate(buffer, place, &certificates[i]);
+        offset = set_certificate(buffer, offset, &certificates[i]);
     }
 }
 
@@ -80,7 +84,7 @@ pub fn require_table(
     directory: Option<DataDirectory>,
     certificates: &[AttributeCertificate<'_>],
 ) -> Result<usize>
-    ensures { Gives (λ end. end) result
+    ensures { Returns (λ end. end) result
         (outcome ((all_fit (length buffer.now) (all_certificate_pieces directory (map certificate_view certificates.now)), WriteFit) ∷ [])
         (certificates_end directory (map certificate_view certificates.now))) }
 {
@@ -116,7 +120,7 @@ pub fn write_table(
     directory: Option<DataDirectory>,
     certificates: &[AttributeCertificate<'_>],
 ) -> Result<usize>
-    ensures { GivesWritten result (certificates_over directory (map certificate_view certificates.now) buffer.old) buffer.old buffer.new }
+    ensures { ReturnsWritten result (certificates_over directory (map certificate_view certificates.now) buffer.old) buffer.old buffer.new }
 {
     let end = require_table(buffer, directory, certificates)?;
     set_table(buffer, directory, certificates);

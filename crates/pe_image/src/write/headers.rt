@@ -3,7 +3,7 @@
 
 ghost use Rattle.std.specs.Prelude.{◌≡◌, [], ◌∷◌, IsTrue, length};
 ghost use Rattle.pe_core.specs.Header.{header_view, optional_header_view};
-ghost use Rattle.pe_core.specs.Refusals.{Gives, WriteFit, outcome};
+ghost use Rattle.pe_core.specs.Refusals.{Returns, WriteFit, outcome};
 ghost use Rattle.pe_image.specs.Overlay.{all_fit};
 ghost use Rattle.pe_image.specs.Pieces.{header_pieces};
 ghost use Rattle.pe_image.specs.WritingSteps.{put_in_turn};
@@ -14,15 +14,15 @@ use pe_core::{Header, OptionalHeader, Result, require_room};
 /// Returns `WriteFit` if the headers don't all fit.
 #[tactic(auto, using(crate::proofs::WrittenHeaders::headers_fit))]
 pub fn require_headers(buffer: &[u8], header: &Header<'_>, optional: &OptionalHeader) -> Result<()>
-    ensures { Gives (λ u. u) result
+    ensures { Returns (λ u. u) result
         (outcome ((all_fit (length buffer.now) (header_pieces (header_view header.now) (optional_header_view optional.now)), WriteFit) ∷ []) tt) }
 {
-    let place = header.dos_header.pe_pointer as usize;
+    let offset = header.dos_header.pe_pointer as usize;
     require_room(buffer, 0, 64)?;
     require_room(buffer, 64, header.dos_stub.len())?;
-    require_room(buffer, place, 4)?;
-    require_room(buffer, place + 4, 20)?;
-    require_room(buffer, place + 24, optional_size(optional))
+    require_room(buffer, offset, 4)?;
+    require_room(buffer, offset + 4, 20)?;
+    require_room(buffer, offset + 24, optional_size(optional))
 }
 
 /// Writes the headers. The caller has checked that they fit.
@@ -31,10 +31,10 @@ pub fn set_headers(buffer: &mut [u8], header: &Header<'_>, optional: &OptionalHe
     requires { IsTrue (all_fit (length buffer.old) (header_pieces (header_view header.now) (optional_header_view optional.now))) }
     ensures { buffer.new ≡ put_in_turn buffer.old (header_pieces (header_view header.now) (optional_header_view optional.now)) }
 {
-    let place = header.dos_header.pe_pointer as usize;
+    let offset = header.dos_header.pe_pointer as usize;
     set_dos(buffer, 0, &header.dos_header);
     set_slice(buffer, 64, header.dos_stub);
-    set_u32(buffer, place, header.signature);
-    set_coff(buffer, place + 4, &header.coff_header);
-    set_optional(buffer, place + 24, optional);
+    set_u32(buffer, offset, header.signature);
+    set_coff(buffer, offset + 4, &header.coff_header);
+    set_optional(buffer, offset + 24, optional);
 }

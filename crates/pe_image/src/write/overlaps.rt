@@ -12,7 +12,7 @@ use pe_core::SectionTable;
 
 /// The file offset after the section's data.
 pub fn raw_end(section: &SectionTable) -> usize
-    ensures place { result ≡ raw_end section.now }
+    ensures offset { result ≡ raw_end section.now }
     ensures small { result < 2 ^ 33 }
 {
     section.pointer_to_raw_data as usize + section.size_of_raw_data as usize
@@ -27,10 +27,10 @@ fn clashes(one: &SectionTable, other: &SectionTable) -> bool
 }
 
 /// Whether the section equals the next one, or ends at or before its start in the file.
-fn rises_to(section: &SectionTable, behind: &[SectionTable]) -> bool
-    ensures { result ≡ rises_to section.now behind.now }
+fn rises_to(section: &SectionTable, after: &[SectionTable]) -> bool
+    ensures { result ≡ rises_to section.now after.now }
 {
-    match behind {
+    match after {
         [] => true,
         [next, ..] => *section == *next || raw_end(section) <= next.pointer_to_raw_data as usize,
     }
@@ -49,10 +49,10 @@ fn rises(sections: &[SectionTable]) -> bool
 }
 
 /// Whether the section equals the next one, or starts at or after its end in the file.
-fn falls_to(section: &SectionTable, behind: &[SectionTable]) -> bool
-    ensures { result ≡ falls_to section.now behind.now }
+fn falls_to(section: &SectionTable, after: &[SectionTable]) -> bool
+    ensures { result ≡ falls_to section.now after.now }
 {
-    match behind {
+    match after {
         [] => true,
         [next, ..] => *section == *next || raw_end(next) <= section.pointer_to_raw_data as usize,
     }
@@ -70,13 +70,13 @@ fn falls(sections: &[SectionTable]) -> bool
     true
 }
 
-/// The index of the first section in `behind` that clashes with this one.
-fn first_clash_with(section: &SectionTable, behind: &[SectionTable]) -> Option<usize>
-    ensures none { is_none result ≡ list_all (λ t. not (clash section.now t)) behind.now }
-    ensures inside { IfSome result (λ i. i < length behind.now) }
+/// The index of the first section in `after` that clashes with this one.
+fn first_clash_with(section: &SectionTable, after: &[SectionTable]) -> Option<usize>
+    ensures none { is_none result ≡ list_all (λ t. not (clash section.now t)) after.now }
+    ensures inside { IfSome result (λ i. i < length after.now) }
 {
-    for i in 0..behind.len() {
-        if clashes(section, &behind[i]) {
+    for i in 0..after.len() {
+        if clashes(section, &after[i]) {
             return Some(i);
         }
     }
@@ -84,10 +84,10 @@ fn first_clash_with(section: &SectionTable, behind: &[SectionTable]) -> Option<u
 }
 
 /// Whether the section equals the next one.
-fn is_next(section: &SectionTable, behind: &[SectionTable]) -> bool
-    ensures { result ≡ is_next section.now behind.now }
+fn is_next(section: &SectionTable, after: &[SectionTable]) -> bool
+    ensures { result ≡ is_next section.now after.now }
 {
-    match behind {
+    match after {
         [] => false,
         [next, ..] => *section == *next,
     }
@@ -98,12 +98,12 @@ fn first_clashing_pair(sections: &[SectionTable]) -> Option<(usize, usize)>
     ensures { is_none result ≡ clash_free sections.now }
 {
     for i in 0..sections.len() {
-        let behind = &sections[i + 1..];
+        let after = &sections[i + 1..];
         // A section that equals the next one clashes with the same sections as that one, so it is skipped.
-        if is_next(&sections[i], behind) {
+        if is_next(&sections[i], after) {
             continue;
         }
-        if let Some(distance) = first_clash_with(&sections[i], behind) {
+        if let Some(distance) = first_clash_with(&sections[i], after) {
             return Some((i, i + 1 + distance));
         }
     }

@@ -6,222 +6,222 @@ ghost use Rattle.std.specs.Prelude.{◌≡◌, ◌+◌, ◌*◌, ◌≤◌, ◌+
 ghost use Rattle.std.specs.List.{flat_map};
 ghost use Rattle.pe_core.specs.Bytes.{bytes_of, splice};
 ghost use Rattle.pe_core.specs.Header.{optional_header_view};
-ghost use Rattle.pe_core.specs.Spelling.{spell_coff, spell_directory, spell_dos, spell_optional, spell_section, spell_standard32, spell_standard64, spell_windows32, spell_windows64};
+ghost use Rattle.pe_core.specs.Spelling.{spell_coff, spell_directory, spell_dos, spell_optional, spell_section, spell_standard_fields_32, spell_standard_fields_64, spell_windows_fields_32, spell_windows_fields_64};
 
 use pe_core::{
     CoffHeader, DataDirectory, DosHeader, MAGIC_64, OptionalHeader, SectionTable, StandardFields,
     WindowsFields,
 };
 
-/// Writes `piece` at `place`.
+/// Writes `piece` at `offset`.
 #[tactic(auto, unfolding(pe_core::specs::Bytes::splice))]
-pub fn set_slice(buffer: &mut [u8], place: usize, piece: &[u8])
-    requires { place + length piece.now ≤ length buffer.old }
-    ensures { buffer.new ≡ splice buffer.old place piece.now }
+pub fn set_slice(buffer: &mut [u8], offset: usize, piece: &[u8])
+    requires { offset + length piece.now ≤ length buffer.old }
+    ensures { buffer.new ≡ splice buffer.old offset piece.now }
 {
-    buffer[place..place + piece.len()].copy_from_slice(piece);
+    buffer[offset..offset + piece.len()].copy_from_slice(piece);
 }
 
-/// Writes `n` zeros at `place`.
+/// Writes `n` zeros at `offset`.
 #[tactic(auto, unfolding(pe_core::specs::Bytes::splice))]
-pub fn set_zeros(buffer: &mut [u8], place: usize, n: usize)
-    requires { place + n ≤ length buffer.old }
-    ensures { buffer.new ≡ splice buffer.old place (replicate n 0) }
+pub fn set_zeros(buffer: &mut [u8], offset: usize, n: usize)
+    requires { offset + n ≤ length buffer.old }
+    ensures { buffer.new ≡ splice buffer.old offset (replicate n 0) }
 {
-    buffer[place..place + n].fill(0);
+    buffer[offset..offset + n].fill(0);
 }
 
-/// Writes a number of 1 byte at `place`.
+/// Writes a number of 1 byte at `offset`.
 #[tactic(auto, unfolding(pe_core::specs::Bytes::bytes_of))]
-fn set_u8(buffer: &mut [u8], place: usize, n: u8)
-    requires { place + 1 ≤ length buffer.old }
-    ensures { buffer.new ≡ splice buffer.old place (bytes_of 1 n) }
+fn set_u8(buffer: &mut [u8], offset: usize, n: u8)
+    requires { offset + 1 ≤ length buffer.old }
+    ensures { buffer.new ≡ splice buffer.old offset (bytes_of 1 n) }
 {
-    set_slice(buffer, place, &n.to_le_bytes());
+    set_slice(buffer, offset, &n.to_le_bytes());
 }
 
-/// Writes a number of 2 bytes at `place`.
+/// Writes a number of 2 bytes at `offset`.
 #[tactic(auto, unfolding(pe_core::specs::Bytes::bytes_of))]
-fn set_u16(buffer: &mut [u8], place: usize, n: u16)
-    requires { place + 2 ≤ length buffer.old }
-    ensures { buffer.new ≡ splice buffer.old place (bytes_of 2 n) }
+fn set_u16(buffer: &mut [u8], offset: usize, n: u16)
+    requires { offset + 2 ≤ length buffer.old }
+    ensures { buffer.new ≡ splice buffer.old offset (bytes_of 2 n) }
 {
-    set_slice(buffer, place, &n.to_le_bytes());
+    set_slice(buffer, offset, &n.to_le_bytes());
 }
 
-/// Writes a number of 4 bytes at `place`.
+/// Writes a number of 4 bytes at `offset`.
 #[tactic(auto, unfolding(pe_core::specs::Bytes::bytes_of))]
-pub fn set_u32(buffer: &mut [u8], place: usize, n: u32)
-    requires { place + 4 ≤ length buffer.old }
-    ensures { buffer.new ≡ splice buffer.old place (bytes_of 4 n) }
+pub fn set_u32(buffer: &mut [u8], offset: usize, n: u32)
+    requires { offset + 4 ≤ length buffer.old }
+    ensures { buffer.new ≡ splice buffer.old offset (bytes_of 4 n) }
 {
-    set_slice(buffer, place, &n.to_le_bytes());
+    set_slice(buffer, offset, &n.to_le_bytes());
 }
 
-/// Writes a number of 8 bytes at `place`.
+/// Writes a number of 8 bytes at `offset`.
 #[tactic(auto, unfolding(pe_core::specs::Bytes::bytes_of))]
-fn set_u64(buffer: &mut [u8], place: usize, n: u64)
-    requires { place + 8 ≤ length buffer.old }
-    ensures { buffer.new ≡ splice buffer.old place (bytes_of 8 n) }
+fn set_u64(buffer: &mut [u8], offset: usize, n: u64)
+    requires { offset + 8 ≤ length buffer.old }
+    ensures { buffer.new ≡ splice buffer.old offset (bytes_of 8 n) }
 {
-    set_slice(buffer, place, &n.to_le_bytes());
+    set_slice(buffer, offset, &n.to_le_bytes());
 }
 
-/// Writes the low 4 bytes of the number at `place`. PE32 has 4 bytes for fields that PE32+ has 8 for.
+/// Writes the low 4 bytes of the number at `offset`. PE32 has 4 bytes for fields that PE32+ has 8 for.
 #[tactic(auto, unfolding(pe_core::specs::Bytes::bytes_of))]
-fn set_low32(buffer: &mut [u8], place: usize, n: u64)
-    requires { place + 4 ≤ length buffer.old }
-    ensures { buffer.new ≡ splice buffer.old place (bytes_of 4 n) }
+fn set_low32(buffer: &mut [u8], offset: usize, n: u64)
+    requires { offset + 4 ≤ length buffer.old }
+    ensures { buffer.new ≡ splice buffer.old offset (bytes_of 4 n) }
 {
     let bytes = n.to_le_bytes();
-    set_slice(buffer, place, &bytes[..4]);
+    set_slice(buffer, offset, &bytes[..4]);
 }
 
 /// Writes a DOS header, 64 bytes.
-pub fn set_dos(buffer: &mut [u8], place: usize, header: &DosHeader)
-    requires { place + 64 ≤ length buffer.old }
-    ensures { buffer.new ≡ splice buffer.old place (spell_dos header.now) }
+pub fn set_dos(buffer: &mut [u8], offset: usize, header: &DosHeader)
+    requires { offset + 64 ≤ length buffer.old }
+    ensures { buffer.new ≡ splice buffer.old offset (spell_dos header.now) }
 {
-    set_u16(buffer, place, header.signature);
-    set_slice(buffer, place + 2, &header.rest);
-    set_u32(buffer, place + 60, header.pe_pointer);
+    set_u16(buffer, offset, header.signature);
+    set_slice(buffer, offset + 2, &header.rest);
+    set_u32(buffer, offset + 60, header.pe_pointer);
 }
 
 /// Writes a COFF header, 20 bytes.
-pub fn set_coff(buffer: &mut [u8], place: usize, header: &CoffHeader)
-    requires { place + 20 ≤ length buffer.old }
-    ensures { buffer.new ≡ splice buffer.old place (spell_coff header.now) }
+pub fn set_coff(buffer: &mut [u8], offset: usize, header: &CoffHeader)
+    requires { offset + 20 ≤ length buffer.old }
+    ensures { buffer.new ≡ splice buffer.old offset (spell_coff header.now) }
 {
-    set_u16(buffer, place, header.machine);
-    set_u16(buffer, place + 2, header.number_of_sections);
-    set_u32(buffer, place + 4, header.time_date_stamp);
-    set_u32(buffer, place + 8, header.pointer_to_symbol_table);
-    set_u32(buffer, place + 12, header.number_of_symbol_table);
-    set_u16(buffer, place + 16, header.size_of_optional_header);
-    set_u16(buffer, place + 18, header.characteristics);
+    set_u16(buffer, offset, header.machine);
+    set_u16(buffer, offset + 2, header.number_of_sections);
+    set_u32(buffer, offset + 4, header.time_date_stamp);
+    set_u32(buffer, offset + 8, header.pointer_to_symbol_table);
+    set_u32(buffer, offset + 12, header.number_of_symbol_table);
+    set_u16(buffer, offset + 16, header.size_of_optional_header);
+    set_u16(buffer, offset + 18, header.characteristics);
 }
 
 /// Writes the standard fields of PE32, 28 bytes.
-fn set_standard32(buffer: &mut [u8], place: usize, header: &StandardFields)
-    requires { place + 28 ≤ length buffer.old }
-    ensures { buffer.new ≡ splice buffer.old place (spell_standard32 header.now) }
+fn set_standard_fields_32(buffer: &mut [u8], offset: usize, header: &StandardFields)
+    requires { offset + 28 ≤ length buffer.old }
+    ensures { buffer.new ≡ splice buffer.old offset (spell_standard_fields_32 header.now) }
 {
-    set_u16(buffer, place, header.magic);
-    set_u8(buffer, place + 2, header.major_linker_version);
-    set_u8(buffer, place + 3, header.minor_linker_version);
-    set_u32(buffer, place + 4, header.size_of_code);
-    set_u32(buffer, place + 8, header.size_of_initialized_data);
-    set_u32(buffer, place + 12, header.size_of_uninitialized_data);
-    set_u32(buffer, place + 16, header.address_of_entry_point);
-    set_u32(buffer, place + 20, header.base_of_code);
-    set_u32(buffer, place + 24, header.base_of_data);
+    set_u16(buffer, offset, header.magic);
+    set_u8(buffer, offset + 2, header.major_linker_version);
+    set_u8(buffer, offset + 3, header.minor_linker_version);
+    set_u32(buffer, offset + 4, header.size_of_code);
+    set_u32(buffer, offset + 8, header.size_of_initialized_data);
+    set_u32(buffer, offset + 12, header.size_of_uninitialized_data);
+    set_u32(buffer, offset + 16, header.address_of_entry_point);
+    set_u32(buffer, offset + 20, header.base_of_code);
+    set_u32(buffer, offset + 24, header.base_of_data);
 }
 
 /// Writes the standard fields of PE32+, 24 bytes.
-fn set_standard64(buffer: &mut [u8], place: usize, header: &StandardFields)
-    requires { place + 24 ≤ length buffer.old }
-    ensures { buffer.new ≡ splice buffer.old place (spell_standard64 header.now) }
+fn set_standard_fields_64(buffer: &mut [u8], offset: usize, header: &StandardFields)
+    requires { offset + 24 ≤ length buffer.old }
+    ensures { buffer.new ≡ splice buffer.old offset (spell_standard_fields_64 header.now) }
 {
-    set_u16(buffer, place, header.magic);
-    set_u8(buffer, place + 2, header.major_linker_version);
-    set_u8(buffer, place + 3, header.minor_linker_version);
-    set_u32(buffer, place + 4, header.size_of_code);
-    set_u32(buffer, place + 8, header.size_of_initialized_data);
-    set_u32(buffer, place + 12, header.size_of_uninitialized_data);
-    set_u32(buffer, place + 16, header.address_of_entry_point);
-    set_u32(buffer, place + 20, header.base_of_code);
+    set_u16(buffer, offset, header.magic);
+    set_u8(buffer, offset + 2, header.major_linker_version);
+    set_u8(buffer, offset + 3, header.minor_linker_version);
+    set_u32(buffer, offset + 4, header.size_of_code);
+    set_u32(buffer, offset + 8, header.size_of_initialized_data);
+    set_u32(buffer, offset + 12, header.size_of_uninitialized_data);
+    set_u32(buffer, offset + 16, header.address_of_entry_point);
+    set_u32(buffer, offset + 20, header.base_of_code);
 }
 
 /// Writes the Windows fields of PE32, 68 bytes. Of the image base and of the sizes of stack and heap the low 4 bytes
 /// are written.
-fn set_windows32(buffer: &mut [u8], place: usize, header: &WindowsFields)
-    requires { place + 68 ≤ length buffer.old }
-    ensures { buffer.new ≡ splice buffer.old place (spell_windows32 header.now) }
+fn set_windows_fields_32(buffer: &mut [u8], offset: usize, header: &WindowsFields)
+    requires { offset + 68 ≤ length buffer.old }
+    ensures { buffer.new ≡ splice buffer.old offset (spell_windows_fields_32 header.now) }
 {
-    set_low32(buffer, place, header.image_base);
-    set_u32(buffer, place + 4, header.section_alignment);
-    set_u32(buffer, place + 8, header.file_alignment);
-    set_u16(buffer, place + 12, header.major_operating_system_version);
-    set_u16(buffer, place + 14, header.minor_operating_system_version);
-    set_u16(buffer, place + 16, header.major_image_version);
-    set_u16(buffer, place + 18, header.minor_image_version);
-    set_u16(buffer, place + 20, header.major_subsystem_version);
-    set_u16(buffer, place + 22, header.minor_subsystem_version);
-    set_u32(buffer, place + 24, header.win32_version_value);
-    set_u32(buffer, place + 28, header.size_of_image);
-    set_u32(buffer, place + 32, header.size_of_headers);
-    set_u32(buffer, place + 36, header.check_sum);
-    set_u16(buffer, place + 40, header.subsystem);
-    set_u16(buffer, place + 42, header.dll_characteristics);
-    set_low32(buffer, place + 44, header.size_of_stack_reserve);
-    set_low32(buffer, place + 48, header.size_of_stack_commit);
-    set_low32(buffer, place + 52, header.size_of_heap_reserve);
-    set_low32(buffer, place + 56, header.size_of_heap_commit);
-    set_u32(buffer, place + 60, header.loader_flags);
-    set_u32(buffer, place + 64, header.number_of_rva_and_sizes);
+    set_low32(buffer, offset, header.image_base);
+    set_u32(buffer, offset + 4, header.section_alignment);
+    set_u32(buffer, offset + 8, header.file_alignment);
+    set_u16(buffer, offset + 12, header.major_operating_system_version);
+    set_u16(buffer, offset + 14, header.minor_operating_system_version);
+    set_u16(buffer, offset + 16, header.major_image_version);
+    set_u16(buffer, offset + 18, header.minor_image_version);
+    set_u16(buffer, offset + 20, header.major_subsystem_version);
+    set_u16(buffer, offset + 22, header.minor_subsystem_version);
+    set_u32(buffer, offset + 24, header.win32_version_value);
+    set_u32(buffer, offset + 28, header.size_of_image);
+    set_u32(buffer, offset + 32, header.size_of_headers);
+    set_u32(buffer, offset + 36, header.check_sum);
+    set_u16(buffer, offset + 40, header.subsystem);
+    set_u16(buffer, offset + 42, header.dll_characteristics);
+    set_low32(buffer, offset + 44, header.size_of_stack_reserve);
+    set_low32(buffer, offset + 48, header.size_of_stack_commit);
+    set_low32(buffer, offset + 52, header.size_of_heap_reserve);
+    set_low32(buffer, offset + 56, header.size_of_heap_commit);
+    set_u32(buffer, offset + 60, header.loader_flags);
+    set_u32(buffer, offset + 64, header.number_of_rva_and_sizes);
 }
 
 /// Writes the Windows fields of PE32+, 88 bytes.
-fn set_windows64(buffer: &mut [u8], place: usize, header: &WindowsFields)
-    requires { place + 88 ≤ length buffer.old }
-    ensures { buffer.new ≡ splice buffer.old place (spell_windows64 header.now) }
+fn set_windows_fields_64(buffer: &mut [u8], offset: usize, header: &WindowsFields)
+    requires { offset + 88 ≤ length buffer.old }
+    ensures { buffer.new ≡ splice buffer.old offset (spell_windows_fields_64 header.now) }
 {
-    set_u64(buffer, place, header.image_base);
-    set_u32(buffer, place + 8, header.section_alignment);
-    set_u32(buffer, place + 12, header.file_alignment);
-    set_u16(buffer, place + 16, header.major_operating_system_version);
-    set_u16(buffer, place + 18, header.minor_operating_system_version);
-    set_u16(buffer, place + 20, header.major_image_version);
-    set_u16(buffer, place + 22, header.minor_image_version);
-    set_u16(buffer, place + 24, header.major_subsystem_version);
-    set_u16(buffer, place + 26, header.minor_subsystem_version);
-    set_u32(buffer, place + 28, header.win32_version_value);
-    set_u32(buffer, place + 32, header.size_of_image);
-    set_u32(buffer, place + 36, header.size_of_headers);
-    set_u32(buffer, place + 40, header.check_sum);
-    set_u16(buffer, place + 44, header.subsystem);
-    set_u16(buffer, place + 46, header.dll_characteristics);
-    set_u64(buffer, place + 48, header.size_of_stack_reserve);
-    set_u64(buffer, place + 56, header.size_of_stack_commit);
-    set_u64(buffer, place + 64, header.size_of_heap_reserve);
-    set_u64(buffer, place + 72, header.size_of_heap_commit);
-    set_u32(buffer, place + 80, header.loader_flags);
-    set_u32(buffer, place + 84, header.number_of_rva_and_sizes);
+    set_u64(buffer, offset, header.image_base);
+    set_u32(buffer, offset + 8, header.section_alignment);
+    set_u32(buffer, offset + 12, header.file_alignment);
+    set_u16(buffer, offset + 16, header.major_operating_system_version);
+    set_u16(buffer, offset + 18, header.minor_operating_system_version);
+    set_u16(buffer, offset + 20, header.major_image_version);
+    set_u16(buffer, offset + 22, header.minor_image_version);
+    set_u16(buffer, offset + 24, header.major_subsystem_version);
+    set_u16(buffer, offset + 26, header.minor_subsystem_version);
+    set_u32(buffer, offset + 28, header.win32_version_value);
+    set_u32(buffer, offset + 32, header.size_of_image);
+    set_u32(buffer, offset + 36, header.size_of_headers);
+    set_u32(buffer, offset + 40, header.check_sum);
+    set_u16(buffer, offset + 44, header.subsystem);
+    set_u16(buffer, offset + 46, header.dll_characteristics);
+    set_u64(buffer, offset + 48, header.size_of_stack_reserve);
+    set_u64(buffer, offset + 56, header.size_of_stack_commit);
+    set_u64(buffer, offset + 64, header.size_of_heap_reserve);
+    set_u64(buffer, offset + 72, header.size_of_heap_commit);
+    set_u32(buffer, offset + 80, header.loader_flags);
+    set_u32(buffer, offset + 84, header.number_of_rva_and_sizes);
 }
 
 /// Writes a data directory, 8 bytes.
-fn set_directory(buffer: &mut [u8], place: usize, header: &DataDirectory)
-    requires { place + 8 ≤ length buffer.old }
-    ensures { buffer.new ≡ splice buffer.old place (spell_directory header.now) }
+fn set_directory(buffer: &mut [u8], offset: usize, header: &DataDirectory)
+    requires { offset + 8 ≤ length buffer.old }
+    ensures { buffer.new ≡ splice buffer.old offset (spell_directory header.now) }
 {
-    set_u32(buffer, place, header.virtual_address);
-    set_u32(buffer, place + 4, header.size);
+    set_u32(buffer, offset, header.virtual_address);
+    set_u32(buffer, offset + 4, header.size);
 }
 
 /// Writes a section header, 40 bytes.
-pub fn set_section(buffer: &mut [u8], place: usize, header: &SectionTable)
-    requires { place + 40 ≤ length buffer.old }
-    ensures { buffer.new ≡ splice buffer.old place (spell_section header.now) }
+pub fn set_section(buffer: &mut [u8], offset: usize, header: &SectionTable)
+    requires { offset + 40 ≤ length buffer.old }
+    ensures { buffer.new ≡ splice buffer.old offset (spell_section header.now) }
 {
-    set_slice(buffer, place, &header.name);
-    set_u32(buffer, place + 8, header.virtual_size);
-    set_u32(buffer, place + 12, header.virtual_address);
-    set_u32(buffer, place + 16, header.size_of_raw_data);
-    set_u32(buffer, place + 20, header.pointer_to_raw_data);
-    set_u32(buffer, place + 24, header.pointer_to_relocations);
-    set_u32(buffer, place + 28, header.pointer_to_linenumbers);
-    set_u16(buffer, place + 32, header.number_of_relocations);
-    set_u16(buffer, place + 34, header.number_of_linenumbers);
-    set_u32(buffer, place + 36, header.characteristics);
+    set_slice(buffer, offset, &header.name);
+    set_u32(buffer, offset + 8, header.virtual_size);
+    set_u32(buffer, offset + 12, header.virtual_address);
+    set_u32(buffer, offset + 16, header.size_of_raw_data);
+    set_u32(buffer, offset + 20, header.pointer_to_raw_data);
+    set_u32(buffer, offset + 24, header.pointer_to_relocations);
+    set_u32(buffer, offset + 28, header.pointer_to_linenumbers);
+    set_u16(buffer, offset + 32, header.number_of_relocations);
+    set_u16(buffer, offset + 34, header.number_of_linenumbers);
+    set_u32(buffer, offset + 36, header.characteristics);
 }
 
 /// Writes data directories one after the other, 8 bytes each.
-fn set_directories(buffer: &mut [u8], place: usize, rows: &[DataDirectory])
-    requires { place + 8 * length rows.now ≤ length buffer.old }
-    ensures { buffer.new ≡ splice buffer.old place (flat_map spell_directory rows.now) }
+fn set_directories(buffer: &mut [u8], offset: usize, rows: &[DataDirectory])
+    requires { offset + 8 * length rows.now ≤ length buffer.old }
+    ensures { buffer.new ≡ splice buffer.old offset (flat_map spell_directory rows.now) }
 {
     for i in 0..rows.len() {
-        set_directory(buffer, place + 8 * i, &rows[i]);
+        set_directory(buffer, offset + 8 * i, &rows[i]);
     }
 }
 
@@ -240,49 +240,49 @@ pub fn optional_size(header: &OptionalHeader) -> usize
 }
 
 /// Writes the fields of PE32+ and the data directories after them.
-fn set_wide(
+fn set_pe32_plus(
     buffer: &mut [u8],
-    place: usize,
+    offset: usize,
     standard: &StandardFields,
     windows: &WindowsFields,
     rows: &[DataDirectory],
 )
-    requires { place + 112 + 8 * length rows.now ≤ length buffer.old }
-    ensures { buffer.new ≡ splice buffer.old place (spell_standard64 standard.now ++ spell_windows64 windows.now ++ flat_map spell_directory rows.now) }
+    requires { offset + 112 + 8 * length rows.now ≤ length buffer.old }
+    ensures { buffer.new ≡ splice buffer.old offset (spell_standard_fields_64 standard.now ++ spell_windows_fields_64 windows.now ++ flat_map spell_directory rows.now) }
 {
-    set_standard64(buffer, place, standard);
-    set_windows64(buffer, place + 24, windows);
-    set_directories(buffer, place + 112, rows);
+    set_standard_fields_64(buffer, offset, standard);
+    set_windows_fields_64(buffer, offset + 24, windows);
+    set_directories(buffer, offset + 112, rows);
 }
 
 /// Writes the fields of PE32 and the data directories after them.
-fn set_narrow(
+fn set_pe32(
     buffer: &mut [u8],
-    place: usize,
+    offset: usize,
     standard: &StandardFields,
     windows: &WindowsFields,
     rows: &[DataDirectory],
 )
-    requires { place + 96 + 8 * length rows.now ≤ length buffer.old }
-    ensures { buffer.new ≡ splice buffer.old place (spell_standard32 standard.now ++ spell_windows32 windows.now ++ flat_map spell_directory rows.now) }
+    requires { offset + 96 + 8 * length rows.now ≤ length buffer.old }
+    ensures { buffer.new ≡ splice buffer.old offset (spell_standard_fields_32 standard.now ++ spell_windows_fields_32 windows.now ++ flat_map spell_directory rows.now) }
 {
-    set_standard32(buffer, place, standard);
-    set_windows32(buffer, place + 28, windows);
-    set_directories(buffer, place + 96, rows);
+    set_standard_fields_32(buffer, offset, standard);
+    set_windows_fields_32(buffer, offset + 28, windows);
+    set_directories(buffer, offset + 96, rows);
 }
 
 /// Writes an optional header with the data directories that it keeps.
 #[tactic(auto, using(crate::proofs::Laid::length_optional), unfolding(pe_core::specs::Spelling::spell_optional))]
-pub fn set_optional(buffer: &mut [u8], place: usize, header: &OptionalHeader)
-    requires { place + length (spell_optional (optional_header_view header.now)) ≤ length buffer.old }
-    ensures { buffer.new ≡ splice buffer.old place (spell_optional (optional_header_view header.now)) }
+pub fn set_optional(buffer: &mut [u8], offset: usize, header: &OptionalHeader)
+    requires { offset + length (spell_optional (optional_header_view header.now)) ≤ length buffer.old }
+    ensures { buffer.new ≡ splice buffer.old offset (spell_optional (optional_header_view header.now)) }
 {
     let standard = &header.standard_fields;
     let windows = &header.windows_fields;
     let rows = header.data_directories.rows();
     if standard.magic == MAGIC_64 {
-        set_wide(buffer, place, standard, windows, rows);
+        set_pe32_plus(buffer, offset, standard, windows, rows);
     } else {
-        set_narrow(buffer, place, standard, windows, rows);
+        set_pe32(buffer, offset, standard, windows, rows);
     }
 }

@@ -4,10 +4,10 @@
 
 ghost use Rattle.std.specs.Prelude.{◌≡◌, ◌+◌, ◌*◌, [], ◌∷◌, IsTrue, OnOk, length};
 ghost use Rattle.pe_core.specs.Bytes.{holds};
-ghost use Rattle.pe_core.specs.Refusals.{Gives, WriteAlignment, WriteFit, WriteOverlap, WriteSection, outcome};
+ghost use Rattle.pe_core.specs.Refusals.{Returns, WriteAlignment, WriteFit, WriteOverlap, WriteSection, outcome};
 ghost use Rattle.pe_image.specs.Overlay.{all_fit};
 ghost use Rattle.pe_image.specs.Pieces.{all_section_pieces, header_width, in_a_row, lacking, section_pieces};
-ghost use Rattle.pe_image.specs.Writing.{GivesWritten, all_in_source, clash_free, is_unit, section_tests, sections_written};
+ghost use Rattle.pe_image.specs.Writing.{ReturnsWritten, all_in_source, clash_free, is_unit, section_tests, sections_written};
 ghost use Rattle.pe_image.specs.WritingSteps.{put_in_turn};
 
 use crate::write::overlaps::{first_clash, first_outside, raw_end};
@@ -44,7 +44,7 @@ impl<'a> SectionWriter<'a> {
     /// Errors, in this order: `WriteOverlap` if two unequal sections share a byte of the file; `WriteSection` if the
     /// data of one is not in `source`.
     pub fn require_data(&self) -> Result<()>
-        ensures { Gives (λ u. u) result
+        ensures { Returns (λ u. u) result
             (outcome ((clash_free self.now.sections.now, WriteOverlap) ∷ (all_in_source self.now.source.now self.now.sections.now, WriteSection) ∷ []) tt) }
     {
         if let Some((first, second)) = first_clash(self.sections) {
@@ -56,21 +56,21 @@ impl<'a> SectionWriter<'a> {
         }
     }
 
-    /// The offset after the header of the section, which is written at `place`. `WriteFit` if the pieces of the section
+    /// The offset after the header of the section, which is written at `offset`. `WriteFit` if the pieces of the section
     /// don't all fit.
     #[tactic(auto, using(crate::proofs::WrittenSections::section_fit))]
-    fn require_section(&self, buffer: &[u8], place: usize, section: &SectionTable) -> Result<usize>
+    fn require_section(&self, buffer: &[u8], offset: usize, section: &SectionTable) -> Result<usize>
         requires unit { IsTrue (is_unit self.now.unit) }
         requires inside { IsTrue (holds self.now.source.now section.now.pointer_to_raw_data section.now.size_of_raw_data) }
-        ensures { Gives (λ end. end) result
-            (outcome ((all_fit (length buffer.now) (section_pieces self.now.source.now self.now.unit place section.now), WriteFit) ∷ []) (place + 40)) }
+        ensures { Returns (λ end. end) result
+            (outcome ((all_fit (length buffer.now) (section_pieces self.now.source.now self.now.unit offset section.now), WriteFit) ∷ []) (offset + 40)) }
     {
         let start = section.pointer_to_raw_data as usize;
         require_room(buffer, start, section.size_of_raw_data as usize)?;
-        require_room(buffer, place, SIZE_OF_SECTION_HEADER)?;
+        require_room(buffer, offset, SIZE_OF_SECTION_HEADER)?;
         let zeros = lacking(section.size_of_raw_data, self.unit);
         require_room(buffer, raw_end(section), zeros)?;
-        Ok(place + SIZE_OF_SECTION_HEADER)
+        Ok(offset + SIZE_OF_SECTION_HEADER)
     }
 
     /// The offset after the section headers, which are written from `start` on. `WriteFit` if the pieces of the
@@ -78,29 +78,29 @@ impl<'a> SectionWriter<'a> {
     pub fn require(&self, buffer: &[u8], start: usize) -> Result<usize>
         requires unit { IsTrue (is_unit self.now.unit) }
         requires inside { IsTrue (all_in_source self.now.source.now self.now.sections.now) }
-        ensures { Gives (λ end. end) result
+        ensures { Returns (λ end. end) result
             (outcome ((all_fit (length buffer.now) (all_section_pieces self.now.source.now self.now.unit start self.now.sections.now), WriteFit) ∷ [])
             (start + 40 * length self.now.sections.now)) }
     {
-        let mut place = start;
+        let mut offset = start;
         for i in 0..self.sections.len() {
-            place = self.require_section(buffer, place, &self.sections[i])?;
+            offset = self.require_section(buffer, offset, &self.sections[i])?;
         }
-        Ok(place)
+        Ok(offset)
     }
 
-    /// Writes a section, with its header at `place`. The caller has checked that it fits.
+    /// Writes a section, with its header at `offset`. The caller has checked that it fits.
     #[tactic(auto, using(crate::proofs::WrittenSections::section_fit), unfolding(crate::specs::Pieces::section_pieces, crate::specs::WritingSteps::put_in_turn))]
-    fn set_section(&self, buffer: &mut [u8], place: usize, section: &SectionTable)
+    fn set_section(&self, buffer: &mut [u8], offset: usize, section: &SectionTable)
         requires unit { IsTrue (is_unit self.now.unit) }
         requires inside { IsTrue (holds self.now.source.now section.now.pointer_to_raw_data section.now.size_of_raw_data) }
-        requires fit { IsTrue (all_fit (length buffer.old) (section_pieces self.now.source.now self.now.unit place section.now)) }
-        ensures { buffer.new ≡ put_in_turn buffer.old (section_pieces self.now.source.now self.now.unit place section.now) }
+        requires fit { IsTrue (all_fit (length buffer.old) (section_pieces self.now.source.now self.now.unit offset section.now)) }
+        ensures { buffer.new ≡ put_in_turn buffer.old (section_pieces self.now.source.now self.now.unit offset section.now) }
     {
         let start = section.pointer_to_raw_data as usize;
         let end = raw_end(section);
         set_slice(buffer, start, &self.source[start..end]);
-        set_section(buffer, place, section);
+        set_section(buffer, offset, section);
         set_zeros(buffer, end, lacking(section.size_of_raw_data, self.unit));
     }
 
@@ -111,10 +111,10 @@ impl<'a> SectionWriter<'a> {
         requires fit { IsTrue (all_fit (length buffer.old) (all_section_pieces self.now.source.now self.now.unit start self.now.sections.now)) }
         ensures { buffer.new ≡ put_in_turn buffer.old (all_section_pieces self.now.source.now self.now.unit start self.now.sections.now) }
     {
-        let mut place = start;
+        let mut offset = start;
         for i in 0..self.sections.len() {
-            self.set_section(buffer, place, &self.sections[i]);
-            place += SIZE_OF_SECTION_HEADER;
+            self.set_section(buffer, offset, &self.sections[i]);
+            offset += SIZE_OF_SECTION_HEADER;
         }
     }
 
@@ -122,7 +122,7 @@ impl<'a> SectionWriter<'a> {
     /// for a unit of 0; `WriteOverlap` if two unequal sections share a byte of the file; `WriteSection` if the data of
     /// one is not in `source`; `WriteFit` if the pieces don't all fit.
     pub fn require_all(&self, buffer: &[u8], start: usize) -> Result<usize>
-        ensures answer { Gives (λ end. end) result
+        ensures returned { Returns (λ end. end) result
             (outcome ((is_unit self.now.unit, WriteAlignment)
             ∷ section_tests self.now.source.now self.now.sections.now (length buffer.now) (all_section_pieces self.now.source.now self.now.unit start self.now.sections.now))
             (start + 40 * length self.now.sections.now)) }
@@ -140,7 +140,7 @@ impl<'a> SectionWriter<'a> {
     /// Writes the sections, with their headers from `start` on, and returns the offset after the headers. Errors: those
     /// of `require_all`; the buffer is then unchanged.
     pub fn write(&self, buffer: &mut [u8], start: usize) -> Result<usize>
-        ensures { GivesWritten result (sections_written self.now.source.now self.now.sections.now self.now.unit start buffer.old) buffer.old buffer.new }
+        ensures { ReturnsWritten result (sections_written self.now.source.now self.now.sections.now self.now.unit start buffer.old) buffer.old buffer.new }
     {
         let end = self.require_all(buffer, start)?;
         self.set(buffer, start);

@@ -4,13 +4,13 @@
 ghost use Rattle.std.specs.Prelude.{◌≡◌, ◌+◌, ◌-◌, ◌≤◌, length};
 ghost use Rattle.std.specs.Option.{option_map};
 ghost use Rattle.pe_core.specs.Options.{default_options};
-ghost use Rattle.pe_core.specs.Refusals.{Gives};
+ghost use Rattle.pe_core.specs.Refusals.{Returns};
 ghost use Rattle.pe_records.specs.DebugRecords.{pdb70_view, pdb70_of, pdb70_record, pdb20_view, pdb20_of, pdb20_record};
 
 use crate::debug::ImageDebugDirectory;
 use crate::debug::constants::{CODEVIEW_PDB20_MAGIC, CODEVIEW_PDB70_MAGIC};
 use pe_core::{
-    Error, ParseMode, ParseOptions, Reason, Result, data_at, number32, require_bytes, u32_at,
+    Error, ParseMode, ParseOptions, Reason, Result, data_at, read_u32, require_bytes, u32_at,
 };
 
 /// A PDB 7.0 record: 24 bytes and a file name.
@@ -45,32 +45,32 @@ impl<'a> CodeviewPDB70DebugInfo<'a> {
     /// The PDB 7.0 record at a file offset, in `size` bytes. A record with another signature is `None`, even if the
     /// rest is truncated.
     #[tactic(auto, unfolding(crate::specs::DebugRecords::pdb70_record, crate::specs::DebugRecords::pdb70_at))]
-    fn at(bytes: &'a [u8], place: usize, size: u32, mode: ParseMode) -> Result<Option<Self>>
-        ensures { Gives (option_map pdb70_view) result (pdb70_record mode bytes.entry.now place size) }
+    fn at(bytes: &'a [u8], offset: usize, size: u32, mode: ParseMode) -> Result<Option<Self>>
+        ensures { Returns (option_map pdb70_view) result (pdb70_record mode bytes.entry.now offset size) }
     {
         if size < 24 {
             return mode.none_if_refused(Err(Error::Malformed(Reason::DebugSize(size))));
         }
-        let codeview_signature = u32_at(bytes, place)?;
+        let codeview_signature = u32_at(bytes, offset)?;
         if codeview_signature != CODEVIEW_PDB70_MAGIC {
             return Ok(None);
         }
-        require_bytes(bytes, place + 4, 20)?;
+        require_bytes(bytes, offset + 4, 20)?;
         let length = size as usize - 24;
-        let filename = data_at(bytes, place + 24, length, Reason::DebugData(size))?;
+        let filename = data_at(bytes, offset + 24, length, Reason::DebugData(size))?;
         let mut signature = [0; 16];
-        signature.copy_from_slice(&bytes[place + 4..place + 20]);
+        signature.copy_from_slice(&bytes[offset + 4..offset + 20]);
         Ok(Some(CodeviewPDB70DebugInfo {
             codeview_signature,
             signature,
-            age: number32(bytes, place + 20),
+            age: read_u32(bytes, offset + 20),
             filename,
         }))
     }
 
     /// The PDB 7.0 record of the entry, with the default options. Errors: those of `parse_with_opts`.
     pub fn parse(bytes: &'a [u8], idd: &ImageDebugDirectory) -> Result<Option<Self>>
-        ensures { Gives (option_map pdb70_view) result (pdb70_of default_options bytes.entry.now idd.now) }
+        ensures { Returns (option_map pdb70_view) result (pdb70_of default_options bytes.entry.now idd.now) }
     {
         CodeviewPDB70DebugInfo::parse_with_opts(bytes, idd, &ParseOptions::default())
     }
@@ -84,10 +84,10 @@ impl<'a> CodeviewPDB70DebugInfo<'a> {
         idd: &ImageDebugDirectory,
         opts: &ParseOptions,
     ) -> Result<Option<Self>>
-        ensures { Gives (option_map pdb70_view) result (pdb70_of opts.now bytes.entry.now idd.now) }
+        ensures { Returns (option_map pdb70_view) result (pdb70_of opts.now bytes.entry.now idd.now) }
     {
-        let place = idd.record_place(opts);
-        CodeviewPDB70DebugInfo::at(bytes, place as usize, idd.size_of_data, opts.parse_mode)
+        let offset = idd.record_offset(opts);
+        CodeviewPDB70DebugInfo::at(bytes, offset as usize, idd.size_of_data, opts.parse_mode)
     }
 }
 
@@ -95,31 +95,31 @@ impl<'a> CodeviewPDB20DebugInfo<'a> {
     /// The PDB 2.0 record at a file offset, in `size` bytes. A record with another signature is `None`, even if the
     /// rest is truncated.
     #[tactic(auto, unfolding(crate::specs::DebugRecords::pdb20_record, crate::specs::DebugRecords::pdb20_at))]
-    fn at(bytes: &'a [u8], place: usize, size: u32, mode: ParseMode) -> Result<Option<Self>>
-        ensures { Gives (option_map pdb20_view) result (pdb20_record mode bytes.entry.now place size) }
+    fn at(bytes: &'a [u8], offset: usize, size: u32, mode: ParseMode) -> Result<Option<Self>>
+        ensures { Returns (option_map pdb20_view) result (pdb20_record mode bytes.entry.now offset size) }
     {
         if size < 16 {
             return mode.none_if_refused(Err(Error::Malformed(Reason::DebugSize(size))));
         }
-        let codeview_signature = u32_at(bytes, place)?;
+        let codeview_signature = u32_at(bytes, offset)?;
         if codeview_signature != CODEVIEW_PDB20_MAGIC {
             return Ok(None);
         }
-        require_bytes(bytes, place + 4, 12)?;
+        require_bytes(bytes, offset + 4, 12)?;
         let length = size as usize - 16;
-        let filename = data_at(bytes, place + 16, length, Reason::DebugData(size))?;
+        let filename = data_at(bytes, offset + 16, length, Reason::DebugData(size))?;
         Ok(Some(CodeviewPDB20DebugInfo {
             codeview_signature,
-            codeview_offset: number32(bytes, place + 4),
-            signature: number32(bytes, place + 8),
-            age: number32(bytes, place + 12),
+            codeview_offset: read_u32(bytes, offset + 4),
+            signature: read_u32(bytes, offset + 8),
+            age: read_u32(bytes, offset + 12),
             filename,
         }))
     }
 
     /// The PDB 2.0 record of the entry, with the default options. Errors: those of `parse_with_opts`.
     pub fn parse(bytes: &'a [u8], idd: &ImageDebugDirectory) -> Result<Option<Self>>
-        ensures { Gives (option_map pdb20_view) result (pdb20_of default_options bytes.entry.now idd.now) }
+        ensures { Returns (option_map pdb20_view) result (pdb20_of default_options bytes.entry.now idd.now) }
     {
         CodeviewPDB20DebugInfo::parse_with_opts(bytes, idd, &ParseOptions::default())
     }
@@ -133,9 +133,9 @@ impl<'a> CodeviewPDB20DebugInfo<'a> {
         idd: &ImageDebugDirectory,
         opts: &ParseOptions,
     ) -> Result<Option<Self>>
-        ensures { Gives (option_map pdb20_view) result (pdb20_of opts.now bytes.entry.now idd.now) }
+        ensures { Returns (option_map pdb20_view) result (pdb20_of opts.now bytes.entry.now idd.now) }
     {
-        let place = idd.record_place(opts);
-        CodeviewPDB20DebugInfo::at(bytes, place as usize, idd.size_of_data, opts.parse_mode)
+        let offset = idd.record_offset(opts);
+        CodeviewPDB20DebugInfo::at(bytes, offset as usize, idd.size_of_data, opts.parse_mode)
     }
 }

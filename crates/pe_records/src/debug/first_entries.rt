@@ -33,7 +33,7 @@ fn keep_first(kept: &mut Option<ImageDebugDirectory>, entry: &ImageDebugDirector
 
 impl FirstEntries {
     /// The first entries of a table, whose entries are read once, from the first to the last.
-    #[tactic(auto, unfolding(crate::specs::DebugDirectory::whole_entries, pe_core::specs::Rows::each))]
+    #[tactic(auto, unfolding(crate::specs::DebugDirectory::whole_debug_entries, pe_core::specs::Rows::each))]
     pub(crate) fn of_table(table: &[u8], fixup: u32) -> FirstEntries
         ensures codeview { result.codeview ≡ first_of_type fixup 2 table.now }
         ensures features { result.features ≡ first_of_type fixup 12 table.now }

@@ -5,14 +5,14 @@ ghost use Rattle.std.specs.Prelude.{◌≡◌, ◌≢◌, ◌+◌, ◌-◌, ◌*
 ghost use Rattle.std.specs.Iterator.{at_most};
 ghost use Rattle.std.specs.Option.{option_map};
 ghost use Rattle.pe_core.specs.Options.{default_options};
-ghost use Rattle.pe_core.specs.Refusals.{Gives};
+ghost use Rattle.pe_core.specs.Refusals.{Returns};
 ghost use Rattle.pe_records.specs.DebugRecords.{pogo_view, pogo_of, pogo_record};
-ghost use Rattle.pe_records.specs.Pogo.{Reads, GivesPogoEntry, stream_of};
+ghost use Rattle.pe_records.specs.Pogo.{Reads, ReturnsPogoEntry, pogo_bytes_left};
 
 use crate::debug::ImageDebugDirectory;
 use crate::debug::constants::{IMAGE_DEBUG_POGO_SIGNATURE_LTCG, IMAGE_DEBUG_POGO_SIGNATURE_PGU};
 use pe_core::{
-    Error, ParseOptions, Reason, Result, data_at, number32, require_bytes, rounded_up, u32_at,
+    Error, ParseOptions, Reason, Result, data_at, read_u32, require_bytes, rounded_up, u32_at,
 };
 
 /// Entries are rounded up to a multiple of this many bytes.
@@ -31,10 +31,10 @@ pub struct POGOInfo<'a> {
 impl<'a> POGOInfo<'a> {
     /// The record at a file offset, in `size` bytes. A record with another signature is `None`, whatever its size.
     #[tactic(auto, unfolding(crate::specs::DebugRecords::pogo_record))]
-    fn at(bytes: &'a [u8], place: usize, size: u32) -> Result<Option<Self>>
-        ensures { Gives (option_map pogo_view) result (pogo_record bytes.entry.now place size) }
+    fn at(bytes: &'a [u8], offset: usize, size: u32) -> Result<Option<Self>>
+        ensures { Returns (option_map pogo_view) result (pogo_record bytes.entry.now offset size) }
     {
-        let signature = u32_at(bytes, place)?;
+        let signature = u32_at(bytes, offset)?;
         if signature != IMAGE_DEBUG_POGO_SIGNATURE_LTCG
             && signature != IMAGE_DEBUG_POGO_SIGNATURE_PGU
         {
@@ -43,13 +43,18 @@ impl<'a> POGOInfo<'a> {
         if size <= 4 {
             return Err(Error::Malformed(Reason::PogoSize(size)));
         }
-        let bytes = data_at(bytes, place + 4, size as usize - 4, Reason::DebugData(size))?;
+        let bytes = data_at(
+            bytes,
+            offset + 4,
+            size as usize - 4,
+            Reason::DebugData(size),
+        )?;
         Ok(Some(POGOInfo { signature, bytes }))
     }
 
     /// The POGO record of the entry, with the default options. Errors: those of `parse_with_opts`.
     pub fn parse(bytes: &'a [u8], idd: &ImageDebugDirectory) -> Result<Option<Self>>
-        ensures { Gives (option_map pogo_view) result (pogo_of default_options bytes.entry.now idd.now) }
+        ensures { Returns (option_map pogo_view) result (pogo_of default_options bytes.entry.now idd.now) }
     {
         POGOInfo::parse_with_opts(bytes, idd, &ParseOptions::default())
     }
@@ -63,14 +68,14 @@ impl<'a> POGOInfo<'a> {
         idd: &ImageDebugDirectory,
         opts: &ParseOptions,
     ) -> Result<Option<Self>>
-        ensures { Gives (option_map pogo_view) result (pogo_of opts.now bytes.entry.now idd.now) }
+        ensures { Returns (option_map pogo_view) result (pogo_of opts.now bytes.entry.now idd.now) }
     {
-        POGOInfo::at(bytes, idd.record_place(opts) as usize, idd.size_of_data)
+        POGOInfo::at(bytes, idd.record_offset(opts) as usize, idd.size_of_data)
     }
 
     /// The entries of the record.
     pub fn entries(&self) -> POGOEntryIterator<'a>
-        ensures { stream_of result ≡ self.now.bytes.now }
+        ensures { pogo_bytes_left result ≡ self.now.bytes.now }
     {
         POGOEntryIterator::new(self.bytes)
     }
@@ -104,7 +109,7 @@ fn first_zero(bytes: &[u8]) -> Option<usize>
 
 /// The entry at the start of the bytes, and its size with the padding, in bytes. Errors, in this order: `Short` if
 /// there are fewer than eight bytes; `PogoName` if the name is not NUL-terminated or the padding is truncated.
-#[tactic(auto, using(crate::proofs::PogoNames::begins_from, crate::proofs::PogoNames::none_short, crate::proofs::PogoNames::none_unended, crate::proofs::PogoNames::none_cut))]
+#[tactic(auto, using(crate::proofs::PogoNames::starts_from, crate::proofs::PogoNames::none_short, crate::proofs::PogoNames::none_unterminated, crate::proofs::PogoNames::none_truncated))]
 fn entry_at<'a>(bytes: &'a [u8]) -> Result<(POGOInfoEntry<'a>, usize)>
     ensures entry { Reads bytes.entry.now result }
 {
@@ -124,8 +129,8 @@ fn entry_at<'a>(bytes: &'a [u8]) -> Result<(POGOInfoEntry<'a>, usize)>
         }));
     }
     let entry = POGOInfoEntry {
-        rva: number32(bytes, 0),
-        size: number32(bytes, 4),
+        rva: read_u32(bytes, 0),
+        size: read_u32(bytes, 4),
         name: rest.split_at(zero + 1).0,
     };
     Ok((entry, end))
@@ -141,7 +146,7 @@ pub struct POGOEntryIterator<'a> {
 impl<'a> POGOEntryIterator<'a> {
     /// The entries of these bytes, which follow the signature of a record.
     pub fn new(bytes: &'a [u8]) -> Self
-        ensures { stream_of result ≡ bytes.entry.now }
+        ensures { pogo_bytes_left result ≡ bytes.entry.now }
     {
         POGOEntryIterator { bytes }
     }
@@ -150,9 +155,9 @@ impl<'a> POGOEntryIterator<'a> {
 impl<'a> Iterator for POGOEntryIterator<'a> {
     type Item = Result<POGOInfoEntry<'a>>;
 
-    ghost next_gives = { λ s r t. GivesPogoEntry (stream_of s) r (stream_of t) };
+    ghost next_gives = { λ s r t. ReturnsPogoEntry (pogo_bytes_left s) r (pogo_bytes_left t) };
 
-    ghost remaining = { λ s. at_most (length (stream_of s)) };
+    ghost remaining = { λ s. at_most (length (pogo_bytes_left s)) };
 
     fn next(&mut self) -> Option<Result<POGOInfoEntry<'a>>> {
         let bytes = self.bytes;

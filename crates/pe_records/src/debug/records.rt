@@ -3,11 +3,11 @@
 
 ghost use Rattle.std.specs.Prelude.{◌≡◌, ◌+◌, ◌≤◌, length};
 ghost use Rattle.pe_core.specs.Options.{default_options};
-ghost use Rattle.pe_core.specs.Refusals.{Gives};
+ghost use Rattle.pe_core.specs.Refusals.{Returns};
 ghost use Rattle.pe_records.specs.DebugRecords.{features_at, features_of, characteristics_of, repro_view, repro_of, repro_record};
 
 use crate::debug::ImageDebugDirectory;
-use pe_core::{ParseOptions, Reason, Result, data_at, number32, require_bytes, u32_at};
+use pe_core::{ParseOptions, Reason, Result, data_at, read_u32, require_bytes, u32_at};
 
 /// A VC feature record (`IMAGE_DEBUG_TYPE_VC_FEATURE`), 20 bytes: how many functions of an image were compiled with
 /// which features of Visual C++.
@@ -29,22 +29,22 @@ pub struct VCFeatureInfo {
 impl VCFeatureInfo {
     /// Reads the counts at an offset where their 20 bytes are known to be.
     #[tactic(auto, unfolding(crate::specs::DebugRecords::features_at))]
-    fn at(bytes: &[u8], place: usize) -> VCFeatureInfo
-        requires { place + 20 ≤ length bytes.now }
-        ensures { result ≡ features_at bytes.now place }
+    fn at(bytes: &[u8], offset: usize) -> VCFeatureInfo
+        requires { offset + 20 ≤ length bytes.now }
+        ensures { result ≡ features_at bytes.now offset }
     {
         VCFeatureInfo {
-            pre_vc_plusplus_count: number32(bytes, place),
-            c_and_cplusplus_count: number32(bytes, place + 4),
-            guard_stack_count: number32(bytes, place + 8),
-            sdl_count: number32(bytes, place + 12),
-            guard_count: number32(bytes, place + 16),
+            pre_vc_plusplus_count: read_u32(bytes, offset),
+            c_and_cplusplus_count: read_u32(bytes, offset + 4),
+            guard_stack_count: read_u32(bytes, offset + 8),
+            sdl_count: read_u32(bytes, offset + 12),
+            guard_count: read_u32(bytes, offset + 16),
         }
     }
 
     /// The counts of the entry, with the default options. Errors: those of `parse_with_opts`.
     pub fn parse(bytes: &[u8], idd: &ImageDebugDirectory) -> Result<VCFeatureInfo>
-        ensures { Gives (λ r. r) result (features_of default_options bytes.now idd.now) }
+        ensures { Returns (λ r. r) result (features_of default_options bytes.now idd.now) }
     {
         VCFeatureInfo::parse_with_opts(bytes, idd, &ParseOptions::default())
     }
@@ -56,11 +56,11 @@ impl VCFeatureInfo {
         idd: &ImageDebugDirectory,
         opts: &ParseOptions,
     ) -> Result<VCFeatureInfo>
-        ensures { Gives (λ r. r) result (features_of opts.now bytes.now idd.now) }
+        ensures { Returns (λ r. r) result (features_of opts.now bytes.now idd.now) }
     {
-        let place = idd.record_place(opts) as usize;
-        require_bytes(bytes, place, 20)?;
-        Ok(VCFeatureInfo::at(bytes, place))
+        let offset = idd.record_offset(opts) as usize;
+        require_bytes(bytes, offset, 20)?;
+        Ok(VCFeatureInfo::at(bytes, offset))
     }
 }
 
@@ -75,7 +75,7 @@ pub struct ExDllCharacteristicsInfo {
 impl ExDllCharacteristicsInfo {
     /// The characteristics of the entry, with the default options. Errors: those of `parse_with_opts`.
     pub fn parse(bytes: &[u8], idd: &ImageDebugDirectory) -> Result<ExDllCharacteristicsInfo>
-        ensures { Gives (λ r. r) result (characteristics_of default_options bytes.now idd.now) }
+        ensures { Returns (λ r. r) result (characteristics_of default_options bytes.now idd.now) }
     {
         ExDllCharacteristicsInfo::parse_with_opts(bytes, idd, &ParseOptions::default())
     }
@@ -87,9 +87,9 @@ impl ExDllCharacteristicsInfo {
         idd: &ImageDebugDirectory,
         opts: &ParseOptions,
     ) -> Result<ExDllCharacteristicsInfo>
-        ensures { Gives (λ r. r) result (characteristics_of opts.now bytes.now idd.now) }
+        ensures { Returns (λ r. r) result (characteristics_of opts.now bytes.now idd.now) }
     {
-        let characteristics_ex = u32_at(bytes, idd.record_place(opts) as usize)?;
+        let characteristics_ex = u32_at(bytes, idd.record_offset(opts) as usize)?;
         Ok(ExDllCharacteristicsInfo { characteristics_ex })
     }
 }
@@ -111,21 +111,21 @@ pub enum ReproInfo<'a> {
 impl<'a> ReproInfo<'a> {
     /// The Repro record of the entry, at a file offset.
     #[tactic(auto, unfolding(crate::specs::DebugRecords::repro_record))]
-    fn at(bytes: &'a [u8], place: usize, idd: &ImageDebugDirectory) -> Result<Self>
-        ensures { Gives repro_view result (repro_record bytes.entry.now place idd.now) }
+    fn at(bytes: &'a [u8], offset: usize, idd: &ImageDebugDirectory) -> Result<Self>
+        ensures { Returns repro_view result (repro_record bytes.entry.now offset idd.now) }
     {
         if idd.size_of_data == 0 {
             return Ok(ReproInfo::TimeDateStamp(idd.time_date_stamp));
         }
-        let length = u32_at(bytes, place)?;
+        let length = u32_at(bytes, offset)?;
         let refusal = Reason::DebugData(length);
-        let buffer = data_at(bytes, place + 4, length as usize, refusal)?;
+        let buffer = data_at(bytes, offset + 4, length as usize, refusal)?;
         Ok(ReproInfo::Buffer { length, buffer })
     }
 
     /// The Repro record of the entry, with the default options. Errors: those of `parse_with_opts`.
     pub fn parse(bytes: &'a [u8], idd: &ImageDebugDirectory) -> Result<Self>
-        ensures { Gives repro_view result (repro_of default_options bytes.entry.now idd.now) }
+        ensures { Returns repro_view result (repro_of default_options bytes.entry.now idd.now) }
     {
         ReproInfo::parse_with_opts(bytes, idd, &ParseOptions::default())
     }
@@ -139,8 +139,8 @@ impl<'a> ReproInfo<'a> {
         idd: &ImageDebugDirectory,
         opts: &ParseOptions,
     ) -> Result<Self>
-        ensures { Gives repro_view result (repro_of opts.now bytes.entry.now idd.now) }
+        ensures { Returns repro_view result (repro_of opts.now bytes.entry.now idd.now) }
     {
-        ReproInfo::at(bytes, idd.record_place(opts) as usize, idd)
+        ReproInfo::at(bytes, idd.record_offset(opts) as usize, idd)
     }
 }

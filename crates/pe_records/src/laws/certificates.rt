@@ -4,7 +4,7 @@ ghost use Rattle.std.specs.Prelude.{◌≡◌, ℕ, ◌+◌, ◌%◌, ◌≤◌,
 ghost use Rattle.pe_core.specs.Bytes.{AreBytes, splice};
 ghost use Rattle.pe_core.specs.Refusals.{Refusal};
 ghost use Rattle.pe_records.specs.Certificates.{CertificateView, certificate_at, certificates_at, IsListing, IsRefused};
-ghost use Rattle.pe_core.specs.Places.{StandAt};
+ghost use Rattle.pe_core.specs.Offsets.{StandAt};
 ghost use Rattle.pe_records.specs.CertificateWriting.{IsWhole, spell_certificate, padding, written_length, written_certificate, written_certificates};
 
 /// A table has one listing or one error, never both; `certificates_at` returns that one.
@@ -31,14 +31,14 @@ pub fn certificates_are_three_pieces()
 {}
 
 /// The body of a certificate that is read follows the eight bytes of its header.
-#[tactic(auto, using(crate::proofs::PartsInPlace::body_stands))]
-pub fn bodies_stand_behind_their_headers()
+#[tactic(auto, using(crate::proofs::PartsInOffset::body_stands))]
+pub fn bodies_stand_after_their_headers()
     ensures { (b : List ℕ) (p : ℕ) (c : CertificateView) (next : ℕ) → certificate_at b p ≡ Ok (c, next) → StandAt b (p + 8) c.body }
 {}
 
 /// A certificate that is read has the body that its length says. At a multiple of eight it takes as many bytes as when
 /// it is written, up to the offset after it.
-#[tactic(auto, using(crate::proofs::CertificatesReadAgain::whole, crate::proofs::CertificatesReadAgain::next_place))]
+#[tactic(auto, using(crate::proofs::CertificatesReadAgain::whole, crate::proofs::CertificatesReadAgain::next_offset))]
 pub fn certificates_that_are_read_are_whole()
     ensures whole { (b : List ℕ) (p : ℕ) (c : CertificateView) (next : ℕ) → AreBytes b → certificate_at b p ≡ Ok (c, next) → IsWhole c }
     ensures next { (b : List ℕ) (p : ℕ) (c : CertificateView) (next : ℕ) → AreBytes b → p % 8 ≡ 0 → certificate_at b p ≡ Ok (c, next) → next ≡ p + written_length c }

@@ -13,11 +13,11 @@ ghost use Rattle.pe_records.specs.declared.debug.ImageDebugDirectory.{ImageDebug
 ghost use Rattle.pe_records.specs.declared.debug.ImageDebugDirectoryIterator.{ImageDebugDirectoryIterator};
 ghost use Rattle.pe_records.specs.declared.debug.pogo.POGOInfoEntry.{POGOInfoEntry};
 ghost use Rattle.pe_records.specs.declared.debug.pogo.POGOEntryIterator.{POGOEntryIterator};
-ghost use Rattle.pe_records.specs.DebugDirectory.{entries, count, rest_of, fixup_of, item_of};
+ghost use Rattle.pe_records.specs.DebugDirectory.{debug_entries, debug_entry_count, debug_bytes_left, fixup_of, debug_item};
 ghost use Rattle.pe_records.specs.DebugRecords.{DebugFields, Pdb70, Pdb20, Pogo, pdb70_of, pdb20_of, debug_data, features_at, pdb70_record, pdb20_record, pogo_record, Repro, repro_record};
 ghost use Rattle.pe_records.specs.DebugSpelling.{spell_pdb70, spell_pdb20, spell_features, spell_pogo, spell_repro, size_of_repro};
 ghost use Rattle.pe_records.specs.Parts.{DebugPartsStand};
-ghost use Rattle.pe_records.specs.Pogo.{Entry, Entries, stream_of, stream_item_of};
+ghost use Rattle.pe_records.specs.Pogo.{Entry, Entries, pogo_bytes_left, stream_item_of};
 
 use crate::debug::{ImageDebugDirectoryIterator, POGOEntryIterator};
 
@@ -25,9 +25,9 @@ use crate::debug::{ImageDebugDirectoryIterator, POGOEntryIterator};
 /// after an error and after `None`.
 pub fn debug_iterators_give_the_entries()
     ensures items { (s : ImageDebugDirectoryIterator) (xs : List (Result ImageDebugDirectory Error)) →
-        Drains ⟦<ImageDebugDirectoryIterator<'static> as Iterator>⟧.next_gives s xs → map item_of xs ≡ entries (fixup_of s) (rest_of s) }
-    ensures number { (fixup : ℕ) (b : List ℕ) → length (entries fixup b) ≡ count b }
-    ensures fault { (s t u : ImageDebugDirectoryIterator) (e : Error) (r : Option (Result ImageDebugDirectory Error)) →
+        Drains ⟦<ImageDebugDirectoryIterator<'static> as Iterator>⟧.next_gives s xs → map debug_item xs ≡ debug_entries (fixup_of s) (debug_bytes_left s) }
+    ensures number { (fixup : ℕ) (b : List ℕ) → length (debug_entries fixup b) ≡ debug_entry_count b }
+    ensures refusal { (s t u : ImageDebugDirectoryIterator) (e : Error) (r : Option (Result ImageDebugDirectory Error)) →
         ⟦<ImageDebugDirectoryIterator<'static> as Iterator>⟧.next_gives s (Some (Err e)) t →
         ⟦<ImageDebugDirectoryIterator<'static> as Iterator>⟧.next_gives t r u → r ≡ None }
     ensures none { (s t u : ImageDebugDirectoryIterator) (r : Option (Result ImageDebugDirectory Error)) →
@@ -39,11 +39,11 @@ pub fn debug_iterators_give_the_entries()
 /// a stream of entries, and only one. The iterator is over after an error and after `None`.
 pub fn pogo_streams_have_one_reading()
     ensures items { (s : POGOEntryIterator) (xs : List (Result POGOInfoEntry Error)) →
-        Drains ⟦<POGOEntryIterator<'static> as Iterator>⟧.next_gives s xs → Entries (stream_of s) (map stream_item_of xs) }
+        Drains ⟦<POGOEntryIterator<'static> as Iterator>⟧.next_gives s xs → Entries (pogo_bytes_left s) (map stream_item_of xs) }
     ensures exists { (b : List ℕ) → (xs : List (Result Entry Refusal)) × Entries b xs }
     ensures once { (b : List ℕ) (xs ys : List (Result Entry Refusal)) →
         Entries b xs → Entries b ys → xs ≡ ys }
-    ensures fault { (s t u : POGOEntryIterator) (e : Error) (r : Option (Result POGOInfoEntry Error)) →
+    ensures refusal { (s t u : POGOEntryIterator) (e : Error) (r : Option (Result POGOInfoEntry Error)) →
         ⟦<POGOEntryIterator<'static> as Iterator>⟧.next_gives s (Some (Err e)) t →
         ⟦<POGOEntryIterator<'static> as Iterator>⟧.next_gives t r u → r ≡ None }
     ensures none { (s t u : POGOEntryIterator) (r : Option (Result POGOInfoEntry Error)) →

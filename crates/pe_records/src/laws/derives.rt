@@ -15,7 +15,7 @@ ghost use Rattle.pe_records.specs.declared.debug.records.ExDllCharacteristicsInf
 ghost use Rattle.pe_records.specs.declared.debug.records.ReproInfo.{ReproInfo};
 ghost use Rattle.pe_records.specs.declared.debug.records.VCFeatureInfo.{VCFeatureInfo};
 ghost use Rattle.pe_records.specs.DebugRecords.{pdb70_view, pdb20_view, repro_view, pogo_view, debug_view};
-ghost use Rattle.pe_records.specs.Pogo.{entry_of};
+ghost use Rattle.pe_records.specs.Pogo.{pogo_entry_of};
 
 use crate::certificate_table::{AttributeCertificateRevision, AttributeCertificateType};
 use crate::debug::{
@@ -34,7 +34,7 @@ pub fn equal_records_are_the_same()
     ensures pdb20 { ComparesBy pdb20_view ⟦<CodeviewPDB20DebugInfo<'static> as PartialEq>⟧.eq }
     ensures repro { ComparesBy repro_view ⟦<ReproInfo<'static> as PartialEq>⟧.eq }
     ensures pogo { ComparesBy pogo_view ⟦<POGOInfo<'static> as PartialEq>⟧.eq }
-    ensures pogo_entry { ComparesBy entry_of ⟦<POGOInfoEntry<'static> as PartialEq>⟧.eq }
+    ensures pogo_entry { ComparesBy pogo_entry_of ⟦<POGOInfoEntry<'static> as PartialEq>⟧.eq }
 {}
 
 /// Debug data are equal exactly if their tables and their records are.
@@ -59,7 +59,7 @@ pub fn defaults_are_zeros()
     ensures pogo { (x : POGOInfo) → ⟦<POGOInfo<'static> as Default>⟧.is_default x →
         pogo_view x ≡ record { signature = 0; bytes = [] } }
     ensures pogo_entry { (x : POGOInfoEntry) → ⟦<POGOInfoEntry<'static> as Default>⟧.is_default x →
-        entry_of x ≡ record { rva = 0; size = 0; name = [] } }
+        pogo_entry_of x ≡ record { rva = 0; size = 0; name = [] } }
 {}
 
 /// A clone is its original.

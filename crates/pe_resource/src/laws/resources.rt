@@ -4,7 +4,7 @@ ghost use Rattle.std.specs.Prelude.{◌≡◌, ◌↔◌, ◌<◌, ◌^◌, ℕ,
 ghost use Rattle.std.specs.Ordering.{nat_cmp};
 ghost use Rattle.std.specs.declared.cmp.Ordering.TheVariants.{Equal};
 ghost use Rattle.std.specs.Iterator.{Drains};
-ghost use Rattle.pe_core.specs.Places.{bytes_in, IsWithin};
+ghost use Rattle.pe_core.specs.Offsets.{bytes_in, IsWithin};
 ghost use Rattle.pe_core.specs.Refusals.{Refusal, answer_by};
 ghost use Rattle.pe_core.specs.declared.byte_range.ByteRange.{ByteRange};
 ghost use Rattle.pe_core.specs.declared.data_directories.DataDirectory.{DataDirectory};
@@ -67,7 +67,7 @@ pub fn strings_have_one_reading()
     ensures items { (s : ResourceStringIterator) (xs : List (Result ResourceString Error)) →
         Drains ⟦<ResourceStringIterator<'static> as Iterator>⟧.next_gives s xs → Strings (rest_of s) (map item_of xs) }
     ensures once { (b : List ℕ) (xs : List (Result VersionString Refusal)) → Strings b xs ↔ (xs ≡ strings b) }
-    ensures fault { (s t u : ResourceStringIterator) (e : Error) (r : Option (Result ResourceString Error)) →
+    ensures refusal { (s t u : ResourceStringIterator) (e : Error) (r : Option (Result ResourceString Error)) →
         ⟦<ResourceStringIterator<'static> as Iterator>⟧.next_gives s (Some (Err e)) t →
         ⟦<ResourceStringIterator<'static> as Iterator>⟧.next_gives t r u → r ≡ None }
     ensures none { (s t u : ResourceStringIterator) (r : Option (Result ResourceString Error)) →

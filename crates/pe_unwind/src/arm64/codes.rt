@@ -5,7 +5,7 @@
 ghost use Rattle.std.specs.Prelude.{◌≡◌, ◌≢◌, ◌+◌, ◌-◌, ◌*◌, ◌/◌, ◌%◌, ◌^◌, ◌<◌, ◌≤◌, ◌⊎◌, ℕ, [], ◌∷◌, length, IfSome, IfNone, Some};
 ghost use Rattle.std.specs.Iterator.{at_most, UpTo};
 ghost use Rattle.std.specs.Iterator.SizeHint.{IsWithinCount};
-ghost use Rattle.pe_unwind.specs.Arm64Encoding.{encoding, BeginsWithArm64Code, BeginsWithNoArm64Code};
+ghost use Rattle.pe_unwind.specs.Arm64Encoding.{encoding, StartsWithArm64Code, StartsWithNoArm64Code};
 ghost use Rattle.pe_unwind.specs.Arm64CodeLengths.{Encodes, len_at};
 
 use pe_core::{Error, Reason, Result};
@@ -414,10 +414,10 @@ fn code_len(first: u8, second: u8) -> usize
 
 /// The code at the start of the bytes, and its size in bytes. `None` without bytes, and if the code is truncated.
 fn code_at(bytes: &[u8]) -> Option<(Arm64UnwindCode, usize)>
-    ensures some { IfSome result (λ x. BeginsWithArm64Code bytes.now x.0) }
+    ensures some { IfSome result (λ x. StartsWithArm64Code bytes.now x.0) }
     ensures len { IfSome result (λ x. x.1 ≡ length (encoding x.0)) }
     ensures fits { IfSome result (λ x. (0 < x.1) × (x.1 ≤ 5) × (x.1 ≤ length bytes.now)) }
-    ensures none { IfNone result (BeginsWithNoArm64Code bytes.now) }
+    ensures none { IfNone result (StartsWithNoArm64Code bytes.now) }
 {
     if bytes.is_empty() {
         return None;
@@ -442,10 +442,10 @@ impl Arm64UnwindCode {
     /// The code at the start of the bytes, and its size in bytes, from 1 to 5. `None` without bytes, and if the code
     /// is truncated.
     pub fn parse(bytes: &[u8]) -> Option<(Arm64UnwindCode, usize)>
-        ensures some { IfSome result (λ x. BeginsWithArm64Code bytes.now x.0) }
+        ensures some { IfSome result (λ x. StartsWithArm64Code bytes.now x.0) }
         ensures len { IfSome result (λ x. x.1 ≡ length (encoding x.0)) }
         ensures fits { IfSome result (λ x. (0 < x.1) × (x.1 ≤ 5) × (x.1 ≤ length bytes.now)) }
-        ensures none { IfNone result (BeginsWithNoArm64Code bytes.now) }
+        ensures none { IfNone result (StartsWithNoArm64Code bytes.now) }
     {
         code_at(bytes)
     }
@@ -475,13 +475,13 @@ pub struct Arm64UnwindCodeIterator<'a> {
 }
 
 impl<'a> Arm64UnwindCodeIterator<'a> {
-    ghost use Rattle.pe_core.specs.Refusals.{Gives};
-    ghost use Rattle.pe_unwind.specs.Arm64Tiling.{stream_place, stream_at};
+    ghost use Rattle.pe_core.specs.Refusals.{Returns};
+    ghost use Rattle.pe_unwind.specs.Arm64Tiling.{stream_offset, stream_at};
 
     /// The codes of these bytes from an offset on. Errors: `Arm64Stream` if the length of the bytes is not a multiple
     /// of 4, if the offset is past their end, or if there are more than 4,294,967,292 bytes.
     pub fn new(bytes: &'a [u8], start: usize) -> Result<Self>
-        ensures { Gives stream_place result (stream_at bytes.entry.now start) }
+        ensures { Returns stream_offset result (stream_at bytes.entry.now start) }
     {
         if bytes.len() % 4 != 0 || bytes.len() < start || LONGEST_STREAM < bytes.len() {
             return Err(Error::Malformed(Reason::Arm64Stream {
@@ -497,20 +497,20 @@ impl<'a> Arm64UnwindCodeIterator<'a> {
 }
 
 impl<'a> Iterator for Arm64UnwindCodeIterator<'a> {
-    ghost use Rattle.pe_unwind.specs.Arm64Tiling.{stream_place, left_at, GivesArm64Code};
+    ghost use Rattle.pe_unwind.specs.Arm64Tiling.{stream_offset, left_at, ReturnsArm64Code};
 
     type Item = Result<Arm64UnwindCodeData>;
 
-    ghost next_gives = { λ s r t. GivesArm64Code (stream_place s) r (stream_place t) };
+    ghost next_gives = { λ s r t. ReturnsArm64Code (stream_offset s) r (stream_offset t) };
 
-    ghost remaining = { λ s. at_most (left_at (stream_place s)) };
+    ghost remaining = { λ s. at_most (left_at (stream_offset s)) };
 
     /// At least one item for each five bytes that are left, at most one for each byte.
     fn size_hint(&self) -> (usize, Option<usize>)
-        ensures lower { IsWithinCount result.0 (at_most (left_at (stream_place self.now))) }
-        ensures upper { IfSome result.1 (UpTo (at_most (left_at (stream_place self.now)))) }
-        ensures least { result.0 ≡ (left_at (stream_place self.now) + 4) / 5 }
-        ensures most { result.1 ≡ Some (left_at (stream_place self.now)) }
+        ensures lower { IsWithinCount result.0 (at_most (left_at (stream_offset self.now))) }
+        ensures upper { IfSome result.1 (UpTo (at_most (left_at (stream_offset self.now)))) }
+        ensures least { result.0 ≡ (left_at (stream_offset self.now) + 4) / 5 }
+        ensures most { result.1 ≡ Some (left_at (stream_offset self.now)) }
     {
         let left = self.bytes.len().saturating_sub(self.offset);
         (left.div_ceil(5), Some(left))

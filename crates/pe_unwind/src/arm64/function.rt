@@ -8,11 +8,11 @@ ghost use Rattle.std.specs.Iterator.{UpTo, YieldsFirstBy, item_count};
 ghost use Rattle.std.specs.Iterator.SizeHint.{IsWithinCount};
 ghost use Rattle.pe_unwind.specs.FunctionTable.{answer_of};
 ghost use Rattle.pe_unwind.specs.Arm64Words.{bits};
-ghost use Rattle.pe_core.specs.Refusals.{Gives};
+ghost use Rattle.pe_core.specs.Refusals.{Returns};
 ghost use Rattle.pe_unwind.specs.Arm64Functions.{is_packed, arm64_function_of, arm64_function_at, arm64_function_items, items_of_arm64_functions};
 
 use super::words::bits;
-use pe_core::{Error, Reason, Result, number32, split_entry};
+use pe_core::{Error, Reason, Result, read_u32, split_entry};
 
 /// The `flag` of an entry whose unwind data are the RVA of an unwind record.
 pub const ARM64_PDATA_REF_TO_FULL_XDATA: u32 = 0;
@@ -119,13 +119,13 @@ impl Arm64RuntimeFunction {
 }
 
 /// Reads the entry at an offset where one is known to be.
-pub(crate) fn read_arm64_function(bytes: &[u8], place: usize) -> Arm64RuntimeFunction
-    requires { place + 8 ≤ length bytes.now }
-    ensures { result ≡ arm64_function_at bytes.now place }
+pub(crate) fn read_arm64_function(bytes: &[u8], offset: usize) -> Arm64RuntimeFunction
+    requires { offset + 8 ≤ length bytes.now }
+    ensures { result ≡ arm64_function_at bytes.now offset }
 {
     Arm64RuntimeFunction {
-        begin_address: number32(bytes, place),
-        unwind_data: number32(bytes, place + 4),
+        begin_address: read_u32(bytes, offset),
+        unwind_data: read_u32(bytes, offset + 4),
     }
 }
 
@@ -133,7 +133,7 @@ impl Arm64RuntimeFunction {
     /// The entry of a table with this index, which counts entries. Errors: `FunctionIndex` unless the table has more
     /// whole entries than that.
     pub fn of_table(table: &[u8], index: usize) -> Result<Arm64RuntimeFunction>
-        ensures { Gives (λ f. f) result (arm64_function_of table.now index) }
+        ensures { Returns (λ f. f) result (arm64_function_of table.now index) }
     {
         if index < table.len() / SIZE_OF_ARM64_FUNCTION {
             Ok(read_arm64_function(table, SIZE_OF_ARM64_FUNCTION * index))
@@ -165,7 +165,7 @@ impl<'a> Iterator for Arm64RuntimeFunctionIterator<'a> {
 
     ghost remaining = { item_count items_of_arm64_functions };
 
-    #[tactic(auto, using(crate::proofs::Arm64Entries::functions_more, crate::proofs::Arm64Entries::functions_cut, crate::proofs::Arm64Entries::functions_none))]
+    #[tactic(auto, using(crate::proofs::Arm64Entries::functions_more, crate::proofs::Arm64Entries::functions_truncated, crate::proofs::Arm64Entries::functions_none))]
     fn next(&mut self) -> Option<Result<Arm64RuntimeFunction>> {
         match split_entry(&mut self.bytes, SIZE_OF_ARM64_FUNCTION)? {
             Ok(bytes) => Some(Ok(read_arm64_function(bytes, 0))),

@@ -5,15 +5,15 @@
 
 ghost use Rattle.std.specs.Prelude.{◌≡◌, ◌+◌, ◌*◌, ◌≤◌, [], ◌∷◌, length, Result};
 ghost use Rattle.std.specs.Option.{option_map};
-ghost use Rattle.pe_core.specs.Refusals.{Gives, Short, outcome};
+ghost use Rattle.pe_core.specs.Refusals.{Returns, Short, outcome};
 ghost use Rattle.pe_core.specs.Bytes.{holds};
 ghost use Rattle.pe_unwind.specs.Arm64Words.{epilog_scopes_left};
 ghost use Rattle.pe_unwind.specs.Arm64Record.{extension_view, arm64_handler_view, info_view, extension_size, extension_at, scope_count, code_words, handler_size, handler_at, info_at, size_at, scopes_of};
-ghost use Rattle.pe_unwind.specs.Arm64Tiling.{stream_place, stream_at};
+ghost use Rattle.pe_unwind.specs.Arm64Tiling.{stream_offset, stream_at};
 
 use crate::arm64::codes::Arm64UnwindCodeIterator;
 use crate::arm64::words::{Arm64EpilogScopeIterator, Arm64UnwindExtension, Arm64UnwindHeader};
-use pe_core::{Error, Reason, Result, number32, require_bytes, slice_at, u32_at};
+use pe_core::{Error, Reason, Result, read_u32, require_bytes, slice_at, u32_at};
 
 /// The size of a word in bytes.
 const SIZE_OF_WORD: usize = 4;
@@ -41,16 +41,16 @@ pub struct Arm64UnwindInfo<'a> {
 }
 
 /// The extension word after a header, if the header has no counts. Errors: `Short`.
-fn extension_behind(
+fn extension_after(
     bytes: &[u8],
-    place: usize,
+    offset: usize,
     header: Arm64UnwindHeader,
 ) -> Result<Option<Arm64UnwindExtension>>
-    requires { place ≤ length bytes.now }
-    ensures { Gives extension_view result (outcome ((holds bytes.now place (extension_size header.0), Short) ∷ []) (extension_at bytes.now place header.0)) }
+    requires { offset ≤ length bytes.now }
+    ensures { Returns extension_view result (outcome ((holds bytes.now offset (extension_size header.0), Short) ∷ []) (extension_at bytes.now offset header.0)) }
 {
     if header.has_extension() {
-        Ok(Some(Arm64UnwindExtension(u32_at(bytes, place)?)))
+        Ok(Some(Arm64UnwindExtension(u32_at(bytes, offset)?)))
     } else {
         Ok(None)
     }
@@ -82,21 +82,21 @@ fn count_of_code_words(header: Arm64UnwindHeader, extension: Option<Arm64UnwindE
 }
 
 /// The handler after the codes, if the header says that there is one. Errors: `Short`.
-fn handler_behind(
+fn handler_after(
     bytes: &[u8],
-    place: usize,
+    offset: usize,
     header: Arm64UnwindHeader,
 ) -> Result<Option<Arm64ExceptionHandler<'_>>>
-    requires { place ≤ length bytes.now }
-    ensures { Gives (option_map arm64_handler_view) result (outcome ((holds bytes.now place (handler_size header.0), Short) ∷ []) (handler_at bytes.now place header.0)) }
+    requires { offset ≤ length bytes.now }
+    ensures { Returns (option_map arm64_handler_view) result (outcome ((holds bytes.now offset (handler_size header.0), Short) ∷ []) (handler_at bytes.now offset header.0)) }
 {
     if !header.exception_data_present() {
         return Ok(None);
     }
-    require_bytes(bytes, place, SIZE_OF_WORD)?;
+    require_bytes(bytes, offset, SIZE_OF_WORD)?;
     Ok(Some(Arm64ExceptionHandler {
-        rva: number32(bytes, place),
-        bytes: bytes.split_at(place + SIZE_OF_WORD).1,
+        rva: read_u32(bytes, offset),
+        bytes: bytes.split_at(offset + SIZE_OF_WORD).1,
     }))
 }
 
@@ -107,13 +107,13 @@ impl<'a> Arm64UnwindInfo<'a> {
     /// the extension word, the scopes, the codes or the handler's RVA are truncated.
     #[tactic(auto, unfolding(crate::specs::Arm64Record::info_at))]
     pub fn parse(bytes: &'a [u8], offset: usize) -> Result<Arm64UnwindInfo<'a>>
-        ensures { Gives info_view result (info_at bytes.entry.now offset) }
+        ensures { Returns info_view result (info_at bytes.entry.now offset) }
     {
         let header = Arm64UnwindHeader(u32_at(bytes, offset)?);
         if header.version() != 0 {
             return Err(Error::Malformed(Reason::Arm64Version(header.version())));
         }
-        let extension = extension_behind(bytes, offset + SIZE_OF_WORD, header)?;
+        let extension = extension_after(bytes, offset + SIZE_OF_WORD, header)?;
         let scopes = if extension.is_some() {
             offset + 2 * SIZE_OF_WORD
         } else {
@@ -130,7 +130,7 @@ impl<'a> Arm64UnwindInfo<'a> {
             codes,
             SIZE_OF_WORD * count_of_code_words(header, extension),
         )?;
-        let exception_handler = handler_behind(bytes, codes + code_bytes.len(), header)?;
+        let exception_handler = handler_after(bytes, codes + code_bytes.len(), header)?;
         Ok(Arm64UnwindInfo {
             header,
             extension,
@@ -145,10 +145,10 @@ impl<'a> Arm64UnwindInfo<'a> {
     /// `Short` if one of these words is truncated.
     #[tactic(auto, unfolding(crate::specs::Arm64Record::size_at))]
     pub fn size(bytes: &[u8]) -> Result<usize>
-        ensures { Gives (λ n. n) result (size_at bytes.now) }
+        ensures { Returns (λ n. n) result (size_at bytes.now) }
     {
         let header = Arm64UnwindHeader(u32_at(bytes, 0)?);
-        let extension = extension_behind(bytes, SIZE_OF_WORD, header)?;
+        let extension = extension_after(bytes, SIZE_OF_WORD, header)?;
         let mut words = 1
             + count_of_scopes(header, extension)
             + count_of_code_words(header, extension);
@@ -188,7 +188,7 @@ impl<'a> Arm64UnwindInfo<'a> {
     /// The unwind codes from an index on, in bytes from the first code: 0 for the prolog, or the `start_index` of an
     /// epilog scope. Errors: `Arm64Stream` if the index is past the end of the codes.
     pub fn unwind_codes(&self, start_index: u16) -> Result<Arm64UnwindCodeIterator<'a>>
-        ensures { Gives stream_place result (stream_at (info_view self.now).codes start_index) }
+        ensures { Returns stream_offset result (stream_at (info_view self.now).codes start_index) }
     {
         Arm64UnwindCodeIterator::new(self.code_bytes, usize::from(start_index))
     }

@@ -8,7 +8,7 @@ ghost use Rattle.std.specs.Iterator.SizeHint.{IsWithinCount};
 ghost use Rattle.pe_unwind.specs.Arm64Words.{bits, has_handler, has_epilog, has_extension, epilog_scope_items, epilog_scopes_left};
 ghost use Rattle.pe_unwind.specs.FunctionTable.{answer_of};
 
-use pe_core::{Result, number32, split_entry};
+use pe_core::{Result, read_u32, split_entry};
 
 /// The size of an epilog scope in bytes.
 const SIZE_OF_EPILOG_SCOPE: usize = 4;
@@ -149,10 +149,10 @@ impl<'a> Iterator for Arm64EpilogScopeIterator<'a> {
 
     ghost remaining = { item_count epilog_scopes_left };
 
-    #[tactic(auto, using(crate::proofs::EpilogScopes::epilog_scopes_more, crate::proofs::EpilogScopes::epilog_scopes_cut, crate::proofs::EpilogScopes::epilog_scopes_none))]
+    #[tactic(auto, using(crate::proofs::EpilogScopes::epilog_scopes_more, crate::proofs::EpilogScopes::epilog_scopes_truncated, crate::proofs::EpilogScopes::epilog_scopes_none))]
     fn next(&mut self) -> Option<Result<Arm64EpilogScope>> {
         match split_entry(&mut self.bytes, SIZE_OF_EPILOG_SCOPE)? {
-            Ok(bytes) => Some(Ok(Arm64EpilogScope(number32(bytes, 0)))),
+            Ok(bytes) => Some(Ok(Arm64EpilogScope(read_u32(bytes, 0)))),
             Err(error) => Some(Err(error)),
         }
     }

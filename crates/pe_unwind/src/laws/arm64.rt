@@ -7,11 +7,11 @@ ghost use Rattle.pe_core.specs.declared.error.Error.{Error};
 ghost use Rattle.pe_unwind.specs.declared.arm64.codes.Arm64UnwindCode.{Arm64UnwindCode};
 ghost use Rattle.pe_unwind.specs.declared.arm64.codes.Arm64UnwindCodeData.{Arm64UnwindCodeData};
 ghost use Rattle.pe_unwind.specs.declared.arm64.codes.Arm64UnwindCodeIterator.{Arm64UnwindCodeIterator};
-ghost use Rattle.pe_unwind.specs.Arm64Encoding.{encoding, Legal, BeginsWithArm64Code, BeginsWithNoArm64Code, IsCutArm64Code};
-ghost use Rattle.pe_unwind.specs.Arm64Tiling.{Tiles, Joins, stream_place};
+ghost use Rattle.pe_unwind.specs.Arm64Encoding.{encoding, Legal, StartsWithArm64Code, StartsWithNoArm64Code, IsTruncatedArm64Code};
+ghost use Rattle.pe_unwind.specs.Arm64Tiling.{Tiles, Joins, stream_offset};
 ghost use Rattle.pe_unwind.specs.Arm64Record.{Arm64InfoView, AreRecord, HasWords, info_at, record_size, size_at};
 ghost use Rattle.pe_unwind.specs.FunctionTable.{answer_of};
-ghost use Rattle.pe_unwind.specs.Places.{Arm64PartsStand};
+ghost use Rattle.pe_unwind.specs.Offsets.{Arm64PartsStand};
 
 use crate::arm64::codes::Arm64UnwindCodeIterator;
 use crate::arm64::function::{
@@ -26,9 +26,9 @@ pub fn arm64_codes_and_bytes()
     ensures equal { (c d : Arm64UnwindCode) → Legal c → Legal d → ((c ≡ d) ↔ (encoding c ≡ encoding d)) }
     ensures sizes { (c : Arm64UnwindCode) → Legal c → (1 ≤ length (encoding c)) × (length (encoding c) ≤ 5) }
     ensures bytes { (c : Arm64UnwindCode) → Legal c → All (λ x. x < 256) (encoding c) }
-    ensures one { (b : List ℕ) (c d : Arm64UnwindCode) → BeginsWithArm64Code b c → BeginsWithArm64Code b d → c ≡ d }
-    ensures cut { (b : List ℕ) → IsCutArm64Code b → BeginsWithNoArm64Code b }
-    ensures every { (b : List ℕ) → 0 < length b → All (λ x. x < 256) b → ((c : Arm64UnwindCode) × BeginsWithArm64Code b c) ⊎ IsCutArm64Code b }
+    ensures one { (b : List ℕ) (c d : Arm64UnwindCode) → StartsWithArm64Code b c → StartsWithArm64Code b d → c ≡ d }
+    ensures cut { (b : List ℕ) → IsTruncatedArm64Code b → StartsWithNoArm64Code b }
+    ensures every { (b : List ℕ) → 0 < length b → All (λ x. x < 256) b → ((c : Arm64UnwindCode) × StartsWithArm64Code b c) ⊎ IsTruncatedArm64Code b }
 {}
 
 /// The items that an iterator of ARM64 codes returns tile its stream from the iterator's offset on. Every byte string
@@ -37,7 +37,7 @@ pub fn arm64_codes_and_bytes()
 /// stands for it. There is at least one item for each five bytes, and at most one for each byte.
 pub fn one_tiling_of_arm64_codes()
     ensures whole { (s : Arm64UnwindCodeIterator) (xs : List (Result Arm64UnwindCodeData Error)) →
-        Drains ⟦<Arm64UnwindCodeIterator<'static> as Iterator>⟧.next_gives s xs → Tiles (stream_place s).content (stream_place s).at xs }
+        Drains ⟦<Arm64UnwindCodeIterator<'static> as Iterator>⟧.next_gives s xs → Tiles (stream_offset s).content (stream_offset s).at xs }
     ensures exists { (b : List ℕ) (at : ℕ) → All (λ x. x < 256) b → (xs : List (Result Arm64UnwindCodeData Error)) × Tiles b at xs }
     ensures tiling { (b : List ℕ) (at : ℕ) (xs ys : List (Result Arm64UnwindCodeData Error)) → Tiles b at xs → Tiles b at ys → map answer_of xs ≡ map answer_of ys }
     ensures joined { (b : List ℕ) (at : ℕ) (xs : List (Result Arm64UnwindCodeData Error)) → Tiles b at xs → Joins (drop at b) xs }

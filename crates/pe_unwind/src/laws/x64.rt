@@ -20,8 +20,8 @@ ghost use Rattle.pe_unwind.specs.CodeStream.{CodeStream, AreItems, stream_of};
 ghost use Rattle.pe_unwind.specs.ExceptionTable.{ExceptionView, exception_at};
 ghost use Rattle.pe_unwind.specs.FunctionTable.{NeverFalls, NoEndPassesNext, Covers, Finds, answer_of, functions};
 ghost use Rattle.pe_unwind.specs.Links.{Table, Follows, IsEndless};
-ghost use Rattle.pe_unwind.specs.Places.{UnwindPartsStand};
-ghost use Rattle.pe_unwind.specs.UnwindCodes.{BeginsWithCode};
+ghost use Rattle.pe_unwind.specs.Offsets.{UnwindPartsStand};
+ghost use Rattle.pe_unwind.specs.UnwindCodes.{StartsWithCode};
 ghost use Rattle.pe_unwind.specs.UnwindRecord.{UnwindInfoView, unwind_tests, unwind_record};
 ghost use Rattle.pe_unwind.specs.Unwinding.{Unwinds};
 
@@ -58,7 +58,7 @@ pub fn equal_scopes_hash_alike()
 pub fn one_stream_of_codes()
     ensures whole { (s : UnwindCodeIterator) (xs : List (Result UnwindCode Error)) →
         Drains ⟦<UnwindCodeIterator<'static> as Iterator>⟧.next_gives s xs → AreItems (stream_of s) xs }
-    ensures code { (v f : ℕ) (b : List ℕ) (c d : UnwindCode) (m n : ℕ) → BeginsWithCode v f b c m → BeginsWithCode v f b d n → (c ≡ d) × (m ≡ n) }
+    ensures code { (v f : ℕ) (b : List ℕ) (c d : UnwindCode) (m n : ℕ) → StartsWithCode v f b c m → StartsWithCode v f b d n → (c ≡ d) × (m ≡ n) }
     ensures exists { (s : CodeStream) → (xs : List (Result UnwindCode Error)) × AreItems s xs }
     ensures items { (s : CodeStream) (xs ys : List (Result UnwindCode Error)) → AreItems s xs → AreItems s ys → map answer_of xs ≡ map answer_of ys }
 {}

@@ -3,4 +3,4 @@ use Rattle.pe_unwind.proofs.Arm64Records.{parts_stand}
 use Rattle.pe_c.proofs.arm64.info_at.Goals as goal
 
 pub flat_info-requires : goal.flat_info-requires
-flat_info-requires c = parts_stand c.args.bytes.now c.args.place (info_view c.in_ok-info.info) c.in_ok-info.ensures
+flat_info-requires c = parts_stand c.args.bytes.now c.args.offset (info_view c.in_ok-info.info) c.in_ok-info.ensures

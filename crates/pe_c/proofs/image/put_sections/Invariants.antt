@@ -6,7 +6,7 @@ use Rattle.pe_c.proofs.image.put_sections.Given as goal
 -- the first i sections are read, and behind them is what was there
 abbrev pub invariant-loop-i : goal.invariant-loop-i
 invariant-loop-i l = record {
-  read : take l.i l.room ≡ rows (section_table l.bytes) 40 l.place l.i;
+  read : take l.i l.room ≡ rows (section_table l.bytes) 40 l.offset l.i;
   kept : drop l.i l.room ≡ drop l.i l.initial.room;
   same : length l.room ≡ length l.initial.room;
 }

@@ -1,4 +1,4 @@
-use Rattle.pe_c.proofs.FunctionPlans.{records_are_told, refusals_are_of_plans, plans_end_so, tables_are_refused}
+use Rattle.pe_c.proofs.FunctionPlans.{records_are_reported, refusals_are_of_plans, plans_end_so, tables_are_refused}
 use Rattle.pe_plan.proofs.RecordLaw.{RecordLaw}
 use Rattle.pe_c.proofs.laws.plans_are_those_of_functions.Goals as goal
 
@@ -10,7 +10,7 @@ returns-clause-records c =
       cycle = c.one_record_of_addresses.ensures.cycle;
       no_memory = c.one_record_of_addresses.ensures.no_memory;
     } in
-    records_are_told law
+    records_are_reported law
 
 pub returns-clause-refused : goal.returns-clause-refused
 returns-clause-refused c =

@@ -4,7 +4,7 @@ use Rattle.pe_unwind.specs.declared.unwind_code.UnwindCode.{UnwindCode}
 use Rattle.pe_unwind.specs.CodeStream.{AreItems, stream_of}
 use Rattle.pe_unwind.specs.UnwindRecord.{code_stream, unwind_view}
 use Rattle.pe_frame.specs.Survey.{nothing_known}
-use Rattle.pe_frame.specs.Steps.{codes_of}
+use Rattle.pe_frame.specs.Steps.{known_codes}
 use Rattle.pe_frame.proofs.Streams.{all_surveyed}
 use Rattle.pe_frame.proofs.record.survey_codes.Given as goal
 
@@ -13,4 +13,4 @@ abbrev pub invariant-loop-item : goal.invariant-loop-item
 invariant-loop-item l =
     (rest : List (Result UnwindCode Error)) → AreItems (stream_of l.item-iterator) rest →
     (all : List (Result UnwindCode Error)) × AreItems (code_stream (unwind_view l.info)) all
-    × (all_surveyed l.limit nothing_known (codes_of all) ≡ all_surveyed l.limit l.survey (codes_of rest))
+    × (all_surveyed l.limit nothing_known (known_codes all) ≡ all_surveyed l.limit l.survey (known_codes rest))

@@ -3,13 +3,13 @@ use Rattle.std.proofs.lemmas.Result.{err_from_is_err_and}
 use Rattle.pe_core.specs.Refusals.{kind_of}
 use Rattle.pe_resource.specs.Contents.{content_of}
 use Rattle.pe_resource.specs.ResourceEntries.{entries_left}
-use Rattle.pe_resource.proofs.Contents.{content_given, content_fault}
+use Rattle.pe_resource.proofs.Contents.{content_given, content_refusal}
 use Rattle.pe_resource.proofs.content.content.Goals as goal
 
 pub returns-in_err-content_range : goal.returns-in_err-content_range
 returns-in_err-content_range c =
     let p = err_from_is_err_and c.from_residual.result c.from_residual.ensures.1 in
-    rw (p.1, p.2) (content_fault _ _ _ (entries_left c.args.it) c.args.id (kind_of c.in_err-content_range.field-0.0) c.in_err-content_range.ensures.range)
+    rw (p.1, p.2) (content_refusal _ _ _ (entries_left c.args.it) c.args.id (kind_of c.in_err-content_range.field-0.0) c.in_err-content_range.ensures.range)
 
 pub returns-in-None : goal.returns-in-None
 returns-in-None c =

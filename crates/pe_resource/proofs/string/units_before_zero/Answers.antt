@@ -8,5 +8,5 @@ returns-then-unit-eq0 g c = stops_here _ c.loop-rest.rest.now _ c.loop-rest.inva
 
 pub loop-rest-preserved : goal.loop-rest-preserved
 loop-rest-preserved g c =
-    goes_on _ _ c.loop-rest.rest.now _ _ c.number16-unit.result c.loop-rest.invariant (omega arith) c.number16-unit.ensures c.if-unit-eq0.false
-    (pushed (c.number16-unit.result ∷ []) refl c.in_ok-push.was c.push.ensures.items) c.split_at.ensures.back
+    goes_on _ _ c.loop-rest.rest.now _ _ c.read_u16-unit.result c.loop-rest.invariant (omega arith) c.read_u16-unit.ensures c.if-unit-eq0.false
+    (pushed (c.read_u16-unit.result ∷ []) refl c.in_ok-push.was c.push.ensures.items) c.split_at.ensures.back

@@ -5,10 +5,10 @@ use Rattle.peinfo.proofs.input.read_all.Goals as goal
 
 pub loop-preserved : goal.loop-preserved
 loop-preserved g c =
-    let front = c.read_behind.ensures.front ∙ ap (take c.loop.filled) c.deref_mut.ensures.value ∙ c.make_room.ensures.front in
+    let front = c.read_after.ensures.front ∙ ap (take c.loop.filled) c.deref_mut.ensures.value ∙ c.make_room.ensures.front in
     record {
-      part = rw (with_items_is c.make_room.new.bytes c.read_behind.new.bytes (search (rules, places)))
-          (goes_on _ _ _ c.loop.bytes.items c.read_behind.new.bytes c.loop.filled c.in-Ok.count c.loop.invariant.part front c.in-Ok.ensures.ok c.in-Ok.ensures.fits);
+      part = rw (with_items_is c.make_room.new.bytes c.read_after.new.bytes (search (rules, places)))
+          (goes_on _ _ _ c.loop.bytes.items c.read_after.new.bytes c.loop.filled c.in-Ok.count c.loop.invariant.part front c.in-Ok.ensures.ok c.in-Ok.ensures.fits);
       counted = omega arith;
     }
 

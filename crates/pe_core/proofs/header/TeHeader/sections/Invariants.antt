@@ -1,7 +1,7 @@
 use Rattle.std.proofs.Common.{◌≡◌}
 use Rattle.pe_core.specs.Records.{section_table}
 use Rattle.pe_core.specs.Rows.{rows}
-use Rattle.pe_core.specs.TerseHeader.{reduced_section}
+use Rattle.pe_core.specs.TeImages.{reduced_section}
 use Rattle.pe_core.proofs.header.TeHeader.sections.Given as goal
 
 abbrev pub invariant-loop-row : goal.invariant-loop-row

@@ -13,7 +13,7 @@ pub set-requires-clause-fit : goal.set-requires-clause-fit
 set-requires-clause-fit g c =
     sections_fit_too (length c.args.buffer.now) (length c.set_headers.new.buffer) (source_of c.args.self.now) (header_view c.args.self.now.header) (optional_header_view c.args.optional.now) c.args.self.now.sections.items (map certificate_view c.args.self.now.certificates.items) _ _ _ _
     (omega (arith, c.set_headers.auto.buffer))
-    (record { source_is = c.section_writer.ensures.source; unit_is = c.section_writer.ensures.unit; place_is = c.sections_place.ensures; sections_are = c.section_writer.ensures.sections })
+    (record { source_is = c.section_writer.ensures.source; unit_is = c.section_writer.ensures.unit; offset_is = c.sections_offset.ensures; sections_are = c.section_writer.ensures.sections })
     c.requires.fit
 
 pub set_table-requires : goal.set_table-requires
@@ -27,7 +27,7 @@ set_table-requires g c =
 pub returns : goal.returns
 returns g c =
     put_image c.args.buffer.now _ _ _ (source_of c.args.self.now) (header_view c.args.self.now.header) (optional_header_view c.args.optional.now) c.args.self.now.sections.items (map certificate_view c.args.self.now.certificates.items) _ _ _ _ _ _
-    (record { source_is = c.section_writer.ensures.source; unit_is = c.section_writer.ensures.unit; place_is = c.sections_place.ensures; sections_are = c.section_writer.ensures.sections })
+    (record { source_is = c.section_writer.ensures.source; unit_is = c.section_writer.ensures.unit; offset_is = c.sections_offset.ensures; sections_are = c.section_writer.ensures.sections })
     c.get_certificate_table-directory.ensures
     (ap (map certificate_view) c.deref.ensures.value)
     c.set_headers.ensures

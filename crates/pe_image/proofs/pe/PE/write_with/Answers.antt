@@ -22,7 +22,7 @@ returns-in_err-end g c =
     let pieces : List Piece = image_pieces b h o sections cs in
     let tests : List (Bool × Refusal) = image_tests b h o sections (length old) pieces in
     let p = err_from_is_err_and c.from_residual.result c.from_residual.ensures.1 in
-    rw (p.1, p.2) (refused_too {Y = ℕ × List ℕ} tests (image_end h o sections cs) (image_end h o sections cs, overlay old pieces) (kind_of c.in_err-end.field-0.0) c.in_err-end.ensures.answer, refl)
+    rw (p.1, p.2) (refused_too {Y = ℕ × List ℕ} tests (image_end h o sections cs) (image_end h o sections cs, overlay old pieces) (kind_of c.in_err-end.field-0.0) c.in_err-end.ensures.returned, refl)
 
 pub returns : goal.returns
 returns g c =
@@ -34,4 +34,4 @@ returns g c =
     let cs : List CertificateView = map certificate_view c.args.self.now.certificates.items in
     let pieces : List Piece = image_pieces b h o sections cs in
     let tests : List (Bool × Refusal) = image_tests b h o sections (length old) pieces in
-    written_too tests (image_end h o sections cs) _ (overlay old pieces) _ c.in_ok-end.ensures.answer (c.set_pieces.ensures ∙ overlay_in_turn pieces old c.in_ok-end.ensures.fit)
+    written_too tests (image_end h o sections cs) _ (overlay old pieces) _ c.in_ok-end.ensures.returned (c.set_pieces.ensures ∙ overlay_in_turn pieces old c.in_ok-end.ensures.fit)

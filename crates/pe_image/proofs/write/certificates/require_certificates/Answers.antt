@@ -10,11 +10,11 @@ use Rattle.pe_image.proofs.write.certificates.require_certificates.Goals as goal
 abbrev none : AttributeCertificate
 none = record { length = 0; revision = Revision1_0; certificate_type = X509; certificate = record { ref_ptr = (0, 0); now = [] } }
 
-pub returns-in_err-place : goal.returns-in_err-place
-returns-in_err-place c =
+pub returns-in_err-offset : goal.returns-in_err-offset
+returns-in_err-offset c =
     let p = err_from_is_err_and c.from_residual.result c.from_residual.ensures.1 in
-    rw (p.1, p.2) (certificate_refused c.args.buffer.now c.args.start c.args.certificates.now c.loop-i.place c.loop-i.i _ none (kind_of c.in_err-place.field-0.0) (omega arith) c.loop-i.invariant c.in_err-place.ensures)
+    rw (p.1, p.2) (certificate_refused c.args.buffer.now c.args.start c.args.certificates.now c.loop-i.offset c.loop-i.i _ none (kind_of c.in_err-offset.field-0.0) (omega arith) c.loop-i.invariant c.in_err-offset.ensures)
 
 pub loop-i-preserved : goal.loop-i-preserved
 loop-i-preserved c =
-    certificate_left c.args.buffer.now c.args.start c.args.certificates.now c.loop-i.place c.in_ok-place.place c.loop-i.i none (omega arith) c.loop-i.invariant c.in_ok-place.ensures
+    certificate_left c.args.buffer.now c.args.start c.args.certificates.now c.loop-i.offset c.in_ok-offset.offset c.loop-i.i none (omega arith) c.loop-i.invariant c.in_ok-offset.ensures

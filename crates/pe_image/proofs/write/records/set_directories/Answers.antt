@@ -7,7 +7,7 @@ abbrev none : DataDirectory
 none = record { virtual_address = 0; size = 0 }
 
 pub loop-i-init : goal.loop-i-init
-loop-i-init c = rows_first c.args.buffer.now c.args.place c.args.rows.now (omega arith)
+loop-i-init c = rows_first c.args.buffer.now c.args.offset c.args.rows.now (omega arith)
 
 pub loop-i-preserved : goal.loop-i-preserved
 loop-i-preserved c =

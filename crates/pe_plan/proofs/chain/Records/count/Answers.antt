@@ -2,7 +2,7 @@ use Rattle.std.proofs.Common.{arith, sym, ◌∙◌}
 use Rattle.std.proofs.lemmas.Result.{err_from_is_err_and}
 use Rattle.pe_core.specs.Refusals.{kind_of}
 use Rattle.pe_unwind.specs.UnwindRecord.{unwind_view}
-use Rattle.pe_plan.proofs.Marks.{comes_again, comes_to_fault}
+use Rattle.pe_plan.proofs.Marks.{comes_again, comes_to_refusal}
 use Rattle.pe_plan.proofs.RecordLaw.{RecordLaw}
 use Rattle.pe_plan.proofs.Walks.{IsChained, count_starts, counted_to_root, keeps_saved, moves_saved, too_many}
 use Rattle.pe_plan.proofs.chain.Records.count.Goals.{then-chained-power, else-chained-power}
@@ -20,7 +20,7 @@ returns-in_err-next c =
       no_memory = c.one_record_of_addresses.ensures.no_memory;
     } in
     let p = err_from_is_err_and c.from_residual.result c.from_residual.ensures.1 in
-    rw (p.1, p.2) (comes_to_fault law _ _ _ _ _ (kind_of c.in_err-next.field-0.0) _ c.loop-chained.invariant.way c.in_err-next.ensures)
+    rw (p.1, p.2) (comes_to_refusal law _ _ _ _ _ (kind_of c.in_err-next.field-0.0) _ c.loop-chained.invariant.way c.in_err-next.ensures)
 
 pub returns-in_default : goal.returns-in_default
 returns-in_default c = counted_to_root _ _ _ _ _ _ (unwind_view c.in_ok-next.field-0) c.loop-chained.invariant c.in_ok-next.ensures c.in_default.is

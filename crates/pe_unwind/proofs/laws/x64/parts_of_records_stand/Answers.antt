@@ -1,4 +1,4 @@
-use Rattle.pe_unwind.proofs.Places.{parts_stand}
+use Rattle.pe_unwind.proofs.Offsets.{parts_stand}
 use Rattle.pe_unwind.proofs.laws.x64.parts_of_records_stand.Goals as goal
 
 pub returns : goal.returns

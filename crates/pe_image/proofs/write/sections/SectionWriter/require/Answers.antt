@@ -4,4 +4,4 @@ use Rattle.pe_image.proofs.write.sections.SectionWriter.require.Goals as goal
 
 pub returns : goal.returns
 returns c =
-    sections_accepted (length c.args.buffer.now) c.args.self.now.source.now c.args.self.now.unit c.args.start c.args.self.now.sections.now c.loop-i.place c.loop-i.i (omega arith) c.loop-i.invariant
+    sections_accepted (length c.args.buffer.now) c.args.self.now.source.now c.args.self.now.unit c.args.start c.args.self.now.sections.now c.loop-i.offset c.loop-i.i (omega arith) c.loop-i.invariant

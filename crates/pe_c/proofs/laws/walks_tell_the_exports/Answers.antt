@@ -1,5 +1,0 @@
-use Rattle.pe_c.proofs.ExportParts.{tables_stand}
-use Rattle.pe_c.proofs.laws.walks_tell_the_exports.Goals as goal
-
-pub returns-clause-tables : goal.returns-clause-tables
-returns-clause-tables c = tables_stand

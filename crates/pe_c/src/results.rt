@@ -1,0 +1,111 @@
+//! The results of calls as numbers: 0, the number of an error of pe_core, or 100 and 101. Callers may store them: the
+//! numbers stay the same from version to version.
+
+ghost use Rattle.std.specs.Prelude.{◌≡◌};
+ghost use Rattle.pe_core.specs.Refusals.{kind_of, kind_of_reason, answer_by};
+ghost use Rattle.pe_c.specs.HandsOut.{result_number, HandsOut, HandsOutIf};
+ghost use Rattle.pe_c.specs.Modes.{options_of};
+
+use pe_core::{Error, ParseMode, ParseOptions, Reason, Result};
+
+/// The call succeeded.
+pub const DONE: u32 = 0;
+
+/// There is nothing of the kind that was asked for, or a walk is over. It is no error.
+pub const NOTHING: u32 = 100;
+
+/// The array that the caller passes is too small.
+pub const ROOM: u32 = 101;
+
+/// The number of a reason. `tools/make_errors` writes the arms.
+fn number_of_reason(reason: Reason) -> u32
+    ensures { result ≡ result_number (kind_of_reason reason) }
+{
+    match reason {
+        Reason::HeaderPointer(_) => 4,
+        Reason::ImportName(_) => 5,
+        Reason::StringTable(_) => 6,
+        Reason::CertificateRevision(_) => 7,
+        Reason::CertificateType(_) => 8,
+        Reason::CertificateSize(_) => 9,
+        Reason::CertificateTable(_) => 10,
+        Reason::Unmapped(_) => 11,
+        Reason::DebugBounds(_) => 12,
+        Reason::DebugSize(_) => 13,
+        Reason::DebugData(_) => 14,
+        Reason::PogoSize(_) => 15,
+        Reason::PogoName { .. } => 16,
+        Reason::ExceptionSize(_) => 17,
+        Reason::ExceptionOffset(_) => 18,
+        Reason::ExceptionBounds(_) => 19,
+        Reason::FunctionIndex(_) => 20,
+        Reason::FunctionLink(_) => 21,
+        Reason::FunctionCycle(_) => 22,
+        Reason::UnwindVersion(_) => 23,
+        Reason::UnwindCode(_) => 24,
+        Reason::Arm64Version(_) => 25,
+        Reason::Arm64Stream { .. } => 26,
+        Reason::Arm64Cut(_) => 27,
+        Reason::ResourceBounds(_) => 28,
+        Reason::ResourceCycle(_) => 29,
+        Reason::ResourceString(_) => 30,
+        Reason::TeSize(_) => 31,
+        Reason::NoOptionalHeader => 32,
+        Reason::WriteAlignment(_) => 33,
+        Reason::WriteSymbols(_) => 34,
+        Reason::WriteOverlap(..) => 35,
+        Reason::WriteSection(_) => 36,
+        Reason::WriteFit { .. } => 37,
+    }
+}
+
+/// The number of an error. It stays the same from version to version.
+pub fn number_of(error: &Error) -> u32
+    ensures { result ≡ result_number (kind_of error.now) }
+{
+    match error {
+        Error::Memory(_) => 1,
+        Error::Short { .. } => 2,
+        Error::BadMagic(_) => 3,
+        Error::Malformed(reason) => number_of_reason(*reason),
+    }
+}
+
+/// The options of a mode: 0 is strict, any other number permissive.
+pub fn options(mode: u32) -> ParseOptions
+    ensures { result ≡ options_of mode }
+{
+    let parse_mode = if mode == 0 {
+        ParseMode::Strict
+    } else {
+        ParseMode::Permissive
+    };
+    ParseOptions::default().with_parse_mode(parse_mode)
+}
+
+/// Writes a value to `out` and returns `DONE`, or returns the number of an error and leaves `out` unchanged.
+pub fn hand_out<T: Copy>(given: Result<T>, out: &mut T) -> u32
+    ensures { HandsOut result out.old out.new (answer_by (λ x. x) given) }
+{
+    match given {
+        Ok(value) => {
+            *out = value;
+            DONE
+        }
+        Err(error) => number_of(&error),
+    }
+}
+
+/// The same of a value that may be absent: then returns `NOTHING` and leaves `out` unchanged.
+pub fn hand_out_some<T: Copy>(given: Result<Option<T>>, out: &mut T) -> u32
+    ensures { HandsOutIf result out.old out.new (answer_by (λ x. x) given) }
+{
+    match given {
+        Ok(Some(value)) => {
+            *out = value;
+            DONE
+        }
+        Ok(None) => NOTHING,
+        Err(error) => number_of(&error),
+    }
+}

@@ -1,9 +1,0 @@
-use Rattle.std.proofs.Common.{◌≡◌, ◌+◌, ◌*◌}
-use Rattle.pe_core.specs.Records.{import_entry}
-use Rattle.pe_core.specs.Rows.{each}
-use Rattle.pe_core.specs.SectionIndex.{offset_or_end}
-use Rattle.pe_core.specs.SectionMap.{offset_in}
-use Rattle.pe_core.proofs.import.name_places.Given as goal
-
-abbrev pub invariant-loop-i : goal.invariant-loop-i
-invariant-loop-i g l = l.places.items ≡ each (λ i. offset_or_end (offset_in l.sections (import_entry l.bytes (l.place + 20 * i)).name_rva)) l.i

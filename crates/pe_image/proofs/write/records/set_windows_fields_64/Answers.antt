@@ -1,0 +1,10 @@
+use Rattle.std.proofs.Common.{arith}
+use Rattle.pe_core.specs.Spelling.{spell_windows_fields_64}
+use Rattle.pe_image.proofs.Laid.{number_first, then_number}
+use Rattle.pe_image.proofs.write.records.set_windows_fields_64.Goals as goal
+
+pub returns : goal.returns
+unfolding spell_windows_fields_64
+returns c =
+    let laid = (then_number _ _ (then_number _ _ (then_number _ _ (then_number _ _ (then_number _ _ (then_number _ _ (then_number _ _ (then_number _ _ (then_number _ _ (then_number _ _ (then_number _ _ (then_number _ _ (then_number _ _ (then_number _ _ (then_number _ _ (then_number _ _ (then_number _ _ (then_number _ _ (then_number _ _ (then_number _ _ (number_first _ _ (omega arith) c.set_u64.ensures) c.set_u32.ensures) c.set_u32-2.ensures) c.set_u16.ensures) c.set_u16-2.ensures) c.set_u16-3.ensures) c.set_u16-4.ensures) c.set_u16-5.ensures) c.set_u16-6.ensures) c.set_u32-3.ensures) c.set_u32-4.ensures) c.set_u32-5.ensures) c.set_u32-6.ensures) c.set_u16-7.ensures) c.set_u16-8.ensures) c.set_u64-2.ensures) c.set_u64-3.ensures) c.set_u64-4.ensures) c.set_u64-5.ensures) c.set_u32-7.ensures) c.set_u32-8.ensures) in
+    laid.same

@@ -1,0 +1,95 @@
+-- The slices that are left of a file without its three parts.
+use Rattle.std.proofs.Common.{◌≡◌, ℕ, ◌+◌, ◌||◌, Bool, true, false, List, [], ◌∷◌, ◌++◌, length, refl, ap, sym, ◌∙◌, arith}
+use Rattle.std.specs.Borrow.{Bor}
+use Rattle.std.proofs.lemmas.List.{append-nil, append_assoc, length-append}
+use Rattle.pe_core.specs.declared.byte_range.ByteRange.{ByteRange}
+use Rattle.pe_sign.specs.declared.digest.LeftOut.{LeftOut}
+use Rattle.pe_sign.specs.declared.digest.Part.{Part}
+use Rattle.pe_sign.specs.Digest.{Covered, covered, is_in, is_left_out, kept_bytes, digested, zeros_after, joined_slices, Throughout, IsCut}
+use Rattle.pe_sign.proofs.Parts.{kept_append, kept_all, kept_none}
+
+-- the length of a part that is cut
+pub length_cut : (r : ByteRange) (w x y : Part) (cut : IsCut r w x y) → length w.bytes.now ≡ length x.bytes.now + (length cut.between + length y.bytes.now)
+length_cut r w x y cut =
+    ap (λ (l : List ℕ). length l) cut.joined ∙ length-append x.bytes.now (cut.between ++ y.bytes.now) ∙ ap (λ (n : ℕ). length x.bytes.now + n) (length-append cut.between y.bytes.now)
+
+-- what is kept of a part is what is kept of both sides of a range that is left out
+pub cut_kept : (q : ℕ → Bool) (r : ByteRange) (w x y : Part) → IsCut r w x y → ((k : ℕ) → is_in r k ≡ true → q k ≡ true) → kept_bytes q w.offset w.bytes.now ≡ kept_bytes q x.offset x.bytes.now ++ kept_bytes q y.offset y.bytes.now
+cut_kept q r w x y cut inside =
+    let xs : List ℕ = x.bytes.now in
+    let ms : List ℕ = cut.between in
+    let ys : List ℕ = y.bytes.now in
+    let none : kept_bytes q (w.offset + length xs) ms ≡ [] = kept_none q (w.offset + length xs) ms (λ k from to. inside k (cut.is_between k from to)) in
+    ap (λ (l : List ℕ). kept_bytes q w.offset l) cut.joined
+    ∙ kept_append q w.offset xs (ms ++ ys)
+    ∙ ap (λ (l : List ℕ). kept_bytes q w.offset xs ++ l) (kept_append q (w.offset + length xs) ms ys ∙ ap (λ (l : List ℕ). l ++ kept_bytes q (w.offset + length xs + length ms) ys) none)
+    ∙ ap (λ (k : ℕ). kept_bytes q k xs ++ kept_bytes q (w.offset + length xs + length ms) ys) (sym cut.start)
+    ∙ ap (λ (k : ℕ). kept_bytes q x.offset xs ++ kept_bytes q k ys) (sym cut.end)
+
+-- what holds throughout a part holds throughout both sides
+pub throughout_before : (q : ℕ → Bool) (v : Bool) (r : ByteRange) (w x y : Part) → IsCut r w x y → Throughout q v w.offset w.bytes.now → Throughout q v x.offset x.bytes.now
+throughout_before q v r w x y cut all k from to = all k (omega (arith, cut.start)) (omega (arith, cut.start, length_cut r w x y cut))
+
+pub throughout_after : (q : ℕ → Bool) (v : Bool) (r : ByteRange) (w x y : Part) → IsCut r w x y → Throughout q v w.offset w.bytes.now → Throughout q v y.offset y.bytes.now
+throughout_after q v r w x y cut all k from to = all k (omega (arith, cut.end)) (omega (arith, cut.end, length_cut r w x y cut))
+
+-- what is in none of the three is kept whole
+none_of_three : (l : LeftOut) (p : ℕ) (xs : List ℕ) → Throughout (is_in l.checksum) false p xs → Throughout (is_in l.directory_entry) false p xs → Throughout (is_in l.certificates) false p xs → kept_bytes (is_left_out l) p xs ≡ xs
+none_of_three l p xs a b c = kept_all (is_left_out l) p xs (λ k from to. rw (a k from to, b k from to, c k from to) refl)
+
+in_checksum : (l : LeftOut) (k : ℕ) → is_in l.checksum k ≡ true → is_left_out l k ≡ true
+in_checksum l k h = rw h refl
+
+or_true : (a c : Bool) → ((a || true) || c) ≡ true
+or_true true c = refl
+or_true false c = refl
+
+or_last : (a b : Bool) → ((a || b) || true) ≡ true
+or_last true b = refl
+or_last false true = refl
+or_last false false = refl
+
+in_entry : (l : LeftOut) (k : ℕ) → is_in l.directory_entry k ≡ true → is_left_out l k ≡ true
+in_entry l k h = rw h (or_true (is_in l.checksum k) (is_in l.certificates k))
+
+in_certificates : (l : LeftOut) (k : ℕ) → is_in l.certificates k ≡ true → is_left_out l k ≡ true
+in_certificates l k h = rw h (or_last (is_in l.checksum k) (is_in l.directory_entry k))
+
+-- the two slices of a part that is outside the checksum and the certificates
+two : (l : LeftOut) (x a b : Part) → IsCut l.directory_entry x a b → Throughout (is_in l.checksum) false x.offset x.bytes.now → Throughout (is_in l.certificates) false x.offset x.bytes.now → kept_bytes (is_left_out l) x.offset x.bytes.now ≡ a.bytes.now ++ b.bytes.now
+two l x a b cut sum certificates =
+    cut_kept (is_left_out l) l.directory_entry x a b cut (in_entry l)
+    ∙ ap (λ (ys : List ℕ). ys ++ kept_bytes (is_left_out l) b.offset b.bytes.now) (none_of_three l a.offset a.bytes.now (throughout_before _ _ _ x a b cut sum) cut.is_before (throughout_before _ _ _ x a b cut certificates))
+    ∙ ap (λ (ys : List ℕ). a.bytes.now ++ ys) (none_of_three l b.offset b.bytes.now (throughout_after _ _ _ x a b cut sum) cut.is_after (throughout_after _ _ _ x a b cut certificates))
+
+pub four_slices : (l : LeftOut) (w x y a b c d : Part) → IsCut l.checksum w x y → IsCut l.directory_entry x a b → IsCut l.directory_entry y c d → Throughout (is_in l.certificates) false w.offset w.bytes.now →
+    joined_slices (a.bytes ∷ b.bytes ∷ c.bytes ∷ d.bytes ∷ []) ≡ kept_bytes (is_left_out l) w.offset w.bytes.now
+four_slices l w x y a b c d cut left right certificates =
+    let q : ℕ → Bool = is_left_out l in
+    let first : kept_bytes q x.offset x.bytes.now ≡ a.bytes.now ++ b.bytes.now = two l x a b left cut.is_before (throughout_before _ _ _ w x y cut certificates) in
+    let second : kept_bytes q y.offset y.bytes.now ≡ c.bytes.now ++ d.bytes.now = two l y c d right cut.is_after (throughout_after _ _ _ w x y cut certificates) in
+    sym (cut_kept q l.checksum w x y cut (in_checksum l)
+    ∙ ap (λ (ys : List ℕ). ys ++ kept_bytes q y.offset y.bytes.now) first
+    ∙ ap (λ (ys : List ℕ). (a.bytes.now ++ b.bytes.now) ++ ys) (second ∙ ap (λ (ys : List ℕ). c.bytes.now ++ ys) (sym (append-nil d.bytes.now)))
+    ∙ append_assoc a.bytes.now b.bytes.now (c.bytes.now ++ (d.bytes.now ++ [])))
+
+-- the slices on both sides of the certificates
+pub both_sides : (l : LeftOut) (w x y : Part) (fs bs : List (Bor (List ℕ))) → IsCut l.certificates w x y → joined_slices fs ≡ kept_bytes (is_left_out l) x.offset x.bytes.now → joined_slices bs ≡ kept_bytes (is_left_out l) y.offset y.bytes.now →
+    joined_slices fs ++ joined_slices bs ≡ kept_bytes (is_left_out l) w.offset w.bytes.now
+both_sides l w x y fs bs cut front back =
+    ap (λ (ys : List ℕ). ys ++ joined_slices bs) front ∙ ap (λ (ys : List ℕ). kept_bytes (is_left_out l) x.offset x.bytes.now ++ ys) back ∙ sym (cut_kept (is_left_out l) l.certificates w x y cut (in_certificates l))
+
+-- the length of a file without its certificates
+pub length_without : (r : ByteRange) (w x y : Part) → IsCut r w x y → length (kept_bytes (is_in r) w.offset w.bytes.now) ≡ length x.bytes.now + length y.bytes.now
+length_without r w x y cut =
+    let both : kept_bytes (is_in r) w.offset w.bytes.now ≡ x.bytes.now ++ y.bytes.now =
+    cut_kept (is_in r) r w x y cut (λ k h. h)
+    ∙ ap (λ (ys : List ℕ). ys ++ kept_bytes (is_in r) y.offset y.bytes.now) (kept_all (is_in r) x.offset x.bytes.now cut.is_before)
+    ∙ ap (λ (ys : List ℕ). x.bytes.now ++ ys) (kept_all (is_in r) y.offset y.bytes.now cut.is_after) in
+    ap (λ (ys : List ℕ). length ys) both ∙ length-append x.bytes.now y.bytes.now
+
+abbrev pub covered_by : LeftOut → List ℕ → List ℕ → ℕ → Covered
+covered_by l b content zeros = record { content = content; zeros = zeros }
+
+pub is_covered : (l : LeftOut) (b content : List ℕ) (zeros : ℕ) → content ≡ digested l b → zeros ≡ zeros_after l b → covered_by l b content zeros ≡ covered l b
+is_covered l b content zeros e f = ap (λ (c : List ℕ). covered_by l b c zeros) e ∙ ap (λ (z : ℕ). covered_by l b (digested l b) z) f

@@ -1,0 +1,11 @@
+use Rattle.std.proofs.Common.{rules, arith, refl}
+use Rattle.std.proofs.lemmas.List.{take_rest, length-drop}
+use Rattle.pe_sign.proofs.Parts.{cut_at}
+use Rattle.pe_sign.proofs.digest.cut.Goals as goal
+
+pub returns : goal.returns
+returns c =
+    let start = c.index_in-start.ensures in
+    let end = c.index_in-end.ensures in
+    cut_at _ _ _ _ c.saturating_add.result c.index_in-start.result c.index_in-end.result (omega (arith, c.saturating_add.ensures)) (λ h. omega (arith, h, c.saturating_add.ensures)) (omega (arith, c.saturating_add.ensures)) c.requires
+    start.inside start.before start.after end.inside end.before end.after refl (search rules) refl (search (rules, take_rest, length-drop))
