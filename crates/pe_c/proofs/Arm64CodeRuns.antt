@@ -18,8 +18,8 @@ use Rattle.pe_c.proofs.RecordRanges.{codes_of_info}
 use Rattle.pe_c.specs.Arm64.{StepsArm64Codes, StepsOverArm64, WalksInArm64, arm64_walk_at, flat_arm64, flat_arm64_item, flat_info, left_of_stream, moved, over_arm64}
 use Rattle.pe_c.specs.Ranges.{range_after, bytes_at, no_bytes}
 use Rattle.pe_c.specs.Runs.{ReturnsItems, IsOver}
-use Rattle.pe_c.specs.declared.arm64.Arm64Code.{Arm64Code}
-use Rattle.pe_c.specs.declared.arm64.Arm64CodeWalk.{Arm64CodeWalk}
+use Rattle.pe_c.specs.declared.arm64.codes.Arm64Code.{Arm64Code}
+use Rattle.pe_c.specs.declared.arm64.codes.Arm64CodeWalk.{Arm64CodeWalk}
 use Rattle.pe_c.specs.declared.ranges.Range.{Range}
 
 -- ---- walks that are over

@@ -1,10 +1,9 @@
 -- A walk over unwind codes gives all items of its stream.
 use Rattle.std.proofs.Common.{◌≡◌, ℕ, zero, suc, ◌+◌, ◌≤◌, List, [], ◌∷◌, length, map, drop, Option, Some, None, Result, Ok, Err, refl, sym, ap, subst, ◌∙◌, arith}
 use Rattle.pe_core.specs.Bytes.{range}
-use Rattle.pe_core.specs.Refusals.{Refusal, kind_of, outcome}
+use Rattle.pe_core.specs.Refusals.{Refusal, kind_of, outcome, answer_of}
 use Rattle.pe_core.specs.declared.error.Error.{Error}
 use Rattle.pe_unwind.specs.CodeStream.{AreItems, CodeStream, ReturnsCode, with_left}
-use Rattle.pe_unwind.specs.FunctionTable.{answer_of}
 use Rattle.pe_unwind.specs.UnwindCodes.{StartsWithCode}
 use Rattle.pe_unwind.specs.UnwindRecord.{UnwindInfoView, unwind_tests, unwind_record}
 use Rattle.pe_unwind.specs.declared.unwind_code.UnwindCode.{UnwindCode}

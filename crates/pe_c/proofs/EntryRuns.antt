@@ -2,7 +2,8 @@
 use Rattle.std.proofs.Common.{◌≡◌, ℕ, zero, suc, ◌+◌, ◌-◌, ◌<◌, ◌≤◌, Bool, true, false, List, [], ◌∷◌, length, Some, None, Result, Ok, Err, refl, sym, ap, subst, ◌∙◌, arith}
 use Rattle.std.specs.Prelude.{◌==◌, nat_lt, if◌then◌else◌}
 use Rattle.std.proofs.lemmas.Bool.Decides.{nat_tests}
-use Rattle.pe_core.proofs.TableEntries.{ReadsAfter, le_after, entry_items-more, entry_items-none, entry_items-cut}
+use Rattle.pe_core.specs.Rows.{ReadsAfter}
+use Rattle.pe_core.proofs.EntryItems.{le_after, entry_items_more, entry_items_none, entry_items_cut}
 use Rattle.pe_core.specs.Bytes.{holds, range}
 use Rattle.pe_core.specs.Refusals.{Refusal, Short}
 use Rattle.pe_core.specs.Rows.{entry_items}
@@ -57,7 +58,7 @@ by_tests {X} entry_at width b r true short reads some h e l more =
     let there : holds b r.offset r.length ≡ true = grind (arith, nat_tests) in
     let none : length (range b r.offset r.length) ≡ 0 = (let zero : r.length ≡ 0 = grind (arith, nat_tests) in long b r.offset r.length h ∙ zero) in
     let left : left_entry width b r ≡ Ok None = at_end width b r there e in
-    subst (λ (items : List (Result X Refusal)). ReturnsItems (StepsEntries entry_at width b) r items) (sym (entry_items-none entry_at width (range b r.offset r.length) some none))
+    subst (λ (items : List (Result X Refusal)). ReturnsItems (StepsEntries entry_at width b) r items) (sym (entry_items_none entry_at width (range b r.offset r.length) some none))
     (λ answer next s. (s.0 ∙ rw left refl, subst (λ (v : Range). IsOver (StepsEntries entry_at width b) v) (sym (s.1 ∙ rw left refl)) (end_is_over entry_at width b r left)))
 by_tests {X} entry_at width b r false true reads some h e l more =
     let there : holds b r.offset r.length ≡ true = grind (arith, nat_tests) in
@@ -65,8 +66,8 @@ by_tests {X} entry_at width b r false true reads some h e l more =
     let filled : 0 < r.length = grind (arith, nat_tests) in
     let less : r.length < width = grind (arith, nat_tests) in
     let items : entry_items entry_at width (range b r.offset r.length) ≡ Err Short ∷ [] =
-    entry_items-cut entry_at width (range b r.offset r.length) [] (omega (arith, size)) (omega (arith, size)) refl
-    ∙ ap (λ (xs : List (Result X Refusal)). Err Short ∷ xs) (entry_items-none entry_at width [] some refl) in
+    entry_items_cut entry_at width (range b r.offset r.length) [] (omega (arith, size)) (omega (arith, size)) refl
+    ∙ ap (λ (xs : List (Result X Refusal)). Err Short ∷ xs) (entry_items_none entry_at width [] some refl) in
     subst (λ (xs : List (Result X Refusal)). ReturnsItems (StepsEntries entry_at width b) r xs) (sym items) (refusal entry_at width b r (cut width b r there e l))
 by_tests {X} entry_at width b r false false reads some h e l more =
     let there : holds b r.offset r.length ≡ true = grind (arith, nat_tests) in
@@ -74,7 +75,7 @@ by_tests {X} entry_at width b r false false reads some h e l more =
     let fits : width ≤ r.length = grind (arith, nat_tests) in
     let left : left_entry width b r ≡ Ok (Some (range b r.offset r.length)) = whole width b r there e l in
     let items : entry_items entry_at width (range b r.offset r.length) ≡ Ok (entry_at (range b r.offset r.length) 0) ∷ entry_items entry_at width (range b (r.offset + width) (r.length - width)) =
-    entry_items-more entry_at width (range b r.offset r.length) reads some (omega (arith, size))
+    entry_items_more entry_at width (range b r.offset r.length) reads some (omega (arith, size))
     ∙ ap (λ (d : List ℕ). Ok (entry_at (range b r.offset r.length) 0) ∷ entry_items entry_at width d) (sym (rest_of_range b r.offset r.length width h fits)) in
     subst (λ (xs : List (Result X Refusal)). ReturnsItems (StepsEntries entry_at width b) r xs) (sym items)
     (λ answer next s. (

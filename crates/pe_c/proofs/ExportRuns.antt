@@ -5,7 +5,7 @@ use Rattle.std.specs.List.{AllZip, cons_option, filter_map, range_with_len}
 use Rattle.std.specs.Option.{option_map}
 use Rattle.std.proofs.lemmas.Bool.{cases_lt}
 use Rattle.std.proofs.lemmas.Bool.Decides.{nat_tests}
-use Rattle.pe_core.proofs.TableEntries.{each-as_map}
+use Rattle.pe_core.proofs.EntryItems.{each-as_map}
 use Rattle.pe_core.specs.Exports.{ExportDataView, ExportView, export_at, export_data_at, exports}
 use Rattle.pe_core.specs.Refusals.{Refusal}
 use Rattle.pe_core.specs.Rows.{each}

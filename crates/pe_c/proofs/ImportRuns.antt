@@ -8,7 +8,7 @@ use Rattle.std.proofs.lemmas.List.{append-nil, map-append, places}
 use Rattle.std.proofs.lemmas.Nat.{column_fits, div-mul-add}
 use Rattle.std.proofs.Math.Nat.{mul-suc}
 use Rattle.pe_core.proofs.Map.{offset_is}
-use Rattle.pe_core.proofs.TableEntries.{each_front}
+use Rattle.pe_core.proofs.EntryItems.{each_front}
 use Rattle.pe_core.specs.Bytes.{AreBytes, holds, le, range, record_at}
 use Rattle.pe_core.specs.Gathered.{all_or_refusal, up_to_none, with_rest}
 use Rattle.pe_core.specs.Imports.{EntryView, ImportRecordView, ImportView, import_entries, import_entry_at, entry_size, import_data_at, import_of, import_record, import_record_at, import_records, imports, is_last, lookup_at, lookup_entries, lookups_at, lookups_rva, name_or_refusal, named_import}

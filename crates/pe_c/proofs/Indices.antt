@@ -3,7 +3,7 @@ use Rattle.std.proofs.Common.{◌≡◌, ℕ, ◌*◌, ◌/◌, ◌<◌, ◌≤�
 use Rattle.std.specs.Prelude.{nat_lt}
 use Rattle.std.proofs.lemmas.Bool.Decides.{nat_tests}
 use Rattle.std.proofs.lemmas.Option.{slice_get-get_or, slice_get_past}
-use Rattle.pe_core.proofs.TableEntries.{get_or-whole_entries, length-whole_entries}
+use Rattle.pe_core.proofs.EntryItems.{get_or-whole_entries, length-whole_entries}
 use Rattle.pe_core.specs.Refusals.{FunctionIndex, outcome}
 use Rattle.pe_core.specs.Rows.{whole_entries}
 use Rattle.pe_unwind.specs.Arm64Functions.{arm64_function_at, arm64_functions}

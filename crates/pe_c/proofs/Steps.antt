@@ -1,28 +1,14 @@
--- Steps of walks over debug entries and POGO entries.
+-- Steps of walks over POGO entries.
 use Rattle.std.proofs.Common.{◌≡◌, ℕ, ◌+◌, ◌-◌, ◌≤◌, true, List, ◌∷◌, length, take, drop, length-drop, Option, Some, None, Result, Ok, Err, sym, subst, ap, ◌∙◌, arith}
 use Rattle.std.specs.Prelude.{slice_range}
 use Rattle.std.proofs.lemmas.Bool.Decides.{nat_tests}
 use Rattle.std.proofs.lemmas.List.{places, same_lists}
 use Rattle.pe_core.specs.Bytes.{holds, range}
-use Rattle.pe_core.specs.declared.error.Error.{Error}
 use Rattle.pe_core.specs.SectionMap.{rounded_up}
-use Rattle.pe_records.proofs.EntriesInOrder.{entries_more}
-use Rattle.pe_records.specs.DebugDirectory.{ReturnsEntry, debug_entry_at, debug_entries}
 use Rattle.pe_records.specs.Pogo.{StartsWith, ReturnsPogoEntry, pogo_entry_of}
-use Rattle.pe_records.specs.declared.debug.ImageDebugDirectory.{ImageDebugDirectory}
 use Rattle.pe_records.specs.declared.debug.pogo.POGOInfoEntry.{POGOInfoEntry}
 use Rattle.pe_c.specs.DebugWalks.{IsNamed}
 use Rattle.pe_c.specs.declared.ranges.Range.{Range}
-
--- ---- debug entries
-
--- the first of the entries of bytes that hold one
-pub first_entry : (b left : List ℕ) (item : Option (Result ImageDebugDirectory Error)) → 28 ≤ length b → ReturnsEntry 0 b item left → item ≡ Some (Ok (debug_entry_at 0 b 0))
-first_entry b left None long g = let more : debug_entries 0 b ≡ Ok (debug_entry_at 0 b 0) ∷ debug_entries 0 (drop 28 b) = entries_more 0 b long in absurd (cc (g.0, more))
-first_entry b left (Some (Ok e)) long g = let more : debug_entries 0 b ≡ Ok (debug_entry_at 0 b 0) ∷ debug_entries 0 (drop 28 b) = entries_more 0 b long in let same : e ≡ debug_entry_at 0 b 0 = cc in ap (λ (x : ImageDebugDirectory). Some (Ok x)) same
-first_entry b left (Some (Err e)) long g = let more : debug_entries 0 b ≡ Ok (debug_entry_at 0 b 0) ∷ debug_entries 0 (drop 28 b) = entries_more 0 b long in absurd cc
-
--- ---- entries of a POGO record
 
 -- a step that gives an entry takes its bytes
 pub taken : (left rest : List ℕ) (e : POGOInfoEntry) → ReturnsPogoEntry left (Some (Ok e)) rest → (length left - length rest ≡ rounded_up (8 + length e.name.now) 4) × (rounded_up (8 + length e.name.now) 4 ≤ length left)

@@ -20,11 +20,11 @@ use Rattle.pe_unwind.specs.declared.arm64.function.Arm64RuntimeFunction.{Arm64Ru
 use Rattle.pe_c.specs.HandsOut.{HandsOutIf}
 use Rattle.pe_c.specs.Modes.{options_of}
 use Rattle.pe_c.specs.Ranges.{no_bytes, range_after, last_range, bytes_at}
-use Rattle.pe_c.specs.declared.arm64.Arm64Code.{Arm64Code}
-use Rattle.pe_c.specs.declared.arm64.Arm64CodeWalk.{Arm64CodeWalk}
-use Rattle.pe_c.specs.declared.arm64.Arm64Packed.{Arm64Packed}
-use Rattle.pe_c.specs.declared.arm64.Arm64Record.{Arm64Record}
-use Rattle.pe_c.specs.declared.arm64.Arm64Scope.{Arm64Scope}
+use Rattle.pe_c.specs.declared.arm64.codes.Arm64Code.{Arm64Code}
+use Rattle.pe_c.specs.declared.arm64.codes.Arm64CodeWalk.{Arm64CodeWalk}
+use Rattle.pe_c.specs.declared.arm64.functions.Arm64Packed.{Arm64Packed}
+use Rattle.pe_c.specs.declared.arm64.records.Arm64Record.{Arm64Record}
+use Rattle.pe_c.specs.declared.arm64.records.Arm64Scope.{Arm64Scope}
 use Rattle.pe_c.specs.declared.image.Image.{Image}
 use Rattle.pe_c.specs.declared.ranges.Range.{Range}
 

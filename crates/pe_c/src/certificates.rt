@@ -4,7 +4,7 @@
 //! https://learn.microsoft.com/windows/win32/debug/pe-format#the-attribute-certificate-table-image-only
 
 ghost use Rattle.std.specs.Prelude.{◌≡◌, ◌+◌, ◌≤◌, ◌^◌};
-ghost use Rattle.pe_core.specs.Refusals.{answer_by};
+ghost use Rattle.pe_core.specs.Refusals.{answer_of};
 ghost use Rattle.pe_records.specs.Certificates.{certificate_at, certificate_view};
 ghost use Rattle.pe_c.specs.HandsOut.{HandsOutIf};
 ghost use Rattle.pe_c.specs.Certificates.{certificate_step, certificate_reported, walk_from};
@@ -63,7 +63,7 @@ fn walk_from(walk: Range, next: u64) -> Range
 /// One step: its result, and the walk after it.
 #[tactic(auto, unfolding(crate::specs::Certificates::certificate_step))]
 fn step(bytes: &[u8], walk: Range) -> (Result<Option<Certificate>>, Range)
-    ensures { (answer_by (λ x. x) result.0, result.1) ≡ certificate_step bytes.now walk }
+    ensures { (answer_of result.0, result.1) ≡ certificate_step bytes.now walk }
 {
     // This test comes first: an empty walk outside of the bytes is an error too.
     if slice_of(bytes, &walk).is_err() {

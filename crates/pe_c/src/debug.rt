@@ -7,7 +7,7 @@
 
 ghost use Rattle.std.specs.Prelude.{◌≡◌};
 ghost use Rattle.std.specs.Option.{option_map};
-ghost use Rattle.pe_core.specs.Refusals.{answer_by};
+ghost use Rattle.pe_core.specs.Refusals.{answer_of, answer_by};
 ghost use Rattle.pe_records.specs.DebugRecords.{debug_view};
 ghost use Rattle.pe_c.specs.HandsOut.{HandsOutIf};
 ghost use Rattle.pe_c.specs.Debug.{debug_entries_range, image_debug, reported_of, part_after, key_of, pdb20_field, characteristics_field, repro_field, pogo_field};
@@ -94,7 +94,7 @@ fn table_of(
     sections: &[SectionTable],
     mode: u32,
 ) -> Result<Option<Range>>
-    ensures { answer_by (λ x. x) result ≡ debug_entries_range bytes.now image.now sections.now mode }
+    ensures { answer_of result ≡ debug_entries_range bytes.now image.now sections.now mode }
 {
     let directory = image.debug;
     if is_absent(directory) {

@@ -3,7 +3,7 @@
 //! https://learn.microsoft.com/windows/win32/debug/pe-format#the-debug-section
 
 ghost use Rattle.std.specs.Prelude.{◌≡◌, ◌+◌, ◌≤◌, ◌^◌, length, Ok};
-ghost use Rattle.pe_core.specs.Refusals.{answer_by};
+ghost use Rattle.pe_core.specs.Refusals.{answer_of};
 ghost use Rattle.pe_records.specs.DebugDirectory.{debug_entry_at};
 ghost use Rattle.pe_c.specs.HandsOut.{HandsOutIf};
 ghost use Rattle.pe_c.specs.DebugWalks.{HandsOutPogoEntry, IsNamed, StepsPogo, StepsOverPogo, pogo_entry};
@@ -14,8 +14,7 @@ use crate::results::{DONE, NOTHING, hand_out_some, number_of};
 use crate::walks::next_entry;
 use pe_core::{Result, rounded_up};
 use pe_records::{
-    IMAGE_DEBUG_DIRECTORY_SIZE, ImageDebugDirectory, ImageDebugDirectoryIterator,
-    POGOEntryIterator, POGOInfoEntry,
+    IMAGE_DEBUG_DIRECTORY_SIZE, ImageDebugDirectory, POGOEntryIterator, POGOInfoEntry,
 };
 
 /// An entry of a POGO record: a part of the image.
@@ -30,24 +29,12 @@ pub struct PogoEntry {
     pub size: u32,
 }
 
-/// The entry at the start of the bytes.
-#[tactic(auto, using(crate::proofs::Steps::first_entry))]
-fn first_entry(left: &[u8]) -> ImageDebugDirectory
-    requires { 28 ≤ length left.now }
-    ensures { result ≡ debug_entry_at 0 left.now 0 }
-{
-    match ImageDebugDirectoryIterator::new(left, 0).next() {
-        Some(Ok(entry)) => entry,
-        _ => unreachable!(),
-    }
-}
-
 fn next_debug_entry(bytes: &[u8], walk: &mut Range) -> Result<Option<ImageDebugDirectory>>
-    ensures entry { answer_by (λ x. x) result ≡ next_of (debug_entry_at 0) 28 bytes.now walk.old }
+    ensures entry { answer_of result ≡ next_of (debug_entry_at 0) 28 bytes.now walk.old }
     ensures walk { walk.new ≡ walk_of 28 bytes.now walk.old }
 {
     match next_entry(bytes, walk, IMAGE_DEBUG_DIRECTORY_SIZE)? {
-        Some(left) => Ok(Some(first_entry(left))),
+        Some(left) => Ok(Some(ImageDebugDirectory::at(left, 0, 0))),
         None => Ok(None),
     }
 }

@@ -5,7 +5,7 @@
 
 ghost use Rattle.std.specs.Prelude.{◌≡◌, ◌+◌, ◌*◌, ◌/◌, ◌≤◌, length};
 ghost use Rattle.pe_core.specs.Exports.{export_data_view};
-ghost use Rattle.pe_core.specs.Refusals.{Returns, answer_by};
+ghost use Rattle.pe_core.specs.Refusals.{ReturnsAs, answer_of};
 ghost use Rattle.pe_c.specs.HandsOut.{HandsOutIf};
 ghost use Rattle.pe_c.specs.Exports.{HandsOutExport, FindsNext, StepsExports, export_table, tables_at, tables_or_short, reported_entry, view_of, walk_over};
 ghost use Rattle.pe_c.specs.Images.{map_of_image};
@@ -74,7 +74,7 @@ fn tables_at(
     sections: &[SectionTable],
     mode: u32,
 ) -> Result<Option<Exports>>
-    ensures { answer_by (λ x. x) result ≡ tables_at bytes.now image.now sections.now }
+    ensures { answer_of result ≡ tables_at bytes.now image.now sections.now }
 {
     let directory = image.exports;
     if is_absent(directory) {
@@ -159,7 +159,7 @@ fn find_next(
 
 /// The tables of a walk. `Short` where one is not inside the bytes.
 fn tables_of<'a>(bytes: &'a [u8], walk: &Exports) -> Result<Tables<'a>>
-    ensures { Returns view_of result (tables_or_short bytes.entry.now walk.now) }
+    ensures { ReturnsAs view_of result (tables_or_short bytes.entry.now walk.now) }
 {
     Ok(Tables {
         names: slice_of(bytes, &walk.names)?,
@@ -175,7 +175,7 @@ fn step(
     sections: &[SectionTable],
     walk: &mut Exports,
 ) -> Result<Option<Export>>
-    ensures { StepsExports (map_of_image image.now sections.now) bytes.now walk.old (answer_by (λ x. x) result) walk.new }
+    ensures { StepsExports (map_of_image image.now sections.now) bytes.now walk.old (answer_of result) walk.new }
 {
     let count = walk.names.length / 4;
     if count <= walk.next {

@@ -6,7 +6,7 @@
 ghost use Rattle.std.specs.Prelude.{◌≡◌, ◌+◌, ◌*◌, ◌≤◌, ◌++◌, drop, length, true, Ok};
 ghost use Rattle.pe_core.specs.Header.{header_view};
 ghost use Rattle.pe_core.specs.Options.{default_options};
-ghost use Rattle.pe_core.specs.Refusals.{answer_by};
+ghost use Rattle.pe_core.specs.Refusals.{answer_of};
 ghost use Rattle.pe_core.specs.Records.{section_table};
 ghost use Rattle.pe_core.specs.Rows.{rows};
 ghost use Rattle.pe_core.specs.SectionMap.{section_map};
@@ -136,7 +136,7 @@ fn image_of(header: &Header) -> Image
 }
 
 fn read_image(bytes: &[u8], mode: u32) -> Result<Image>
-    ensures { answer_by (λ x. x) result ≡ image_at bytes.now mode }
+    ensures { answer_of result ≡ image_at bytes.now mode }
 {
     let header = Header::parse_with_opts(bytes, &options(mode))?;
     Ok(image_of(&header))
@@ -154,17 +154,6 @@ pub extern "C" fn pe_c_image(bytes: &[u8], mode: u32, out: &mut Image) -> u32
     hand_out(read_image(bytes, mode), out)
 }
 
-/// The section header at a file offset, whose 40 bytes are known to be inside the bytes.
-fn section(bytes: &[u8], offset: usize) -> SectionTable
-    requires { offset + 40 ≤ length bytes.now }
-    ensures { result ≡ section_table bytes.now offset }
-{
-    match SectionTable::parse(bytes, offset) {
-        Ok(section) => section,
-        Err(_) => unreachable!(),
-    }
-}
-
 /// Writes so many section headers, which start at a file offset, to the start of `room`.
 #[tactic(auto, using(std::proofs::lemmas::List::take_more_set, crate::proofs::Rooms::kept_more, crate::proofs::Rooms::joined), unfolding(pe_core::specs::Rows::each))]
 fn put_sections(bytes: &[u8], offset: usize, count: usize, room: &mut [SectionTable])
@@ -173,7 +162,7 @@ fn put_sections(bytes: &[u8], offset: usize, count: usize, room: &mut [SectionTa
     ensures { room.new ≡ rows (section_table bytes.now) 40 offset count ++ drop count room.old }
 {
     for i in 0..count {
-        room[i] = section(bytes, offset + 40 * i);
+        room[i] = SectionTable::at(bytes, offset + 40 * i);
     }
 }
 

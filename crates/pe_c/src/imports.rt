@@ -5,7 +5,7 @@
 
 ghost use Rattle.std.specs.Prelude.{◌≡◌, ◌==◌, ◌+◌, ◌≤◌, length, Some, IfOk, IfSome};
 ghost use Rattle.pe_core.specs.Imports.{entry_size, lookups_at, name_or_refusal};
-ghost use Rattle.pe_core.specs.Refusals.{Returns, answer_by};
+ghost use Rattle.pe_core.specs.Refusals.{Returns, ReturnsAs, answer_of};
 ghost use Rattle.pe_core.specs.SectionMap.{mapped};
 ghost use Rattle.pe_core.specs.Text.{text_at};
 ghost use Rattle.pe_c.specs.HandsOut.{HandsOutIf};
@@ -94,7 +94,7 @@ const NO_LIBRARIES: Libraries = Libraries {
 
 /// The file offset of an RVA of an image, or `Unmapped`.
 fn require_offset(rva: u32, image: &Image, sections: &[SectionTable]) -> Result<usize>
-    ensures { Returns (λ p. p) result (mapped (map_of_image image.now sections.now rva)) }
+    ensures { Returns result (mapped (map_of_image image.now sections.now rva)) }
 {
     mapped_offset(
         rva,
@@ -106,7 +106,7 @@ fn require_offset(rva: u32, image: &Image, sections: &[SectionTable]) -> Result<
 
 /// The name at a file offset, to which an RVA leads: `ImportName` where it is not NUL-terminated or not UTF-8.
 fn name_at(bytes: &[u8], offset: usize, rva: u32) -> Result<&str>
-    ensures { Returns (λ s. s.now) result (name_or_refusal (text_at bytes.now offset)) }
+    ensures { ReturnsAs (λ s. s.now) result (name_or_refusal (text_at bytes.now offset)) }
 {
     match text_at(bytes, offset) {
         Some(name) => Ok(name),
@@ -115,7 +115,7 @@ fn name_at(bytes: &[u8], offset: usize, rva: u32) -> Result<&str>
 }
 
 fn libraries_at(image: &Image, sections: &[SectionTable]) -> Result<Option<Libraries>>
-    ensures { answer_by (λ x. x) result ≡ libraries_at image.now sections.now }
+    ensures { answer_of result ≡ libraries_at image.now sections.now }
 {
     if is_absent(image.imports) {
         return Ok(None);
@@ -147,7 +147,7 @@ pub extern "C" fn pe_c_import_libraries(
 
 /// The entries of the list at a file offset, none without an offset. `Short` where no zero entry ends them.
 fn list_at(bytes: &[u8], offset: Option<usize>, is_64: bool) -> Result<&[u8]>
-    ensures { Returns (λ s. s.now) result (lookups_at (entry_size is_64) bytes.now offset) }
+    ensures { ReturnsAs (λ s. s.now) result (lookups_at (entry_size is_64) bytes.now offset) }
 {
     match offset {
         Some(offset) => lookups_at(bytes, offset, is_64),
@@ -163,7 +163,7 @@ fn library_of(
     image: &Image,
     sections: &[SectionTable],
 ) -> Result<Library>
-    ensures { Returns (λ l. Some l) result (library_of (map_of_image image.now sections.now) (entry_size (image.now.width == 64)) bytes.now entry.now) }
+    ensures { ReturnsAs (λ l. Some l) result (library_of (map_of_image image.now sections.now) (entry_size (image.now.width == 64)) bytes.now entry.now) }
 {
     let offset = require_offset(entry.name_rva, image, sections)?;
     let name = name_at(bytes, offset, entry.name_rva)?;
@@ -192,7 +192,7 @@ fn library_at(
     image: &Image,
     sections: &[SectionTable],
 ) -> Result<Option<Library>>
-    ensures returned { Returns (λ x. x) result (library_at (map_of_image image.now sections.now) (entry_size (image.now.width == 64)) bytes.now offset) }
+    ensures returned { Returns result (library_at (map_of_image image.now sections.now) (entry_size (image.now.width == 64)) bytes.now offset) }
     ensures inside { IfOk result (λ l. IfSome l (λ _. offset + 20 ≤ length bytes.now)) }
 {
     let entry = ImportDirectoryEntry::parse(bytes, offset)?;
@@ -211,7 +211,7 @@ fn library_step(
     sections: &[SectionTable],
     walk: Libraries,
 ) -> (Result<Option<Library>>, Libraries)
-    ensures { (answer_by (λ x. x) result.0, result.1) ≡ library_step (map_of_image image.now sections.now) (entry_size (image.now.width == 64)) bytes.now walk }
+    ensures { (answer_of result.0, result.1) ≡ library_step (map_of_image image.now sections.now) (entry_size (image.now.width == 64)) bytes.now walk }
 {
     if walk.is_over != 0 {
         return (Ok(None), walk);
@@ -260,7 +260,7 @@ fn named_import(
     image: &Image,
     sections: &[SectionTable],
 ) -> Result<Import>
-    ensures { Returns (λ x. x) result (named_reported (map_of_image image.now sections.now) bytes.now entry rva) }
+    ensures { Returns result (named_reported (map_of_image image.now sections.now) bytes.now entry rva) }
 {
     let name_rva = (entry % 0x8000_0000) as u32;
     let offset = require_offset(name_rva, image, sections)?;
@@ -284,7 +284,7 @@ fn import_at(
     image: &Image,
     sections: &[SectionTable],
 ) -> Result<Import>
-    ensures { Returns (λ x. x) result (import_at (map_of_image image.now sections.now) (entry_size (image.now.width == 64)) bytes.now entry rva) }
+    ensures { Returns result (import_at (map_of_image image.now sections.now) (entry_size (image.now.width == 64)) bytes.now entry rva) }
 {
     let highest = if image.width == 64 {
         0x8000_0000_0000_0000
@@ -310,7 +310,7 @@ fn import_step(
     sections: &[SectionTable],
     walk: &mut Imports,
 ) -> Result<Option<Import>>
-    ensures { (answer_by (λ x. x) result, walk.new) ≡ import_step (map_of_image image.now sections.now) (entry_size (image.now.width == 64)) bytes.now walk.old }
+    ensures { (answer_of result, walk.new) ≡ import_step (map_of_image image.now sections.now) (entry_size (image.now.width == 64)) bytes.now walk.old }
 {
     let is_64 = image.width == 64;
     let size = lookup_size(is_64);

@@ -16,7 +16,7 @@ ghost use Rattle.pe_c.specs.Runs.{ReturnsItems};
 ghost use Rattle.pe_c.specs.Unwinding.{StepsCodes, image_exceptions, flat_item, flat_record, function_in, code_stream_at};
 ghost use Rattle.pe_c.specs.Versions.{ReportsFixed, ReportsManifest, ReportsValue};
 ghost use Rattle.pe_c.specs.Walks.{StepsEntries, walk_items, indexed};
-ghost use Rattle.pe_c.specs.declared.arm64.Arm64CodeWalk.{Arm64CodeWalk};
+ghost use Rattle.pe_c.specs.declared.arm64.codes.Arm64CodeWalk.{Arm64CodeWalk};
 ghost use Rattle.pe_c.specs.declared.certificates.Certificate.{Certificate};
 ghost use Rattle.pe_c.specs.declared.exports.Export.{Export};
 ghost use Rattle.pe_c.specs.declared.exports.Exports.{Exports};

@@ -4,7 +4,7 @@
 //! https://learn.microsoft.com/cpp/build/exception-handling-x64
 
 ghost use Rattle.std.specs.Prelude.{◌≡◌};
-ghost use Rattle.pe_core.specs.Refusals.{answer_by};
+ghost use Rattle.pe_core.specs.Refusals.{answer_of};
 ghost use Rattle.pe_c.specs.Plans.{goes_on, ended, returned_record, after_record, StepsPlan, HandsOutPlan};
 
 use crate::image::Image;
@@ -55,7 +55,7 @@ fn goes_on(plan: Plan, address: u32) -> Plan
 
 /// Returns the next record of a plan, and moves the plan. A record that continues at the saved RVA is part of a loop.
 fn advance(plan: &mut Plan, next: UnwindRecord) -> Result<Option<UnwindRecord>>
-    ensures returned { answer_by (λ x. x) result ≡ returned_record plan.old next }
+    ensures returned { answer_of result ≡ returned_record plan.old next }
     ensures leaves { plan.new ≡ after_record plan.old next }
 {
     let address = next.chained.unwind_info_address;
@@ -79,7 +79,7 @@ fn next_record(
     mode: u32,
     plan: &mut Plan,
 ) -> Result<Option<UnwindRecord>>
-    ensures { StepsPlan bytes.now image.now sections.now mode plan.old (answer_by (λ x. x) result) plan.new }
+    ensures { StepsPlan bytes.now image.now sections.now mode plan.old (answer_of result) plan.new }
 {
     if plan.is_over != 0 {
         return Ok(None);

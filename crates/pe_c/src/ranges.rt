@@ -1,7 +1,7 @@
 //! Ranges of the caller's bytes: results have them in place of pointers, and callers pass them back to other calls.
 
 ghost use Rattle.std.specs.Prelude.{◌≡◌, ◌+◌, ◌≤◌};
-ghost use Rattle.pe_core.specs.Refusals.{Returns};
+ghost use Rattle.pe_core.specs.Refusals.{ReturnsAs};
 ghost use Rattle.pe_c.specs.Ranges.{bytes_at, range_of, range_from};
 
 use pe_core::{ByteRange, Result, slice_at};
@@ -24,7 +24,7 @@ pub const NO_BYTES: Range = Range {
 
 /// The bytes of a range that a caller passes. `Short` where it is not inside the bytes.
 pub fn slice_of<'a>(bytes: &'a [u8], range: &Range) -> Result<&'a [u8]>
-    ensures { Returns (λ s. s.now) result (bytes_at bytes.entry.now range.now) }
+    ensures { ReturnsAs (λ s. s.now) result (bytes_at bytes.entry.now range.now) }
 {
     slice_at(bytes, range.offset as usize, range.length as usize)
 }

@@ -2,7 +2,7 @@
 //! numbers stay the same from version to version.
 
 ghost use Rattle.std.specs.Prelude.{◌≡◌};
-ghost use Rattle.pe_core.specs.Refusals.{kind_of, kind_of_reason, answer_by};
+ghost use Rattle.pe_core.specs.Refusals.{kind_of, kind_of_reason, answer_of};
 ghost use Rattle.pe_c.specs.HandsOut.{result_number, HandsOut, HandsOutIf};
 ghost use Rattle.pe_c.specs.Modes.{options_of};
 
@@ -85,7 +85,7 @@ pub fn options(mode: u32) -> ParseOptions
 
 /// Writes a value to `out` and returns `DONE`, or returns the number of an error and leaves `out` unchanged.
 pub fn hand_out<T: Copy>(given: Result<T>, out: &mut T) -> u32
-    ensures { HandsOut result out.old out.new (answer_by (λ x. x) given) }
+    ensures { HandsOut result out.old out.new (answer_of given) }
 {
     match given {
         Ok(value) => {
@@ -98,7 +98,7 @@ pub fn hand_out<T: Copy>(given: Result<T>, out: &mut T) -> u32
 
 /// The same of a value that may be absent: then returns `NOTHING` and leaves `out` unchanged.
 pub fn hand_out_some<T: Copy>(given: Result<Option<T>>, out: &mut T) -> u32
-    ensures { HandsOutIf result out.old out.new (answer_by (λ x. x) given) }
+    ensures { HandsOutIf result out.old out.new (answer_of given) }
 {
     match given {
         Ok(Some(value)) => {

@@ -4,8 +4,7 @@
 //! https://learn.microsoft.com/cpp/build/exception-handling-x64
 
 ghost use Rattle.std.specs.Prelude.{◌≡◌, ◌+◌, ◌^◌, ◌≤◌, length};
-ghost use Rattle.pe_core.specs.Refusals.{answer_by};
-ghost use Rattle.pe_unwind.specs.FunctionTable.{answer_of};
+ghost use Rattle.pe_core.specs.Refusals.{answer_of};
 ghost use Rattle.pe_unwind.specs.Offsets.{UnwindPartsStand};
 ghost use Rattle.pe_unwind.specs.ScopeTable.{scope_at};
 ghost use Rattle.pe_unwind.specs.UnwindRecord.{unwind_view};
@@ -100,7 +99,7 @@ fn table_of(
     sections: &[SectionTable],
     mode: u32,
 ) -> Result<Option<Range>>
-    ensures { answer_by (λ x. x) result ≡ exception_table_at 0x8664 12 bytes.now image.now sections.now mode }
+    ensures { answer_of result ≡ exception_table_at 0x8664 12 bytes.now image.now sections.now mode }
 {
     let directory = image.exceptions;
     if image.machine != COFF_MACHINE_X86_64 || is_absent(directory) {
@@ -159,7 +158,7 @@ pub extern "C" fn pe_c_find_function(
 }
 
 fn function_in(bytes: &[u8], table: &Range, index: u64) -> Result<RuntimeFunction>
-    ensures { answer_by (λ x. x) result ≡ function_in bytes.now table.now index }
+    ensures { answer_of result ≡ function_in bytes.now table.now index }
 {
     let entries = slice_of(bytes, table)?;
     RuntimeFunction::of_table(entries, index as usize)
@@ -247,7 +246,7 @@ fn flat_record(info: &UnwindInfo, bytes: &[u8], offset: usize) -> UnwindRecord
 
 /// The unwind record at a file offset.
 fn record_at(bytes: &[u8], offset: usize) -> Result<UnwindRecord>
-    ensures { answer_by (λ x. x) result ≡ flat_record_at bytes.now offset }
+    ensures { answer_of result ≡ flat_record_at bytes.now offset }
 {
     let info = UnwindInfo::parse(bytes, offset)?;
     Ok(flat_record(&info, bytes, offset))
@@ -278,7 +277,7 @@ pub fn read_record(
     mode: u32,
     unwind: u32,
 ) -> Result<UnwindRecord>
-    ensures { FollowsToRecord bytes.now image.now sections.now mode unwind (answer_by (λ x. x) result) }
+    ensures { FollowsToRecord bytes.now image.now sections.now mode unwind (answer_of result) }
 {
     let offset = find_record_offset(bytes, image, sections, mode, unwind)?;
     record_at(bytes, offset)
@@ -418,7 +417,7 @@ pub extern "C" fn pe_c_next_code(bytes: &[u8], walk: &mut CodeWalk, out: &mut Co
 }
 
 fn scopes_in(bytes: &[u8], handler_data: &Range) -> Result<Option<Range>>
-    ensures { answer_by (λ x. x) result ≡ scopes_at bytes.now handler_data.now }
+    ensures { answer_of result ≡ scopes_at bytes.now handler_data.now }
 {
     let data = slice_of(bytes, handler_data)?;
     match scope_table_size(data) {
@@ -442,11 +441,11 @@ pub extern "C" fn pe_c_scope_table(bytes: &[u8], handler_data: &Range, out: &mut
 }
 
 fn next_scope(bytes: &[u8], walk: &mut Range) -> Result<Option<ScopeTableEntry>>
-    ensures scope { answer_by (λ x. x) result ≡ next_of scope_at 16 bytes.now walk.old }
+    ensures scope { answer_of result ≡ next_of scope_at 16 bytes.now walk.old }
     ensures walk { walk.new ≡ walk_of 16 bytes.now walk.old }
 {
     match next_entry(bytes, walk, SIZE_OF_SCOPE)? {
-        Some(entry) => Ok(Some(ScopeTableEntry::parse(entry, 0)?)),
+        Some(entry) => Ok(Some(ScopeTableEntry::at(entry, 0))),
         None => Ok(None),
     }
 }

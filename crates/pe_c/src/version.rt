@@ -6,7 +6,7 @@
 ghost use Rattle.std.specs.Prelude.{◌≡◌, IfOk, IfSome};
 ghost use Rattle.std.specs.Option.{option_map};
 ghost use Rattle.pe_core.specs.Offsets.{IsWithin};
-ghost use Rattle.pe_core.specs.Refusals.{answer_by};
+ghost use Rattle.pe_core.specs.Refusals.{answer_of};
 ghost use Rattle.pe_resource.specs.Contents.{inner};
 ghost use Rattle.pe_c.specs.Versions.{IsContentOf, HandsOutManifest, fixed_at, HandsOutFixed, value_at, name_at, HandsOutText};
 
@@ -24,7 +24,7 @@ fn content_of(
     mode: u32,
     id: u16,
 ) -> Result<Option<ByteRange>>
-    ensures content { IsContentOf bytes.now image.now sections.now mode id (answer_by (λ c. c) result) }
+    ensures content { IsContentOf bytes.now image.now sections.now mode id (answer_of result) }
     ensures within { IfOk result (λ c. IfSome c (IsWithin bytes.now)) }
 {
     let directory = image.resources;
@@ -56,7 +56,7 @@ pub extern "C" fn pe_c_manifest(
 /// The fixed file information of the version information at a range.
 fn fixed_at(bytes: &[u8], content: Option<ByteRange>) -> Result<Option<VsFixedFileInfo>>
     requires { IfSome content (IsWithin bytes.now) }
-    ensures { answer_by (λ f. f) result ≡ fixed_at bytes.now content }
+    ensures { answer_of result ≡ fixed_at bytes.now content }
 {
     match content {
         None => Ok(None),
@@ -85,7 +85,7 @@ pub extern "C" fn pe_c_fixed_version(
 /// The range of the value of a name in the version information at a range.
 fn value_at(bytes: &[u8], name: VersionName, content: Option<ByteRange>) -> Result<Option<Range>>
     requires { IfSome content (IsWithin bytes.now) }
-    ensures { answer_by (λ r. r) result ≡ value_at bytes.now name content }
+    ensures { answer_of result ≡ value_at bytes.now name content }
 {
     match content {
         None => Ok(None),

@@ -13,7 +13,7 @@ pub mod SpelledRecords
 pub mod SpelledOptional
 pub mod Modes
 pub mod PutNumbers
-pub mod TableEntries
+pub mod EntryItems
 pub mod ExportLists
 pub mod Pigeonhole
 pub mod Gathering

@@ -11,6 +11,7 @@ pub mod Modes
 pub mod Pe32
 pub mod Records
 pub mod Rows
+pub mod EntriesLeft
 pub mod Directories
 pub mod Header
 pub mod HeaderSteps

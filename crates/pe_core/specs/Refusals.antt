@@ -103,10 +103,18 @@ abbrev pub answer_by : {X Y : Type 0} → (X → Y) → Result X Error → Resul
 answer_by view (Ok x) = Ok (view x)
 answer_by view (Err e) = Err (kind_of e)
 
+-- the result of a call: its value, or the kind of its error
+abbrev pub answer_of : {X : Type 0} → Result X Error → Result X Refusal
+answer_of r = answer_by (λ x. x) r
+
 -- a call that does not allocate returned the defined value, seen by view, or an error of the defined kind
-abbrev pub Returns : {X Y : Type 0} → (X → Y) → Result X Error → Result Y Refusal → Type 0
-Returns view (Ok x) defined = defined ≡ Ok (view x)
-Returns view (Err e) defined = defined ≡ Err (kind_of e)
+abbrev pub ReturnsAs : {X Y : Type 0} → (X → Y) → Result X Error → Result Y Refusal → Type 0
+ReturnsAs view (Ok x) defined = defined ≡ Ok (view x)
+ReturnsAs view (Err e) defined = defined ≡ Err (kind_of e)
+
+-- a call that does not allocate returned the defined value, or an error of the defined kind
+abbrev pub Returns : {X : Type 0} → Result X Error → Result X Refusal → Type 0
+Returns r defined = ReturnsAs (λ x. x) r defined
 
 -- the same for a call that allocates, which may also return `Memory`
 abbrev pub ReturnsUnlessMemory : {X Y : Type 0} → (X → Y) → Result X Error → Result Y Refusal → Type 0

@@ -17,12 +17,16 @@ rows record_of width p n = each (λ i. record_of (p + width * i)) n
 abbrev pub rows_at : {X : Type 0} → (List ℕ → ℕ → X) → ℕ → List ℕ → ℕ → ℕ → Result (List X) Refusal
 rows_at record_at width b p n = outcome ((n == 0 || holds b p (width * n), Short) ∷ []) (rows (record_at b) width p n)
 
+-- an entry after the first w bytes, which are dropped, is the entry at its offset in all of the bytes
+abbrev pub ReadsAfter : {X : Type 0} → (List ℕ → ℕ → X) → ℕ → Type 0
+ReadsAfter entry_at w = (b : List ℕ) (p q : ℕ) → q ≡ w + p → entry_at (drop w b) p ≡ entry_at b q
+
 -- the whole entries of these bytes, each read by `entry_at`
 abbrev pub whole_entries : {X : Type 0} → (List ℕ → ℕ → X) → ℕ → List ℕ → List X
 whole_entries entry_at width b = each (λ i. entry_at b (width * i)) (length b / width)
 
 -- the whole entries, then one `Short` if the last entry is truncated
-abbrev pub entry_items : {X : Type 0} → (List ℕ → ℕ → X) → ℕ → List ℕ → List (Result X Refusal)
+unfoldable pub entry_items : {X : Type 0} → (List ℕ → ℕ → X) → ℕ → List ℕ → List (Result X Refusal)
 entry_items entry_at width b = map (λ x. Ok x) (whole_entries entry_at width b) ++ (if length b % width == 0 then [] else Err Short ∷ [])
 
 -- splitting an entry off the front of b returns the bytes from its start on, seen by view, and leaves those after it;

@@ -3,7 +3,7 @@
 
 ghost use Rattle.std.specs.Prelude.{◌≡◌, ◌+◌, ◌<◌, ◌≤◌, length};
 ghost use Rattle.pe_core.specs.Bytes.{le, range, bytes_of, put, record_at, data_at, fit_at};
-ghost use Rattle.pe_core.specs.Refusals.{Returns};
+ghost use Rattle.pe_core.specs.Refusals.{Returns, ReturnsAs};
 ghost use Rattle.pe_core.specs.Rows.{SplitsEntry};
 
 use crate::error::{Error, Reason, Result};
@@ -11,7 +11,7 @@ use crate::error::{Error, Reason, Result};
 /// Returns `Short` unless `n` bytes follow `offset`. A read of 0 bytes succeeds at every offset up to
 /// `bytes.len()`.
 pub fn require_bytes(bytes: &[u8], offset: usize, n: usize) -> Result<()>
-    ensures { Returns (λ u. u) result (record_at bytes.now offset n tt) }
+    ensures { Returns result (record_at bytes.now offset n tt) }
 {
     // Subtracted, not added: `offset + n` may overflow.
     if n <= bytes.len() && offset <= bytes.len() - n {
@@ -26,7 +26,7 @@ pub fn require_bytes(bytes: &[u8], offset: usize, n: usize) -> Result<()>
 
 /// The `n` bytes from `offset` on. Error: `Short`.
 pub fn slice_at(bytes: &[u8], offset: usize, n: usize) -> Result<&[u8]>
-    ensures { Returns (λ s. s.now) result (record_at bytes.now offset n (range bytes.now offset n)) }
+    ensures { ReturnsAs (λ s. s.now) result (record_at bytes.now offset n (range bytes.now offset n)) }
 {
     require_bytes(bytes, offset, n)?;
     Ok(&bytes[offset..offset + n])
@@ -34,7 +34,7 @@ pub fn slice_at(bytes: &[u8], offset: usize, n: usize) -> Result<&[u8]>
 
 /// The `n` bytes from `offset` on. Error: `Malformed` with the reason that is passed, if they are truncated.
 pub fn data_at<'a>(bytes: &'a [u8], offset: usize, n: usize, refusal: Reason) -> Result<&'a [u8]>
-    ensures { Returns (λ s. s.now) result (data_at bytes.entry.now offset n refusal) }
+    ensures { ReturnsAs (λ s. s.now) result (data_at bytes.entry.now offset n refusal) }
 {
     match slice_at(bytes, offset, n) {
         Ok(data) => Ok(data),
@@ -117,7 +117,7 @@ pub fn read_u64(bytes: &[u8], offset: usize) -> u64
 
 /// The byte at `offset`. Error: `Short`.
 pub fn u8_at(bytes: &[u8], offset: usize) -> Result<u8>
-    ensures { Returns (λ n. n) result (record_at bytes.now offset 1 (le bytes.now offset 1)) }
+    ensures { Returns result (record_at bytes.now offset 1 (le bytes.now offset 1)) }
 {
     require_bytes(bytes, offset, 1)?;
     Ok(read_u8(bytes, offset))
@@ -125,7 +125,7 @@ pub fn u8_at(bytes: &[u8], offset: usize) -> Result<u8>
 
 /// The `u16` at `offset`. Error: `Short`.
 pub fn u16_at(bytes: &[u8], offset: usize) -> Result<u16>
-    ensures { Returns (λ n. n) result (record_at bytes.now offset 2 (le bytes.now offset 2)) }
+    ensures { Returns result (record_at bytes.now offset 2 (le bytes.now offset 2)) }
 {
     require_bytes(bytes, offset, 2)?;
     Ok(read_u16(bytes, offset))
@@ -133,7 +133,7 @@ pub fn u16_at(bytes: &[u8], offset: usize) -> Result<u16>
 
 /// The `u32` at `offset`. Error: `Short`.
 pub fn u32_at(bytes: &[u8], offset: usize) -> Result<u32>
-    ensures { Returns (λ n. n) result (record_at bytes.now offset 4 (le bytes.now offset 4)) }
+    ensures { Returns result (record_at bytes.now offset 4 (le bytes.now offset 4)) }
 {
     require_bytes(bytes, offset, 4)?;
     Ok(read_u32(bytes, offset))
@@ -141,7 +141,7 @@ pub fn u32_at(bytes: &[u8], offset: usize) -> Result<u32>
 
 /// The `u64` at `offset`. Error: `Short`.
 pub fn u64_at(bytes: &[u8], offset: usize) -> Result<u64>
-    ensures { Returns (λ n. n) result (record_at bytes.now offset 8 (le bytes.now offset 8)) }
+    ensures { Returns result (record_at bytes.now offset 8 (le bytes.now offset 8)) }
 {
     require_bytes(bytes, offset, 8)?;
     Ok(read_u64(bytes, offset))
@@ -149,7 +149,7 @@ pub fn u64_at(bytes: &[u8], offset: usize) -> Result<u64>
 
 /// Returns `WriteFit` unless `buffer` has `n` bytes from `offset` on.
 pub fn require_room(buffer: &[u8], offset: usize, n: usize) -> Result<()>
-    ensures { Returns (λ u. u) result (fit_at buffer.now offset n) }
+    ensures { Returns result (fit_at buffer.now offset n) }
 {
     // Subtracted, not added: `offset + n` may overflow.
     if n <= buffer.len() && offset <= buffer.len() - n {
@@ -165,7 +165,7 @@ pub fn require_room(buffer: &[u8], offset: usize, n: usize) -> Result<()>
 /// Writes `piece` at `offset`. Error: `WriteFit`; `buffer` is then unchanged.
 #[tactic(auto, unfolding(crate::specs::Bytes::splice))]
 pub fn put_slice(buffer: &mut [u8], offset: usize, piece: &[u8]) -> Result<()>
-    ensures fit { Returns (λ u. u) result (fit_at buffer.old offset (length piece.now)) }
+    ensures fit { Returns result (fit_at buffer.old offset (length piece.now)) }
     ensures after { buffer.new ≡ put buffer.old offset piece.now }
 {
     require_room(buffer, offset, piece.len())?;
@@ -176,7 +176,7 @@ pub fn put_slice(buffer: &mut [u8], offset: usize, piece: &[u8]) -> Result<()>
 /// Writes a byte at `offset`. Error: `WriteFit`; `buffer` is then unchanged.
 #[tactic(auto, unfolding(crate::specs::Bytes::bytes_of))]
 pub fn put_u8(buffer: &mut [u8], offset: usize, n: u8) -> Result<()>
-    ensures fit { Returns (λ u. u) result (fit_at buffer.old offset 1) }
+    ensures fit { Returns result (fit_at buffer.old offset 1) }
     ensures after { buffer.new ≡ put buffer.old offset (bytes_of 1 n) }
 {
     put_slice(buffer, offset, &u8::to_le_bytes(n))
@@ -185,7 +185,7 @@ pub fn put_u8(buffer: &mut [u8], offset: usize, n: u8) -> Result<()>
 /// Writes a `u16` at `offset`. Error: `WriteFit`; `buffer` is then unchanged.
 #[tactic(auto, unfolding(crate::specs::Bytes::bytes_of))]
 pub fn put_u16(buffer: &mut [u8], offset: usize, n: u16) -> Result<()>
-    ensures fit { Returns (λ u. u) result (fit_at buffer.old offset 2) }
+    ensures fit { Returns result (fit_at buffer.old offset 2) }
     ensures after { buffer.new ≡ put buffer.old offset (bytes_of 2 n) }
 {
     put_slice(buffer, offset, &u16::to_le_bytes(n))
@@ -194,7 +194,7 @@ pub fn put_u16(buffer: &mut [u8], offset: usize, n: u16) -> Result<()>
 /// Writes a `u32` at `offset`. Error: `WriteFit`; `buffer` is then unchanged.
 #[tactic(auto, unfolding(crate::specs::Bytes::bytes_of))]
 pub fn put_u32(buffer: &mut [u8], offset: usize, n: u32) -> Result<()>
-    ensures fit { Returns (λ u. u) result (fit_at buffer.old offset 4) }
+    ensures fit { Returns result (fit_at buffer.old offset 4) }
     ensures after { buffer.new ≡ put buffer.old offset (bytes_of 4 n) }
 {
     put_slice(buffer, offset, &u32::to_le_bytes(n))
@@ -203,7 +203,7 @@ pub fn put_u32(buffer: &mut [u8], offset: usize, n: u32) -> Result<()>
 /// Writes a `u64` at `offset`. Error: `WriteFit`; `buffer` is then unchanged.
 #[tactic(auto, unfolding(crate::specs::Bytes::bytes_of))]
 pub fn put_u64(buffer: &mut [u8], offset: usize, n: u64) -> Result<()>
-    ensures fit { Returns (λ u. u) result (fit_at buffer.old offset 8) }
+    ensures fit { Returns result (fit_at buffer.old offset 8) }
     ensures after { buffer.new ≡ put buffer.old offset (bytes_of 8 n) }
 {
     put_slice(buffer, offset, &u64::to_le_bytes(n))

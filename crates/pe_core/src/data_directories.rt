@@ -78,7 +78,7 @@ impl DataDirectory {
 
     /// The directory at `offset`, 8 bytes. Error: `Short`.
     pub fn parse(bytes: &[u8], offset: usize) -> Result<DataDirectory>
-        ensures { Returns (λ d. d) result (record_at bytes.now offset 8 (data_directory bytes.now offset)) }
+        ensures { Returns result (record_at bytes.now offset 8 (data_directory bytes.now offset)) }
     {
         require_bytes(bytes, offset, 8)?;
         Ok(DataDirectory::at(bytes, offset))

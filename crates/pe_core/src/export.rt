@@ -9,7 +9,7 @@ ghost use Rattle.pe_core.specs.Bytes.{le};
 ghost use Rattle.pe_core.specs.ExportSteps.{exports_from};
 ghost use Rattle.pe_core.specs.Exports.{export_data_view, export_data_at, export_view, exports, image_name, table_at, table_entry, named_export};
 ghost use Rattle.pe_core.specs.Options.{default_options};
-ghost use Rattle.pe_core.specs.Refusals.{Returns, ReturnsUnlessMemory};
+ghost use Rattle.pe_core.specs.Refusals.{ReturnsAs, ReturnsUnlessMemory};
 ghost use Rattle.pe_core.specs.Rows.{each};
 ghost use Rattle.pe_core.specs.SectionIndex.{offset_or_end};
 ghost use Rattle.pe_core.specs.SectionMap.{offset_in, section_map};
@@ -99,7 +99,7 @@ fn table_at<'a>(
     size: usize,
     sections: &SectionMap<'_>,
 ) -> Result<&'a [u8]>
-    ensures { Returns (λ s. s.now) result (table_at (offset_in sections.now) bytes.entry.now rva size) }
+    ensures { ReturnsAs (λ s. s.now) result (table_at (offset_in sections.now) bytes.entry.now rva size) }
 {
     if size == 0 {
         return Ok(&[]);
@@ -132,7 +132,7 @@ impl<'a> ExportData<'a> {
         sections: &[SectionTable],
         file_alignment: u32,
     ) -> Result<ExportData<'a>>
-        ensures { Returns export_data_view result (export_data_at (section_map default_options sections.now file_alignment) bytes.entry.now directory.virtual_address) }
+        ensures { ReturnsAs export_data_view result (export_data_at (section_map default_options sections.now file_alignment) bytes.entry.now directory.virtual_address) }
     {
         ExportData::parse_with_opts(
             bytes,
@@ -154,7 +154,7 @@ impl<'a> ExportData<'a> {
         file_alignment: u32,
         opts: &ParseOptions,
     ) -> Result<ExportData<'a>>
-        ensures { Returns export_data_view result (export_data_at (section_map opts.now sections.now file_alignment) bytes.entry.now directory.virtual_address) }
+        ensures { ReturnsAs export_data_view result (export_data_at (section_map opts.now sections.now file_alignment) bytes.entry.now directory.virtual_address) }
     {
         let sections = SectionMap::new(sections, file_alignment, opts);
         ExportData::parse_with_map(bytes, directory, &sections)
@@ -167,7 +167,7 @@ impl<'a> ExportData<'a> {
         directory: DataDirectory,
         sections: &SectionMap<'_>,
     ) -> Result<ExportData<'a>>
-        ensures { Returns export_data_view result (export_data_at (offset_in sections.now) bytes.entry.now directory.virtual_address) }
+        ensures { ReturnsAs export_data_view result (export_data_at (offset_in sections.now) bytes.entry.now directory.virtual_address) }
     {
         let offset = sections.offset_of(directory.virtual_address)?;
         require_bytes(bytes, offset, SIZE_OF_EXPORT_DIRECTORY)?;

@@ -5,7 +5,7 @@
 
 ghost use Rattle.std.specs.Prelude.{◌≡◌, ◌+◌, ◌≤◌, length};
 ghost use Rattle.pe_core.specs.Bytes.{record_at};
-ghost use Rattle.pe_core.specs.Refusals.{Returns};
+ghost use Rattle.pe_core.specs.Refusals.{Returns, ReturnsAs};
 ghost use Rattle.pe_core.specs.TeImages.{reduced};
 
 use crate::bytes::{read_u8, read_u16, read_u32, read_u64, require_bytes, u32_at};
@@ -61,7 +61,7 @@ impl DosHeader {
     /// The DOS header at the start of `bytes`, whatever its signature. Error: `Short`.
     #[tactic(auto, unfolding(crate::specs::Records::dos_header))]
     pub fn parse(bytes: &[u8]) -> Result<DosHeader>
-        ensures { Returns (λ d. d) result (record_at bytes.now 0 64 (dos_header bytes.now 0)) }
+        ensures { Returns result (record_at bytes.now 0 64 (dos_header bytes.now 0)) }
     {
         require_bytes(bytes, 0, 64)?;
         let mut rest = [0; 58];
@@ -100,7 +100,7 @@ impl CoffHeader {
     /// The COFF header at `offset`. Error: `Short`.
     #[tactic(auto, unfolding(crate::specs::Records::coff_header))]
     pub fn parse(bytes: &[u8], offset: usize) -> Result<CoffHeader>
-        ensures { Returns (λ c. c) result (record_at bytes.now offset 20 (coff_header bytes.now offset)) }
+        ensures { Returns result (record_at bytes.now offset 20 (coff_header bytes.now offset)) }
     {
         require_bytes(bytes, offset, 20)?;
         Ok(CoffHeader {
@@ -200,7 +200,7 @@ impl TeHeader {
     /// The number of dropped bytes beyond the 40 of this header, which `parse` and `sections` subtract from RVAs and
     /// raw pointers. Error: `TeSize` if fewer than 40 bytes were dropped.
     pub fn rva_offset(&self) -> Result<u32>
-        ensures { Returns (λ n. n) result (rva_offset_of self.now) }
+        ensures { Returns result (rva_offset_of self.now) }
     {
         if self.stripped_size < SIZE_OF_TE_HEADER {
             return Err(Error::Malformed(Reason::TeSize(self.stripped_size)));
@@ -230,7 +230,7 @@ impl TeHeader {
     /// - `TeSize`: fewer than 40 bytes were dropped.
     #[tactic(auto, unfolding(crate::specs::TeImages::te_header_of, crate::specs::TeImages::te_tests, crate::specs::Records::te_header))]
     pub fn parse(bytes: &[u8]) -> Result<TeHeader>
-        ensures { Returns (λ t. t) result (te_header_of bytes.now) }
+        ensures { Returns result (te_header_of bytes.now) }
     {
         require_bytes(bytes, 0, SIZE_OF_TE_HEADER as usize)?;
         let header = TeHeader::at_start(bytes);
@@ -264,7 +264,7 @@ impl<'a> Header<'a> {
     /// The headers, in the order in which they are read. The contract of `parse_with_opts` lists the tests instead.
     #[tactic(auto, unfolding(crate::specs::HeaderSteps::header_in_steps))]
     fn parse_in_steps(bytes: &'a [u8], opts: &ParseOptions) -> Result<Header<'a>>
-        ensures { Returns header_view result (header_in_steps bytes.now opts.now.parse_mode) }
+        ensures { ReturnsAs header_view result (header_in_steps bytes.now opts.now.parse_mode) }
     {
         let dos_header = DosHeader::parse(bytes)?;
         if dos_header.signature != DOS_MAGIC {
@@ -302,7 +302,7 @@ impl<'a> Header<'a> {
     /// - those of `OptionalHeader::parse`, unless the COFF header says that there is no optional header.
     #[tactic(auto, using(crate::proofs::Steps::same))]
     pub fn parse_with_opts(bytes: &'a [u8], opts: &ParseOptions) -> Result<Header<'a>>
-        ensures { Returns header_view result (header_at bytes.now opts.now.parse_mode) }
+        ensures { ReturnsAs header_view result (header_at bytes.now opts.now.parse_mode) }
     {
         Header::parse_in_steps(bytes, opts)
     }

@@ -9,7 +9,7 @@ ghost use Rattle.pe_core.specs.Imports.{AreLibraries, import_data_view, import_d
 ghost use Rattle.pe_core.specs.ImportSteps.{AreNames, StandInFront};
 ghost use Rattle.pe_core.specs.Options.{default_options};
 ghost use Rattle.pe_core.specs.Records.{import_entry};
-ghost use Rattle.pe_core.specs.Refusals.{Returns, ReturnsUnlessMemory, ReturnsUnlessMemoryAfter};
+ghost use Rattle.pe_core.specs.Refusals.{Returns, ReturnsAs, ReturnsUnlessMemory, ReturnsUnlessMemoryAfter};
 ghost use Rattle.pe_core.specs.Rows.{each};
 ghost use Rattle.pe_core.specs.SectionIndex.{offset_or_end};
 ghost use Rattle.pe_core.specs.SectionMap.{mapped, offset_in, section_map};
@@ -64,7 +64,7 @@ impl ImportDirectoryEntry {
 
     /// The record at `offset`, 20 bytes. Error: `Short`.
     pub fn parse(bytes: &[u8], offset: usize) -> Result<ImportDirectoryEntry>
-        ensures { Returns (λ e. e) result (record_at bytes.now offset 20 (import_entry bytes.now offset)) }
+        ensures { Returns result (record_at bytes.now offset 20 (import_entry bytes.now offset)) }
     {
         require_bytes(bytes, offset, SIZE_OF_IMPORT_ENTRY)?;
         Ok(ImportDirectoryEntry::at(bytes, offset))
@@ -131,7 +131,7 @@ pub fn lookup_number(bytes: &[u8], offset: usize, is_64: bool) -> u64
 /// (`is_64`), 4 in PE32. Error: `Short` if no zero entry ends them.
 #[tactic(auto, using(crate::proofs::ImportLists::entries_read))]
 pub fn lookups_at(bytes: &[u8], offset: usize, is_64: bool) -> Result<&[u8]>
-    ensures { Returns (λ s. s.now) result (lookups_at (entry_size is_64) bytes.now (Some offset)) }
+    ensures { ReturnsAs (λ s. s.now) result (lookups_at (entry_size is_64) bytes.now (Some offset)) }
 {
     let size = lookup_size(is_64);
     let mut count = 0;
@@ -152,7 +152,7 @@ fn lookups_of<'a>(
     sections: &SectionMap<'_>,
     is_64: bool,
 ) -> Result<&'a [u8]>
-    ensures { Returns (λ s. s.now) result (lookups_at (entry_size is_64) bytes.entry.now (offset_in sections.now (lookups_rva entry.now))) }
+    ensures { ReturnsAs (λ s. s.now) result (lookups_at (entry_size is_64) bytes.entry.now (offset_in sections.now (lookups_rva entry.now))) }
 {
     match sections.find(entry.lookups_rva() as usize) {
         Some(offset) => lookups_at(bytes, offset, is_64),
@@ -171,7 +171,7 @@ fn import_record<'a>(
     is_64: bool,
 ) -> Result<SyntheticImportDirectoryEntry<'a>>
     requires { option_map (λ s. s.now) name ≡ option_and_then (text_at bytes.now) (offset_in sections.now entry.name_rva) }
-    ensures { Returns (λ r. Some (import_record_view r)) result (import_record (offset_in sections.now) (entry_size is_64) bytes.entry.now entry) }
+    ensures { ReturnsAs (λ r. Some (import_record_view r)) result (import_record (offset_in sections.now) (entry_size is_64) bytes.entry.now entry) }
 {
     sections.offset_of(entry.name_rva)?;
     let Some(name) = name else {

@@ -7,7 +7,7 @@ ghost use Rattle.std.specs.Option.{option_map};
 ghost use Rattle.pe_core.specs.Gathered.{all_or_refusal};
 ghost use Rattle.pe_core.specs.Imports.{import_entries, import_entry_at, import_data_view, import_of, import_record_view, import_view, imports, entry_size};
 ghost use Rattle.pe_core.specs.ImportSteps.{AreEntryNames, entry_view, hint_offset_of};
-ghost use Rattle.pe_core.specs.Refusals.{Returns, ReturnsUnlessMemory};
+ghost use Rattle.pe_core.specs.Refusals.{ReturnsAs, ReturnsUnlessMemory};
 ghost use Rattle.pe_core.specs.Rows.{each};
 ghost use Rattle.pe_core.specs.SectionMap.{offset_in, section_map};
 ghost use Rattle.pe_core.specs.Text.{text_at};
@@ -139,7 +139,7 @@ fn import_of<'a>(
     is_64: bool,
 ) -> Result<Import<'a>>
     requires { option_map (λ s. s.now) name ≡ text_at bytes.now (hint_offset_of (offset_in sections.now) (entry_size is_64) (entry_view entry.now)) }
-    ensures { Returns import_view result (import_of (offset_in sections.now) (entry_size is_64) bytes.entry.now (entry_view entry.entry.now)) }
+    ensures { ReturnsAs import_view result (import_of (offset_in sections.now) (entry_size is_64) bytes.entry.now (entry_view entry.entry.now)) }
 {
     let Entry { dll, rva, .. } = *entry;
     if entry.is_ordinal(is_64) {

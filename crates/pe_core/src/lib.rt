@@ -27,6 +27,7 @@ mod section_pieces;
 mod section_table;
 mod strtab;
 mod symbol;
+mod table_entries;
 mod text;
 
 pub use byte_range::ByteRange;
@@ -55,4 +56,5 @@ pub use section_map::{find_offset, rounded_up};
 pub use section_table::SectionTable;
 pub use strtab::Strtab;
 pub use symbol::{SIZE_OF_SYMBOL, Symbol, SymbolIterator, SymbolTable};
+pub use table_entries::{TableEntries, TableEntry};
 pub use text::text_at;

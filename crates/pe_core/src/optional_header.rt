@@ -215,7 +215,7 @@ pub struct OptionalHeader {
 
 impl OptionalHeader {
     ghost use Rattle.std.specs.Prelude.{◌+◌};
-    ghost use Rattle.pe_core.specs.Refusals.{Returns};
+    ghost use Rattle.pe_core.specs.Refusals.{ReturnsAs};
     ghost use Rattle.pe_core.specs.Header.{optional_header_view, optional_header_at};
 
     /// The optional header at `offset`. Its length follows from its magic number and its number of directories
@@ -225,7 +225,7 @@ impl OptionalHeader {
     /// - `Short`: the directories that are kept.
     #[tactic(auto, unfolding(crate::specs::Header::optional_header_tests, crate::specs::Header::optional_header))]
     pub fn parse(bytes: &[u8], offset: usize) -> Result<OptionalHeader>
-        ensures { Returns optional_header_view result (optional_header_at bytes.now offset) }
+        ensures { ReturnsAs optional_header_view result (optional_header_at bytes.now offset) }
     {
         match u16_at(bytes, offset)? {
             MAGIC_32 => {

@@ -2,7 +2,7 @@
 //! blocks, each with the RVA of a page, its size, and entries of 2 bytes for what to change if the image is not loaded
 //! at its image base. A caller passes data directory 5, and reads the blocks itself.
 
-ghost use Rattle.pe_core.specs.Refusals.{Returns};
+ghost use Rattle.pe_core.specs.Refusals.{ReturnsAs};
 ghost use Rattle.pe_core.specs.Options.{default_options};
 ghost use Rattle.pe_core.specs.Relocations.{directory_bytes};
 
@@ -28,7 +28,7 @@ impl<'a> RelocationData<'a> {
         sections: &[SectionTable],
         file_alignment: u32,
     ) -> Result<RelocationData<'a>>
-        ensures { Returns (λ r. r.bytes.now) result
+        ensures { ReturnsAs (λ r. r.bytes.now) result
             (directory_bytes default_options bytes.entry.now directory sections.now file_alignment) }
     {
         RelocationData::parse_with_opts(
@@ -49,7 +49,7 @@ impl<'a> RelocationData<'a> {
         file_alignment: u32,
         opts: &ParseOptions,
     ) -> Result<RelocationData<'a>>
-        ensures { Returns (λ r. r.bytes.now) result
+        ensures { ReturnsAs (λ r. r.bytes.now) result
             (directory_bytes opts.now bytes.entry.now directory sections.now file_alignment) }
     {
         let offset = mapped_offset(directory.virtual_address, sections, file_alignment, opts)?;

@@ -78,7 +78,7 @@ impl<'a> SectionMap<'a> {
 
     /// The file offset of an RVA. Error: `Unmapped`.
     pub fn offset_of(&self, rva: u32) -> Result<usize>
-        ensures { Returns (λ p. p) result (mapped (offset_in self.now rva)) }
+        ensures { Returns result (mapped (offset_in self.now rva)) }
     {
         match self.find(rva as usize) {
             Some(offset) => Ok(offset),
@@ -101,7 +101,7 @@ pub fn mapped_offset(
     file_alignment: u32,
     opts: &ParseOptions,
 ) -> Result<usize>
-    ensures { Returns (λ p. p) result (mapped (section_map opts.now sections.now file_alignment rva)) }
+    ensures { Returns result (mapped (section_map opts.now sections.now file_alignment rva)) }
 {
     SectionMap::new(sections, file_alignment, opts).offset_of(rva)
 }

@@ -52,7 +52,7 @@ impl SectionTable {
 
     /// The section header at `offset`, whose 40 bytes the caller knows to lie in `bytes`.
     #[tactic(auto, unfolding(crate::specs::Records::section_table))]
-    pub(crate) fn at(bytes: &[u8], offset: usize) -> SectionTable
+    pub fn at(bytes: &[u8], offset: usize) -> SectionTable
         requires { offset + 40 ≤ length bytes.now }
         ensures { result ≡ section_table bytes.now offset }
     {
@@ -74,7 +74,7 @@ impl SectionTable {
 
     /// The section header at `offset`. Error: `Short`.
     pub fn parse(bytes: &[u8], offset: usize) -> Result<SectionTable>
-        ensures { Returns (λ s. s) result (record_at bytes.now offset 40 (section_table bytes.now offset)) }
+        ensures { Returns result (record_at bytes.now offset 40 (section_table bytes.now offset)) }
     {
         require_bytes(bytes, offset, 40)?;
         Ok(SectionTable::at(bytes, offset))

@@ -7,7 +7,7 @@ ghost use Rattle.std.specs.Prelude.{◌≡◌, ◌<◌, ◌==◌, [], ◌∷◌,
 ghost use Rattle.std.specs.List.{before_first, after_first, list_all};
 ghost use Rattle.std.specs.Str.{is_utf8};
 ghost use Rattle.std.specs.Option.{option_map};
-ghost use Rattle.pe_core.specs.Refusals.{Returns, ReturnsUnlessMemoryAfter, StringTable, kind_of, outcome};
+ghost use Rattle.pe_core.specs.Refusals.{Returns, ReturnsAs, ReturnsUnlessMemoryAfter, StringTable, kind_of, outcome};
 ghost use Rattle.pe_core.specs.Strings.{pieces, strings_at, strings_view};
 
 use crate::bytes::{read_u32, require_bytes};
@@ -70,7 +70,7 @@ fn first_string(bytes: &[u8], table_size: usize) -> Result<(&str, &[u8])>
 /// UTF-8.
 #[tactic(auto, using(crate::proofs::Pieces::no_pieces, crate::proofs::Pieces::room))]
 fn count_strings(bytes: &[u8], table_size: usize) -> Result<usize>
-    ensures { Returns (λ n. n) result (outcome ((list_all is_utf8 (pieces bytes.now), StringTable) ∷ []) (length (pieces bytes.now))) }
+    ensures { Returns result (outcome ((list_all is_utf8 (pieces bytes.now), StringTable) ∷ []) (length (pieces bytes.now))) }
 {
     let mut rest = bytes;
     let mut count = 0;
@@ -83,7 +83,7 @@ fn count_strings(bytes: &[u8], table_size: usize) -> Result<usize>
 
 /// The string table at `offset`. `None` if that is the end of the bytes. Error: `StringTable` if it is truncated.
 fn strings_at(bytes: &[u8], offset: usize) -> Result<Option<Strtab<'_>>>
-    ensures { Returns strings_view result (strings_at bytes.entry.now offset) }
+    ensures { ReturnsAs strings_view result (strings_at bytes.entry.now offset) }
 {
     if offset == bytes.len() {
         return Ok(None);
@@ -144,7 +144,7 @@ impl CoffHeader {
     /// `StringTable` (the string table is truncated).
     #[tactic(auto, unfolding(crate::specs::Strings::strings_of))]
     pub fn strings<'a>(&self, bytes: &'a [u8]) -> Result<Option<Strtab<'a>>>
-        ensures { Returns strings_view result (strings_of bytes.entry.now self.now) }
+        ensures { ReturnsAs strings_view result (strings_of bytes.entry.now self.now) }
     {
         let symbols = self.pointer_to_symbol_table as usize;
         if symbols == 0 {

@@ -7,7 +7,7 @@ ghost use Rattle.std.specs.Prelude.{◌≡◌, ◌+◌, ◌-◌, ◌*◌, ◌/�
 ghost use Rattle.std.specs.Iterator.{at_most};
 ghost use Rattle.std.specs.Option.{option_map};
 ghost use Rattle.pe_core.specs.Bytes.{le, record_at};
-ghost use Rattle.pe_core.specs.Refusals.{Returns};
+ghost use Rattle.pe_core.specs.Refusals.{Returns, ReturnsAs};
 ghost use Rattle.pe_core.specs.Symbols.{inline_name};
 
 use crate::bytes::{read_u8, read_u16, read_u32, require_bytes, slice_at};
@@ -73,7 +73,7 @@ impl Symbol {
 
     /// The symbol at `offset`. Error: `Short`.
     pub fn parse(bytes: &[u8], offset: usize) -> Result<Symbol>
-        ensures { Returns (λ s. s) result (record_at bytes.now offset 18 (symbol bytes.now offset)) }
+        ensures { Returns result (record_at bytes.now offset 18 (symbol bytes.now offset)) }
     {
         require_bytes(bytes, offset, SIZE_OF_SYMBOL)?;
         Ok(Symbol::at(bytes, offset))
@@ -84,7 +84,7 @@ impl Symbol {
     /// is not UTF-8.
     #[tactic(auto, unfolding(crate::specs::Symbols::symbol_name))]
     pub fn name<'a>(&'a self, strings: &Strtab<'a>) -> Result<&'a str>
-        ensures { Returns (λ s. s.now) result (symbol_name self.entry.now strings.now.bytes.now) }
+        ensures { ReturnsAs (λ s. s.now) result (symbol_name self.entry.now strings.now.bytes.now) }
     {
         let offset = read_u32(&self.name, 4);
         let name = if self.name[0] == 0 {
@@ -158,7 +158,7 @@ impl CoffHeader {
     /// are one read, so a pointer past the end of the bytes is `Short` even with 0 entries.
     #[tactic(auto, unfolding(crate::specs::Symbols::symbols_of))]
     pub fn symbols<'a>(&self, bytes: &'a [u8]) -> Result<Option<SymbolTable<'a>>>
-        ensures { Returns symbol_table_view result (symbols_of bytes.entry.now self.now) }
+        ensures { ReturnsAs symbol_table_view result (symbols_of bytes.entry.now self.now) }
     {
         let offset = self.pointer_to_symbol_table as usize;
         if offset == 0 {

@@ -1,9 +1,8 @@
 -- There is one step, up to the numbers in a refusal of codes.
 use Rattle.std.proofs.Common.{◌≡◌, ℕ, Bool, false, ◌||◌, List, [], ◌∷◌, map, Option, None, Result, Ok, Err, refl, ap, sym, ◌∙◌, subst}
-use Rattle.pe_core.specs.Refusals.{Refusal, kind_of}
+use Rattle.pe_core.specs.Refusals.{Refusal, kind_of, answer_of}
 use Rattle.pe_core.specs.declared.error.Error.{Error}
 use Rattle.pe_unwind.specs.declared.unwind_code.UnwindCode.{UnwindCode}
-use Rattle.pe_unwind.specs.FunctionTable.{answer_of}
 use Rattle.pe_unwind.specs.UnwindRecord.{UnwindInfoView, code_stream}
 use Rattle.pe_unwind.proofs.Streams.{one_reading, some_items}
 use Rattle.pe_frame.specs.declared.error.FrameError.{FrameError}

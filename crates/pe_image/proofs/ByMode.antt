@@ -3,7 +3,7 @@ use Rattle.std.proofs.Common.{◌≡◌, ◌≢◌, ℕ, List, Some, Result, Ok,
 use Rattle.std.specs.Option.{option_map}
 use Rattle.std.specs.Prelude.{Vec}
 use Rattle.pe_core.specs.Modes.{none_if_refused, none_if_error}
-use Rattle.pe_core.specs.Refusals.{Refusal, Memory, Returns, ReturnsUnlessMemory, answer_by}
+use Rattle.pe_core.specs.Refusals.{Refusal, Memory, ReturnsAs, ReturnsUnlessMemory, answer_by}
 use Rattle.pe_core.specs.declared.data_directories.DataDirectory.{DataDirectory}
 use Rattle.pe_core.specs.declared.error.Error.{Error}
 use Rattle.pe_core.specs.declared.error.Error.TheVariants as errors
@@ -30,7 +30,7 @@ by_mode view Permissive (Err (errors.Short at needed)) never = refl
 by_mode view mode (Err (errors.Memory e)) never = absurd (never refl)
 
 -- where the definition's answer is known, want of memory apart
-pub gives_by_mode : {X Y : Type 0} (view : X → Y) (mode : ParseMode) (parsed : Result X Error) (defined : Result Y Refusal) → Returns view parsed defined → ReturnsUnlessMemory (option_map view) (none_if_error mode parsed) (none_if_refused mode defined)
+pub gives_by_mode : {X Y : Type 0} (view : X → Y) (mode : ParseMode) (parsed : Result X Error) (defined : Result Y Refusal) → ReturnsAs view parsed defined → ReturnsUnlessMemory (option_map view) (none_if_error mode parsed) (none_if_refused mode defined)
 gives_by_mode view mode (Ok x) defined g = rw g refl
 gives_by_mode view Strict (Err (errors.Malformed reason)) defined g = rw g refl
 gives_by_mode view Strict (Err (errors.BadMagic magic)) defined g = rw g refl
@@ -46,7 +46,7 @@ resources_by_mode opts b sections unit d parsed is never = (Some (answer_by reso
 -- ---- memory
 
 -- what is no want of memory stays none
-pub never_by_mode : {X Y : Type 0} (view : X → Y) (mode : ParseMode) (parsed : Result X Error) (defined : Result Y Refusal) → Returns view parsed defined → Lacks defined → MemoryOnlyIf ⊥ (none_if_error mode parsed)
+pub never_by_mode : {X Y : Type 0} (view : X → Y) (mode : ParseMode) (parsed : Result X Error) (defined : Result Y Refusal) → ReturnsAs view parsed defined → Lacks defined → MemoryOnlyIf ⊥ (none_if_error mode parsed)
 never_by_mode view mode (Ok x) defined g l = tt
 never_by_mode view Strict (Err (errors.Malformed reason)) defined g l = tt
 never_by_mode view Strict (Err (errors.BadMagic magic)) defined g l = tt

@@ -1,10 +1,11 @@
 -- The core of an image as the code keeps it. For proofs only.
-use Rattle.std.specs.Prelude.{map}
+use Rattle.std.specs.Prelude.{◌≡◌, map}
 use Rattle.std.specs.Option.{option_map}
 use Rattle.pe_core.specs.Exports.{export_data_view, export_view}
 use Rattle.pe_core.specs.Header.{header_view}
 use Rattle.pe_core.specs.Imports.{import_data_view, import_view}
 use Rattle.pe_image.specs.Core.{CoreView, AreLibrariesOf}
+use Rattle.pe_image.specs.LayoutParts.{layout_of}
 use Rattle.pe_image.specs.declared.core_image.Core.{Core}
 
 -- the view of a core
@@ -21,3 +22,7 @@ core_view c = record {
 -- the libraries of a core are those of its import directory
 abbrev pub CoreHasLibraries : {Z : Type 0} → Core Z → Type 0
 CoreHasLibraries c = AreLibrariesOf (option_map import_data_view c.import_data) (map (λ s. s.now) c.libraries.items)
+
+-- the layout of a core is that of its optional header
+abbrev pub CoreHasLayout : {Z : Type 0} → Core Z → Type 0
+CoreHasLayout c = c.layout ≡ layout_of (core_view c).header.optional_header

@@ -12,7 +12,7 @@ ghost use Rattle.pe_core.specs.Refusals.{ReturnsUnlessMemory, ReturnsUnlessMemor
 ghost use Rattle.pe_core.specs.SectionMap.{section_map};
 ghost use Rattle.pe_core.specs.Sections.{sections_of};
 ghost use Rattle.pe_image.specs.Core.{export_data_of, exports_of, import_data_of, imports_of, core_with, sections_read, core_of, AreLibrariesOf};
-ghost use Rattle.pe_image.specs.CoreParts.{core_view, CoreHasLibraries};
+ghost use Rattle.pe_image.specs.CoreParts.{core_view, CoreHasLayout, CoreHasLibraries};
 ghost use Rattle.pe_image.specs.LayoutParts.{layout_of};
 ghost use Rattle.pe_image.specs.Memory.{AsksForMemory, HasExports, HasImports, MemoryOnlyIf};
 
@@ -20,7 +20,7 @@ use crate::layout::Layout;
 use pe_core::{Export, ExportData, Header, Import, ImportData, ParseOptions, Result, SectionTable};
 use std::alloc::Allocator;
 
-/// The core of an image. The fields are those of `PE` with the same names.
+/// The core of an image. The fields but `layout` are those of `PE` with the same names.
 #[derive(Drop)]
 pub struct Core<'a, A: Allocator + Copy + Drop> {
     pub header: Header<'a>,
@@ -30,6 +30,8 @@ pub struct Core<'a, A: Allocator + Copy + Drop> {
     pub import_data: Option<ImportData<'a, A>>,
     pub imports: Vec<Import<'a>, A>,
     pub libraries: Vec<&'a str, A>,
+    /// What its optional header says about the image.
+    pub layout: Layout,
 }
 
 /// The section headers of an image.
@@ -166,6 +168,7 @@ impl<'a, A: Allocator + Copy + Drop> Core<'a, A> {
         ensures memory { MemoryOnlyIf (HasExports bytes.entry.now opts.now sections.items (header_view header.entry).optional_header
             ⊎ HasImports opts.now sections.items (header_view header.entry).optional_header) result }
         ensures libraries { IfOk result CoreHasLibraries }
+        ensures layout { IfOk result CoreHasLayout }
     {
         let layout = Layout::of(&header.optional_header);
         let alignment = layout.file_alignment;
@@ -182,6 +185,7 @@ impl<'a, A: Allocator + Copy + Drop> Core<'a, A> {
             import_data,
             imports,
             libraries,
+            layout,
         })
     }
 
@@ -192,6 +196,7 @@ impl<'a, A: Allocator + Copy + Drop> Core<'a, A> {
         ensures core { ReturnsUnlessMemoryAfter (sections_read bytes.entry.now opts.now) core_view result (core_of bytes.entry.now opts.now) }
         ensures memory { MemoryOnlyIf (AsksForMemory bytes.entry.now opts.now) result }
         ensures libraries { IfOk result CoreHasLibraries }
+        ensures layout { IfOk result CoreHasLayout }
     {
         let header = Header::parse_with_opts(bytes, opts)?;
         let sections = sections(alloc, bytes, &header)?;

@@ -4,13 +4,13 @@
 
 ghost use Rattle.std.specs.Prelude.{◌≡◌, map, None, if◌then◌else◌};
 ghost use Rattle.std.specs.Option.{option_map};
-ghost use Rattle.pe_core.specs.Refusals.{ReturnsUnlessMemory, answer_by};
+ghost use Rattle.pe_core.specs.Refusals.{ReturnsUnlessMemory};
 ghost use Rattle.pe_core.specs.Relocations.{directory_bytes};
 ghost use Rattle.pe_records.specs.Certificates.{certificate_view, certificates_at};
 ghost use Rattle.pe_records.specs.DebugRecords.{debug_view, debug_data};
 ghost use Rattle.pe_resource.specs.Resources.{resource_view};
 ghost use Rattle.pe_unwind.specs.ExceptionTable.{exception_at};
-ghost use Rattle.pe_image.specs.CoreParts.{core_view};
+ghost use Rattle.pe_image.specs.CoreParts.{core_view, CoreHasLayout};
 ghost use Rattle.pe_image.specs.Fields.{field, exceptions_for, IsResourceField};
 ghost use Rattle.pe_image.specs.LayoutParts.{layout_of};
 ghost use Rattle.pe_image.specs.Memory.{StartsCertificates, HasCertificates, MemoryOnlyIf};
@@ -165,13 +165,13 @@ impl<'a, A: Allocator + Copy + Drop> FirstFields<'a, A> {
         bytes: &'a [u8],
         opts: &ParseOptions,
         core: &Core<'a, A>,
-        layout: &Layout,
     ) -> Result<FirstFields<'a, A>>
-        requires { layout.now ≡ layout_of (core_view core.now).header.optional_header }
+        requires { CoreHasLayout core.now }
         ensures fields { ReturnsUnlessMemory first_fields_view result (first_fields_in_turn bytes.entry.now opts.now (core_view core.now)) }
         ensures memory { MemoryOnlyIf (HasCertificates bytes.entry.now opts.now (core_view core.now).header.optional_header) result }
     {
         let machine = core.header.coff_header.machine;
+        let layout = &core.layout;
         Ok(FirstFields {
             debug_data: debug_data(bytes, opts, &core.sections, layout)?,
             exception_data: exception_data(bytes, opts, &core.sections, machine, layout)?,

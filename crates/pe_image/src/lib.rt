@@ -56,6 +56,8 @@ pub use pe_core::SymbolIterator;
 pub use pe_core::SymbolTable;
 pub use pe_core::SyntheticImportDirectoryEntry;
 pub use pe_core::TE_MAGIC;
+pub use pe_core::TableEntries;
+pub use pe_core::TableEntry;
 pub use pe_core::TeHeader;
 pub use pe_core::WindowsFields;
 pub use pe_core::data_at;

@@ -9,7 +9,7 @@ ghost use Rattle.pe_core.specs.Options.{default_options};
 ghost use Rattle.pe_resource.specs.Resources.{resource_view};
 ghost use Rattle.pe_image.specs.FieldSteps.{first_fields_view};
 ghost use Rattle.pe_image.specs.Core.{sections_read};
-ghost use Rattle.pe_image.specs.CoreParts.{core_view, CoreHasLibraries};
+ghost use Rattle.pe_image.specs.CoreParts.{core_view, CoreHasLayout, CoreHasLibraries};
 ghost use Rattle.pe_image.specs.Image.{image_of, image_view, source_of, HasLibraries, ReturnsImage};
 ghost use Rattle.pe_image.specs.ImageSteps.{ReturnsAfterCore};
 ghost use Rattle.pe_image.specs.LayoutParts.{layout_of};
@@ -17,7 +17,7 @@ ghost use Rattle.pe_image.specs.Memory.{AsksForMemory, HasCertificates, MemoryOn
 
 use crate::core_image::Core;
 use crate::fields::{FirstFields, resource_data};
-use crate::layout::{Layout, is_library};
+use crate::layout::is_library;
 use pe_core::{
     Export, ExportData, Header, Import, ImportData, ParseOptions, RelocationData, Result,
     SectionTable,
@@ -115,11 +115,10 @@ impl<'a, A: Allocator + Copy + Drop> PE<'a, A> {
     fn of_parts(
         bytes: &'a [u8],
         core: Core<'a, A>,
-        layout: &Layout,
         first: FirstFields<'a, A>,
         resource_data: Option<ResourceData<'a>>,
     ) -> PE<'a, A>
-        requires { layout.now ≡ layout_of (core_view core).header.optional_header }
+        requires { CoreHasLayout core }
         ensures view { image_view result ≡ image_of (core_view core.entry) (first_fields_view first.entry) (option_map resource_view resource_data.entry) }
         ensures libraries { CoreHasLibraries core.entry → HasLibraries result }
         ensures source { source_of result ≡ bytes.entry.now }
@@ -132,6 +131,7 @@ impl<'a, A: Allocator + Copy + Drop> PE<'a, A> {
             import_data,
             imports,
             libraries,
+            layout,
         } = core;
         let FirstFields {
             debug_data,
@@ -170,16 +170,16 @@ impl<'a, A: Allocator + Copy + Drop> PE<'a, A> {
         opts: &ParseOptions,
         core: Core<'a, A>,
     ) -> Result<PE<'a, A>>
-        requires { CoreHasLibraries core }
+        requires libraries { CoreHasLibraries core }
+        requires layout { CoreHasLayout core }
         ensures image { ReturnsAfterCore bytes.entry.now opts.now (core_view core.entry) result }
         ensures memory { MemoryOnlyIf (HasCertificates bytes.entry.now opts.now (core_view core.entry).header.optional_header) result }
         ensures libraries { IfOk result HasLibraries }
         ensures source { IfOk result (λ p. source_of p ≡ bytes.entry.now) }
     {
-        let layout = Layout::of(&core.header.optional_header);
-        let first = FirstFields::read(alloc, bytes, opts, &core, &layout)?;
-        let resource_data = resource_data(alloc, bytes, opts, &core.sections, &layout)?;
-        Ok(PE::of_parts(bytes, core, &layout, first, resource_data))
+        let first = FirstFields::read(alloc, bytes, opts, &core)?;
+        let resource_data = resource_data(alloc, bytes, opts, &core.sections, &core.layout)?;
+        Ok(PE::of_parts(bytes, core, first, resource_data))
     }
 
     /// Reads the image in `bytes`, a whole file, in strict mode and with all directories. Errors: those of

@@ -13,7 +13,7 @@ mod sections;
 
 ghost use Rattle.std.specs.Prelude.{◌≡◌, ◌<◌, [], ◌∷◌, IsTrue, OnOk, Some, length, map};
 ghost use Rattle.pe_core.specs.Header.{header_view, optional_header_view};
-ghost use Rattle.pe_core.specs.Refusals.{Returns, WriteFit, outcome};
+ghost use Rattle.pe_core.specs.Refusals.{ReturnsAs, WriteFit, outcome};
 ghost use Rattle.pe_records.specs.Certificates.{certificate_view};
 ghost use Rattle.pe_image.specs.Overlay.{all_fit};
 ghost use Rattle.pe_image.specs.WritingSteps.{put_in_turn};
@@ -93,7 +93,7 @@ impl<'a, A: Allocator + Copy + Drop> PE<'a, A> {
     fn require_pieces(&self, buffer: &[u8], optional: &OptionalHeader) -> Result<usize>
         requires unit { 0 < optional.now.windows_fields.file_alignment }
         requires inside { IsTrue (all_in_source (source_of self.now) self.now.sections.items) }
-        ensures { Returns (λ end. end) result
+        ensures { ReturnsAs (λ end. end) result
             (outcome ((all_fit (length buffer.now) (image_pieces (source_of self.now) (header_view self.now.header) (optional_header_view optional.now) self.now.sections.items (map certificate_view self.now.certificates.items)), WriteFit) ∷ []) (image_end (header_view self.now.header) (optional_header_view optional.now) self.now.sections.items (map certificate_view self.now.certificates.items))) }
     {
         require_headers(buffer, &self.header, optional)?;
@@ -107,7 +107,7 @@ impl<'a, A: Allocator + Copy + Drop> PE<'a, A> {
     /// Tests for all errors of `write_into` but the first, in their order. Returns what `write_into` returns.
     #[tactic(auto, using(crate::proofs::WrittenImages::positive), unfolding(crate::specs::Writing::image_tests))]
     fn require_image(&self, buffer: &[u8], optional: &OptionalHeader) -> Result<usize>
-        ensures returned { Returns (λ end. end) result
+        ensures returned { ReturnsAs (λ end. end) result
             (outcome (image_tests (source_of self.now) (header_view self.now.header) (optional_header_view optional.now) self.now.sections.items (length buffer.now) (image_pieces (source_of self.now) (header_view self.now.header) (optional_header_view optional.now) self.now.sections.items (map certificate_view self.now.certificates.items))) (image_end (header_view self.now.header) (optional_header_view optional.now) self.now.sections.items (map certificate_view self.now.certificates.items))) }
         ensures unit { OnOk result (0 < optional.now.windows_fields.file_alignment) }
         ensures inside { OnOk result (IsTrue (all_in_source (source_of self.now) self.now.sections.items)) }

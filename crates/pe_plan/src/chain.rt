@@ -3,8 +3,7 @@
 //! count its records and then to take them.
 
 ghost use Rattle.std.specs.Prelude.{◌≡◌, ◌<◌, ◌^◌, map};
-ghost use Rattle.pe_core.specs.Refusals.{answer_by};
-ghost use Rattle.pe_unwind.specs.FunctionTable.{answer_of};
+ghost use Rattle.pe_core.specs.Refusals.{answer_of, answer_by};
 ghost use Rattle.pe_unwind.specs.Links.{links_by};
 ghost use Rattle.pe_unwind.specs.UnwindRecord.{unwind_view};
 ghost use Rattle.pe_unwind.specs.Unwinding.{Unwinds};

@@ -1,7 +1,8 @@
 -- The entries of a table, from the front.
 use Rattle.std.proofs.Common.{◌≡◌, ℕ, ◌+◌, ◌*◌, ◌/◌, ◌<◌, ◌≤◌, List, [], ◌∷◌, length, map, drop, Ok, Err, sym, arith}
 use Rattle.std.specs.List.{range_with_len}
-use Rattle.pe_core.proofs.TableEntries.{ReadsAfter, le_after, each-as_map, entry_items-more, entry_items-none, entry_items-cut, length-entry_items}
+use Rattle.pe_core.specs.Rows.{ReadsAfter}
+use Rattle.pe_core.proofs.EntryItems.{le_after, each-as_map, entry_items_more, entry_items_none, entry_items_cut, length-entry_items}
 use Rattle.pe_core.specs.Refusals.{Short}
 use Rattle.pe_records.specs.DebugDirectory.{debug_entry_at, debug_entries, whole_debug_entries, debug_entry_count}
 
@@ -17,16 +18,16 @@ entry_after f b p q e =
 -- one entry and those behind it
 pub entries_more : (f : ℕ) (b : List ℕ) → 28 ≤ length b → debug_entries f b ≡ Ok (debug_entry_at f b 0) ∷ debug_entries f (drop 28 b)
 unfolding debug_entries
-entries_more f b h = entry_items-more (debug_entry_at f) 28 b (entry_after f) (omega arith) h
+entries_more f b h = entry_items_more (debug_entry_at f) 28 b (entry_after f) (omega arith) h
 
 pub entries_none : (f : ℕ) (b : List ℕ) → length b ≡ 0 → debug_entries f b ≡ []
 unfolding debug_entries
-entries_none f b e = entry_items-none (debug_entry_at f) 28 b (omega arith) e
+entries_none f b e = entry_items_none (debug_entry_at f) 28 b (omega arith) e
 
 -- a cut entry and nothing behind it
 pub entries_truncated : (f : ℕ) (b left : List ℕ) → 0 < length b → length b < 28 → length left ≡ 0 → debug_entries f b ≡ Err Short ∷ debug_entries f left
 unfolding debug_entries
-entries_truncated f b left some cut e = entry_items-cut (debug_entry_at f) 28 b left some cut e
+entries_truncated f b left some cut e = entry_items_cut (debug_entry_at f) 28 b left some cut e
 
 pub entries_count : (f : ℕ) (b : List ℕ) → length (debug_entries f b) ≡ debug_entry_count b
 unfolding debug_entries

@@ -5,7 +5,7 @@ use Rattle.pe_core.specs.Refusals.{Refusal, Short, kind_of}
 use Rattle.pe_core.specs.declared.error.Error.{Error}
 use Rattle.pe_records.specs.declared.debug.ImageDebugDirectory.{ImageDebugDirectory}
 use Rattle.pe_records.specs.declared.debug.ImageDebugDirectoryIterator.{ImageDebugDirectoryIterator}
-use Rattle.pe_core.specs.Rows.{whole_entries}
+use Rattle.pe_core.specs.Rows.{whole_entries, entry_items}
 use Rattle.pe_records.specs.DebugDirectory.{debug_entry_at, debug_entries, ReturnsEntry, debug_bytes_left, fixup_of, debug_item}
 
 abbrev pub Next : ImageDebugDirectoryIterator → Option (Result ImageDebugDirectory Error) → ImageDebugDirectoryIterator → Type 0
@@ -24,7 +24,7 @@ after_error [] false r ys h = cc
 after_error (x ∷ xs) whole r ys h = absurd cc
 
 left_of_refusal : (f : ℕ) (b left : List ℕ) (r : Refusal) → debug_entries f b ≡ Err r ∷ debug_entries f left → debug_entries f left ≡ []
-unfolding debug_entries
+unfolding debug_entries entry_items
 left_of_refusal f b left r h = after_error (whole_entries (debug_entry_at f) 28 b) (length b % 28 == 0) r _ h
 
 nothing_more : (f g : ℕ) (b c left : List ℕ) (r : Option (Result ImageDebugDirectory Error)) → debug_entries f b ≡ [] → c ≡ b → g ≡ f → ReturnsEntry g c r left → r ≡ None

@@ -4,7 +4,7 @@
 
 ghost use Rattle.std.specs.Prelude.{◌≡◌, ◌+◌, ◌-◌, ◌<◌, ◌≤◌, ◌^◌, [], ◌∷◌, ◌++◌, length, map, replicate};
 ghost use Rattle.pe_core.specs.Bytes.{holds, put};
-ghost use Rattle.pe_core.specs.Refusals.{WriteFit, outcome, Returns, ReturnsUnlessMemory};
+ghost use Rattle.pe_core.specs.Refusals.{WriteFit, outcome, ReturnsAs, ReturnsUnlessMemory};
 ghost use Rattle.pe_core.specs.SectionMap.{rounded_up};
 ghost use Rattle.pe_records.specs.Certificates.{FindsRevision, FindsType, Lists, certificate_view, certificates_at};
 
@@ -157,7 +157,7 @@ impl<'a> AttributeCertificate<'a> {
     /// is changed.
     #[tactic(auto, using(crate::proofs::CertificatePieces::length_written), unfolding(pe_core::specs::Bytes::splice))]
     pub fn write_into(&self, out: &mut [u8], offset: usize) -> Result<usize>
-        ensures fit { Returns (λ end. end) result (written_end out.old offset (certificate_view self.now)) }
+        ensures fit { ReturnsAs (λ end. end) result (written_end out.old offset (certificate_view self.now)) }
         ensures after { out.new ≡ put out.old offset (written_certificate (certificate_view self.now)) }
     {
         let size = rounded_up(8 + self.certificate.len(), UNIT);

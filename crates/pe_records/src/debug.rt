@@ -14,7 +14,7 @@ ghost use Rattle.std.specs.List.{find, range_with_len};
 ghost use Rattle.std.specs.Iterator.{at_most, UpTo};
 ghost use Rattle.std.specs.Iterator.SizeHint.{IsWithinCount};
 ghost use Rattle.std.specs.Option.{option_map};
-ghost use Rattle.pe_core.specs.Refusals.{Returns};
+ghost use Rattle.pe_core.specs.Refusals.{Returns, ReturnsAs};
 ghost use Rattle.pe_core.specs.Options.{default_options};
 ghost use Rattle.pe_core.specs.Offsets.{IsWithin};
 ghost use Rattle.pe_core.specs.TeImages.{reduced};
@@ -78,10 +78,10 @@ fn reduced(address: u32, fixup: u32) -> u32
 }
 
 impl ImageDebugDirectory {
-    /// Reads the entry at an offset where its 28 bytes are known to be. The fixup is subtracted from its RVA and its
-    /// file offset.
+    /// The entry at an offset in the bytes that is known to have 28 bytes. `fixup` is subtracted from its RVA and its
+    /// file offset, modulo 2^32: 0, or for a TE image `TeHeader::rva_offset`.
     #[tactic(auto, unfolding(crate::specs::DebugDirectory::debug_entry_at))]
-    pub(crate) fn at(bytes: &[u8], offset: usize, fixup: u32) -> ImageDebugDirectory
+    pub fn at(bytes: &[u8], offset: usize, fixup: u32) -> ImageDebugDirectory
         requires { offset + 28 ≤ length bytes.now }
         ensures { result ≡ debug_entry_at fixup bytes.now offset }
     {
@@ -191,7 +191,7 @@ fn table<'a>(
     file_alignment: u32,
     opts: &ParseOptions,
 ) -> Result<&'a [u8]>
-    ensures { Returns (λ s. s.now) result
+    ensures { ReturnsAs (λ s. s.now) result
         (directory_table opts.now bytes.entry.now directory sections.now file_alignment) }
 {
     let range = DebugData::table_range(bytes, directory, sections, file_alignment, opts)?;
@@ -227,7 +227,7 @@ impl<'a> DebugData<'a> {
         opts: &ParseOptions,
         rva_offset: u32,
     ) -> Result<DebugData<'a>>
-        ensures { Returns debug_view result (records opts.now bytes.entry.now rva_offset table.entry.now) }
+        ensures { ReturnsAs debug_view result (records opts.now bytes.entry.now rva_offset table.entry.now) }
     {
         let first = FirstEntries::of_table(table, rva_offset);
         Ok(DebugData {
@@ -254,7 +254,7 @@ impl<'a> DebugData<'a> {
         file_alignment: u32,
         opts: &ParseOptions,
     ) -> Result<ByteRange>
-        ensures range { Returns (λ r. r) result
+        ensures range { Returns result
             (directory_range opts.now bytes.now directory sections.now file_alignment) }
         ensures within { IfOk result (IsWithin bytes.now) }
     {
@@ -287,7 +287,7 @@ impl<'a> DebugData<'a> {
         sections: &[SectionTable],
         file_alignment: u32,
     ) -> Result<DebugData<'a>>
-        ensures { Returns debug_view result
+        ensures { ReturnsAs debug_view result
             (debug_data default_options bytes.entry.now directory sections.now file_alignment 0) }
     {
         DebugData::parse_with_opts(
@@ -307,7 +307,7 @@ impl<'a> DebugData<'a> {
         file_alignment: u32,
         opts: &ParseOptions,
     ) -> Result<DebugData<'a>>
-        ensures { Returns debug_view result
+        ensures { ReturnsAs debug_view result
             (debug_data opts.now bytes.entry.now directory sections.now file_alignment 0) }
     {
         DebugData::parse_with_opts_and_fixup(bytes, directory, sections, file_alignment, opts, 0)
@@ -328,7 +328,7 @@ impl<'a> DebugData<'a> {
         opts: &ParseOptions,
         rva_offset: u32,
     ) -> Result<DebugData<'a>>
-        ensures { Returns debug_view result
+        ensures { ReturnsAs debug_view result
             (debug_data opts.now bytes.entry.now directory sections.now file_alignment rva_offset) }
     {
         let table = table(bytes, directory, sections, file_alignment, opts)?;
@@ -385,7 +385,7 @@ fn pdb70_of<'a>(
     entry: Option<ImageDebugDirectory>,
     opts: &ParseOptions,
 ) -> Result<Option<CodeviewPDB70DebugInfo<'a>>>
-    ensures { Returns (option_map pdb70_view) result (of_entry (pdb70_of opts.now bytes.entry.now) entry) }
+    ensures { ReturnsAs (option_map pdb70_view) result (of_entry (pdb70_of opts.now bytes.entry.now) entry) }
 {
     match entry {
         Some(entry) => CodeviewPDB70DebugInfo::parse_with_opts(bytes, &entry, opts),
@@ -399,7 +399,7 @@ fn pdb20_of<'a>(
     entry: Option<ImageDebugDirectory>,
     opts: &ParseOptions,
 ) -> Result<Option<CodeviewPDB20DebugInfo<'a>>>
-    ensures { Returns (option_map pdb20_view) result (of_entry (pdb20_of opts.now bytes.entry.now) entry) }
+    ensures { ReturnsAs (option_map pdb20_view) result (of_entry (pdb20_of opts.now bytes.entry.now) entry) }
 {
     match entry {
         Some(entry) => CodeviewPDB20DebugInfo::parse_with_opts(bytes, &entry, opts),
@@ -413,7 +413,7 @@ fn features_of(
     entry: Option<ImageDebugDirectory>,
     opts: &ParseOptions,
 ) -> Result<Option<VCFeatureInfo>>
-    ensures { Returns (λ r. r) result (some_of_entry (features_of opts.now bytes.now) entry) }
+    ensures { Returns result (some_of_entry (features_of opts.now bytes.now) entry) }
 {
     match entry {
         Some(entry) => Ok(Some(VCFeatureInfo::parse_with_opts(bytes, &entry, opts)?)),
@@ -427,7 +427,7 @@ fn characteristics_of(
     entry: Option<ImageDebugDirectory>,
     opts: &ParseOptions,
 ) -> Result<Option<ExDllCharacteristicsInfo>>
-    ensures { Returns (λ r. r) result (some_of_entry (characteristics_of opts.now bytes.now) entry) }
+    ensures { Returns result (some_of_entry (characteristics_of opts.now bytes.now) entry) }
 {
     match entry {
         Some(entry) => Ok(Some(ExDllCharacteristicsInfo::parse_with_opts(bytes, &entry, opts)?)),
@@ -441,7 +441,7 @@ fn repro_of<'a>(
     entry: Option<ImageDebugDirectory>,
     opts: &ParseOptions,
 ) -> Result<Option<ReproInfo<'a>>>
-    ensures { Returns (option_map repro_view) result (some_of_entry (repro_of opts.now bytes.entry.now) entry) }
+    ensures { ReturnsAs (option_map repro_view) result (some_of_entry (repro_of opts.now bytes.entry.now) entry) }
 {
     match entry {
         Some(entry) => Ok(Some(ReproInfo::parse_with_opts(bytes, &entry, opts)?)),
@@ -455,7 +455,7 @@ fn pogo_of<'a>(
     entry: Option<ImageDebugDirectory>,
     opts: &ParseOptions,
 ) -> Result<Option<POGOInfo<'a>>>
-    ensures { Returns (option_map pogo_view) result (of_entry (pogo_of opts.now bytes.entry.now) entry) }
+    ensures { ReturnsAs (option_map pogo_view) result (of_entry (pogo_of opts.now bytes.entry.now) entry) }
 {
     match entry {
         Some(entry) => POGOInfo::parse_with_opts(bytes, &entry, opts),

@@ -1,6 +1,6 @@
 -- What lies behind entries, put together.
 use Rattle.std.proofs.Common.{◌≡◌, ℕ, List, Option, Some, Result, Ok, Err, refl, ap, sym, ◌∙◌, subst}
-use Rattle.pe_core.specs.Refusals.{Refusal, Returns, ◌>>=◌, answer_by}
+use Rattle.pe_core.specs.Refusals.{Refusal, ReturnsAs, ◌>>=◌, answer_by}
 use Rattle.pe_core.specs.declared.byte_range.ByteRange.{ByteRange}
 use Rattle.pe_core.specs.declared.error.Error.{Error}
 use Rattle.pe_resource.specs.declared.entry.ResourceEntry.{ResourceEntry}
@@ -11,7 +11,7 @@ use Rattle.pe_resource.specs.Resources.{FirstDirectoryView, resources_with, AreR
 use Rattle.pe_resource.specs.VersionFields.{VersionView}
 use Rattle.pe_resource.proofs.SomeResource.{some_content}
 
-pub given_answer : {X Y : Type 0} (view : X → Y) (r : Result X Error) (d : Result Y Refusal) → Returns view r d → answer_by view r ≡ d
+pub given_answer : {X Y : Type 0} (view : X → Y) (r : Result X Error) (d : Result Y Refusal) → ReturnsAs view r d → answer_by view r ≡ d
 given_answer view (Ok x) d h = sym h
 given_answer view (Err e) d h = sym h
 

@@ -5,7 +5,7 @@ use Rattle.std.specs.List.{range_with_len}
 use Rattle.std.proofs.lemmas.List.{get_or-drop, length-map}
 use Rattle.std.proofs.lemmas.List.FromFn.{length-range_with_len}
 use Rattle.pe_core.specs.Bytes.{le}
-use Rattle.pe_core.specs.Refusals.{Refusal, answer_by}
+use Rattle.pe_core.specs.Refusals.{Refusal, answer_of}
 use Rattle.pe_core.specs.declared.error.Error.{Error}
 use Rattle.pe_resource.specs.declared.directory.ResourceEntryIterator.{ResourceEntryIterator}
 use Rattle.pe_resource.specs.declared.entry.ResourceEntry.{ResourceEntry}
@@ -59,7 +59,7 @@ entries_empty = entries_none [] (omega arith)
 -- ---- what an iterator gives
 
 abbrev view : Result ResourceEntry Error → Result ResourceEntry Refusal
-view r = answer_by (λ e. e) r
+view r = answer_of r
 
 pub items_from_yields : (s t u : ResourceEntryIterator) (xs : List (Result ResourceEntry Error)) → Yields (YieldsFirstBy view items_left) s xs t → YieldsFirstBy view items_left t None u → map view xs ≡ items_left s
 items_from_yields s t u [] y end = sym (subst (λ (r : ResourceEntryIterator). items_left r ≡ []) (sym y) end.0)

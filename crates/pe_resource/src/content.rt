@@ -5,7 +5,7 @@
 ghost use Rattle.std.specs.Prelude.{◌≡◌, ◌+◌, ◌≤◌, length, IfOk, IfSome};
 ghost use Rattle.std.specs.Option.{option_map};
 ghost use Rattle.pe_core.specs.Offsets.{IsWithin};
-ghost use Rattle.pe_core.specs.Refusals.{Returns, answer_by};
+ghost use Rattle.pe_core.specs.Refusals.{Returns, answer_of, answer_by};
 ghost use Rattle.pe_resource.specs.Contents.{map_of, IsLeaf, data_entry_at, file_range, named_range, range_in, IsContentRange, IsContent};
 ghost use Rattle.pe_resource.specs.ResourceEntries.{entries_left, with_id};
 
@@ -53,7 +53,7 @@ impl ResourceDataEntry {
 /// The offset of the data entry that the first entry with this id leads to. `None` without such an entry, or if the
 /// walk ends at a directory.
 fn leaf(bytes: &[u8], it: ResourceEntryIterator, id: u16) -> Result<Option<u32>>
-    ensures { IsLeaf bytes.now (with_id id (entries_left it.entry)) (answer_by (λ p. p) result) }
+    ensures { IsLeaf bytes.now (with_id id (entries_left it.entry)) (answer_of result) }
 {
     match it.first_with_id(id) {
         None => Ok(None),
@@ -73,7 +73,7 @@ pub(crate) fn file_range(
     file_alignment: u32,
     opts: &ParseOptions,
 ) -> Result<ByteRange>
-    ensures range { Returns (λ r. r) result (file_range pe.now size (map_of opts.now sections.now file_alignment address)) }
+    ensures range { Returns result (file_range pe.now size (map_of opts.now sections.now file_alignment address)) }
     ensures within { IfOk result (IsWithin pe.now) }
 {
     let offset = mapped_offset(address, sections, file_alignment, opts)?;
@@ -95,7 +95,7 @@ fn named_range(
     file_alignment: u32,
     opts: &ParseOptions,
 ) -> Result<ByteRange>
-    ensures range { Returns (λ r. r) result (named_range (map_of opts.now sections.now file_alignment) pe.now bytes.now offset) }
+    ensures range { Returns result (named_range (map_of opts.now sections.now file_alignment) pe.now bytes.now offset) }
     ensures within { IfOk result (IsWithin pe.now) }
 {
     let offset = offset as usize;
@@ -121,7 +121,7 @@ pub(crate) fn content_range(
     file_alignment: u32,
     opts: &ParseOptions,
 ) -> Result<Option<ByteRange>>
-    ensures range { IsContentRange (map_of opts.now sections.now file_alignment) pe.now bytes.now (entries_left it.entry) id (answer_by (λ r. r) result) }
+    ensures range { IsContentRange (map_of opts.now sections.now file_alignment) pe.now bytes.now (entries_left it.entry) id (answer_of result) }
     ensures within { IfOk result (λ r. IfSome r (IsWithin pe.now)) }
 {
     match leaf(bytes, it, id)? {

@@ -7,7 +7,7 @@ ghost use Rattle.std.specs.Prelude.{◌≡◌, ◌+◌, ◌*◌, ◌≤◌, leng
 ghost use Rattle.std.specs.Iterator.{UpTo, YieldsFirstBy, item_count};
 ghost use Rattle.std.specs.Iterator.SizeHint.{IsWithinCount};
 ghost use Rattle.pe_core.specs.Options.{default_options};
-ghost use Rattle.pe_core.specs.Refusals.{Returns, answer_by};
+ghost use Rattle.pe_core.specs.Refusals.{Returns, ReturnsAs, answer_of};
 ghost use Rattle.pe_resource.specs.Directories.{directory_of, directory_at, count, entries_at};
 ghost use Rattle.pe_resource.specs.ResourceEntries.{entries, entries_left, items_left, with_id};
 
@@ -62,7 +62,7 @@ impl ImageResourceDirectory {
         sections: &[SectionTable],
         file_alignment: u32,
     ) -> Result<ImageResourceDirectory>
-        ensures { Returns (λ d. d) result (directory_at default_options bytes.now data_directory sections.now file_alignment) }
+        ensures { Returns result (directory_at default_options bytes.now data_directory sections.now file_alignment) }
     {
         let opts = ParseOptions::default();
         ImageResourceDirectory::parse_with_opts(
@@ -84,7 +84,7 @@ impl ImageResourceDirectory {
         file_alignment: u32,
         opts: &ParseOptions,
     ) -> Result<ImageResourceDirectory>
-        ensures { Returns (λ d. d) result (directory_at opts.now bytes.now data_directory sections.now file_alignment) }
+        ensures { Returns result (directory_at opts.now bytes.now data_directory sections.now file_alignment) }
     {
         let offset = mapped_offset(
             data_directory.virtual_address,
@@ -115,7 +115,7 @@ impl ImageResourceDirectory {
     /// they are truncated. All entries are one read, so an offset past the end of `bytes` is `Short` even without
     /// entries.
     pub fn next_iter<'a>(&self, offset: usize, bytes: &'a [u8]) -> Result<ResourceEntryIterator<'a>>
-        ensures { Returns entries_left result (entries_at bytes.entry.now offset self.now) }
+        ensures { ReturnsAs entries_left result (entries_at bytes.entry.now offset self.now) }
     {
         let table = slice_at(bytes, offset, self.entries_size())?;
         Ok(ResourceEntryIterator::new(table))
@@ -138,7 +138,7 @@ impl<'a> ResourceEntryIterator<'a> {
 
     /// Returns the first entry with this id among the entries that are left, or `None`. Never returns an error.
     pub fn find_by_id(&self, id: u16) -> Result<Option<ResourceEntry>>
-        ensures { answer_by (λ e. e) result ≡ Ok (with_id id (entries_left self.now)) }
+        ensures { answer_of result ≡ Ok (with_id id (entries_left self.now)) }
     {
         Ok(self.first_with_id(id))
     }
@@ -168,7 +168,7 @@ fn first_with_id(bytes: &[u8], id: u16) -> Option<ResourceEntry>
 impl<'a> Iterator for ResourceEntryIterator<'a> {
     type Item = Result<ResourceEntry>;
 
-    ghost next_gives = { YieldsFirstBy (answer_by (λ e. e)) items_left };
+    ghost next_gives = { YieldsFirstBy (answer_of) items_left };
 
     ghost remaining = { item_count items_left };
 

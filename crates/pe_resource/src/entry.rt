@@ -5,7 +5,7 @@
 
 ghost use Rattle.std.specs.Prelude.{◌≡◌, ◌≢◌, ◌+◌, ◌*◌, ◌<◌, ◌≤◌, ◌↔◌, ℕ, Bool, length, Ok, Err, IfOk, IsSome};
 ghost use Rattle.std.specs.Fn.{FnReturnsAt};
-ghost use Rattle.pe_core.specs.Refusals.{Returns, Memory, ResourceCycle, answer_by};
+ghost use Rattle.pe_core.specs.Refusals.{Returns, Memory, ResourceCycle, answer_of};
 ghost use Rattle.pe_resource.specs.declared.entry.ResourceEntry.{ResourceEntry};
 ghost use Rattle.pe_resource.specs.ResourceEntries.{entry_of, number_of, entry_at, has_name, name_offset, id_of, is_directory, directory_offset, data_offset, has_id};
 ghost use Rattle.pe_resource.specs.ResourceWalk.{first_at, step, Walks, IsEndlessWalk, IsSteady, Found};
@@ -123,7 +123,7 @@ impl ResourceEntry {
     /// Returns the first entry of the directory that this entry leads to, whatever bit 31 says. `bytes` starts with the
     /// first directory. `None` if the directory has no entries. `Short` if the directory or its entries are truncated.
     pub fn next_depth(&self, bytes: &[u8]) -> Result<Option<ResourceEntry>>
-        ensures { Returns (λ e. e) result (step bytes.now self.now) }
+        ensures { Returns result (step bytes.now self.now) }
     {
         first_at(bytes, self.offset_to_directory() as usize)
     }
@@ -142,11 +142,11 @@ impl ResourceEntry {
         predicate: P,
     ) -> Result<Option<ResourceEntry>>
         requires { P.IsAlwaysCallable predicate }
-        ensures walks { (p : ResourceEntry → Bool) → IsSteady P.Fn predicate p → Found (answer_by (λ e. e) result) (Walks bytes.now p self.now) }
+        ensures walks { (p : ResourceEntry → Bool) → IsSteady P.Fn predicate p → Found (answer_of result) (Walks bytes.now p self.now) }
         ensures cycle { (p : ResourceEntry → Bool) → IsSteady P.Fn predicate p →
-            ((answer_by (λ e. e) result ≡ Err ResourceCycle) ↔ IsEndlessWalk bytes.now p self.now) }
+            ((answer_of result ≡ Err ResourceCycle) ↔ IsEndlessWalk bytes.now p self.now) }
         ensures entry { IfOk result (λ e. IsSome e) }
-        ensures no_memory { answer_by (λ e. e) result ≢ Err Memory }
+        ensures no_memory { answer_of result ≢ Err Memory }
     {
         Ok(Some(walk(*self, bytes, predicate)?))
     }
@@ -156,7 +156,7 @@ impl ResourceEntry {
 /// truncated.
 #[tactic(auto, unfolding(crate::specs::ResourceWalk::first_at))]
 fn first_at(bytes: &[u8], offset: usize) -> Result<Option<ResourceEntry>>
-    ensures { Returns (λ e. e) result (first_at bytes.now offset) }
+    ensures { Returns result (first_at bytes.now offset) }
 {
     require_bytes(bytes, offset, SIZE_OF_DIRECTORY)?;
     let directory = ImageResourceDirectory::at(bytes, offset);
@@ -185,8 +185,8 @@ pub(crate) fn walk<P: Fn(&ResourceEntry) -> bool>(
     predicate: P,
 ) -> Result<ResourceEntry>
     requires { P.IsAlwaysCallable predicate }
-    ensures walks { (p : ResourceEntry → Bool) → IsSteady P.Fn predicate p → Walks bytes.now p start (answer_by (λ e. e) result) }
-    ensures no_memory { answer_by (λ e. e) result ≢ Err Memory }
+    ensures walks { (p : ResourceEntry → Bool) → IsSteady P.Fn predicate p → Walks bytes.now p start (answer_of result) }
+    ensures no_memory { answer_of result ≢ Err Memory }
 {
     let mut current = start;
     let mut saved = start.offset_to_directory();

@@ -6,7 +6,7 @@ ghost use Rattle.std.specs.Prelude.{◌≡◌, ◌≢◌, Err, Ok, IfOk, IfSome}
 ghost use Rattle.std.specs.Option.{option_map};
 ghost use Rattle.pe_core.specs.Options.{default_options};
 ghost use Rattle.pe_core.specs.Offsets.{IsWithin};
-ghost use Rattle.pe_core.specs.Refusals.{Returns, Memory, answer_by};
+ghost use Rattle.pe_core.specs.Refusals.{ReturnsAs, Memory, answer_of, answer_by};
 ghost use Rattle.pe_resource.specs.Contents.{map_of};
 ghost use Rattle.pe_resource.specs.Directories.{count};
 ghost use Rattle.pe_resource.specs.ResourceEntries.{entries, entries_left};
@@ -60,7 +60,7 @@ fn first_entries<'a>(
     directory: &ImageResourceDirectory,
     mode: ParseMode,
 ) -> Result<Option<&'a [u8]>>
-    ensures { Returns (option_map (λ s. s.now)) result (first_entries_in mode data.entry.now directory.now) }
+    ensures { ReturnsAs (option_map (λ s. s.now)) result (first_entries_in mode data.entry.now directory.now) }
 {
     let fits = SIZE_OF_DIRECTORY <= data.len();
     let size = directory.entries_size();
@@ -93,7 +93,7 @@ impl<'a> FirstDirectory<'a> {
         file_alignment: u32,
         opts: &ParseOptions,
     ) -> Result<Option<FirstDirectory<'a>>>
-        ensures { Returns (option_map first_directory_view) result (first_directory opts.now bytes.entry.now data_directory sections.now file_alignment) }
+        ensures { ReturnsAs (option_map first_directory_view) result (first_directory opts.now bytes.entry.now data_directory sections.now file_alignment) }
     {
         let directory = ImageResourceDirectory::parse_with_opts(
             bytes,
@@ -191,7 +191,7 @@ impl<'a> ResourceData<'a> {
         file_alignment: u32,
         opts: &ParseOptions,
     ) -> Result<Option<ByteRange>>
-        ensures range { IsResourceRange opts.now bytes.now data_directory id sections.now file_alignment (answer_by (λ r. r) result) }
+        ensures range { IsResourceRange opts.now bytes.now data_directory id sections.now file_alignment (answer_of result) }
         ensures within { IfOk result (λ r. IfSome r (IsWithin bytes.now)) }
     {
         match FirstDirectory::parse(bytes, data_directory, sections, file_alignment, opts)? {

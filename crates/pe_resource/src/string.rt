@@ -306,7 +306,7 @@ pub(crate) fn value_ranges<const N: usize>(
 ) -> Result<[Option<ByteRange>; N]>
     requires many { length keys.now ≡ N }
     requires plain { ArePlain (map (λ key. key.now) keys.now) }
-    ensures ranges { Returns (λ r. r) result (value_ranges (map (λ key. key.now) keys.now) data.now) }
+    ensures ranges { Returns result (value_ranges (map (λ key. key.now) keys.now) data.now) }
     ensures within { IfOk result (λ r. All (λ range. IfSome range (IsWithin data.now)) r) }
 {
     let mut ranges = [None; N];

@@ -6,7 +6,7 @@
 ghost use Rattle.std.specs.Prelude.{All, Ok, map, slice_index_or, [], ◌<◌, ◌≡◌, ◌≢◌, ◌+◌, ◌==◌, ◌≤◌, length, Err, IfOk, IfSome, string_bytes};
 ghost use Rattle.std.specs.Option.{option_map};
 ghost use Rattle.pe_core.specs.Offsets.{IsWithin};
-ghost use Rattle.pe_core.specs.Refusals.{Returns, Memory, answer_by};
+ghost use Rattle.pe_core.specs.Refusals.{Returns, ReturnsAs, Memory, answer_by};
 ghost use Rattle.pe_resource.specs.Contents.{map_of, content_of, version_of_content, IsVersion};
 ghost use Rattle.pe_resource.specs.ResourceEntries.{entries_left};
 ghost use Rattle.pe_resource.specs.VersionFields.{version_of_halves, high_half, low_half, version_text, fixed_info_at, fixed_info_in, fixed_info_of, version_key, file_strings, file_strings_view, ReturnsText, version_view, version_in, value_range_in};
@@ -168,7 +168,7 @@ impl VsFixedFileInfo {
     /// the value has fewer than 52 bytes. Offsets in errors count from the start of `data`.
     #[tactic(auto, using(crate::proofs::ValueRanges::range_of_value), unfolding(crate::specs::VersionStrings::value_ranges, crate::specs::VersionFields::fixed_info_of))]
     pub fn of_strings(data: &[u8]) -> Result<Option<VsFixedFileInfo>>
-        ensures { Returns (λ f. f) result (fixed_info_of data.now) }
+        ensures { Returns result (fixed_info_of data.now) }
     {
         let ranges = value_ranges::<1>(data, &[VS_VERSION_INFO_KEY])?;
         fixed_info_in(data, ranges[0])
@@ -242,7 +242,7 @@ impl VersionName {
     /// Errors: those of `VsFixedFileInfo::of_strings`, in the same order.
     #[tactic(auto, using(crate::proofs::ValueRanges::range_of_value), unfolding(crate::specs::VersionStrings::value_ranges, crate::specs::VersionFields::fixed_info_of, crate::specs::VersionFields::value_range_in))]
     pub fn value_range(self, data: &[u8]) -> Result<Option<ByteRange>>
-        ensures range { Returns (λ r. r) result (value_range_in self data.now) }
+        ensures range { Returns result (value_range_in self data.now) }
         ensures within { IfOk result (λ r. IfSome r (IsWithin data.now)) }
     {
         let ranges = value_ranges::<2>(data, &[VS_VERSION_INFO_KEY, self.key()])?;
@@ -447,7 +447,7 @@ fn value_in<'a>(data: &'a [u8], ranges: &[Option<ByteRange>; 13], index: usize) 
 /// bytes.
 fn fixed_info_in(data: &[u8], value: Option<ByteRange>) -> Result<Option<VsFixedFileInfo>>
     requires { IfSome value (IsWithin data.now) }
-    ensures { Returns (λ f. f) result (fixed_info_in (content_of data.now value)) }
+    ensures { Returns result (fixed_info_in (content_of data.now value)) }
 {
     let Some(range) = value else {
         return Ok(None);
@@ -466,7 +466,7 @@ impl<'a> VersionInfo<'a> {
     /// Reads the version information in `data`.
     #[tactic(auto, using(crate::proofs::ValueRanges::range_of_value), unfolding(crate::specs::VersionStrings::value_ranges, crate::specs::VersionFields::fixed_info_of, crate::specs::VersionFields::version_in))]
     fn of_strings(data: &'a [u8]) -> Result<VersionInfo<'a>>
-        ensures { Returns version_view result (version_in data.entry.now) }
+        ensures { ReturnsAs version_view result (version_in data.entry.now) }
     {
         let ranges = value_ranges::<13>(data, &KEYS)?;
         Ok(VersionInfo {
@@ -490,7 +490,7 @@ impl<'a> VersionInfo<'a> {
 
     /// Reads the version information in the content of a resource, if there is one.
     fn of_content(content: Option<&'a [u8]>) -> Result<Option<VersionInfo<'a>>>
-        ensures { Returns (option_map version_view) result (version_of_content (option_map (λ s. s.now) content.entry)) }
+        ensures { ReturnsAs (option_map version_view) result (version_of_content (option_map (λ s. s.now) content.entry)) }
     {
         match content {
             None => Ok(None),

@@ -7,7 +7,7 @@
 
 ghost use Rattle.std.specs.Prelude.{◌≡◌, ◌+◌, ◌^◌, ◌<◌, ◌≤◌, ◌⊎◌, false, length};
 ghost use Rattle.std.specs.Result.{IfOk};
-ghost use Rattle.pe_core.specs.Refusals.{Returns};
+ghost use Rattle.pe_core.specs.Refusals.{Returns, ReturnsAs};
 ghost use Rattle.pe_sign.specs.Digest.{left_out_of, is_in, is_left_out, kept_bytes, digested, zeros_after, Throughout, IsCut, joined_slices, ranges_view, covered, digest_of};
 
 use crate::image_checksum::checksum_range;
@@ -60,7 +60,7 @@ fn entry_range(pe_pointer: u32, optional_header: &OptionalHeader) -> ByteRange
 
 /// The parts that the digest of an image with this header leaves out. Error: `NoOptionalHeader`.
 pub fn left_out(header: &Header<'_>) -> Result<LeftOut>
-    ensures { Returns (λ l. l) result (left_out_of header.now) }
+    ensures { Returns result (left_out_of header.now) }
 {
     let checksum = checksum_range(header)?;
     let mut left_out = LeftOut {
@@ -165,7 +165,7 @@ pub fn authenticode_ranges<'a>(
     bytes: &'a [u8],
     header: &Header<'_>,
 ) -> Result<AuthenticodeRanges<'a>>
-    ensures { Returns ranges_view result (digest_of bytes.entry.now header.now) }
+    ensures { ReturnsAs ranges_view result (digest_of bytes.entry.now header.now) }
 {
     let left_out = left_out(header)?;
     Ok(ranges_without(bytes, &left_out))

@@ -70,7 +70,7 @@ fn checksum_of(bytes: &[u8], field: usize) -> u32
 /// The file range of the field that holds the checksum, which `header.optional_header` has as
 /// `windows_fields.check_sum`. Error: `NoOptionalHeader`.
 pub fn checksum_range(header: &Header<'_>) -> Result<ByteRange>
-    ensures { Returns (λ r. r) result (checksum_range_of header.now) }
+    ensures { Returns result (checksum_range_of header.now) }
 {
     if header.optional_header.is_none() {
         return Err(Error::Malformed(Reason::NoOptionalHeader));
@@ -86,7 +86,7 @@ pub fn checksum_range(header: &Header<'_>) -> Result<ByteRange>
 /// The checksum of the image whose file is `bytes`: what the field has to hold. What it holds is not read. `header` is
 /// the image's, and says where the field is. Error: `NoOptionalHeader`.
 pub fn checksum(bytes: &[u8], header: &Header<'_>) -> Result<u32>
-    ensures { Returns (λ n. n) result (checked_sum bytes.now header.now) }
+    ensures { Returns result (checked_sum bytes.now header.now) }
 {
     let field = checksum_range(header)?;
     Ok(checksum_of(bytes, field.offset))

@@ -4,7 +4,7 @@ use Rattle.std.proofs.lemmas.Grind.{common_steps}
 use Rattle.std.proofs.lemmas.List.{length-append, length-drop, drop_all}
 use Rattle.std.proofs.lemmas.List.Elements.{All-drop}
 use Rattle.std.specs.Iterator.{Yields}
-use Rattle.pe_core.specs.Refusals.{Refusal, kind_of}
+use Rattle.pe_core.specs.Refusals.{Refusal, kind_of, answer_of}
 use Rattle.pe_core.specs.declared.error.Error.{Error}
 use Rattle.pe_core.specs.declared.error.Error.TheVariants.{Malformed}
 use Rattle.pe_core.specs.declared.error.Reason.TheVariants as reasons
@@ -13,7 +13,6 @@ use Rattle.pe_unwind.specs.declared.arm64.codes.Arm64UnwindCodeData.{Arm64Unwind
 use Rattle.pe_unwind.specs.declared.arm64.codes.Arm64UnwindCodeIterator.{Arm64UnwindCodeIterator}
 use Rattle.pe_unwind.specs.Arm64Encoding.{encoding, Legal, StartsWithArm64Code, StartsWithNoArm64Code}
 use Rattle.pe_unwind.specs.Arm64Tiling.{CodeOffset, stream_offset, IsItem, Tiles, ReturnsArm64Code, codes_of, Joins}
-use Rattle.pe_unwind.specs.FunctionTable.{answer_of}
 use Rattle.pe_unwind.proofs.Arm64OneCode.{starts_once, cut_starts_none}
 use Rattle.pe_unwind.proofs.Arm64Whole.{code_or_cut}
 

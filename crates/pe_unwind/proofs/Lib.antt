@@ -1,7 +1,6 @@
 pub mod Names
 pub mod Arm64Equality
 pub mod Entries
-pub mod EpilogScopes
 pub mod Offsets
 pub mod Arm64Records
 pub mod Arm64Concatenations

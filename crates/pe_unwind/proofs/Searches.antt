@@ -8,7 +8,7 @@ use Rattle.std.proofs.Math.Seq.{take-nil}
 use Rattle.std.proofs.lemmas.List.Elements.{Contains-get_or}
 use Rattle.std.proofs.lemmas.Bool.{cases_lt}
 use Rattle.std.proofs.lemmas.Bool.Decides.{nat_tests}
-use Rattle.pe_core.proofs.TableEntries.{length-whole_entries, get_or-whole_entries}
+use Rattle.pe_core.proofs.EntryItems.{length-whole_entries, get_or-whole_entries}
 use Rattle.pe_core.specs.CountedTable.{one_more}
 use Rattle.pe_unwind.specs.declared.function_table.RuntimeFunction.{RuntimeFunction}
 use Rattle.pe_unwind.specs.FunctionTable.{function_at, functions, NeverFalls, scan, if_before_end, digits, Finds, StartsAfter, StopsBetween}

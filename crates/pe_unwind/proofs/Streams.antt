@@ -4,7 +4,7 @@ use Rattle.std.specs.Prelude.{nat_lt}
 use Rattle.std.specs.Iterator.{Yields}
 use Rattle.std.proofs.lemmas.Bool.Decides.{nat_tests}
 use Rattle.std.proofs.lemmas.List.{length-drop, length-take-le}
-use Rattle.pe_core.specs.Refusals.{Refusal, Short, UnwindCode as BadCode, kind_of}
+use Rattle.pe_core.specs.Refusals.{Refusal, Short, UnwindCode as BadCode, kind_of, answer_of}
 use Rattle.pe_core.specs.declared.error.Error.{Error}
 use Rattle.pe_core.specs.declared.error.Error.TheVariants.{Malformed, Short as TooShort}
 use Rattle.pe_core.specs.declared.error.Reason.TheVariants as reasons
@@ -12,7 +12,6 @@ use Rattle.pe_unwind.specs.declared.unwind_code.UnwindCode.{UnwindCode}
 use Rattle.pe_unwind.specs.declared.unwind_code.UnwindCodeIterator.{UnwindCodeIterator}
 use Rattle.pe_unwind.specs.declared.unwind_code.UnwindOperation.{UnwindOperation}
 use Rattle.pe_unwind.specs.CodeStream.{CodeStream, AreItems, ReturnsCode, stream_of, with_left}
-use Rattle.pe_unwind.specs.FunctionTable.{answer_of}
 use Rattle.pe_unwind.specs.CodeSlots.{slots_at}
 use Rattle.pe_unwind.specs.UnwindCodes.{SpellsOperation, Spells, StartsWithCode, StartsWithNoCode, IsCodeRefusal}
 use Rattle.pe_unwind.proofs.SpellingLengths.{all_spelled, starts_slots, cut_one, cut_slots, no_slots-not_cut, none-cut, none-no_slots}

@@ -3,9 +3,10 @@ use Rattle.std.specs.Prelude.{ℕ, ◌*◌, ◌+◌, ◌/◌, ◌==◌, Bool, no
 use Rattle.pe_core.specs.Bytes.{le}
 use Rattle.pe_core.specs.Refusals.{Refusal, FunctionIndex, outcome}
 use Rattle.pe_unwind.specs.Arm64Words.{bits}
+use Rattle.pe_core.specs.EntriesLeft.{items_left}
+use Rattle.pe_core.specs.declared.table_entries.TableEntries.{TableEntries}
 use Rattle.pe_core.specs.Rows.{whole_entries, entry_items}
 use Rattle.pe_unwind.specs.declared.arm64.function.Arm64RuntimeFunction.{Arm64RuntimeFunction}
-use Rattle.pe_unwind.specs.declared.arm64.function.Arm64RuntimeFunctionIterator.{Arm64RuntimeFunctionIterator}
 
 -- the entry of 8 bytes at offset p
 abbrev pub arm64_function_at : List ℕ → ℕ → Arm64RuntimeFunction
@@ -23,12 +24,12 @@ unfoldable pub arm64_functions : List ℕ → List Arm64RuntimeFunction
 arm64_functions b = whole_entries arm64_function_at 8 b
 
 -- the whole entries, and one `Short` for a truncated last entry
-unfoldable pub arm64_function_items : List ℕ → List (Result Arm64RuntimeFunction Refusal)
+abbrev pub arm64_function_items : List ℕ → List (Result Arm64RuntimeFunction Refusal)
 arm64_function_items b = entry_items arm64_function_at 8 b
 
 -- the items that an iterator has left
-abbrev pub items_of_arm64_functions : Arm64RuntimeFunctionIterator → List (Result Arm64RuntimeFunction Refusal)
-items_of_arm64_functions s = arm64_function_items s.bytes.now
+abbrev pub items_of_arm64_functions : TableEntries Arm64RuntimeFunction → List (Result Arm64RuntimeFunction Refusal)
+items_of_arm64_functions s = items_left arm64_function_at 8 s
 
 -- the entry of a table with this index
 abbrev pub arm64_function_of : List ℕ → ℕ → Result Arm64RuntimeFunction Refusal

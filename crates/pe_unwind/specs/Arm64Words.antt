@@ -3,7 +3,8 @@ use Rattle.std.specs.Prelude.{ℕ, ◌/◌, ◌%◌, ◌^◌, ◌==◌, ◌&&◌
 use Rattle.pe_core.specs.Bytes.{le}
 use Rattle.pe_core.specs.Refusals.{Refusal}
 use Rattle.pe_unwind.specs.declared.arm64.words.Arm64EpilogScope.{Arm64EpilogScope}
-use Rattle.pe_unwind.specs.declared.arm64.words.Arm64EpilogScopeIterator.{Arm64EpilogScopeIterator}
+use Rattle.pe_core.specs.EntriesLeft.{items_left}
+use Rattle.pe_core.specs.declared.table_entries.TableEntries.{TableEntries}
 use Rattle.pe_core.specs.Rows.{entry_items}
 
 -- the number in this many bits of a word, from bit `first` on
@@ -27,9 +28,9 @@ abbrev pub epilog_scope_at : List ℕ → ℕ → Arm64EpilogScope
 epilog_scope_at b p = record { 0 = le b p 4 }
 
 -- the whole scopes of these bytes, and one `Short` for a truncated last scope
-unfoldable pub epilog_scope_items : List ℕ → List (Result Arm64EpilogScope Refusal)
+abbrev pub epilog_scope_items : List ℕ → List (Result Arm64EpilogScope Refusal)
 epilog_scope_items b = entry_items epilog_scope_at 4 b
 
 -- the items that an iterator has left
-abbrev pub epilog_scopes_left : Arm64EpilogScopeIterator → List (Result Arm64EpilogScope Refusal)
-epilog_scopes_left s = epilog_scope_items s.bytes.now
+abbrev pub epilog_scopes_left : TableEntries Arm64EpilogScope → List (Result Arm64EpilogScope Refusal)
+epilog_scopes_left s = items_left epilog_scope_at 4 s

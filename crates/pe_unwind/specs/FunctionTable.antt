@@ -3,10 +3,10 @@ use Rattle.std.specs.Prelude.{◌≡◌, ℕ, ◌+◌, ◌<◌, ◌≤◌, ⊤, 
 use Rattle.std.specs.List.{last_or, AllAdjacentBelow}
 use Rattle.std.specs.Int.Digits.{digits_of}
 use Rattle.pe_core.specs.Bytes.{le}
-use Rattle.pe_core.specs.Refusals.{Refusal, kind_of}
-use Rattle.pe_core.specs.declared.error.Error.{Error}
+use Rattle.pe_core.specs.Refusals.{Refusal}
 use Rattle.pe_unwind.specs.declared.function_table.RuntimeFunction.{RuntimeFunction}
-use Rattle.pe_unwind.specs.declared.function_table.RuntimeFunctionIterator.{RuntimeFunctionIterator}
+use Rattle.pe_core.specs.EntriesLeft.{items_left}
+use Rattle.pe_core.specs.declared.table_entries.TableEntries.{TableEntries}
 use Rattle.pe_core.specs.Rows.{whole_entries, entry_items}
 
 -- the entry of 12 bytes at offset p
@@ -22,17 +22,12 @@ unfoldable pub functions : List ℕ → List RuntimeFunction
 functions b = whole_entries function_at 12 b
 
 -- the whole entries, and one `Short` for a truncated last entry
-unfoldable pub function_items : List ℕ → List (Result RuntimeFunction Refusal)
+abbrev pub function_items : List ℕ → List (Result RuntimeFunction Refusal)
 function_items b = entry_items function_at 12 b
 
--- a result, with its error as a refusal
-abbrev pub answer_of : {X : Type 0} → Result X Error → Result X Refusal
-answer_of (Ok x) = Ok x
-answer_of (Err e) = Err (kind_of e)
-
 -- the items that an iterator has left
-abbrev pub items_of_functions : RuntimeFunctionIterator → List (Result RuntimeFunction Refusal)
-items_of_functions s = function_items s.bytes.now
+abbrev pub items_of_functions : TableEntries RuntimeFunction → List (Result RuntimeFunction Refusal)
+items_of_functions s = items_left function_at 12 s
 
 -- the table is sorted by start RVA
 abbrev pub NeverFalls : List RuntimeFunction → Type 0

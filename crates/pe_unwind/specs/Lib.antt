@@ -17,3 +17,4 @@ pub mod Arm64Encoding
 pub mod Arm64CodeLengths
 pub mod Arm64Tiling
 pub mod Offsets
+pub mod EntriesAfter

@@ -53,12 +53,12 @@ impl<'a> ExceptionData<'a> {
     ghost use Rattle.std.specs.Option.{option_map};
     ghost use Rattle.pe_core.specs.Options.{default_options};
     ghost use Rattle.pe_core.specs.Offsets.{IsWithin};
-    ghost use Rattle.pe_core.specs.Refusals.{Returns, FunctionCycle, answer_by};
+    ghost use Rattle.pe_core.specs.Refusals.{Returns, FunctionCycle, answer_of, answer_by};
     ghost use Rattle.pe_unwind.specs.ExceptionTable.{exception_at, table_range, table_of, function_of};
     ghost use Rattle.pe_unwind.specs.Arm64Functions.{arm64_functions, arm64_function_items, items_of_arm64_functions, arm64_function_of};
     ghost use Rattle.pe_unwind.specs.Arm64Record.{info_view};
     ghost use Rattle.pe_unwind.specs.Arm64Unwinding.{offset_of_function, info_of_function};
-    ghost use Rattle.pe_unwind.specs.FunctionTable.{functions, function_items, items_of_functions, answer_of, Finds};
+    ghost use Rattle.pe_unwind.specs.FunctionTable.{functions, function_items, items_of_functions, Finds};
     ghost use Rattle.pe_core.specs.SectionMap.{map_view};
     ghost use Rattle.pe_unwind.specs.Links.{IsEndless, links_by, links_of, table_view};
     ghost use Rattle.pe_unwind.specs.Unwinding.{FindsRecord, Unwinds, UnwindsFound, UnwindsAt};
@@ -71,7 +71,7 @@ impl<'a> ExceptionData<'a> {
         sections: &[SectionTable],
         file_alignment: u32,
     ) -> Result<ExceptionData<'a>>
-        ensures { Returns (λ d. d) result (exception_at 12 bytes.entry.now directory sections.now file_alignment default_options) }
+        ensures { Returns result (exception_at 12 bytes.entry.now directory sections.now file_alignment default_options) }
     {
         ExceptionData::parse_with_opts(
             bytes,
@@ -94,7 +94,7 @@ impl<'a> ExceptionData<'a> {
         file_alignment: u32,
         opts: &ParseOptions,
     ) -> Result<ExceptionData<'a>>
-        ensures { Returns (λ d. d) result (exception_at 12 bytes.entry.now directory sections.now file_alignment opts.now) }
+        ensures { Returns result (exception_at 12 bytes.entry.now directory sections.now file_alignment opts.now) }
     {
         let width = SIZE_OF_FUNCTION;
         ExceptionData::parse_table(bytes, directory, sections, file_alignment, opts, width)
@@ -109,7 +109,7 @@ impl<'a> ExceptionData<'a> {
         file_alignment: u32,
         opts: &ParseOptions,
     ) -> Result<ExceptionData<'a>>
-        ensures { Returns (λ d. d) result (exception_at 8 bytes.entry.now directory sections.now file_alignment opts.now) }
+        ensures { Returns result (exception_at 8 bytes.entry.now directory sections.now file_alignment opts.now) }
     {
         let width = SIZE_OF_ARM64_FUNCTION;
         ExceptionData::parse_table(bytes, directory, sections, file_alignment, opts, width)
@@ -126,7 +126,7 @@ impl<'a> ExceptionData<'a> {
         width: usize,
     ) -> Result<ExceptionData<'a>>
         requires { 0 < width }
-        ensures { Returns (λ d. d) result (exception_at width bytes.entry.now directory sections.now file_alignment opts.now) }
+        ensures { Returns result (exception_at width bytes.entry.now directory sections.now file_alignment opts.now) }
     {
         let DataDirectory {
             virtual_address,
@@ -204,7 +204,7 @@ impl<'a> ExceptionData<'a> {
 
     /// The x64 entry with this index, which counts entries. Errors: `FunctionIndex` if the index is not below `len()`.
     pub fn get_function(&self, index: usize) -> Result<RuntimeFunction>
-        ensures { Returns (λ f. f) result (function_of (table_of self.now) index) }
+        ensures { Returns result (function_of (table_of self.now) index) }
     {
         RuntimeFunction::of_table(self.table_bytes(), index)
     }
@@ -219,7 +219,7 @@ impl<'a> ExceptionData<'a> {
     /// The ARM64 entry with this index, which counts entries. Errors: `FunctionIndex` if the index is not below
     /// `len_arm64()`.
     pub fn get_function_arm64(&self, index: usize) -> Result<Arm64RuntimeFunction>
-        ensures { Returns (λ f. f) result (arm64_function_of (table_of self.now) index) }
+        ensures { Returns result (arm64_function_of (table_of self.now) index) }
     {
         Arm64RuntimeFunction::of_table(self.table_bytes(), index)
     }

@@ -2,15 +2,15 @@
 //! a part of one. A caller looks up the entry that covers an RVA. See
 //! [x64 exception handling](https://learn.microsoft.com/cpp/build/exception-handling-x64).
 
-ghost use Rattle.std.specs.Prelude.{◌≡◌, ◌+◌, ◌/◌, ◌≤◌, length, IfSome, Some};
-ghost use Rattle.std.specs.Iterator.{UpTo, YieldsFirstBy, item_count};
-ghost use Rattle.std.specs.Iterator.SizeHint.{IsWithinCount};
+ghost use Rattle.std.specs.Prelude.{◌≡◌, ◌+◌, ◌/◌, ◌<◌, ◌≤◌, length};
+ghost use Rattle.std.proofs.Common.{arith};
 ghost use Rattle.pe_core.specs.CountedTable.{after_read};
 ghost use Rattle.pe_core.specs.Refusals.{Returns};
 ghost use Rattle.pe_unwind.specs.ExceptionTable.{function_of};
-ghost use Rattle.pe_unwind.specs.FunctionTable.{function_at, functions, function_items, items_of_functions, answer_of, Finds, digits};
+ghost use Rattle.pe_unwind.specs.FunctionTable.{function_at, functions, Finds, digits};
+ghost use Rattle.pe_unwind.specs.EntriesAfter.{functions_after};
 
-use pe_core::{CountedTable, Error, Reason, Result, read_u32, split_entry};
+use pe_core::{CountedTable, Error, Reason, Result, TableEntries, TableEntry, read_u32};
 
 /// The size of an entry in bytes.
 pub(crate) const SIZE_OF_FUNCTION: usize = 12;
@@ -29,81 +29,44 @@ pub struct RuntimeFunction {
     pub unwind_info_address: u32,
 }
 
-/// Reads the entry at an offset in the bytes that is known to have one.
-pub(crate) fn read_function(bytes: &[u8], offset: usize) -> RuntimeFunction
-    requires { offset + 12 ≤ length bytes.now }
-    ensures { result ≡ function_at bytes.now offset }
-{
-    RuntimeFunction {
-        begin_address: read_u32(bytes, offset),
-        end_address: read_u32(bytes, offset + 4),
-        unwind_info_address: read_u32(bytes, offset + 8),
+impl TableEntry for RuntimeFunction {
+    ghost SIZE = { 12 };
+
+    ghost entry_at = { function_at };
+
+    const SIZE: usize = SIZE_OF_FUNCTION;
+
+    const ITERATOR: &'static str = "RuntimeFunctionIterator";
+
+    fn at(bytes: &[u8], offset: usize) -> RuntimeFunction {
+        RuntimeFunction {
+            begin_address: read_u32(bytes, offset),
+            end_address: read_u32(bytes, offset + 4),
+            unwind_info_address: read_u32(bytes, offset + 8),
+        }
     }
+
+    ghost has_bytes = { omega arith };
+
+    ghost reads_after = { functions_after };
 }
 
 impl RuntimeFunction {
     /// The entry of a table with this index, which counts entries. Errors: `FunctionIndex` unless the table has more
     /// whole entries than that.
     pub fn of_table(table: &[u8], index: usize) -> Result<RuntimeFunction>
-        ensures { Returns (λ f. f) result (function_of table.now index) }
+        ensures { Returns result (function_of table.now index) }
     {
         if index < table.len() / SIZE_OF_FUNCTION {
-            Ok(read_function(table, SIZE_OF_FUNCTION * index))
+            Ok(RuntimeFunction::at(table, SIZE_OF_FUNCTION * index))
         } else {
             Err(Error::Malformed(Reason::FunctionIndex(index)))
         }
     }
 }
 
-/// The entries that are left of an x64 function table. A truncated last entry is one item, `Short`.
-#[derive(Debug, Drop)]
-pub struct RuntimeFunctionIterator<'a> {
-    bytes: &'a [u8],
-}
-
-impl<'a> RuntimeFunctionIterator<'a> {
-    /// The entries of these bytes, 12 bytes each.
-    pub fn new(bytes: &'a [u8]) -> Self
-        ensures { items_of_functions result ≡ function_items bytes.entry.now }
-    {
-        RuntimeFunctionIterator { bytes }
-    }
-}
-
-impl<'a> Iterator for RuntimeFunctionIterator<'a> {
-    type Item = Result<RuntimeFunction>;
-
-    ghost next_gives = { YieldsFirstBy answer_of items_of_functions };
-
-    ghost remaining = { item_count items_of_functions };
-
-    #[tactic(auto, using(crate::proofs::Entries::functions_more, crate::proofs::Entries::functions_truncated, crate::proofs::Entries::functions_none))]
-    fn next(&mut self) -> Option<Result<RuntimeFunction>> {
-        match split_entry(&mut self.bytes, SIZE_OF_FUNCTION)? {
-            Ok(bytes) => Some(Ok(read_function(bytes, 0))),
-            Err(error) => Some(Err(error)),
-        }
-    }
-
-    #[tactic(auto, using(crate::proofs::Entries::functions_count))]
-    fn size_hint(&self) -> (usize, Option<usize>)
-        ensures lower { IsWithinCount result.0 (item_count items_of_functions self.now) }
-        ensures upper { IfSome result.1 (UpTo (item_count items_of_functions self.now)) }
-        ensures exact { result ≡ (length (items_of_functions self.now), Some (length (items_of_functions self.now))) }
-    {
-        let entries = self.len();
-        (entries, Some(entries))
-    }
-}
-
-impl<'a> ExactSizeIterator for RuntimeFunctionIterator<'a> {
-    #[tactic(auto, using(crate::proofs::Entries::functions_count))]
-    fn len(&self) -> usize
-        ensures { result ≡ length (items_of_functions self.now) }
-    {
-        self.bytes.len().div_ceil(SIZE_OF_FUNCTION)
-    }
-}
+/// The entries that are left of an x64 function table, 12 bytes each. A truncated last entry is one item, `Short`.
+pub type RuntimeFunctionIterator<'a> = TableEntries<'a, RuntimeFunction>;
 
 /// Reads the entry at an offset in the table where one is known to be. It counts as one read.
 fn next_function(table: &mut CountedTable, offset: usize) -> RuntimeFunction

@@ -3,13 +3,13 @@
 //! unwind record.
 
 ghost use Rattle.std.specs.Prelude.{◌≡◌, ◌%◌};
-ghost use Rattle.pe_unwind.specs.FunctionTable.{answer_of};
+ghost use Rattle.pe_core.specs.Refusals.{answer_of};
 ghost use Rattle.pe_unwind.specs.LinkSteps.{Leads};
 ghost use Rattle.pe_unwind.specs.Links.{table_view, Follows};
 ghost use Rattle.pe_unwind.specs.Unwinding.{FindsRecord};
 
-use crate::function_table::{SIZE_OF_FUNCTION, read_function};
-use pe_core::{Error, Reason, Result, SectionMap};
+use crate::function_table::{RuntimeFunction, SIZE_OF_FUNCTION};
+use pe_core::{Error, Reason, Result, SectionMap, TableEntry};
 
 /// A function table, and the section map of its image, by which links are followed.
 #[derive(Clone, Copy)]
@@ -37,7 +37,7 @@ impl<'a, 'b> Links<'a, 'b> {
         {
             return Err(Error::Malformed(Reason::FunctionLink(address)));
         }
-        Ok(read_function(self.table, offset - self.start).unwind_info_address)
+        Ok(RuntimeFunction::at(self.table, offset - self.start).unwind_info_address)
     }
 
     /// The even RVA at the end of the links from `address`. This is Brent's algorithm: one RVA is saved after 1, 2, 4,

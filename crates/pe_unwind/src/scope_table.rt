@@ -27,26 +27,26 @@ pub struct ScopeTableEntry {
     pub target: u32,
 }
 
-/// Reads the entry at an offset where one is known to be.
-fn read_scope(bytes: &[u8], offset: usize) -> ScopeTableEntry
-    requires { offset + 16 ≤ length bytes.now }
-    ensures { result ≡ scope_at bytes.now offset }
-{
-    ScopeTableEntry {
-        begin: read_u32(bytes, offset),
-        end: read_u32(bytes, offset + 4),
-        handler: read_u32(bytes, offset + 8),
-        target: read_u32(bytes, offset + 12),
-    }
-}
-
 impl ScopeTableEntry {
+    /// The entry at an offset in the bytes that is known to have 16 bytes.
+    pub fn at(bytes: &[u8], offset: usize) -> ScopeTableEntry
+        requires { offset + 16 ≤ length bytes.now }
+        ensures { result ≡ scope_at bytes.now offset }
+    {
+        ScopeTableEntry {
+            begin: read_u32(bytes, offset),
+            end: read_u32(bytes, offset + 4),
+            handler: read_u32(bytes, offset + 8),
+            target: read_u32(bytes, offset + 12),
+        }
+    }
+
     /// The entry of 16 bytes at an offset in the bytes. Errors: `Short` if it is truncated.
     pub fn parse(bytes: &[u8], offset: usize) -> Result<ScopeTableEntry>
-        ensures { Returns (λ s. s) result (record_at bytes.now offset 16 (scope_at bytes.now offset)) }
+        ensures { Returns result (record_at bytes.now offset 16 (scope_at bytes.now offset)) }
     {
         require_bytes(bytes, offset, SIZE_OF_SCOPE)?;
-        Ok(read_scope(bytes, offset))
+        Ok(ScopeTableEntry::at(bytes, offset))
     }
 }
 
@@ -75,7 +75,7 @@ impl<'a> Iterator for ScopeTableIterator<'a> {
     #[tactic(auto, using(crate::proofs::Entries::scopes_more, crate::proofs::Entries::scopes_none))]
     fn next(&mut self) -> Option<ScopeTableEntry> {
         let bytes = split_entry(&mut self.bytes, SIZE_OF_SCOPE)?.ok()?;
-        Some(read_scope(bytes, 0))
+        Some(ScopeTableEntry::at(bytes, 0))
     }
 
     #[tactic(auto, using(crate::proofs::Entries::scopes_count))]

@@ -4,16 +4,18 @@
 
 ghost use Rattle.std.specs.Prelude.{◌≡◌, [], ◌∷◌};
 ghost use Rattle.std.specs.Option.{option_map};
-ghost use Rattle.pe_core.specs.Refusals.{Returns, Short, outcome};
+ghost use Rattle.pe_core.specs.Refusals.{ReturnsAs, Short, outcome};
 ghost use Rattle.pe_unwind.specs.CodeStream.{stream_of};
 ghost use Rattle.pe_unwind.specs.ScopeTable.{scopes_left};
 ghost use Rattle.pe_unwind.specs.UnwindRecord.{handler_view, ending_view, unwind_view, ending_holds, ending_at, unwind_tests, unwind_record, code_stream, scope_table_size, scope_table_at, scope_table_of};
 
-use crate::function_table::{RuntimeFunction, SIZE_OF_FUNCTION, read_function};
+use crate::function_table::{RuntimeFunction, SIZE_OF_FUNCTION};
 use crate::register::Register;
 use crate::scope_table::{SIZE_OF_SCOPE, ScopeTableIterator};
 use crate::unwind_code::{UnwindCode, UnwindCodeIterator};
-use pe_core::{Error, Reason, Result, read_u8, read_u32, require_bytes, slice_at, u8_at, u32_at};
+use pe_core::{
+    Error, Reason, Result, TableEntry, read_u8, read_u32, require_bytes, slice_at, u8_at, u32_at,
+};
 
 /// The handler of a function, called when an exception passes through it: its RVA, and the handler's data, which are
 /// all bytes after that RVA in the record, up to the end of the file.
@@ -51,11 +53,11 @@ fn ending(
     offset: usize,
     flags: u8,
 ) -> Result<(Option<RuntimeFunction>, Option<UnwindHandler<'_>>)>
-    ensures { Returns ending_view result (outcome ((ending_holds bytes.now offset flags, Short) ∷ []) (ending_at bytes.now offset flags)) }
+    ensures { ReturnsAs ending_view result (outcome ((ending_holds bytes.now offset flags, Short) ∷ []) (ending_at bytes.now offset flags)) }
 {
     if flags / 4 % 2 == 1 {
         require_bytes(bytes, offset, SIZE_OF_FUNCTION)?;
-        return Ok((Some(read_function(bytes, offset)), None));
+        return Ok((Some(RuntimeFunction::at(bytes, offset)), None));
     }
     if flags % 2 == 0 && flags / 2 % 2 == 0 {
         return Ok((None, None));
@@ -99,7 +101,7 @@ impl<'a> UnwindInfo<'a> {
     /// `Short` if the rest of the header, the codes, or the chained function or the handler's RVA are truncated.
     #[tactic(auto, unfolding(crate::specs::UnwindRecord::unwind_tests, crate::specs::UnwindRecord::unwind_record))]
     pub fn parse(bytes: &'a [u8], offset: usize) -> Result<UnwindInfo<'a>>
-        ensures { Returns unwind_view result (outcome (unwind_tests bytes.entry.now offset) (unwind_record bytes.entry.now offset)) }
+        ensures { ReturnsAs unwind_view result (outcome (unwind_tests bytes.entry.now offset) (unwind_record bytes.entry.now offset)) }
     {
         let first = u8_at(bytes, offset)?;
         let version = first % 8;

@@ -4,6 +4,7 @@ use Rattle.std.specs.Prelude.{◌==◌}
 use Rattle.std.proofs.lemmas.List.{append-nil}
 use Rattle.std.specs.List.{flat_map}
 use Rattle.pe_core.specs.Refusals.{Refusal, Short}
+use Rattle.pe_core.specs.Rows.{entry_items}
 use Rattle.pe_unwind.specs.Arm64Functions.{arm64_functions, arm64_function_items}
 use Rattle.pe_unwind.specs.FunctionTable.{functions, function_items}
 use Rattle.peinfo.specs.FunctionLines.{function_line, function64_line, item_line, item_lines}
@@ -31,9 +32,9 @@ no_lines line true = refl
 no_lines line false = refl
 
 pub whole_items : (b : List ℕ) → item_lines function_line (function_items b) ≡ flat_map function_line (functions b)
-unfolding function_items functions
+unfolding entry_items functions
 whole_items b = lines_of_whole function_line (functions b) (cond (length b % 12 == 0) [] (Err Short ∷ [])) (no_lines function_line (length b % 12 == 0))
 
 pub whole_items_64 : (b : List ℕ) → item_lines function64_line (arm64_function_items b) ≡ flat_map function64_line (arm64_functions b)
-unfolding arm64_function_items arm64_functions
+unfolding entry_items arm64_functions
 whole_items_64 b = lines_of_whole function64_line (arm64_functions b) (cond (length b % 8 == 0) [] (Err Short ∷ [])) (no_lines function64_line (length b % 8 == 0))

@@ -14,7 +14,7 @@ use pe_core::{Header, OptionalHeader, Result, require_room};
 /// Returns `WriteFit` if the headers don't all fit.
 #[tactic(auto, using(crate::proofs::WrittenHeaders::headers_fit))]
 pub fn require_headers(buffer: &[u8], header: &Header<'_>, optional: &OptionalHeader) -> Result<()>
-    ensures { Returns (λ u. u) result
+    ensures { Returns result
         (outcome ((all_fit (length buffer.now) (header_pieces (header_view header.now) (optional_header_view optional.now)), WriteFit) ∷ []) tt) }
 {
     let offset = header.dos_header.pe_pointer as usize;

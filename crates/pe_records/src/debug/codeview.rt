@@ -4,7 +4,7 @@
 ghost use Rattle.std.specs.Prelude.{◌≡◌, ◌+◌, ◌-◌, ◌≤◌, length};
 ghost use Rattle.std.specs.Option.{option_map};
 ghost use Rattle.pe_core.specs.Options.{default_options};
-ghost use Rattle.pe_core.specs.Refusals.{Returns};
+ghost use Rattle.pe_core.specs.Refusals.{ReturnsAs};
 ghost use Rattle.pe_records.specs.DebugRecords.{pdb70_view, pdb70_of, pdb70_record, pdb20_view, pdb20_of, pdb20_record};
 
 use crate::debug::ImageDebugDirectory;
@@ -46,7 +46,7 @@ impl<'a> CodeviewPDB70DebugInfo<'a> {
     /// rest is truncated.
     #[tactic(auto, unfolding(crate::specs::DebugRecords::pdb70_record, crate::specs::DebugRecords::pdb70_at))]
     fn at(bytes: &'a [u8], offset: usize, size: u32, mode: ParseMode) -> Result<Option<Self>>
-        ensures { Returns (option_map pdb70_view) result (pdb70_record mode bytes.entry.now offset size) }
+        ensures { ReturnsAs (option_map pdb70_view) result (pdb70_record mode bytes.entry.now offset size) }
     {
         if size < 24 {
             return mode.none_if_refused(Err(Error::Malformed(Reason::DebugSize(size))));
@@ -70,7 +70,7 @@ impl<'a> CodeviewPDB70DebugInfo<'a> {
 
     /// The PDB 7.0 record of the entry, with the default options. Errors: those of `parse_with_opts`.
     pub fn parse(bytes: &'a [u8], idd: &ImageDebugDirectory) -> Result<Option<Self>>
-        ensures { Returns (option_map pdb70_view) result (pdb70_of default_options bytes.entry.now idd.now) }
+        ensures { ReturnsAs (option_map pdb70_view) result (pdb70_of default_options bytes.entry.now idd.now) }
     {
         CodeviewPDB70DebugInfo::parse_with_opts(bytes, idd, &ParseOptions::default())
     }
@@ -84,7 +84,7 @@ impl<'a> CodeviewPDB70DebugInfo<'a> {
         idd: &ImageDebugDirectory,
         opts: &ParseOptions,
     ) -> Result<Option<Self>>
-        ensures { Returns (option_map pdb70_view) result (pdb70_of opts.now bytes.entry.now idd.now) }
+        ensures { ReturnsAs (option_map pdb70_view) result (pdb70_of opts.now bytes.entry.now idd.now) }
     {
         let offset = idd.record_offset(opts);
         CodeviewPDB70DebugInfo::at(bytes, offset as usize, idd.size_of_data, opts.parse_mode)
@@ -96,7 +96,7 @@ impl<'a> CodeviewPDB20DebugInfo<'a> {
     /// rest is truncated.
     #[tactic(auto, unfolding(crate::specs::DebugRecords::pdb20_record, crate::specs::DebugRecords::pdb20_at))]
     fn at(bytes: &'a [u8], offset: usize, size: u32, mode: ParseMode) -> Result<Option<Self>>
-        ensures { Returns (option_map pdb20_view) result (pdb20_record mode bytes.entry.now offset size) }
+        ensures { ReturnsAs (option_map pdb20_view) result (pdb20_record mode bytes.entry.now offset size) }
     {
         if size < 16 {
             return mode.none_if_refused(Err(Error::Malformed(Reason::DebugSize(size))));
@@ -119,7 +119,7 @@ impl<'a> CodeviewPDB20DebugInfo<'a> {
 
     /// The PDB 2.0 record of the entry, with the default options. Errors: those of `parse_with_opts`.
     pub fn parse(bytes: &'a [u8], idd: &ImageDebugDirectory) -> Result<Option<Self>>
-        ensures { Returns (option_map pdb20_view) result (pdb20_of default_options bytes.entry.now idd.now) }
+        ensures { ReturnsAs (option_map pdb20_view) result (pdb20_of default_options bytes.entry.now idd.now) }
     {
         CodeviewPDB20DebugInfo::parse_with_opts(bytes, idd, &ParseOptions::default())
     }
@@ -133,7 +133,7 @@ impl<'a> CodeviewPDB20DebugInfo<'a> {
         idd: &ImageDebugDirectory,
         opts: &ParseOptions,
     ) -> Result<Option<Self>>
-        ensures { Returns (option_map pdb20_view) result (pdb20_of opts.now bytes.entry.now idd.now) }
+        ensures { ReturnsAs (option_map pdb20_view) result (pdb20_of opts.now bytes.entry.now idd.now) }
     {
         let offset = idd.record_offset(opts);
         CodeviewPDB20DebugInfo::at(bytes, offset as usize, idd.size_of_data, opts.parse_mode)

@@ -3,7 +3,7 @@
 
 ghost use Rattle.std.specs.Prelude.{◌≡◌, ◌+◌, ◌≤◌, length};
 ghost use Rattle.pe_core.specs.Options.{default_options};
-ghost use Rattle.pe_core.specs.Refusals.{Returns};
+ghost use Rattle.pe_core.specs.Refusals.{Returns, ReturnsAs};
 ghost use Rattle.pe_records.specs.DebugRecords.{features_at, features_of, characteristics_of, repro_view, repro_of, repro_record};
 
 use crate::debug::ImageDebugDirectory;
@@ -44,7 +44,7 @@ impl VCFeatureInfo {
 
     /// The counts of the entry, with the default options. Errors: those of `parse_with_opts`.
     pub fn parse(bytes: &[u8], idd: &ImageDebugDirectory) -> Result<VCFeatureInfo>
-        ensures { Returns (λ r. r) result (features_of default_options bytes.now idd.now) }
+        ensures { Returns result (features_of default_options bytes.now idd.now) }
     {
         VCFeatureInfo::parse_with_opts(bytes, idd, &ParseOptions::default())
     }
@@ -56,7 +56,7 @@ impl VCFeatureInfo {
         idd: &ImageDebugDirectory,
         opts: &ParseOptions,
     ) -> Result<VCFeatureInfo>
-        ensures { Returns (λ r. r) result (features_of opts.now bytes.now idd.now) }
+        ensures { Returns result (features_of opts.now bytes.now idd.now) }
     {
         let offset = idd.record_offset(opts) as usize;
         require_bytes(bytes, offset, 20)?;
@@ -75,7 +75,7 @@ pub struct ExDllCharacteristicsInfo {
 impl ExDllCharacteristicsInfo {
     /// The characteristics of the entry, with the default options. Errors: those of `parse_with_opts`.
     pub fn parse(bytes: &[u8], idd: &ImageDebugDirectory) -> Result<ExDllCharacteristicsInfo>
-        ensures { Returns (λ r. r) result (characteristics_of default_options bytes.now idd.now) }
+        ensures { Returns result (characteristics_of default_options bytes.now idd.now) }
     {
         ExDllCharacteristicsInfo::parse_with_opts(bytes, idd, &ParseOptions::default())
     }
@@ -87,7 +87,7 @@ impl ExDllCharacteristicsInfo {
         idd: &ImageDebugDirectory,
         opts: &ParseOptions,
     ) -> Result<ExDllCharacteristicsInfo>
-        ensures { Returns (λ r. r) result (characteristics_of opts.now bytes.now idd.now) }
+        ensures { Returns result (characteristics_of opts.now bytes.now idd.now) }
     {
         let characteristics_ex = u32_at(bytes, idd.record_offset(opts) as usize)?;
         Ok(ExDllCharacteristicsInfo { characteristics_ex })
@@ -112,7 +112,7 @@ impl<'a> ReproInfo<'a> {
     /// The Repro record of the entry, at a file offset.
     #[tactic(auto, unfolding(crate::specs::DebugRecords::repro_record))]
     fn at(bytes: &'a [u8], offset: usize, idd: &ImageDebugDirectory) -> Result<Self>
-        ensures { Returns repro_view result (repro_record bytes.entry.now offset idd.now) }
+        ensures { ReturnsAs repro_view result (repro_record bytes.entry.now offset idd.now) }
     {
         if idd.size_of_data == 0 {
             return Ok(ReproInfo::TimeDateStamp(idd.time_date_stamp));
@@ -125,7 +125,7 @@ impl<'a> ReproInfo<'a> {
 
     /// The Repro record of the entry, with the default options. Errors: those of `parse_with_opts`.
     pub fn parse(bytes: &'a [u8], idd: &ImageDebugDirectory) -> Result<Self>
-        ensures { Returns repro_view result (repro_of default_options bytes.entry.now idd.now) }
+        ensures { ReturnsAs repro_view result (repro_of default_options bytes.entry.now idd.now) }
     {
         ReproInfo::parse_with_opts(bytes, idd, &ParseOptions::default())
     }
@@ -139,7 +139,7 @@ impl<'a> ReproInfo<'a> {
         idd: &ImageDebugDirectory,
         opts: &ParseOptions,
     ) -> Result<Self>
-        ensures { Returns repro_view result (repro_of opts.now bytes.entry.now idd.now) }
+        ensures { ReturnsAs repro_view result (repro_of opts.now bytes.entry.now idd.now) }
     {
         ReproInfo::at(bytes, idd.record_offset(opts) as usize, idd)
     }

@@ -5,7 +5,7 @@ ghost use Rattle.std.specs.Ordering.{nat_cmp};
 ghost use Rattle.std.specs.declared.cmp.Ordering.TheVariants.{Equal};
 ghost use Rattle.std.specs.Iterator.{Drains};
 ghost use Rattle.pe_core.specs.Offsets.{bytes_in, IsWithin};
-ghost use Rattle.pe_core.specs.Refusals.{Refusal, answer_by};
+ghost use Rattle.pe_core.specs.Refusals.{Refusal, answer_of};
 ghost use Rattle.pe_core.specs.declared.byte_range.ByteRange.{ByteRange};
 ghost use Rattle.pe_core.specs.declared.data_directories.DataDirectory.{DataDirectory};
 ghost use Rattle.pe_core.specs.declared.error.Error.{Error};
@@ -55,7 +55,7 @@ pub fn versions_in_order()
 /// An iterator over entries returns the entries of its bytes, and is over after `None`.
 pub fn entry_iterators_give_the_entries()
     ensures items { (s : ResourceEntryIterator) (xs : List (Result ResourceEntry Error)) →
-        Drains ⟦<ResourceEntryIterator<'static> as Iterator>⟧.next_gives s xs → map (answer_by (λ e. e)) xs ≡ items_left s }
+        Drains ⟦<ResourceEntryIterator<'static> as Iterator>⟧.next_gives s xs → map (answer_of) xs ≡ items_left s }
     ensures none { (s t u : ResourceEntryIterator) (r : Option (Result ResourceEntry Error)) →
         ⟦<ResourceEntryIterator<'static> as Iterator>⟧.next_gives s None t →
         ⟦<ResourceEntryIterator<'static> as Iterator>⟧.next_gives t r u → r ≡ None }

@@ -475,13 +475,13 @@ pub struct Arm64UnwindCodeIterator<'a> {
 }
 
 impl<'a> Arm64UnwindCodeIterator<'a> {
-    ghost use Rattle.pe_core.specs.Refusals.{Returns};
+    ghost use Rattle.pe_core.specs.Refusals.{ReturnsAs};
     ghost use Rattle.pe_unwind.specs.Arm64Tiling.{stream_offset, stream_at};
 
     /// The codes of these bytes from an offset on. Errors: `Arm64Stream` if the length of the bytes is not a multiple
     /// of 4, if the offset is past their end, or if there are more than 4,294,967,292 bytes.
     pub fn new(bytes: &'a [u8], start: usize) -> Result<Self>
-        ensures { Returns stream_offset result (stream_at bytes.entry.now start) }
+        ensures { ReturnsAs stream_offset result (stream_at bytes.entry.now start) }
     {
         if bytes.len() % 4 != 0 || bytes.len() < start || LONGEST_STREAM < bytes.len() {
             return Err(Error::Malformed(Reason::Arm64Stream {

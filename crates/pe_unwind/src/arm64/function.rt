@@ -3,16 +3,15 @@
 //! fields or the record. See
 //! [ARM64 exception handling](https://learn.microsoft.com/cpp/build/arm64-exception-handling).
 
-ghost use Rattle.std.specs.Prelude.{◌≡◌, ◌+◌, ◌*◌, ◌≤◌, ◌==◌, length, IfSome, Some};
-ghost use Rattle.std.specs.Iterator.{UpTo, YieldsFirstBy, item_count};
-ghost use Rattle.std.specs.Iterator.SizeHint.{IsWithinCount};
-ghost use Rattle.pe_unwind.specs.FunctionTable.{answer_of};
-ghost use Rattle.pe_unwind.specs.Arm64Words.{bits};
+ghost use Rattle.std.specs.Prelude.{◌≡◌, ◌+◌, ◌*◌, ◌<◌, ◌≤◌, ◌==◌, length};
+ghost use Rattle.std.proofs.Common.{arith};
 ghost use Rattle.pe_core.specs.Refusals.{Returns};
-ghost use Rattle.pe_unwind.specs.Arm64Functions.{is_packed, arm64_function_of, arm64_function_at, arm64_function_items, items_of_arm64_functions};
+ghost use Rattle.pe_unwind.specs.Arm64Words.{bits};
+ghost use Rattle.pe_unwind.specs.Arm64Functions.{is_packed, arm64_function_of, arm64_function_at};
+ghost use Rattle.pe_unwind.specs.EntriesAfter.{arm64_functions_after};
 
 use super::words::bits;
-use pe_core::{Error, Reason, Result, read_u32, split_entry};
+use pe_core::{Error, Reason, Result, TableEntries, TableEntry, read_u32};
 
 /// The `flag` of an entry whose unwind data are the RVA of an unwind record.
 pub const ARM64_PDATA_REF_TO_FULL_XDATA: u32 = 0;
@@ -118,77 +117,40 @@ impl Arm64RuntimeFunction {
     }
 }
 
-/// Reads the entry at an offset where one is known to be.
-pub(crate) fn read_arm64_function(bytes: &[u8], offset: usize) -> Arm64RuntimeFunction
-    requires { offset + 8 ≤ length bytes.now }
-    ensures { result ≡ arm64_function_at bytes.now offset }
-{
-    Arm64RuntimeFunction {
-        begin_address: read_u32(bytes, offset),
-        unwind_data: read_u32(bytes, offset + 4),
+impl TableEntry for Arm64RuntimeFunction {
+    ghost SIZE = { 8 };
+
+    ghost entry_at = { arm64_function_at };
+
+    const SIZE: usize = SIZE_OF_ARM64_FUNCTION;
+
+    const ITERATOR: &'static str = "Arm64RuntimeFunctionIterator";
+
+    fn at(bytes: &[u8], offset: usize) -> Arm64RuntimeFunction {
+        Arm64RuntimeFunction {
+            begin_address: read_u32(bytes, offset),
+            unwind_data: read_u32(bytes, offset + 4),
+        }
     }
+
+    ghost has_bytes = { omega arith };
+
+    ghost reads_after = { arm64_functions_after };
 }
 
 impl Arm64RuntimeFunction {
     /// The entry of a table with this index, which counts entries. Errors: `FunctionIndex` unless the table has more
     /// whole entries than that.
     pub fn of_table(table: &[u8], index: usize) -> Result<Arm64RuntimeFunction>
-        ensures { Returns (λ f. f) result (arm64_function_of table.now index) }
+        ensures { Returns result (arm64_function_of table.now index) }
     {
         if index < table.len() / SIZE_OF_ARM64_FUNCTION {
-            Ok(read_arm64_function(table, SIZE_OF_ARM64_FUNCTION * index))
+            Ok(Arm64RuntimeFunction::at(table, SIZE_OF_ARM64_FUNCTION * index))
         } else {
             Err(Error::Malformed(Reason::FunctionIndex(index)))
         }
     }
 }
 
-/// The entries that are left of an ARM64 function table. A truncated last entry is one item, `Short`.
-#[derive(Debug, Drop)]
-pub struct Arm64RuntimeFunctionIterator<'a> {
-    bytes: &'a [u8],
-}
-
-impl<'a> Arm64RuntimeFunctionIterator<'a> {
-    /// The entries of these bytes, 8 bytes each.
-    pub fn new(bytes: &'a [u8]) -> Self
-        ensures { items_of_arm64_functions result ≡ arm64_function_items bytes.entry.now }
-    {
-        Arm64RuntimeFunctionIterator { bytes }
-    }
-}
-
-impl<'a> Iterator for Arm64RuntimeFunctionIterator<'a> {
-    type Item = Result<Arm64RuntimeFunction>;
-
-    ghost next_gives = { YieldsFirstBy answer_of items_of_arm64_functions };
-
-    ghost remaining = { item_count items_of_arm64_functions };
-
-    #[tactic(auto, using(crate::proofs::Arm64Entries::functions_more, crate::proofs::Arm64Entries::functions_truncated, crate::proofs::Arm64Entries::functions_none))]
-    fn next(&mut self) -> Option<Result<Arm64RuntimeFunction>> {
-        match split_entry(&mut self.bytes, SIZE_OF_ARM64_FUNCTION)? {
-            Ok(bytes) => Some(Ok(read_arm64_function(bytes, 0))),
-            Err(error) => Some(Err(error)),
-        }
-    }
-
-    #[tactic(auto, using(crate::proofs::Arm64Entries::functions_count))]
-    fn size_hint(&self) -> (usize, Option<usize>)
-        ensures lower { IsWithinCount result.0 (item_count items_of_arm64_functions self.now) }
-        ensures upper { IfSome result.1 (UpTo (item_count items_of_arm64_functions self.now)) }
-        ensures exact { result ≡ (length (items_of_arm64_functions self.now), Some (length (items_of_arm64_functions self.now))) }
-    {
-        let entries = self.len();
-        (entries, Some(entries))
-    }
-}
-
-impl<'a> ExactSizeIterator for Arm64RuntimeFunctionIterator<'a> {
-    #[tactic(auto, using(crate::proofs::Arm64Entries::functions_count))]
-    fn len(&self) -> usize
-        ensures { result ≡ length (items_of_arm64_functions self.now) }
-    {
-        self.bytes.len().div_ceil(SIZE_OF_ARM64_FUNCTION)
-    }
-}
+/// The entries that are left of an ARM64 function table, 8 bytes each. A truncated last entry is one item, `Short`.
+pub type Arm64RuntimeFunctionIterator<'a> = TableEntries<'a, Arm64RuntimeFunction>;

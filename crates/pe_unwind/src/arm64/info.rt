@@ -5,7 +5,7 @@
 
 ghost use Rattle.std.specs.Prelude.{◌≡◌, ◌+◌, ◌*◌, ◌≤◌, [], ◌∷◌, length, Result};
 ghost use Rattle.std.specs.Option.{option_map};
-ghost use Rattle.pe_core.specs.Refusals.{Returns, Short, outcome};
+ghost use Rattle.pe_core.specs.Refusals.{Returns, ReturnsAs, Short, outcome};
 ghost use Rattle.pe_core.specs.Bytes.{holds};
 ghost use Rattle.pe_unwind.specs.Arm64Words.{epilog_scopes_left};
 ghost use Rattle.pe_unwind.specs.Arm64Record.{extension_view, arm64_handler_view, info_view, extension_size, extension_at, scope_count, code_words, handler_size, handler_at, info_at, size_at, scopes_of};
@@ -47,7 +47,7 @@ fn extension_after(
     header: Arm64UnwindHeader,
 ) -> Result<Option<Arm64UnwindExtension>>
     requires { offset ≤ length bytes.now }
-    ensures { Returns extension_view result (outcome ((holds bytes.now offset (extension_size header.0), Short) ∷ []) (extension_at bytes.now offset header.0)) }
+    ensures { ReturnsAs extension_view result (outcome ((holds bytes.now offset (extension_size header.0), Short) ∷ []) (extension_at bytes.now offset header.0)) }
 {
     if header.has_extension() {
         Ok(Some(Arm64UnwindExtension(u32_at(bytes, offset)?)))
@@ -88,7 +88,7 @@ fn handler_after(
     header: Arm64UnwindHeader,
 ) -> Result<Option<Arm64ExceptionHandler<'_>>>
     requires { offset ≤ length bytes.now }
-    ensures { Returns (option_map arm64_handler_view) result (outcome ((holds bytes.now offset (handler_size header.0), Short) ∷ []) (handler_at bytes.now offset header.0)) }
+    ensures { ReturnsAs (option_map arm64_handler_view) result (outcome ((holds bytes.now offset (handler_size header.0), Short) ∷ []) (handler_at bytes.now offset header.0)) }
 {
     if !header.exception_data_present() {
         return Ok(None);
@@ -107,7 +107,7 @@ impl<'a> Arm64UnwindInfo<'a> {
     /// the extension word, the scopes, the codes or the handler's RVA are truncated.
     #[tactic(auto, unfolding(crate::specs::Arm64Record::info_at))]
     pub fn parse(bytes: &'a [u8], offset: usize) -> Result<Arm64UnwindInfo<'a>>
-        ensures { Returns info_view result (info_at bytes.entry.now offset) }
+        ensures { ReturnsAs info_view result (info_at bytes.entry.now offset) }
     {
         let header = Arm64UnwindHeader(u32_at(bytes, offset)?);
         if header.version() != 0 {
@@ -145,7 +145,7 @@ impl<'a> Arm64UnwindInfo<'a> {
     /// `Short` if one of these words is truncated.
     #[tactic(auto, unfolding(crate::specs::Arm64Record::size_at))]
     pub fn size(bytes: &[u8]) -> Result<usize>
-        ensures { Returns (λ n. n) result (size_at bytes.now) }
+        ensures { Returns result (size_at bytes.now) }
     {
         let header = Arm64UnwindHeader(u32_at(bytes, 0)?);
         let extension = extension_after(bytes, SIZE_OF_WORD, header)?;
@@ -188,7 +188,7 @@ impl<'a> Arm64UnwindInfo<'a> {
     /// The unwind codes from an index on, in bytes from the first code: 0 for the prolog, or the `start_index` of an
     /// epilog scope. Errors: `Arm64Stream` if the index is past the end of the codes.
     pub fn unwind_codes(&self, start_index: u16) -> Result<Arm64UnwindCodeIterator<'a>>
-        ensures { Returns stream_offset result (stream_at (info_view self.now).codes start_index) }
+        ensures { ReturnsAs stream_offset result (stream_at (info_view self.now).codes start_index) }
     {
         Arm64UnwindCodeIterator::new(self.code_bytes, usize::from(start_index))
     }

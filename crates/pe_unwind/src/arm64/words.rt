@@ -2,13 +2,12 @@
 //! caller gets them from `Arm64UnwindInfo`. Layouts:
 //! [ARM64 exception handling](https://learn.microsoft.com/cpp/build/arm64-exception-handling).
 
-ghost use Rattle.std.specs.Prelude.{◌≡◌, ◌*◌, ◌<◌, ◌==◌, length, IfSome, Some};
-ghost use Rattle.std.specs.Iterator.{UpTo, YieldsFirstBy, item_count};
-ghost use Rattle.std.specs.Iterator.SizeHint.{IsWithinCount};
-ghost use Rattle.pe_unwind.specs.Arm64Words.{bits, has_handler, has_epilog, has_extension, epilog_scope_items, epilog_scopes_left};
-ghost use Rattle.pe_unwind.specs.FunctionTable.{answer_of};
+ghost use Rattle.std.specs.Prelude.{◌≡◌, ◌*◌, ◌<◌, ◌==◌};
+ghost use Rattle.std.proofs.Common.{arith};
+ghost use Rattle.pe_unwind.specs.Arm64Words.{bits, has_handler, has_epilog, has_extension, epilog_scope_at};
+ghost use Rattle.pe_unwind.specs.EntriesAfter.{epilog_scopes_after};
 
-use pe_core::{Result, read_u32, split_entry};
+use pe_core::{TableEntries, TableEntry, read_u32};
 
 /// The size of an epilog scope in bytes.
 const SIZE_OF_EPILOG_SCOPE: usize = 4;
@@ -127,52 +126,23 @@ impl Arm64EpilogScope {
     }
 }
 
-/// The epilog scopes that are left. A truncated last scope is one item, `Short`.
-#[derive(Debug, Drop)]
-pub struct Arm64EpilogScopeIterator<'a> {
-    bytes: &'a [u8],
-}
+impl TableEntry for Arm64EpilogScope {
+    ghost SIZE = { 4 };
 
-impl<'a> Arm64EpilogScopeIterator<'a> {
-    /// The epilog scopes of these bytes, four bytes each.
-    pub fn new(bytes: &'a [u8]) -> Self
-        ensures { epilog_scopes_left result ≡ epilog_scope_items bytes.entry.now }
-    {
-        Arm64EpilogScopeIterator { bytes }
-    }
-}
+    ghost entry_at = { epilog_scope_at };
 
-impl<'a> Iterator for Arm64EpilogScopeIterator<'a> {
-    type Item = Result<Arm64EpilogScope>;
+    const SIZE: usize = SIZE_OF_EPILOG_SCOPE;
 
-    ghost next_gives = { YieldsFirstBy answer_of epilog_scopes_left };
+    const ITERATOR: &'static str = "Arm64EpilogScopeIterator";
 
-    ghost remaining = { item_count epilog_scopes_left };
-
-    #[tactic(auto, using(crate::proofs::EpilogScopes::epilog_scopes_more, crate::proofs::EpilogScopes::epilog_scopes_truncated, crate::proofs::EpilogScopes::epilog_scopes_none))]
-    fn next(&mut self) -> Option<Result<Arm64EpilogScope>> {
-        match split_entry(&mut self.bytes, SIZE_OF_EPILOG_SCOPE)? {
-            Ok(bytes) => Some(Ok(Arm64EpilogScope(read_u32(bytes, 0)))),
-            Err(error) => Some(Err(error)),
-        }
+    fn at(bytes: &[u8], offset: usize) -> Arm64EpilogScope {
+        Arm64EpilogScope(read_u32(bytes, offset))
     }
 
-    #[tactic(auto, using(crate::proofs::EpilogScopes::epilog_scopes_count))]
-    fn size_hint(&self) -> (usize, Option<usize>)
-        ensures lower { IsWithinCount result.0 (item_count epilog_scopes_left self.now) }
-        ensures upper { IfSome result.1 (UpTo (item_count epilog_scopes_left self.now)) }
-        ensures exact { result ≡ (length (epilog_scopes_left self.now), Some (length (epilog_scopes_left self.now))) }
-    {
-        let scopes = self.len();
-        (scopes, Some(scopes))
-    }
+    ghost has_bytes = { omega arith };
+
+    ghost reads_after = { epilog_scopes_after };
 }
 
-impl<'a> ExactSizeIterator for Arm64EpilogScopeIterator<'a> {
-    #[tactic(auto, using(crate::proofs::EpilogScopes::epilog_scopes_count))]
-    fn len(&self) -> usize
-        ensures { result ≡ length (epilog_scopes_left self.now) }
-    {
-        self.bytes.len().div_ceil(SIZE_OF_EPILOG_SCOPE)
-    }
-}
+/// The epilog scopes that are left, 4 bytes each. A truncated last scope is one item, `Short`.
+pub type Arm64EpilogScopeIterator<'a> = TableEntries<'a, Arm64EpilogScope>;

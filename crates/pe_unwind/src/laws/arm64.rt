@@ -10,7 +10,7 @@ ghost use Rattle.pe_unwind.specs.declared.arm64.codes.Arm64UnwindCodeIterator.{A
 ghost use Rattle.pe_unwind.specs.Arm64Encoding.{encoding, Legal, StartsWithArm64Code, StartsWithNoArm64Code, IsTruncatedArm64Code};
 ghost use Rattle.pe_unwind.specs.Arm64Tiling.{Tiles, Joins, stream_offset};
 ghost use Rattle.pe_unwind.specs.Arm64Record.{Arm64InfoView, AreRecord, HasWords, info_at, record_size, size_at};
-ghost use Rattle.pe_unwind.specs.FunctionTable.{answer_of};
+ghost use Rattle.pe_core.specs.Refusals.{answer_of};
 ghost use Rattle.pe_unwind.specs.Offsets.{Arm64PartsStand};
 
 use crate::arm64::codes::Arm64UnwindCodeIterator;

@@ -20,4 +20,4 @@ returns-then-offset-self c =
 pub returns : goal.returns
 returns c =
     next_ok (table_view c.args.self.now) c.args.address c.in_ok-offset.offset c.requires (offset_is _ _ c.in_ok-offset.ensures) c.if-offset-self.false c.if-offset-self-ne0.false c.if-self-offset.false
-    ∙ ap (λ (f : RuntimeFunction). Some f.unwind_info_address) (sym c.read_function.ensures)
+    ∙ ap (λ (f : RuntimeFunction). Some f.unwind_info_address) (sym c.at.ensures)

@@ -1,5 +1,6 @@
 -- Entries of one width, from the front.
 use Rattle.std.proofs.Common.{◌≡◌, ℕ, zero, suc, ◌+◌, ◌-◌, ◌*◌, ◌/◌, ◌%◌, ◌^◌, ◌<◌, ◌≤◌, ◌==◌, min, List, [], ◌∷◌, ◌++◌, length, map, drop, get_or, Result, Ok, Err, if◌then◌else◌, refl, ap, sym, ◌∙◌, false, length-append, length-drop, arith}
+use Rattle.std.specs.Int.{div_ceil}
 use Rattle.std.specs.List.{range_with_len}
 use Rattle.std.proofs.lemmas.List.{get_or-drop, length-map, nil_from_length}
 use Rattle.std.proofs.lemmas.List.FromFn.{map-range_with_len_more, get_or-map-range_with_len}
@@ -7,7 +8,7 @@ use Rattle.std.proofs.lemmas.Bool.Decides.{nat_tests}
 use Rattle.std.proofs.Math.Nat.{div-eq-sub-div, div-eq_of_lt, mod-eq_of_lt, mod-eq-sub-mod}
 use Rattle.pe_core.specs.Bytes.{le}
 use Rattle.pe_core.specs.Refusals.{Refusal, Short}
-use Rattle.pe_core.specs.Rows.{each, whole_entries, entry_items}
+use Rattle.pe_core.specs.Rows.{ReadsAfter, each, whole_entries, entry_items}
 
 -- ---- lists of f 0 to f (n - 1)
 
@@ -46,10 +47,6 @@ le_after b k p q (suc n) e =
     let here : get_or (drop k b) (p + n) 0 ≡ get_or b (q + n) 0 = get_or-drop k b (p + n) 0 ∙ ap (λ (i : ℕ). get_or b i 0) (omega arith) in
     ap (λ (x : ℕ). x + get_or (drop k b) (p + n) 0 * 256 ^ n) (le_after b k p q n e) ∙ ap (λ (x : ℕ). le b q n + x * 256 ^ n) here
 
--- an entry behind the bytes that are dropped is the entry at its place in all of them
-abbrev pub ReadsAfter : {X : Type 0} → (List ℕ → ℕ → X) → ℕ → Type 0
-ReadsAfter entry_at w = (b : List ℕ) (p q : ℕ) → q ≡ w + p → entry_at (drop w b) p ≡ entry_at b q
-
 -- one whole entry and those behind it
 pub whole_entries-more : {X : Type 0} (entry_at : List ℕ → ℕ → X) (w : ℕ) (b : List ℕ) → ReadsAfter entry_at w → 0 < w → w ≤ length b → whole_entries entry_at w b ≡ entry_at b 0 ∷ whole_entries entry_at w (drop w b)
 whole_entries-more {X} entry_at w b after some h =
@@ -72,28 +69,36 @@ pub get_or-whole_entries : {X : Type 0} (entry_at : List ℕ → ℕ → X) (w :
 get_or-whole_entries entry_at w b i d h = get_or-each (λ j. entry_at b (w * j)) (length b / w) i d h
 
 -- one item and those behind it
-pub entry_items-more : {X : Type 0} (entry_at : List ℕ → ℕ → X) (w : ℕ) (b : List ℕ) → ReadsAfter entry_at w → 0 < w → w ≤ length b → entry_items entry_at w b ≡ Ok (entry_at b 0) ∷ entry_items entry_at w (drop w b)
-entry_items-more {X} entry_at w b after some h =
+pub entry_items_more : {X : Type 0} (entry_at : List ℕ → ℕ → X) (w : ℕ) (b : List ℕ) → ReadsAfter entry_at w → 0 < w → w ≤ length b → entry_items entry_at w b ≡ Ok (entry_at b 0) ∷ entry_items entry_at w (drop w b)
+unfolding entry_items
+entry_items_more {X} entry_at w b after some h =
     let rest : length b % w ≡ length (drop w b) % w = rw (length-drop w b) (mod-eq-sub-mod h) in
     ap (λ (xs : List X). map (λ x. Ok x) xs ++ (if length b % w == 0 then [] else Err Short ∷ [])) (whole_entries-more entry_at w b after some h)
     ∙ ap (λ (k : ℕ). Ok (entry_at b 0) ∷ (map (λ x. Ok x) (whole_entries entry_at w (drop w b)) ++ (if k == 0 then [] else Err Short ∷ []))) rest
 
 -- a cut entry and nothing behind it
 nothing : {X : Type 0} (entry_at : List ℕ → ℕ → X) (w : ℕ) → 0 < w → entry_items entry_at w [] ≡ []
+unfolding entry_items
 nothing {X} entry_at w some =
     let none : 0 % w ≡ 0 = mod-eq_of_lt some in
     ap (λ (xs : List X). map (λ x. Ok x) xs ++ (if 0 % w == 0 then [] else Err Short ∷ [])) (whole_entries-none entry_at w [] some)
     ∙ ap (λ (k : ℕ). if k == 0 then [] else Err Short ∷ []) none
 
-pub entry_items-none : {X : Type 0} (entry_at : List ℕ → ℕ → X) (w : ℕ) (b : List ℕ) → 0 < w → length b ≡ 0 → entry_items entry_at w b ≡ []
-entry_items-none entry_at w b some e = ap (entry_items entry_at w) (nil_from_length b e) ∙ nothing entry_at w some
+pub entry_items_none : {X : Type 0} (entry_at : List ℕ → ℕ → X) (w : ℕ) (b : List ℕ) → 0 < w → length b ≡ 0 → entry_items entry_at w b ≡ []
+entry_items_none entry_at w b some e = ap (entry_items entry_at w) (nil_from_length b e) ∙ nothing entry_at w some
 
-pub entry_items-cut : {X : Type 0} (entry_at : List ℕ → ℕ → X) (w : ℕ) (b left : List ℕ) → 0 < length b → length b < w → length left ≡ 0 → entry_items entry_at w b ≡ Err Short ∷ entry_items entry_at w left
-entry_items-cut {X} entry_at w b left some cut e =
+pub entry_items_cut : {X : Type 0} (entry_at : List ℕ → ℕ → X) (w : ℕ) (b left : List ℕ) → 0 < length b → length b < w → length left ≡ 0 → entry_items entry_at w b ≡ Err Short ∷ entry_items entry_at w left
+unfolding entry_items
+entry_items_cut {X} entry_at w b left some cut e =
     let rest : length b % w ≡ length b = mod-eq_of_lt cut in
     let t : (length b % w == 0) ≡ false = grind (arith, nat_tests) in
     ap (λ (xs : List X). map (λ x. Ok x) xs ++ (if length b % w == 0 then [] else Err Short ∷ [])) (whole_entries-none entry_at w b cut)
-    ∙ rw t (ap (λ (xs : List (Result X Refusal)). Err Short ∷ xs) (sym (entry_items-none entry_at w left (omega arith) e)))
+    ∙ rw t (ap (λ (xs : List (Result X Refusal)). Err Short ∷ xs) (sym (entry_items_none entry_at w left (omega arith) e)))
 
 pub length-entry_items : {X : Type 0} (entry_at : List ℕ → ℕ → X) (w : ℕ) (b : List ℕ) → length (entry_items entry_at w b) ≡ length b / w + min 1 (length b % w)
+unfolding entry_items
 length-entry_items entry_at w b = simp (length-append, length-map, length-each) (grind (arith, nat_tests))
+
+-- the same as a quotient that is rounded up
+pub count_of_entry_items : {X : Type 0} (entry_at : List ℕ → ℕ → X) (w : ℕ) (b : List ℕ) → length (entry_items entry_at w b) ≡ div_ceil (length b) w
+count_of_entry_items entry_at w b = length-entry_items entry_at w b

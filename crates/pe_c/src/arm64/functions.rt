@@ -1,0 +1,120 @@
+//! The function table of an ARM64 image (`.pdata`): entries of 8 bytes, and the unwind data that is packed into one.
+//! https://learn.microsoft.com/cpp/build/arm64-exception-handling#pdata-records
+
+ghost use Rattle.std.specs.Prelude.{◌≡◌};
+ghost use Rattle.pe_core.specs.Refusals.{answer_of};
+ghost use Rattle.pe_c.specs.HandsOut.{HandsOut, HandsOutIf};
+ghost use Rattle.pe_c.specs.Arm64.{arm64_function_in, packed_fields};
+ghost use Rattle.pe_c.specs.Unwinding.{exception_table_at};
+
+use crate::image::{Image, is_absent};
+use crate::ranges::{Range, range_of, slice_of};
+use crate::results::{DONE, hand_out, hand_out_some, options};
+use pe_core::{COFF_MACHINE_ARM64, Result, SectionTable};
+use pe_unwind::{Arm64RuntimeFunction, ExceptionData};
+
+/// Packed unwind data, as `pe_c_arm64_packed_fields` reads it from an entry of the function table.
+#[repr(C)]
+#[derive(Clone, Copy)]
+pub struct Arm64Packed {
+    /// 0 where the unwind data is the RVA of a record, and the other fields mean nothing; 1 for a function, 2 for a
+    /// fragment of one; 3 is reserved.
+    pub flag: u32,
+    /// In bytes.
+    pub function_length: u32,
+    /// Bytes of stack that the function allocates.
+    pub frame_size: u32,
+    /// RegF: 0, or the number of saved registers from d8 on, less 1.
+    pub reg_f: u32,
+    /// RegI: the number of saved registers from x19 on.
+    pub reg_i: u32,
+    /// H: 1 where x0 to x7 are stored at the start of the function, else 0.
+    pub h: u32,
+    /// CR: 0 where x29 and lr are not saved, 1 where lr is, 2 and 3 where both are; with 2 lr is signed.
+    pub cr: u32,
+    /// 0 where `flag` is 0, else 1.
+    pub is_packed: u32,
+}
+
+#[tactic(auto, unfolding(crate::specs::Unwinding::exception_table_at))]
+fn table_of(
+    bytes: &[u8],
+    image: &Image,
+    sections: &[SectionTable],
+    mode: u32,
+) -> Result<Option<Range>>
+    ensures { answer_of result ≡ exception_table_at 0xAA64 8 bytes.now image.now sections.now mode }
+{
+    let directory = image.exceptions;
+    if image.machine != COFF_MACHINE_ARM64 || is_absent(directory) {
+        return Ok(None);
+    }
+    let alignment = image.file_alignment;
+    let opts = options(mode);
+    let exceptions = ExceptionData::parse_arm64_with_opts(
+        bytes, directory, sections, alignment, &opts,
+    )?;
+    Ok(Some(range_of(exceptions.table_range())))
+}
+
+/// Returns the range of the function table of an ARM64 image, entries of 8 bytes: `NOTHING` where it has none, or is
+/// for another machine.
+///
+/// Errors: `EXCEPTION_SIZE`, `UNMAPPED`, `EXCEPTION_OFFSET`, `EXCEPTION_BOUNDS`.
+#[unsafe(no_mangle)]
+pub extern "C" fn pe_c_arm64_table(
+    bytes: &[u8],
+    image: &Image,
+    sections: &[SectionTable],
+    mode: u32,
+    out: &mut Range,
+) -> u32
+    ensures { HandsOutIf result out.old out.new (exception_table_at 0xAA64 8 bytes.now image.now sections.now mode) }
+{
+    hand_out_some(table_of(bytes, image, sections, mode), out)
+}
+
+fn function_in(bytes: &[u8], table: &Range, index: u64) -> Result<Arm64RuntimeFunction>
+    ensures { answer_of result ≡ arm64_function_in bytes.now table.now index }
+{
+    let entries = slice_of(bytes, table)?;
+    Arm64RuntimeFunction::of_table(entries, index as usize)
+}
+
+/// Reads the entry with an index, from 0, of the function table at this range.
+///
+/// Errors: `SHORT` where the range is not inside the bytes; `FUNCTION_INDEX` where the table has no such entry.
+#[unsafe(no_mangle)]
+pub extern "C" fn pe_c_arm64_function_at(
+    bytes: &[u8],
+    table: &Range,
+    index: u64,
+    out: &mut Arm64RuntimeFunction,
+) -> u32
+    ensures { HandsOut result out.old out.new (arm64_function_in bytes.now table.now index) }
+{
+    hand_out(function_in(bytes, table, index), out)
+}
+
+/// Reads the fields of packed unwind data from an entry. Always returns `DONE`: where the data is not packed, the
+/// fields mean nothing.
+#[unsafe(no_mangle)]
+pub extern "C" fn pe_c_arm64_packed_fields(
+    function: &Arm64RuntimeFunction,
+    out: &mut Arm64Packed,
+) -> u32
+    ensures done { result ≡ 0 }
+    ensures fields { out.new ≡ packed_fields function.now }
+{
+    *out = Arm64Packed {
+        flag: function.flag(),
+        function_length: function.function_length(),
+        frame_size: function.frame_size(),
+        reg_f: function.reg_f(),
+        reg_i: function.reg_i(),
+        h: u32::from(function.h()),
+        cr: function.cr(),
+        is_packed: u32::from(function.is_packed()),
+    };
+    DONE
+}

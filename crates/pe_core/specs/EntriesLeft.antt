@@ -1,0 +1,13 @@
+-- The entries that an iterator has left of a table.
+use Rattle.std.specs.Prelude.{ℕ, List, Result}
+use Rattle.pe_core.specs.Refusals.{Refusal}
+use Rattle.pe_core.specs.Rows.{entry_items}
+use Rattle.pe_core.specs.declared.table_entries.TableEntries.{TableEntries}
+
+-- the bytes that are left
+abbrev pub bytes_left : {E : Type 0} → TableEntries E → List ℕ
+bytes_left s = s.bytes.now
+
+-- the whole entries that are left, each read by `entry_at`, and one `Short` for a truncated last entry
+abbrev pub items_left : {E : Type 0} → (List ℕ → ℕ → E) → ℕ → TableEntries E → List (Result E Refusal)
+items_left entry_at width s = entry_items entry_at width (bytes_left s)
