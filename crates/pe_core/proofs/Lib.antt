@@ -2,10 +2,12 @@ pub mod Steps
 pub mod Map
 pub mod SectionCuts
 pub mod SectionHalves
+pub mod SectionWindows
 pub mod Texts
 pub mod TextEnds
 pub mod FirstZero
 pub mod TextRuns
+pub mod AsciiTexts
 pub mod Pieces
 pub mod SymbolRows
 pub mod NumberBytes

@@ -25,6 +25,7 @@ pub mod Imports
 pub mod ImportSteps
 pub mod SectionPieces
 pub mod SectionIndex
+pub mod SectionWindow
 pub mod Relocations
 pub mod Symbols
 pub mod Strings

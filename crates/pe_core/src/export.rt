@@ -13,6 +13,7 @@ ghost use Rattle.pe_core.specs.Refusals.{ReturnsAs, ReturnsUnlessMemory};
 ghost use Rattle.pe_core.specs.Rows.{each};
 ghost use Rattle.pe_core.specs.SectionIndex.{offset_or_end};
 ghost use Rattle.pe_core.specs.SectionMap.{offset_in, section_map};
+ghost use Rattle.pe_core.specs.SectionWindow.{IsWindow};
 ghost use Rattle.pe_core.specs.Text.{texts_of};
 
 use crate::bytes::{read_u16, read_u32, require_bytes, slice_at, u32_at};
@@ -22,6 +23,7 @@ use crate::many_texts::texts_at;
 use crate::options::ParseOptions;
 use crate::section_index::{SectionIndex, SectionMap};
 use crate::section_table::SectionTable;
+use crate::section_window::Window;
 use crate::text::text_at;
 use std::alloc::{AllocError, Allocator};
 
@@ -226,8 +228,11 @@ fn named_export<'a>(
     i: usize,
     export_data: &ExportData<'_>,
     sections: &SectionMap<'_>,
+    window: &mut Window,
 ) -> Option<Export<'a>>
-    ensures { option_map export_view result ≡ option_and_then (named_export (offset_in sections.now) (export_data_view export_data.now) i) (option_map (λ s. s.now) name.entry) }
+    requires { IsWindow sections.now window.old }
+    ensures window { IsWindow sections.now window.new }
+    ensures export { option_map export_view result ≡ option_and_then (named_export (offset_in sections.now) (export_data_view export_data.now) i) (option_map (λ s. s.now) name.entry) }
 {
     let name = name?;
     let ordinal = ordinal_of(export_data.ordinals, i)?;
@@ -235,7 +240,7 @@ fn named_export<'a>(
     Some(Export {
         name,
         rva,
-        offset: sections.find(rva as usize),
+        offset: sections.find_near(rva, window),
     })
 }
 
@@ -249,8 +254,9 @@ fn named_exports<'a, A: Allocator>(
     ensures { ReturnsUnlessMemory (λ v. map export_view v.items) result (Ok (exports_from (offset_in sections.now) (export_data_view export_data.now) 0 (texts_of names.now))) }
 {
     let mut exports = Vec::with_capacity(alloc, names.len())?;
+    let mut window = sections.no_window();
     for (i, name) in names.iter().enumerate() {
-        if let Some(export) = named_export(*name, i, export_data, sections) {
+        if let Some(export) = named_export(*name, i, export_data, sections, &mut window) {
             exports.push(export)?;
         }
     }
@@ -268,8 +274,10 @@ fn name_offsets<A: Allocator>(
 {
     let count = names.len() / 4;
     let mut offsets = Vec::with_capacity(alloc, count)?;
+    let mut window = sections.no_window();
     for i in 0..count {
-        offsets.push(sections.find_or_end(read_u32(names, 4 * i)))?;
+        let offset = sections.find_near(read_u32(names, 4 * i), &mut window);
+        offsets.push(offset.unwrap_or(usize::MAX))?;
     }
     Ok(offsets)
 }

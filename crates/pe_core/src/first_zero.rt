@@ -1,12 +1,16 @@
-//! The first zero of a byte slice, 16 bytes at a time: the names in an image are NUL-terminated.
+//! The first zero of a byte slice, 16 bytes at a time: the names in an image are NUL-terminated. Most of them are ASCII,
+//! which the same loads test.
 
-ghost use Rattle.std.specs.Prelude.{◌≡◌, ◌+◌, ◌≤◌, ◌==◌, length, position};
-ghost use Rattle.pe_core.specs.ZeroRuns.{IsZeroRun, lowest_bit};
+ghost use Rattle.std.specs.Prelude.{◌≡◌, ◌+◌, ◌≤◌, ◌==◌, IfSome, length, position};
+ghost use Rattle.pe_core.specs.ZeroRuns.{IsAsciiRun, IsAsciiText, IsZeroRun, lowest_bit};
 
 use std::simd::prelude::*;
 
 /// The number of bytes of one vector load.
 const LANES: usize = 16;
+
+/// The number of bytes in which `ascii_text_end` looks for the zero: four loads.
+const MOST_OF_TEXT: usize = 64;
 
 /// The index of the lowest bit that is set, or 16 if none is.
 #[inline(always)]
@@ -28,6 +32,40 @@ fn zero_run(bytes: &[u8], at: usize) -> usize
 {
     let zeros = u8x16::from_slice(&bytes[at..]).simd_eq(u8x16::splat(0));
     lowest_bit(zeros.to_bitmask())
+}
+
+/// The number of ASCII bytes before the first other one among the 16 bytes from `at` on: 16 if all are ASCII.
+#[inline(always)]
+fn ascii_run(bytes: &[u8], at: usize) -> usize
+    requires { at + 16 ≤ length bytes.now }
+    ensures { IsAsciiRun bytes.now at result }
+{
+    let others = u8x16::from_slice(&bytes[at..]).simd_ge(u8x16::splat(0x80));
+    lowest_bit(others.to_bitmask())
+}
+
+/// The index of the first zero at or after `start`, if the bytes before it are ASCII and at most 63. `None` also if the
+/// zero is one of the last bytes, which no load of 16 reaches.
+#[inline(always)]
+#[tactic(auto, using(crate::proofs::AsciiTexts::ascii_texts))]
+pub(crate) fn ascii_text_end(bytes: &[u8], start: usize) -> Option<usize>
+    ensures { IfSome result (IsAsciiText bytes.now start) }
+{
+    if bytes.len() < start {
+        return None;
+    }
+    let mut end = start;
+    while LANES <= bytes.len() - end && end - start < MOST_OF_TEXT {
+        let run = zero_run(bytes, end);
+        if ascii_run(bytes, end) < run {
+            return None;
+        }
+        if run < LANES {
+            return Some(end + run);
+        }
+        end += LANES;
+    }
+    None
 }
 
 /// The index of the first zero, byte by byte, for the last few bytes.

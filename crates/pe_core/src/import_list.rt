@@ -10,6 +10,7 @@ ghost use Rattle.pe_core.specs.ImportSteps.{AreEntryNames, entry_view, hint_offs
 ghost use Rattle.pe_core.specs.Refusals.{ReturnsAs, ReturnsUnlessMemory};
 ghost use Rattle.pe_core.specs.Rows.{each};
 ghost use Rattle.pe_core.specs.SectionMap.{offset_in, section_map};
+ghost use Rattle.pe_core.specs.SectionWindow.{IsWindow};
 ghost use Rattle.pe_core.specs.Text.{text_at};
 
 use crate::bytes::u16_at;
@@ -19,6 +20,7 @@ use crate::many_texts::texts_at;
 use crate::options::ParseOptions;
 use crate::section_index::{SectionIndex, SectionMap};
 use crate::section_table::SectionTable;
+use crate::section_window::Window;
 use std::alloc::{AllocError, Allocator};
 
 /// The size of the hint before an import's name in bytes.
@@ -115,13 +117,15 @@ fn entry_offsets<A: Allocator>(
     ensures { IfOk result (λ v. v.items ≡ map (hint_offset_of (offset_in sections.now) (entry_size is_64)) (map entry_view entries.now)) }
 {
     let mut offsets = Vec::with_capacity(alloc, entries.len())?;
+    let mut window = sections.no_window();
     for entry in entries {
         let offset = if entry.is_ordinal(is_64) {
             // No byte is at this offset, so an ordinal gets no name.
             usize::MAX
         } else {
             sections
-                .find_or_end(entry.name_rva())
+                .find_near(entry.name_rva(), &mut window)
+                .unwrap_or(usize::MAX)
                 .saturating_add(SIZE_OF_HINT)
         };
         offsets.push(offset)?;
@@ -136,10 +140,13 @@ fn import_of<'a>(
     entry: &Entry<'a>,
     name: Option<&'a str>,
     sections: &SectionMap<'_>,
+    window: &mut Window,
     is_64: bool,
 ) -> Result<Import<'a>>
-    requires { option_map (λ s. s.now) name ≡ text_at bytes.now (hint_offset_of (offset_in sections.now) (entry_size is_64) (entry_view entry.now)) }
-    ensures { ReturnsAs import_view result (import_of (offset_in sections.now) (entry_size is_64) bytes.entry.now (entry_view entry.entry.now)) }
+    requires window { IsWindow sections.now window.old }
+    requires name { option_map (λ s. s.now) name ≡ text_at bytes.now (hint_offset_of (offset_in sections.now) (entry_size is_64) (entry_view entry.now)) }
+    ensures window { IsWindow sections.now window.new }
+    ensures import { ReturnsAs import_view result (import_of (offset_in sections.now) (entry_size is_64) bytes.entry.now (entry_view entry.entry.now)) }
 {
     let Entry { dll, rva, .. } = *entry;
     if entry.is_ordinal(is_64) {
@@ -151,7 +158,9 @@ fn import_of<'a>(
         });
     }
     let name_rva = entry.name_rva();
-    let offset = sections.offset_of(name_rva)?;
+    let Some(offset) = sections.find_near(name_rva, window) else {
+        return Err(Error::Malformed(Reason::Unmapped(u64::from(name_rva))));
+    };
     let ordinal = u16_at(bytes, offset)?;
     if name.is_none() {
         return Err(Error::Malformed(Reason::ImportName(name_rva)));
@@ -179,8 +188,10 @@ fn named_imports<'a, A: Allocator>(
     ensures { ReturnsUnlessMemory (λ v. map import_view v.items) result (all_or_refusal (map (import_of (offset_in sections.now) (entry_size is_64) bytes.entry.now) (map entry_view entries.now))) }
 {
     let mut imports = Vec::with_capacity(alloc, entries.len())?;
+    let mut window = sections.no_window();
     for (i, entry) in entries.iter().enumerate() {
-        imports.push(import_of(bytes, entry, names[i], sections, is_64)?)?;
+        let import = import_of(bytes, entry, names[i], sections, &mut window, is_64)?;
+        imports.push(import)?;
     }
     Ok(imports)
 }

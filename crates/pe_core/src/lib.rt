@@ -25,6 +25,7 @@ mod section_index;
 mod section_map;
 mod section_pieces;
 mod section_table;
+mod section_window;
 mod strtab;
 mod symbol;
 mod table_entries;

@@ -5,13 +5,15 @@ ghost use Rattle.std.specs.Prelude.{◌≡◌, ◌+◌, ◌-◌, ◌<◌, ◌≤
 ghost use Rattle.pe_core.specs.Refusals.{Returns};
 ghost use Rattle.pe_core.specs.SectionIndex.{offset_or_end};
 ghost use Rattle.pe_core.specs.SectionMap.{map_view, mapped, offset_in, section_map};
+ghost use Rattle.pe_core.specs.SectionWindow.{IsWindow};
 ghost use Rattle.pe_core.specs.declared.error.Error.TheVariants.{Memory};
 
 use crate::error::{Error, Reason, Result};
 use crate::options::ParseOptions;
 use crate::section_map::find_offset;
-use crate::section_pieces::{Piece, owner_of, pieces_of};
+use crate::section_pieces::{Owner, Piece, owner_of, pieces_of};
 use crate::section_table::SectionTable;
+use crate::section_window::{Window, window_of};
 use std::alloc::Allocator;
 use std::marker::Model;
 
@@ -91,6 +93,54 @@ impl<'a> SectionMap<'a> {
         ensures { result ≡ offset_or_end (offset_in self.now rva) }
     {
         self.find(rva as usize).unwrap_or(usize::MAX)
+    }
+
+    /// The window before the first lookup: no RVA lies in it.
+    pub(crate) fn no_window(&self) -> Window
+        ensures { IsWindow self.now result }
+    {
+        Window {
+            start: 0,
+            end: 0,
+            owner: Owner {
+                address: 0,
+                offset: 0,
+            },
+        }
+    }
+
+    /// The file offset of an RVA, as `find` returns it: without a search if the RVA lies in the window. Otherwise the
+    /// window becomes the piece of the RVA, if there is one.
+    #[inline(always)]
+    pub(crate) fn find_near(&self, rva: u32, window: &mut Window) -> Option<usize>
+        requires { IsWindow self.now window.old }
+        ensures found { result ≡ offset_in self.now rva }
+        ensures window { IsWindow self.now window.new }
+    {
+        let Window { start, end, owner } = *window;
+        let address = rva as usize;
+        if start <= address && address < end {
+            return Some(address - owner.address as usize + owner.offset as usize);
+        }
+        self.find_and_keep(rva, window)
+    }
+
+    /// The file offset of an RVA outside of the window. Out of line, as it is rare.
+    #[cold]
+    #[inline(never)]
+    fn find_and_keep(&self, rva: u32, window: &mut Window) -> Option<usize>
+        requires { IsWindow self.now window.old }
+        ensures found { result ≡ offset_in self.now rva }
+        ensures window { IsWindow self.now window.new }
+    {
+        match self.pieces {
+            None => self.find_by_sections(rva as usize),
+            Some(pieces) => {
+                let piece = window_of(pieces, rva)?;
+                *window = piece;
+                Some(rva as usize - piece.owner.address as usize + piece.owner.offset as usize)
+            }
+        }
     }
 }
 
