@@ -10,7 +10,7 @@ ghost use Rattle.pe_records.specs.Certificates.{certificate_view, certificates_a
 ghost use Rattle.pe_records.specs.DebugRecords.{debug_view, debug_data};
 ghost use Rattle.pe_resource.specs.Resources.{resource_view};
 ghost use Rattle.pe_unwind.specs.ExceptionTable.{exception_at};
-ghost use Rattle.pe_image.specs.CoreParts.{core_view, CoreHasLayout};
+ghost use Rattle.pe_image.specs.CoreParts.{core_view};
 ghost use Rattle.pe_image.specs.Fields.{field, exceptions_for, IsResourceField};
 ghost use Rattle.pe_image.specs.LayoutParts.{layout_of};
 ghost use Rattle.pe_image.specs.Memory.{StartsCertificates, HasCertificates, MemoryOnlyIf};
@@ -165,13 +165,13 @@ impl<'a, A: Allocator + Copy + Drop> FirstFields<'a, A> {
         bytes: &'a [u8],
         opts: &ParseOptions,
         core: &Core<'a, A>,
+        layout: &Layout,
     ) -> Result<FirstFields<'a, A>>
-        requires { CoreHasLayout core.now }
+        requires { layout.now ≡ layout_of (core_view core.now).header.optional_header }
         ensures fields { ReturnsUnlessMemory first_fields_view result (first_fields_in_turn bytes.entry.now opts.now (core_view core.now)) }
         ensures memory { MemoryOnlyIf (HasCertificates bytes.entry.now opts.now (core_view core.now).header.optional_header) result }
     {
         let machine = core.header.coff_header.machine;
-        let layout = &core.layout;
         Ok(FirstFields {
             debug_data: debug_data(bytes, opts, &core.sections, layout)?,
             exception_data: exception_data(bytes, opts, &core.sections, machine, layout)?,

@@ -177,8 +177,9 @@ impl<'a, A: Allocator + Copy + Drop> PE<'a, A> {
         ensures libraries { IfOk result HasLibraries }
         ensures source { IfOk result (λ p. source_of p ≡ bytes.entry.now) }
     {
-        let first = FirstFields::read(alloc, bytes, opts, &core)?;
-        let resource_data = resource_data(alloc, bytes, opts, &core.sections, &core.layout)?;
+        let layout = core.layout;
+        let first = FirstFields::read(alloc, bytes, opts, &core, &layout)?;
+        let resource_data = resource_data(alloc, bytes, opts, &core.sections, &layout)?;
         Ok(PE::of_parts(bytes, core, first, resource_data))
     }
 
