@@ -4,6 +4,7 @@ use Rattle.std.specs.Prelude.{slice_range}
 use Rattle.std.proofs.lemmas.Bool.Decides.{nat_tests}
 use Rattle.std.proofs.lemmas.List.{places, same_lists}
 use Rattle.pe_core.specs.Bytes.{holds, range}
+use Rattle.pe_core.specs.declared.error.Error.{Error}
 use Rattle.pe_core.specs.SectionMap.{rounded_up}
 use Rattle.pe_records.specs.Pogo.{StartsWith, ReturnsPogoEntry, pogo_entry_of}
 use Rattle.pe_records.specs.declared.debug.pogo.POGOInfoEntry.{POGOInfoEntry}
