@@ -2,13 +2,13 @@
 //! code has 1 to 3 slots of 2 bytes. A caller iterates over the codes of a record and undoes those that have run. See
 //! [x64 exception handling](https://learn.microsoft.com/cpp/build/exception-handling-x64).
 
-ghost use Rattle.std.specs.Prelude.{◌≡◌, ◌+◌, ◌*◌, ◌/◌, ◌%◌, ◌<◌, ◌≤◌, ◌⊎◌, ℕ, [], ◌∷◌, length, IfOk, IfErr, IfSome, OnErr, Some, min, slice_index};
+ghost use Rattle.std.specs.Prelude.{◌≡◌, ◌*◌, ◌/◌, ◌%◌, ◌<◌, ◌≤◌, ℕ, length, IfOk, IfErr, IfSome, OnErr, Some, min, slice_index};
 ghost use Rattle.std.specs.Iterator.{at_most, UpTo};
 ghost use Rattle.std.specs.Iterator.SizeHint.{IsWithinCount};
+ghost use Rattle.std.specs.Option.{option_map};
 ghost use Rattle.pe_core.specs.Refusals.{kind_of};
-ghost use Rattle.pe_unwind.specs.UnwindCodes.{SpellsOperation, StartsWithCode, StartsWithNoCode, IsCodeRefusal, offset};
-ghost use Rattle.pe_unwind.specs.CodeSlots.{slots_at};
-ghost use Rattle.pe_unwind.specs.declared.unwind_code.TheConstants.{UWOP_ALLOC_LARGE, UWOP_ALLOC_SMALL, UWOP_EPILOG, UWOP_PUSH_MACHFRAME, UWOP_PUSH_NONVOL, UWOP_SAVE_NONVOL, UWOP_SAVE_NONVOL_FAR, UWOP_SAVE_XMM128, UWOP_SAVE_XMM128_FAR, UWOP_SET_FPREG, UWOP_SPARE_CODE};
+ghost use Rattle.pe_unwind.specs.UnwindCodes.{StartsWithCode, StartsWithNoCode, IsCodeRefusal, offset};
+ghost use Rattle.pe_unwind.specs.CodeSlots.{slots_at, slots_of, with_operand, IsFirstSlot};
 ghost use Rattle.pe_unwind.specs.CodeStream.{stream_of, slots_left, ReturnsCode};
 
 use crate::register::Register;
@@ -103,109 +103,126 @@ fn frame_offset(frame_register: Register, value: u32) -> StackFrameOffset
     }
 }
 
-/// How many slots a code with this opcode and operation info has. `None` if there is no such code.
-fn slots(version: u8, opcode: u8, info: u8) -> Option<usize>
-    ensures value { result ≡ slots_at version opcode info }
-    ensures range { IfSome result (λ n. (1 ≤ n) × (n ≤ 3)) }
+/// What the operand of a code says, which is in the slots after the first one.
+#[derive(Clone, Copy)]
+enum Operand {
+    /// How many bytes of the stack are allocated.
+    StackSize,
+    /// Where this integer register is saved.
+    Integer(Register),
+    /// Where the low half of this XMM register is saved.
+    HalfOfXMM(Register),
+    /// Where this XMM register is saved.
+    XMM(Register),
+    /// Nothing.
+    Unused,
+}
+
+impl Operand {
+    /// The operation that has this operand, in bytes.
+    fn operation(self, frame_register: Register, value: u32) -> UnwindOperation
+        ensures { result ≡ with_operand self frame_register.0 value }
+    {
+        let offset = frame_offset(frame_register, value);
+        match self {
+            Operand::StackSize => UnwindOperation::Alloc(value),
+            Operand::Integer(register) => UnwindOperation::SaveNonVolatile(register, offset),
+            Operand::HalfOfXMM(register) => UnwindOperation::SaveXMM(register, offset),
+            Operand::XMM(register) => UnwindOperation::SaveXMM128(register, offset),
+            Operand::Unused => UnwindOperation::Noop,
+        }
+    }
+}
+
+/// What the first slot of a code says.
+#[derive(Clone, Copy)]
+enum FirstSlot {
+    /// The operation. No slots follow.
+    Whole(UnwindOperation),
+    /// One slot follows: an operand that counts units of so many bytes.
+    Scaled(Operand, u8),
+    /// Two slots follow: an operand in bytes.
+    Long(Operand),
+}
+
+impl FirstSlot {
+    /// How many slots the code has.
+    fn slots(self) -> usize
+        ensures value { result ≡ slots_of self }
+        ensures most { result ≤ 3 }
+    {
+        match self {
+            FirstSlot::Whole(_) => 1,
+            FirstSlot::Scaled(_, _) => 2,
+            FirstSlot::Long(_) => 3,
+        }
+    }
+}
+
+/// What the first slot of a code says, by its two bytes. `None` if no code starts so.
+fn first_slot(version: u8, code_offset: u8, second: u8) -> Option<FirstSlot>
+    ensures slots { option_map slots_of result ≡ slots_at version (second % 16) (second / 16) }
+    ensures says { IfSome result (IsFirstSlot version code_offset second) }
 {
-    match opcode {
-        UWOP_PUSH_NONVOL | UWOP_ALLOC_SMALL | UWOP_SET_FPREG => Some(1),
-        UWOP_ALLOC_LARGE if info == 0 => Some(2),
-        UWOP_ALLOC_LARGE if info == 1 => Some(3),
-        UWOP_SAVE_NONVOL | UWOP_SAVE_XMM128 => Some(2),
-        UWOP_SAVE_NONVOL_FAR | UWOP_SAVE_XMM128_FAR => Some(3),
-        UWOP_EPILOG if version == 1 => Some(2),
-        UWOP_EPILOG if version == 2 => Some(1),
-        UWOP_SPARE_CODE if version == 1 || version == 2 => Some(3),
-        UWOP_PUSH_MACHFRAME if info < 2 => Some(1),
+    let info = second / 16;
+    let integer = Register(info);
+    let xmm = Register(info + 17);
+    match second % 16 {
+        UWOP_PUSH_NONVOL => Some(FirstSlot::Whole(UnwindOperation::PushNonVolatile(integer))),
+        UWOP_ALLOC_LARGE if info == 0 => Some(FirstSlot::Scaled(Operand::StackSize, 8)),
+        UWOP_ALLOC_LARGE if info == 1 => Some(FirstSlot::Long(Operand::StackSize)),
+        UWOP_ALLOC_SMALL => {
+            let size = u32::from(info) * 8 + 8;
+            Some(FirstSlot::Whole(UnwindOperation::Alloc(size)))
+        }
+        UWOP_SET_FPREG => Some(FirstSlot::Whole(UnwindOperation::SetFPRegister)),
+        UWOP_SAVE_NONVOL => Some(FirstSlot::Scaled(Operand::Integer(integer), 8)),
+        UWOP_SAVE_NONVOL_FAR => Some(FirstSlot::Long(Operand::Integer(integer))),
+        UWOP_EPILOG if version == 1 => Some(FirstSlot::Scaled(Operand::HalfOfXMM(xmm), 16)),
+        UWOP_EPILOG if version == 2 => Some(FirstSlot::Whole(UnwindOperation::Epilog {
+            offset_low_or_size: code_offset,
+            offset_high_or_flags: info,
+        })),
+        UWOP_SPARE_CODE if version == 1 => Some(FirstSlot::Long(Operand::XMM(xmm))),
+        UWOP_SPARE_CODE if version == 2 => Some(FirstSlot::Long(Operand::Unused)),
+        UWOP_SAVE_XMM128 => Some(FirstSlot::Scaled(Operand::XMM(xmm), 16)),
+        UWOP_SAVE_XMM128_FAR => Some(FirstSlot::Long(Operand::XMM(xmm))),
+        UWOP_PUSH_MACHFRAME if info < 2 => {
+            let has_error = info == 1;
+            Some(FirstSlot::Whole(UnwindOperation::PushMachineFrame(has_error)))
+        }
         _ => None,
     }
 }
 
-/// The operation of a code of one slot. `code_offset` is its first byte.
-fn short_operation(version: u8, code_offset: u8, opcode: u8, info: u8) -> UnwindOperation
-    requires { (opcode ≡ UWOP_PUSH_NONVOL) ⊎ ((opcode ≡ UWOP_ALLOC_SMALL) ⊎ ((opcode ≡ UWOP_SET_FPREG)
-        ⊎ (((opcode ≡ UWOP_EPILOG) × (version ≡ 2)) ⊎ ((opcode ≡ UWOP_PUSH_MACHFRAME) × (info < 2))))) }
-    ensures { (f : ℕ) → SpellsOperation version f code_offset opcode info [] result }
+/// The operation of a code that starts with this slot, and all of whose slots are there.
+fn operation_at(first: FirstSlot, frame_register: Register, bytes: &[u8]) -> UnwindOperation
+    requires { 2 * slots_of first ≤ length bytes.now }
+    ensures { (v : ℕ) → IsFirstSlot v (slice_index bytes.now 0) (slice_index bytes.now 1) first →
+        StartsWithCode v frame_register.0 bytes.now
+        (record { code_offset = slice_index bytes.now 0; operation = result }) (2 * slots_of first) }
 {
-    match opcode {
-        UWOP_PUSH_NONVOL => UnwindOperation::PushNonVolatile(Register(info)),
-        UWOP_ALLOC_SMALL => UnwindOperation::Alloc(u32::from(info) * 8 + 8),
-        UWOP_SET_FPREG => UnwindOperation::SetFPRegister,
-        UWOP_EPILOG => UnwindOperation::Epilog {
-            offset_low_or_size: code_offset,
-            offset_high_or_flags: info,
-        },
-        UWOP_PUSH_MACHFRAME => UnwindOperation::PushMachineFrame(info == 1),
-        _ => unreachable!(),
+    match first {
+        FirstSlot::Whole(operation) => operation,
+        FirstSlot::Scaled(operand, unit) => {
+            let count = u32::from(read_u16(bytes, SIZE_OF_SLOT));
+            operand.operation(frame_register, count * u32::from(unit))
+        }
+        FirstSlot::Long(operand) => {
+            operand.operation(frame_register, read_u32(bytes, SIZE_OF_SLOT))
+        }
     }
 }
 
-/// The operation of a code of two slots. `operand` is the second.
-fn middle_operation(
-    version: u8,
-    frame_register: Register,
-    opcode: u8,
-    info: u8,
-    operand: u16,
-) -> UnwindOperation
-    requires line { ((opcode ≡ UWOP_ALLOC_LARGE) × (info ≡ 0)) ⊎ ((opcode ≡ UWOP_SAVE_NONVOL)
-        ⊎ (((opcode ≡ UWOP_EPILOG) × (version ≡ 1)) ⊎ (opcode ≡ UWOP_SAVE_XMM128))) }
-    requires info { info < 16 }
-    ensures { (code_offset a b : ℕ) → operand ≡ a + 256 * b → SpellsOperation version frame_register.0 code_offset opcode info (a ∷ b ∷ []) result }
-{
-    let value = u32::from(operand);
-    match opcode {
-        UWOP_ALLOC_LARGE => UnwindOperation::Alloc(value * 8),
-        UWOP_SAVE_NONVOL => UnwindOperation::SaveNonVolatile(
-            Register(info),
-            frame_offset(frame_register, value * 8),
-        ),
-        UWOP_EPILOG => UnwindOperation::SaveXMM(
-            Register(info + 17),
-            frame_offset(frame_register, value * 16),
-        ),
-        UWOP_SAVE_XMM128 => UnwindOperation::SaveXMM128(
-            Register(info + 17),
-            frame_offset(frame_register, value * 16),
-        ),
-        _ => unreachable!(),
-    }
-}
-
-/// The operation of a code of three slots. `operand` is the last two.
-fn long_operation(
-    version: u8,
-    frame_register: Register,
-    opcode: u8,
-    info: u8,
-    operand: u32,
-) -> UnwindOperation
-    requires line { ((opcode ≡ UWOP_ALLOC_LARGE) × (info ≡ 1)) ⊎ ((opcode ≡ UWOP_SAVE_NONVOL_FAR)
-        ⊎ (((opcode ≡ UWOP_SPARE_CODE) × ((version ≡ 1) ⊎ (version ≡ 2))) ⊎ (opcode ≡ UWOP_SAVE_XMM128_FAR))) }
-    requires info { info < 16 }
-    ensures { (code_offset a b c d : ℕ) → operand ≡ a + 256 * b + 65536 * c + 16777216 * d →
-        SpellsOperation version frame_register.0 code_offset opcode info (a ∷ b ∷ c ∷ d ∷ []) result }
-{
-    let xmm = Register(info + 17);
-    let offset = frame_offset(frame_register, operand);
-    match opcode {
-        UWOP_ALLOC_LARGE => UnwindOperation::Alloc(operand),
-        UWOP_SAVE_NONVOL_FAR => UnwindOperation::SaveNonVolatile(Register(info), offset),
-        UWOP_SPARE_CODE if version == 2 => UnwindOperation::Noop,
-        UWOP_SPARE_CODE | UWOP_SAVE_XMM128_FAR => UnwindOperation::SaveXMM128(xmm, offset),
-        _ => unreachable!(),
-    }
-}
-
-/// How many slots the code at the start of the bytes has. Errors: `Short` if the first slot is truncated; `UnwindCode`
+/// The code at the start of the bytes, and its size in bytes. Errors: `Short` if the first slot is truncated; `UnwindCode`
 /// if no code starts so; `Short` if a later slot is missing.
-fn slots_there(version: u8, bytes: &[u8]) -> Result<usize>
+fn code_at(version: u8, frame_register: Register, bytes: &[u8]) -> Result<(UnwindCode, usize)>
     requires some { 0 < length bytes.now }
-    ensures slots { IfOk result (λ n. slots_at version (slice_index bytes.now 1 % 16) (slice_index bytes.now 1 / 16) ≡ Some n) }
-    ensures range { IfOk result (λ n. (1 ≤ n) × (n ≤ 3) × (2 * n ≤ length bytes.now)) }
-    ensures none { OnErr result ((f : ℕ) → StartsWithNoCode version f bytes.now) }
-    ensures refusal { IfErr result (λ e. (f : ℕ) → IsCodeRefusal version f bytes.now (kind_of e)) }
+    ensures ok { IfOk result (λ x. StartsWithCode version frame_register.0 bytes.now x.0 x.1) }
+    ensures len { IfOk result (λ x. (2 ≤ x.1) × (x.1 ≤ length bytes.now)) }
+    ensures none { OnErr result (StartsWithNoCode version frame_register.0 bytes.now) }
+    ensures refusal { IfErr result (λ e.
+        IsCodeRefusal version frame_register.0 bytes.now (kind_of e)) }
 {
     if bytes.len() < SIZE_OF_SLOT {
         return Err(Error::Short {
@@ -213,68 +230,18 @@ fn slots_there(version: u8, bytes: &[u8]) -> Result<usize>
             needed: SIZE_OF_SLOT,
         });
     }
-    let second = bytes[1];
-    let Some(count) = slots(version, second % 16, second / 16) else {
-        return Err(Error::Malformed(Reason::UnwindCode(second)));
+    let Some(first) = first_slot(version, bytes[0], bytes[1]) else {
+        return Err(Error::Malformed(Reason::UnwindCode(bytes[1])));
     };
-    if bytes.len() < SIZE_OF_SLOT * count {
-        return Err(Error::Short {
-            at: 0,
-            needed: SIZE_OF_SLOT * count,
-        });
+    let len = SIZE_OF_SLOT * first.slots();
+    if bytes.len() < len {
+        return Err(Error::Short { at: 0, needed: len });
     }
-    Ok(count)
-}
-
-/// The operation of a code with this many slots, all of which are there.
-fn operation_at(
-    version: u8,
-    frame_register: Register,
-    bytes: &[u8],
-    count: usize,
-) -> UnwindOperation
-    requires slots { slots_at version (slice_index bytes.now 1 % 16) (slice_index bytes.now 1 / 16) ≡ Some count }
-    requires least { 1 ≤ count }
-    requires most { count ≤ 3 }
-    requires fits { 2 * count ≤ length bytes.now }
-    ensures { StartsWithCode version frame_register.0 bytes.now (record { code_offset = slice_index bytes.now 0; operation = result }) (2 * count) }
-{
-    let second = bytes[1];
-    let opcode = second % 16;
-    let info = second / 16;
-    match count {
-        1 => short_operation(version, bytes[0], opcode, info),
-        2 => middle_operation(
-            version,
-            frame_register,
-            opcode,
-            info,
-            read_u16(bytes, SIZE_OF_SLOT),
-        ),
-        _ => long_operation(
-            version,
-            frame_register,
-            opcode,
-            info,
-            read_u32(bytes, SIZE_OF_SLOT),
-        ),
-    }
-}
-
-/// The code at the start of the bytes, and its size in bytes. Errors: those of `slots_there`.
-fn code_at(version: u8, frame_register: Register, bytes: &[u8]) -> Result<(UnwindCode, usize)>
-    requires some { 0 < length bytes.now }
-    ensures ok { IfOk result (λ x. StartsWithCode version frame_register.0 bytes.now x.0 x.1) }
-    ensures len { IfOk result (λ x. (2 ≤ x.1) × (x.1 ≤ length bytes.now)) }
-    ensures none { OnErr result (StartsWithNoCode version frame_register.0 bytes.now) }
-    ensures refusal { IfErr result (λ e. IsCodeRefusal version frame_register.0 bytes.now (kind_of e)) }
-{
-    let count = slots_there(version, bytes)?;
     let code = UnwindCode {
         code_offset: bytes[0],
-        operation: operation_at(version, frame_register, bytes, count),
+        operation: operation_at(first, frame_register, bytes),
     };
-    Ok((code, SIZE_OF_SLOT * count))
+    Ok((code, len))
 }
 
 /// The codes that are left of an unwind record. An item is `Short` if the code is truncated, or `UnwindCode` if it is
