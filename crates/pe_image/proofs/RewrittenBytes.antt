@@ -1,6 +1,6 @@
 -- What writing an image over a copy of its bytes changes is zero.
 use Rattle.std.proofs.Common.{◌≡◌, ℕ, zero, suc, ◌+◌, ◌-◌, ◌*◌, ◌%◌, ◌<◌, ◌≤◌, ◌||◌, ◌⊎◌, inl, inr, Bool, true, false, cond, nat_le, Result, Ok, Err, List, [], ◌∷◌, ◌++◌, length, get_or, replicate, Option, Some, None, refl, ap, sym, ◌∙◌, subst, arith}
-use Rattle.std.specs.Prelude.{filter, slice_index, slice_range, unwrap_or, ◌==◌}
+use Rattle.std.specs.Prelude.{filter, max, slice_index, slice_range, unwrap_or, ◌==◌}
 use Rattle.std.specs.List.{last_or}
 use Rattle.std.proofs.lemmas.Bool.Decides.{nat_tests}
 use Rattle.std.proofs.lemmas.List.{places, length-replicate}
@@ -9,7 +9,7 @@ use Rattle.pe_core.specs.Header.{HeaderView, OptionalHeaderView, header, header_
 use Rattle.pe_core.specs.Imports.{ImportRecordView, ImportView, entry_size}
 use Rattle.pe_core.specs.Options.{is_permissive}
 use Rattle.pe_core.specs.Records.{dos_header, coff_header, section_table}
-use Rattle.pe_core.specs.Refusals.{Refusal, Short, BadMagic, HeaderPointer, outcome, ◌>>=◌}
+use Rattle.pe_core.specs.Refusals.{Refusal, Short, BadMagic, HeaderPointer, WriteFit, WriteOverlap, WriteSection, outcome, ◌>>=◌}
 use Rattle.pe_core.specs.Rows.{each}
 use Rattle.pe_core.specs.SectionMap.{section_map}
 use Rattle.pe_core.specs.Sections.{raw_end, sections_of, sections_offset}
@@ -31,10 +31,10 @@ use Rattle.pe_image.specs.Core.{CoreView, core_of, core_with, export_data_of, ex
 use Rattle.pe_image.specs.Fields.{field, given_value}
 use Rattle.pe_image.specs.Image.{ImageView, before_resources, IsAfterCore, IsImage}
 use Rattle.pe_image.specs.Layout.{alignment, directory, is_64}
-use Rattle.pe_image.specs.Overlay.{Piece, EndsInZeros, has_byte, byte_of, byte_after, last_piece, overlay}
+use Rattle.pe_image.specs.Overlay.{Piece, EndsInZeros, all_fit, has_byte, byte_of, byte_after, last_piece, overlay, piece}
 use Rattle.pe_image.specs.Pieces.{all_certificate_pieces, all_section_pieces, certificate_pieces, header_pieces, in_a_row, lacking, section_pieces}
-use Rattle.pe_image.specs.Writing.{AreAligned, certificate_directory, image_by, image_end, image_pieces, image_tests, image_written}
-use Rattle.pe_image.proofs.Overlays.{get_or-each, length-each}
+use Rattle.pe_image.specs.Writing.{AreAligned, all_in_source, certificate_directory, clash_free, image_by, image_end, image_pieces, image_tests, image_written, padded_pieces, whole_by, whole_written}
+use Rattle.pe_image.proofs.Overlays.{byte_after_cons, get_or-each, length-each}
 use Rattle.pe_image.proofs.Permissive.{certificates_alone, core_of_image}
 use Rattle.pe_image.proofs.Rows.{accepted_too}
 use Rattle.pe_image.proofs.SectionsFirst.{core_before, of_two, sections_of_core}
@@ -43,47 +43,51 @@ use Rattle.pe_image.proofs.SectionsFirst.{core_before, of_two, sections_of_core}
 abbrev AreThose : List ℕ → ℕ → List ℕ → Type 0
 AreThose b p s = (i : ℕ) → i < length s → get_or s i 0 ≡ get_or b (p + i) 0
 
--- or they are zeros
-abbrev Kept : List ℕ → ℕ → List ℕ → Type 0
-Kept b p s = AreThose b p s ⊎ (s ≡ replicate (length s) 0)
+-- or they are zeros, where z holds
+abbrev Kept : Type 0 → List ℕ → ℕ → List ℕ → Type 0
+Kept z b p s = AreThose b p s ⊎ (z × (s ≡ replicate (length s) 0))
 
 range_byte : (b : List ℕ) (p q i : ℕ) → i < length (slice_range b p q) → get_or (slice_range b p q) i 0 ≡ get_or b (p + i) 0
 range_byte b p q i h = grind (arith, places)
 
-kept_range : (b s : List ℕ) (p q : ℕ) → s ≡ slice_range b p q → Kept b p s
-kept_range b s p q e = inl (subst (λ (t : List ℕ). AreThose b p t) (sym e) (λ i h. range_byte b p q i h))
+kept_range : (z : Type 0) (b s : List ℕ) (p q : ℕ) → s ≡ slice_range b p q → Kept z b p s
+kept_range z b s p q e = inl (subst (λ (t : List ℕ). AreThose b p t) (sym e) (λ i h. range_byte b p q i h))
 
-kept_zeros : (b : List ℕ) (p n : ℕ) → Kept b p (replicate n 0)
-kept_zeros b p n = inr (ap (λ (m : ℕ). replicate m 0) (sym (length-replicate n 0)))
+kept_zeros : (z : Type 0) (b : List ℕ) (p n : ℕ) → z → Kept z b p (replicate n 0)
+kept_zeros z b p n may = inr (may, ap (λ (m : ℕ). replicate m 0) (sym (length-replicate n 0)))
+
+-- no zeros at all
+no_zeros : (z : Type 0) (b : List ℕ) (p : ℕ) → Kept z b p []
+no_zeros z b p = inl (λ i lt. absurd (omega arith))
 
 -- all pieces are such
-abbrev AllKept : List ℕ → List Piece → Type 0
-AllKept b [] = Unit {0}
-AllKept b (x ∷ xs) = Kept b x.offset x.content × AllKept b xs
+abbrev AllKept : Type 0 → List ℕ → List Piece → Type 0
+AllKept z b [] = Unit {0}
+AllKept z b (x ∷ xs) = Kept z b x.offset x.content × AllKept z b xs
 
-all_append : (b : List ℕ) (xs ys : List Piece) → AllKept b xs → AllKept b ys → AllKept b (xs ++ ys)
-all_append b [] ys h k = k
-all_append b (x ∷ xs) ys h k = (h.0, all_append b xs ys h.1 k)
+all_append : (z : Type 0) (b : List ℕ) (xs ys : List Piece) → AllKept z b xs → AllKept z b ys → AllKept z b (xs ++ ys)
+all_append z b [] ys h k = k
+all_append z b (x ∷ xs) ys h k = (h.0, all_append z b xs ys h.1 k)
 
 -- a piece that is such and has a byte for place q, if it is there
-abbrev CoversKept : List ℕ → ℕ → Option Piece → Type 0
-CoversKept b q None = Unit {0}
-CoversKept b q (Some x) = Kept b x.offset x.content × (has_byte q x ≡ true)
+abbrev CoversKept : Type 0 → List ℕ → ℕ → Option Piece → Type 0
+CoversKept z b q None = Unit {0}
+CoversKept z b q (Some x) = Kept z b x.offset x.content × (has_byte q x ≡ true)
 
-first_kept : (b : List ℕ) (q : ℕ) (x : Piece) (xs : List Piece) (before : Option Piece) (t : Bool) → has_byte q x ≡ t → Kept b x.offset x.content → ((before : Option Piece) → CoversKept b q before → CoversKept b q (last_or before xs)) → CoversKept b q before → CoversKept b q (last_or before (cond t (x ∷ xs) xs))
-first_kept b q x xs before true e h then k = then (Some x) (h, e)
-first_kept b q x xs before false e h then k = then before k
+first_kept : (z : Type 0) (b : List ℕ) (q : ℕ) (x : Piece) (xs : List Piece) (before : Option Piece) (t : Bool) → has_byte q x ≡ t → Kept z b x.offset x.content → ((before : Option Piece) → CoversKept z b q before → CoversKept z b q (last_or before xs)) → CoversKept z b q before → CoversKept z b q (last_or before (cond t (x ∷ xs) xs))
+first_kept z b q x xs before true e h then k = then (Some x) (h, e)
+first_kept z b q x xs before false e h then k = then before k
 
 -- the last of some pieces is such, if the one before them is
-last_kept : (b : List ℕ) (q : ℕ) (xs : List Piece) (before : Option Piece) → AllKept b xs → CoversKept b q before → CoversKept b q (last_or before (filter (has_byte q) xs))
-last_kept b q [] before h k = k
-last_kept b q (x ∷ xs) before h k =
-    let then : (before : Option Piece) → CoversKept b q before → CoversKept b q (last_or before (filter (has_byte q) xs)) = λ before k. last_kept b q xs before h.1 k in
-    first_kept b q x (filter (has_byte q) xs) before (has_byte q x) refl h.0 then k
+last_kept : (z : Type 0) (b : List ℕ) (q : ℕ) (xs : List Piece) (before : Option Piece) → AllKept z b xs → CoversKept z b q before → CoversKept z b q (last_or before (filter (has_byte q) xs))
+last_kept z b q [] before h k = k
+last_kept z b q (x ∷ xs) before h k =
+    let then : (before : Option Piece) → CoversKept z b q before → CoversKept z b q (last_or before (filter (has_byte q) xs)) = λ before k. last_kept z b q xs before h.1 k in
+    first_kept z b q x (filter (has_byte q) xs) before (has_byte q x) refl h.0 then k
 
 -- a byte that is written over b at place q is the one there, or it is zero and the piece that it is from is one of zeros
-abbrev KeptByte : List ℕ → List Piece → ℕ → ℕ → Type 0
-KeptByte b pieces q x = (x ≡ get_or b q 0) ⊎ ((x ≡ 0) × EndsInZeros pieces q)
+abbrev KeptByte : Type 0 → List ℕ → List Piece → ℕ → ℕ → Type 0
+KeptByte z b pieces q x = (x ≡ get_or b q 0) ⊎ (z × ((x ≡ 0) × EndsInZeros pieces q))
 
 zero_at : (n i : ℕ) → get_or {A = ℕ} (replicate n 0) i 0 ≡ 0
 zero_at zero i = refl
@@ -91,26 +95,26 @@ zero_at (suc n) zero = refl
 zero_at (suc n) (suc i) = zero_at n i
 
 -- the byte for place q of such a piece
-byte_kept : (b : List ℕ) (pieces : List Piece) (q : ℕ) (x : Piece) → last_piece pieces q ≡ Some x → Kept b x.offset x.content → has_byte q x ≡ true → KeptByte b pieces q (get_or x.content (q - x.offset) 0)
-byte_kept b pieces q x e (inl those) h =
+byte_kept : (z : Type 0) (b : List ℕ) (pieces : List Piece) (q : ℕ) (x : Piece) → last_piece pieces q ≡ Some x → Kept z b x.offset x.content → has_byte q x ≡ true → KeptByte z b pieces q (get_or x.content (q - x.offset) 0)
+byte_kept z b pieces q x e (inl those) h =
     let above : x.offset ≤ q = grind (arith, nat_tests) in
     let below : q < x.offset + length x.content = grind (arith, nat_tests) in
     let offset : x.offset + (q - x.offset) ≡ q = omega arith in
     inl (those (q - x.offset) (omega arith) ∙ ap (λ (n : ℕ). get_or b n 0) offset)
-byte_kept b pieces q x e (inr zeros) h = inr (ap (λ (s : List ℕ). get_or s (q - x.offset) 0) zeros ∙ zero_at (length x.content) (q - x.offset), (x, e, zeros))
+byte_kept z b pieces q x e (inr (may, zeros)) h = inr (may, (ap (λ (s : List ℕ). get_or s (q - x.offset) 0) zeros ∙ zero_at (length x.content) (q - x.offset), (x, e, zeros)))
 
-after_by : (b : List ℕ) (pieces : List Piece) (q : ℕ) (found : Option Piece) → last_piece pieces q ≡ found → CoversKept b q found → KeptByte b pieces q (byte_of q (get_or b q 0) found)
-after_by b pieces q None e k = inl refl
-after_by b pieces q (Some x) e k = byte_kept b pieces q x e k.0 k.1
+after_by : (z : Type 0) (b : List ℕ) (pieces : List Piece) (q : ℕ) (found : Option Piece) → last_piece pieces q ≡ found → CoversKept z b q found → KeptByte z b pieces q (byte_of q (get_or b q 0) found)
+after_by z b pieces q None e k = inl refl
+after_by z b pieces q (Some x) e k = byte_kept z b pieces q x e k.0 k.1
 
-after_kept : (b : List ℕ) (xs : List Piece) (q : ℕ) → AllKept b xs → KeptByte b xs q (byte_after xs q (get_or b q 0))
+after_kept : (z : Type 0) (b : List ℕ) (xs : List Piece) (q : ℕ) → AllKept z b xs → KeptByte z b xs q (byte_after xs q (get_or b q 0))
 unfolding byte_after
-after_kept b xs q h = after_by b xs q (last_piece xs q) refl (last_kept b q xs None h tt)
+after_kept z b xs q h = after_by z b xs q (last_piece xs q) refl (last_kept z b q xs None h tt)
 
-overlay_kept : (b : List ℕ) (xs : List Piece) (q : ℕ) → AllKept b xs → q < length b → KeptByte b xs q (get_or (overlay b xs) q 0)
+overlay_kept : (z : Type 0) (b : List ℕ) (xs : List Piece) (q : ℕ) → AllKept z b xs → q < length b → KeptByte z b xs q (get_or (overlay b xs) q 0)
 unfolding overlay
-overlay_kept b xs q h lt =
-    subst (KeptByte b xs q) (sym (get_or-each (λ k. byte_after xs k (slice_index b k)) (length b) q 0 lt)) (after_kept b xs q h)
+overlay_kept z b xs q h lt =
+    subst (KeptByte z b xs q) (sym (get_or-each (λ k. byte_after xs k (slice_index b k)) (length b) q 0 lt)) (after_kept z b xs q h)
 
 -- ---- the headers
 
@@ -131,24 +135,24 @@ optional_given : (t : Bool) (tests : List (Bool × Refusal)) (v o : OptionalHead
 optional_given true tests v o w h e f = absurd cc
 optional_given false tests v o w h e f = let same : v ≡ o = cc in accepted_too tests w h v f ∙ ap (λ z. Ok z) same
 
-parts_kept : (b : List ℕ) (o : OptionalHeaderView) → AreBytes b → 64 ≤ length b → (dos_header b 0).pe_pointer + 24 ≤ length b → optional_header_at b ((dos_header b 0).pe_pointer + 24) ≡ Ok o → AllKept b (header_pieces (header b) o)
+parts_kept : (z : Type 0) (b : List ℕ) (o : OptionalHeaderView) → AreBytes b → 64 ≤ length b → (dos_header b 0).pe_pointer + 24 ≤ length b → optional_header_at b ((dos_header b 0).pe_pointer + 24) ≡ Ok o → AllKept z b (header_pieces (header b) o)
 unfolding header_pieces header
-parts_kept b o small d c e =
+parts_kept z b o small d c e =
     let p : ℕ = (dos_header b 0).pe_pointer in
-    let dos = kept_range b (spell_dos (dos_header b 0)) 0 64 (spelled_dos b 0 small d) in
-    let stub = kept_range b (slice_range b 64 p) 64 p refl in
-    let sign = kept_range b (bytes_of 4 (le b p 4)) p (p + 4) (bytes_of-le b p 4 small (omega arith)) in
-    let coff = kept_range b (spell_coff (coff_header b (p + 4))) (p + 4) (p + 4 + 20) (spelled_coff b (p + 4) small (omega arith)) in
-    let last = kept_range b (spell_optional o) (p + 24) (p + 24 + length (spell_optional o)) (sym (spelled_optional b (p + 24) o small e)) in
+    let dos = kept_range z b (spell_dos (dos_header b 0)) 0 64 (spelled_dos b 0 small d) in
+    let stub = kept_range z b (slice_range b 64 p) 64 p refl in
+    let sign = kept_range z b (bytes_of 4 (le b p 4)) p (p + 4) (bytes_of-le b p 4 small (omega arith)) in
+    let coff = kept_range z b (spell_coff (coff_header b (p + 4))) (p + 4) (p + 4 + 20) (spelled_coff b (p + 4) small (omega arith)) in
+    let last = kept_range z b (spell_optional o) (p + 24) (p + 24 + length (spell_optional o)) (sym (spelled_optional b (p + 24) o small e)) in
     (dos, (stub, (sign, (coff, (last, tt)))))
 
 optional_of : (b : List ℕ) (o : OptionalHeaderView) → (header b).optional_header ≡ Some o → cond ((coff_header b ((dos_header b 0).pe_pointer + 4)).size_of_optional_header == 0) None (Some (optional_header b ((dos_header b 0).pe_pointer + 24))) ≡ Some o
 unfolding header
 optional_of b o h = h
 
-headers_kept : (b : List ℕ) (mode : ParseMode) (h : HeaderView) (o : OptionalHeaderView) → AreBytes b → header_at b mode ≡ Ok h → h.optional_header ≡ Some o → AllKept b (header_pieces h o)
+headers_kept : (z : Type 0) (b : List ℕ) (mode : ParseMode) (h : HeaderView) (o : OptionalHeaderView) → AreBytes b → header_at b mode ≡ Ok h → h.optional_header ≡ Some o → AllKept z b (header_pieces h o)
 unfolding header_at header_tests
-headers_kept b mode h o small e f =
+headers_kept z b mode h o small e f =
     let p : ℕ = (dos_header b 0).pe_pointer in
     let rest : List (Bool × Refusal) = cond ((coff_header b (p + 4)).size_of_optional_header == 0) [] (optional_header_tests b (p + 24)) in
     let from_coff : List (Bool × Refusal) = (holds b (p + 4) 20, Short) ∷ rest in
@@ -167,42 +171,46 @@ headers_kept b mode h o small e f =
     let given : optional_header_at b (p + 24) ≡ Ok o =
     optional_given ((coff_header b (p + 4)).size_of_optional_header == 0) (optional_header_tests b (p + 24)) (optional_header b (p + 24)) o (header b) h (optional_of b o there) coff.1 in
     let long : p + 4 + 20 ≤ length b = held b (p + 4) 20 coff.0 in
-    subst (λ (x : HeaderView). AllKept b (header_pieces x o)) same (parts_kept b o small (held b 0 64 dos.0) (omega arith) given)
+    subst (λ (x : HeaderView). AllKept z b (header_pieces x o)) same (parts_kept z b o small (held b 0 64 dos.0) (omega arith) given)
 
 -- ---- sections
 
-section_kept : (b : List ℕ) (unit : Option ℕ) (offset : ℕ) (s : SectionTable) → AreBytes b → s ≡ section_table b offset → offset + 40 ≤ length b → AllKept b (section_pieces b unit offset s)
-unfolding section_pieces
-section_kept b unit offset s small e h =
-    let data_kept = kept_range b (range b s.pointer_to_raw_data s.size_of_raw_data) s.pointer_to_raw_data (s.pointer_to_raw_data + s.size_of_raw_data) refl in
-    let head = kept_range b (spell_section s) offset (offset + 40) (ap spell_section e ∙ spelled_section b offset small h) in
-    (data_kept, (head, (kept_zeros b (raw_end s) (lacking s.size_of_raw_data unit), tt)))
+-- the zeros after each section are kept
+abbrev KeepsPadding : Type 0 → List ℕ → Option ℕ → Type 0
+KeepsPadding z b unit = (s : SectionTable) → Kept z b (raw_end s) (replicate (lacking s.size_of_raw_data unit) 0)
 
-row_kept : (b : List ℕ) (unit : Option ℕ) (p : ℕ) (ss : List SectionTable) → AreBytes b → ((i : ℕ) → i < length ss → get_or ss i (section_table b 0) ≡ section_table b (p + 40 * i)) → (0 < length ss → p + 40 * length ss ≤ length b) → AllKept b (all_section_pieces b unit p ss)
-row_kept b unit p [] small is room = tt
-row_kept b unit p (s ∷ ss) small is room =
+section_kept : (z : Type 0) (b : List ℕ) (unit : Option ℕ) (offset : ℕ) (s : SectionTable) → KeepsPadding z b unit → AreBytes b → s ≡ section_table b offset → offset + 40 ≤ length b → AllKept z b (section_pieces b unit offset s)
+unfolding section_pieces
+section_kept z b unit offset s pads small e h =
+    let data_kept = kept_range z b (range b s.pointer_to_raw_data s.size_of_raw_data) s.pointer_to_raw_data (s.pointer_to_raw_data + s.size_of_raw_data) refl in
+    let head = kept_range z b (spell_section s) offset (offset + 40) (ap spell_section e ∙ spelled_section b offset small h) in
+    (data_kept, (head, (pads s, tt)))
+
+row_kept : (z : Type 0) (b : List ℕ) (unit : Option ℕ) (p : ℕ) (ss : List SectionTable) → KeepsPadding z b unit → AreBytes b → ((i : ℕ) → i < length ss → get_or ss i (section_table b 0) ≡ section_table b (p + 40 * i)) → (0 < length ss → p + 40 * length ss ≤ length b) → AllKept z b (all_section_pieces b unit p ss)
+row_kept z b unit p [] pads small is room = tt
+row_kept z b unit p (s ∷ ss) pads small is room =
     let inside : p + 40 * suc (length ss) ≤ length b = room (omega arith) in
     let first : p + 40 * 0 ≡ p = omega arith in
     let here : s ≡ section_table b p = is 0 (omega arith) ∙ ap (section_table b) first in
-    all_append b (section_pieces b unit p s) (all_section_pieces b unit (p + 40) ss)
-    (section_kept b unit p s small here (omega arith))
-    (row_kept b unit (p + 40) ss small
+    all_append z b (section_pieces b unit p s) (all_section_pieces b unit (p + 40) ss)
+    (section_kept z b unit p s pads small here (omega arith))
+    (row_kept z b unit (p + 40) ss pads small
     (λ i lt. let offset : p + 40 * suc i ≡ p + 40 + 40 * i = omega arith in is (suc i) (omega arith) ∙ ap (section_table b) offset)
     (λ some. omega arith))
 
 room_for : (n p l : ℕ) → (n == 0 || nat_le (p + 40 * n) l) ≡ true → 0 < n → p + 40 * n ≤ l
 room_for n p l h some = grind (arith, nat_tests)
 
-sections_kept : (b : List ℕ) (unit : Option ℕ) (h : HeaderView) (ss : List SectionTable) → AreBytes b → sections_of b h ≡ Ok ss → AllKept b (all_section_pieces b unit (sections_offset h) ss)
-sections_kept b unit h ss small e =
+sections_kept : (z : Type 0) (b : List ℕ) (unit : Option ℕ) (h : HeaderView) (ss : List SectionTable) → KeepsPadding z b unit → AreBytes b → sections_of b h ≡ Ok ss → AllKept z b (all_section_pieces b unit (sections_offset h) ss)
+sections_kept z b unit h ss pads small e =
     let p : ℕ = sections_offset h in
     let n : ℕ = h.coff_header.number_of_sections in
     let f : ℕ → SectionTable = λ i. section_table b (p + 40 * i) in
     let all = passed_first (n == 0 || holds b p (40 * n)) Short [] (each f n) ss e in
     let same : each f n ≡ ss = value_is [] (each f n) ss all.1 in
     let count : length (each f n) ≡ n = length-each f n in
-    subst (λ (ss : List SectionTable). AllKept b (all_section_pieces b unit p ss)) same
-    (row_kept b unit p (each f n) small
+    subst (λ (ss : List SectionTable). AllKept z b (all_section_pieces b unit p ss)) same
+    (row_kept z b unit p (each f n) pads small
     (λ i lt. get_or-each f n i (section_table b 0) (omega (arith, count)))
     (λ some. rw count (room_for n p (length b) all.0 (omega (arith, count)))))
 
@@ -253,39 +261,39 @@ spelled_certificate b p c small r =
     let third : bytes_of 2 (le b (p + 6) 2) ≡ slice_range b (p + 6) (p + 8) = bytes_of-le b (p + 6) 2 small (omega arith) ∙ ap (slice_range b (p + 6)) eight in
     rw (r.size, revision, kind, first, second, third, range_join b p (p + 4) (p + 6) (omega arith) (omega arith) (omega arith)) (range_join b p (p + 6) (p + 8) (omega arith) (omega arith) inside)
 
-certificate_kept : (b : List ℕ) (p : ℕ) (c : CertificateView) (q : ℕ) → AreBytes b → certificate_at b p ≡ Ok (c, q) → AllKept b (certificate_pieces p c)
-certificate_kept b p c q small e =
+certificate_kept : (z : Type 0) (b : List ℕ) (p : ℕ) (c : CertificateView) (q : ℕ) → z → AreBytes b → certificate_at b p ≡ Ok (c, q) → AllKept z b (certificate_pieces p c)
+certificate_kept z b p c q may small e =
     let r : ReadAt b p c = read_at b p c q e in
-    let head : Kept b p (spell_certificate c) = kept_range b (spell_certificate c) p (p + 8) (spelled_certificate b p c small r) in
-    let body : Kept b (p + 8) c.body = kept_range b c.body (p + 8) (p + 8 + (c.length - 8)) r.body in
-    (head, (body, (kept_zeros b (p + 8 + length c.body) (written_length c - (8 + length c.body)), tt)))
+    let head : Kept z b p (spell_certificate c) = kept_range z b (spell_certificate c) p (p + 8) (spelled_certificate b p c small r) in
+    let body : Kept z b (p + 8) c.body = kept_range z b c.body (p + 8) (p + 8 + (c.length - 8)) r.body in
+    (head, (body, (kept_zeros z b (p + 8 + length c.body) (written_length c - (8 + length c.body)) may, tt)))
 
-stand_kept : (b : List ℕ) (end p : ℕ) (cs : List CertificateView) (q : ℕ) → AreBytes b → (0 < length cs → p % 8 ≡ 0) → StandFrom b end p cs q → AllKept b (in_a_row certificate_pieces written_length p cs)
-stand_kept b end p [] q small m s = tt
-stand_kept b end p (c ∷ cs) q small m s =
+stand_kept : (z : Type 0) (b : List ℕ) (end p : ℕ) (cs : List CertificateView) (q : ℕ) → z → AreBytes b → (0 < length cs → p % 8 ≡ 0) → StandFrom b end p cs q → AllKept z b (in_a_row certificate_pieces written_length p cs)
+stand_kept z b end p [] q may small m s = tt
+stand_kept z b end p (c ∷ cs) q may small m s =
     let here : p % 8 ≡ 0 = m (omega arith) in
     let next : s.1 ≡ p + written_length c = next_offset b p c s.1 small here s.2 in
-    all_append b (certificate_pieces p c) (in_a_row certificate_pieces written_length (p + written_length c) cs)
-    (certificate_kept b p c s.1 small s.2)
-    (stand_kept b end (p + written_length c) cs q small (λ some. omega arith) (subst (λ (n : ℕ). StandFrom b end n cs q) next s.3))
+    all_append z b (certificate_pieces p c) (in_a_row certificate_pieces written_length (p + written_length c) cs)
+    (certificate_kept z b p c s.1 may small s.2)
+    (stand_kept z b end (p + written_length c) cs q may small (λ some. omega arith) (subst (λ (n : ℕ). StandFrom b end n cs q) next s.3))
 
-table_kept : (b : List ℕ) (address size : ℕ) (cs : List CertificateView) → AreBytes b → (0 < length cs → address % 8 ≡ 0) → certificates_at b address size ≡ Ok cs → AllKept b (in_a_row certificate_pieces written_length address cs)
-table_kept b address size cs small m e =
+table_kept : (z : Type 0) (b : List ℕ) (address size : ℕ) (cs : List CertificateView) → z → AreBytes b → (0 < length cs → address % 8 ≡ 0) → certificates_at b address size ≡ Ok cs → AllKept z b (in_a_row certificate_pieces written_length address cs)
+table_kept z b address size cs may small m e =
     let l : IsListing b address size cs = is_listing b address size cs e in
     let s : StandFrom b (address + size) address cs (l.offset (length cs)) = rw l.first at (unplaced b (address + size) l.offset cs l.stand) in
-    stand_kept b (address + size) address cs (l.offset (length cs)) small m s
+    stand_kept z b (address + size) address cs (l.offset (length cs)) may small m s
 
-none_kept : (b : List ℕ) (p : ℕ) (cs : List CertificateView) → cs ≡ [] → AllKept b (in_a_row certificate_pieces written_length p cs)
-none_kept b p cs e = subst (λ (cs : List CertificateView). AllKept b (in_a_row certificate_pieces written_length p cs)) (sym e) tt
+none_kept : (z : Type 0) (b : List ℕ) (p : ℕ) (cs : List CertificateView) → cs ≡ [] → AllKept z b (in_a_row certificate_pieces written_length p cs)
+none_kept z b p cs e = subst (λ (cs : List CertificateView). AllKept z b (in_a_row certificate_pieces written_length p cs)) (sym e) tt
 
-read_kept : (b : List ℕ) (address size : ℕ) (cs : List CertificateView) (r : Result (List CertificateView) Refusal) → AreBytes b → (0 < length cs → address % 8 ≡ 0) → certificates_at b address size ≡ r → cs ≡ unwrap_or (given_value (Some r)) [] → AllKept b (in_a_row certificate_pieces written_length address cs)
-read_kept b address size cs (Ok ds) small m e same = table_kept b address size cs small m (e ∙ ap (λ ds. Ok ds) (sym same))
-read_kept b address size cs (Err k) small m e same = none_kept b address cs same
+read_kept : (z : Type 0) (b : List ℕ) (address size : ℕ) (cs : List CertificateView) (r : Result (List CertificateView) Refusal) → z → AreBytes b → (0 < length cs → address % 8 ≡ 0) → certificates_at b address size ≡ r → cs ≡ unwrap_or (given_value (Some r)) [] → AllKept z b (in_a_row certificate_pieces written_length address cs)
+read_kept z b address size cs (Ok ds) may small m e same = table_kept z b address size cs may small m (e ∙ ap (λ ds. Ok ds) (sym same))
+read_kept z b address size cs (Err k) may small m e same = none_kept z b address cs same
 
-field_kept : (b : List ℕ) (listed : Bool) (d : Option DataDirectory) (cs : List CertificateView) → AreBytes b → ((e : DataDirectory) → d ≡ Some e → 0 < length cs → e.virtual_address % 8 ≡ 0) → cs ≡ unwrap_or (given_value (cond listed (field (λ e. certificates_at b e.virtual_address e.size) d) None)) [] → AllKept b (all_certificate_pieces d cs)
-field_kept b listed None cs small m same = tt
-field_kept b false (Some d) cs small m same = none_kept b d.virtual_address cs same
-field_kept b true (Some d) cs small m same = read_kept b d.virtual_address d.size cs (certificates_at b d.virtual_address d.size) small (m d refl) refl same
+field_kept : (z : Type 0) (b : List ℕ) (listed : Bool) (d : Option DataDirectory) (cs : List CertificateView) → z → AreBytes b → ((e : DataDirectory) → d ≡ Some e → 0 < length cs → e.virtual_address % 8 ≡ 0) → cs ≡ unwrap_or (given_value (cond listed (field (λ e. certificates_at b e.virtual_address e.size) d) None)) [] → AllKept z b (all_certificate_pieces d cs)
+field_kept z b listed None cs may small m same = tt
+field_kept z b false (Some d) cs may small m same = none_kept z b d.virtual_address cs same
+field_kept z b true (Some d) cs may small m same = read_kept z b d.virtual_address d.size cs (certificates_at b d.virtual_address d.size) may small (m d refl) refl same
 
 -- ---- the image
 
@@ -319,9 +327,10 @@ unfolding before_resources
 core_after b o (Ok c) x h is = (c, core_before b o (core_of b o) c h)
 core_after b o (Err e) x h is = absurd cc
 
-pieces_kept : (b : List ℕ) (o : ParseOptions) (x : ImageView) (h : OptionalHeaderView) → AreBytes b → IsImage b o (Ok x) → AreAligned x → x.header.optional_header ≡ Some h → AllKept b (image_pieces b x.header h x.sections x.certificates)
-unfolding image_pieces
-pieces_kept b o x h small is m e =
+-- headers and sections of an image are those of its file, and so are its certificates
+laid_kept : (z : Type 0) (b : List ℕ) (unit : Option ℕ) (o : ParseOptions) (x : ImageView) (h : OptionalHeaderView) → KeepsPadding z b unit → AreBytes b → IsImage b o (Ok x) → x.header.optional_header ≡ Some h → AllKept z b (all_certificate_pieces (certificate_directory h) x.certificates) → AllKept z b (padded_pieces unit b x.header h x.sections x.certificates)
+unfolding padded_pieces
+laid_kept z b unit o x h pads small is e listed =
     let (c, core) = core_after b o (before_resources b o) x refl is in
     let same = core_of_image b o c x core is in
     let head : x.header ≡ c.header = ap (λ (c : CoreView). c.header) same in
@@ -330,21 +339,91 @@ pieces_kept b o x h small is m e =
     let at_image : header_at b o.parse_mode ≡ Ok x.header = at_core ∙ ap (λ (h : HeaderView). Ok h) (sym head) in
     let read : sections_of b x.header ≡ Ok x.sections =
     then_those b (header_at b o.parse_mode) x.header x.sections at_image (sections_of_core b o c core ∙ ap (λ (ss : List SectionTable). Ok ss) (sym rows)) in
+    let sections : List Piece = all_section_pieces b unit (sections_offset x.header) x.sections in
+    all_append z b (header_pieces x.header h ++ sections) (all_certificate_pieces (certificate_directory h) x.certificates)
+    (all_append z b (header_pieces x.header h) sections (headers_kept z b o.parse_mode x.header h small at_image e) (sections_kept z b unit x.header x.sections pads small read))
+    listed
+
+listed_kept : (b : List ℕ) (o : ParseOptions) (x : ImageView) (h : OptionalHeaderView) → AreBytes b → IsImage b o (Ok x) → AreAligned x → x.header.optional_header ≡ Some h → AllKept (Unit {0}) b (all_certificate_pieces (certificate_directory h) x.certificates)
+listed_kept b o x h small is m e =
+    let (c, core) = core_after b o (before_resources b o) x refl is in
+    let head : x.header ≡ c.header = ap (λ (c : CoreView). c.header) (core_of_image b o c x core is) in
     let there : c.header.optional_header ≡ Some h = sym (ap (λ (h : HeaderView). h.optional_header) head) ∙ e in
     let listed : x.certificates ≡ unwrap_or (given_value (cond o.parse_attribute_certificates (field (λ d. certificates_at b d.virtual_address d.size) (certificate_directory h)) None)) [] =
     certificates_alone b o c x core is ∙ ap (λ (k : Option OptionalHeaderView). unwrap_or (given_value (cond o.parse_attribute_certificates (field (λ d. certificates_at b d.virtual_address d.size) (directory 4 k)) None)) []) there in
-    let sections : List Piece = all_section_pieces b (Some h.windows_fields.file_alignment) (sections_offset x.header) x.sections in
-    all_append b (header_pieces x.header h ++ sections) (all_certificate_pieces (certificate_directory h) x.certificates)
-    (all_append b (header_pieces x.header h) sections (headers_kept b o.parse_mode x.header h small at_image e) (sections_kept b (Some h.windows_fields.file_alignment) x.header x.sections small read))
-    (field_kept b o.parse_attribute_certificates (certificate_directory h) x.certificates small (λ d found some. m d (ap (directory 4) e ∙ found) some) listed)
+    field_kept (Unit {0}) b o.parse_attribute_certificates (certificate_directory h) x.certificates tt small (λ d found some. m d (ap (directory 4) e ∙ found) some) listed
 
-written_by : (k : Option OptionalHeaderView) (b : List ℕ) (x : ImageView) (h : OptionalHeaderView) (n q : ℕ) (new : List ℕ) → k ≡ Some h → image_by k b x.header x.sections x.certificates b ≡ Ok (n, new) → AllKept b (image_pieces b x.header h x.sections x.certificates) → q < length b → KeptByte b (image_pieces b x.header h x.sections x.certificates) q (get_or new q 0)
+-- zeros may be written after sections and certificates
+pieces_kept : (b : List ℕ) (unit : Option ℕ) (o : ParseOptions) (x : ImageView) (h : OptionalHeaderView) → AreBytes b → IsImage b o (Ok x) → AreAligned x → x.header.optional_header ≡ Some h → AllKept (Unit {0}) b (padded_pieces unit b x.header h x.sections x.certificates)
+pieces_kept b unit o x h small is m e =
+    laid_kept (Unit {0}) b unit o x h (λ s. kept_zeros (Unit {0}) b (raw_end s) (lacking s.size_of_raw_data unit) tt) small is e (listed_kept b o x h small is m e)
+
+-- without padding and certificates, none are
+no_certificates : (b : List ℕ) (d : Option DataDirectory) (cs : List CertificateView) → cs ≡ [] → AllKept ⊥ b (all_certificate_pieces d cs)
+no_certificates b None cs e = tt
+no_certificates b (Some d) cs e = none_kept ⊥ b d.virtual_address cs e
+
+unsigned_kept : (b : List ℕ) (o : ParseOptions) (x : ImageView) (h : OptionalHeaderView) → AreBytes b → IsImage b o (Ok x) → x.certificates ≡ [] → x.header.optional_header ≡ Some h → AllKept ⊥ b (padded_pieces None b x.header h x.sections x.certificates)
+unsigned_kept b o x h small is none e =
+    laid_kept ⊥ b None o x h (λ s. no_zeros ⊥ b (raw_end s)) small is e (no_certificates b (certificate_directory h) x.certificates none)
+
+written_by : (k : Option OptionalHeaderView) (b : List ℕ) (x : ImageView) (h : OptionalHeaderView) (n q : ℕ) (new : List ℕ) → k ≡ Some h → image_by k b x.header x.sections x.certificates b ≡ Ok (n, new) → AllKept (Unit {0}) b (image_pieces b x.header h x.sections x.certificates) → q < length b → KeptByte (Unit {0}) b (image_pieces b x.header h x.sections x.certificates) q (get_or new q 0)
 written_by None b x h n q new there e kept lt = absurd cc
 written_by (Some o) b x h n q new there e kept lt =
     let pieces : List Piece = image_pieces b x.header h x.sections x.certificates in
     let is : image_by (Some h) b x.header x.sections x.certificates b ≡ Ok (n, new) = ap (λ (k : Option OptionalHeaderView). image_by k b x.header x.sections x.certificates b) (sym there) ∙ e in
     let same = value_is {Y = ℕ × List ℕ} (image_tests b x.header h x.sections (length b) pieces) (image_end x.header h x.sections x.certificates, overlay b pieces) (n, new) is in
-    subst (λ (s : List ℕ). KeptByte b pieces q (get_or s q 0)) (ap (λ (r : ℕ × List ℕ). r.1) same) (overlay_kept b pieces q kept lt)
+    subst (λ (s : List ℕ). KeptByte (Unit {0}) b pieces q (get_or s q 0)) (ap (λ (r : ℕ × List ℕ). r.1) same) (overlay_kept (Unit {0}) b pieces q kept lt)
+
+-- zeros may be there, or may not
+where_zeros : {A B : Type 0} → A ⊎ (Unit {0} × B) → A ⊎ B
+where_zeros (inl a) = inl a
+where_zeros (inr (t, b)) = inr b
+
+where_none : {A B : Type 0} → A ⊎ (⊥ × B) → A
+where_none (inl a) = a
+where_none (inr (f, b)) = absurd f
 
 pub rewritten : (b new : List ℕ) (o : ParseOptions) (x : ImageView) (h : OptionalHeaderView) (n q : ℕ) → AreBytes b → IsImage b o (Ok x) → AreAligned x → x.header.optional_header ≡ Some h → image_written b x b ≡ Ok (n, new) → q < length b → (slice_index new q ≡ slice_index b q) ⊎ ((slice_index new q ≡ 0) × EndsInZeros (image_pieces b x.header h x.sections x.certificates) q)
-rewritten b new o x h n q small is m there e lt = written_by x.header.optional_header b x h n q new there e (pieces_kept b o x h small is m there) lt
+rewritten b new o x h n q small is m there e lt =
+    where_zeros (written_by x.header.optional_header b x h n q new there e (pieces_kept b (Some h.windows_fields.file_alignment) o x h small is m there) lt)
+
+-- ---- the whole file
+
+-- a byte of the file, with pieces over the file
+over_file : (b old : List ℕ) (rest : List Piece) (q : ℕ) → length b ≤ length old → q < length b → get_or (overlay old (piece 0 b ∷ rest)) q 0 ≡ byte_after rest q (get_or b q 0)
+unfolding overlay
+over_file b old rest q room lt =
+    let covers : has_byte q (piece 0 b) ≡ true = grind (arith, nat_tests) in
+    let from_start : q - 0 ≡ q = omega arith in
+    get_or-each (λ k. byte_after (piece 0 b ∷ rest) k (slice_index old k)) (length old) q 0 (omega arith)
+    ∙ (sym (byte_after_cons (piece 0 b) rest q (get_or old q 0))
+    ∙ (ap (λ (n : ℕ). byte_after rest q (cond (has_byte q (piece 0 b)) (get_or b n 0) (get_or old q 0))) from_start
+    ∙ ap (λ t. byte_after rest q (cond t (get_or b q 0) (get_or old q 0))) covers))
+
+file_fits : (n : ℕ) (b : List ℕ) (rest : List Piece) → all_fit n (piece 0 b ∷ rest) ≡ true → length b ≤ n
+file_fits n b rest h = grind (arith, nat_tests)
+
+whole_written_by : (z : Type 0) (k : Option OptionalHeaderView) (b old : List ℕ) (x : ImageView) (h : OptionalHeaderView) (n q : ℕ) (new : List ℕ) → k ≡ Some h → whole_by k b x.header x.sections x.certificates old ≡ Ok (n, new) → AllKept z b (padded_pieces None b x.header h x.sections x.certificates) → q < length b → KeptByte z b (padded_pieces None b x.header h x.sections x.certificates) q (get_or new q 0)
+whole_written_by z None b old x h n q new there e kept lt = absurd cc
+whole_written_by z (Some o) b old x h n q new there e kept lt =
+    let rest : List Piece = padded_pieces None b x.header h x.sections x.certificates in
+    let pieces : List Piece = piece 0 b ∷ rest in
+    let defined : ℕ × List ℕ = (max (length b) (image_end x.header h x.sections x.certificates), overlay old pieces) in
+    let is : whole_by (Some h) b x.header x.sections x.certificates old ≡ Ok (n, new) = ap (λ (k : Option OptionalHeaderView). whole_by k b x.header x.sections x.certificates old) (sym there) ∙ e in
+    let fit : List (Bool × Refusal) = (all_fit (length old) pieces, WriteFit) ∷ [] in
+    let apart = passed_first (clash_free x.sections) WriteOverlap ((all_in_source b x.sections, WriteSection) ∷ fit) defined (n, new) is in
+    let inside = passed_first (all_in_source b x.sections) WriteSection fit defined (n, new) apart.1 in
+    let fits = passed_first (all_fit (length old) pieces) WriteFit [] defined (n, new) inside.1 in
+    let same : defined ≡ (n, new) = value_is [] defined (n, new) fits.1 in
+    let byte : get_or (overlay old pieces) q 0 ≡ byte_after rest q (get_or b q 0) = over_file b old rest q (file_fits (length old) b rest fits.0) lt in
+    let kept_there : KeptByte z b rest q (get_or (overlay old pieces) q 0) = subst (KeptByte z b rest q) (sym byte) (after_kept z b rest q kept) in
+    subst (λ (s : List ℕ). KeptByte z b rest q (get_or s q 0)) (ap (λ (r : ℕ × List ℕ). r.1) same) kept_there
+
+pub whole_changes : (b old new : List ℕ) (o : ParseOptions) (x : ImageView) (h : OptionalHeaderView) (n q : ℕ) → AreBytes b → IsImage b o (Ok x) → AreAligned x → x.header.optional_header ≡ Some h → whole_written b x old ≡ Ok (n, new) → q < length b → (slice_index new q ≡ slice_index b q) ⊎ ((slice_index new q ≡ 0) × EndsInZeros (padded_pieces None b x.header h x.sections x.certificates) q)
+whole_changes b old new o x h n q small is m there e lt =
+    where_zeros (whole_written_by (Unit {0}) x.header.optional_header b old x h n q new there e (pieces_kept b None o x h small is m there) lt)
+
+pub whole_unsigned : (b old new : List ℕ) (o : ParseOptions) (x : ImageView) (h : OptionalHeaderView) (n q : ℕ) → AreBytes b → IsImage b o (Ok x) → x.certificates ≡ [] → x.header.optional_header ≡ Some h → whole_written b x old ≡ Ok (n, new) → q < length b → slice_index new q ≡ slice_index b q
+whole_unsigned b old new o x h n q small is none there e lt =
+    where_none (whole_written_by ⊥ x.header.optional_header b old x h n q new there e (unsigned_kept b o x h small is none there) lt)

@@ -1,28 +1,30 @@
 -- All pieces of an image.
-use Rattle.std.proofs.Common.{◌≡◌, ℕ, ◌<◌, ◌&&◌, true, List, ◌++◌, ap, sym, ◌∙◌, arith}
-use Rattle.std.specs.Prelude.{Option, Some}
+use Rattle.std.proofs.Common.{◌≡◌, ℕ, ◌<◌, ◌&&◌, Bool, true, false, Err, List, [], ◌∷◌, ◌++◌, refl, ap, sym, ◌∙◌, arith}
+use Rattle.std.specs.Prelude.{Option, Some, None}
 use Rattle.std.specs.Int.{is_power_of_two}
 use Rattle.std.proofs.lemmas.Bool.{eqb-true}
 use Rattle.std.proofs.lemmas.Nat.{ones_le_self}
+use Rattle.pe_core.specs.Bytes.{splice}
 use Rattle.pe_core.specs.Header.{HeaderView, OptionalHeaderView}
+use Rattle.pe_core.specs.Refusals.{Refusal, WriteFit, outcome}
 use Rattle.pe_core.specs.Sections.{sections_offset}
 use Rattle.pe_core.specs.declared.data_directories.DataDirectory.{DataDirectory}
 use Rattle.pe_core.specs.declared.section_table.SectionTable.{SectionTable}
 use Rattle.pe_records.specs.Certificates.{CertificateView}
 use Rattle.pe_image.specs.Overlay.{Piece, all_fit}
 use Rattle.pe_image.specs.Pieces.{all_certificate_pieces, all_section_pieces, header_pieces}
-use Rattle.pe_image.specs.Writing.{certificate_directory, image_pieces}
+use Rattle.pe_image.specs.Writing.{certificate_directory, padded_pieces, whole_pieces}
 use Rattle.pe_image.specs.WritingSteps.{put_in_turn}
 use Rattle.pe_image.proofs.Overlays.{put_append}
-use Rattle.pe_image.proofs.Rows.{all_fit_append, and_left, and_right}
+use Rattle.pe_image.proofs.Rows.{all_fit_append, and_left, and_right, refused_if, unfit_if}
 
 pub positive : (n : ℕ) → is_power_of_two n ≡ true → 0 < n
 positive n e = omega (arith, ones_le_self n, eqb-true _ _ e)
 
 -- what is handed to the writer of the sections is of the image
-pub record IsOf (b : List ℕ) (h : HeaderView) (o : OptionalHeaderView) (sections : List SectionTable) (source : List ℕ) (unit : Option ℕ) (offset : ℕ) (given : List SectionTable) : Type 0 where
+pub record IsOf (u : Option ℕ) (b : List ℕ) (h : HeaderView) (sections : List SectionTable) (source : List ℕ) (unit : Option ℕ) (offset : ℕ) (given : List SectionTable) : Type 0 where
   pub source_is : source ≡ b
-  pub unit_is : unit ≡ Some o.windows_fields.file_alignment
+  pub unit_is : unit ≡ u
   pub offset_is : offset ≡ sections_offset h
   pub sections_are : given ≡ sections
 
@@ -30,31 +32,55 @@ pub record IsOf (b : List ℕ) (h : HeaderView) (o : OptionalHeaderView) (sectio
 parts_fit : (n : ℕ) (xs ys zs : List Piece) → all_fit n ((xs ++ ys) ++ zs) ≡ true → ((all_fit n xs && all_fit n ys) && all_fit n zs) ≡ true
 parts_fit n xs ys zs h = sym (all_fit_append n (xs ++ ys) zs ∙ ap (λ b. b && all_fit n zs) (all_fit_append n xs ys)) ∙ h
 
-abbrev section_part : List ℕ → HeaderView → OptionalHeaderView → List SectionTable → List Piece
-section_part b h o sections = all_section_pieces b (Some o.windows_fields.file_alignment) (sections_offset h) sections
+abbrev section_part : Option ℕ → List ℕ → HeaderView → List SectionTable → List Piece
+section_part u b h sections = all_section_pieces b u (sections_offset h) sections
 
-pub headers_fit_too : (n : ℕ) (b : List ℕ) (h : HeaderView) (o : OptionalHeaderView) (sections : List SectionTable) (cs : List CertificateView) → all_fit n (image_pieces b h o sections cs) ≡ true → all_fit n (header_pieces h o) ≡ true
-unfolding image_pieces
-headers_fit_too n b h o sections cs f =
-    and_left _ _ (and_left _ _ (parts_fit n (header_pieces h o) (section_part b h o sections) (all_certificate_pieces (certificate_directory o) cs) f))
+pub headers_fit_too : (n : ℕ) (u : Option ℕ) (b : List ℕ) (h : HeaderView) (o : OptionalHeaderView) (sections : List SectionTable) (cs : List CertificateView) → all_fit n (padded_pieces u b h o sections cs) ≡ true → all_fit n (header_pieces h o) ≡ true
+unfolding padded_pieces
+headers_fit_too n u b h o sections cs f =
+    and_left _ _ (and_left _ _ (parts_fit n (header_pieces h o) (section_part u b h sections) (all_certificate_pieces (certificate_directory o) cs) f))
 
-pub sections_fit_too : (n m : ℕ) (b : List ℕ) (h : HeaderView) (o : OptionalHeaderView) (sections : List SectionTable) (cs : List CertificateView) (source : List ℕ) (unit : Option ℕ) (offset : ℕ) (given : List SectionTable) → m ≡ n → IsOf b h o sections source unit offset given → all_fit n (image_pieces b h o sections cs) ≡ true → all_fit m (all_section_pieces source unit offset given) ≡ true
-unfolding image_pieces
-sections_fit_too n m b h o sections cs source unit offset given same is f =
+pub sections_fit_too : (n m : ℕ) (u : Option ℕ) (b : List ℕ) (h : HeaderView) (o : OptionalHeaderView) (sections : List SectionTable) (cs : List CertificateView) (source : List ℕ) (unit : Option ℕ) (offset : ℕ) (given : List SectionTable) → m ≡ n → IsOf u b h sections source unit offset given → all_fit n (padded_pieces u b h o sections cs) ≡ true → all_fit m (all_section_pieces source unit offset given) ≡ true
+unfolding padded_pieces
+sections_fit_too n m u b h o sections cs source unit offset given same is f =
     rw (same, is.source_is, is.unit_is, is.offset_is, is.sections_are)
-    (and_right _ _ (and_left _ _ (parts_fit n (header_pieces h o) (section_part b h o sections) (all_certificate_pieces (certificate_directory o) cs) f)))
+    (and_right _ _ (and_left _ _ (parts_fit n (header_pieces h o) (section_part u b h sections) (all_certificate_pieces (certificate_directory o) cs) f)))
 
-pub certificates_fit_too : (n m : ℕ) (b : List ℕ) (h : HeaderView) (o : OptionalHeaderView) (sections : List SectionTable) (cs given : List CertificateView) (d : Option DataDirectory) → m ≡ n → d ≡ certificate_directory o → given ≡ cs → all_fit n (image_pieces b h o sections cs) ≡ true → all_fit m (all_certificate_pieces d given) ≡ true
-unfolding image_pieces
-certificates_fit_too n m b h o sections cs given d same e k f =
-    rw (same, e, k) (and_right _ _ (parts_fit n (header_pieces h o) (section_part b h o sections) (all_certificate_pieces (certificate_directory o) cs) f))
+pub certificates_fit_too : (n m : ℕ) (u : Option ℕ) (b : List ℕ) (h : HeaderView) (o : OptionalHeaderView) (sections : List SectionTable) (cs given : List CertificateView) (d : Option DataDirectory) → m ≡ n → d ≡ certificate_directory o → given ≡ cs → all_fit n (padded_pieces u b h o sections cs) ≡ true → all_fit m (all_certificate_pieces d given) ≡ true
+unfolding padded_pieces
+certificates_fit_too n m u b h o sections cs given d same e k f =
+    rw (same, e, k) (and_right _ _ (parts_fit n (header_pieces h o) (section_part u b h sections) (all_certificate_pieces (certificate_directory o) cs) f))
 
 -- the three parts are put one after the other
-pub put_image : (old one two three b : List ℕ) (h : HeaderView) (o : OptionalHeaderView) (sections : List SectionTable) (cs given : List CertificateView) (d : Option DataDirectory) (source : List ℕ) (unit : Option ℕ) (offset : ℕ) (ss : List SectionTable) → IsOf b h o sections source unit offset ss → d ≡ certificate_directory o → given ≡ cs → one ≡ put_in_turn old (header_pieces h o) → two ≡ put_in_turn one (all_section_pieces source unit offset ss) → three ≡ put_in_turn two (all_certificate_pieces d given) → three ≡ put_in_turn old (image_pieces b h o sections cs)
-unfolding image_pieces
-put_image old one two three b h o sections cs given d source unit offset ss is e k f g i =
-    let second : two ≡ put_in_turn one (section_part b h o sections) = rw (is.source_is, is.unit_is, is.offset_is, is.sections_are) at g in
+pub put_image : (old one two three : List ℕ) (u : Option ℕ) (b : List ℕ) (h : HeaderView) (o : OptionalHeaderView) (sections : List SectionTable) (cs given : List CertificateView) (d : Option DataDirectory) (source : List ℕ) (unit : Option ℕ) (offset : ℕ) (ss : List SectionTable) → IsOf u b h sections source unit offset ss → d ≡ certificate_directory o → given ≡ cs → one ≡ put_in_turn old (header_pieces h o) → two ≡ put_in_turn one (all_section_pieces source unit offset ss) → three ≡ put_in_turn two (all_certificate_pieces d given) → three ≡ put_in_turn old (padded_pieces u b h o sections cs)
+unfolding padded_pieces
+put_image old one two three u b h o sections cs given d source unit offset ss is e k f g i =
+    let second : two ≡ put_in_turn one (section_part u b h sections) = rw (is.source_is, is.unit_is, is.offset_is, is.sections_are) at g in
     let third : three ≡ put_in_turn two (all_certificate_pieces (certificate_directory o) cs) = rw (e, k) at i in
-    let a = put_append (header_pieces h o ++ section_part b h o sections) (all_certificate_pieces (certificate_directory o) cs) old in
-    let c = put_append (header_pieces h o) (section_part b h o sections) old in
+    let a = put_append (header_pieces h o ++ section_part u b h sections) (all_certificate_pieces (certificate_directory o) cs) old in
+    let c = put_append (header_pieces h o) (section_part u b h sections) old in
     cc
+
+-- the file is put first, and the image over it
+pub put_whole : (old one two b : List ℕ) (h : HeaderView) (o : OptionalHeaderView) (sections : List SectionTable) (cs : List CertificateView) → one ≡ splice old 0 b → two ≡ put_in_turn one (padded_pieces None b h o sections cs) → two ≡ put_in_turn old (whole_pieces b h o sections cs)
+unfolding put_in_turn
+put_whole old one two b h o sections cs e f = f ∙ ap (λ (s : List ℕ). put_in_turn s (padded_pieces None b h o sections cs)) e
+
+-- what fits over the file fits without it
+pub over_file_fits : (n : ℕ) (x : Piece) (xs : List Piece) → all_fit n (x ∷ xs) ≡ true → all_fit n xs ≡ true
+over_file_fits n x xs h = and_right _ _ h
+
+and_false : (a : Bool) → (a && false) ≡ false
+and_false true = refl
+and_false false = refl
+
+-- where the certificates don't fit, the image doesn't
+pub certificates_refused : {Y Z : Type 0} (n : ℕ) (u : Option ℕ) (b : List ℕ) (h : HeaderView) (o : OptionalHeaderView) (sections : List SectionTable) (cs given : List CertificateView) (d : Option DataDirectory) (x : Y) (z : Z) (r : Refusal) → d ≡ certificate_directory o → given ≡ cs → outcome ((all_fit n (all_certificate_pieces d given), WriteFit) ∷ []) x ≡ Err r → outcome ((all_fit n (padded_pieces u b h o sections cs), WriteFit) ∷ []) z ≡ Err r
+unfolding padded_pieces
+certificates_refused n u b h o sections cs given d x z r e k f =
+    let before : List Piece = header_pieces h o ++ section_part u b h sections in
+    let unfit : all_fit n (all_certificate_pieces d given) ≡ false = unfit_if (all_fit n (all_certificate_pieces d given)) x r f in
+    let last : all_fit n (all_certificate_pieces (certificate_directory o) cs) ≡ false = rw (e, k) at unfit in
+    let all : all_fit n (before ++ all_certificate_pieces (certificate_directory o) cs) ≡ false =
+    all_fit_append n before (all_certificate_pieces (certificate_directory o) cs) ∙ (ap (λ t. all_fit n before && t) last ∙ and_false (all_fit n before)) in
+    refused_if (all_fit n (all_certificate_pieces d given)) (all_fit n (before ++ all_certificate_pieces (certificate_directory o) cs)) x z r f all

@@ -1,4 +1,4 @@
--- The three writers of an image: the tests in their order, the number that is returned, and the bytes that are left.
+-- The writers of an image: the tests in their order, the number that is returned, and the bytes that are left.
 -- (This project's profile.)
 use Rattle.std.specs.Prelude.{◌≡◌, ℕ, ◌+◌, ◌*◌, ◌%◌, ◌<◌, ◌==◌, ◌&&◌, not, min, max, Bool, true, List, [], ◌∷◌, ◌++◌, length, nat_lt, Option, Some, None, Result, Ok, Err, if◌then◌else◌}
 use Rattle.std.specs.Int.{is_power_of_two}
@@ -15,7 +15,7 @@ use Rattle.pe_core.specs.declared.section_table.SectionTable.{SectionTable}
 use Rattle.pe_records.specs.Certificates.{CertificateView}
 use Rattle.pe_image.specs.Image.{ImageView}
 use Rattle.pe_image.specs.Layout.{directory}
-use Rattle.pe_image.specs.Overlay.{Piece, all_fit, overlay}
+use Rattle.pe_image.specs.Overlay.{Piece, all_fit, overlay, piece}
 use Rattle.pe_image.specs.Pieces.{all_certificate_pieces, all_section_pieces, certificates_end, header_pieces}
 
 -- the number returned and the bytes left are the defined ones; a refusal is the defined one, and changes nothing
@@ -117,12 +117,17 @@ end_of (Some s) = raw_end s
 abbrev pub last_raw_end : List SectionTable → ℕ
 last_raw_end sections = end_of (last_in_file sections)
 
--- all pieces of an image; b is the file that the data of its sections is taken from
-unfoldable pub image_pieces : List ℕ → HeaderView → OptionalHeaderView → List SectionTable → List CertificateView → List Piece
-image_pieces b h o sections cs =
+-- the pieces of an image whose sections are padded to a multiple of the unit, if there is one; b is the file that their
+-- data is taken from
+unfoldable pub padded_pieces : Option ℕ → List ℕ → HeaderView → OptionalHeaderView → List SectionTable → List CertificateView → List Piece
+padded_pieces unit b h o sections cs =
     header_pieces h o
-    ++ all_section_pieces b (Some o.windows_fields.file_alignment) (sections_offset h) sections
+    ++ all_section_pieces b unit (sections_offset h) sections
     ++ all_certificate_pieces (certificate_directory o) cs
+
+-- all pieces of an image, whose sections are padded to its file alignment
+abbrev pub image_pieces : List ℕ → HeaderView → OptionalHeaderView → List SectionTable → List CertificateView → List Piece
+image_pieces b h o sections cs = padded_pieces (Some o.windows_fields.file_alignment) b h o sections cs
 
 -- the tests of writing these pieces over n bytes, in their order
 unfoldable pub image_tests : List ℕ → HeaderView → OptionalHeaderView → List SectionTable → ℕ → List Piece → List (Bool × Refusal)
@@ -145,3 +150,20 @@ image_by (Some o) b h sections cs old =
 -- the image over the old bytes; the data of its sections is taken from b
 abbrev pub image_written : List ℕ → ImageView → List ℕ → Result (ℕ × List ℕ) Refusal
 image_written b x old = image_by x.header.optional_header b x.header x.sections x.certificates old
+
+-- ---- the whole file
+
+-- the file that an image was read from, and over it the pieces of the image, without padding
+abbrev pub whole_pieces : List ℕ → HeaderView → OptionalHeaderView → List SectionTable → List CertificateView → List Piece
+whole_pieces b h o sections cs = piece 0 b ∷ padded_pieces None b h o sections cs
+
+-- the file with the pieces of an image over the old bytes; refused without an optional header
+abbrev pub whole_by : Option OptionalHeaderView → List ℕ → HeaderView → List SectionTable → List CertificateView → List ℕ → Result (ℕ × List ℕ) Refusal
+whole_by None b h sections cs old = Err NoOptionalHeader
+whole_by (Some o) b h sections cs old =
+    let pieces = whole_pieces b h o sections cs in
+    outcome (section_tests b sections (length old) pieces) (max (length b) (image_end h o sections cs), overlay old pieces)
+
+-- the file b with the image over the old bytes
+abbrev pub whole_written : List ℕ → ImageView → List ℕ → Result (ℕ × List ℕ) Refusal
+whole_written b x old = whole_by x.header.optional_header b x.header x.sections x.certificates old

@@ -1,11 +1,17 @@
 -- The steps of the writers. Only private contracts cite them, and the law that writing pieces in turn leaves their
 -- overlay.
-use Rattle.std.specs.Prelude.{ℕ, ◌||◌, ◌&&◌, Bool, true, false, List, [], ◌∷◌, nat_le}
+use Rattle.std.specs.Prelude.{ℕ, ◌||◌, ◌&&◌, Bool, true, false, List, [], ◌∷◌, map, nat_le, Option, Some}
 use Rattle.pe_core.specs.Bytes.{splice}
+use Rattle.pe_core.specs.Header.{header_view, optional_header_view}
+use Rattle.pe_core.specs.Refusals.{Refusal}
 use Rattle.pe_core.specs.Sections.{raw_end}
+use Rattle.pe_core.specs.declared.optional_header.OptionalHeader.{OptionalHeader}
 use Rattle.pe_core.specs.declared.section_table.SectionTable.{SectionTable}
+use Rattle.pe_records.specs.Certificates.{certificate_view}
+use Rattle.pe_image.specs.Image.{source_of}
 use Rattle.pe_image.specs.Overlay.{Piece}
-use Rattle.pe_image.specs.Writing.{same_section}
+use Rattle.pe_image.specs.Writing.{image_end, image_tests, padded_pieces, same_section, whole_pieces}
+use Rattle.pe_image.specs.declared.pe.PE.{PE}
 
 -- the bytes after the pieces are written one after the other
 unfoldable pub put_in_turn : List ℕ → List Piece → List ℕ
@@ -36,3 +42,28 @@ falls (s ∷ after) = falls_to s after && falls after
 abbrev pub is_next : SectionTable → List SectionTable → Bool
 is_next s [] = false
 is_next s (t ∷ after) = same_section s t
+
+-- ---- of an image as its fields are now, with one optional header
+
+-- its pieces, with sections that are padded to a multiple of the unit
+abbrev pub own_pieces : {Z : Type 0} → PE Z → OptionalHeader → Option ℕ → List Piece
+own_pieces x o unit =
+    padded_pieces unit (source_of x) (header_view x.header) (optional_header_view o) x.sections.items
+    (map certificate_view x.certificates.items)
+
+-- these over its file
+abbrev pub own_whole : {Z : Type 0} → PE Z → OptionalHeader → List Piece
+own_whole x o =
+    whole_pieces (source_of x) (header_view x.header) (optional_header_view o) x.sections.items
+    (map certificate_view x.certificates.items)
+
+-- its end
+abbrev pub own_end : {Z : Type 0} → PE Z → OptionalHeader → ℕ
+own_end x o =
+    image_end (header_view x.header) (optional_header_view o) x.sections.items (map certificate_view x.certificates.items)
+
+-- the tests of writing its pieces over n bytes
+abbrev pub own_tests : {Z : Type 0} → PE Z → OptionalHeader → ℕ → List (Bool × Refusal)
+own_tests x o n =
+    image_tests (source_of x) (header_view x.header) (optional_header_view o) x.sections.items n
+    (own_pieces x o (Some o.windows_fields.file_alignment))

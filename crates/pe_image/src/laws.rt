@@ -1,7 +1,7 @@
 //! Laws over the definitions of this crate. Each law is the contract of a function that does nothing. A caller's proof
 //! cites a law by calling the function.
 
-ghost use Rattle.std.specs.Prelude.{◌≡◌, ◌≢◌, ◌↔◌, ◌+◌, ◌/◌, ◌%◌, ◌<◌, ◌≤◌, ◌⊎◌, ℕ, List, [], Ok, Err, Option, Result, Some, length, slice_index, true, unwrap_or};
+ghost use Rattle.std.specs.Prelude.{◌≡◌, ◌≢◌, ◌↔◌, ◌+◌, ◌/◌, ◌%◌, ◌<◌, ◌≤◌, ◌⊎◌, ℕ, List, [], Ok, Err, Option, Result, None, Some, length, slice_index, true, unwrap_or};
 ghost use Rattle.pe_core.specs.Bytes.{AreBytes, range};
 ghost use Rattle.pe_core.specs.Header.{OptionalHeaderView};
 ghost use Rattle.pe_core.specs.Imports.{ImportRecordView};
@@ -24,7 +24,7 @@ ghost use Rattle.pe_image.specs.Headline.{AreDerived, IsPermissive};
 ghost use Rattle.pe_image.specs.Image.{HasLibraries, ImageView, core_part, AreResourcesOf, IsImage, certificates_of, debug_of, exceptions_of, image_view, libraries_of, relocations_of};
 ghost use Rattle.pe_image.specs.Overlay.{EndsInZeros, LeavesOverlay, Piece, all_fit, overlay};
 ghost use Rattle.pe_image.specs.Pieces.{all_certificate_pieces, all_section_pieces};
-ghost use Rattle.pe_image.specs.Writing.{AreAligned, ReturnsWritten, certificate_directory, certificates_written, clash, image_pieces, image_written, sections_written};
+ghost use Rattle.pe_image.specs.Writing.{AreAligned, ReturnsWritten, certificate_directory, certificates_written, clash, image_pieces, image_written, padded_pieces, sections_written, whole_written};
 ghost use Rattle.pe_image.specs.WritingSteps.{put_in_turn};
 ghost use Rattle.pe_image.specs.declared.pe.PE.{PE};
 
@@ -165,4 +165,20 @@ pub fn rewritten_images_change_to_zeros_alone()
     ensures { (b new : List ℕ) (o : ParseOptions) (x : ImageView) (h : OptionalHeaderView) (n q : ℕ) → AreBytes b → IsImage b o (Ok x) → AreAligned x →
         x.header.optional_header ≡ Some h → image_written b x b ≡ Ok (n, new) → q < length b →
         (slice_index new q ≡ slice_index b q) ⊎ ((slice_index new q ≡ 0) × EndsInZeros (image_pieces b x.header h x.sections x.certificates) q) }
+{}
+
+/// Writing the whole file of an image whose fields are as they were read gives its bytes again, whatever was in the
+/// buffer: each byte of it if the image has no certificates (`unsigned`). With certificates a byte changes only if the
+/// last piece that covers it is one of zeros, which pads a certificate; then it becomes zero (`changes`).
+#[tactic(auto, using(crate::proofs::RewrittenBytes::whole_changes, crate::proofs::RewrittenBytes::whole_unsigned))]
+pub fn whole_images_come_back()
+    ensures changes { (b old new : List ℕ) (o : ParseOptions) (x : ImageView) (h : OptionalHeaderView)
+        (n q : ℕ) → AreBytes b → IsImage b o (Ok x) → AreAligned x →
+        x.header.optional_header ≡ Some h → whole_written b x old ≡ Ok (n, new) → q < length b →
+        (slice_index new q ≡ slice_index b q) ⊎ ((slice_index new q ≡ 0)
+        × EndsInZeros (padded_pieces None b x.header h x.sections x.certificates) q) }
+    ensures unsigned { (b old new : List ℕ) (o : ParseOptions) (x : ImageView) (h : OptionalHeaderView)
+        (n q : ℕ) → AreBytes b → IsImage b o (Ok x) → x.certificates ≡ [] →
+        x.header.optional_header ≡ Some h → whole_written b x old ≡ Ok (n, new) → q < length b →
+        slice_index new q ≡ slice_index b q }
 {}

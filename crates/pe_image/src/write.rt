@@ -11,21 +11,22 @@ mod overlaps;
 mod records;
 mod sections;
 
-ghost use Rattle.std.specs.Prelude.{◌≡◌, ◌<◌, [], ◌∷◌, IsTrue, OnOk, Some, length, map};
+ghost use Rattle.std.specs.Prelude.{◌≡◌, [], ◌∷◌, IsTrue, OnOk, Some, length, map, max};
 ghost use Rattle.pe_core.specs.Header.{header_view, optional_header_view};
-ghost use Rattle.pe_core.specs.Refusals.{ReturnsAs, WriteFit, outcome};
+ghost use Rattle.pe_core.specs.Refusals.{Returns, WriteFit, outcome};
 ghost use Rattle.pe_records.specs.Certificates.{certificate_view};
 ghost use Rattle.pe_image.specs.Overlay.{all_fit};
-ghost use Rattle.pe_image.specs.WritingSteps.{put_in_turn};
+ghost use Rattle.pe_image.specs.WritingSteps.{own_end, own_pieces, own_tests, own_whole, put_in_turn};
 ghost use Rattle.pe_image.specs.Image.{image_view, source_of};
-ghost use Rattle.pe_image.specs.Writing.{Moves, ReturnsWritten, all_in_source, certificates_written, image_by, image_end, image_pieces, image_tests, image_written, sections_written};
+ghost use Rattle.pe_image.specs.Writing.{Moves, ReturnsWritten, all_in_source, certificates_written, image_by, image_written, is_unit, section_tests, sections_written, whole_by, whole_written};
 
 use crate::pe::PE;
 use crate::write::certificates::{require_table, set_table, write_table};
 use crate::write::headers::{require_headers, set_headers};
 use crate::write::overlaps::last_raw_end;
+use crate::write::records::set_slice;
 use crate::write::sections::SectionWriter;
-use pe_core::{Error, OptionalHeader, Reason, Result};
+use pe_core::{Error, OptionalHeader, Reason, Result, require_room};
 use std::alloc::Allocator;
 
 impl<'a, A: Allocator + Copy + Drop> PE<'a, A> {
@@ -75,30 +76,36 @@ impl<'a, A: Allocator + Copy + Drop> PE<'a, A> {
         Ok(end)
     }
 
-    /// The writer of the sections, with zeros up to a multiple of the file alignment.
-    fn section_writer(&self, optional: &OptionalHeader) -> SectionWriter<'_>
+    /// The writer of the sections, padded with zeros to a multiple of the unit, if there is one.
+    fn section_writer(&self, unit: Option<usize>) -> SectionWriter<'_>
         ensures source { result.source.now ≡ source_of self.now }
         ensures sections { result.sections.now ≡ self.now.sections.items }
-        ensures unit { result.unit ≡ Some optional.now.windows_fields.file_alignment }
+        ensures unit { result.unit ≡ unit }
     {
         SectionWriter {
             source: self.bytes,
             sections: &self.sections,
-            unit: Some(optional.windows_fields.file_alignment as usize),
+            unit,
         }
     }
 
     /// Returns what `write_into` returns, or `WriteFit` if the pieces don't all fit.
-    #[tactic(auto, using(crate::proofs::Rows::all_fit_append), unfolding(crate::specs::Writing::image_pieces))]
-    fn require_pieces(&self, buffer: &[u8], optional: &OptionalHeader) -> Result<usize>
-        requires unit { 0 < optional.now.windows_fields.file_alignment }
+    #[tactic(auto, using(crate::proofs::Rows::all_fit_append), unfolding(crate::specs::Writing::padded_pieces))]
+    fn require_pieces(
+        &self,
+        buffer: &[u8],
+        optional: &OptionalHeader,
+        unit: Option<usize>,
+    ) -> Result<usize>
+        requires unit { IsTrue (is_unit unit) }
         requires inside { IsTrue (all_in_source (source_of self.now) self.now.sections.items) }
-        ensures { ReturnsAs (λ end. end) result
-            (outcome ((all_fit (length buffer.now) (image_pieces (source_of self.now) (header_view self.now.header) (optional_header_view optional.now) self.now.sections.items (map certificate_view self.now.certificates.items)), WriteFit) ∷ []) (image_end (header_view self.now.header) (optional_header_view optional.now) self.now.sections.items (map certificate_view self.now.certificates.items))) }
+        ensures { Returns result
+            (outcome ((all_fit (length buffer.now) (own_pieces self.now optional.now unit), WriteFit) ∷ [])
+            (own_end self.now optional.now)) }
     {
         require_headers(buffer, &self.header, optional)?;
         let table = self.header.sections_offset();
-        self.section_writer(optional).require(buffer, table)?;
+        self.section_writer(unit).require(buffer, table)?;
         let directory = optional.data_directories.get_certificate_table();
         let end = require_table(buffer, directory, &self.certificates)?;
         Ok(table.max(last_raw_end(&self.sections)).max(end))
@@ -107,33 +114,52 @@ impl<'a, A: Allocator + Copy + Drop> PE<'a, A> {
     /// Tests for all errors of `write_into` but the first, in their order. Returns what `write_into` returns.
     #[tactic(auto, using(crate::proofs::WrittenImages::positive), unfolding(crate::specs::Writing::image_tests))]
     fn require_image(&self, buffer: &[u8], optional: &OptionalHeader) -> Result<usize>
-        ensures returned { ReturnsAs (λ end. end) result
-            (outcome (image_tests (source_of self.now) (header_view self.now.header) (optional_header_view optional.now) self.now.sections.items (length buffer.now) (image_pieces (source_of self.now) (header_view self.now.header) (optional_header_view optional.now) self.now.sections.items (map certificate_view self.now.certificates.items))) (image_end (header_view self.now.header) (optional_header_view optional.now) self.now.sections.items (map certificate_view self.now.certificates.items))) }
-        ensures unit { OnOk result (0 < optional.now.windows_fields.file_alignment) }
-        ensures inside { OnOk result (IsTrue (all_in_source (source_of self.now) self.now.sections.items)) }
-        ensures fit { OnOk result (IsTrue (all_fit (length buffer.now) (image_pieces (source_of self.now) (header_view self.now.header) (optional_header_view optional.now) self.now.sections.items (map certificate_view self.now.certificates.items)))) }
+        ensures returned { Returns result
+            (outcome (own_tests self.now optional.now (length buffer.now)) (own_end self.now optional.now)) }
+        ensures unit { OnOk result
+            (IsTrue (is_unit (Some optional.now.windows_fields.file_alignment))) }
+        ensures inside { OnOk result
+            (IsTrue (all_in_source (source_of self.now) self.now.sections.items)) }
+        ensures fit { OnOk result (IsTrue (all_fit (length buffer.now)
+            (own_pieces self.now optional.now (Some optional.now.windows_fields.file_alignment)))) }
     {
-        let alignment = optional.windows_fields.file_alignment;
+        let alignment = optional.windows_fields.file_alignment as usize;
         if !alignment.is_power_of_two() {
-            return Err(Error::Malformed(Reason::WriteAlignment(alignment as usize)));
+            return Err(Error::Malformed(Reason::WriteAlignment(alignment)));
         }
         let symbols = self.header.coff_header.pointer_to_symbol_table;
         if symbols != 0 {
             return Err(Error::Malformed(Reason::WriteSymbols(symbols)));
         }
-        self.section_writer(optional).require_data()?;
-        self.require_pieces(buffer, optional)
+        self.section_writer(None).require_data()?;
+        self.require_pieces(buffer, optional, Some(alignment))
+    }
+
+    /// Tests for all errors of `write_whole` but the first, in their order. Returns what `write_whole` returns.
+    fn require_whole(&self, buffer: &[u8], optional: &OptionalHeader) -> Result<usize>
+        ensures returned { Returns result
+            (outcome (section_tests (source_of self.now) self.now.sections.items (length buffer.now)
+            (own_whole self.now optional.now)) (max (length (source_of self.now)) (own_end self.now optional.now))) }
+        ensures inside { OnOk result
+            (IsTrue (all_in_source (source_of self.now) self.now.sections.items)) }
+        ensures fit { OnOk result
+            (IsTrue (all_fit (length buffer.now) (own_whole self.now optional.now))) }
+    {
+        self.section_writer(None).require_data()?;
+        require_room(buffer, 0, self.bytes.len())?;
+        let end = self.require_pieces(buffer, optional, None)?;
+        Ok(self.bytes.len().max(end))
     }
 
     /// Writes all pieces. The caller has checked that they fit.
-    fn set_pieces(&self, buffer: &mut [u8], optional: &OptionalHeader)
-        requires unit { 0 < optional.now.windows_fields.file_alignment }
+    fn set_pieces(&self, buffer: &mut [u8], optional: &OptionalHeader, unit: Option<usize>)
+        requires unit { IsTrue (is_unit unit) }
         requires inside { IsTrue (all_in_source (source_of self.now) self.now.sections.items) }
-        requires fit { IsTrue (all_fit (length buffer.old) (image_pieces (source_of self.now) (header_view self.now.header) (optional_header_view optional.now) self.now.sections.items (map certificate_view self.now.certificates.items))) }
-        ensures { buffer.new ≡ put_in_turn buffer.old (image_pieces (source_of self.now) (header_view self.now.header) (optional_header_view optional.now) self.now.sections.items (map certificate_view self.now.certificates.items)) }
+        requires fit { IsTrue (all_fit (length buffer.old) (own_pieces self.now optional.now unit)) }
+        ensures { buffer.new ≡ put_in_turn buffer.old (own_pieces self.now optional.now unit) }
     {
         set_headers(buffer, &self.header, optional);
-        self.section_writer(optional)
+        self.section_writer(unit)
             .set(buffer, self.header.sections_offset());
         let directory = optional.data_directories.get_certificate_table();
         set_table(buffer, directory, &self.certificates);
@@ -142,11 +168,51 @@ impl<'a, A: Allocator + Copy + Drop> PE<'a, A> {
     /// Writes the image with this optional header.
     #[tactic(auto, unfolding(crate::specs::Writing::image_tests))]
     fn write_with(&self, buffer: &mut [u8], optional: &OptionalHeader) -> Result<usize>
-        ensures { ReturnsWritten result (image_by (Some (optional_header_view optional.now)) (source_of self.now) (header_view self.now.header) self.now.sections.items (map certificate_view self.now.certificates.items) buffer.old) buffer.old buffer.new }
+        ensures { ReturnsWritten result
+            (image_by (Some (optional_header_view optional.now)) (source_of self.now)
+            (header_view self.now.header) self.now.sections.items
+            (map certificate_view self.now.certificates.items) buffer.old) buffer.old buffer.new }
     {
         let end = self.require_image(buffer, optional)?;
-        self.set_pieces(buffer, optional);
+        let unit = optional.windows_fields.file_alignment as usize;
+        self.set_pieces(buffer, optional, Some(unit));
         Ok(end)
+    }
+
+    /// Writes the file and the image over it, with this optional header.
+    fn write_whole_with(&self, buffer: &mut [u8], optional: &OptionalHeader) -> Result<usize>
+        ensures { ReturnsWritten result
+            (whole_by (Some (optional_header_view optional.now)) (source_of self.now)
+            (header_view self.now.header) self.now.sections.items
+            (map certificate_view self.now.certificates.items) buffer.old) buffer.old buffer.new }
+    {
+        let end = self.require_whole(buffer, optional)?;
+        set_slice(buffer, 0, self.bytes);
+        self.set_pieces(buffer, optional, None);
+        Ok(end)
+    }
+
+    /// Writes the whole file that the image was read from, and over it the headers, sections and certificates as the
+    /// fields are now. So what no field describes stays: COFF symbols and their strings, data after the last section
+    /// or the certificates, and bytes between sections. Unlike `write_into` it pads no section with zeros, since
+    /// there may be such bytes. An image with unchanged fields, without certificates, is written byte for byte (law
+    /// `whole_images_come_back`).
+    ///
+    /// Where pieces overlap, the later one wins. Bytes that no piece covers stay as they were. Symbols stay where they
+    /// are, wherever the field `pointer_to_symbol_table` points to. Returns the greater of the file's length and what
+    /// `write_into` returns, in bytes.
+    ///
+    /// Errors, in this order, each of which leaves the buffer as it was: `NoOptionalHeader`; `WriteOverlap` if two
+    /// unequal sections share a byte of the file; `WriteSection` if the data of a section is not in the file that the
+    /// image was read from; `WriteFit` if the file or a piece doesn't fit into the buffer.
+    pub fn write_whole(&self, buffer: &mut [u8]) -> Result<usize>
+        ensures { ReturnsWritten result
+            (whole_written (source_of self.now) (image_view self.now) buffer.old) buffer.old buffer.new }
+    {
+        match &self.header.optional_header {
+            None => Err(Error::Malformed(Reason::NoOptionalHeader)),
+            Some(optional) => self.write_whole_with(buffer, optional),
+        }
     }
 
     /// Writes the image, as its fields are now, in these pieces:

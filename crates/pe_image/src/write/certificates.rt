@@ -3,7 +3,7 @@
 //! <https://learn.microsoft.com/windows/win32/debug/pe-format>, attribute certificate table.
 
 ghost use Rattle.std.specs.Prelude.{◌≡◌, ◌+◌, [], ◌∷◌, IsTrue, length, map};
-ghost use Rattle.pe_core.specs.Refusals.{ReturnsAs, WriteFit, outcome};
+ghost use Rattle.pe_core.specs.Refusals.{Returns, WriteFit, outcome};
 ghost use Rattle.pe_records.specs.Certificates.{certificate_view};
 ghost use Rattle.pe_records.specs.CertificateWriting.{written_end, written_length};
 ghost use Rattle.pe_image.specs.Overlay.{all_fit};
@@ -23,7 +23,7 @@ fn require_certificate(
     offset: usize,
     certificate: &AttributeCertificate<'_>,
 ) -> Result<usize>
-    ensures { ReturnsAs (λ end. end) result (written_end buffer.now offset (certificate_view certificate.now)) }
+    ensures { Returns result (written_end buffer.now offset (certificate_view certificate.now)) }
 {
     let size = rounded_up(8 + certificate.certificate.len(), UNIT);
     require_room(buffer, offset, size)?;
@@ -37,7 +37,7 @@ fn require_certificates(
     start: usize,
     certificates: &[AttributeCertificate<'_>],
 ) -> Result<usize>
-    ensures { ReturnsAs (λ end. end) result
+    ensures { Returns result
         (outcome ((all_fit (length buffer.now) (in_a_row certificate_pieces written_length start (map certificate_view certificates.now)), WriteFit) ∷ [])
         (row_end written_length start (map certificate_view certificates.now))) }
 {
@@ -84,7 +84,7 @@ pub fn require_table(
     directory: Option<DataDirectory>,
     certificates: &[AttributeCertificate<'_>],
 ) -> Result<usize>
-    ensures { ReturnsAs (λ end. end) result
+    ensures { Returns result
         (outcome ((all_fit (length buffer.now) (all_certificate_pieces directory (map certificate_view certificates.now)), WriteFit) ∷ [])
         (certificates_end directory (map certificate_view certificates.now))) }
 {

@@ -4,7 +4,7 @@
 
 ghost use Rattle.std.specs.Prelude.{◌≡◌, ◌+◌, ◌*◌, [], ◌∷◌, IsTrue, OnOk, length};
 ghost use Rattle.pe_core.specs.Bytes.{holds};
-ghost use Rattle.pe_core.specs.Refusals.{Returns, ReturnsAs, WriteAlignment, WriteFit, WriteOverlap, WriteSection, outcome};
+ghost use Rattle.pe_core.specs.Refusals.{Returns, WriteAlignment, WriteFit, WriteOverlap, WriteSection, outcome};
 ghost use Rattle.pe_image.specs.Overlay.{all_fit};
 ghost use Rattle.pe_image.specs.Pieces.{all_section_pieces, header_width, in_a_row, lacking, section_pieces};
 ghost use Rattle.pe_image.specs.Writing.{ReturnsWritten, all_in_source, clash_free, is_unit, section_tests, sections_written};
@@ -62,7 +62,7 @@ impl<'a> SectionWriter<'a> {
     fn require_section(&self, buffer: &[u8], offset: usize, section: &SectionTable) -> Result<usize>
         requires unit { IsTrue (is_unit self.now.unit) }
         requires inside { IsTrue (holds self.now.source.now section.now.pointer_to_raw_data section.now.size_of_raw_data) }
-        ensures { ReturnsAs (λ end. end) result
+        ensures { Returns result
             (outcome ((all_fit (length buffer.now) (section_pieces self.now.source.now self.now.unit offset section.now), WriteFit) ∷ []) (offset + 40)) }
     {
         let start = section.pointer_to_raw_data as usize;
@@ -78,7 +78,7 @@ impl<'a> SectionWriter<'a> {
     pub fn require(&self, buffer: &[u8], start: usize) -> Result<usize>
         requires unit { IsTrue (is_unit self.now.unit) }
         requires inside { IsTrue (all_in_source self.now.source.now self.now.sections.now) }
-        ensures { ReturnsAs (λ end. end) result
+        ensures { Returns result
             (outcome ((all_fit (length buffer.now) (all_section_pieces self.now.source.now self.now.unit start self.now.sections.now), WriteFit) ∷ [])
             (start + 40 * length self.now.sections.now)) }
     {
@@ -122,7 +122,7 @@ impl<'a> SectionWriter<'a> {
     /// for a unit of 0; `WriteOverlap` if two unequal sections share a byte of the file; `WriteSection` if the data of
     /// one is not in `source`; `WriteFit` if the pieces don't all fit.
     pub fn require_all(&self, buffer: &[u8], start: usize) -> Result<usize>
-        ensures returned { ReturnsAs (λ end. end) result
+        ensures returned { Returns result
             (outcome ((is_unit self.now.unit, WriteAlignment)
             ∷ section_tests self.now.source.now self.now.sections.now (length buffer.now) (all_section_pieces self.now.source.now self.now.unit start self.now.sections.now))
             (start + 40 * length self.now.sections.now)) }

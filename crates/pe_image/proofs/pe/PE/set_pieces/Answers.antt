@@ -7,18 +7,18 @@ use Rattle.pe_image.proofs.pe.PE.set_pieces.Goals as goal
 
 pub set_headers-requires : goal.set_headers-requires
 set_headers-requires g c =
-    headers_fit_too (length c.args.buffer.now) (source_of c.args.self.now) (header_view c.args.self.now.header) (optional_header_view c.args.optional.now) c.args.self.now.sections.items (map certificate_view c.args.self.now.certificates.items) c.requires.fit
+    headers_fit_too (length c.args.buffer.now) c.args.unit (source_of c.args.self.now) (header_view c.args.self.now.header) (optional_header_view c.args.optional.now) c.args.self.now.sections.items (map certificate_view c.args.self.now.certificates.items) c.requires.fit
 
 pub set-requires-clause-fit : goal.set-requires-clause-fit
 set-requires-clause-fit g c =
-    sections_fit_too (length c.args.buffer.now) (length c.set_headers.new.buffer) (source_of c.args.self.now) (header_view c.args.self.now.header) (optional_header_view c.args.optional.now) c.args.self.now.sections.items (map certificate_view c.args.self.now.certificates.items) _ _ _ _
+    sections_fit_too (length c.args.buffer.now) (length c.set_headers.new.buffer) c.args.unit (source_of c.args.self.now) (header_view c.args.self.now.header) (optional_header_view c.args.optional.now) c.args.self.now.sections.items (map certificate_view c.args.self.now.certificates.items) _ _ _ _
     (omega (arith, c.set_headers.auto.buffer))
     (record { source_is = c.section_writer.ensures.source; unit_is = c.section_writer.ensures.unit; offset_is = c.sections_offset.ensures; sections_are = c.section_writer.ensures.sections })
     c.requires.fit
 
 pub set_table-requires : goal.set_table-requires
 set_table-requires g c =
-    certificates_fit_too (length c.args.buffer.now) (length c.set.new.buffer) (source_of c.args.self.now) (header_view c.args.self.now.header) (optional_header_view c.args.optional.now) c.args.self.now.sections.items (map certificate_view c.args.self.now.certificates.items) _ _
+    certificates_fit_too (length c.args.buffer.now) (length c.set.new.buffer) c.args.unit (source_of c.args.self.now) (header_view c.args.self.now.header) (optional_header_view c.args.optional.now) c.args.self.now.sections.items (map certificate_view c.args.self.now.certificates.items) _ _
     (omega (arith, c.set_headers.auto.buffer, c.set.auto.buffer))
     c.get_certificate_table-directory.ensures
     (ap (map certificate_view) c.deref.ensures.value)
@@ -26,7 +26,7 @@ set_table-requires g c =
 
 pub returns : goal.returns
 returns g c =
-    put_image c.args.buffer.now _ _ _ (source_of c.args.self.now) (header_view c.args.self.now.header) (optional_header_view c.args.optional.now) c.args.self.now.sections.items (map certificate_view c.args.self.now.certificates.items) _ _ _ _ _ _
+    put_image c.args.buffer.now _ _ _ c.args.unit (source_of c.args.self.now) (header_view c.args.self.now.header) (optional_header_view c.args.optional.now) c.args.self.now.sections.items (map certificate_view c.args.self.now.certificates.items) _ _ _ _ _ _
     (record { source_is = c.section_writer.ensures.source; unit_is = c.section_writer.ensures.unit; offset_is = c.sections_offset.ensures; sections_are = c.section_writer.ensures.sections })
     c.get_certificate_table-directory.ensures
     (ap (map certificate_view) c.deref.ensures.value)
