@@ -23,8 +23,10 @@ fn permissive() -> ParseOptions
 /// The debug data of an image, read permissively: what their own definition says, and nothing where that is absent or
 /// refused, whatever else is damaged. It follows from the law `headline`.
 pub fn debug_data<'a>(alloc: Global, bytes: &'a [u8]) -> Result<Option<DebugData<'a>>>
-    ensures { (c : CoreView) → core_of bytes.entry.now (record default_options { parse_mode = ParseMode.Permissive }) ≡ Ok c →
-        IfOk result (λ d. option_map debug_view d ≡ given_value (debug_of bytes.entry.now (record default_options { parse_mode = ParseMode.Permissive }) c)) }
+    ensures { (c : CoreView) → core_of bytes.entry.now
+        (record default_options { parse_mode = ParseMode.Permissive }) ≡ Ok c →
+        IfOk result (λ d. option_map debug_view d ≡ given_value (debug_of bytes.entry.now
+        (record default_options { parse_mode = ParseMode.Permissive }) c)) }
 {
     pe_image::laws::headline();
     let image = PE::parse_with_opts(alloc, bytes, &permissive())?;

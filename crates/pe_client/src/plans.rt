@@ -37,7 +37,8 @@ pub fn is_endless(
     sections: &[SectionTable],
     opts: &ParseOptions,
 ) -> Result<bool>
-    ensures { IfOk result (λ t. IsTrue t ↔ NeverEnds (links_of exceptions.now sections.now opts.now) exceptions.now.content function) }
+    ensures { IfOk result (λ t. IsTrue t ↔ NeverEnds
+        (links_of exceptions.now sections.now opts.now) exceptions.now.content function) }
 {
     match UnwindPlan::of_function(alloc, exceptions, function, sections, opts) {
         Ok(_) => return Ok(false),

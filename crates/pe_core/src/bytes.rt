@@ -26,7 +26,8 @@ pub fn require_bytes(bytes: &[u8], offset: usize, n: usize) -> Result<()>
 
 /// The `n` bytes from `offset` on. Error: `Short`.
 pub fn slice_at(bytes: &[u8], offset: usize, n: usize) -> Result<&[u8]>
-    ensures { ReturnsAs (λ s. s.now) result (record_at bytes.now offset n (range bytes.now offset n)) }
+    ensures { ReturnsAs
+        (λ s. s.now) result (record_at bytes.now offset n (range bytes.now offset n)) }
 {
     require_bytes(bytes, offset, n)?;
     Ok(&bytes[offset..offset + n])

@@ -85,7 +85,8 @@ impl ExportDirectoryTable {
 
 /// The image's name, if it has one.
 fn image_name<'a>(bytes: &'a [u8], rva: u32, sections: &SectionMap<'_>) -> Option<&'a str>
-    ensures { option_map (λ s. s.now) result ≡ image_name (offset_in sections.now) bytes.entry.now rva }
+    ensures { option_map
+        (λ s. s.now) result ≡ image_name (offset_in sections.now) bytes.entry.now rva }
 {
     if rva == 0 {
         return None;
@@ -101,7 +102,8 @@ fn table_at<'a>(
     size: usize,
     sections: &SectionMap<'_>,
 ) -> Result<&'a [u8]>
-    ensures { ReturnsAs (λ s. s.now) result (table_at (offset_in sections.now) bytes.entry.now rva size) }
+    ensures { ReturnsAs
+        (λ s. s.now) result (table_at (offset_in sections.now) bytes.entry.now rva size) }
 {
     if size == 0 {
         return Ok(&[]);
@@ -134,7 +136,8 @@ impl<'a> ExportData<'a> {
         sections: &[SectionTable],
         file_alignment: u32,
     ) -> Result<ExportData<'a>>
-        ensures { ReturnsAs export_data_view result (export_data_at (section_map default_options sections.now file_alignment) bytes.entry.now directory.virtual_address) }
+        ensures { ReturnsAs export_data_view result (export_data_at (section_map default_options
+            sections.now file_alignment) bytes.entry.now directory.virtual_address) }
     {
         ExportData::parse_with_opts(
             bytes,
@@ -156,7 +159,8 @@ impl<'a> ExportData<'a> {
         file_alignment: u32,
         opts: &ParseOptions,
     ) -> Result<ExportData<'a>>
-        ensures { ReturnsAs export_data_view result (export_data_at (section_map opts.now sections.now file_alignment) bytes.entry.now directory.virtual_address) }
+        ensures { ReturnsAs export_data_view result (export_data_at (section_map
+            opts.now sections.now file_alignment) bytes.entry.now directory.virtual_address) }
     {
         let sections = SectionMap::new(sections, file_alignment, opts);
         ExportData::parse_with_map(bytes, directory, &sections)
@@ -169,7 +173,8 @@ impl<'a> ExportData<'a> {
         directory: DataDirectory,
         sections: &SectionMap<'_>,
     ) -> Result<ExportData<'a>>
-        ensures { ReturnsAs export_data_view result (export_data_at (offset_in sections.now) bytes.entry.now directory.virtual_address) }
+        ensures { ReturnsAs export_data_view result
+            (export_data_at (offset_in sections.now) bytes.entry.now directory.virtual_address) }
     {
         let offset = sections.offset_of(directory.virtual_address)?;
         require_bytes(bytes, offset, SIZE_OF_EXPORT_DIRECTORY)?;
@@ -232,7 +237,9 @@ fn named_export<'a>(
 ) -> Option<Export<'a>>
     requires { IsWindow sections.now window.old }
     ensures window { IsWindow sections.now window.new }
-    ensures export { option_map export_view result ≡ option_and_then (named_export (offset_in sections.now) (export_data_view export_data.now) i) (option_map (λ s. s.now) name.entry) }
+    ensures export { option_map export_view result ≡ option_and_then
+        (named_export (offset_in sections.now) (export_data_view export_data.now) i)
+        (option_map (λ s. s.now) name.entry) }
 {
     let name = name?;
     let ordinal = ordinal_of(export_data.ordinals, i)?;
@@ -251,7 +258,8 @@ fn named_exports<'a, A: Allocator>(
     export_data: &ExportData<'_>,
     sections: &SectionMap<'_>,
 ) -> Result<Vec<Export<'a>, A>>
-    ensures { ReturnsUnlessMemory (λ v. map export_view v.items) result (Ok (exports_from (offset_in sections.now) (export_data_view export_data.now) 0 (texts_of names.now))) }
+    ensures { ReturnsUnlessMemory (λ v. map export_view v.items) result (Ok (exports_from
+        (offset_in sections.now) (export_data_view export_data.now) 0 (texts_of names.now))) }
 {
     let mut exports = Vec::with_capacity(alloc, names.len())?;
     let mut window = sections.no_window();
@@ -270,7 +278,8 @@ fn name_offsets<A: Allocator>(
     names: &[u8],
     sections: &SectionMap<'_>,
 ) -> std::result::Result<Vec<usize, A>, AllocError>
-    ensures { IfOk result (λ v. v.items ≡ each (λ i. offset_or_end (offset_in sections.now (le names.now (4 * i) 4))) (length names.now / 4)) }
+    ensures { IfOk result (λ v. v.items ≡ each (λ i.
+        offset_or_end (offset_in sections.now (le names.now (4 * i) 4))) (length names.now / 4)) }
 {
     let count = names.len() / 4;
     let mut offsets = Vec::with_capacity(alloc, count)?;
@@ -293,7 +302,9 @@ impl<'a> Export<'a> {
         file_alignment: u32,
         opts: &ParseOptions,
     ) -> Result<Vec<Export<'a>, A>>
-        ensures { ReturnsUnlessMemory (λ v. map export_view v.items) result (Ok (exports (section_map opts.now sections.now file_alignment) bytes.entry.now (export_data_view export_data.now))) }
+        ensures { ReturnsUnlessMemory (λ v. map export_view v.items) result
+            (Ok (exports (section_map opts.now sections.now file_alignment) bytes.entry.now
+            (export_data_view export_data.now))) }
     {
         let index = SectionIndex::new(alloc, sections, file_alignment, opts)?;
         Export::parse_with_map(alloc, bytes, export_data, &index.map())
@@ -307,7 +318,8 @@ impl<'a> Export<'a> {
         export_data: &ExportData<'_>,
         sections: &SectionMap<'_>,
     ) -> Result<Vec<Export<'a>, A>>
-        ensures { ReturnsUnlessMemory (λ v. map export_view v.items) result (Ok (exports (offset_in sections.now) bytes.entry.now (export_data_view export_data.now))) }
+        ensures { ReturnsUnlessMemory (λ v. map export_view v.items) result (Ok
+            (exports (offset_in sections.now) bytes.entry.now (export_data_view export_data.now))) }
     {
         let offsets = name_offsets(alloc, export_data.names, sections)?;
         // All names at once: many of them may lie in one long text.

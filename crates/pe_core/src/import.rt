@@ -131,7 +131,8 @@ pub fn lookup_number(bytes: &[u8], offset: usize, is_64: bool) -> u64
 /// (`is_64`), 4 in PE32. Error: `Short` if no zero entry ends them.
 #[tactic(auto, using(crate::proofs::ImportLists::entries_read))]
 pub fn lookups_at(bytes: &[u8], offset: usize, is_64: bool) -> Result<&[u8]>
-    ensures { ReturnsAs (λ s. s.now) result (lookups_at (entry_size is_64) bytes.now (Some offset)) }
+    ensures { ReturnsAs
+        (λ s. s.now) result (lookups_at (entry_size is_64) bytes.now (Some offset)) }
 {
     let size = lookup_size(is_64);
     let mut count = 0;
@@ -152,7 +153,8 @@ fn lookups_of<'a>(
     sections: &SectionMap<'_>,
     is_64: bool,
 ) -> Result<&'a [u8]>
-    ensures { ReturnsAs (λ s. s.now) result (lookups_at (entry_size is_64) bytes.entry.now (offset_in sections.now (lookups_rva entry.now))) }
+    ensures { ReturnsAs (λ s. s.now) result (lookups_at
+        (entry_size is_64) bytes.entry.now (offset_in sections.now (lookups_rva entry.now))) }
 {
     match sections.find(entry.lookups_rva() as usize) {
         Some(offset) => lookups_at(bytes, offset, is_64),
@@ -170,8 +172,10 @@ fn import_record<'a>(
     sections: &SectionMap<'_>,
     is_64: bool,
 ) -> Result<SyntheticImportDirectoryEntry<'a>>
-    requires { option_map (λ s. s.now) name ≡ option_and_then (text_at bytes.now) (offset_in sections.now entry.name_rva) }
-    ensures { ReturnsAs (λ r. Some (import_record_view r)) result (import_record (offset_in sections.now) (entry_size is_64) bytes.entry.now entry) }
+    requires { option_map (λ s. s.now) name ≡ option_and_then (text_at bytes.now)
+        (offset_in sections.now entry.name_rva) }
+    ensures { ReturnsAs (λ r. Some (import_record_view r)) result
+        (import_record (offset_in sections.now) (entry_size is_64) bytes.entry.now entry) }
 {
     sections.offset_of(entry.name_rva)?;
     let Some(name) = name else {
@@ -215,7 +219,8 @@ fn name_offsets<A: Allocator>(
     sections: &SectionMap<'_>,
 ) -> std::result::Result<Vec<usize, A>, AllocError>
     requires { StandInFront bytes.now offset count }
-    ensures { IfOk result (λ v. v.items ≡ each (λ i. offset_or_end (offset_in sections.now (import_entry bytes.now (offset + 20 * i)).name_rva)) count) }
+    ensures { IfOk result (λ v. v.items ≡ each (λ i. offset_or_end
+        (offset_in sections.now (import_entry bytes.now (offset + 20 * i)).name_rva)) count) }
 {
     let mut offsets = Vec::with_capacity(alloc, count)?;
     for i in 0..count {
@@ -237,7 +242,8 @@ fn named_records<'a, A: Allocator>(
 ) -> Result<Vec<SyntheticImportDirectoryEntry<'a>, A>>
     requires stand { StandInFront bytes.now offset (length names.now) }
     requires names { AreNames (offset_in sections.now) bytes.now offset names.now }
-    ensures { ReturnsUnlessMemory (λ v. map import_record_view v.items) result (import_records (offset_in sections.now) (entry_size is_64) bytes.entry.now offset) }
+    ensures { ReturnsUnlessMemory (λ v. map import_record_view v.items) result
+        (import_records (offset_in sections.now) (entry_size is_64) bytes.entry.now offset) }
 {
     let mut records = Vec::with_capacity(alloc, names.len())?;
     for (i, name) in names.iter().enumerate() {
@@ -258,7 +264,8 @@ fn records_at<'a, A: Allocator + Copy + Drop>(
     sections: &SectionMap<'_>,
     is_64: bool,
 ) -> Result<Vec<SyntheticImportDirectoryEntry<'a>, A>>
-    ensures { ReturnsUnlessMemory (λ v. map import_record_view v.items) result (import_records (offset_in sections.now) (entry_size is_64) bytes.entry.now offset) }
+    ensures { ReturnsUnlessMemory (λ v. map import_record_view v.items) result
+        (import_records (offset_in sections.now) (entry_size is_64) bytes.entry.now offset) }
 {
     let count = count_records(bytes, offset);
     let offsets = name_offsets(alloc, bytes, offset, count, sections)?;
@@ -272,7 +279,8 @@ fn names_of<'a, A: Allocator>(
     alloc: A,
     records: &[SyntheticImportDirectoryEntry<'a>],
 ) -> std::result::Result<Vec<&'a str, A>, AllocError>
-    ensures { IfOk result (λ v. map (λ s. s.now) v.items ≡ map (λ r. r.name) (map import_record_view records.now)) }
+    ensures { IfOk result
+        (λ v. map (λ s. s.now) v.items ≡ map (λ r. r.name) (map import_record_view records.now)) }
 {
     let mut names = Vec::with_capacity(alloc, records.len())?;
     for imported in records {
@@ -300,8 +308,10 @@ impl<'a, A: Allocator + Copy + Drop> ImportData<'a, A> {
         file_alignment: u32,
         is_64: bool,
     ) -> Result<ImportData<'a, A>>
-        ensures { ReturnsUnlessMemoryAfter (mapped (section_map default_options sections.now file_alignment directory.virtual_address)) import_data_view result
-            (import_data_at (section_map default_options sections.now file_alignment) (entry_size is_64) bytes.entry.now directory.virtual_address) }
+        ensures { ReturnsUnlessMemoryAfter (mapped (section_map default_options
+            sections.now file_alignment directory.virtual_address)) import_data_view result
+            (import_data_at (section_map default_options sections.now file_alignment)
+            (entry_size is_64) bytes.entry.now directory.virtual_address) }
     {
         ImportData::parse_with_opts(
             alloc,
@@ -330,8 +340,11 @@ impl<'a, A: Allocator + Copy + Drop> ImportData<'a, A> {
         opts: &ParseOptions,
         is_64: bool,
     ) -> Result<ImportData<'a, A>>
-        ensures { ReturnsUnlessMemoryAfter (mapped (section_map opts.now sections.now file_alignment directory.virtual_address)) import_data_view result
-            (import_data_at (section_map opts.now sections.now file_alignment) (entry_size is_64) bytes.entry.now directory.virtual_address) }
+        ensures { ReturnsUnlessMemoryAfter
+            (mapped (section_map opts.now sections.now file_alignment directory.virtual_address))
+            import_data_view result
+            (import_data_at (section_map opts.now sections.now file_alignment)
+            (entry_size is_64) bytes.entry.now directory.virtual_address) }
     {
         // Before the index, which allocates: an unmapped directory is `Unmapped` whether or not memory is left.
         let offset = mapped_offset(directory.virtual_address, sections, file_alignment, opts)?;
@@ -348,8 +361,10 @@ impl<'a, A: Allocator + Copy + Drop> ImportData<'a, A> {
         sections: &SectionMap<'_>,
         is_64: bool,
     ) -> Result<ImportData<'a, A>>
-        ensures { ReturnsUnlessMemoryAfter (mapped (offset_in sections.now directory.virtual_address)) import_data_view result
-            (import_data_at (offset_in sections.now) (entry_size is_64) bytes.entry.now directory.virtual_address) }
+        ensures { ReturnsUnlessMemoryAfter
+            (mapped (offset_in sections.now directory.virtual_address)) import_data_view result
+            (import_data_at (offset_in sections.now)
+            (entry_size is_64) bytes.entry.now directory.virtual_address) }
     {
         let offset = sections.offset_of(directory.virtual_address)?;
         let import_data = records_at(alloc, bytes, offset, sections, is_64)?;
@@ -358,7 +373,8 @@ impl<'a, A: Allocator + Copy + Drop> ImportData<'a, A> {
 
     /// The names of the imported DLLs, sorted by their bytes, each once. Error: `Memory`.
     pub fn libraries(&self, alloc: A) -> Result<Vec<&'a str, A>>
-        ensures listed { IfOk result (λ v. AreLibraries (map (λ r. r.name) (import_data_view self.now)) (map (λ s. s.now) v.items)) }
+        ensures listed { IfOk result (λ v. AreLibraries
+            (map (λ r. r.name) (import_data_view self.now)) (map (λ s. s.now) v.items)) }
         ensures refused { IfErr result (λ error. error ≡ Memory record {}) }
     {
         let mut names = names_of(alloc, &self.import_data)?;

@@ -77,7 +77,9 @@ fn push_entries<'a, A: Allocator>(
     is_64: bool,
     entries: &mut Vec<Entry<'a>, A>,
 ) -> std::result::Result<(), AllocError>
-    ensures { OnOk result (map entry_view entries.new.items ≡ map entry_view entries.old.items ++ each (import_entry_at (entry_size is_64) (import_record_view imported.now)) (length imported.now.lookups.now / entry_size is_64)) }
+    ensures { OnOk result (map entry_view entries.new.items ≡ map entry_view entries.old.items
+        ++ each (import_entry_at (entry_size is_64) (import_record_view imported.now))
+        (length imported.now.lookups.now / entry_size is_64)) }
 {
     let size = lookup_size(is_64);
     let rva = u64::from(imported.import_directory_entry.address_table_rva);
@@ -98,7 +100,8 @@ fn entries_of<'a, A: Allocator>(
     records: &[SyntheticImportDirectoryEntry<'a>],
     is_64: bool,
 ) -> std::result::Result<Vec<Entry<'a>, A>, AllocError>
-    ensures { IfOk result (λ v. map entry_view v.items ≡ import_entries (entry_size is_64) (map import_record_view records.now)) }
+    ensures { IfOk result (λ v. map entry_view v.items ≡ import_entries (entry_size is_64)
+        (map import_record_view records.now)) }
 {
     let mut entries = Vec::new(alloc);
     for record in records {
@@ -114,7 +117,8 @@ fn entry_offsets<A: Allocator>(
     sections: &SectionMap<'_>,
     is_64: bool,
 ) -> std::result::Result<Vec<usize, A>, AllocError>
-    ensures { IfOk result (λ v. v.items ≡ map (hint_offset_of (offset_in sections.now) (entry_size is_64)) (map entry_view entries.now)) }
+    ensures { IfOk result (λ v. v.items ≡ map
+        (hint_offset_of (offset_in sections.now) (entry_size is_64)) (map entry_view entries.now)) }
 {
     let mut offsets = Vec::with_capacity(alloc, entries.len())?;
     let mut window = sections.no_window();
@@ -144,9 +148,11 @@ fn import_of<'a>(
     is_64: bool,
 ) -> Result<Import<'a>>
     requires window { IsWindow sections.now window.old }
-    requires name { option_map (λ s. s.now) name ≡ text_at bytes.now (hint_offset_of (offset_in sections.now) (entry_size is_64) (entry_view entry.now)) }
+    requires name { option_map (λ s. s.now) name ≡ text_at bytes.now
+        (hint_offset_of (offset_in sections.now) (entry_size is_64) (entry_view entry.now)) }
     ensures window { IsWindow sections.now window.new }
-    ensures import { ReturnsAs import_view result (import_of (offset_in sections.now) (entry_size is_64) bytes.entry.now (entry_view entry.entry.now)) }
+    ensures import { ReturnsAs import_view result (import_of (offset_in sections.now)
+        (entry_size is_64) bytes.entry.now (entry_view entry.entry.now)) }
 {
     let Entry { dll, rva, .. } = *entry;
     if entry.is_ordinal(is_64) {
@@ -184,8 +190,11 @@ fn named_imports<'a, A: Allocator>(
     is_64: bool,
 ) -> Result<Vec<Import<'a>, A>>
     requires many { length names.now ≡ length entries.now }
-    requires names { AreEntryNames (offset_in sections.now) (entry_size is_64) bytes.now entries.now names.now }
-    ensures { ReturnsUnlessMemory (λ v. map import_view v.items) result (all_or_refusal (map (import_of (offset_in sections.now) (entry_size is_64) bytes.entry.now) (map entry_view entries.now))) }
+    requires names { AreEntryNames (offset_in sections.now)
+        (entry_size is_64) bytes.now entries.now names.now }
+    ensures { ReturnsUnlessMemory (λ v. map import_view v.items) result
+        (all_or_refusal (map (import_of (offset_in sections.now) (entry_size is_64) bytes.entry.now)
+        (map entry_view entries.now))) }
 {
     let mut imports = Vec::with_capacity(alloc, entries.len())?;
     let mut window = sections.no_window();
@@ -213,7 +222,9 @@ impl<'a> Import<'a> {
         opts: &ParseOptions,
         is_64: bool,
     ) -> Result<Vec<Import<'a>, A>>
-        ensures { ReturnsUnlessMemory (λ v. map import_view v.items) result (imports (section_map opts.now sections.now file_alignment) (entry_size is_64) bytes.entry.now (import_data_view import_data.now)) }
+        ensures { ReturnsUnlessMemory (λ v. map import_view v.items) result
+            (imports (section_map opts.now sections.now file_alignment)
+            (entry_size is_64) bytes.entry.now (import_data_view import_data.now)) }
     {
         let index = SectionIndex::new(alloc, sections, file_alignment, opts)?;
         Import::parse_with_map(alloc, bytes, import_data, &index.map(), is_64)
@@ -228,7 +239,9 @@ impl<'a> Import<'a> {
         sections: &SectionMap<'_>,
         is_64: bool,
     ) -> Result<Vec<Import<'a>, A>>
-        ensures { ReturnsUnlessMemory (λ v. map import_view v.items) result (imports (offset_in sections.now) (entry_size is_64) bytes.entry.now (import_data_view import_data.now)) }
+        ensures { ReturnsUnlessMemory
+            (λ v. map import_view v.items) result (imports (offset_in sections.now)
+            (entry_size is_64) bytes.entry.now (import_data_view import_data.now)) }
     {
         let entries = entries_of(alloc, &import_data.import_data, is_64)?;
         let offsets = entry_offsets(alloc, &entries, sections, is_64)?;

@@ -15,40 +15,53 @@ ghost use Rattle.pe_core.specs.Spelling.{spell_dos, spell_coff, spell_standard_f
 /// A number that is written at an offset, where it fits, is read there again.
 #[tactic(auto, using(crate::proofs::PutNumbers::numbers))]
 pub fn numbers_that_are_put_are_read_again()
-    ensures { (b : List ℕ) (p n number : ℕ) → p + n ≤ length b → number < 256 ^ n → le (put b p (bytes_of n number)) p n ≡ number }
+    ensures { (b : List ℕ) (p n number : ℕ) →
+        p + n ≤ length b → number < 256 ^ n → le (put b p (bytes_of n number)) p n ≡ number }
 {}
 
 /// A record that is read at an offset spells the bytes at that offset, whatever they are.
 #[tactic(auto, using(crate::proofs::SpelledRecords::spelled_dos, crate::proofs::SpelledRecords::spelled_coff, crate::proofs::SpelledRecords::spelled_standard_fields_32, crate::proofs::SpelledRecords::spelled_standard_fields_64, crate::proofs::SpelledRecords::spelled_windows_fields_32, crate::proofs::SpelledRecords::spelled_windows_fields_64, crate::proofs::SpelledRecords::spelled_directory, crate::proofs::SpelledRecords::spelled_section, crate::proofs::SpelledRecords::spelled_te))]
 pub fn records_spell_their_bytes()
-    ensures dos { (b : List ℕ) (p : ℕ) → AreBytes b → p + 64 ≤ length b → spell_dos (dos_header b p) ≡ range b p 64 }
-    ensures coff { (b : List ℕ) (p : ℕ) → AreBytes b → p + 20 ≤ length b → spell_coff (coff_header b p) ≡ range b p 20 }
-    ensures standard_fields_32 { (b : List ℕ) (p : ℕ) → AreBytes b → p + 28 ≤ length b → spell_standard_fields_32 (standard_fields_32 b p) ≡ range b p 28 }
-    ensures standard_fields_64 { (b : List ℕ) (p : ℕ) → AreBytes b → p + 24 ≤ length b → spell_standard_fields_64 (standard_fields_64 b p) ≡ range b p 24 }
-    ensures windows_fields_32 { (b : List ℕ) (p : ℕ) → AreBytes b → p + 68 ≤ length b → spell_windows_fields_32 (windows_fields_32 b p) ≡ range b p 68 }
-    ensures windows_fields_64 { (b : List ℕ) (p : ℕ) → AreBytes b → p + 88 ≤ length b → spell_windows_fields_64 (windows_fields_64 b p) ≡ range b p 88 }
-    ensures directory { (b : List ℕ) (p : ℕ) → AreBytes b → p + 8 ≤ length b → spell_directory (data_directory b p) ≡ range b p 8 }
-    ensures section { (b : List ℕ) (p : ℕ) → AreBytes b → p + 40 ≤ length b → spell_section (section_table b p) ≡ range b p 40 }
-    ensures te { (b : List ℕ) (p : ℕ) → AreBytes b → p + 40 ≤ length b → spell_te (te_header b p) ≡ range b p 40 }
+    ensures dos { (b : List ℕ) (p : ℕ) →
+        AreBytes b → p + 64 ≤ length b → spell_dos (dos_header b p) ≡ range b p 64 }
+    ensures coff { (b : List ℕ) (p : ℕ) →
+        AreBytes b → p + 20 ≤ length b → spell_coff (coff_header b p) ≡ range b p 20 }
+    ensures standard_fields_32 { (b : List ℕ) (p : ℕ) → AreBytes b →
+        p + 28 ≤ length b → spell_standard_fields_32 (standard_fields_32 b p) ≡ range b p 28 }
+    ensures standard_fields_64 { (b : List ℕ) (p : ℕ) → AreBytes b →
+        p + 24 ≤ length b → spell_standard_fields_64 (standard_fields_64 b p) ≡ range b p 24 }
+    ensures windows_fields_32 { (b : List ℕ) (p : ℕ) → AreBytes b →
+        p + 68 ≤ length b → spell_windows_fields_32 (windows_fields_32 b p) ≡ range b p 68 }
+    ensures windows_fields_64 { (b : List ℕ) (p : ℕ) → AreBytes b →
+        p + 88 ≤ length b → spell_windows_fields_64 (windows_fields_64 b p) ≡ range b p 88 }
+    ensures directory { (b : List ℕ) (p : ℕ) →
+        AreBytes b → p + 8 ≤ length b → spell_directory (data_directory b p) ≡ range b p 8 }
+    ensures section { (b : List ℕ) (p : ℕ) →
+        AreBytes b → p + 40 ≤ length b → spell_section (section_table b p) ≡ range b p 40 }
+    ensures te { (b : List ℕ) (p : ℕ) →
+        AreBytes b → p + 40 ≤ length b → spell_te (te_header b p) ≡ range b p 40 }
 {}
 
 /// An optional header that is accepted at an offset spells the bytes at that offset.
 #[tactic(auto, using(crate::proofs::SpelledOptional::spelled_optional))]
 pub fn optional_headers_spell_their_bytes()
-    ensures { (b : List ℕ) (p : ℕ) (o : OptionalHeaderView) → AreBytes b → optional_header_at b p ≡ Ok o → range b p (length (spell_optional o)) ≡ spell_optional o }
+    ensures { (b : List ℕ) (p : ℕ) (o : OptionalHeaderView) → AreBytes b →
+        optional_header_at b p ≡ Ok o → range b p (length (spell_optional o)) ≡ spell_optional o }
 {}
 
 /// Headers that strict mode accepts are those that permissive mode returns.
 #[tactic(auto, using(crate::proofs::Modes::strict_header))]
 pub fn strict_headers_are_permissive()
-    ensures { (b : List ℕ) (h : HeaderView) → header_at b ParseMode.Strict ≡ Ok h → header_at b ParseMode.Permissive ≡ Ok h }
+    ensures { (b : List ℕ) (h : HeaderView) →
+        header_at b ParseMode.Strict ≡ Ok h → header_at b ParseMode.Permissive ≡ Ok h }
 {}
 
 /// Steps never stop if there are more of them than keys, where each state with a next one has a key below a number and
 /// the states after equal keys are equal. Where equal keys have the same step, steps never stop if a key comes again.
 pub fn steps_that_never_stop<X>()
-    ensures more { (step : X → Option X) (key : X → ℕ) (n : ℕ) (x : X) →
-        FollowsKey step key → HasKeysBelow step key n → IsSome (after step (n + 1) x) → NeverStops step x }
+    ensures more { (step : X → Option X) (key : X → ℕ) (n : ℕ) (x : X) → FollowsKey step key →
+        HasKeysBelow step key n → IsSome (after step (n + 1) x) → NeverStops step x }
     ensures again { (step : X → Option X) (key : X → ℕ) (x y z : X) (i d : ℕ) →
-        KeyDecides step key → after step i x ≡ Some y → after step (d + 1) y ≡ Some z → key y ≡ key z → NeverStops step x }
+        KeyDecides step key → after step i x ≡ Some y →
+        after step (d + 1) y ≡ Some z → key y ≡ key z → NeverStops step x }
 {}

@@ -101,7 +101,8 @@ fn run_from(bytes: &[u8], start: usize) -> Run<'_>
 #[tactic(auto, unfolding(crate::specs::TextRuns::last_of))]
 fn text_of_run<'a>(run: &Run<'a>, offset: usize) -> Option<&'a str>
     requires { offset ≤ run.now.end }
-    ensures { option_map (λ s. s.now) result ≡ last_of (option_map (λ s. s.now) run.now.text) (run.now.end - offset) }
+    ensures { option_map (λ s. s.now) result ≡ last_of (option_map (λ s. s.now) run.now.text)
+        (run.now.end - offset) }
 {
     let n = run.end - offset;
     match run.text {
@@ -202,7 +203,8 @@ pub(crate) fn texts_at<'a, A: Allocator + Copy + Drop>(
     bytes: &'a [u8],
     offsets: &[usize],
 ) -> Result<Vec<Option<&'a str>, A>, AllocError>
-    ensures { IfOk result (λ texts. texts_of texts.items ≡ map (text_at bytes.entry.now) offsets.now) }
+    ensures { IfOk result
+        (λ texts. texts_of texts.items ≡ map (text_at bytes.entry.now) offsets.now) }
 {
     let mut texts = Vec::with_capacity(alloc, offsets.len())?;
     push_first_texts(bytes, offsets, &mut texts)?;

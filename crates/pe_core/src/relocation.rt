@@ -28,8 +28,8 @@ impl<'a> RelocationData<'a> {
         sections: &[SectionTable],
         file_alignment: u32,
     ) -> Result<RelocationData<'a>>
-        ensures { ReturnsAs (λ r. r.bytes.now) result
-            (directory_bytes default_options bytes.entry.now directory sections.now file_alignment) }
+        ensures { ReturnsAs (λ r. r.bytes.now) result (directory_bytes
+            default_options bytes.entry.now directory sections.now file_alignment) }
     {
         RelocationData::parse_with_opts(
             bytes,

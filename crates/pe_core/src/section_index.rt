@@ -36,7 +36,8 @@ impl<'a> Model for SectionMap<'a> {
 
     ghost view = { λ s. map_view s.opts s.sections.now s.file_alignment };
 
-    ghost invariant = { λ s. IfSome s.pieces (λ v. Agrees s.opts.resolve_rva s.file_alignment s.sections.now v.now) };
+    ghost invariant = { λ s.
+        IfSome s.pieces (λ v. Agrees s.opts.resolve_rva s.file_alignment s.sections.now v.now) };
 }
 
 impl<'a> SectionMap<'a> {
@@ -176,7 +177,8 @@ impl<'a, A: Allocator> Model for SectionIndex<'a, A> {
 
     ghost view = { λ s. map_view s.opts s.sections.now s.file_alignment };
 
-    ghost invariant = { λ s. IfSome s.pieces (λ v. Agrees s.opts.resolve_rva s.file_alignment s.sections.now v.items) };
+    ghost invariant = { λ s.
+        IfSome s.pieces (λ v. Agrees s.opts.resolve_rva s.file_alignment s.sections.now v.items) };
 }
 
 impl<'a, A: Allocator> SectionIndex<'a, A> {
@@ -189,7 +191,8 @@ impl<'a, A: Allocator> SectionIndex<'a, A> {
     ) -> Result<Self>
     where
         A: Copy,
-        ensures made { IfOk result (λ index. index ≡ map_view opts.now sections.entry.now file_alignment) }
+        ensures made { IfOk result
+            (λ index. index ≡ map_view opts.now sections.entry.now file_alignment) }
         ensures refused { IfErr result (λ error. error ≡ Memory record {}) }
     {
         // Otherwise no section is searched: an RVA is its own offset, or every RVA is unmapped.

@@ -127,8 +127,9 @@ impl CoffHeader {
         bytes: &[u8],
         offset: usize,
     ) -> Result<Vec<SectionTable, A>>
-        ensures { ReturnsUnlessMemoryAfter (sections_at bytes.now offset self.now.number_of_sections) (λ v. v.items)
-            result (sections_at bytes.now offset self.now.number_of_sections) }
+        ensures { ReturnsUnlessMemoryAfter
+            (sections_at bytes.now offset self.now.number_of_sections)
+            (λ v. v.items) result (sections_at bytes.now offset self.now.number_of_sections) }
     {
         let count = self.number_of_sections as usize;
         // A count of 0 reads nothing, so any offset will do.
@@ -206,8 +207,8 @@ impl<'a> Header<'a> {
     /// The section headers of the image, whose bytes are passed. Errors, in both modes, in order: `Short` (the section
     /// headers are truncated), `Memory`.
     pub fn sections<A: Allocator>(&self, alloc: A, bytes: &[u8]) -> Result<Vec<SectionTable, A>>
-        ensures { ReturnsUnlessMemoryAfter (sections_of bytes.now (header_view self.now)) (λ v. v.items)
-            result (sections_of bytes.now (header_view self.now)) }
+        ensures { ReturnsUnlessMemoryAfter (sections_of bytes.now (header_view self.now))
+            (λ v. v.items) result (sections_of bytes.now (header_view self.now)) }
     {
         self.coff_header
             .sections(alloc, bytes, self.sections_offset())

@@ -70,7 +70,8 @@ fn first_string(bytes: &[u8], table_size: usize) -> Result<(&str, &[u8])>
 /// UTF-8.
 #[tactic(auto, using(crate::proofs::Pieces::no_pieces, crate::proofs::Pieces::room))]
 fn count_strings(bytes: &[u8], table_size: usize) -> Result<usize>
-    ensures { Returns result (outcome ((list_all is_utf8 (pieces bytes.now), StringTable) ∷ []) (length (pieces bytes.now))) }
+    ensures { Returns result (outcome ((list_all is_utf8 (pieces bytes.now), StringTable) ∷ [])
+        (length (pieces bytes.now))) }
 {
     let mut rest = bytes;
     let mut count = 0;
@@ -120,8 +121,8 @@ impl<'a> Strtab<'a> {
     /// Errors, in order: `StringTable` (one is not UTF-8), `Memory`.
     #[tactic(auto, using(crate::proofs::Pieces::no_pieces, std::proofs::lemmas::Grind::common_steps))]
     pub fn to_vec<A: Allocator>(&self, alloc: A) -> Result<Vec<&'a str, A>>
-        ensures { ReturnsUnlessMemoryAfter (all_strings self.now.bytes.now) (λ v. map (λ s. s.now) v.items)
-            result (all_strings self.now.bytes.now) }
+        ensures { ReturnsUnlessMemoryAfter (all_strings self.now.bytes.now)
+            (λ v. map (λ s. s.now) v.items) result (all_strings self.now.bytes.now) }
     {
         let table_size = self.bytes.len();
         let mut rest = from_offset(self.bytes, SIZE_FIELD);

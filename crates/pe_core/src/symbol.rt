@@ -131,7 +131,8 @@ impl<'a> Iterator for SymbolIterator<'a> {
 
     type Item = (usize, Option<&'a str>, Symbol);
 
-    ghost next_gives = { λ s r t. ReturnsSymbol (symbol_bytes s) (row_at s) r (row_at t) × (symbol_bytes t ≡ symbol_bytes s) };
+    ghost next_gives = { λ s r t. ReturnsSymbol (symbol_bytes s) (row_at s) r (row_at t)
+        × (symbol_bytes t ≡ symbol_bytes s) };
 
     ghost remaining = { λ s. at_most (row_count (symbol_bytes s) - row_at s) };
 

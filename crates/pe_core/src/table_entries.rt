@@ -79,9 +79,14 @@ impl<'a, E: TableEntry> Iterator for TableEntries<'a, E> {
     }
 
     fn size_hint(&self) -> (usize, Option<usize>)
-        ensures lower { IsWithinCount result.0 (item_count (items_left E.entry_at E.SIZE) self.now) }
-        ensures upper { IfSome result.1 (UpTo (item_count (items_left E.entry_at E.SIZE) self.now)) }
-        ensures exact { result ≡ (length (items_left E.entry_at E.SIZE self.now), Some (length (items_left E.entry_at E.SIZE self.now))) }
+        ensures lower { IsWithinCount result.0
+            (item_count (items_left E.entry_at E.SIZE) self.now) }
+        ensures upper { IfSome result.1
+            (UpTo (item_count (items_left E.entry_at E.SIZE) self.now)) }
+        ensures exact { result ≡ (
+          length (items_left E.entry_at E.SIZE self.now),
+          Some (length (items_left E.entry_at E.SIZE self.now)),
+        ) }
     {
         let entries = self.len();
         (entries, Some(entries))

@@ -1,10 +1,9 @@
 -- All pieces of an image.
 use Rattle.std.proofs.Common.{◌≡◌, ℕ, ◌<◌, ◌&&◌, Bool, true, false, Err, List, [], ◌∷◌, ◌++◌, refl, ap, sym, ◌∙◌, arith}
-use Rattle.std.specs.Prelude.{Option, Some, None}
+use Rattle.std.specs.Prelude.{Option}
 use Rattle.std.specs.Int.{is_power_of_two}
 use Rattle.std.proofs.lemmas.Bool.{eqb-true}
 use Rattle.std.proofs.lemmas.Nat.{ones_le_self}
-use Rattle.pe_core.specs.Bytes.{splice}
 use Rattle.pe_core.specs.Header.{HeaderView, OptionalHeaderView}
 use Rattle.pe_core.specs.Refusals.{Refusal, WriteFit, outcome}
 use Rattle.pe_core.specs.Sections.{sections_offset}
@@ -13,7 +12,7 @@ use Rattle.pe_core.specs.declared.section_table.SectionTable.{SectionTable}
 use Rattle.pe_records.specs.Certificates.{CertificateView}
 use Rattle.pe_image.specs.Overlay.{Piece, all_fit}
 use Rattle.pe_image.specs.Pieces.{all_certificate_pieces, all_section_pieces, header_pieces}
-use Rattle.pe_image.specs.Writing.{certificate_directory, padded_pieces, whole_pieces}
+use Rattle.pe_image.specs.Writing.{certificate_directory, padded_pieces}
 use Rattle.pe_image.specs.WritingSteps.{put_in_turn}
 use Rattle.pe_image.proofs.Overlays.{put_append}
 use Rattle.pe_image.proofs.Rows.{all_fit_append, and_left, and_right, refused_if, unfit_if}
@@ -60,15 +59,6 @@ put_image old one two three u b h o sections cs given d source unit offset ss is
     let a = put_append (header_pieces h o ++ section_part u b h sections) (all_certificate_pieces (certificate_directory o) cs) old in
     let c = put_append (header_pieces h o) (section_part u b h sections) old in
     cc
-
--- the file is put first, and the image over it
-pub put_whole : (old one two b : List ℕ) (h : HeaderView) (o : OptionalHeaderView) (sections : List SectionTable) (cs : List CertificateView) → one ≡ splice old 0 b → two ≡ put_in_turn one (padded_pieces None b h o sections cs) → two ≡ put_in_turn old (whole_pieces b h o sections cs)
-unfolding put_in_turn
-put_whole old one two b h o sections cs e f = f ∙ ap (λ (s : List ℕ). put_in_turn s (padded_pieces None b h o sections cs)) e
-
--- what fits over the file fits without it
-pub over_file_fits : (n : ℕ) (x : Piece) (xs : List Piece) → all_fit n (x ∷ xs) ≡ true → all_fit n xs ≡ true
-over_file_fits n x xs h = and_right _ _ h
 
 and_false : (a : Bool) → (a && false) ≡ false
 and_false true = refl

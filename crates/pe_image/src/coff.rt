@@ -30,7 +30,8 @@ impl<'a, A: Allocator + Copy + Drop> Coff<'a, A> {
     /// are truncated; `Memory`; `Short` if the symbols are truncated; `StringTable` if the string table is.
     #[tactic(auto, unfolding(crate::specs::Objects::object_of))]
     pub fn parse(alloc: A, bytes: &'a [u8]) -> Result<Coff<'a, A>>
-        ensures { ReturnsUnlessMemoryAfter (sections_of_object bytes.entry.now) object_view result (object_of bytes.entry.now) }
+        ensures { ReturnsUnlessMemoryAfter
+            (sections_of_object bytes.entry.now) object_view result (object_of bytes.entry.now) }
     {
         let header = CoffHeader::parse(bytes, 0)?;
         // The section table follows the optional header, which an object usually doesn't have.

@@ -40,8 +40,10 @@ fn sections<A: Allocator + Copy + Drop>(
     bytes: &[u8],
     header: &Header<'_>,
 ) -> Result<Vec<SectionTable, A>>
-    ensures sections { ReturnsUnlessMemoryAfter (sections_of bytes.now (header_view header.now)) (λ v. v.items) result (sections_of bytes.now (header_view header.now)) }
-    ensures memory { MemoryOnlyIf (0 < (header_view header.now).coff_header.number_of_sections) result }
+    ensures sections { ReturnsUnlessMemoryAfter (sections_of bytes.now (header_view header.now))
+        (λ v. v.items) result (sections_of bytes.now (header_view header.now)) }
+    ensures memory { MemoryOnlyIf
+        (0 < (header_view header.now).coff_header.number_of_sections) result }
 {
     // Memory is asked for only if there are sections.
     if header.coff_header.number_of_sections == 0 {
@@ -57,7 +59,8 @@ fn export_data<'a>(
     sections: &[SectionTable],
     layout: &Layout,
 ) -> Option<ExportData<'a>>
-    ensures { option_map export_data_view result ≡ export_data_of (section_map opts.now sections.now layout.now.file_alignment) bytes.entry.now layout.now.exports }
+    ensures { option_map export_data_view result ≡ export_data_of (section_map
+        opts.now sections.now layout.now.file_alignment) bytes.entry.now layout.now.exports }
 {
     let alignment = layout.file_alignment;
     ExportData::parse_with_opts(bytes, layout.exports?, sections, alignment, opts).ok()
@@ -73,7 +76,8 @@ fn exports<'a, A: Allocator + Copy + Drop>(
     export_data: &Option<ExportData<'a>>,
 ) -> Result<Vec<Export<'a>, A>>
     ensures exports { ReturnsUnlessMemory (λ v. map export_view v.items) result
-        (Ok (exports_of (section_map opts.now sections.now file_alignment) bytes.entry.now (option_map export_data_view export_data.now))) }
+        (Ok (exports_of (section_map opts.now sections.now file_alignment) bytes.entry.now
+        (option_map export_data_view export_data.now))) }
     ensures memory { MemoryOnlyIf (IsSome (option_map export_data_view export_data.now)) result }
 {
     match export_data {
@@ -90,11 +94,12 @@ fn import_data<'a, A: Allocator + Copy + Drop>(
     sections: &[SectionTable],
     layout: &Layout,
 ) -> Result<Option<ImportData<'a, A>>>
-    ensures directory { ReturnsUnlessMemory (option_map import_data_view) result
-        (import_data_of (section_map opts.now sections.now layout.now.file_alignment) (entry_size layout.now.is_64) bytes.entry.now
-        (if opts.now.parse_imports then layout.now.imports else None)) }
-    ensures memory { MemoryOnlyIf (IsSomeAnd (if opts.now.parse_imports then layout.now.imports else None)
-        (λ d. IsSome (section_map opts.now sections.now layout.now.file_alignment d.virtual_address))) result }
+    ensures directory { ReturnsUnlessMemory (option_map import_data_view) result (import_data_of
+        (section_map opts.now sections.now layout.now.file_alignment) (entry_size layout.now.is_64)
+        bytes.entry.now (if opts.now.parse_imports then layout.now.imports else None)) }
+    ensures memory { MemoryOnlyIf
+        (IsSomeAnd (if opts.now.parse_imports then layout.now.imports else None) (λ d. IsSome
+        (section_map opts.now sections.now layout.now.file_alignment d.virtual_address))) result }
 {
     if !opts.parse_imports {
         return Ok(None);
@@ -128,7 +133,8 @@ fn imports<'a, A: Allocator + Copy + Drop>(
     import_data: &Option<ImportData<'a, A>>,
 ) -> Result<Vec<Import<'a>, A>>
     ensures imports { ReturnsUnlessMemory (λ v. map import_view v.items) result
-        (imports_of (section_map opts.now sections.now layout.now.file_alignment) (entry_size layout.now.is_64) bytes.entry.now (option_map import_data_view import_data.now)) }
+        (imports_of (section_map opts.now sections.now layout.now.file_alignment) (entry_size
+        layout.now.is_64) bytes.entry.now (option_map import_data_view import_data.now)) }
     ensures memory { MemoryOnlyIf (IsSome (option_map import_data_view import_data.now)) result }
 {
     let Some(data) = import_data else {
@@ -143,7 +149,8 @@ fn libraries<'a, A: Allocator + Copy + Drop>(
     alloc: A,
     import_data: &Option<ImportData<'a, A>>,
 ) -> Result<Vec<&'a str, A>>
-    ensures listed { IfOk result (λ v. AreLibrariesOf (option_map import_data_view import_data.now) (map (λ s. s.now) v.items)) }
+    ensures listed { IfOk result (λ v.
+        AreLibrariesOf (option_map import_data_view import_data.now) (map (λ s. s.now) v.items)) }
     ensures refused { IfErr result (λ error. error ≡ Memory record {}) }
     ensures memory { MemoryOnlyIf (IsSome (option_map import_data_view import_data.now)) result }
 {
@@ -164,9 +171,11 @@ impl<'a, A: Allocator + Copy + Drop> Core<'a, A> {
         header: Header<'a>,
         sections: Vec<SectionTable, A>,
     ) -> Result<Core<'a, A>>
-        ensures core { ReturnsUnlessMemory core_view result (core_with bytes.entry.now opts.now (header_view header.entry) sections.items) }
-        ensures memory { MemoryOnlyIf (HasExports bytes.entry.now opts.now sections.items (header_view header.entry).optional_header
-            ⊎ HasImports opts.now sections.items (header_view header.entry).optional_header) result }
+        ensures core { ReturnsUnlessMemory core_view result
+            (core_with bytes.entry.now opts.now (header_view header.entry) sections.items) }
+        ensures memory { MemoryOnlyIf (HasExports bytes.entry.now opts.now sections.items
+            (header_view header.entry).optional_header ⊎ HasImports opts.now sections.items
+            (header_view header.entry).optional_header) result }
         ensures libraries { IfOk result CoreHasLibraries }
         ensures layout { IfOk result CoreHasLayout }
     {
@@ -193,7 +202,8 @@ impl<'a, A: Allocator + Copy + Drop> Core<'a, A> {
     /// import directory, the imports. Memory is asked for only if the headers and the section headers are valid.
     #[tactic(auto, using(crate::proofs::NoMemory::header_owes_nothing, crate::proofs::Requests::asks_for_sections, crate::proofs::Requests::asks_for_core), unfolding(crate::specs::Core::core_of))]
     pub fn read(alloc: A, bytes: &'a [u8], opts: &ParseOptions) -> Result<Core<'a, A>>
-        ensures core { ReturnsUnlessMemoryAfter (sections_read bytes.entry.now opts.now) core_view result (core_of bytes.entry.now opts.now) }
+        ensures core { ReturnsUnlessMemoryAfter (sections_read bytes.entry.now opts.now)
+            core_view result (core_of bytes.entry.now opts.now) }
         ensures memory { MemoryOnlyIf (AsksForMemory bytes.entry.now opts.now) result }
         ensures libraries { IfOk result CoreHasLibraries }
         ensures layout { IfOk result CoreHasLayout }

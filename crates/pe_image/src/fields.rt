@@ -35,8 +35,9 @@ fn debug_data<'a>(
     sections: &[SectionTable],
     layout: &Layout,
 ) -> Result<Option<DebugData<'a>>>
-    ensures data { ReturnsUnlessMemory (option_map debug_view) result (by_mode opts.now.parse_mode
-        (field (λ d. debug_data opts.now bytes.entry.now d sections.now layout.now.file_alignment 0) layout.now.debug)) }
+    ensures data { ReturnsUnlessMemory
+        (option_map debug_view) result (by_mode opts.now.parse_mode (field (λ d. debug_data
+        opts.now bytes.entry.now d sections.now layout.now.file_alignment 0) layout.now.debug)) }
     ensures no_memory { MemoryOnlyIf ⊥ result }
 {
     let Some(directory) = layout.debug else {
@@ -56,8 +57,9 @@ fn exception_data<'a>(
     machine: u16,
     layout: &Layout,
 ) -> Result<Option<ExceptionData<'a>>>
-    ensures data { ReturnsUnlessMemory (λ d. d) result (by_mode opts.now.parse_mode (exceptions_for machine
-        (λ width d. exception_at width bytes.entry.now d sections.now layout.now.file_alignment opts.now) layout.now.exceptions)) }
+    ensures data { ReturnsUnlessMemory (λ d. d) result
+        (by_mode opts.now.parse_mode (exceptions_for machine (λ width d. exception_at width
+        bytes.entry.now d sections.now layout.now.file_alignment opts.now) layout.now.exceptions)) }
     ensures no_memory { MemoryOnlyIf ⊥ result }
 {
     let Some(directory) = layout.exceptions else {
@@ -84,8 +86,9 @@ fn relocation_data<'a>(
     sections: &[SectionTable],
     layout: &Layout,
 ) -> Result<Option<RelocationData<'a>>>
-    ensures data { ReturnsUnlessMemory (option_map (λ r. r.bytes.now)) result (by_mode opts.now.parse_mode
-        (field (λ d. directory_bytes opts.now bytes.entry.now d sections.now layout.now.file_alignment) layout.now.relocations)) }
+    ensures data { ReturnsUnlessMemory (option_map (λ r. r.bytes.now)) result
+        (by_mode opts.now.parse_mode (field (λ d. directory_bytes opts.now
+        bytes.entry.now d sections.now layout.now.file_alignment) layout.now.relocations)) }
     ensures no_memory { MemoryOnlyIf ⊥ result }
 {
     let Some(directory) = layout.relocations else {
@@ -104,9 +107,12 @@ fn certificates<'a, A: Allocator + Copy>(
     opts: &ParseOptions,
     layout: &Layout,
 ) -> Result<CertificateDirectoryTable<'a, A>>
-    ensures certificates { ReturnsUnlessMemory (λ found. map certificate_view found.items) result (list_by_mode opts.now.parse_mode
-        (if opts.now.parse_attribute_certificates then field (λ d. certificates_at bytes.entry.now d.virtual_address d.size) layout.now.certificates else None)) }
-    ensures memory { MemoryOnlyIf (StartsCertificates bytes.entry.now (if opts.now.parse_attribute_certificates then layout.now.certificates else None)) result }
+    ensures certificates { ReturnsUnlessMemory
+        (λ found. map certificate_view found.items) result (list_by_mode opts.now.parse_mode
+        (if opts.now.parse_attribute_certificates then field (λ d. certificates_at
+        bytes.entry.now d.virtual_address d.size) layout.now.certificates else None)) }
+    ensures memory { MemoryOnlyIf (StartsCertificates bytes.entry.now
+        (if opts.now.parse_attribute_certificates then layout.now.certificates else None)) result }
 {
     if !opts.parse_attribute_certificates {
         return Ok(Vec::new(alloc));
@@ -132,7 +138,8 @@ pub fn resource_data<'a, A: Allocator + Copy + Drop>(
     sections: &[SectionTable],
     layout: &Layout,
 ) -> Result<Option<ResourceData<'a>>>
-    ensures resources { ReturnsResources opts.now bytes.entry.now sections.now layout.now.file_alignment
+    ensures resources { ReturnsResources
+        opts.now bytes.entry.now sections.now layout.now.file_alignment
         (if opts.now.parse_resources then layout.now.resources else None) result }
     ensures no_memory { MemoryOnlyIf ⊥ result }
 {
@@ -168,8 +175,10 @@ impl<'a, A: Allocator + Copy + Drop> FirstFields<'a, A> {
         layout: &Layout,
     ) -> Result<FirstFields<'a, A>>
         requires { layout.now ≡ layout_of (core_view core.now).header.optional_header }
-        ensures fields { ReturnsUnlessMemory first_fields_view result (first_fields_in_turn bytes.entry.now opts.now (core_view core.now)) }
-        ensures memory { MemoryOnlyIf (HasCertificates bytes.entry.now opts.now (core_view core.now).header.optional_header) result }
+        ensures fields { ReturnsUnlessMemory first_fields_view result
+            (first_fields_in_turn bytes.entry.now opts.now (core_view core.now)) }
+        ensures memory { MemoryOnlyIf (HasCertificates bytes.entry.now opts.now
+            (core_view core.now).header.optional_header) result }
     {
         let machine = core.header.coff_header.machine;
         Ok(FirstFields {

@@ -35,8 +35,8 @@ ghost use Rattle.pe_image.specs.declared.pe.PE.{PE};
 /// defines the image.
 #[tactic(auto, using(crate::proofs::Headline::headline))]
 pub fn headline()
-    ensures { (b : List ℕ) (o : ParseOptions) (r : Result ImageView Refusal) → o.parse_mode ≡ ParseMode.Permissive →
-        (IsImage b o r ↔ IsPermissive b o (core_of b o) r) }
+    ensures { (b : List ℕ) (o : ParseOptions) (r : Result ImageView Refusal) →
+        o.parse_mode ≡ ParseMode.Permissive → (IsImage b o r ↔ IsPermissive b o (core_of b o) r) }
 {}
 
 /// The promise of the calls on an image. In an exception table that is sorted by start RVA, lookup finds what a linear
@@ -45,17 +45,26 @@ pub fn headline()
 /// one changes nothing.
 #[tactic(auto, using(crate::proofs::HeadlineCalls::image_leaves, crate::proofs::HeadlineCalls::sections_leave, crate::proofs::HeadlineCalls::certificates_leave))]
 pub fn headline_calls()
-    ensures lookup { (b : List ℕ) (o : ParseOptions) (c : CoreView) (x : ImageView) (v : ExceptionView) (a : ℕ) (found : Option RuntimeFunction) →
-        core_of b o ≡ Ok c → IsImage b o (Ok x) → x.exception_data ≡ Some v → Finds (functions (table_of v)) a found →
-        NeverFalls (functions (range b v.start v.size)) → found ≡ scan (functions (range b v.start v.size)) a }
-    ensures entries { (b : List ℕ) (o : ParseOptions) (c : CoreView) (x : ImageView) (v : ExceptionView) → core_of b o ≡ Ok c → IsImage b o (Ok x) →
+    ensures lookup { (b : List ℕ) (o : ParseOptions) (c : CoreView)
+        (x : ImageView) (v : ExceptionView) (a : ℕ) (found : Option RuntimeFunction) →
+        core_of b o ≡ Ok c → IsImage b o (Ok x) → x.exception_data ≡ Some v →
+        Finds (functions (table_of v)) a found → NeverFalls (functions (range b v.start v.size)) →
+        found ≡ scan (functions (range b v.start v.size)) a }
+    ensures entries { (b : List ℕ) (o : ParseOptions) (c : CoreView)
+        (x : ImageView) (v : ExceptionView) → core_of b o ≡ Ok c → IsImage b o (Ok x) →
         x.exception_data ≡ Some v → length (functions (table_of v)) ≡ v.size / 12 }
-    ensures image { (b old new : List ℕ) (x : ImageView) (h : OptionalHeaderView) (r : Result ℕ Error) → x.header.optional_header ≡ Some h →
-        ReturnsWritten r (image_written b x old) old new → LeavesOverlay (image_pieces b x.header h x.sections x.certificates) r old new }
-    ensures sections { (b old new : List ℕ) (sections : List SectionTable) (unit : Option ℕ) (offset : ℕ) (r : Result ℕ Error) →
-        ReturnsWritten r (sections_written b sections unit offset old) old new → LeavesOverlay (all_section_pieces b unit offset sections) r old new }
-    ensures certificates { (old new : List ℕ) (x : ImageView) (h : OptionalHeaderView) (r : Result ℕ Error) → x.header.optional_header ≡ Some h →
-        ReturnsWritten r (certificates_written x old) old new → LeavesOverlay (all_certificate_pieces (certificate_directory h) x.certificates) r old new }
+    ensures image { (b old new : List ℕ)
+        (x : ImageView) (h : OptionalHeaderView) (r : Result ℕ Error) →
+        x.header.optional_header ≡ Some h → ReturnsWritten r (image_written b x old) old new →
+        LeavesOverlay (image_pieces b x.header h x.sections x.certificates) r old new }
+    ensures sections { (b old new : List ℕ)
+        (sections : List SectionTable) (unit : Option ℕ) (offset : ℕ) (r : Result ℕ Error) →
+        ReturnsWritten r (sections_written b sections unit offset old) old new →
+        LeavesOverlay (all_section_pieces b unit offset sections) r old new }
+    ensures certificates { (old new : List ℕ)
+        (x : ImageView) (h : OptionalHeaderView) (r : Result ℕ Error) →
+        x.header.optional_header ≡ Some h → ReturnsWritten r (certificates_written x old) old new →
+        LeavesOverlay (all_certificate_pieces (certificate_directory h) x.certificates) r old new }
 {
     pe_unwind::laws::x64::exception_data_are_of_their_bytes();
 }
@@ -63,27 +72,31 @@ pub fn headline_calls()
 /// Permissive mode refuses an image exactly if its core is refused, and with the same refusal.
 #[tactic(auto, using(crate::proofs::Permissive::refused_as_the_core))]
 pub fn permissive_images_are_refused_as_their_core()
-    ensures { (b : List ℕ) (o : ParseOptions) (r : Result ImageView Refusal) (e : Refusal) → o.parse_mode ≡ ParseMode.Permissive →
-        IsImage b o r → (r ≡ Err e) ↔ (core_of b o ≡ Err e) }
+    ensures { (b : List ℕ) (o : ParseOptions) (r : Result ImageView Refusal) (e : Refusal) →
+        o.parse_mode ≡ ParseMode.Permissive → IsImage b o r → (r ≡ Err e) ↔ (core_of b o ≡ Err e) }
 {}
 
 /// Each field of an image has the value of its own definition, and is empty if that is absent or refused, whatever the
 /// other fields are.
 #[tactic(auto, using(crate::proofs::Permissive::core_of_image, crate::proofs::Permissive::debug_alone, crate::proofs::Permissive::exceptions_alone, crate::proofs::Permissive::relocations_alone, crate::proofs::Permissive::certificates_alone, crate::proofs::Permissive::resources_alone))]
 pub fn permissive_fields_are_their_own()
-    ensures core { (b : List ℕ) (o : ParseOptions) (c : CoreView) (x : ImageView) → core_of b o ≡ Ok c → IsImage b o (Ok x) →
-        core_part x ≡ c }
-    ensures derived { (b : List ℕ) (o : ParseOptions) (c : CoreView) (x : ImageView) → core_of b o ≡ Ok c → IsImage b o (Ok x) →
-        AreDerived c x }
-    ensures debug { (b : List ℕ) (o : ParseOptions) (c : CoreView) (x : ImageView) → core_of b o ≡ Ok c → IsImage b o (Ok x) →
-        x.debug_data ≡ given_value (debug_of b o c) }
-    ensures exceptions { (b : List ℕ) (o : ParseOptions) (c : CoreView) (x : ImageView) → core_of b o ≡ Ok c → IsImage b o (Ok x) →
-        x.exception_data ≡ given_value (exceptions_of b o c) }
-    ensures relocations { (b : List ℕ) (o : ParseOptions) (c : CoreView) (x : ImageView) → core_of b o ≡ Ok c → IsImage b o (Ok x) →
-        x.relocation_data ≡ given_value (relocations_of b o c) }
-    ensures certificates { (b : List ℕ) (o : ParseOptions) (c : CoreView) (x : ImageView) → core_of b o ≡ Ok c → IsImage b o (Ok x) →
-        x.certificates ≡ unwrap_or (given_value (certificates_of b o c)) [] }
-    ensures resources { (b : List ℕ) (o : ParseOptions) (c : CoreView) (x : ImageView) → core_of b o ≡ Ok c → IsImage b o (Ok x) →
+    ensures core { (b : List ℕ) (o : ParseOptions) (c : CoreView) (x : ImageView) →
+        core_of b o ≡ Ok c → IsImage b o (Ok x) → core_part x ≡ c }
+    ensures derived { (b : List ℕ) (o : ParseOptions) (c : CoreView) (x : ImageView) →
+        core_of b o ≡ Ok c → IsImage b o (Ok x) → AreDerived c x }
+    ensures debug { (b : List ℕ) (o : ParseOptions) (c : CoreView) (x : ImageView) →
+        core_of b o ≡ Ok c → IsImage b o (Ok x) → x.debug_data ≡ given_value (debug_of b o c) }
+    ensures exceptions { (b : List ℕ) (o : ParseOptions) (c : CoreView) (x : ImageView) →
+        core_of b o ≡ Ok c →
+        IsImage b o (Ok x) → x.exception_data ≡ given_value (exceptions_of b o c) }
+    ensures relocations { (b : List ℕ) (o : ParseOptions) (c : CoreView) (x : ImageView) →
+        core_of b o ≡ Ok c →
+        IsImage b o (Ok x) → x.relocation_data ≡ given_value (relocations_of b o c) }
+    ensures certificates { (b : List ℕ) (o : ParseOptions) (c : CoreView) (x : ImageView) →
+        core_of b o ≡ Ok c →
+        IsImage b o (Ok x) → x.certificates ≡ unwrap_or (given_value (certificates_of b o c)) [] }
+    ensures resources { (b : List ℕ) (o : ParseOptions) (c : CoreView) (x : ImageView) →
+        core_of b o ≡ Ok c → IsImage b o (Ok x) →
         (f : Field ResourceView) × AreResourcesOf b o c f × (x.resource_data ≡ given_value f) }
 {}
 
@@ -101,8 +114,10 @@ pub fn strict_images_are_permissive()
 
 /// For all bytes and options there is an image or a refusal, and there is only one.
 pub fn images_are_one()
-    ensures exists { (b : List ℕ) (o : ParseOptions) → (r : Result ImageView Refusal) × IsImage b o r }
-    ensures one { (b : List ℕ) (o : ParseOptions) (r s : Result ImageView Refusal) → IsImage b o r → IsImage b o s → r ≡ s }
+    ensures exists { (b : List ℕ) (o : ParseOptions) →
+        (r : Result ImageView Refusal) × IsImage b o r }
+    ensures one { (b : List ℕ) (o : ParseOptions) (r s : Result ImageView Refusal) →
+        IsImage b o r → IsImage b o s → r ≡ s }
 {
     pe_resource::laws::resources::resources_have_an_answer();
     pe_resource::laws::resources::resources_have_one_answer();
@@ -111,22 +126,27 @@ pub fn images_are_one()
 /// An import directory decides the names of its libraries: there is a list of them, and there is only one.
 #[tactic(auto, using(crate::proofs::LibraryLists::some_list, crate::proofs::LibraryLists::one_list))]
 pub fn libraries_are_one()
-    ensures exists { (d : Option (List ImportRecordView)) → (libraries : List (List ℕ)) × AreLibrariesOf d libraries }
-    ensures one { (d : Option (List ImportRecordView)) (xs ys : List (List ℕ)) → AreLibrariesOf d xs → AreLibrariesOf d ys → xs ≡ ys }
+    ensures exists { (d : Option (List ImportRecordView)) →
+        (libraries : List (List ℕ)) × AreLibrariesOf d libraries }
+    ensures one { (d : Option (List ImportRecordView)) (xs ys : List (List ℕ)) →
+        AreLibrariesOf d xs → AreLibrariesOf d ys → xs ≡ ys }
 {}
 
 /// Images with equal views, such as those of both modes, have the same libraries.
 #[tactic(auto, using(crate::proofs::LibraryLists::same_libraries))]
 pub fn equal_images_have_equal_libraries<Y, Z>()
-    ensures { (p : PE Y) (q : PE Z) → image_view p ≡ image_view q → HasLibraries p → HasLibraries q → libraries_of p ≡ libraries_of q }
+    ensures { (p : PE Y) (q : PE Z) → image_view p ≡ image_view q →
+        HasLibraries p → HasLibraries q → libraries_of p ≡ libraries_of q }
 {}
 
 /// The exception data of an image contains the bytes of the image, and maps RVAs with the file alignment of the image.
 /// So lookup, links and records read these bytes.
 pub fn exception_data_are_of_the_bytes()
-    ensures content { (b : List ℕ) (o : ParseOptions) (c : CoreView) (x : ImageView) (v : ExceptionView) → core_of b o ≡ Ok c → IsImage b o (Ok x) →
-        x.exception_data ≡ Some v → v.content ≡ b }
-    ensures alignment { (b : List ℕ) (o : ParseOptions) (c : CoreView) (x : ImageView) (v : ExceptionView) → core_of b o ≡ Ok c → IsImage b o (Ok x) →
+    ensures content { (b : List ℕ)
+        (o : ParseOptions) (c : CoreView) (x : ImageView) (v : ExceptionView) →
+        core_of b o ≡ Ok c → IsImage b o (Ok x) → x.exception_data ≡ Some v → v.content ≡ b }
+    ensures alignment { (b : List ℕ) (o : ParseOptions) (c : CoreView)
+        (x : ImageView) (v : ExceptionView) → core_of b o ≡ Ok c → IsImage b o (Ok x) →
         x.exception_data ≡ Some v → v.alignment ≡ alignment c.header.optional_header }
 {
     pe_unwind::laws::x64::exception_data_are_of_their_bytes();
@@ -136,7 +156,8 @@ pub fn exception_data_are_of_the_bytes()
 /// covers its offset.
 #[tactic(auto, using(crate::proofs::Overlays::overlay_in_turn))]
 pub fn pieces_in_turn_are_their_overlay()
-    ensures { (b : List ℕ) (pieces : List Piece) → all_fit (length b) pieces ≡ true → put_in_turn b pieces ≡ overlay b pieces }
+    ensures { (b : List ℕ) (pieces : List Piece) →
+        all_fit (length b) pieces ≡ true → put_in_turn b pieces ≡ overlay b pieces }
 {}
 
 /// Two sections clash exactly if they are not equal and share a byte of the file.
@@ -150,10 +171,12 @@ pub fn clashing_sections_share_a_byte()
 /// Certificates that are the unchanged listing of their table, at an offset that is a multiple of eight, are listed
 /// again after a successful `write_certificates` into a buffer that contains the range of the table.
 pub fn written_certificates_are_listed_again()
-    ensures { (b old new : List ℕ) (x : ImageView) (o : OptionalHeaderView) (d : DataDirectory) (n : ℕ) →
-        x.header.optional_header ≡ Some o → certificate_directory o ≡ Some d → d.virtual_address % 8 ≡ 0 →
-        AreBytes b → IsListing b d.virtual_address d.size x.certificates → d.virtual_address + d.size ≤ length old →
-        certificates_written x old ≡ Ok (n, new) → IsListing new d.virtual_address d.size x.certificates }
+    ensures { (b old new : List ℕ) (x : ImageView)
+        (o : OptionalHeaderView) (d : DataDirectory) (n : ℕ) → x.header.optional_header ≡ Some o →
+        certificate_directory o ≡ Some d → d.virtual_address % 8 ≡ 0 →
+        AreBytes b → IsListing b d.virtual_address d.size x.certificates →
+        d.virtual_address + d.size ≤ length old → certificates_written x old ≡ Ok (n, new) →
+        IsListing new d.virtual_address d.size x.certificates }
 {
     pe_records::laws::certificates::written_listings_are_listed_again();
 }
@@ -162,9 +185,11 @@ pub fn written_certificates_are_listed_again()
 /// the byte becomes zero. If there are certificates, the offset of their directory has to be a multiple of eight.
 #[tactic(auto, using(crate::proofs::RewrittenBytes::rewritten))]
 pub fn rewritten_images_change_to_zeros_alone()
-    ensures { (b new : List ℕ) (o : ParseOptions) (x : ImageView) (h : OptionalHeaderView) (n q : ℕ) → AreBytes b → IsImage b o (Ok x) → AreAligned x →
-        x.header.optional_header ≡ Some h → image_written b x b ≡ Ok (n, new) → q < length b →
-        (slice_index new q ≡ slice_index b q) ⊎ ((slice_index new q ≡ 0) × EndsInZeros (image_pieces b x.header h x.sections x.certificates) q) }
+    ensures { (b new : List ℕ) (o : ParseOptions)
+        (x : ImageView) (h : OptionalHeaderView) (n q : ℕ) → AreBytes b → IsImage b o (Ok x) →
+        AreAligned x → x.header.optional_header ≡ Some h → image_written b x b ≡ Ok (n, new) →
+        q < length b → (slice_index new q ≡ slice_index b q) ⊎ ((slice_index new q ≡ 0)
+        × EndsInZeros (image_pieces b x.header h x.sections x.certificates) q) }
 {}
 
 /// Writing the whole file of an image whose fields are as they were read gives its bytes again, whatever was in the
@@ -172,13 +197,13 @@ pub fn rewritten_images_change_to_zeros_alone()
 /// last piece that covers it is one of zeros, which pads a certificate; then it becomes zero (`changes`).
 #[tactic(auto, using(crate::proofs::RewrittenBytes::whole_changes, crate::proofs::RewrittenBytes::whole_unsigned))]
 pub fn whole_images_come_back()
-    ensures changes { (b old new : List ℕ) (o : ParseOptions) (x : ImageView) (h : OptionalHeaderView)
-        (n q : ℕ) → AreBytes b → IsImage b o (Ok x) → AreAligned x →
-        x.header.optional_header ≡ Some h → whole_written b x old ≡ Ok (n, new) → q < length b →
-        (slice_index new q ≡ slice_index b q) ⊎ ((slice_index new q ≡ 0)
+    ensures changes { (b old new : List ℕ) (o : ParseOptions)
+        (x : ImageView) (h : OptionalHeaderView) (n q : ℕ) → AreBytes b → IsImage b o (Ok x) →
+        AreAligned x → x.header.optional_header ≡ Some h → whole_written b x old ≡ Ok (n, new) →
+        q < length b → (slice_index new q ≡ slice_index b q) ⊎ ((slice_index new q ≡ 0)
         × EndsInZeros (padded_pieces None b x.header h x.sections x.certificates) q) }
-    ensures unsigned { (b old new : List ℕ) (o : ParseOptions) (x : ImageView) (h : OptionalHeaderView)
-        (n q : ℕ) → AreBytes b → IsImage b o (Ok x) → x.certificates ≡ [] →
-        x.header.optional_header ≡ Some h → whole_written b x old ≡ Ok (n, new) → q < length b →
-        slice_index new q ≡ slice_index b q }
+    ensures unsigned { (b old new : List ℕ)
+        (o : ParseOptions) (x : ImageView) (h : OptionalHeaderView) (n q : ℕ) →
+        AreBytes b → IsImage b o (Ok x) → x.certificates ≡ [] → x.header.optional_header ≡ Some h →
+        whole_written b x old ≡ Ok (n, new) → q < length b → slice_index new q ≡ slice_index b q }
 {}

@@ -101,7 +101,8 @@ impl<'a, A: Allocator + Copy + Drop + fmt::Debug> fmt::Debug for PE<'a, A> {
 
 /// The name of the DLL in the export directory, if there is one.
 fn name_of<'a>(export_data: &Option<ExportData<'a>>) -> Option<&'a str>
-    ensures { option_map (λ s. s.now) result ≡ option_and_then (λ d. d.name) (option_map export_data_view export_data.now) }
+    ensures { option_map (λ s. s.now) result ≡ option_and_then (λ d. d.name)
+        (option_map export_data_view export_data.now) }
 {
     match export_data {
         None => None,
@@ -119,7 +120,8 @@ impl<'a, A: Allocator + Copy + Drop> PE<'a, A> {
         resource_data: Option<ResourceData<'a>>,
     ) -> PE<'a, A>
         requires { CoreHasLayout core }
-        ensures view { image_view result ≡ image_of (core_view core.entry) (first_fields_view first.entry) (option_map resource_view resource_data.entry) }
+        ensures view { image_view result ≡ image_of (core_view core.entry)
+            (first_fields_view first.entry) (option_map resource_view resource_data.entry) }
         ensures libraries { CoreHasLibraries core.entry → HasLibraries result }
         ensures source { source_of result ≡ bytes.entry.now }
     {
@@ -173,7 +175,8 @@ impl<'a, A: Allocator + Copy + Drop> PE<'a, A> {
         requires libraries { CoreHasLibraries core }
         requires layout { CoreHasLayout core }
         ensures image { ReturnsAfterCore bytes.entry.now opts.now (core_view core.entry) result }
-        ensures memory { MemoryOnlyIf (HasCertificates bytes.entry.now opts.now (core_view core.entry).header.optional_header) result }
+        ensures memory { MemoryOnlyIf (HasCertificates bytes.entry.now opts.now
+            (core_view core.entry).header.optional_header) result }
         ensures libraries { IfOk result HasLibraries }
         ensures source { IfOk result (λ p. source_of p ≡ bytes.entry.now) }
     {
@@ -188,7 +191,8 @@ impl<'a, A: Allocator + Copy + Drop> PE<'a, A> {
     pub fn parse(alloc: A, bytes: &'a [u8]) -> Result<PE<'a, A>>
         ensures image { ReturnsImage bytes.entry.now default_options result }
         ensures memory { MemoryOnlyIf (AsksForMemory bytes.entry.now default_options) result }
-        ensures sections { IfOk result (λ p. sections_read bytes.entry.now default_options ≡ Ok (image_view p).sections) }
+        ensures sections { IfOk result
+            (λ p. sections_read bytes.entry.now default_options ≡ Ok (image_view p).sections) }
         ensures libraries { IfOk result HasLibraries }
         ensures source { IfOk result (λ p. source_of p ≡ bytes.entry.now) }
     {
@@ -208,7 +212,8 @@ impl<'a, A: Allocator + Copy + Drop> PE<'a, A> {
     pub fn parse_with_opts(alloc: A, bytes: &'a [u8], opts: &ParseOptions) -> Result<PE<'a, A>>
         ensures image { ReturnsImage bytes.entry.now opts.now result }
         ensures memory { MemoryOnlyIf (AsksForMemory bytes.entry.now opts.now) result }
-        ensures sections { IfOk result (λ p. sections_read bytes.entry.now opts.now ≡ Ok (image_view p).sections) }
+        ensures sections { IfOk result
+            (λ p. sections_read bytes.entry.now opts.now ≡ Ok (image_view p).sections) }
         ensures libraries { IfOk result HasLibraries }
         ensures source { IfOk result (λ p. source_of p ≡ bytes.entry.now) }
     {

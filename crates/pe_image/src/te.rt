@@ -30,7 +30,8 @@ impl<'a, A: Allocator + Copy + Drop> TE<'a, A> {
     /// read with `ParseOptions::te`: in strict mode, and with RVAs as file offsets.
     #[tactic(auto, using(crate::proofs::NoMemory::te_header_owes_nothing), unfolding(crate::specs::Te::te_of, pe_core::specs::TeImages::te_sections_of))]
     pub fn parse(alloc: A, bytes: &'a [u8]) -> Result<TE<'a, A>>
-        ensures { ReturnsUnlessMemoryAfter (te_sections bytes.entry.now) te_view result (te_of bytes.entry.now) }
+        ensures { ReturnsUnlessMemoryAfter
+            (te_sections bytes.entry.now) te_view result (te_of bytes.entry.now) }
     {
         let header = TeHeader::parse(bytes)?;
         let sections = header.sections(alloc, bytes)?;

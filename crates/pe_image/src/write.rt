@@ -37,7 +37,8 @@ impl<'a, A: Allocator + Copy + Drop> PE<'a, A> {
     /// Errors, in this order, each of which leaves the buffer as it was: `NoOptionalHeader`; `WriteFit` if the
     /// certificates don't all fit into the buffer.
     pub fn write_certificates(&self, buffer: &mut [u8]) -> Result<usize>
-        ensures { ReturnsWritten result (certificates_written (image_view self.now) buffer.old) buffer.old buffer.new }
+        ensures { ReturnsWritten result
+            (certificates_written (image_view self.now) buffer.old) buffer.old buffer.new }
     {
         match &self.header.optional_header {
             None => Err(Error::Malformed(Reason::NoOptionalHeader)),
@@ -63,7 +64,8 @@ impl<'a, A: Allocator + Copy + Drop> PE<'a, A> {
         offset: &mut usize,
         file_alignment: Option<usize>,
     ) -> Result<usize>
-        ensures written { ReturnsWritten result (sections_written (source_of self.now) (image_view self.now).sections file_alignment offset.old buffer.old) buffer.old buffer.new }
+        ensures written { ReturnsWritten result (sections_written (source_of self.now) (image_view
+            self.now).sections file_alignment offset.old buffer.old) buffer.old buffer.new }
         ensures offset { Moves result offset.old offset.new }
     {
         let writer = SectionWriter {
@@ -99,8 +101,8 @@ impl<'a, A: Allocator + Copy + Drop> PE<'a, A> {
     ) -> Result<usize>
         requires unit { IsTrue (is_unit unit) }
         requires inside { IsTrue (all_in_source (source_of self.now) self.now.sections.items) }
-        ensures { Returns result
-            (outcome ((all_fit (length buffer.now) (own_pieces self.now optional.now unit), WriteFit) ∷ [])
+        ensures { Returns result (outcome
+            ((all_fit (length buffer.now) (own_pieces self.now optional.now unit), WriteFit) ∷ [])
             (own_end self.now optional.now)) }
     {
         require_headers(buffer, &self.header, optional)?;
@@ -114,8 +116,8 @@ impl<'a, A: Allocator + Copy + Drop> PE<'a, A> {
     /// Tests for all errors of `write_into` but the first, in their order. Returns what `write_into` returns.
     #[tactic(auto, using(crate::proofs::WrittenImages::positive), unfolding(crate::specs::Writing::image_tests))]
     fn require_image(&self, buffer: &[u8], optional: &OptionalHeader) -> Result<usize>
-        ensures returned { Returns result
-            (outcome (own_tests self.now optional.now (length buffer.now)) (own_end self.now optional.now)) }
+        ensures returned { Returns result (outcome
+            (own_tests self.now optional.now (length buffer.now)) (own_end self.now optional.now)) }
         ensures unit { OnOk result
             (IsTrue (is_unit (Some optional.now.windows_fields.file_alignment))) }
         ensures inside { OnOk result
@@ -137,9 +139,9 @@ impl<'a, A: Allocator + Copy + Drop> PE<'a, A> {
 
     /// Tests for all errors of `write_whole` but the first, in their order. Returns what `write_whole` returns.
     fn require_whole(&self, buffer: &[u8], optional: &OptionalHeader) -> Result<usize>
-        ensures returned { Returns result
-            (outcome (section_tests (source_of self.now) self.now.sections.items (length buffer.now)
-            (own_whole self.now optional.now)) (max (length (source_of self.now)) (own_end self.now optional.now))) }
+        ensures returned { Returns result (outcome (section_tests (source_of self.now)
+            self.now.sections.items (length buffer.now) (own_whole self.now optional.now))
+            (max (length (source_of self.now)) (own_end self.now optional.now))) }
         ensures inside { OnOk result
             (IsTrue (all_in_source (source_of self.now) self.now.sections.items)) }
         ensures fit { OnOk result
@@ -155,7 +157,8 @@ impl<'a, A: Allocator + Copy + Drop> PE<'a, A> {
     fn set_pieces(&self, buffer: &mut [u8], optional: &OptionalHeader, unit: Option<usize>)
         requires unit { IsTrue (is_unit unit) }
         requires inside { IsTrue (all_in_source (source_of self.now) self.now.sections.items) }
-        requires fit { IsTrue (all_fit (length buffer.old) (own_pieces self.now optional.now unit)) }
+        requires fit { IsTrue
+            (all_fit (length buffer.old) (own_pieces self.now optional.now unit)) }
         ensures { buffer.new ≡ put_in_turn buffer.old (own_pieces self.now optional.now unit) }
     {
         set_headers(buffer, &self.header, optional);
@@ -179,6 +182,17 @@ impl<'a, A: Allocator + Copy + Drop> PE<'a, A> {
         Ok(end)
     }
 
+    /// Writes the file, and over it all pieces. The caller has checked that they fit.
+    #[tactic(auto, unfolding(crate::specs::WritingSteps::put_in_turn))]
+    fn set_whole(&self, buffer: &mut [u8], optional: &OptionalHeader)
+        requires inside { IsTrue (all_in_source (source_of self.now) self.now.sections.items) }
+        requires fit { IsTrue (all_fit (length buffer.old) (own_whole self.now optional.now)) }
+        ensures { buffer.new ≡ put_in_turn buffer.old (own_whole self.now optional.now) }
+    {
+        set_slice(buffer, 0, self.bytes);
+        self.set_pieces(buffer, optional, None);
+    }
+
     /// Writes the file and the image over it, with this optional header.
     fn write_whole_with(&self, buffer: &mut [u8], optional: &OptionalHeader) -> Result<usize>
         ensures { ReturnsWritten result
@@ -187,8 +201,7 @@ impl<'a, A: Allocator + Copy + Drop> PE<'a, A> {
             (map certificate_view self.now.certificates.items) buffer.old) buffer.old buffer.new }
     {
         let end = self.require_whole(buffer, optional)?;
-        set_slice(buffer, 0, self.bytes);
-        self.set_pieces(buffer, optional, None);
+        self.set_whole(buffer, optional);
         Ok(end)
     }
 
@@ -206,8 +219,8 @@ impl<'a, A: Allocator + Copy + Drop> PE<'a, A> {
     /// unequal sections share a byte of the file; `WriteSection` if the data of a section is not in the file that the
     /// image was read from; `WriteFit` if the file or a piece doesn't fit into the buffer.
     pub fn write_whole(&self, buffer: &mut [u8]) -> Result<usize>
-        ensures { ReturnsWritten result
-            (whole_written (source_of self.now) (image_view self.now) buffer.old) buffer.old buffer.new }
+        ensures { ReturnsWritten result (whole_written (source_of self.now)
+            (image_view self.now) buffer.old) buffer.old buffer.new }
     {
         match &self.header.optional_header {
             None => Err(Error::Malformed(Reason::NoOptionalHeader)),
@@ -232,7 +245,8 @@ impl<'a, A: Allocator + Copy + Drop> PE<'a, A> {
     /// two unequal sections share a byte of the file; `WriteSection` if the data of a section is not in the file that
     /// the image was read from; `WriteFit` if the pieces don't all fit into the buffer.
     pub fn write_into(&self, buffer: &mut [u8]) -> Result<usize>
-        ensures { ReturnsWritten result (image_written (source_of self.now) (image_view self.now) buffer.old) buffer.old buffer.new }
+        ensures { ReturnsWritten result (image_written (source_of self.now)
+            (image_view self.now) buffer.old) buffer.old buffer.new }
     {
         match &self.header.optional_header {
             None => Err(Error::Malformed(Reason::NoOptionalHeader)),

@@ -37,7 +37,9 @@ pub(crate) struct Records<'a, 'b> {
 impl<'a, 'b> Records<'a, 'b> {
     /// The record of a function.
     fn record(&self, function: RuntimeFunction) -> Result<UnwindInfo<'a>>
-        ensures { Unwinds (links_by self.now.exceptions.now self.now.sections.now) self.now.exceptions.now.content function.unwind_info_address (answer_by unwind_view result) }
+        ensures { Unwinds
+            (links_by self.now.exceptions.now self.now.sections.now) self.now.exceptions.now.content
+            function.unwind_info_address (answer_by unwind_view result) }
     {
         self.exceptions
             .get_unwind_info_with_map(function, self.sections)
@@ -49,7 +51,8 @@ impl<'a, 'b> Records<'a, 'b> {
     /// One unwind RVA is saved after 1, 2, 4, 8 and so on records (Brent's cycle detection), so a loop is found after
     /// about as many records as it has, and those before it. Nothing is allocated.
     pub fn count(&self, function: RuntimeFunction) -> Result<usize>
-        ensures { Counts (links_by self.now.exceptions.now self.now.sections.now) self.now.exceptions.now.content function (answer_of result) }
+        ensures { Counts (links_by self.now.exceptions.now self.now.sections.now)
+            self.now.exceptions.now.content function (answer_of result) }
     {
         one_record_of_addresses();
         let mut current = function;
@@ -81,8 +84,11 @@ impl<'a, 'b> Records<'a, 'b> {
         function: RuntimeFunction,
         count: usize,
     ) -> Result<Vec<UnwindInfo<'a>, A>>
-        requires { HasLength (links_by self.now.exceptions.now self.now.sections.now) self.now.exceptions.now.content function count }
-        ensures { Takes (links_by self.now.exceptions.now self.now.sections.now) self.now.exceptions.now.content function (answer_by (λ records. map unwind_view records.items) result) }
+        requires { HasLength (links_by self.now.exceptions.now self.now.sections.now)
+            self.now.exceptions.now.content function count }
+        ensures { Takes
+            (links_by self.now.exceptions.now self.now.sections.now) self.now.exceptions.now.content
+            function (answer_by (λ records. map unwind_view records.items) result) }
     {
         one_record_of_addresses();
         let mut records = Vec::with_capacity(alloc, count)?;

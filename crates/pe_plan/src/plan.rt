@@ -27,7 +27,8 @@ impl UnwindPlan {
         sections: &[SectionTable],
         opts: &ParseOptions,
     ) -> Result<Option<Vec<UnwindInfo<'a>, A>>>
-        ensures { Plans exceptions.now sections.now opts.now rva (answer_by (option_map (λ records. map unwind_view records.items)) result) }
+        ensures { Plans exceptions.now sections.now opts.now rva
+            (answer_by (option_map (λ records. map unwind_view records.items)) result) }
     {
         one_record_of_addresses();
         let Some(function) = exceptions.find_function(rva)? else {
@@ -49,8 +50,12 @@ impl UnwindPlan {
         sections: &[SectionTable],
         opts: &ParseOptions,
     ) -> Result<Vec<UnwindInfo<'a>, A>>
-        ensures plan { PlansFrom (links_of exceptions.now sections.now opts.now) exceptions.now.content function (answer_by (λ records. map unwind_view records.items) result) }
-        ensures cycle { (answer_by (λ records. map unwind_view records.items) result ≡ Err FunctionCycle) ↔ NeverEnds (links_of exceptions.now sections.now opts.now) exceptions.now.content function }
+        ensures plan { PlansFrom
+            (links_of exceptions.now sections.now opts.now) exceptions.now.content function
+            (answer_by (λ records. map unwind_view records.items) result) }
+        ensures cycle { (answer_by
+            (λ records. map unwind_view records.items) result ≡ Err FunctionCycle) ↔ NeverEnds
+            (links_of exceptions.now sections.now opts.now) exceptions.now.content function }
     {
         let sections = exceptions.section_map(sections, opts);
         UnwindPlan::of_function_with_map(alloc, exceptions, function, &sections)
@@ -64,8 +69,11 @@ impl UnwindPlan {
         function: RuntimeFunction,
         sections: &SectionMap<'_>,
     ) -> Result<Vec<UnwindInfo<'a>, A>>
-        ensures plan { PlansFrom (links_by exceptions.now sections.now) exceptions.now.content function (answer_by (λ records. map unwind_view records.items) result) }
-        ensures cycle { (answer_by (λ records. map unwind_view records.items) result ≡ Err FunctionCycle) ↔ NeverEnds (links_by exceptions.now sections.now) exceptions.now.content function }
+        ensures plan { PlansFrom (links_by exceptions.now sections.now) exceptions.now.content
+            function (answer_by (λ records. map unwind_view records.items) result) }
+        ensures cycle { (answer_by
+            (λ records. map unwind_view records.items) result ≡ Err FunctionCycle)
+            ↔ NeverEnds (links_by exceptions.now sections.now) exceptions.now.content function }
     {
         one_record_of_addresses();
         let chain = Records {

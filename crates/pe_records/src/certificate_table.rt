@@ -123,7 +123,8 @@ ghost use Rattle.pe_records.specs.CertificateWriting.{spell_certificate, written
 /// Fills the whole piece with header, body and zeros.
 fn fill_piece(piece: &mut [u8], header: [u8; 8], body: &[u8])
     requires { 8 + length body.now ≤ length piece.old }
-    ensures { piece.new ≡ header ++ body.now ++ replicate (length piece.old - (8 + length body.now)) 0 }
+    ensures { piece.new ≡ header ++ body.now ++ replicate
+        (length piece.old - (8 + length body.now)) 0 }
 {
     let end = 8 + body.len();
     piece[..8].copy_from_slice(&header);
@@ -157,8 +158,10 @@ impl<'a> AttributeCertificate<'a> {
     /// is changed.
     #[tactic(auto, using(crate::proofs::CertificatePieces::length_written), unfolding(pe_core::specs::Bytes::splice))]
     pub fn write_into(&self, out: &mut [u8], offset: usize) -> Result<usize>
-        ensures fit { ReturnsAs (λ end. end) result (written_end out.old offset (certificate_view self.now)) }
-        ensures after { out.new ≡ put out.old offset (written_certificate (certificate_view self.now)) }
+        ensures fit { ReturnsAs
+            (λ end. end) result (written_end out.old offset (certificate_view self.now)) }
+        ensures after { out.new ≡ put out.old offset
+            (written_certificate (certificate_view self.now)) }
     {
         let size = rounded_up(8 + self.certificate.len(), UNIT);
         require_room(out, offset, size)?;
@@ -207,7 +210,8 @@ pub fn enumerate_certificates<'a, A: Allocator>(
     size: usize,
 ) -> Result<CertificateDirectoryTable<'a, A>>
     ensures listing { Lists bytes.entry.now address size result }
-    ensures value { ReturnsUnlessMemory (λ certificates. map certificate_view certificates.items) result (certificates_at bytes.entry.now address size) }
+    ensures value { ReturnsUnlessMemory (λ certificates. map certificate_view certificates.items)
+        result (certificates_at bytes.entry.now address size) }
 {
     certificates_of_table(alloc, bytes, address, size)
 }

@@ -112,8 +112,8 @@ impl ImageDebugDirectory {
 
 /// The first whole entry of the type, in the order of the table.
 fn find_entry(bytes: &[u8], fixup: u32, data_type: u32) -> Option<ImageDebugDirectory>
-    ensures { result ≡ find (λ e. e.data_type == data_type)
-        (map (λ i. debug_entry_at fixup bytes.now (28 * i)) (range_with_len 0 (length bytes.now / 28))) }
+    ensures { result ≡ find (λ e. e.data_type == data_type) (map
+        (λ i. debug_entry_at fixup bytes.now (28 * i)) (range_with_len 0 (length bytes.now / 28))) }
 {
     let whole = bytes.len() / IMAGE_DEBUG_DIRECTORY_SIZE;
     (0..whole)
@@ -154,7 +154,8 @@ impl<'a> ImageDebugDirectoryIterator<'a> {
 impl<'a> Iterator for ImageDebugDirectoryIterator<'a> {
     type Item = Result<ImageDebugDirectory>;
 
-    ghost next_gives = { λ s r t. ReturnsEntry (fixup_of s) (debug_bytes_left s) r (debug_bytes_left t) × (fixup_of t ≡ fixup_of s) };
+    ghost next_gives = { λ s r t. ReturnsEntry (fixup_of s)
+        (debug_bytes_left s) r (debug_bytes_left t) × (fixup_of t ≡ fixup_of s) };
 
     ghost remaining = { λ s. at_most (debug_entry_count (debug_bytes_left s)) };
 
@@ -167,9 +168,15 @@ impl<'a> Iterator for ImageDebugDirectoryIterator<'a> {
     }
 
     fn size_hint(&self) -> (usize, Option<usize>)
-        ensures lower { IsWithinCount result.0 (at_most (debug_entry_count (debug_bytes_left self.now))) }
-        ensures upper { IfSome result.1 (UpTo (at_most (debug_entry_count (debug_bytes_left self.now)))) }
-        ensures exact { result ≡ (debug_entry_count (debug_bytes_left self.now), Some (debug_entry_count (debug_bytes_left self.now))) }
+        ensures lower { IsWithinCount result.0
+            (at_most (debug_entry_count (debug_bytes_left self.now))) }
+        ensures upper { IfSome result.1
+            (UpTo (at_most (debug_entry_count (debug_bytes_left self.now)))) }
+        ensures exact { result ≡ (
+          debug_entry_count
+              (debug_bytes_left self.now),
+          Some (debug_entry_count (debug_bytes_left self.now)),
+        ) }
     {
         let entries = self.len();
         (entries, Some(entries))
@@ -227,7 +234,8 @@ impl<'a> DebugData<'a> {
         opts: &ParseOptions,
         rva_offset: u32,
     ) -> Result<DebugData<'a>>
-        ensures { ReturnsAs debug_view result (records opts.now bytes.entry.now rva_offset table.entry.now) }
+        ensures { ReturnsAs debug_view result
+            (records opts.now bytes.entry.now rva_offset table.entry.now) }
     {
         let first = FirstEntries::of_table(table, rva_offset);
         Ok(DebugData {
@@ -345,7 +353,8 @@ impl<'a> DebugData<'a> {
 
     /// The first whole entry of the type, one of `IMAGE_DEBUG_TYPE_*`.
     pub fn find_type(&self, data_type: u32) -> Option<ImageDebugDirectory>
-        ensures { result ≡ first_of_type (fixup_of_data self.now) data_type (debug_table_of self.now) }
+        ensures { result ≡ first_of_type
+            (fixup_of_data self.now) data_type (debug_table_of self.now) }
     {
         self.entries().find_type(data_type)
     }
@@ -385,7 +394,8 @@ fn pdb70_of<'a>(
     entry: Option<ImageDebugDirectory>,
     opts: &ParseOptions,
 ) -> Result<Option<CodeviewPDB70DebugInfo<'a>>>
-    ensures { ReturnsAs (option_map pdb70_view) result (of_entry (pdb70_of opts.now bytes.entry.now) entry) }
+    ensures { ReturnsAs
+        (option_map pdb70_view) result (of_entry (pdb70_of opts.now bytes.entry.now) entry) }
 {
     match entry {
         Some(entry) => CodeviewPDB70DebugInfo::parse_with_opts(bytes, &entry, opts),
@@ -399,7 +409,8 @@ fn pdb20_of<'a>(
     entry: Option<ImageDebugDirectory>,
     opts: &ParseOptions,
 ) -> Result<Option<CodeviewPDB20DebugInfo<'a>>>
-    ensures { ReturnsAs (option_map pdb20_view) result (of_entry (pdb20_of opts.now bytes.entry.now) entry) }
+    ensures { ReturnsAs
+        (option_map pdb20_view) result (of_entry (pdb20_of opts.now bytes.entry.now) entry) }
 {
     match entry {
         Some(entry) => CodeviewPDB20DebugInfo::parse_with_opts(bytes, &entry, opts),
@@ -441,7 +452,8 @@ fn repro_of<'a>(
     entry: Option<ImageDebugDirectory>,
     opts: &ParseOptions,
 ) -> Result<Option<ReproInfo<'a>>>
-    ensures { ReturnsAs (option_map repro_view) result (some_of_entry (repro_of opts.now bytes.entry.now) entry) }
+    ensures { ReturnsAs
+        (option_map repro_view) result (some_of_entry (repro_of opts.now bytes.entry.now) entry) }
 {
     match entry {
         Some(entry) => Ok(Some(ReproInfo::parse_with_opts(bytes, &entry, opts)?)),
@@ -455,7 +467,8 @@ fn pogo_of<'a>(
     entry: Option<ImageDebugDirectory>,
     opts: &ParseOptions,
 ) -> Result<Option<POGOInfo<'a>>>
-    ensures { ReturnsAs (option_map pogo_view) result (of_entry (pogo_of opts.now bytes.entry.now) entry) }
+    ensures { ReturnsAs
+        (option_map pogo_view) result (of_entry (pogo_of opts.now bytes.entry.now) entry) }
 {
     match entry {
         Some(entry) => POGOInfo::parse_with_opts(bytes, &entry, opts),

@@ -73,7 +73,8 @@ pub(crate) fn file_range(
     file_alignment: u32,
     opts: &ParseOptions,
 ) -> Result<ByteRange>
-    ensures range { Returns result (file_range pe.now size (map_of opts.now sections.now file_alignment address)) }
+    ensures range { Returns result
+        (file_range pe.now size (map_of opts.now sections.now file_alignment address)) }
     ensures within { IfOk result (IsWithin pe.now) }
 {
     let offset = mapped_offset(address, sections, file_alignment, opts)?;
@@ -95,7 +96,8 @@ fn named_range(
     file_alignment: u32,
     opts: &ParseOptions,
 ) -> Result<ByteRange>
-    ensures range { Returns result (named_range (map_of opts.now sections.now file_alignment) pe.now bytes.now offset) }
+    ensures range { Returns result
+        (named_range (map_of opts.now sections.now file_alignment) pe.now bytes.now offset) }
     ensures within { IfOk result (IsWithin pe.now) }
 {
     let offset = offset as usize;
@@ -121,7 +123,8 @@ pub(crate) fn content_range(
     file_alignment: u32,
     opts: &ParseOptions,
 ) -> Result<Option<ByteRange>>
-    ensures range { IsContentRange (map_of opts.now sections.now file_alignment) pe.now bytes.now (entries_left it.entry) id (answer_of result) }
+    ensures range { IsContentRange (map_of opts.now sections.now file_alignment) pe.now bytes.now
+        (entries_left it.entry) id (answer_of result) }
     ensures within { IfOk result (λ r. IfSome r (IsWithin pe.now)) }
 {
     match leaf(bytes, it, id)? {
@@ -140,7 +143,8 @@ pub(crate) fn content<'a>(
     file_alignment: u32,
     opts: &ParseOptions,
 ) -> Result<Option<&'a [u8]>>
-    ensures { IsContent (map_of opts.now sections.now file_alignment) pe.entry.now bytes.now (entries_left it.entry) id (answer_by (option_map (λ s. s.now)) result) }
+    ensures { IsContent (map_of opts.now sections.now file_alignment) pe.entry.now bytes.now
+        (entries_left it.entry) id (answer_by (option_map (λ s. s.now)) result) }
 {
     match content_range(pe, bytes, it, id, sections, file_alignment, opts)? {
         None => Ok(None),

@@ -62,7 +62,8 @@ impl ImageResourceDirectory {
         sections: &[SectionTable],
         file_alignment: u32,
     ) -> Result<ImageResourceDirectory>
-        ensures { Returns result (directory_at default_options bytes.now data_directory sections.now file_alignment) }
+        ensures { Returns result
+            (directory_at default_options bytes.now data_directory sections.now file_alignment) }
     {
         let opts = ParseOptions::default();
         ImageResourceDirectory::parse_with_opts(
@@ -84,7 +85,8 @@ impl ImageResourceDirectory {
         file_alignment: u32,
         opts: &ParseOptions,
     ) -> Result<ImageResourceDirectory>
-        ensures { Returns result (directory_at opts.now bytes.now data_directory sections.now file_alignment) }
+        ensures { Returns result
+            (directory_at opts.now bytes.now data_directory sections.now file_alignment) }
     {
         let offset = mapped_offset(
             data_directory.virtual_address,
@@ -186,7 +188,8 @@ impl<'a> Iterator for ResourceEntryIterator<'a> {
     fn size_hint(&self) -> (usize, Option<usize>)
         ensures lower { IsWithinCount result.0 (item_count items_left self.now) }
         ensures upper { IfSome result.1 (UpTo (item_count items_left self.now)) }
-        ensures exact { result ≡ (length (items_left self.now), Some (length (items_left self.now))) }
+        ensures exact { result
+            ≡ (length (items_left self.now), Some (length (items_left self.now))) }
     {
         let entries = self.len();
         (entries, Some(entries))

@@ -142,7 +142,8 @@ impl ResourceEntry {
         predicate: P,
     ) -> Result<Option<ResourceEntry>>
         requires { P.IsAlwaysCallable predicate }
-        ensures walks { (p : ResourceEntry → Bool) → IsSteady P.Fn predicate p → Found (answer_of result) (Walks bytes.now p self.now) }
+        ensures walks { (p : ResourceEntry → Bool) →
+            IsSteady P.Fn predicate p → Found (answer_of result) (Walks bytes.now p self.now) }
         ensures cycle { (p : ResourceEntry → Bool) → IsSteady P.Fn predicate p →
             ((answer_of result ≡ Err ResourceCycle) ↔ IsEndlessWalk bytes.now p self.now) }
         ensures entry { IfOk result (λ e. IsSome e) }
@@ -185,7 +186,8 @@ pub(crate) fn walk<P: Fn(&ResourceEntry) -> bool>(
     predicate: P,
 ) -> Result<ResourceEntry>
     requires { P.IsAlwaysCallable predicate }
-    ensures walks { (p : ResourceEntry → Bool) → IsSteady P.Fn predicate p → Walks bytes.now p start (answer_of result) }
+    ensures walks { (p : ResourceEntry → Bool) →
+        IsSteady P.Fn predicate p → Walks bytes.now p start (answer_of result) }
     ensures no_memory { answer_of result ≢ Err Memory }
 {
     let mut current = start;

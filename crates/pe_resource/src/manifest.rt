@@ -31,7 +31,8 @@ impl<'a> ManifestData<'a> {
         file_alignment: u32,
         opts: &ParseOptions,
     ) -> Result<Option<ManifestData<'a>>>
-        ensures { IsContent (map_of opts.now sections.now file_alignment) pe.entry.now bytes.now (entries_left it.entry) 24 (answer_by (option_map manifest_view) result) }
+        ensures { IsContent (map_of opts.now sections.now file_alignment) pe.entry.now bytes.now
+            (entries_left it.entry) 24 (answer_by (option_map manifest_view) result) }
     {
         let content = content(pe, bytes, it, RT_MANIFEST, sections, file_alignment, opts)?;
         Ok(content.map(|bytes| ManifestData { bytes }))
@@ -53,7 +54,9 @@ impl<'a> ManifestData<'a> {
         file_alignment: u32,
         opts: &ParseOptions,
     ) -> Result<Option<ManifestData<'a>>>
-        ensures manifest { IsContent (map_of opts.now sections.now file_alignment) pe.entry.now bytes.entry.now (entries_left it.entry) 24 (answer_by (option_map manifest_view) result) }
+        ensures manifest { IsContent
+            (map_of opts.now sections.now file_alignment) pe.entry.now bytes.entry.now
+            (entries_left it.entry) 24 (answer_by (option_map manifest_view) result) }
         ensures no_memory { answer_by (option_map manifest_view) result ≢ Err Memory }
     {
         ManifestData::of_entries(pe, bytes, it, sections, file_alignment, opts)

@@ -60,7 +60,8 @@ fn first_entries<'a>(
     directory: &ImageResourceDirectory,
     mode: ParseMode,
 ) -> Result<Option<&'a [u8]>>
-    ensures { ReturnsAs (option_map (λ s. s.now)) result (first_entries_in mode data.entry.now directory.now) }
+    ensures { ReturnsAs
+        (option_map (λ s. s.now)) result (first_entries_in mode data.entry.now directory.now) }
 {
     let fits = SIZE_OF_DIRECTORY <= data.len();
     let size = directory.entries_size();
@@ -93,7 +94,8 @@ impl<'a> FirstDirectory<'a> {
         file_alignment: u32,
         opts: &ParseOptions,
     ) -> Result<Option<FirstDirectory<'a>>>
-        ensures { ReturnsAs (option_map first_directory_view) result (first_directory opts.now bytes.entry.now data_directory sections.now file_alignment) }
+        ensures { ReturnsAs (option_map first_directory_view) result
+            (first_directory opts.now bytes.entry.now data_directory sections.now file_alignment) }
     {
         let directory = ImageResourceDirectory::parse_with_opts(
             bytes,
@@ -136,7 +138,8 @@ impl<'a> ResourceData<'a> {
         sections: &[SectionTable],
         file_alignment: u32,
     ) -> Result<ResourceData<'a>>
-        ensures resource { IsResource default_options bytes.entry.now data_directory sections.now file_alignment (answer_by resource_view result) }
+        ensures resource { IsResource default_options bytes.entry.now
+            data_directory sections.now file_alignment (answer_by resource_view result) }
         ensures no_memory { answer_by resource_view result ≢ Err Memory }
     {
         let opts = ParseOptions::default();
@@ -169,7 +172,8 @@ impl<'a> ResourceData<'a> {
         file_alignment: u32,
         opts: &ParseOptions,
     ) -> Result<ResourceData<'a>>
-        ensures resource { IsResource opts.now bytes.entry.now data_directory sections.now file_alignment (answer_by resource_view result) }
+        ensures resource { IsResource opts.now bytes.entry.now
+            data_directory sections.now file_alignment (answer_by resource_view result) }
         ensures no_memory { answer_by resource_view result ≢ Err Memory }
     {
         ResourceData::of_directory(bytes, data_directory, sections, file_alignment, opts)
@@ -191,7 +195,8 @@ impl<'a> ResourceData<'a> {
         file_alignment: u32,
         opts: &ParseOptions,
     ) -> Result<Option<ByteRange>>
-        ensures range { IsResourceRange opts.now bytes.now data_directory id sections.now file_alignment (answer_of result) }
+        ensures range { IsResourceRange
+            opts.now bytes.now data_directory id sections.now file_alignment (answer_of result) }
         ensures within { IfOk result (λ r. IfSome r (IsWithin bytes.now)) }
     {
         match FirstDirectory::parse(bytes, data_directory, sections, file_alignment, opts)? {
@@ -211,7 +216,8 @@ impl<'a> ResourceData<'a> {
         file_alignment: u32,
         opts: &ParseOptions,
     ) -> Result<ResourceData<'a>>
-        ensures { IsResource opts.now bytes.entry.now data_directory sections.now file_alignment (answer_by resource_view result) }
+        ensures { IsResource opts.now bytes.entry.now data_directory sections.now file_alignment
+            (answer_by resource_view result) }
     {
         match FirstDirectory::parse(bytes, data_directory, sections, file_alignment, opts)? {
             None => Ok(ResourceData::default()),
@@ -227,7 +233,8 @@ impl<'a> ResourceData<'a> {
         file_alignment: u32,
         opts: &ParseOptions,
     ) -> Result<ResourceData<'a>>
-        ensures { AreResources (map_of opts.now sections.now file_alignment) bytes.entry.now (first_directory_view first.entry) (answer_by resource_view result) }
+        ensures { AreResources (map_of opts.now sections.now file_alignment) bytes.entry.now
+            (first_directory_view first.entry) (answer_by resource_view result) }
     {
         let data = first.bytes;
         let it = first.entries();

@@ -163,7 +163,10 @@ impl<'a> ResourceString<'a> {
         requires whole { key_length self.now.key.now 0 ≡ length self.now.key.now }
         requires many { length kept.old ≡ length keys.now }
         ensures many { length kept.new ≡ length keys.now }
-        ensures kept { EachIndex keys.now (λ i. slice_index_or kept.new i None ≡ option_or (slice_index_or kept.old i None) (if is_name (slice_index_or (map (λ key. key.now) keys.now) i []) (text (string_view self.now).key) then Some range else None)) }
+        ensures kept { EachIndex keys.now
+            (λ i. slice_index_or kept.new i None ≡ option_or (slice_index_or kept.old i None)
+            (if is_name (slice_index_or (map (λ key. key.now) keys.now) i [])
+            (text (string_view self.now).key) then Some range else None)) }
     {
         for i in 0..keys.len() {
             if kept[i].is_none() && self.has_key(keys[i]) {

@@ -47,7 +47,12 @@ fn dotted<A: Allocator + Copy + Drop>(
     build: u16,
     revision: u16,
 ) -> std::result::Result<String<A>, AllocError>
-    ensures { IfOk result (λ s. string_bytes s ≡ version_text record { major = major; minor = minor; build = build; revision = revision }) }
+    ensures { IfOk result (λ s. string_bytes s ≡ version_text record {
+      major = major;
+      minor = minor;
+      build = build;
+      revision = revision;
+    }) }
 {
     format!(in alloc; "{major}.{minor}.{build}.{revision}")
 }
@@ -190,7 +195,8 @@ impl VsFixedFileInfo {
 
     /// The version of the product.
     pub fn product_version(&self) -> VersionField
-        ensures { result ≡ version_of_halves self.now.product_version_ms self.now.product_version_ls }
+        ensures { result
+            ≡ version_of_halves self.now.product_version_ms self.now.product_version_ls }
     {
         VersionField::from_ms_ls(self.product_version_ms, self.product_version_ls)
     }
@@ -438,7 +444,8 @@ fn value_in<'a>(data: &'a [u8], ranges: &[Option<ByteRange>; 13], index: usize) 
     requires key { index < 13 }
     requires ranges { value_ranges (map (λ key. key.now) KEYS) data.now ≡ Ok ranges.now }
     requires within { All (λ range. IfSome range (IsWithin data.now)) ranges.now }
-    ensures { option_map (λ v. v.now) result ≡ value_of (slice_index_or (map (λ key. key.now) KEYS) index []) (read (strings data.entry.now)) }
+    ensures { option_map (λ v. v.now) result ≡ value_of
+        (slice_index_or (map (λ key. key.now) KEYS) index []) (read (strings data.entry.now)) }
 {
     bytes_in(data, ranges[index])
 }
@@ -490,7 +497,8 @@ impl<'a> VersionInfo<'a> {
 
     /// Reads the version information in the content of a resource, if there is one.
     fn of_content(content: Option<&'a [u8]>) -> Result<Option<VersionInfo<'a>>>
-        ensures { ReturnsAs (option_map version_view) result (version_of_content (option_map (λ s. s.now) content.entry)) }
+        ensures { ReturnsAs (option_map version_view) result
+            (version_of_content (option_map (λ s. s.now) content.entry)) }
     {
         match content {
             None => Ok(None),
@@ -510,7 +518,8 @@ impl<'a> VersionInfo<'a> {
         file_alignment: u32,
         opts: &ParseOptions,
     ) -> Result<Option<VersionInfo<'a>>>
-        ensures { IsVersion (map_of opts.now sections.now file_alignment) pe.entry.now bytes.now (entries_left it.entry) (answer_by (option_map version_view) result) }
+        ensures { IsVersion (map_of opts.now sections.now file_alignment) pe.entry.now bytes.now
+            (entries_left it.entry) (answer_by (option_map version_view) result) }
     {
         let content = content(pe, bytes, it, RT_VERSION, sections, file_alignment, opts)?;
         VersionInfo::of_content(content)
@@ -535,7 +544,8 @@ impl<'a> VersionInfo<'a> {
         file_alignment: u32,
         opts: &ParseOptions,
     ) -> Result<Option<VersionInfo<'a>>>
-        ensures version { IsVersion (map_of opts.now sections.now file_alignment) pe.entry.now bytes.entry.now (entries_left it.entry) (answer_by (option_map version_view) result) }
+        ensures version { IsVersion (map_of opts.now sections.now file_alignment) pe.entry.now
+            bytes.entry.now (entries_left it.entry) (answer_by (option_map version_view) result) }
         ensures no_memory { answer_by (option_map version_view) result ≢ Err Memory }
     {
         VersionInfo::of_entries(pe, bytes, it, sections, file_alignment, opts)

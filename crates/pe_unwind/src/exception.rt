@@ -32,7 +32,12 @@ impl<'a> Model for ExceptionData<'a> {
 
     ghost Value = { ExceptionView };
 
-    ghost view = { λ d. record { content = d.bytes.now; start = d.offset; size = d.size; alignment = d.file_alignment } };
+    ghost view = { λ d. record {
+      content = d.bytes.now;
+      start = d.offset;
+      size = d.size;
+      alignment = d.file_alignment;
+    } };
 
     ghost invariant = { λ d. d.offset + d.size ≤ length d.bytes.now };
 }
@@ -71,7 +76,8 @@ impl<'a> ExceptionData<'a> {
         sections: &[SectionTable],
         file_alignment: u32,
     ) -> Result<ExceptionData<'a>>
-        ensures { Returns result (exception_at 12 bytes.entry.now directory sections.now file_alignment default_options) }
+        ensures { Returns result (exception_at
+            12 bytes.entry.now directory sections.now file_alignment default_options) }
     {
         ExceptionData::parse_with_opts(
             bytes,
@@ -94,7 +100,8 @@ impl<'a> ExceptionData<'a> {
         file_alignment: u32,
         opts: &ParseOptions,
     ) -> Result<ExceptionData<'a>>
-        ensures { Returns result (exception_at 12 bytes.entry.now directory sections.now file_alignment opts.now) }
+        ensures { Returns result
+            (exception_at 12 bytes.entry.now directory sections.now file_alignment opts.now) }
     {
         let width = SIZE_OF_FUNCTION;
         ExceptionData::parse_table(bytes, directory, sections, file_alignment, opts, width)
@@ -109,7 +116,8 @@ impl<'a> ExceptionData<'a> {
         file_alignment: u32,
         opts: &ParseOptions,
     ) -> Result<ExceptionData<'a>>
-        ensures { Returns result (exception_at 8 bytes.entry.now directory sections.now file_alignment opts.now) }
+        ensures { Returns result
+            (exception_at 8 bytes.entry.now directory sections.now file_alignment opts.now) }
     {
         let width = SIZE_OF_ARM64_FUNCTION;
         ExceptionData::parse_table(bytes, directory, sections, file_alignment, opts, width)
@@ -126,7 +134,8 @@ impl<'a> ExceptionData<'a> {
         width: usize,
     ) -> Result<ExceptionData<'a>>
         requires { 0 < width }
-        ensures { Returns result (exception_at width bytes.entry.now directory sections.now file_alignment opts.now) }
+        ensures { Returns result
+            (exception_at width bytes.entry.now directory sections.now file_alignment opts.now) }
     {
         let DataDirectory {
             virtual_address,
@@ -274,7 +283,8 @@ impl<'a> ExceptionData<'a> {
         sections: &[SectionTable],
         opts: &ParseOptions,
     ) -> Result<usize>
-        ensures { FindsRecord (links_of self.now sections.now opts.now) unwind_address (answer_of result) }
+        ensures { FindsRecord
+            (links_of self.now sections.now opts.now) unwind_address (answer_of result) }
     {
         let sections = self.section_map(sections, opts);
         self.links(&sections).record_offset(unwind_address)
@@ -286,8 +296,10 @@ impl<'a> ExceptionData<'a> {
         function: RuntimeFunction,
         sections: &[SectionTable],
     ) -> Result<UnwindInfo<'a>>
-        ensures record { Unwinds (links_of self.now sections.now default_options) self.now.content function.unwind_info_address (answer_by unwind_view result) }
-        ensures cycle { (answer_by unwind_view result ≡ Err FunctionCycle) ↔ IsEndless (links_of self.now sections.now default_options) function.unwind_info_address }
+        ensures record { Unwinds (links_of self.now sections.now default_options)
+            self.now.content function.unwind_info_address (answer_by unwind_view result) }
+        ensures cycle { (answer_by unwind_view result ≡ Err FunctionCycle) ↔ IsEndless
+            (links_of self.now sections.now default_options) function.unwind_info_address }
     {
         self.get_unwind_info_with_opts(function, sections, &ParseOptions::default())
     }
@@ -304,8 +316,10 @@ impl<'a> ExceptionData<'a> {
         sections: &[SectionTable],
         opts: &ParseOptions,
     ) -> Result<UnwindInfo<'a>>
-        ensures record { Unwinds (links_of self.now sections.now opts.now) self.now.content function.unwind_info_address (answer_by unwind_view result) }
-        ensures cycle { (answer_by unwind_view result ≡ Err FunctionCycle) ↔ IsEndless (links_of self.now sections.now opts.now) function.unwind_info_address }
+        ensures record { Unwinds (links_of self.now sections.now opts.now)
+            self.now.content function.unwind_info_address (answer_by unwind_view result) }
+        ensures cycle { (answer_by unwind_view result ≡ Err FunctionCycle)
+            ↔ IsEndless (links_of self.now sections.now opts.now) function.unwind_info_address }
     {
         let sections = self.section_map(sections, opts);
         self.get_unwind_info_with_map(function, &sections)
@@ -318,8 +332,10 @@ impl<'a> ExceptionData<'a> {
         function: RuntimeFunction,
         sections: &SectionMap<'_>,
     ) -> Result<UnwindInfo<'a>>
-        ensures record { Unwinds (links_by self.now sections.now) self.now.content function.unwind_info_address (answer_by unwind_view result) }
-        ensures cycle { (answer_by unwind_view result ≡ Err FunctionCycle) ↔ IsEndless (links_by self.now sections.now) function.unwind_info_address }
+        ensures record { Unwinds (links_by self.now sections.now)
+            self.now.content function.unwind_info_address (answer_by unwind_view result) }
+        ensures cycle { (answer_by unwind_view result ≡ Err FunctionCycle)
+            ↔ IsEndless (links_by self.now sections.now) function.unwind_info_address }
     {
         let links = self.links(sections);
         self.linked_record(&links, function.unwind_info_address)
@@ -327,7 +343,8 @@ impl<'a> ExceptionData<'a> {
 
     /// The unwind record at the end of the links from an unwind RVA.
     fn linked_record(&self, links: &Links<'a, '_>, address: u32) -> Result<UnwindInfo<'a>>
-        ensures { Unwinds (table_view links.now) self.now.content address (answer_by unwind_view result) }
+        ensures { Unwinds
+            (table_view links.now) self.now.content address (answer_by unwind_view result) }
     {
         let offset = links.record_offset(address)?;
         UnwindInfo::parse(self.bytes, offset)
@@ -340,7 +357,8 @@ impl<'a> ExceptionData<'a> {
         function: Arm64RuntimeFunction,
         sections: &[SectionTable],
     ) -> Option<Result<Arm64UnwindInfo<'a>>>
-        ensures { option_map (answer_by info_view) result ≡ info_of_function self.now sections.now default_options function }
+        ensures { option_map (answer_by info_view) result
+            ≡ info_of_function self.now sections.now default_options function }
     {
         self.get_unwind_info_arm64_with_opts(function, sections, &ParseOptions::default())
     }
@@ -354,7 +372,8 @@ impl<'a> ExceptionData<'a> {
         sections: &[SectionTable],
         opts: &ParseOptions,
     ) -> Option<Result<Arm64UnwindInfo<'a>>>
-        ensures { option_map (answer_by info_view) result ≡ info_of_function self.now sections.now opts.now function }
+        ensures { option_map (answer_by info_view) result
+            ≡ info_of_function self.now sections.now opts.now function }
     {
         match self.record_offset_arm64(function, sections, opts)? {
             Ok(offset) => Some(Arm64UnwindInfo::parse(self.bytes, offset)),
@@ -371,7 +390,8 @@ impl<'a> ExceptionData<'a> {
         sections: &[SectionTable],
         opts: &ParseOptions,
     ) -> Option<Result<usize>>
-        ensures { option_map answer_of result ≡ offset_of_function self.now sections.now opts.now function }
+        ensures { option_map answer_of result
+            ≡ offset_of_function self.now sections.now opts.now function }
     {
         if function.is_packed() {
             return None;
@@ -389,7 +409,8 @@ impl<'a> ExceptionData<'a> {
         sections: &[SectionTable],
         opts: &ParseOptions,
     ) -> Result<Option<UnwindInfo<'a>>>
-        ensures { UnwindsAt self.now sections.now opts.now rva (answer_by (option_map unwind_view) result) }
+        ensures { UnwindsAt self.now sections.now opts.now rva
+            (answer_by (option_map unwind_view) result) }
     {
         let mut table = self.table();
         let found = search(&mut table, rva);
@@ -403,7 +424,8 @@ impl<'a> ExceptionData<'a> {
         sections: &[SectionTable],
         opts: &ParseOptions,
     ) -> Result<Option<UnwindInfo<'a>>>
-        ensures { UnwindsFound (links_of self.now sections.now opts.now) self.now.content found (answer_by (option_map unwind_view) result) }
+        ensures { UnwindsFound (links_of self.now sections.now opts.now) self.now.content found
+            (answer_by (option_map unwind_view) result) }
     {
         let Some(function) = found else {
             return Ok(None);

@@ -93,7 +93,8 @@ pub fn search(table: &mut CountedTable, rva: u32) -> Option<RuntimeFunction>
     ensures found { Finds (functions table.old.content) rva result }
     ensures kept { table.new.content ≡ table.old.content }
     ensures counted { table.old.count ≤ table.new.count }
-    ensures cost { table.new.count ≤ table.old.count + digits (length (functions table.old.content)) }
+    ensures cost { table.new.count ≤ table.old.count + digits
+        (length (functions table.old.content)) }
 {
     let mut low = 0;
     let mut high = table.len() / SIZE_OF_FUNCTION;

@@ -82,7 +82,8 @@ impl<'a> Iterator for ScopeTableIterator<'a> {
     fn size_hint(&self) -> (usize, Option<usize>)
         ensures lower { IsWithinCount result.0 (item_count scopes_left self.now) }
         ensures upper { IfSome result.1 (UpTo (item_count scopes_left self.now)) }
-        ensures exact { result ≡ (length (scopes_left self.now), Some (length (scopes_left self.now))) }
+        ensures exact { result
+            ≡ (length (scopes_left self.now), Some (length (scopes_left self.now))) }
     {
         let entries = self.len();
         (entries, Some(entries))

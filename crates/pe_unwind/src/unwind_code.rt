@@ -200,7 +200,8 @@ fn operation_at(first: FirstSlot, frame_register: Register, bytes: &[u8]) -> Unw
     requires { 2 * slots_of first ≤ length bytes.now }
     ensures { (v : ℕ) → IsFirstSlot v (slice_index bytes.now 0) (slice_index bytes.now 1) first →
         StartsWithCode v frame_register.0 bytes.now
-        (record { code_offset = slice_index bytes.now 0; operation = result }) (2 * slots_of first) }
+        (record { code_offset = slice_index bytes.now 0; operation = result })
+        (2 * slots_of first) }
 {
     match first {
         FirstSlot::Whole(operation) => operation,
@@ -256,7 +257,8 @@ pub struct UnwindCodeIterator<'a> {
 impl<'a> UnwindCodeIterator<'a> {
     /// The codes of these bytes, which are read by the version and the frame register of their record.
     pub fn new(bytes: &'a [u8], version: u8, frame_register: Register) -> Self
-        ensures { stream_of result ≡ record { content = bytes.entry.now; version = version; frame = frame_register.0 } }
+        ensures { stream_of result
+            ≡ record { content = bytes.entry.now; version = version; frame = frame_register.0 } }
     {
         UnwindCodeIterator {
             bytes,

@@ -53,7 +53,8 @@ fn ending(
     offset: usize,
     flags: u8,
 ) -> Result<(Option<RuntimeFunction>, Option<UnwindHandler<'_>>)>
-    ensures { ReturnsAs ending_view result (outcome ((ending_holds bytes.now offset flags, Short) ∷ []) (ending_at bytes.now offset flags)) }
+    ensures { ReturnsAs ending_view result (outcome
+        ((ending_holds bytes.now offset flags, Short) ∷ []) (ending_at bytes.now offset flags)) }
 {
     if flags / 4 % 2 == 1 {
         require_bytes(bytes, offset, SIZE_OF_FUNCTION)?;
@@ -101,7 +102,8 @@ impl<'a> UnwindInfo<'a> {
     /// `Short` if the rest of the header, the codes, or the chained function or the handler's RVA are truncated.
     #[tactic(auto, unfolding(crate::specs::UnwindRecord::unwind_tests, crate::specs::UnwindRecord::unwind_record))]
     pub fn parse(bytes: &'a [u8], offset: usize) -> Result<UnwindInfo<'a>>
-        ensures { ReturnsAs unwind_view result (outcome (unwind_tests bytes.entry.now offset) (unwind_record bytes.entry.now offset)) }
+        ensures { ReturnsAs unwind_view result
+            (outcome (unwind_tests bytes.entry.now offset) (unwind_record bytes.entry.now offset)) }
     {
         let first = u8_at(bytes, offset)?;
         let version = first % 8;

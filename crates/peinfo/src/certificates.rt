@@ -28,7 +28,8 @@ fn push_numbers<A: Allocator>(
     revision: u16,
     certificate_type: u16,
 ) -> Result<(), AllocError>
-    ensures { OnOk result (text.new.items ≡ text.old.items ++ certificate_text length revision certificate_type) }
+    ensures { OnOk result
+        (text.new.items ≡ text.old.items ++ certificate_text length revision certificate_type) }
 {
     text.extend_from_slice(b"certificate ")?;
     push_decimal(text, length)?;
@@ -40,7 +41,8 @@ fn push_line<A: Allocator>(
     text: &mut Vec<u8, A>,
     certificate: &AttributeCertificate<'_>,
 ) -> Result<(), AllocError>
-    ensures { OnOk result (text.new.items ≡ text.old.items ++ certificate_line (certificate_view certificate.now)) }
+    ensures { OnOk result
+        (text.new.items ≡ text.old.items ++ certificate_line (certificate_view certificate.now)) }
 {
     let revision = certificate.revision as u16;
     let certificate_type = certificate.certificate_type as u16;
@@ -53,7 +55,8 @@ pub fn push_lines<A: Allocator>(
     text: &mut Vec<u8, A>,
     certificates: &[AttributeCertificate<'_>],
 ) -> Result<(), AllocError>
-    ensures { OnOk result (text.new.items ≡ text.old.items ++ certificate_lines (map certificate_view certificates.now)) }
+    ensures { OnOk result (text.new.items ≡ text.old.items ++ certificate_lines
+        (map certificate_view certificates.now)) }
 {
     for certificate in certificates {
         push_line(text, certificate)?;

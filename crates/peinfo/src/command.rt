@@ -91,7 +91,8 @@ fn rva_of(argument: &[u8]) -> Option<u32>
 /// The command of the arguments after `at` and the file.
 #[tactic(auto, using(crate::proofs::Words::shapes))]
 fn asked_at<'a>(file: &'a str, arguments: &[String]) -> Option<Command<'a>>
-    ensures { option_map asked_by result ≡ asked_at file.entry.now (map string_bytes arguments.now) }
+    ensures { option_map asked_by result ≡ asked_at file.entry.now
+        (map string_bytes arguments.now) }
 {
     match arguments {
         [argument] => {
@@ -109,7 +110,8 @@ fn asked_at<'a>(file: &'a str, arguments: &[String]) -> Option<Command<'a>>
 /// The argument after the file, if it is the only one.
 #[tactic(auto, using(crate::proofs::Words::shapes))]
 fn one_argument<'a>(arguments: &'a [String]) -> Option<&'a str>
-    ensures { option_map (λ argument. argument.now) result ≡ one_argument (map string_bytes arguments.now) }
+    ensures { option_map
+        (λ argument. argument.now) result ≡ one_argument (map string_bytes arguments.now) }
 {
     match arguments {
         [argument] => Some(argument.as_str()),

@@ -71,7 +71,8 @@ impl<W: Write> CountedOut<W> {
         ensures same_cause { IfSome result (λ _. cause_of self.new ≡ cause_of self.old) }
         ensures none { IfNone result (Keeps (W.contents (writer_of self.old))
             (W.contents (writer_of self.new))) }
-        ensures counted { IfNone result (failures_of self.new ≡ one_more_failure (failures_of self.old)) }
+        ensures counted { IfNone result
+            (failures_of self.new ≡ one_more_failure (failures_of self.old)) }
     {
         if piece.is_empty() {
             return Some(0);

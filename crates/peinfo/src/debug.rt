@@ -54,8 +54,8 @@ fn push_entries<A: Allocator>(
     text: &mut Vec<u8, A>,
     entries: ImageDebugDirectoryIterator,
 ) -> Result<(), AllocError>
-    ensures { OnOk result
-        (text.new.items ≡ text.old.items ++ entry_lines (fixup_of entries.entry) (debug_bytes_left entries.entry)) }
+    ensures { OnOk result (text.new.items ≡ text.old.items ++ entry_lines (fixup_of entries.entry)
+        (debug_bytes_left entries.entry)) }
 {
     for item in entries {
         match item {
@@ -71,7 +71,8 @@ pub fn push_lines<A: Allocator>(
     text: &mut Vec<u8, A>,
     debug: &Option<DebugData>,
 ) -> Result<(), AllocError>
-    ensures { OnOk result (text.new.items ≡ text.old.items ++ debug_lines (option_map debug_view debug.now)) }
+    ensures { OnOk result
+        (text.new.items ≡ text.old.items ++ debug_lines (option_map debug_view debug.now)) }
 {
     match debug {
         None => Ok(()),

@@ -25,7 +25,8 @@ pub fn push_lines<A: Allocator>(
     machine: u16,
     exceptions: &Option<ExceptionData>,
 ) -> Result<(), AllocError>
-    ensures { OnOk result (text.new.items ≡ text.old.items ++ function_lines machine exceptions.now) }
+    ensures { OnOk result
+        (text.new.items ≡ text.old.items ++ function_lines machine exceptions.now) }
 {
     match exceptions {
         None => Ok(()),

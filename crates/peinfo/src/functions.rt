@@ -17,7 +17,8 @@ use std::alloc::{AllocError, Allocator};
 /// The end of an entry's line, from after its first word on.
 #[tactic(auto, unfolding(crate::specs::Hex::hex))]
 fn line_end(begin: u32, end: u32, unwind: u32) -> [u8; 27]
-    ensures { result ≡ hex 8 begin ++ codes " " ++ hex 8 end ++ codes " " ++ hex 8 unwind ++ codes "\n" }
+    ensures { result
+        ≡ hex 8 begin ++ codes " " ++ hex 8 end ++ codes " " ++ hex 8 unwind ++ codes "\n" }
 {
     let mut line = *b"00000000 00000000 00000000\n";
     line[..8].copy_from_slice(&hex8_digits(begin));
@@ -49,7 +50,8 @@ pub fn push_lines<A: Allocator>(
     text: &mut Vec<u8, A>,
     functions: RuntimeFunctionIterator,
 ) -> Result<(), AllocError>
-    ensures { OnOk result (text.new.items ≡ text.old.items ++ item_lines function_line (items_of_functions functions.entry)) }
+    ensures { OnOk result (text.new.items ≡ text.old.items ++ item_lines function_line
+        (items_of_functions functions.entry)) }
 {
     for item in functions {
         if let Ok(function) = item {
@@ -88,7 +90,8 @@ pub fn push_lines_64<A: Allocator>(
     text: &mut Vec<u8, A>,
     functions: Arm64RuntimeFunctionIterator,
 ) -> Result<(), AllocError>
-    ensures { OnOk result (text.new.items ≡ text.old.items ++ item_lines function64_line (items_of_arm64_functions functions.entry)) }
+    ensures { OnOk result (text.new.items ≡ text.old.items ++ item_lines function64_line
+        (items_of_arm64_functions functions.entry)) }
 {
     for item in functions {
         if let Ok(function) = item {

@@ -66,7 +66,8 @@ ghost use Rattle.peinfo.specs.Reading.{IfEndless};
 /// Errors: `Memory` where there is no room for a piece; `Failed` where a read fails; `Endless` after `MOST_READS`
 /// reads.
 pub fn read_all<A: Allocator, R: Read>(alloc: A, reader: &mut R) -> Result<Vec<u8, A>, ReadError>
-    ensures bytes { IfOk result (λ bytes. IfSome (R.remaining reader.old) (λ known. bytes.items ≡ known)) }
+    ensures bytes { IfOk result
+        (λ bytes. IfSome (R.remaining reader.old) (λ known. bytes.items ≡ known)) }
     ensures endless { IfErr result (λ e. IfEndless e
         (IfSome (R.remaining reader.old) (λ known. 1048576 ≤ length known))) }
 {

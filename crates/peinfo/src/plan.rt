@@ -22,7 +22,8 @@ use std::io;
 
 /// The end of a record's line: a word for what follows its codes.
 fn line_end(info: &UnwindInfo) -> &'static [u8]
-    ensures { result.now ≡ record_line_end (unwind_view info.now).chained_info (unwind_view info.now).handler }
+    ensures { result.now ≡ record_line_end
+        (unwind_view info.now).chained_info (unwind_view info.now).handler }
 {
     match (&info.chained_info, &info.handler) {
         (Some(_), _) => b" chained\n",
@@ -68,7 +69,8 @@ fn push_records<A: Allocator>(
     text: &mut Vec<u8, A>,
     records: &[UnwindInfo<'_>],
 ) -> Result<(), AllocError>
-    ensures { OnOk result (text.new.items ≡ text.old.items ++ record_lines (map unwind_view records.now)) }
+    ensures { OnOk result
+        (text.new.items ≡ text.old.items ++ record_lines (map unwind_view records.now)) }
 {
     for record in records {
         push_record(text, record)?;
@@ -83,7 +85,8 @@ fn records_of<'a, A: Allocator>(
     sections: &[SectionTable],
     found: Option<RuntimeFunction>,
 ) -> pe_image::Result<Vec<UnwindInfo<'a>, A>>
-    ensures { PlansRecords exceptions.now sections.now found (answer_by (λ records. map unwind_view records.items) result) }
+    ensures { PlansRecords exceptions.now sections.now found
+        (answer_by (λ records. map unwind_view records.items) result) }
 {
     match (exceptions, found) {
         (Some(exceptions), Some(function)) => {

@@ -96,12 +96,14 @@ pub fn equal_headers_look_the_same()
 pub fn equal_ranges_have_equal_bytes()
     ensures symbol_table { ComparesBy (λ t. t.bytes.now) ⟦<SymbolTable<'static> as PartialEq>⟧.eq }
     ensures strtab { ComparesBy (λ t. t.bytes.now) ⟦<Strtab<'static> as PartialEq>⟧.eq }
-    ensures relocation_data { ComparesBy (λ d. d.bytes.now) ⟦<RelocationData<'static> as PartialEq>⟧.eq }
+    ensures relocation_data { ComparesBy
+        (λ d. d.bytes.now) ⟦<RelocationData<'static> as PartialEq>⟧.eq }
 {}
 
 /// A default has zeros.
 pub fn defaults_are_zeros()
-    ensures { (x : ByteRange) → ⟦<ByteRange as Default>⟧.is_default x → x ≡ record { offset = 0; length = 0 } }
+    ensures { (x : ByteRange) →
+        ⟦<ByteRange as Default>⟧.is_default x → x ≡ record { offset = 0; length = 0 } }
 {}
 
 /// A clone equals its original.
@@ -115,9 +117,12 @@ pub fn clones_of_records_are_the_same()
     ensures te_header { Copies ⟦<TeHeader as Clone>⟧.is_clone }
     ensures standard_fields { Copies ⟦<StandardFields as Clone>⟧.is_clone }
     ensures windows_fields { Copies ⟦<WindowsFields as Clone>⟧.is_clone }
-    ensures data_directories { (x y : DataDirectories) → ⟦<DataDirectories as Clone>⟧.is_clone x y → kept_rows y ≡ kept_rows x }
-    ensures optional_header { (x y : OptionalHeader) → ⟦<OptionalHeader as Clone>⟧.is_clone x y → optional_header_view y ≡ optional_header_view x }
-    ensures header { (x y : Header) → ⟦<Header<'static> as Clone>⟧.is_clone x y → header_view y ≡ header_view x }
+    ensures data_directories { (x y : DataDirectories) →
+        ⟦<DataDirectories as Clone>⟧.is_clone x y → kept_rows y ≡ kept_rows x }
+    ensures optional_header { (x y : OptionalHeader) →
+        ⟦<OptionalHeader as Clone>⟧.is_clone x y → optional_header_view y ≡ optional_header_view x }
+    ensures header { (x y : Header) →
+        ⟦<Header<'static> as Clone>⟧.is_clone x y → header_view y ≡ header_view x }
     ensures symbol_iterator { Copies ⟦<SymbolIterator<'static> as Clone>⟧.is_clone }
     ensures section_table { Copies ⟦<SectionTable as Clone>⟧.is_clone }
     ensures symbol { Copies ⟦<Symbol as Clone>⟧.is_clone }

@@ -8,6 +8,8 @@ ghost use Rattle.pe_core.specs.Symbols.{SymbolItem, AreSymbols, item_in, row_of,
 /// definition, and there are no more.
 #[tactic(auto, using(crate::proofs::SymbolRows::in_rows, crate::proofs::SymbolRows::all_rows))]
 pub fn symbols_stand_in_their_rows()
-    ensures items { (b : List ℕ) (items : List SymbolItem) → AreSymbols b 0 items → items ≡ map (λ k. item_in b (row_of b k)) (range_with_len 0 (length items)) }
-    ensures all { (b : List ℕ) (items : List SymbolItem) → AreSymbols b 0 items → row_count b ≤ row_of b (length items) }
+    ensures items { (b : List ℕ) (items : List SymbolItem) → AreSymbols b 0 items →
+        items ≡ map (λ k. item_in b (row_of b k)) (range_with_len 0 (length items)) }
+    ensures all { (b : List ℕ) (items : List SymbolItem) →
+        AreSymbols b 0 items → row_count b ≤ row_of b (length items) }
 {}

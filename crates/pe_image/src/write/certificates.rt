@@ -37,8 +37,11 @@ fn require_certificates(
     start: usize,
     certificates: &[AttributeCertificate<'_>],
 ) -> Result<usize>
-    ensures { Returns result
-        (outcome ((all_fit (length buffer.now) (in_a_row certificate_pieces written_length start (map certificate_view certificates.now)), WriteFit) ∷ [])
+    ensures { Returns result (outcome ((
+      all_fit (length buffer.now) (in_a_row certificate_pieces
+          written_length start (map certificate_view certificates.now)),
+      WriteFit,
+    ) ∷ [])
         (row_end written_length start (map certificate_view certificates.now))) }
 {
     let mut offset = start;
@@ -55,8 +58,10 @@ fn set_certificate(
     offset: usize,
     certificate: &AttributeCertificate<'_>,
 ) -> usize
-    requires { IsTrue (all_fit (length buffer.old) (certificate_pieces offset (certificate_view certificate.now))) }
-    ensures after { buffer.new ≡ put_in_turn buffer.old (certificate_pieces offset (certificate_view certificate.now)) }
+    requires { IsTrue (all_fit (length buffer.old)
+        (certificate_pieces offset (certificate_view certificate.now))) }
+    ensures after { buffer.new ≡ put_in_turn buffer.old
+        (certificate_pieces offset (certificate_view certificate.now)) }
     ensures end { result ≡ offset + written_length (certificate_view certificate.now) }
 {
     match certificate.write_into(buffer, offset) {
@@ -68,8 +73,10 @@ fn set_certificate(
 
 /// Writes certificates one after the other. The caller has checked that they fit.
 fn set_certificates(buffer: &mut [u8], start: usize, certificates: &[AttributeCertificate<'_>])
-    requires { IsTrue (all_fit (length buffer.old) (in_a_row certificate_pieces written_length start (map certificate_view certificates.now))) }
-    ensures { buffer.new ≡ put_in_turn buffer.old (in_a_row certificate_pieces written_length start (map certificate_view certificates.now)) }
+    requires { IsTrue (all_fit (length buffer.old) (in_a_row certificate_pieces written_length start
+        (map certificate_view certificates.now))) }
+    ensures { buffer.new ≡ put_in_turn buffer.old
+        (in_a_row certificate_pieces written_length start (map certificate_view certificates.now)) }
 {
     let mut offset = start;
     for i in 0..certificates.len() {
@@ -84,8 +91,11 @@ pub fn require_table(
     directory: Option<DataDirectory>,
     certificates: &[AttributeCertificate<'_>],
 ) -> Result<usize>
-    ensures { Returns result
-        (outcome ((all_fit (length buffer.now) (all_certificate_pieces directory (map certificate_view certificates.now)), WriteFit) ∷ [])
+    ensures { Returns result (outcome ((
+      all_fit (length buffer.now)
+          (all_certificate_pieces directory (map certificate_view certificates.now)),
+      WriteFit,
+    ) ∷ [])
         (certificates_end directory (map certificate_view certificates.now))) }
 {
     match directory {
@@ -105,8 +115,10 @@ pub fn set_table(
     directory: Option<DataDirectory>,
     certificates: &[AttributeCertificate<'_>],
 )
-    requires { IsTrue (all_fit (length buffer.old) (all_certificate_pieces directory (map certificate_view certificates.now))) }
-    ensures { buffer.new ≡ put_in_turn buffer.old (all_certificate_pieces directory (map certificate_view certificates.now)) }
+    requires { IsTrue (all_fit (length buffer.old)
+        (all_certificate_pieces directory (map certificate_view certificates.now))) }
+    ensures { buffer.new ≡ put_in_turn buffer.old
+        (all_certificate_pieces directory (map certificate_view certificates.now)) }
 {
     if let Some(directory) = directory {
         set_certificates(buffer, directory.virtual_address as usize, certificates);
@@ -120,7 +132,8 @@ pub fn write_table(
     directory: Option<DataDirectory>,
     certificates: &[AttributeCertificate<'_>],
 ) -> Result<usize>
-    ensures { ReturnsWritten result (certificates_over directory (map certificate_view certificates.now) buffer.old) buffer.old buffer.new }
+    ensures { ReturnsWritten result (certificates_over directory
+        (map certificate_view certificates.now) buffer.old) buffer.old buffer.new }
 {
     let end = require_table(buffer, directory, certificates)?;
     set_table(buffer, directory, certificates);

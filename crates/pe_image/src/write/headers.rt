@@ -14,8 +14,11 @@ use pe_core::{Header, OptionalHeader, Result, require_room};
 /// Returns `WriteFit` if the headers don't all fit.
 #[tactic(auto, using(crate::proofs::WrittenHeaders::headers_fit))]
 pub fn require_headers(buffer: &[u8], header: &Header<'_>, optional: &OptionalHeader) -> Result<()>
-    ensures { Returns result
-        (outcome ((all_fit (length buffer.now) (header_pieces (header_view header.now) (optional_header_view optional.now)), WriteFit) ∷ []) tt) }
+    ensures { Returns result (outcome ((
+      all_fit (length buffer.now) (header_pieces
+          (header_view header.now) (optional_header_view optional.now)),
+      WriteFit,
+    ) ∷ []) tt) }
 {
     let offset = header.dos_header.pe_pointer as usize;
     require_room(buffer, 0, 64)?;
@@ -28,8 +31,10 @@ pub fn require_headers(buffer: &[u8], header: &Header<'_>, optional: &OptionalHe
 /// Writes the headers. The caller has checked that they fit.
 #[tactic(auto, using(crate::proofs::WrittenHeaders::headers_fit), unfolding(crate::specs::Pieces::header_pieces, crate::specs::WritingSteps::put_in_turn))]
 pub fn set_headers(buffer: &mut [u8], header: &Header<'_>, optional: &OptionalHeader)
-    requires { IsTrue (all_fit (length buffer.old) (header_pieces (header_view header.now) (optional_header_view optional.now))) }
-    ensures { buffer.new ≡ put_in_turn buffer.old (header_pieces (header_view header.now) (optional_header_view optional.now)) }
+    requires { IsTrue (all_fit (length buffer.old)
+        (header_pieces (header_view header.now) (optional_header_view optional.now))) }
+    ensures { buffer.new ≡ put_in_turn buffer.old
+        (header_pieces (header_view header.now) (optional_header_view optional.now)) }
 {
     let offset = header.dos_header.pe_pointer as usize;
     set_dos(buffer, 0, &header.dos_header);

@@ -248,7 +248,8 @@ fn set_pe32_plus(
     rows: &[DataDirectory],
 )
     requires { offset + 112 + 8 * length rows.now ≤ length buffer.old }
-    ensures { buffer.new ≡ splice buffer.old offset (spell_standard_fields_64 standard.now ++ spell_windows_fields_64 windows.now ++ flat_map spell_directory rows.now) }
+    ensures { buffer.new ≡ splice buffer.old offset (spell_standard_fields_64 standard.now
+        ++ spell_windows_fields_64 windows.now ++ flat_map spell_directory rows.now) }
 {
     set_standard_fields_64(buffer, offset, standard);
     set_windows_fields_64(buffer, offset + 24, windows);
@@ -264,7 +265,8 @@ fn set_pe32(
     rows: &[DataDirectory],
 )
     requires { offset + 96 + 8 * length rows.now ≤ length buffer.old }
-    ensures { buffer.new ≡ splice buffer.old offset (spell_standard_fields_32 standard.now ++ spell_windows_fields_32 windows.now ++ flat_map spell_directory rows.now) }
+    ensures { buffer.new ≡ splice buffer.old offset (spell_standard_fields_32 standard.now
+        ++ spell_windows_fields_32 windows.now ++ flat_map spell_directory rows.now) }
 {
     set_standard_fields_32(buffer, offset, standard);
     set_windows_fields_32(buffer, offset + 28, windows);
@@ -274,8 +276,10 @@ fn set_pe32(
 /// Writes an optional header with the data directories that it keeps.
 #[tactic(auto, using(crate::proofs::Laid::length_optional), unfolding(pe_core::specs::Spelling::spell_optional))]
 pub fn set_optional(buffer: &mut [u8], offset: usize, header: &OptionalHeader)
-    requires { offset + length (spell_optional (optional_header_view header.now)) ≤ length buffer.old }
-    ensures { buffer.new ≡ splice buffer.old offset (spell_optional (optional_header_view header.now)) }
+    requires { offset + length
+        (spell_optional (optional_header_view header.now)) ≤ length buffer.old }
+    ensures { buffer.new ≡ splice buffer.old offset
+        (spell_optional (optional_header_view header.now)) }
 {
     let standard = &header.standard_fields;
     let windows = &header.windows_fields;

@@ -44,8 +44,8 @@ impl<'a> SectionWriter<'a> {
     /// Errors, in this order: `WriteOverlap` if two unequal sections share a byte of the file; `WriteSection` if the
     /// data of one is not in `source`.
     pub fn require_data(&self) -> Result<()>
-        ensures { Returns result
-            (outcome ((clash_free self.now.sections.now, WriteOverlap) ∷ (all_in_source self.now.source.now self.now.sections.now, WriteSection) ∷ []) tt) }
+        ensures { Returns result (outcome ((clash_free self.now.sections.now, WriteOverlap)
+            ∷ (all_in_source self.now.source.now self.now.sections.now, WriteSection) ∷ []) tt) }
     {
         if let Some((first, second)) = first_clash(self.sections) {
             return Err(Error::Malformed(Reason::WriteOverlap(first, second)));
@@ -61,9 +61,13 @@ impl<'a> SectionWriter<'a> {
     #[tactic(auto, using(crate::proofs::WrittenSections::section_fit))]
     fn require_section(&self, buffer: &[u8], offset: usize, section: &SectionTable) -> Result<usize>
         requires unit { IsTrue (is_unit self.now.unit) }
-        requires inside { IsTrue (holds self.now.source.now section.now.pointer_to_raw_data section.now.size_of_raw_data) }
-        ensures { Returns result
-            (outcome ((all_fit (length buffer.now) (section_pieces self.now.source.now self.now.unit offset section.now), WriteFit) ∷ []) (offset + 40)) }
+        requires inside { IsTrue (holds
+            self.now.source.now section.now.pointer_to_raw_data section.now.size_of_raw_data) }
+        ensures { Returns result (outcome ((
+          all_fit (length buffer.now) (section_pieces
+              self.now.source.now self.now.unit offset section.now),
+          WriteFit,
+        ) ∷ []) (offset + 40)) }
     {
         let start = section.pointer_to_raw_data as usize;
         require_room(buffer, start, section.size_of_raw_data as usize)?;
@@ -78,8 +82,11 @@ impl<'a> SectionWriter<'a> {
     pub fn require(&self, buffer: &[u8], start: usize) -> Result<usize>
         requires unit { IsTrue (is_unit self.now.unit) }
         requires inside { IsTrue (all_in_source self.now.source.now self.now.sections.now) }
-        ensures { Returns result
-            (outcome ((all_fit (length buffer.now) (all_section_pieces self.now.source.now self.now.unit start self.now.sections.now), WriteFit) ∷ [])
+        ensures { Returns result (outcome ((
+          all_fit (length buffer.now) (all_section_pieces
+              self.now.source.now self.now.unit start self.now.sections.now),
+          WriteFit,
+        ) ∷ [])
             (start + 40 * length self.now.sections.now)) }
     {
         let mut offset = start;
@@ -93,9 +100,12 @@ impl<'a> SectionWriter<'a> {
     #[tactic(auto, using(crate::proofs::WrittenSections::section_fit), unfolding(crate::specs::Pieces::section_pieces, crate::specs::WritingSteps::put_in_turn))]
     fn set_section(&self, buffer: &mut [u8], offset: usize, section: &SectionTable)
         requires unit { IsTrue (is_unit self.now.unit) }
-        requires inside { IsTrue (holds self.now.source.now section.now.pointer_to_raw_data section.now.size_of_raw_data) }
-        requires fit { IsTrue (all_fit (length buffer.old) (section_pieces self.now.source.now self.now.unit offset section.now)) }
-        ensures { buffer.new ≡ put_in_turn buffer.old (section_pieces self.now.source.now self.now.unit offset section.now) }
+        requires inside { IsTrue (holds
+            self.now.source.now section.now.pointer_to_raw_data section.now.size_of_raw_data) }
+        requires fit { IsTrue (all_fit (length buffer.old)
+            (section_pieces self.now.source.now self.now.unit offset section.now)) }
+        ensures { buffer.new ≡ put_in_turn buffer.old
+            (section_pieces self.now.source.now self.now.unit offset section.now) }
     {
         let start = section.pointer_to_raw_data as usize;
         let end = raw_end(section);
@@ -108,8 +118,10 @@ impl<'a> SectionWriter<'a> {
     pub fn set(&self, buffer: &mut [u8], start: usize)
         requires unit { IsTrue (is_unit self.now.unit) }
         requires inside { IsTrue (all_in_source self.now.source.now self.now.sections.now) }
-        requires fit { IsTrue (all_fit (length buffer.old) (all_section_pieces self.now.source.now self.now.unit start self.now.sections.now)) }
-        ensures { buffer.new ≡ put_in_turn buffer.old (all_section_pieces self.now.source.now self.now.unit start self.now.sections.now) }
+        requires fit { IsTrue (all_fit (length buffer.old)
+            (all_section_pieces self.now.source.now self.now.unit start self.now.sections.now)) }
+        ensures { buffer.new ≡ put_in_turn buffer.old
+            (all_section_pieces self.now.source.now self.now.unit start self.now.sections.now) }
     {
         let mut offset = start;
         for i in 0..self.sections.len() {
@@ -122,13 +134,15 @@ impl<'a> SectionWriter<'a> {
     /// for a unit of 0; `WriteOverlap` if two unequal sections share a byte of the file; `WriteSection` if the data of
     /// one is not in `source`; `WriteFit` if the pieces don't all fit.
     pub fn require_all(&self, buffer: &[u8], start: usize) -> Result<usize>
-        ensures returned { Returns result
-            (outcome ((is_unit self.now.unit, WriteAlignment)
-            ∷ section_tests self.now.source.now self.now.sections.now (length buffer.now) (all_section_pieces self.now.source.now self.now.unit start self.now.sections.now))
+        ensures returned { Returns result (outcome ((is_unit self.now.unit, WriteAlignment)
+            ∷ section_tests self.now.source.now self.now.sections.now (length buffer.now)
+            (all_section_pieces self.now.source.now self.now.unit start self.now.sections.now))
             (start + 40 * length self.now.sections.now)) }
         ensures unit { OnOk result (IsTrue (is_unit self.now.unit)) }
-        ensures inside { OnOk result (IsTrue (all_in_source self.now.source.now self.now.sections.now)) }
-        ensures fit { OnOk result (IsTrue (all_fit (length buffer.now) (all_section_pieces self.now.source.now self.now.unit start self.now.sections.now))) }
+        ensures inside { OnOk result
+            (IsTrue (all_in_source self.now.source.now self.now.sections.now)) }
+        ensures fit { OnOk result (IsTrue (all_fit (length buffer.now)
+            (all_section_pieces self.now.source.now self.now.unit start self.now.sections.now))) }
     {
         if let Some(0) = self.unit {
             return Err(Error::Malformed(Reason::WriteAlignment(0)));
@@ -140,7 +154,8 @@ impl<'a> SectionWriter<'a> {
     /// Writes the sections, with their headers from `start` on, and returns the offset after the headers. Errors: those
     /// of `require_all`; the buffer is then unchanged.
     pub fn write(&self, buffer: &mut [u8], start: usize) -> Result<usize>
-        ensures { ReturnsWritten result (sections_written self.now.source.now self.now.sections.now self.now.unit start buffer.old) buffer.old buffer.new }
+        ensures { ReturnsWritten result (sections_written self.now.source.now
+            self.now.sections.now self.now.unit start buffer.old) buffer.old buffer.new }
     {
         let end = self.require_all(buffer, start)?;
         self.set(buffer, start);

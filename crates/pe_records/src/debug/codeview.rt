@@ -46,7 +46,8 @@ impl<'a> CodeviewPDB70DebugInfo<'a> {
     /// rest is truncated.
     #[tactic(auto, unfolding(crate::specs::DebugRecords::pdb70_record, crate::specs::DebugRecords::pdb70_at))]
     fn at(bytes: &'a [u8], offset: usize, size: u32, mode: ParseMode) -> Result<Option<Self>>
-        ensures { ReturnsAs (option_map pdb70_view) result (pdb70_record mode bytes.entry.now offset size) }
+        ensures { ReturnsAs
+            (option_map pdb70_view) result (pdb70_record mode bytes.entry.now offset size) }
     {
         if size < 24 {
             return mode.none_if_refused(Err(Error::Malformed(Reason::DebugSize(size))));
@@ -70,7 +71,8 @@ impl<'a> CodeviewPDB70DebugInfo<'a> {
 
     /// The PDB 7.0 record of the entry, with the default options. Errors: those of `parse_with_opts`.
     pub fn parse(bytes: &'a [u8], idd: &ImageDebugDirectory) -> Result<Option<Self>>
-        ensures { ReturnsAs (option_map pdb70_view) result (pdb70_of default_options bytes.entry.now idd.now) }
+        ensures { ReturnsAs
+            (option_map pdb70_view) result (pdb70_of default_options bytes.entry.now idd.now) }
     {
         CodeviewPDB70DebugInfo::parse_with_opts(bytes, idd, &ParseOptions::default())
     }
@@ -84,7 +86,8 @@ impl<'a> CodeviewPDB70DebugInfo<'a> {
         idd: &ImageDebugDirectory,
         opts: &ParseOptions,
     ) -> Result<Option<Self>>
-        ensures { ReturnsAs (option_map pdb70_view) result (pdb70_of opts.now bytes.entry.now idd.now) }
+        ensures { ReturnsAs
+            (option_map pdb70_view) result (pdb70_of opts.now bytes.entry.now idd.now) }
     {
         let offset = idd.record_offset(opts);
         CodeviewPDB70DebugInfo::at(bytes, offset as usize, idd.size_of_data, opts.parse_mode)
@@ -96,7 +99,8 @@ impl<'a> CodeviewPDB20DebugInfo<'a> {
     /// rest is truncated.
     #[tactic(auto, unfolding(crate::specs::DebugRecords::pdb20_record, crate::specs::DebugRecords::pdb20_at))]
     fn at(bytes: &'a [u8], offset: usize, size: u32, mode: ParseMode) -> Result<Option<Self>>
-        ensures { ReturnsAs (option_map pdb20_view) result (pdb20_record mode bytes.entry.now offset size) }
+        ensures { ReturnsAs
+            (option_map pdb20_view) result (pdb20_record mode bytes.entry.now offset size) }
     {
         if size < 16 {
             return mode.none_if_refused(Err(Error::Malformed(Reason::DebugSize(size))));
@@ -119,7 +123,8 @@ impl<'a> CodeviewPDB20DebugInfo<'a> {
 
     /// The PDB 2.0 record of the entry, with the default options. Errors: those of `parse_with_opts`.
     pub fn parse(bytes: &'a [u8], idd: &ImageDebugDirectory) -> Result<Option<Self>>
-        ensures { ReturnsAs (option_map pdb20_view) result (pdb20_of default_options bytes.entry.now idd.now) }
+        ensures { ReturnsAs
+            (option_map pdb20_view) result (pdb20_of default_options bytes.entry.now idd.now) }
     {
         CodeviewPDB20DebugInfo::parse_with_opts(bytes, idd, &ParseOptions::default())
     }
@@ -133,7 +138,8 @@ impl<'a> CodeviewPDB20DebugInfo<'a> {
         idd: &ImageDebugDirectory,
         opts: &ParseOptions,
     ) -> Result<Option<Self>>
-        ensures { ReturnsAs (option_map pdb20_view) result (pdb20_of opts.now bytes.entry.now idd.now) }
+        ensures { ReturnsAs
+            (option_map pdb20_view) result (pdb20_of opts.now bytes.entry.now idd.now) }
     {
         let offset = idd.record_offset(opts);
         CodeviewPDB20DebugInfo::at(bytes, offset as usize, idd.size_of_data, opts.parse_mode)

@@ -24,7 +24,8 @@ pub(crate) struct FirstEntries {
 
 /// Keeps the entry if it has the type and none is kept so far.
 fn keep_first(kept: &mut Option<ImageDebugDirectory>, entry: &ImageDebugDirectory, data_type: u32)
-    ensures { kept.new ≡ option_or kept.old (find (λ e. e.data_type == data_type) (entry.now ∷ [])) }
+    ensures { kept.new ≡ option_or kept.old
+        (find (λ e. e.data_type == data_type) (entry.now ∷ [])) }
 {
     if kept.is_none() && entry.data_type == data_type {
         *kept = Some(*entry);

@@ -32,7 +32,8 @@ impl<'a> POGOInfo<'a> {
     /// The record at a file offset, in `size` bytes. A record with another signature is `None`, whatever its size.
     #[tactic(auto, unfolding(crate::specs::DebugRecords::pogo_record))]
     fn at(bytes: &'a [u8], offset: usize, size: u32) -> Result<Option<Self>>
-        ensures { ReturnsAs (option_map pogo_view) result (pogo_record bytes.entry.now offset size) }
+        ensures { ReturnsAs
+            (option_map pogo_view) result (pogo_record bytes.entry.now offset size) }
     {
         let signature = u32_at(bytes, offset)?;
         if signature != IMAGE_DEBUG_POGO_SIGNATURE_LTCG
@@ -54,7 +55,8 @@ impl<'a> POGOInfo<'a> {
 
     /// The POGO record of the entry, with the default options. Errors: those of `parse_with_opts`.
     pub fn parse(bytes: &'a [u8], idd: &ImageDebugDirectory) -> Result<Option<Self>>
-        ensures { ReturnsAs (option_map pogo_view) result (pogo_of default_options bytes.entry.now idd.now) }
+        ensures { ReturnsAs
+            (option_map pogo_view) result (pogo_of default_options bytes.entry.now idd.now) }
     {
         POGOInfo::parse_with_opts(bytes, idd, &ParseOptions::default())
     }
@@ -68,7 +70,8 @@ impl<'a> POGOInfo<'a> {
         idd: &ImageDebugDirectory,
         opts: &ParseOptions,
     ) -> Result<Option<Self>>
-        ensures { ReturnsAs (option_map pogo_view) result (pogo_of opts.now bytes.entry.now idd.now) }
+        ensures { ReturnsAs
+            (option_map pogo_view) result (pogo_of opts.now bytes.entry.now idd.now) }
     {
         POGOInfo::at(bytes, idd.record_offset(opts) as usize, idd.size_of_data)
     }

@@ -9,47 +9,60 @@ ghost use Rattle.pe_records.specs.CertificateWriting.{IsWhole, spell_certificate
 
 /// A table has one listing or one error, never both; `certificates_at` returns that one.
 pub fn tables_have_one_listing()
-    ensures listing { (b : List ℕ) (address size : ℕ) (cs : List CertificateView) → IsListing b address size cs ↔ (certificates_at b address size ≡ Ok cs) }
-    ensures refusal { (b : List ℕ) (address size : ℕ) (r : Refusal) → IsRefused b address size r ↔ (certificates_at b address size ≡ Err r) }
-    ensures one_listing { (b : List ℕ) (address size : ℕ) (cs ds : List CertificateView) → IsListing b address size cs → IsListing b address size ds → cs ≡ ds }
-    ensures one_refusal { (b : List ℕ) (address size : ℕ) (r s : Refusal) → IsRefused b address size r → IsRefused b address size s → r ≡ s }
-    ensures apart { (b : List ℕ) (address size : ℕ) (cs : List CertificateView) (r : Refusal) → IsListing b address size cs → IsRefused b address size r → ⊥ }
+    ensures listing { (b : List ℕ) (address size : ℕ) (cs : List CertificateView) →
+        IsListing b address size cs ↔ (certificates_at b address size ≡ Ok cs) }
+    ensures refusal { (b : List ℕ) (address size : ℕ) (r : Refusal) →
+        IsRefused b address size r ↔ (certificates_at b address size ≡ Err r) }
+    ensures one_listing { (b : List ℕ) (address size : ℕ) (cs ds : List CertificateView) →
+        IsListing b address size cs → IsListing b address size ds → cs ≡ ds }
+    ensures one_refusal { (b : List ℕ) (address size : ℕ) (r s : Refusal) →
+        IsRefused b address size r → IsRefused b address size s → r ≡ s }
+    ensures apart { (b : List ℕ) (address size : ℕ) (cs : List CertificateView) (r : Refusal) →
+        IsListing b address size cs → IsRefused b address size r → ⊥ }
 {}
 
 /// A certificate that is written at a multiple of eight, with the length that its body has, is read there again.
 #[tactic(auto, using(crate::proofs::CertificatesReadAgain::read_again))]
 pub fn written_certificates_are_read_again()
-    ensures { (b : List ℕ) (p : ℕ) (c : CertificateView) → IsWhole c → p % 8 ≡ 0 → p + written_length c ≤ length b →
+    ensures { (b : List ℕ) (p : ℕ) (c : CertificateView) →
+        IsWhole c → p % 8 ≡ 0 → p + written_length c ≤ length b →
         certificate_at (splice b p (written_certificate c)) p ≡ Ok (c, p + written_length c) }
 {}
 
 /// A written certificate is its three pieces, written in turn: the header, the body and the zeros.
 #[tactic(auto, using(crate::proofs::CertificatePieces::three_pieces))]
 pub fn certificates_are_three_pieces()
-    ensures { (b : List ℕ) (p : ℕ) (c : CertificateView) → p ≤ length b →
-        splice b p (written_certificate c) ≡ splice (splice (splice b p (spell_certificate c)) (p + 8) c.body) (p + 8 + length c.body) (padding c) }
+    ensures { (b : List ℕ) (p : ℕ) (c : CertificateView) → p ≤ length b → splice b p
+        (written_certificate c) ≡ splice (splice (splice b p (spell_certificate c)) (p + 8) c.body)
+        (p + 8 + length c.body) (padding c) }
 {}
 
 /// The body of a certificate that is read follows the eight bytes of its header.
 #[tactic(auto, using(crate::proofs::PartsInOffset::body_stands))]
 pub fn bodies_stand_after_their_headers()
-    ensures { (b : List ℕ) (p : ℕ) (c : CertificateView) (next : ℕ) → certificate_at b p ≡ Ok (c, next) → StandAt b (p + 8) c.body }
+    ensures { (b : List ℕ) (p : ℕ) (c : CertificateView) (next : ℕ) →
+        certificate_at b p ≡ Ok (c, next) → StandAt b (p + 8) c.body }
 {}
 
 /// A certificate that is read has the body that its length says. At a multiple of eight it takes as many bytes as when
 /// it is written, up to the offset after it.
 #[tactic(auto, using(crate::proofs::CertificatesReadAgain::whole, crate::proofs::CertificatesReadAgain::next_offset))]
 pub fn certificates_that_are_read_are_whole()
-    ensures whole { (b : List ℕ) (p : ℕ) (c : CertificateView) (next : ℕ) → AreBytes b → certificate_at b p ≡ Ok (c, next) → IsWhole c }
-    ensures next { (b : List ℕ) (p : ℕ) (c : CertificateView) (next : ℕ) → AreBytes b → p % 8 ≡ 0 → certificate_at b p ≡ Ok (c, next) → next ≡ p + written_length c }
+    ensures whole { (b : List ℕ) (p : ℕ) (c : CertificateView) (next : ℕ) →
+        AreBytes b → certificate_at b p ≡ Ok (c, next) → IsWhole c }
+    ensures next { (b : List ℕ) (p : ℕ) (c : CertificateView) (next : ℕ) →
+        AreBytes b → p % 8 ≡ 0 → certificate_at b p ≡ Ok (c, next) → next ≡ p + written_length c }
 {}
 
 /// Listed certificates are listed again once they are written one after the other, from the table's offset on, which
 /// is a multiple of eight, into any buffer that has the table and room for them.
 pub fn written_listings_are_listed_again()
-    ensures again { (b buffer : List ℕ) (address size : ℕ) (cs : List CertificateView) → AreBytes b → address % 8 ≡ 0 → IsListing b address size cs →
-        address + size ≤ length buffer → address + length (written_certificates cs) ≤ length buffer →
+    ensures again { (b buffer : List ℕ) (address size : ℕ) (cs : List CertificateView) →
+        AreBytes b →
+        address % 8 ≡ 0 → IsListing b address size cs → address + size ≤ length buffer →
+        address + length (written_certificates cs) ≤ length buffer →
         IsListing (splice buffer address (written_certificates cs)) address size cs }
-    ensures in_turn { (b : List ℕ) (p : ℕ) (c : CertificateView) (cs : List CertificateView) → p ≤ length b →
-        splice b p (written_certificates (c ∷ cs)) ≡ splice (splice b p (written_certificate c)) (p + written_length c) (written_certificates cs) }
+    ensures in_turn { (b : List ℕ) (p : ℕ) (c : CertificateView) (cs : List CertificateView) →
+        p ≤ length b → splice b p (written_certificates (c ∷ cs)) ≡ splice
+        (splice b p (written_certificate c)) (p + written_length c) (written_certificates cs) }
 {}

@@ -38,8 +38,10 @@ pub fn constants_of_debug_data()
     ensures pogo_signature_pgu { IMAGE_DEBUG_POGO_SIGNATURE_PGU ≡ 0x50475500 }
     ensures cet_compat { IMAGE_DLLCHARACTERISTICS_EX_CET_COMPAT ≡ 1 }
     ensures cet_compat_strict_mode { IMAGE_DLLCHARACTERISTICS_EX_CET_COMPAT_STRICT_MODE ≡ 2 }
-    ensures cet_set_context_ip_validation_relaxed_mode { IMAGE_DLLCHARACTERISTICS_EX_CET_SET_CONTEXT_IP_VALIDATION_RELAXED_MODE ≡ 4 }
-    ensures cet_dynamic_apis_allow_in_proc_only { IMAGE_DLLCHARACTERISTICS_EX_CET_DYNAMIC_APIS_ALLOW_IN_PROC_ONLY ≡ 8 }
+    ensures cet_set_context_ip_validation_relaxed_mode { IMAGE_DLLCHARACTERISTICS_EX_CET_SET_CONTEXT_IP_VALIDATION_RELAXED_MODE
+        ≡ 4 }
+    ensures cet_dynamic_apis_allow_in_proc_only { IMAGE_DLLCHARACTERISTICS_EX_CET_DYNAMIC_APIS_ALLOW_IN_PROC_ONLY
+        ≡ 8 }
     ensures cet_reserved_1 { IMAGE_DLLCHARACTERISTICS_EX_CET_RESERVED_1 ≡ 0x10 }
     ensures cet_reserved_2 { IMAGE_DLLCHARACTERISTICS_EX_CET_RESERVED_2 ≡ 0x20 }
     ensures forward_cfi_compat { IMAGE_DLLCHARACTERISTICS_EX_FORWARD_CFI_COMPAT ≡ 0x40 }

@@ -24,13 +24,18 @@ use crate::debug::{ImageDebugDirectoryIterator, POGOEntryIterator};
 /// The items that an iterator of debug entries returns are the entries of its bytes, as many as it reports. It is over
 /// after an error and after `None`.
 pub fn debug_iterators_give_the_entries()
-    ensures items { (s : ImageDebugDirectoryIterator) (xs : List (Result ImageDebugDirectory Error)) →
-        Drains ⟦<ImageDebugDirectoryIterator<'static> as Iterator>⟧.next_gives s xs → map debug_item xs ≡ debug_entries (fixup_of s) (debug_bytes_left s) }
-    ensures number { (fixup : ℕ) (b : List ℕ) → length (debug_entries fixup b) ≡ debug_entry_count b }
-    ensures refusal { (s t u : ImageDebugDirectoryIterator) (e : Error) (r : Option (Result ImageDebugDirectory Error)) →
+    ensures items { (s : ImageDebugDirectoryIterator)
+        (xs : List (Result ImageDebugDirectory Error)) →
+        Drains ⟦<ImageDebugDirectoryIterator<'static> as Iterator>⟧.next_gives s xs →
+        map debug_item xs ≡ debug_entries (fixup_of s) (debug_bytes_left s) }
+    ensures number { (fixup : ℕ) (b : List ℕ) →
+        length (debug_entries fixup b) ≡ debug_entry_count b }
+    ensures refusal { (s t u : ImageDebugDirectoryIterator)
+        (e : Error) (r : Option (Result ImageDebugDirectory Error)) →
         ⟦<ImageDebugDirectoryIterator<'static> as Iterator>⟧.next_gives s (Some (Err e)) t →
         ⟦<ImageDebugDirectoryIterator<'static> as Iterator>⟧.next_gives t r u → r ≡ None }
-    ensures none { (s t u : ImageDebugDirectoryIterator) (r : Option (Result ImageDebugDirectory Error)) →
+    ensures none { (s t u : ImageDebugDirectoryIterator)
+        (r : Option (Result ImageDebugDirectory Error)) →
         ⟦<ImageDebugDirectoryIterator<'static> as Iterator>⟧.next_gives s None t →
         ⟦<ImageDebugDirectoryIterator<'static> as Iterator>⟧.next_gives t r u → r ≡ None }
 {}
@@ -39,11 +44,13 @@ pub fn debug_iterators_give_the_entries()
 /// a stream of entries, and only one. The iterator is over after an error and after `None`.
 pub fn pogo_streams_have_one_reading()
     ensures items { (s : POGOEntryIterator) (xs : List (Result POGOInfoEntry Error)) →
-        Drains ⟦<POGOEntryIterator<'static> as Iterator>⟧.next_gives s xs → Entries (pogo_bytes_left s) (map stream_item_of xs) }
+        Drains ⟦<POGOEntryIterator<'static> as Iterator>⟧.next_gives s xs →
+        Entries (pogo_bytes_left s) (map stream_item_of xs) }
     ensures exists { (b : List ℕ) → (xs : List (Result Entry Refusal)) × Entries b xs }
     ensures once { (b : List ℕ) (xs ys : List (Result Entry Refusal)) →
         Entries b xs → Entries b ys → xs ≡ ys }
-    ensures refusal { (s t u : POGOEntryIterator) (e : Error) (r : Option (Result POGOInfoEntry Error)) →
+    ensures refusal { (s t u : POGOEntryIterator)
+        (e : Error) (r : Option (Result POGOInfoEntry Error)) →
         ⟦<POGOEntryIterator<'static> as Iterator>⟧.next_gives s (Some (Err e)) t →
         ⟦<POGOEntryIterator<'static> as Iterator>⟧.next_gives t r u → r ≡ None }
     ensures none { (s t u : POGOEntryIterator) (r : Option (Result POGOInfoEntry Error)) →
@@ -60,25 +67,33 @@ pub fn strict_debug_data_is_permissive()
     ensures pdb20 { (o : ParseOptions) (b : List ℕ) (e : ImageDebugDirectory) (x : Option Pdb20) →
         pdb20_of (record o { parse_mode = ParseMode.Strict }) b e ≡ Ok x →
         pdb20_of (record o { parse_mode = ParseMode.Permissive }) b e ≡ Ok x }
-    ensures whole { (o : ParseOptions) (b : List ℕ) (d : DataDirectory) (sections : List SectionTable) (alignment fixup : ℕ) (x : DebugFields) →
-        debug_data (record o { parse_mode = ParseMode.Strict }) b d sections alignment fixup ≡ Ok x →
-        debug_data (record o { parse_mode = ParseMode.Permissive }) b d sections alignment fixup ≡ Ok x }
+    ensures whole { (o : ParseOptions) (b : List ℕ) (d : DataDirectory)
+        (sections : List SectionTable) (alignment fixup : ℕ) (x : DebugFields) → debug_data
+        (record o { parse_mode = ParseMode.Strict }) b d sections alignment fixup ≡ Ok x →
+        debug_data
+        (record o { parse_mode = ParseMode.Permissive }) b d sections alignment fixup ≡ Ok x }
 {}
 
 /// A record that is read spells the bytes at its offset: as many as its entry says for CodeView and POGO, 20 for VC
 /// feature, and as many as its own length says for Repro.
 #[tactic(auto, using(crate::proofs::SpelledDebug::spelled_pdb70, crate::proofs::SpelledDebug::spelled_pdb20, crate::proofs::SpelledDebug::spelled_features, crate::proofs::SpelledDebug::spelled_pogo, crate::proofs::SpelledDebug::spelled_repro))]
 pub fn debug_records_spell_their_bytes()
-    ensures pdb70 { (mode : ParseMode) (b : List ℕ) (p size : ℕ) (r : Pdb70) → AreBytes b → pdb70_record mode b p size ≡ Ok (Some r) → spell_pdb70 r ≡ range b p size }
-    ensures pdb20 { (mode : ParseMode) (b : List ℕ) (p size : ℕ) (r : Pdb20) → AreBytes b → pdb20_record mode b p size ≡ Ok (Some r) → spell_pdb20 r ≡ range b p size }
-    ensures features { (b : List ℕ) (p : ℕ) → AreBytes b → p + 20 ≤ length b → spell_features (features_at b p) ≡ range b p 20 }
-    ensures repro { (b : List ℕ) (p : ℕ) (e : ImageDebugDirectory) (r : Repro) → AreBytes b → repro_record b p e ≡ Ok r → spell_repro r ≡ range b p (size_of_repro r) }
-    ensures pogo { (b : List ℕ) (p size : ℕ) (r : Pogo) → AreBytes b → pogo_record b p size ≡ Ok (Some r) → spell_pogo r ≡ range b p size }
+    ensures pdb70 { (mode : ParseMode) (b : List ℕ) (p size : ℕ) (r : Pdb70) →
+        AreBytes b → pdb70_record mode b p size ≡ Ok (Some r) → spell_pdb70 r ≡ range b p size }
+    ensures pdb20 { (mode : ParseMode) (b : List ℕ) (p size : ℕ) (r : Pdb20) →
+        AreBytes b → pdb20_record mode b p size ≡ Ok (Some r) → spell_pdb20 r ≡ range b p size }
+    ensures features { (b : List ℕ) (p : ℕ) →
+        AreBytes b → p + 20 ≤ length b → spell_features (features_at b p) ≡ range b p 20 }
+    ensures repro { (b : List ℕ) (p : ℕ) (e : ImageDebugDirectory) (r : Repro) →
+        AreBytes b → repro_record b p e ≡ Ok r → spell_repro r ≡ range b p (size_of_repro r) }
+    ensures pogo { (b : List ℕ) (p size : ℕ) (r : Pogo) →
+        AreBytes b → pogo_record b p size ≡ Ok (Some r) → spell_pogo r ≡ range b p size }
 {}
 
 /// The file names, the hash and the POGO entries of debug data are ranges of the bytes. Each stands at a fixed
 /// distance after the offset to which the first entry of its type leads.
 pub fn parts_of_debug_data_stand_in_the_bytes()
-    ensures { (o : ParseOptions) (b : List ℕ) (d : DataDirectory) (sections : List SectionTable) (alignment fixup : ℕ) (x : DebugFields) →
+    ensures { (o : ParseOptions) (b : List ℕ)
+        (d : DataDirectory) (sections : List SectionTable) (alignment fixup : ℕ) (x : DebugFields) →
         debug_data o b d sections alignment fixup ≡ Ok x → DebugPartsStand o b x }
 {}

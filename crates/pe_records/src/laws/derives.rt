@@ -47,15 +47,33 @@ pub fn equal_debug_data_look_the_same()
 /// A default has zeros and empty slices.
 pub fn defaults_are_zeros()
     ensures entry { (x : ImageDebugDirectory) → ⟦<ImageDebugDirectory as Default>⟧.is_default x →
-        x ≡ record { characteristics = 0; time_date_stamp = 0; major_version = 0; minor_version = 0; data_type = 0; size_of_data = 0; address_of_raw_data = 0; pointer_to_raw_data = 0 } }
-    ensures features { (x : VCFeatureInfo) → ⟦<VCFeatureInfo as Default>⟧.is_default x →
-        x ≡ record { pre_vc_plusplus_count = 0; c_and_cplusplus_count = 0; guard_stack_count = 0; sdl_count = 0; guard_count = 0 } }
-    ensures characteristics { (x : ExDllCharacteristicsInfo) → ⟦<ExDllCharacteristicsInfo as Default>⟧.is_default x →
+        x ≡ record {
+          characteristics = 0;
+          time_date_stamp = 0;
+          major_version = 0;
+          minor_version = 0;
+          data_type = 0;
+          size_of_data = 0;
+          address_of_raw_data = 0;
+          pointer_to_raw_data = 0;
+        } }
+    ensures features { (x : VCFeatureInfo) →
+        ⟦<VCFeatureInfo as Default>⟧.is_default x → x ≡ record {
+          pre_vc_plusplus_count = 0;
+          c_and_cplusplus_count = 0;
+          guard_stack_count = 0;
+          sdl_count = 0;
+          guard_count = 0;
+        } }
+    ensures characteristics { (x : ExDllCharacteristicsInfo) →
+        ⟦<ExDllCharacteristicsInfo as Default>⟧.is_default x →
         x ≡ record { characteristics_ex = 0 } }
-    ensures pdb70 { (x : CodeviewPDB70DebugInfo) → ⟦<CodeviewPDB70DebugInfo<'static> as Default>⟧.is_default x →
-        pdb70_view x ≡ record { codeview_signature = 0; signature = replicate 16 0; age = 0; filename = [] } }
-    ensures pdb20 { (x : CodeviewPDB20DebugInfo) → ⟦<CodeviewPDB20DebugInfo<'static> as Default>⟧.is_default x →
-        pdb20_view x ≡ record { codeview_signature = 0; codeview_offset = 0; signature = 0; age = 0; filename = [] } }
+    ensures pdb70 { (x : CodeviewPDB70DebugInfo) →
+        ⟦<CodeviewPDB70DebugInfo<'static> as Default>⟧.is_default x → pdb70_view x
+        ≡ record { codeview_signature = 0; signature = replicate 16 0; age = 0; filename = [] } }
+    ensures pdb20 { (x : CodeviewPDB20DebugInfo) →
+        ⟦<CodeviewPDB20DebugInfo<'static> as Default>⟧.is_default x → pdb20_view x ≡ record
+        { codeview_signature = 0; codeview_offset = 0; signature = 0; age = 0; filename = [] } }
     ensures pogo { (x : POGOInfo) → ⟦<POGOInfo<'static> as Default>⟧.is_default x →
         pogo_view x ≡ record { signature = 0; bytes = [] } }
     ensures pogo_entry { (x : POGOInfoEntry) → ⟦<POGOInfoEntry<'static> as Default>⟧.is_default x →
@@ -74,5 +92,6 @@ pub fn clones_of_records_are_the_same()
     ensures repro { Copies ⟦<ReproInfo<'static> as Clone>⟧.is_clone }
     ensures pogo { Copies ⟦<POGOInfo<'static> as Clone>⟧.is_clone }
     ensures pogo_entry { Copies ⟦<POGOInfoEntry<'static> as Clone>⟧.is_clone }
-    ensures debug_data { (x y : DebugData) → ⟦<DebugData<'static> as Clone>⟧.is_clone x y → debug_view y ≡ debug_view x }
+    ensures debug_data { (x y : DebugData) →
+        ⟦<DebugData<'static> as Clone>⟧.is_clone x y → debug_view y ≡ debug_view x }
 {}

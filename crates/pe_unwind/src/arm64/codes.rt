@@ -293,7 +293,8 @@ fn float_register_code(first: u8, second: u8) -> Arm64UnwindCode
 
 /// The code of two bytes.
 fn two_byte_code(first: u8, second: u8) -> Arm64UnwindCode
-    requires { ((0xC0 ≤ first) × (first < 0xE0)) ⊎ ((first ≡ 0xE2) ⊎ (((first ≡ 0xE7) × (128 ≤ second)) ⊎ (first ≡ 0xF8))) }
+    requires { ((0xC0 ≤ first) × (first < 0xE0))
+        ⊎ ((first ≡ 0xE2) ⊎ (((first ≡ 0xE7) × (128 ≤ second)) ⊎ (first ≡ 0xF8))) }
     ensures { Encodes (first ∷ second ∷ []) result }
 {
     match first {

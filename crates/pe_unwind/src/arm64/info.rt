@@ -47,7 +47,9 @@ fn extension_after(
     header: Arm64UnwindHeader,
 ) -> Result<Option<Arm64UnwindExtension>>
     requires { offset ≤ length bytes.now }
-    ensures { ReturnsAs extension_view result (outcome ((holds bytes.now offset (extension_size header.0), Short) ∷ []) (extension_at bytes.now offset header.0)) }
+    ensures { ReturnsAs extension_view result
+        (outcome ((holds bytes.now offset (extension_size header.0), Short) ∷ [])
+        (extension_at bytes.now offset header.0)) }
 {
     if header.has_extension() {
         Ok(Some(Arm64UnwindExtension(u32_at(bytes, offset)?)))
@@ -88,7 +90,9 @@ fn handler_after(
     header: Arm64UnwindHeader,
 ) -> Result<Option<Arm64ExceptionHandler<'_>>>
     requires { offset ≤ length bytes.now }
-    ensures { ReturnsAs (option_map arm64_handler_view) result (outcome ((holds bytes.now offset (handler_size header.0), Short) ∷ []) (handler_at bytes.now offset header.0)) }
+    ensures { ReturnsAs (option_map arm64_handler_view) result
+        (outcome ((holds bytes.now offset (handler_size header.0), Short) ∷ [])
+        (handler_at bytes.now offset header.0)) }
 {
     if !header.exception_data_present() {
         return Ok(None);
@@ -188,7 +192,8 @@ impl<'a> Arm64UnwindInfo<'a> {
     /// The unwind codes from an index on, in bytes from the first code: 0 for the prolog, or the `start_index` of an
     /// epilog scope. Errors: `Arm64Stream` if the index is past the end of the codes.
     pub fn unwind_codes(&self, start_index: u16) -> Result<Arm64UnwindCodeIterator<'a>>
-        ensures { ReturnsAs stream_offset result (stream_at (info_view self.now).codes start_index) }
+        ensures { ReturnsAs stream_offset result
+            (stream_at (info_view self.now).codes start_index) }
     {
         Arm64UnwindCodeIterator::new(self.code_bytes, usize::from(start_index))
     }

@@ -23,12 +23,16 @@ use crate::arm64::function::{
 /// Legal ARM64 codes are equal exactly if their bytes are. Each has 1 to 5 bytes. Bytes start with at most one code.
 /// Nonempty bytes start with none exactly if they are a truncated code.
 pub fn arm64_codes_and_bytes()
-    ensures equal { (c d : Arm64UnwindCode) → Legal c → Legal d → ((c ≡ d) ↔ (encoding c ≡ encoding d)) }
-    ensures sizes { (c : Arm64UnwindCode) → Legal c → (1 ≤ length (encoding c)) × (length (encoding c) ≤ 5) }
+    ensures equal { (c d : Arm64UnwindCode) →
+        Legal c → Legal d → ((c ≡ d) ↔ (encoding c ≡ encoding d)) }
+    ensures sizes { (c : Arm64UnwindCode) →
+        Legal c → (1 ≤ length (encoding c)) × (length (encoding c) ≤ 5) }
     ensures bytes { (c : Arm64UnwindCode) → Legal c → All (λ x. x < 256) (encoding c) }
-    ensures one { (b : List ℕ) (c d : Arm64UnwindCode) → StartsWithArm64Code b c → StartsWithArm64Code b d → c ≡ d }
+    ensures one { (b : List ℕ) (c d : Arm64UnwindCode) →
+        StartsWithArm64Code b c → StartsWithArm64Code b d → c ≡ d }
     ensures cut { (b : List ℕ) → IsTruncatedArm64Code b → StartsWithNoArm64Code b }
-    ensures every { (b : List ℕ) → 0 < length b → All (λ x. x < 256) b → ((c : Arm64UnwindCode) × StartsWithArm64Code b c) ⊎ IsTruncatedArm64Code b }
+    ensures every { (b : List ℕ) → 0 < length b → All (λ x. x < 256) b →
+        ((c : Arm64UnwindCode) × StartsWithArm64Code b c) ⊎ IsTruncatedArm64Code b }
 {}
 
 /// The items that an iterator of ARM64 codes returns tile its stream from the iterator's offset on. Every byte string
@@ -37,34 +41,45 @@ pub fn arm64_codes_and_bytes()
 /// stands for it. There is at least one item for each five bytes, and at most one for each byte.
 pub fn one_tiling_of_arm64_codes()
     ensures whole { (s : Arm64UnwindCodeIterator) (xs : List (Result Arm64UnwindCodeData Error)) →
-        Drains ⟦<Arm64UnwindCodeIterator<'static> as Iterator>⟧.next_gives s xs → Tiles (stream_offset s).content (stream_offset s).at xs }
-    ensures exists { (b : List ℕ) (at : ℕ) → All (λ x. x < 256) b → (xs : List (Result Arm64UnwindCodeData Error)) × Tiles b at xs }
-    ensures tiling { (b : List ℕ) (at : ℕ) (xs ys : List (Result Arm64UnwindCodeData Error)) → Tiles b at xs → Tiles b at ys → map answer_of xs ≡ map answer_of ys }
-    ensures joined { (b : List ℕ) (at : ℕ) (xs : List (Result Arm64UnwindCodeData Error)) → Tiles b at xs → Joins (drop at b) xs }
-    ensures counts { (b : List ℕ) (at : ℕ) (xs : List (Result Arm64UnwindCodeData Error)) → All (λ x. x < 256) b → Tiles b at xs →
-        ((length b - at + 4) / 5 ≤ length xs) × (length xs ≤ length b - at) }
+        Drains ⟦<Arm64UnwindCodeIterator<'static> as Iterator>⟧.next_gives s xs →
+        Tiles (stream_offset s).content (stream_offset s).at xs }
+    ensures exists { (b : List ℕ) (at : ℕ) →
+        All (λ x. x < 256) b → (xs : List (Result Arm64UnwindCodeData Error)) × Tiles b at xs }
+    ensures tiling { (b : List ℕ) (at : ℕ) (xs ys : List (Result Arm64UnwindCodeData Error)) →
+        Tiles b at xs → Tiles b at ys → map answer_of xs ≡ map answer_of ys }
+    ensures joined { (b : List ℕ) (at : ℕ) (xs : List (Result Arm64UnwindCodeData Error)) →
+        Tiles b at xs → Joins (drop at b) xs }
+    ensures counts { (b : List ℕ) (at : ℕ) (xs : List (Result Arm64UnwindCodeData Error)) →
+        All (λ x. x < 256) b →
+        Tiles b at xs → ((length b - at + 4) / 5 ≤ length xs) × (length xs ≤ length b - at) }
 {}
 
 /// An ARM64 unwind record that is read is the concatenation of its parts: header, extension word, scopes, codes, RVA
 /// of the handler, rest. Bytes that are such a concatenation are read as that record.
 pub fn arm64_records_are_concatenations()
-    ensures given { (b : List ℕ) (p : ℕ) (i : Arm64InfoView) → AreBytes b → info_at b p ≡ Ok i → AreRecord (drop p b) i (drop (p + record_size i.header i.extension) b) }
-    ensures read { (b rest : List ℕ) (p : ℕ) (i : Arm64InfoView) → AreRecord (drop p b) i rest → HasWords i → info_at b p ≡ Ok i }
+    ensures given { (b : List ℕ) (p : ℕ) (i : Arm64InfoView) → AreBytes b → info_at b p ≡ Ok i →
+        AreRecord (drop p b) i (drop (p + record_size i.header i.extension) b) }
+    ensures read { (b rest : List ℕ) (p : ℕ) (i : Arm64InfoView) →
+        AreRecord (drop p b) i rest → HasWords i → info_at b p ≡ Ok i }
 {}
 
 /// Where an ARM64 unwind record is read, `size` returns its size, which is that of its words. The record ends in the
 /// bytes, and a handler's data are all bytes after it.
 #[tactic(auto, using(crate::proofs::Arm64Records::sized, crate::proofs::Arm64Records::inside))]
 pub fn arm64_records_have_their_size()
-    ensures size { (b : List ℕ) (i : Arm64InfoView) → info_at b 0 ≡ Ok i → size_at b ≡ Ok (record_size i.header i.extension) }
-    ensures inside { (b : List ℕ) (p : ℕ) (i : Arm64InfoView) → info_at b p ≡ Ok i → p + record_size i.header i.extension ≤ length b }
-    ensures handler { (b : List ℕ) (p : ℕ) (i : Arm64InfoView) → info_at b p ≡ Ok i → IfSome i.handler (λ h. h.bytes ≡ drop (p + record_size i.header i.extension) b) }
+    ensures size { (b : List ℕ) (i : Arm64InfoView) →
+        info_at b 0 ≡ Ok i → size_at b ≡ Ok (record_size i.header i.extension) }
+    ensures inside { (b : List ℕ) (p : ℕ) (i : Arm64InfoView) →
+        info_at b p ≡ Ok i → p + record_size i.header i.extension ≤ length b }
+    ensures handler { (b : List ℕ) (p : ℕ) (i : Arm64InfoView) → info_at b p ≡ Ok i →
+        IfSome i.handler (λ h. h.bytes ≡ drop (p + record_size i.header i.extension) b) }
 {}
 
 /// The scopes of an ARM64 unwind record follow its header and extension word, its codes follow the scopes, and its
 /// handler's data are the last of the bytes.
 pub fn parts_of_arm64_records_stand()
-    ensures { (b : List ℕ) (p : ℕ) (i : Arm64InfoView) → info_at b p ≡ Ok i → Arm64PartsStand b p i }
+    ensures { (b : List ℕ) (p : ℕ) (i : Arm64InfoView) →
+        info_at b p ≡ Ok i → Arm64PartsStand b p i }
 {}
 
 /// The values of the constants for packed unwind data.

@@ -49,14 +49,20 @@ pub fn equality_is_of_all_fields()
     ensures arm64_unwind_code { IsEquality ⟦<Arm64UnwindCode as PartialEq>⟧.eq }
     ensures arm64_unwind_code_data { IsEquality ⟦<Arm64UnwindCodeData as PartialEq>⟧.eq }
     ensures unwind_handler { ComparesBy handler_view ⟦<UnwindHandler<'static> as PartialEq>⟧.eq }
-    ensures arm64_exception_handler { ComparesBy arm64_handler_view ⟦<Arm64ExceptionHandler<'static> as PartialEq>⟧.eq }
+    ensures arm64_exception_handler { ComparesBy
+        arm64_handler_view ⟦<Arm64ExceptionHandler<'static> as PartialEq>⟧.eq }
 {}
 
 /// A default has zeros in all fields.
 pub fn defaults_are_zeros()
-    ensures runtime_function { (x : RuntimeFunction) → ⟦<RuntimeFunction as Default>⟧.is_default x → x ≡ record { begin_address = 0; end_address = 0; unwind_info_address = 0 } }
-    ensures scope_table_entry { (x : ScopeTableEntry) → ⟦<ScopeTableEntry as Default>⟧.is_default x → x ≡ record { begin = 0; end = 0; handler = 0; target = 0 } }
-    ensures arm64_runtime_function { (x : Arm64RuntimeFunction) → ⟦<Arm64RuntimeFunction as Default>⟧.is_default x → x ≡ record { begin_address = 0; unwind_data = 0 } }
+    ensures runtime_function { (x : RuntimeFunction) → ⟦<RuntimeFunction as Default>⟧.is_default x →
+        x ≡ record { begin_address = 0; end_address = 0; unwind_info_address = 0 } }
+    ensures scope_table_entry { (x : ScopeTableEntry) →
+        ⟦<ScopeTableEntry as Default>⟧.is_default x →
+        x ≡ record { begin = 0; end = 0; handler = 0; target = 0 } }
+    ensures arm64_runtime_function { (x : Arm64RuntimeFunction) →
+        ⟦<Arm64RuntimeFunction as Default>⟧.is_default x →
+        x ≡ record { begin_address = 0; unwind_data = 0 } }
 {}
 
 /// A clone is equal to its original in all fields.

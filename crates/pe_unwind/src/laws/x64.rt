@@ -41,8 +41,10 @@ pub fn disjoint_functions()
 /// Registers are ordered, and equal, by their numbers.
 pub fn registers_in_order()
     ensures order { (r s : Register) → ⟦<Register as Ord>⟧.cmp r s ≡ nat_cmp r.0 s.0 }
-    ensures partial { (r s : Register) → ⟦<Register as PartialOrd>⟧.partial_cmp r s ≡ Some (nat_cmp r.0 s.0) }
-    ensures ties { (r s : Register) → (⟦<Register as Ord>⟧.cmp r s ≡ Equal) ↔ IsTrue (⟦<Register as PartialEq>⟧.eq r s) }
+    ensures partial { (r s : Register) →
+        ⟦<Register as PartialOrd>⟧.partial_cmp r s ≡ Some (nat_cmp r.0 s.0) }
+    ensures ties { (r s : Register) →
+        (⟦<Register as Ord>⟧.cmp r s ≡ Equal) ↔ IsTrue (⟦<Register as PartialEq>⟧.eq r s) }
     ensures equal { (r s : Register) → IsTrue (⟦<Register as PartialEq>⟧.eq r s) ↔ (r ≡ s) }
 {}
 
@@ -57,42 +59,53 @@ pub fn equal_scopes_hash_alike()
 #[tactic(auto, using(crate::proofs::Streams::one_code, crate::proofs::Streams::one_reading, crate::proofs::Streams::some_items))]
 pub fn one_stream_of_codes()
     ensures whole { (s : UnwindCodeIterator) (xs : List (Result UnwindCode Error)) →
-        Drains ⟦<UnwindCodeIterator<'static> as Iterator>⟧.next_gives s xs → AreItems (stream_of s) xs }
-    ensures code { (v f : ℕ) (b : List ℕ) (c d : UnwindCode) (m n : ℕ) → StartsWithCode v f b c m → StartsWithCode v f b d n → (c ≡ d) × (m ≡ n) }
+        Drains ⟦<UnwindCodeIterator<'static> as Iterator>⟧.next_gives s xs →
+        AreItems (stream_of s) xs }
+    ensures code { (v f : ℕ) (b : List ℕ) (c d : UnwindCode) (m n : ℕ) →
+        StartsWithCode v f b c m → StartsWithCode v f b d n → (c ≡ d) × (m ≡ n) }
     ensures exists { (s : CodeStream) → (xs : List (Result UnwindCode Error)) × AreItems s xs }
-    ensures items { (s : CodeStream) (xs ys : List (Result UnwindCode Error)) → AreItems s xs → AreItems s ys → map answer_of xs ≡ map answer_of ys }
+    ensures items { (s : CodeStream) (xs ys : List (Result UnwindCode Error)) →
+        AreItems s xs → AreItems s ys → map answer_of xs ≡ map answer_of ys }
 {}
 
 /// Following links has a result, and only one.
 #[tactic(auto, using(crate::proofs::OneChain::one_answer, crate::proofs::SomeAnswer::some_answer))]
 pub fn one_answer_of_links()
     ensures exists { (t : Table) (u : ℕ) → (a : Result ℕ Refusal) × Follows t u a }
-    ensures one { (t : Table) (u : ℕ) (a b : Result ℕ Refusal) → Follows t u a → Follows t u b → a ≡ b }
+    ensures one { (t : Table) (u : ℕ) (a b : Result ℕ Refusal) →
+        Follows t u a → Follows t u b → a ≡ b }
 {}
 
 /// An unwind RVA has a record or an error, and only one of them. It is `FunctionCycle` exactly if the links never end,
 /// and it is never `Memory`.
 pub fn one_record_of_addresses()
-    ensures exists { (t : Table) (b : List ℕ) (u : ℕ) → (x : Result UnwindInfoView Refusal) × Unwinds t b u x }
-    ensures one { (t : Table) (b : List ℕ) (u : ℕ) (x y : Result UnwindInfoView Refusal) → Unwinds t b u x → Unwinds t b u y → x ≡ y }
-    ensures cycle { (t : Table) (b : List ℕ) (u : ℕ) (x : Result UnwindInfoView Refusal) → Unwinds t b u x → ((x ≡ Err FunctionCycle) ↔ IsEndless t u) }
+    ensures exists { (t : Table) (b : List ℕ) (u : ℕ) →
+        (x : Result UnwindInfoView Refusal) × Unwinds t b u x }
+    ensures one { (t : Table) (b : List ℕ) (u : ℕ) (x y : Result UnwindInfoView Refusal) →
+        Unwinds t b u x → Unwinds t b u y → x ≡ y }
+    ensures cycle { (t : Table) (b : List ℕ) (u : ℕ) (x : Result UnwindInfoView Refusal) →
+        Unwinds t b u x → ((x ≡ Err FunctionCycle) ↔ IsEndless t u) }
     ensures no_memory { (t : Table) (b : List ℕ) (u : ℕ) → Unwinds t b u (Err Memory) → ⊥ }
 {}
 
 /// The codes of an unwind record start four bytes after its start, and its handler's data are the last of the bytes.
 pub fn parts_of_records_stand()
-    ensures { (b : List ℕ) (p : ℕ) (i : UnwindInfoView) → outcome (unwind_tests b p) (unwind_record b p) ≡ Ok i → UnwindPartsStand b p i }
+    ensures { (b : List ℕ) (p : ℕ) (i : UnwindInfoView) →
+        outcome (unwind_tests b p) (unwind_record b p) ≡ Ok i → UnwindPartsStand b p i }
 {}
 
 /// Exception data keep the bytes that they were read from, and map RVAs by the file alignment that was passed. Their
 /// table lies in these bytes, and an x64 table has one entry for each 12 bytes of its size.
 #[tactic(auto, using(crate::proofs::ExceptionBytes::content_of_bytes, crate::proofs::ExceptionBytes::alignment_of_image, crate::proofs::ExceptionBytes::inside_directory, crate::proofs::Searches::length_functions))]
 pub fn exception_data_are_of_their_bytes()
-    ensures content { (width : ℕ) (b : List ℕ) (d : DataDirectory) (sections : List SectionTable) (unit : ℕ) (o : ParseOptions) (v : ExceptionView) →
+    ensures content { (width : ℕ) (b : List ℕ) (d : DataDirectory)
+        (sections : List SectionTable) (unit : ℕ) (o : ParseOptions) (v : ExceptionView) →
         exception_at width b d sections unit o ≡ Ok v → v.content ≡ b }
-    ensures alignment { (width : ℕ) (b : List ℕ) (d : DataDirectory) (sections : List SectionTable) (unit : ℕ) (o : ParseOptions) (v : ExceptionView) →
+    ensures alignment { (width : ℕ) (b : List ℕ) (d : DataDirectory)
+        (sections : List SectionTable) (unit : ℕ) (o : ParseOptions) (v : ExceptionView) →
         exception_at width b d sections unit o ≡ Ok v → v.alignment ≡ unit }
-    ensures inside { (width : ℕ) (b : List ℕ) (d : DataDirectory) (sections : List SectionTable) (unit : ℕ) (o : ParseOptions) (v : ExceptionView) →
+    ensures inside { (width : ℕ) (b : List ℕ) (d : DataDirectory)
+        (sections : List SectionTable) (unit : ℕ) (o : ParseOptions) (v : ExceptionView) →
         exception_at width b d sections unit o ≡ Ok v → v.start + v.size ≤ length v.content }
     ensures entries { (b : List ℕ) → length (functions b) ≡ length b / 12 }
 {}

@@ -10,7 +10,6 @@ use Rattle.pe_image.specs.Overlay.{Piece, overlay}
 use Rattle.pe_image.specs.Writing.{image_end, section_tests, whole_pieces}
 use Rattle.pe_image.proofs.Overlays.{overlay_in_turn}
 use Rattle.pe_image.proofs.Rows.{refused_too, written_too}
-use Rattle.pe_image.proofs.WrittenImages.{put_whole}
 use Rattle.pe_image.proofs.pe.PE.write_whole_with.Goals as goal
 
 pub returns-in_err-end : goal.returns-in_err-end
@@ -38,4 +37,4 @@ returns g c =
     let pieces : List Piece = whole_pieces b h o sections cs in
     let tests : List (Bool × Refusal) = section_tests b sections (length old) pieces in
     let end : ℕ = max (length b) (image_end h o sections cs) in
-    written_too tests end _ (overlay old pieces) _ c.in_ok-end.ensures.returned (put_whole old _ _ b h o sections cs c.set_slice.ensures c.set_pieces.ensures ∙ overlay_in_turn pieces old c.in_ok-end.ensures.fit)
+    written_too tests end _ (overlay old pieces) _ c.in_ok-end.ensures.returned (c.set_whole.ensures ∙ overlay_in_turn pieces old c.in_ok-end.ensures.fit)
