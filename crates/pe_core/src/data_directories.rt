@@ -119,7 +119,7 @@ impl fmt::Debug for DataDirectories {
 }
 
 impl DataDirectories {
-    ghost use Rattle.std.specs.Prelude.{min};
+    ghost use Rattle.std.specs.Prelude.{min, slice_get, slice_set};
     ghost use Rattle.pe_core.specs.Directories.{directories, kept, kept_rows, present};
 
     /// The directories at `offset`, where the header counts `count` of them. The caller knows those that are kept
@@ -154,6 +154,20 @@ impl DataDirectories {
         } else {
             Some(row)
         }
+    }
+
+    /// Puts an entry in place of the one with this index, and returns that one. `None` if the index is not below the
+    /// number of entries that are kept; then nothing changes. A writer of the image writes the new entry.
+    pub fn set(&mut self, index: usize, directory: DataDirectory) -> Option<DataDirectory>
+        ensures value { result ≡ slice_get (kept_rows self.old) index }
+        ensures rows { kept_rows self.new ≡ slice_set (kept_rows self.old) index directory }
+    {
+        if index >= self.count {
+            return None;
+        }
+        let row = self.rows[index];
+        self.rows[index] = directory;
+        Some(row)
     }
 
     /// The export directory, index 0: the exported functions.
