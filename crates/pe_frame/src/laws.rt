@@ -10,6 +10,8 @@ ghost use Rattle.pe_frame.specs.Machine.{loaded};
 ghost use Rattle.pe_frame.specs.Frames.{Part, infos, left, registers_of, AreFrames, IsCaller};
 ghost use Rattle.pe_frame.specs.Samples.{all_known, home_part, inner_part, framed_part, interrupt_part};
 ghost use Rattle.pe_frame.specs.Steps.{Steps, by_kind};
+ghost use Rattle.pe_frame.specs.declared.epilog.Instruction.TheVariants.{Add, Lea, Pop, Return, Jump};
+ghost use Rattle.pe_frame.specs.Epilogs.{epilog_at, StepsWithCode};
 
 use crate::registers::Registers;
 
@@ -20,6 +22,26 @@ pub fn one_result_of_steps()
         (x : Result Registers FrameError) × Steps m plan offset g x }
     ensures one { (m : ℕ → Option ℕ) (plan : List UnwindInfoView) (offset : ℕ) (g : Registers) (x y : Result Registers FrameError) →
         Steps m plan offset g x → Steps m plan offset g y → by_kind x ≡ by_kind y }
+{}
+
+/// A step with the code has a result, and one alone, up to the numbers in a refusal of codes.
+pub fn one_result_of_steps_with_code()
+    ensures exists { (m : ℕ → Option ℕ) (plan : List UnwindInfoView) (start rva : ℕ) (code : List ℕ) (g : Registers) →
+        (x : Result Registers FrameError) × StepsWithCode m plan start rva code g x }
+    ensures one { (m : ℕ → Option ℕ) (plan : List UnwindInfoView) (start rva : ℕ) (code : List ℕ) (g : Registers) (x y : Result Registers FrameError) →
+        StepsWithCode m plan start rva code g x → StepsWithCode m plan start rva code g y → by_kind x ≡ by_kind y }
+{}
+
+/// Bytes are the rest of an epilog: of one that frees stack by `add`, and of one that does by `lea` from the frame register. In
+/// the prolog they are none, nor are they where a jump stays in the function.
+pub fn epilogs_are_there()
+    ensures added { epilog_at (infos (home_part ∷ [])) 0x1000 0x1040 (0x48 ∷ 0x83 ∷ 0xC4 ∷ 0x20 ∷ 0x5F ∷ 0xC3 ∷ [])
+        ≡ Some (Add 32 ∷ Pop 7 ∷ Return 0 ∷ []) }
+    ensures loaded { epilog_at (infos (framed_part ∷ [])) 0x1000 0x1040 (0x48 ∷ 0x8D ∷ 0x65 ∷ 0x20 ∷ 0x5B ∷ 0x5D ∷ 0xC3 ∷ [])
+        ≡ Some (Lea 5 32 ∷ Pop 3 ∷ Pop 5 ∷ Return 0 ∷ []) }
+    ensures in_the_prolog { epilog_at (infos (home_part ∷ [])) 0x1000 0x1009 (0x5F ∷ 0xC3 ∷ []) ≡ None }
+    ensures jumped { epilog_at (infos (home_part ∷ [])) 0x1000 0x1040 (0xEB ∷ 0xBE ∷ []) ≡ None }
+    ensures left { epilog_at (infos (home_part ∷ [])) 0x1000 0x1040 (0xEB ∷ 0xBD ∷ []) ≡ Some (Jump 0xFFF ∷ []) }
 {}
 
 /// A step undoes what the prologs of a function did: where a machine ran them and stopped in the innermost part, after its

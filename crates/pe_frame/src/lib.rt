@@ -10,6 +10,7 @@
 //! caller of `step` looks up, and how a walk ends, is said there.
 #![tactic(auto)]
 
+mod epilog;
 mod error;
 mod frame;
 pub mod laws;
@@ -19,6 +20,6 @@ mod registers;
 mod undo;
 
 pub use error::FrameError;
-pub use frame::{leaf, step};
+pub use frame::{leaf, step, step_with_code};
 pub use memory::{Memory, Stack};
 pub use registers::Registers;
