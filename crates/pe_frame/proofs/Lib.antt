@@ -8,4 +8,5 @@ pub mod Undone
 pub mod Begun
 pub mod Frames
 pub mod Tails
+pub mod Returned
 pub mod Samples

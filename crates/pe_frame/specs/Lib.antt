@@ -6,4 +6,5 @@ pub mod Epilogs
 pub mod Tails
 pub mod Machine
 pub mod Frames
+pub mod EpilogFrames
 pub mod Samples
