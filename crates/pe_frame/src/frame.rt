@@ -141,9 +141,8 @@ pub fn step<M: Memory>(
 /// | `jmp` by an address in memory | FF /4 or 48 FF /4, with mode 0 |
 ///
 /// The function is the bytes from `start` to the end of `code`, and the entries to which its records are chained: a jump into
-/// one of them is none that leaves it. Where the bytes are anything else, this call is `step`. Pass the code of the top frame,
-/// and of one that an interrupt stopped. In each other frame a call is about to return, and none stands in an epilog:
-/// `step` is enough.
+/// one of them does not leave it. Where the bytes are anything else, this call is `step`. Call it in the top frame, and in one
+/// that an interrupt stopped. In every other frame `rva` is a return address, where no epilog has begun: call `step`.
 ///
 /// Refused in an epilog: for each instruction in turn `Memory` and `Address` where they come up, and last `NotRising`. Else as
 /// `step`.
