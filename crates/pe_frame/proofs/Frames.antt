@@ -33,7 +33,7 @@ pub record Entry (c : Bool) (limit : Option ℕ) (p : Part) (m : ℕ → Option 
   pub registers : (r : ℕ) → r ≢ 4 → get_or entry.general r 0 ≡ chosen (saves (ran limit p.codes) r) (get_or p.entry.general r 0) (get_or g.general r 0)
   pub xmm_registers : (r : ℕ) → get_or entry.xmm r 0 ≡ chosen (saves_xmm (ran limit p.codes) r) (get_or p.entry.xmm r 0) (get_or g.xmm r 0)
 
-entry_of : (c : Bool) (limit : Option ℕ) (p : Part) (m : ℕ → Option ℕ) (g : Registers) → IsRecord c p → StopsIn c limit p m g → Entry c limit p m g
+pub entry_of : (c : Bool) (limit : Option ℕ) (p : Part) (m : ℕ → Option ℕ) (g : Registers) → IsRecord c p → StopsIn c limit p m g → Entry c limit p m g
 entry_of c limit p m g record_is stops =
     let f = frame_of p.info in
     let codes = ran limit p.codes in
@@ -236,7 +236,7 @@ left_return p [] limit v u h at rip = undone.after_plain (ran limit p.codes) p.e
 left_return p (q ∷ parts) limit v u h at rip = left_return q parts None v u h at rip
 
 -- the caller, once the records are undone
-abbrev Called : (ℕ → Option ℕ) → List Part → Option ℕ → Registers → (Registers × Bool) → Type 0
+abbrev pub Called : (ℕ → Option ℕ) → List Part → Option ℕ → Registers → (Registers × Bool) → Type 0
 Called m parts limit g e = (u : Registers) × (returned m (pointer g) e ≡ Ok u) × IsCaller parts limit g u
 
 popped_ok : (m : ℕ → Option ℕ) (t a p : ℕ) (v : Registers) → pointer v ≡ t → m t ≡ Some a → t + 8 < 2 ^ 64 → p ≤ t → length v.general ≡ 16 →
@@ -247,7 +247,7 @@ popped_ok m t a p v at word room low count =
     let test : ltb p (t + 8) ≡ true = lt-ltb p (t + 8) (omega arith) in
     rw (undone.number_ok m (pointer v) a here) (rw (undone.raised_at 8 t v at room) (rw set_stack (rw test refl)))
 
-called : (m : ℕ → Option ℕ) (p : Part) (parts : List Part) (limit : Option ℕ) (g v : Registers) (b : Bool) → AreFrames m (p ∷ parts) limit g → length v.general ≡ 16 → LeftAt (p ∷ parts) limit b v
+pub called : (m : ℕ → Option ℕ) (p : Part) (parts : List Part) (limit : Option ℕ) (g v : Registers) (b : Bool) → AreFrames m (p ∷ parts) limit g → length v.general ≡ 16 → LeftAt (p ∷ parts) limit b v
     → ((r : ℕ) → r ≢ 4 → get_or v.general r 0 ≡ restored (p ∷ parts) limit r (get_or g.general r 0)) → ((r : ℕ) → get_or v.xmm r 0 ≡ restored_xmm (p ∷ parts) limit r (get_or g.xmm r 0)) → Called m (p ∷ parts) limit g (v, b)
 called m p parts limit g v true frames count at registers xmm_registers =
     (v, refl, record { leaves = left_interrupt p parts limit v at; registers = registers; xmm_registers = xmm_registers })

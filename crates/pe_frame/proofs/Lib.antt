@@ -7,4 +7,6 @@ pub mod Saved
 pub mod Undone
 pub mod Begun
 pub mod Frames
+pub mod Tails
+pub mod Returned
 pub mod Samples

@@ -1,14 +1,16 @@
 -- There is one step, up to the numbers in a refusal of codes.
-use Rattle.std.proofs.Common.{◌≡◌, ℕ, Bool, false, ◌||◌, List, [], ◌∷◌, map, Option, None, Result, Ok, Err, refl, ap, sym, ◌∙◌, subst}
+use Rattle.std.proofs.Common.{◌≡◌, ℕ, Bool, false, ◌||◌, List, [], ◌∷◌, map, Option, Some, None, Result, Ok, Err, refl, ap, sym, ◌∙◌, subst}
 use Rattle.pe_core.specs.Refusals.{Refusal, kind_of, answer_of}
 use Rattle.pe_core.specs.declared.error.Error.{Error}
 use Rattle.pe_unwind.specs.declared.unwind_code.UnwindCode.{UnwindCode}
 use Rattle.pe_unwind.specs.UnwindRecord.{UnwindInfoView, code_stream}
 use Rattle.pe_unwind.proofs.Streams.{one_reading, some_items}
+use Rattle.pe_frame.specs.declared.epilog.Instruction.{Instruction}
 use Rattle.pe_frame.specs.declared.error.FrameError.{FrameError}
 use Rattle.pe_frame.specs.declared.registers.Registers.{Registers}
 use Rattle.pe_frame.specs.Undoing.{◌>>=◌, entered, pointer}
-use Rattle.pe_frame.specs.Steps.{known_codes, HasCodes, frame_of, limit_of, Enters, Then, Undoes, returned, Steps, OfCodes, error_kind, by_kind}
+use Rattle.pe_frame.specs.Steps.{known_codes, HasCodes, frame_of, limit_of, Enters, Then, Undoes, returned, rising, Steps, OfCodes, error_kind, by_kind}
+use Rattle.pe_frame.specs.Epilogs.{executed_all, StepsFrom}
 
 same_then : {A B : Type 0} (x y : Result A FrameError) (f : A → Result B FrameError) → by_kind x ≡ by_kind y → by_kind (x >>= f) ≡ by_kind (y >>= f)
 same_then (Ok x) (Ok y) f e = let same : x ≡ y = cc in ap (λ z. by_kind (f z)) same
@@ -78,3 +80,12 @@ pub some_step : (m : ℕ → Option ℕ) (plan : List UnwindInfoView) (offset : 
 some_step m plan offset g =
     let entry = some_undoing m plan (limit_of plan offset) false g in
     (entry.0 >>= returned m (pointer g), (entry.0, entry.1, refl))
+
+pub some_from : (o : Option (List Instruction)) (m : ℕ → Option ℕ) (plan : List UnwindInfoView) (offset : ℕ) (g : Registers) → (x : Result Registers FrameError) × StepsFrom o m plan offset g x
+some_from None m plan offset g = some_step m plan offset g
+some_from (Some rest) m plan offset g = (executed_all m rest g >>= rising (pointer g), refl)
+
+pub one_from : (o : Option (List Instruction)) (m : ℕ → Option ℕ) (plan : List UnwindInfoView) (offset : ℕ) (g : Registers) (x y : Result Registers FrameError) →
+    StepsFrom o m plan offset g x → StepsFrom o m plan offset g y → by_kind x ≡ by_kind y
+one_from None m plan offset g x y h k = one_step m plan offset g x y h k
+one_from (Some rest) m plan offset g x y h k = ap by_kind (h ∙ sym k)

@@ -6,7 +6,7 @@ use Rattle.pe_frame.specs.Undoing.{ran}
 use Rattle.pe_frame.specs.Steps.{frame_of}
 use Rattle.pe_frame.specs.Machine.{IsProlog, IsBody}
 use Rattle.pe_frame.specs.Frames.{Part, left, registers_of, IsRecord, SavesOrKeeps, AreFrames}
-use Rattle.pe_frame.specs.Samples.{all_known, home_part, inner_part, framed_part, interrupt_part}
+use Rattle.pe_frame.specs.Samples.{all_known, home_part, inner_part, framed_part, interrupt_part, pushed_part, set_part}
 
 abbrev HasItems : Part → Type 0
 HasItems p = AreItems (code_stream p.info) (map Ok p.codes)
@@ -89,3 +89,31 @@ begun = (framed_record, omega arith, record { order = (22, search rules); body =
 
 pub interrupted : AreFrames (all_known (left None interrupt_part)) (interrupt_part ∷ []) None (registers_of (left None interrupt_part))
 interrupted = (record { items = interrupt_items; prolog = interrupt_prolog; frame = inl refl }, omega arith, record { order = tt; body = interrupt_body })
+
+pushed_items : HasItems pushed_part
+pushed_items = (2, (omega arith, (refl, inr (inl (refl, refl)))), (2, (omega arith, (refl, inl (refl, refl))), refl))
+
+pushed_prolog : RunsProlog true pushed_part
+pushed_prolog = search rules
+
+pushed_body : IsBody true (frame_of pushed_part.info) (ran None pushed_part.codes) pushed_part.entry (all_known (left None pushed_part)) (registers_of (left None pushed_part))
+pushed_body = search rules
+
+pub pushed : AreFrames (all_known (left None pushed_part)) (pushed_part ∷ []) None (registers_of (left None pushed_part))
+pushed = (record { items = pushed_items; prolog = pushed_prolog; frame = inl refl }, omega arith, record { order = tt; body = pushed_body })
+
+set_items : HasItems set_part
+set_items = (
+  2,
+  (omega arith, (refl, inr (inr (inl (refl, refl))))),
+  (2, (omega arith, (refl, inr (inl (refl, refl)))), (2, (omega arith, (refl, inl (refl, refl))), (2, (omega arith, (refl, inl (refl, refl))), refl))),
+)
+
+set_prolog : RunsProlog true set_part
+set_prolog = search rules
+
+set_body : IsBody true (frame_of set_part.info) (ran None set_part.codes) set_part.entry (all_known (left None set_part)) (registers_of (left None set_part))
+set_body = search rules
+
+pub set_frames : AreFrames (all_known (left None set_part)) (set_part ∷ []) None (registers_of (left None set_part))
+set_frames = (record { items = set_items; prolog = set_prolog; frame = inr refl }, omega arith, record { order = tt; body = set_body })

@@ -2,6 +2,9 @@ pub mod Memory
 pub mod Undoing
 pub mod Steps
 pub mod Survey
+pub mod Epilogs
+pub mod Tails
 pub mod Machine
 pub mod Frames
+pub mod EpilogFrames
 pub mod Samples

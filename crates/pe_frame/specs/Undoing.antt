@@ -95,6 +95,10 @@ undone_all m base (o ∷ os) g = undone m base o g >>= undone_all m base os
 abbrev pub popped : (ℕ → Option ℕ) → Registers → Result Registers FrameError
 popped m g = number m (pointer g) >>= λ a. raised 8 g >>= λ u. Ok (put_rip u a)
 
+-- the same after `ret n`, which drops so many bytes more
+abbrev pub dropped : (ℕ → Option ℕ) → ℕ → Registers → Result Registers FrameError
+dropped m n g = number m (pointer g) >>= λ a. raised (8 + n) g >>= λ u. Ok (put_rip u a)
+
 -- an operation that sets the frame register; and that an interrupt did
 abbrev pub sets_frame : UnwindOperation → Bool
 sets_frame SetFPRegister = true

@@ -11,7 +11,8 @@ pub enum FrameError {
     /// The address of eight bytes that the memory does not have.
     #[error("no memory at address {0:#x}")]
     Memory(u64),
-    /// An address from which an unwind code counts: its sum passes 2^64, or the frame register lies below its offset.
+    /// An address from which an unwind code, or `add` in an epilog, counts: its sum passes 2^64, or the frame register lies
+    /// below its offset.
     #[error("address {0:#x} and the offset of an unwind code do not fit 64 bits")]
     Address(u64),
     /// An operation that no step undoes: one on a register of no such number, `SetFPRegister` in a record without a frame

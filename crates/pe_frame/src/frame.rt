@@ -1,12 +1,16 @@
 //! One step of a stack walk.
 
 ghost use Rattle.std.specs.Prelude.{◌≡◌, ◌-◌, List, ◌∷◌, map, false, Ok};
+ghost use Rattle.std.specs.Option.{option_map};
 ghost use Rattle.pe_unwind.specs.UnwindRecord.{unwind_view};
 ghost use Rattle.pe_frame.specs.Undoing.{popped};
 ghost use Rattle.pe_frame.specs.declared.registers.Registers.{Registers};
 ghost use Rattle.pe_frame.specs.Frames.{Part, infos, AreFrames, IsCaller};
-ghost use Rattle.pe_frame.specs.Steps.{Steps, Undoes, limit_of};
+ghost use Rattle.pe_frame.specs.Steps.{Steps, Undoes, limit_of, rising};
+ghost use Rattle.pe_frame.specs.Epilogs.{epilog_at, StepsWithCode};
+ghost use Rattle.pe_frame.specs.Tails.{instructions_of};
 
+use crate::epilog::{Tail, execute_tail, tail_at};
 use crate::error::FrameError;
 use crate::memory::Memory;
 use crate::record::enter;
@@ -47,6 +51,17 @@ fn undo_records<M: Memory>(
     Ok((current, is_interrupted))
 }
 
+/// The registers of the caller, if its stack pointer is above this one.
+fn rising(pointer: u64, caller: Registers) -> Result<Registers, FrameError>
+    ensures { result ≡ rising pointer caller }
+{
+    let above = caller.general[RSP];
+    if above <= pointer {
+        return Err(FrameError::NotRising(above));
+    }
+    Ok(caller)
+}
+
 /// The registers of the caller, from those at an offset in a function.
 fn caller<M: Memory>(
     plan: &[UnwindInfo<'_>],
@@ -62,11 +77,17 @@ fn caller<M: Memory>(
         return Ok(entry);
     }
     let caller = pop(entry, memory)?;
-    let pointer = caller.general[RSP];
-    if pointer <= registers.general[RSP] {
-        return Err(FrameError::NotRising(pointer));
+    rising(registers.general[RSP], caller)
+}
+
+/// What is left of an epilog at an RVA, from which on the function has this code. In the prolog there is none.
+fn epilog_at<'a>(plan: &[UnwindInfo<'_>], start: u32, rva: u32, code: &'a [u8]) -> Option<Tail<'a>>
+    ensures { option_map instructions_of result ≡ epilog_at (map unwind_view plan.now) start rva code.now }
+{
+    match limit_of(plan, rva.saturating_sub(start)) {
+        Some(_) => None,
+        None => tail_at(plan, start, u64::from(rva) + code.len() as u64, code),
     }
-    Ok(caller)
 }
 
 /// The registers of a function's caller, from those inside the function.
@@ -74,7 +95,8 @@ fn caller<M: Memory>(
 /// `plan` has the function's unwind records, as `UnwindPlan::of` of pe_plan returns them; `start` is the `begin_address` of
 /// the function that lookup found, `rva` the instruction pointer less the image base. At or after the end of the prolog all
 /// codes of the first record are undone, inside of it those that end at or before `rva`. The records to which it is chained
-/// are undone whole. Epilogs are not recognized: in one of them the result is wrong.
+/// are undone whole. Epilogs are not recognized: in one of them the result is wrong. [`step_with_code`] recognizes them by the
+/// function's bytes.
 ///
 /// **A walk.** In the top frame `rva` is the instruction that is about to run: look the function up by it. In each other frame
 /// it is a return address, which may lie after the end of the function if the call is its last instruction: look up by
@@ -101,6 +123,46 @@ pub fn step<M: Memory>(
         (u : Registers) × (result ≡ Ok u) × IsCaller (p ∷ parts) (limit_of (infos (p ∷ parts)) (rva - start)) registers u }
 {
     caller(plan, rva.saturating_sub(start), registers, memory)
+}
+
+/// The registers of a function's caller, from those inside the function, in its epilogs too.
+///
+/// As [`step`], with the function's bytes from `rva` to its end in `code`. After the prolog, if they start with what is left
+/// of an epilog, that is run in place of undoing codes: what frees the stack, then at most 16 pops, then the instruction that
+/// leaves the function.
+///
+/// | instruction | bytes |
+/// |---|---|
+/// | `add rsp, n`, for n from 0 on | 48 83 C4 ib, 48 81 C4 id |
+/// | `lea rsp, [register + n]`, by the frame register of the first record | 48 or 49, 8D, ModRM with mode 1 or 2, for r12 the SIB byte 24, ib or id |
+/// | `pop register`, of any but rsp | 58 + r, 41 58 + r |
+/// | `ret`, `ret n` | C3, F3 C3, C2 iw |
+/// | `jmp` to an RVA outside of the function | EB ib, E9 id |
+/// | `jmp` by an address in memory | FF /4 or 48 FF /4, with mode 0 |
+///
+/// The function is the bytes from `start` to the end of `code`, and the entries to which its records are chained: a jump into
+/// one of them does not leave it. Where the bytes are anything else, this call is `step`. Call it in the top frame, and in one
+/// that an interrupt stopped. In every other frame `rva` is a return address, where no epilog has begun: call `step`.
+///
+/// Refused in an epilog: for each instruction in turn `Memory` and `Address` where they come up, and last `NotRising`. Else as
+/// `step`.
+pub fn step_with_code<M: Memory>(
+    plan: &[UnwindInfo<'_>],
+    start: u32,
+    rva: u32,
+    code: &[u8],
+    registers: Registers,
+    memory: &M,
+) -> Result<Registers, FrameError>
+    ensures { StepsWithCode (M.word memory.now) (map unwind_view plan.now) start rva code.now registers result }
+{
+    match epilog_at(plan, start, rva, code) {
+        Some(tail) => {
+            let caller = execute_tail(tail, registers, memory)?;
+            rising(registers.general[RSP], caller)
+        }
+        None => caller(plan, rva.saturating_sub(start), registers, memory),
+    }
 }
 
 /// The registers of the caller of a leaf function: one without unwind data, which changes no nonvolatile register and leaves

@@ -1,6 +1,6 @@
 //! Laws over the definitions. Each is the contract of a function that does nothing.
 
-ghost use Rattle.std.specs.Prelude.{◌≡◌, ℕ, ◌+◌, ◌-◌, ◌^◌, ◌<◌, ◌≤◌, length, slice_index, List, Option, None, Some, Result, Ok, [], ◌∷◌};
+ghost use Rattle.std.specs.Prelude.{◌≡◌, ℕ, ◌+◌, ◌-◌, ◌^◌, ◌<◌, ◌≤◌, length, slice_index, List, Option, None, Some, Result, Ok, [], ◌∷◌, ◌++◌};
 ghost use Rattle.pe_core.specs.Traits.{IsEquality};
 ghost use Rattle.pe_unwind.specs.UnwindRecord.{UnwindInfoView};
 ghost use Rattle.pe_frame.specs.declared.error.FrameError.{FrameError};
@@ -8,8 +8,13 @@ ghost use Rattle.pe_frame.specs.declared.registers.Registers.{Registers};
 ghost use Rattle.pe_frame.specs.Memory.{stack_word};
 ghost use Rattle.pe_frame.specs.Machine.{loaded};
 ghost use Rattle.pe_frame.specs.Frames.{Part, infos, left, registers_of, AreFrames, IsCaller};
-ghost use Rattle.pe_frame.specs.Samples.{all_known, home_part, inner_part, framed_part, interrupt_part};
-ghost use Rattle.pe_frame.specs.Steps.{Steps, by_kind};
+ghost use Rattle.pe_frame.specs.Samples.{all_known, home_part, inner_part, framed_part, interrupt_part, pushed_part, set_part};
+ghost use Rattle.pe_frame.specs.Steps.{Steps, frame_of, by_kind};
+ghost use Rattle.pe_frame.specs.declared.epilog.Instruction.TheVariants.{Add, Lea, Pop, Return, Jump};
+ghost use Rattle.pe_frame.specs.declared.epilog.Instruction.{Instruction};
+ghost use Rattle.pe_frame.specs.Undoing.{ran};
+ghost use Rattle.pe_frame.specs.Epilogs.{executed_all, epilog_at, StepsWithCode};
+ghost use Rattle.pe_frame.specs.EpilogFrames.{IsEpilogOf};
 
 use crate::registers::Registers;
 
@@ -20,6 +25,41 @@ pub fn one_result_of_steps()
         (x : Result Registers FrameError) × Steps m plan offset g x }
     ensures one { (m : ℕ → Option ℕ) (plan : List UnwindInfoView) (offset : ℕ) (g : Registers) (x y : Result Registers FrameError) →
         Steps m plan offset g x → Steps m plan offset g y → by_kind x ≡ by_kind y }
+{}
+
+/// A step with the code has a result, and one alone, up to the numbers in a refusal of codes.
+pub fn one_result_of_steps_with_code()
+    ensures exists { (m : ℕ → Option ℕ) (plan : List UnwindInfoView) (start rva : ℕ) (code : List ℕ) (g : Registers) →
+        (x : Result Registers FrameError) × StepsWithCode m plan start rva code g x }
+    ensures one { (m : ℕ → Option ℕ) (plan : List UnwindInfoView) (start rva : ℕ) (code : List ℕ) (g : Registers) (x y : Result Registers FrameError) →
+        StepsWithCode m plan start rva code g x → StepsWithCode m plan start rva code g y → by_kind x ≡ by_kind y }
+{}
+
+/// There are such epilogs: one that frees stack by `add`, and one that does by `lea` from the frame register. Their prologs are
+/// those of frames. In the prolog there is no epilog, nor where a jump stays in the function.
+pub fn epilogs_are_there()
+    ensures added { epilog_at (infos (pushed_part ∷ [])) 0x1000 0x1040 (0x48 ∷ 0x83 ∷ 0xC4 ∷ 0x20 ∷ 0x5B ∷ 0xC3 ∷ [])
+        ≡ Some (Add 32 ∷ Pop 3 ∷ Return 0 ∷ []) }
+    ensures of_added { IsEpilogOf (frame_of pushed_part.info) (ran None pushed_part.codes) (Add 32 ∷ Pop 3 ∷ Return 0 ∷ []) }
+    ensures pushed { AreFrames (all_known (left None pushed_part)) (pushed_part ∷ []) None (registers_of (left None pushed_part)) }
+    ensures loaded { epilog_at (infos (set_part ∷ [])) 0x1000 0x1040 (0x48 ∷ 0x8D ∷ 0x65 ∷ 0x20 ∷ 0x5B ∷ 0x5D ∷ 0xC3 ∷ [])
+        ≡ Some (Lea 5 32 ∷ Pop 3 ∷ Pop 5 ∷ Return 0 ∷ []) }
+    ensures of_loaded { IsEpilogOf (frame_of set_part.info) (ran None set_part.codes) (Lea 5 32 ∷ Pop 3 ∷ Pop 5 ∷ Return 0 ∷ []) }
+    ensures set { AreFrames (all_known (left None set_part)) (set_part ∷ []) None (registers_of (left None set_part)) }
+    ensures in_the_prolog { epilog_at (infos (pushed_part ∷ [])) 0x1000 0x1004 (0x5B ∷ 0xC3 ∷ []) ≡ None }
+    ensures jumped { epilog_at (infos (pushed_part ∷ [])) 0x1000 0x1040 (0xEB ∷ 0xBE ∷ []) ≡ None }
+    ensures left { epilog_at (infos (pushed_part ∷ [])) 0x1000 0x1040 (0xEB ∷ 0xBD ∷ []) ≡ Some (Jump 0xFFF ∷ []) }
+{}
+
+/// What is left of an epilog leads to the caller. A machine ran a prolog that pushed registers, then allocated stack and then set a
+/// frame register, each of which it may not do. From its body on the first instructions of the epilog ran, and the code has
+/// the others: a step with the code then returns the registers of the caller.
+pub fn epilogs_return_to_the_caller()
+    ensures { (m : ℕ → Option ℕ) (p : Part) (before rest : List Instruction) (i : Instruction) (start rva : ℕ) (code : List ℕ)
+        (g h : Registers) (x : Result Registers FrameError) → AreFrames m (p ∷ []) None g →
+        IsEpilogOf (frame_of p.info) (ran None p.codes) (before ++ (i ∷ rest)) → executed_all m before g ≡ Ok h →
+        epilog_at (infos (p ∷ [])) start rva code ≡ Some (i ∷ rest) → StepsWithCode m (infos (p ∷ [])) start rva code h x →
+        (u : Registers) × (x ≡ Ok u) × IsCaller (p ∷ []) None g u }
 {}
 
 /// A step undoes what the prologs of a function did: where a machine ran them and stopped in the innermost part, after its

@@ -7,9 +7,11 @@
 //! codes and the procedure.
 //!
 //! A walk is `UnwindPlan::of` of pe_plan and [`step`] in turn, or [`leaf`] where no function covers the address. What a
-//! caller of `step` looks up, and how a walk ends, is said there.
+//! caller of `step` looks up, and how a walk ends, is said there. In an epilog the codes do not hold any more:
+//! [`step_with_code`] knows one by its bytes.
 #![tactic(auto)]
 
+mod epilog;
 mod error;
 mod frame;
 pub mod laws;
@@ -19,6 +21,6 @@ mod registers;
 mod undo;
 
 pub use error::FrameError;
-pub use frame::{leaf, step};
+pub use frame::{leaf, step, step_with_code};
 pub use memory::{Memory, Stack};
 pub use registers::Registers;

@@ -1,7 +1,7 @@
 //! Undoing one operation of a prolog.
 
 ghost use Rattle.std.specs.Prelude.{◌≡◌};
-ghost use Rattle.pe_frame.specs.Undoing.{offset_number, number, above, raised, require_integer, require_xmm, xmm_number, interrupted_at, undone, popped};
+ghost use Rattle.pe_frame.specs.Undoing.{offset_number, number, above, raised, require_integer, require_xmm, xmm_number, interrupted_at, undone, popped, dropped};
 
 use crate::error::FrameError;
 use crate::memory::{Memory, SIZE_OF_WORD};
@@ -43,7 +43,7 @@ fn above(address: u64, offset: u64) -> Result<u64, FrameError>
 }
 
 /// The registers with the stack pointer raised.
-fn raise(by: u64, registers: Registers) -> Result<Registers, FrameError>
+pub(crate) fn raise(by: u64, registers: Registers) -> Result<Registers, FrameError>
     ensures { result ≡ raised by registers }
 {
     let mut registers = registers;
@@ -145,12 +145,23 @@ pub(crate) fn undo<M: Memory>(
     }
 }
 
+/// The caller's registers, where the stack pointer points at the return address and so many bytes after it are dropped.
+pub(crate) fn pop_and_drop<M: Memory>(
+    bytes: u16,
+    registers: Registers,
+    memory: &M,
+) -> Result<Registers, FrameError>
+    ensures { result ≡ dropped (M.word memory.now) bytes registers }
+{
+    let address = number(memory, registers.general[RSP])?;
+    let mut caller = raise(SIZE_OF_WORD + u64::from(bytes), registers)?;
+    caller.rip = address;
+    Ok(caller)
+}
+
 /// The caller's registers, where the stack pointer points at the return address.
 pub(crate) fn pop<M: Memory>(registers: Registers, memory: &M) -> Result<Registers, FrameError>
     ensures { result ≡ popped (M.word memory.now) registers }
 {
-    let address = number(memory, registers.general[RSP])?;
-    let mut caller = raise(SIZE_OF_WORD, registers)?;
-    caller.rip = address;
-    Ok(caller)
+    pop_and_drop(0, registers, memory)
 }

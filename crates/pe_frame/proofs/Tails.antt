@@ -1,0 +1,73 @@
+-- Pops at the start of code, one after the other.
+use Rattle.std.proofs.Common.{◌≡◌, ℕ, zero, suc, List, [], ◌∷◌, ◌++◌, map, drop, Option, Some, None, Result, Ok, Err, refl, sym, ◌∙◌}
+use Rattle.pe_frame.specs.declared.epilog.Instruction.{Instruction}
+use Rattle.pe_frame.specs.declared.epilog.Instruction.TheVariants.{Pop}
+use Rattle.pe_frame.specs.declared.error.FrameError.{FrameError}
+use Rattle.pe_frame.specs.declared.registers.Registers.{Registers}
+use Rattle.pe_frame.specs.Undoing.{◌>>=◌}
+use Rattle.pe_frame.specs.Epilogs.{pop_form, popped_first, after_pops, executed, executed_all}
+use Rattle.pe_frame.specs.Tails.{alone}
+
+pub after_step : (k n : ℕ) (code : List ℕ) (p : ℕ × ℕ) → k ≡ suc n → pop_form code ≡ Some p → after_pops k code ≡ after_pops n (drop p.1 code)
+unfolding after_pops
+after_step k n code p e f = rw e (rw f refl)
+
+pub after_none : (k : ℕ) (code : List ℕ) → pop_form code ≡ None → after_pops k code ≡ code
+unfolding after_pops
+after_none zero code f = refl
+after_none (suc n) code f = rw f refl
+
+pub first_step : (k n : ℕ) (code : List ℕ) (p : ℕ × ℕ) → k ≡ suc n → pop_form code ≡ Some p → popped_first k code ≡ p.0 ∷ popped_first n (drop p.1 code)
+unfolding popped_first
+first_step k n code p e f = rw e (rw f refl)
+
+pub first_none : (k : ℕ) (code : List ℕ) → pop_form code ≡ None → popped_first k code ≡ []
+unfolding popped_first
+first_none zero code f = refl
+first_none (suc n) code f = rw f refl
+
+-- one pop run, and the others after it
+pub pops_step : (m : ℕ → Option ℕ) (k n : ℕ) (code : List ℕ) (p : ℕ × ℕ) (g : Registers) (r : Result Registers FrameError) → k ≡ suc n → pop_form code ≡ Some p → executed m (Pop p.0) g ≡ r →
+    executed_all m (map Pop (popped_first k code)) g ≡ (r >>= executed_all m (map Pop (popped_first n (drop p.1 code))))
+pops_step m k n code p g r e f h = rw (first_step k n code p e f) (rw h refl)
+
+pub pops_none : (m : ℕ → Option ℕ) (k : ℕ) (code : List ℕ) (g : Registers) → pop_form code ≡ None → executed_all m (map Pop (popped_first k code)) g ≡ Ok g
+pops_none m k code g f = rw (first_none k code f) refl
+
+pub after_all : (k : ℕ) (code : List ℕ) → k ≡ 0 → after_pops k code ≡ code
+unfolding after_pops
+after_all k code e = rw e refl
+
+pub pops_all : (m : ℕ → Option ℕ) (k : ℕ) (code : List ℕ) (g : Registers) → k ≡ 0 → executed_all m (map Pop (popped_first k code)) g ≡ Ok g
+unfolding popped_first
+pops_all m k code g e = rw e refl
+
+-- steps that are the same after the first one are the same
+pub then_same : {A B : Type 0} (x : Result A FrameError) (f h : A → Result B FrameError) → ((v : A) → f v ≡ h v) → (x >>= f) ≡ (x >>= h)
+then_same (Ok v) f h same = same v
+then_same (Err e) f h same = refl
+
+pub then_then : {A B C : Type 0} (x : Result A FrameError) (f : A → Result B FrameError) (h : B → Result C FrameError) → ((x >>= f) >>= h) ≡ (x >>= λ v. f v >>= h)
+then_then (Ok v) f h = refl
+then_then (Err e) f h = refl
+
+pub then_ok : {A : Type 0} (x : Result A FrameError) → (x >>= λ v. Ok v) ≡ x
+then_ok (Ok v) = refl
+then_ok (Err e) = refl
+
+-- instructions run, and then others
+pub executed_append : (m : ℕ → Option ℕ) (is js : List Instruction) (g : Registers) → executed_all m (is ++ js) g ≡ (executed_all m is g >>= executed_all m js)
+executed_append m [] js g = refl
+executed_append m (i ∷ is) js g =
+    then_same (executed m i g) (executed_all m (is ++ js)) (λ v. executed_all m is v >>= executed_all m js) (λ v. executed_append m is js v)
+    ∙ sym (then_then (executed m i g) (executed_all m is) (executed_all m js))
+
+-- the three parts of a tail run
+pub tail_run : (m : ℕ → Option ℕ) (trim : Option Instruction) (pops : List ℕ) (exit : Instruction) (g : Registers) →
+    executed_all m (alone trim ++ (map Pop pops ++ (exit ∷ []))) g
+    ≡ (executed_all m (alone trim) g >>= λ v. executed_all m (map Pop pops) v >>= executed m exit)
+tail_run m trim pops exit g =
+    executed_append m (alone trim) (map Pop pops ++ (exit ∷ [])) g
+    ∙ then_same (executed_all m (alone trim) g) (executed_all m (map Pop pops ++ (exit ∷ []))) (λ v. executed_all m (map Pop pops) v >>= executed m exit)
+    (λ v. executed_append m (map Pop pops) (exit ∷ []) v
+    ∙ then_same (executed_all m (map Pop pops) v) (executed_all m (exit ∷ [])) (executed m exit) (λ w. then_ok (executed m exit w)))

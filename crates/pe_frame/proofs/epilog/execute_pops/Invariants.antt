@@ -1,0 +1,10 @@
+use Rattle.std.proofs.Common.{◌≡◌, ◌-◌, map}
+use Rattle.pe_frame.specs.declared.epilog.Instruction.TheVariants.{Pop}
+use Rattle.pe_frame.specs.Epilogs.{popped_first, most_pops, executed_all}
+use Rattle.pe_frame.proofs.epilog.execute_pops.Given as goal
+
+-- what the pops that are left give is what all give
+abbrev pub invariant-loop : goal.invariant-loop
+invariant-loop g l =
+    executed_all (g.M.Memory.word l.memory) (map Pop (popped_first (most_pops - l.counter) l.rest)) l.current
+    ≡ executed_all (g.M.Memory.word l.memory) (map Pop (popped_first most_pops l.code)) l.fn.registers
