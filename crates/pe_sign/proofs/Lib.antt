@@ -6,3 +6,5 @@ pub mod Tests
 pub mod SectionRows
 pub mod Writes
 pub mod Agreement
+pub mod Digests
+pub mod WrittenImages

@@ -17,6 +17,7 @@ mod checks;
 mod digest;
 mod error;
 mod image_checksum;
+pub mod laws;
 mod put;
 
 pub use attachment::{Placement, attach, attached_len, detach, detached_len};
