@@ -54,9 +54,9 @@ covered_at l b u h below above =
     let before_q : kept_bytes q 0 xs ≡ kept_bytes (in_fields l) 0 xs = kept_by q (in_fields l) 0 xs (λ k from to. left_out_before l k (below k (omega (arith, size)))) in
     let before_r : kept_bytes r 0 xs ≡ xs = kept_all r 0 xs (λ k from to. below k (omega (arith, size))) in
     let content : kept_bytes q 0 b ≡ kept_bytes (in_fields l) 0 xs =
-        ap (λ (zs : List ℕ). kept_bytes q 0 zs) (sym whole) ∙ kept_append q 0 xs ys ∙ ap (λ (zs : List ℕ). kept_bytes q 0 xs ++ zs) after_q ∙ append-nil (kept_bytes q 0 xs) ∙ before_q in
+    ap (λ (zs : List ℕ). kept_bytes q 0 zs) (sym whole) ∙ kept_append q 0 xs ys ∙ ap (λ (zs : List ℕ). kept_bytes q 0 xs ++ zs) after_q ∙ append-nil (kept_bytes q 0 xs) ∙ before_q in
     let rest : kept_bytes r 0 b ≡ xs =
-        ap (λ (zs : List ℕ). kept_bytes r 0 zs) (sym whole) ∙ kept_append r 0 xs ys ∙ ap (λ (zs : List ℕ). kept_bytes r 0 xs ++ zs) after_r ∙ append-nil (kept_bytes r 0 xs) ∙ before_r in
+    ap (λ (zs : List ℕ). kept_bytes r 0 zs) (sym whole) ∙ kept_append r 0 xs ys ∙ ap (λ (zs : List ℕ). kept_bytes r 0 xs ++ zs) after_r ∙ append-nil (kept_bytes r 0 xs) ∙ before_r in
     ap (λ (c : List ℕ). covered_by c (zeros_after l b)) content
     ∙ ap (λ (n : ℕ). covered_by (kept_bytes (in_fields l) 0 xs) (lacking n)) (ap (λ (zs : List ℕ). length zs) rest ∙ size)
 
@@ -249,7 +249,7 @@ attached_digest placement l c b fits =
     let agree : Agree q f j = agree_fields l (entry_to start (length j)) j (holds_joined placement l c b fits) in
     let inside : start ≤ length f = omega (arith, start_inside placement l c b fits, agree.count) in
     let same : kept_bytes q 0 (take start f) ≡ kept_bytes q 0 (before_table placement l b) =
-        kept_same q (take start f) (take start j) (agree_take q f j start inside agree) ∙ ap (λ (x : List ℕ). kept_bytes q 0 x) (front_of placement l c b fits) in
+    kept_same q (take start f) (take start j) (agree_take q f j start inside agree) ∙ ap (λ (x : List ℕ). kept_bytes q 0 x) (front_of placement l c b fits) in
     ap (λ (x : Covered). covered_bytes x) (covered_tabled l f start inside)
     ∙ ap (λ (x : List ℕ). x ++ replicate (lacking start) 0) same
     ∙ same_digest placement l b fits

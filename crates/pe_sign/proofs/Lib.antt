@@ -8,3 +8,4 @@ pub mod Writes
 pub mod Agreement
 pub mod Digests
 pub mod WrittenImages
+pub mod Detaching
