@@ -77,6 +77,32 @@ def run(words):
     return done.returncode, text, done.stderr.decode("utf-8", "replace")
 
 
+# Signatures.
+
+
+class Signer:
+    """A key and a certificate for one run, and the images that it signs."""
+
+    def __init__(self):
+        self.folder = tempfile.mkdtemp()
+        self.key, self.certificate = f"{self.folder}/key.pem", f"{self.folder}/certificate.pem"
+        subprocess.run(["openssl", "req", "-x509", "-newkey", "rsa:2048", "-nodes", "-keyout", self.key, "-out", self.certificate,
+                        "-days", "2", "-subj", "/CN=test"], check=True, stderr=subprocess.DEVNULL)
+
+    def signed(self, path):
+        """The place of a signed copy, or None and why there is none."""
+        out = f"{self.folder}/signed"
+        if os.path.exists(out):
+            os.remove(out)
+        done = run(["osslsigncode", "sign", "-h", "sha256", "-certs", self.certificate, "-key", self.key, "-in", path, "-out", out])
+        if done is None or done[0] != 0 or not os.path.exists(out):
+            return None, "hangs" if done is None else (done[1] + done[2]).strip().split("\n")[-1]
+        return out, None
+
+    def close(self):
+        shutil.rmtree(self.folder)
+
+
 # The headers of an image.
 
 

@@ -1,3 +1,11 @@
 pub mod Sums
 pub mod Parts
 pub mod Slices
+pub mod Splices
+pub mod Tests
+pub mod SectionRows
+pub mod Writes
+pub mod Agreement
+pub mod Digests
+pub mod WrittenImages
+pub mod Detaching

@@ -52,7 +52,7 @@ or_last false false = refl
 in_entry : (l : LeftOut) (k : ℕ) → is_in l.directory_entry k ≡ true → is_left_out l k ≡ true
 in_entry l k h = rw h (or_true (is_in l.checksum k) (is_in l.certificates k))
 
-in_certificates : (l : LeftOut) (k : ℕ) → is_in l.certificates k ≡ true → is_left_out l k ≡ true
+pub in_certificates : (l : LeftOut) (k : ℕ) → is_in l.certificates k ≡ true → is_left_out l k ≡ true
 in_certificates l k h = rw h (or_last (is_in l.checksum k) (is_in l.directory_entry k))
 
 -- the two slices of a part that is outside the checksum and the certificates

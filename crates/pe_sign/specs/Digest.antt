@@ -1,5 +1,5 @@
 -- The bytes that the Authenticode digest of an image covers. (Windows Authenticode Portable Executable Signature Format.)
-use Rattle.std.specs.Prelude.{◌≡◌, ℕ, suc, ◌+◌, ◌-◌, ◌%◌, ◌<◌, ◌≤◌, ◌==◌, ◌&&◌, ◌||◌, Bool, true, false, List, [], ◌∷◌, ◌++◌, length, flat_map, nat_le, nat_lt, Option, Some, None, Result, Ok, Err, if◌then◌else◌}
+use Rattle.std.specs.Prelude.{◌≡◌, ℕ, suc, ◌+◌, ◌-◌, ◌%◌, ◌<◌, ◌≤◌, ◌==◌, ◌&&◌, ◌||◌, Bool, true, false, List, [], ◌∷◌, ◌++◌, length, flat_map, replicate, nat_le, nat_lt, Option, Some, None, Result, Ok, Err, if◌then◌else◌}
 use Rattle.std.specs.Borrow.{Bor}
 use Rattle.pe_core.specs.Directories.{kept_rows, present}
 use Rattle.pe_core.specs.Header.{directories_offset}
@@ -62,9 +62,13 @@ kept_bytes is_out p (x ∷ xs) = unless (is_out p) x (kept_bytes is_out (suc p) 
 abbrev pub digested : LeftOut → List ℕ → List ℕ
 digested l b = kept_bytes (is_left_out l) 0 b
 
+-- how many zeros fill up n bytes to a multiple of eight
+abbrev pub lacking : ℕ → ℕ
+lacking n = (8 - n % 8) % 8
+
 -- how many zeros follow them: as many as fill up the file without its certificates to a multiple of eight
 abbrev pub zeros_after : LeftOut → List ℕ → ℕ
-zeros_after l b = (8 - length (kept_bytes (is_in l.certificates) 0 b) % 8) % 8
+zeros_after l b = lacking (length (kept_bytes (is_in l.certificates) 0 b))
 
 -- each offset of the bytes is in the range, or none is
 abbrev pub Throughout : (ℕ → Bool) → Bool → ℕ → List ℕ → Type 0
@@ -95,6 +99,10 @@ ranges_view r = record { content = joined_slices r.before_certificates ++ joined
 -- what the digest of a file covers that leaves out these parts
 abbrev pub covered : LeftOut → List ℕ → Covered
 covered l b = record { content = digested l b; zeros = zeros_after l b }
+
+-- the same as bytes
+abbrev pub covered_bytes : Covered → List ℕ
+covered_bytes c = c.content ++ replicate c.zeros 0
 
 -- what the digest of an image with this header covers
 abbrev pub digest_of : List ℕ → Header → Result Covered Refusal

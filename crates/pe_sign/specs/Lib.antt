@@ -1,2 +1,5 @@
 pub mod Checksum
 pub mod Digest
+pub mod SignRefusals
+pub mod Attaching
+pub mod AttachingSteps

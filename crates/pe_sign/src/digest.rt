@@ -20,7 +20,7 @@ const CERTIFICATES: usize = 4;
 const ENTRY_OF_CERTIFICATES: usize = 32;
 
 /// The length of an entry of the directories.
-const SIZE_OF_ENTRY: usize = 8;
+pub const SIZE_OF_ENTRY: usize = 8;
 
 /// The parts of a file that its digest leaves out, as file ranges. A part that is missing has the length 0. Ranges may
 /// end after the file, and may overlap in a hostile image.

@@ -11,7 +11,7 @@ ghost use Rattle.pe_sign.specs.Checksum.{summed_byte, summed_word, with_carry, c
 use pe_core::{ByteRange, Error, Header, Reason, Result};
 
 /// The length in bytes of the field that holds the checksum.
-const SIZE_OF_CHECKSUM: usize = 4;
+pub const SIZE_OF_CHECKSUM: usize = 4;
 
 /// The offset of the field from the start of the optional header, in PE32 and PE32+ alike.
 const CHECKSUM_IN_HEADER: usize = 64;
@@ -56,7 +56,7 @@ fn word_of(bytes: &[u8], field: usize, index: usize) -> u16
 
 /// The checksum of a file whose field for it is at the offset `field`.
 #[tactic(auto, using(crate::proofs::Sums::fold_each), unfolding(pe_core::specs::Rows::each, crate::specs::Checksum::checksum_of))]
-fn checksum_of(bytes: &[u8], field: usize) -> u32
+pub fn checksum_of(bytes: &[u8], field: usize) -> u32
     ensures { result ≡ checksum_of bytes.now field }
 {
     let mut sum = 0;

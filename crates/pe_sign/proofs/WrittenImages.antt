@@ -1,0 +1,58 @@
+-- What the calls return, by the parts of the image.
+use Rattle.std.proofs.Common.{◌≡◌, ℕ, Bool, List, ◌∷◌, length, Result, Ok, Err, refl, ap, sym, ◌∙◌, subst}
+use Rattle.pe_core.specs.declared.header.Header.{Header}
+use Rattle.pe_sign.specs.Attaching.{image_of, certificate_tests, table_start, attached_of, attached_file, detached_of, detached_file, with_table, without_table}
+use Rattle.pe_sign.specs.AttachingSteps.{Fits}
+use Rattle.pe_sign.specs.Digest.{covered, covered_bytes, left_out_of}
+use Rattle.pe_sign.specs.SignRefusals.{SignRefusal, sign_outcome, ◌>>=◌}
+use Rattle.pe_sign.specs.declared.attachment.Placement.{Placement}
+use Rattle.pe_sign.specs.declared.digest.LeftOut.{LeftOut}
+use Rattle.pe_sign.proofs.Digests.{attached_digest, detached_digest}
+use Rattle.pe_sign.proofs.Tests.{value_is, image_fits, parts_of_image}
+
+-- the file is that of the image's parts, and they fit
+pub record IsFile (l : LeftOut) (b f g : List ℕ) : Type 0 where
+  pub fits : Fits l (length b)
+  pub is_file : f ≡ g
+
+same_parts : (b : List ℕ) (h : Header) (k l : LeftOut) → image_of b h ≡ Ok k → left_out_of h ≡ Ok l → k ≡ l
+same_parts b h k l e i = let j : left_out_of h ≡ Ok k = (parts_of_image b h k e).0 in cc
+
+file_at : (x : Result LeftOut SignRefusal) (tests : LeftOut → List (Bool × SignRefusal)) (g : LeftOut → List ℕ) (f : List ℕ) →
+    (x >>= λ k. sign_outcome (tests k) (g k)) ≡ Ok f → (k : LeftOut) × ((x ≡ Ok k) × (f ≡ g k))
+file_at (Err e) tests g f h = absurd cc
+file_at (Ok k) tests g f h = (k, (refl, sym (value_is (tests k) (g k) f h)))
+
+bare_at : (x : Result LeftOut SignRefusal) (g : LeftOut → List ℕ) (f : List ℕ) → (x >>= λ k. Ok (g k)) ≡ Ok f → (k : LeftOut) × ((x ≡ Ok k) × (f ≡ g k))
+bare_at (Err e) g f h = absurd cc
+bare_at (Ok k) g f h = let same : g k ≡ f = cc in (k, (refl, sym same))
+
+pub attached_is : (placement : Placement) (b : List ℕ) (h : Header) (c f : List ℕ) (l : LeftOut) → left_out_of h ≡ Ok l → attached_of placement b h c ≡ Ok f → IsFile l b f (attached_file placement l c b)
+attached_is placement b h c f l e i =
+    let p = file_at (image_of b h) (λ k. certificate_tests placement k c (length b)) (λ k. attached_file placement k c b) f i in
+    let same : p.0 ≡ l = same_parts b h p.0 l p.1.0 e in
+    record {
+      fits = subst (λ (k : LeftOut). Fits k (length b)) same (image_fits b h p.0 p.1.0);
+      is_file = p.1.1 ∙ ap (λ (k : LeftOut). attached_file placement k c b) same;
+    }
+
+pub detached_is : (b : List ℕ) (h : Header) (f : List ℕ) (l : LeftOut) → left_out_of h ≡ Ok l → detached_of b h ≡ Ok f → IsFile l b f (detached_file l b)
+detached_is b h f l e i =
+    let p = bare_at (image_of b h) (λ k. detached_file k b) f i in
+    let same : p.0 ≡ l = same_parts b h p.0 l p.1.0 e in
+    record {
+      fits = subst (λ (k : LeftOut). Fits k (length b)) same (image_fits b h p.0 p.1.0);
+      is_file = p.1.1 ∙ ap (λ (k : LeftOut). detached_file k b) same;
+    }
+
+pub attached_digest_of : (placement : Placement) (b : List ℕ) (h : Header) (c f : List ℕ) (l : LeftOut) → left_out_of h ≡ Ok l → attached_of placement b h c ≡ Ok f →
+    covered_bytes (covered (with_table l (table_start placement l (length b)) (length f)) f) ≡ covered_bytes (covered l b)
+attached_digest_of placement b h c f l e i =
+    let s : ℕ = table_start placement l (length b) in
+    let is = attached_is placement b h c f l e i in
+    ap (λ (x : List ℕ). covered_bytes (covered (with_table l s (length x)) x)) is.is_file ∙ attached_digest placement l c b is.fits
+
+pub detached_digest_of : (b : List ℕ) (h : Header) (f : List ℕ) (l : LeftOut) → left_out_of h ≡ Ok l → detached_of b h ≡ Ok f → covered (without_table l) f ≡ covered l b
+detached_digest_of b h f l e i =
+    let is = detached_is b h f l e i in
+    ap (λ (x : List ℕ). covered (without_table l) x) is.is_file ∙ detached_digest l b is.fits
