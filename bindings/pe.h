@@ -1,8 +1,8 @@
 /* pe.h: reads PE images (Windows .exe and .dll files) by a proved library, from C11 and C++17.
  *
  * The caller's obligations, for each call:
- *   - `bytes` points to the `length` bytes of the file, which are readable and which nothing writes during the call. It
- *     may be NULL if `length` is 0;
+ *   - `bytes` points to the `length` bytes of the image, a file or memory, which are readable and which nothing writes
+ *     during the call. It may be NULL if `length` is 0;
  *   - every other pointer is not NULL (an array of 0 entries may be), is aligned for its type, and points to
  *     initialised memory (`= PE_C_EMPTY`), also where the call only writes;
  *   - what a call writes (`out`, a walk, `room`) overlaps no other argument.
@@ -15,25 +15,32 @@
  * of a call lists its errors in the order in which they are tested. PE_C_NOTHING means that there is nothing of the
  * kind; it is no error.
  *
- * Units. An `offset` is a file offset: bytes, from the start of `bytes`. A range that a call returns lies inside `bytes`.
+ * Units. An `offset` is a number of bytes from the start of `bytes`: in a file a file offset, in an image as loaded an
+ * RVA. A range that a call returns lies inside `bytes`.
  * RVAs, sizes and lengths are in bytes; an RVA counts from the start of the image in memory.
  *
  * Walks. A walk is a record that steps over a list: each call returns the next item and moves the walk. PE_C_NOTHING is
  * the end of the list. After an error the walk is over too. A walk that is over returns PE_C_NOTHING each time.
  *
- * Modes. `mode` is PE_C_STRICT (0) or PE_C_PERMISSIVE (any other value). Permissive mode accepts
+ * Modes. `mode` is PE_C_STRICT or PE_C_PERMISSIVE; for an image as loaded add PE_C_MAPPED. Bits of no name make no
+ * difference. Permissive mode accepts
  *   - a PE header that overlaps the DOS header;
  *   - a debug directory that ends past the end of the file: it is truncated there;
  *   - a CodeView record that is too small: it counts as absent;
  *   - resource data too short for a directory, and resource entries that are not all inside the data: they count as
  *     absent.
  *
- * Arguments. Most calls take the bytes, the results of pe_c_image and pe_c_sections, and the mode. Each of these calls is
- * made only if the one before returned PE_C_DONE:
+ * Images as loaded. With PE_C_MAPPED `bytes` are a module in memory, or a copy of one as in a minidump, from its first
+ * byte on: its sections stand at their RVAs, and RVAs are offsets. Without it they are a file, and the sections map RVAs.
+ * An image that is read the wrong way may give wrong values without an error.
+ *
+ * Arguments. Most calls take the bytes and the results of pe_c_image and pe_c_sections. They read in the mode that
+ * pe_c_image was called with, which is the field `mode` of the image. Each of these calls is made only if the one before
+ * returned PE_C_DONE:
  *
  *     pe_c_image(bytes, length, mode, &image);
  *     pe_c_sections(bytes, length, &image, sections, entries);
- *     pe_c_symbol_key(bytes, length, &image, sections, image.number_of_sections, mode, &key);
+ *     pe_c_symbol_key(bytes, length, &image, sections, image.number_of_sections, &key);
  *
  * A range or a walk that does not lie inside `bytes` is PE_C_SHORT; as a certificate table it is PE_C_CERTIFICATE_TABLE.
  *
@@ -47,6 +54,15 @@
 /* The version of this header, the archive, the file for pkg-config and the cargo crate. */
 #define PE_C_VERSION "0.1.0"
 
+/* What a compiler may know of calls: which arguments are never NULL, and that the result matters. */
+#if defined(__GNUC__)
+#define PE_C_NOT_NULL(...) __attribute__((nonnull(__VA_ARGS__)))
+#define PE_C_RESULT(...) __attribute__((warn_unused_result, nonnull(__VA_ARGS__)))
+#else
+#define PE_C_NOT_NULL(...)
+#define PE_C_RESULT(...)
+#endif
+
 #ifdef __cplusplus
 extern "C" {
 #define PE_C_SIZE(type, size) static_assert(sizeof(type) == size, #type)
@@ -54,6 +70,15 @@ extern "C" {
 #else
 #define PE_C_SIZE(type, size) _Static_assert(sizeof(type) == size, #type)
 #define PE_C_EMPTY {0}
+#endif
+
+/* ---- the ABI
+ *
+ * Its number is in the name of this call, and grows with each change that breaks callers. A program refers to the name
+ * from each file that includes this header, so it does not link with an archive of another ABI. Returns the number. */
+uint32_t pe_c_abi_1(void);
+#if defined(__GNUC__)
+static uint32_t (*const pe_c_abi)(void) __attribute__((used)) = pe_c_abi_1;
 #endif
 
 /* ---- results
@@ -103,7 +128,8 @@ enum {
     PE_C_ROOM = 101                 /* the array is too small */
 };
 
-enum { PE_C_STRICT = 0, PE_C_PERMISSIVE = 1 };
+/* Modes. PE_C_MAPPED is added to one of the others, or stands for PE_C_STRICT | PE_C_MAPPED. */
+enum { PE_C_STRICT = 0, PE_C_PERMISSIVE = 1, PE_C_MAPPED = 2 };
 
 /* Writes the text of a result to the start of the array, in UTF-8, truncated at the array's end and not NUL-terminated.
  * Returns the length of the whole text in bytes, which is below 128. */
@@ -115,9 +141,9 @@ size_t pe_c_text(uint32_t number, uint8_t *room, size_t length);
  * the optional header with the data directories, and the section headers, which map RVAs to file offsets.
  * https://learn.microsoft.com/windows/win32/debug/pe-format */
 
-/* A range of the bytes of the file. */
+/* A range of the bytes of the image. */
 typedef struct {
-    uint64_t offset;                 /* file offset */
+    uint64_t offset;                /* from the start of the bytes */
     uint64_t length;                /* bytes */
 } pe_c_range;
 
@@ -127,22 +153,47 @@ typedef struct {
     uint32_t size;                  /* bytes */
 } pe_c_directory;
 
+/* The indices of directories, IMAGE_DIRECTORY_ENTRY_ of winnt.h. The last of the 16 is reserved. */
+enum {
+    PE_C_DIRECTORY_EXPORT = 0,
+    PE_C_DIRECTORY_IMPORT = 1,
+    PE_C_DIRECTORY_RESOURCE = 2,
+    PE_C_DIRECTORY_EXCEPTION = 3,   /* the function table */
+    PE_C_DIRECTORY_SECURITY = 4,    /* the certificate table: its virtual_address is a file offset, not an RVA */
+    PE_C_DIRECTORY_BASERELOC = 5,
+    PE_C_DIRECTORY_DEBUG = 6,
+    PE_C_DIRECTORY_ARCHITECTURE = 7,
+    PE_C_DIRECTORY_GLOBALPTR = 8,
+    PE_C_DIRECTORY_TLS = 9,
+    PE_C_DIRECTORY_LOAD_CONFIG = 10,
+    PE_C_DIRECTORY_BOUND_IMPORT = 11,
+    PE_C_DIRECTORY_IAT = 12,
+    PE_C_DIRECTORY_DELAY_IMPORT = 13,
+    PE_C_DIRECTORY_COM_DESCRIPTOR = 14
+};
+
 /* The headers of an image. Without an optional header the numbers that it has are 0, and its directories are absent. */
 typedef struct {
     uint64_t base;                  /* ImageBase, the preferred virtual address of the image; add RVAs to it */
-    uint64_t sections_offset;        /* file offset of the section headers */
+    uint64_t sections_offset;       /* offset of the section headers */
+    uint64_t checksum_offset;       /* offset of the field CheckSum, 4 bytes */
+    uint64_t certificate_entry_offset;  /* offset of directory PE_C_DIRECTORY_SECURITY, 8 bytes; 0 without that entry */
     uint32_t entry;                 /* RVA of the entry point */
-    uint32_t file_alignment;        /* bytes; a power of two, or no RVA is mapped */
-    pe_c_directory exports;
-    pe_c_directory imports;
-    pe_c_directory resources;
-    pe_c_directory exceptions;      /* the function table */
-    pe_c_directory certificates;    /* its virtual_address is a file offset, not an RVA */
-    pe_c_directory debug;
+    uint32_t file_alignment;        /* bytes; a power of two, or no RVA of a file is mapped */
+    uint32_t mode;                  /* how the image is read: that of the call of pe_c_image. A caller may change it */
+    uint32_t section_alignment;     /* bytes: sections start at multiples of it in memory */
+    uint32_t size_of_image;         /* bytes of the image in memory */
+    uint32_t size_of_headers;       /* bytes of the headers in the file, rounded up to the file alignment */
+    uint32_t checksum;              /* CheckSum, as the file has it; 0 in most that are no drivers */
+    uint32_t time_date_stamp;       /* seconds since 1970, or a hash in a reproducible build */
+    uint32_t number_of_directories; /* those that the optional header has, at most 16; the others are absent */
+    pe_c_directory directories[16]; /* by their indices, PE_C_DIRECTORY_EXPORT and so on */
     uint16_t machine;               /* IMAGE_FILE_MACHINE_AMD64 0x8664, _ARM64 0xAA64, _I386 0x14C, or another */
     uint16_t width;                 /* 64 for PE32+, 32 for PE32, 0 without an optional header */
     uint16_t number_of_sections;
-    uint16_t spare;                 /* 0 */
+    uint16_t characteristics;       /* IMAGE_FILE_ flags; IMAGE_FILE_DLL 0x2000 */
+    uint16_t subsystem;             /* IMAGE_SUBSYSTEM_: 1 native, 2 Windows GUI, 3 Windows console, 10 EFI, or another */
+    uint16_t dll_characteristics;   /* IMAGE_DLLCHARACTERISTICS_ flags */
 } pe_c_image_info;
 
 /* IMAGE_SECTION_HEADER. */
@@ -161,24 +212,26 @@ typedef struct {
 
 PE_C_SIZE(pe_c_range, 16);
 PE_C_SIZE(pe_c_directory, 8);
-PE_C_SIZE(pe_c_image_info, 80);
+PE_C_SIZE(pe_c_image_info, 208);
 PE_C_SIZE(pe_c_section, 40);
 
-/* Reads the headers of an image.
+/* Reads the headers of an image, which are at the same offsets in a file and in memory.
  * Errors: PE_C_SHORT, PE_C_BAD_MAGIC of the DOS header; PE_C_HEADER_POINTER in strict mode; PE_C_SHORT, PE_C_BAD_MAGIC of
  * the PE signature; PE_C_SHORT of the COFF header; PE_C_SHORT, PE_C_BAD_MAGIC of the optional header; PE_C_SHORT of its
  * fields and directories. */
-uint32_t pe_c_image(const uint8_t *bytes, size_t length, uint32_t mode, pe_c_image_info *out);
+uint32_t pe_c_image(const uint8_t *bytes, size_t length, uint32_t mode, pe_c_image_info *out) PE_C_RESULT(4);
 
 /* Writes the section headers to the start of the array, image->number_of_sections of them. The rest of the array is
  * unchanged, and all of it after an error.
  * Errors: PE_C_ROOM where the array has fewer entries; PE_C_SHORT where the section headers are truncated. */
 uint32_t pe_c_sections(const uint8_t *bytes, size_t length, const pe_c_image_info *image, pe_c_section *room,
-                       size_t entries);
+                       size_t entries) PE_C_RESULT(3);
 
-/* Returns the file offset of an RVA, by the first section that covers it. The offset may be past the end of the file.
- * PE_C_NOTHING where no section covers the RVA, or the file alignment is not a power of two. */
-uint32_t pe_c_offset(const pe_c_section *sections, size_t count, uint32_t file_alignment, uint32_t rva, uint64_t *out);
+/* Returns the file offset of an RVA, by the first section that covers it; in an image as loaded the RVA itself. The offset
+ * may be past the end of the bytes. PE_C_NOTHING where no section covers the RVA, or the file alignment is not a power of
+ * two. */
+uint32_t pe_c_offset(const pe_c_image_info *image, const pe_c_section *sections, size_t count, uint32_t rva,
+                     uint64_t *out) PE_C_RESULT(1, 5);
 
 /* ---- debug data
  *
@@ -203,8 +256,8 @@ typedef struct {
     uint32_t data_type;             /* IMAGE_DEBUG_TYPE_CODEVIEW 2, _VC_FEATURE 12, _POGO 13, _REPRO 16,
                                        _EX_DLLCHARACTERISTICS 20, or another */
     uint32_t size_of_data;          /* bytes of the record */
-    uint32_t address_of_raw_data;   /* RVA of the record, or 0 */
-    uint32_t pointer_to_raw_data;   /* file offset of the record, where the library reads it */
+    uint32_t address_of_raw_data;   /* RVA of the record, or 0; in an image as loaded the library reads it there */
+    uint32_t pointer_to_raw_data;   /* file offset of the record; in a file the library reads it there */
 } pe_c_debug_entry;
 
 /* A CodeView record of PDB 7.0 ("RSDS"): a symbol server files the PDB under its name, GUID and age. */
@@ -264,45 +317,48 @@ PE_C_SIZE(pe_c_pogo_entry, 24);
 /* Returns the entries of the debug directory as a walk for pe_c_next_debug_entry. PE_C_NOTHING without a directory.
  * Errors: PE_C_UNMAPPED; PE_C_DEBUG_BOUNDS in strict mode. */
 uint32_t pe_c_debug_entries(const uint8_t *bytes, size_t length, const pe_c_image_info *image,
-                            const pe_c_section *sections, size_t count, uint32_t mode, pe_c_range *out);
+                            const pe_c_section *sections, size_t count, pe_c_range *out) PE_C_RESULT(3, 6);
 
 /* Returns the next entry of the debug directory.
  * Errors: PE_C_SHORT where the walk is not inside the bytes, or its last entry is truncated. */
-uint32_t pe_c_next_debug_entry(const uint8_t *bytes, size_t length, pe_c_range *walk, pe_c_debug_entry *out);
+uint32_t pe_c_next_debug_entry(const uint8_t *bytes, size_t length, pe_c_range *walk, pe_c_debug_entry *out)
+    PE_C_RESULT(3, 4);
 
 /* Returns the symbol key: the CodeView record, if it is one of PDB 7.0. */
 uint32_t pe_c_symbol_key(const uint8_t *bytes, size_t length, const pe_c_image_info *image,
-                         const pe_c_section *sections, size_t count, uint32_t mode, pe_c_key *out);
+                         const pe_c_section *sections, size_t count, pe_c_key *out) PE_C_RESULT(3, 6);
 
 /* Returns the CodeView record, if it is one of PDB 2.0. */
 uint32_t pe_c_debug_pdb20(const uint8_t *bytes, size_t length, const pe_c_image_info *image,
-                          const pe_c_section *sections, size_t count, uint32_t mode, pe_c_pdb20 *out);
+                          const pe_c_section *sections, size_t count, pe_c_pdb20 *out) PE_C_RESULT(3, 6);
 
 /* Returns the record of VC features. */
 uint32_t pe_c_debug_vc_features(const uint8_t *bytes, size_t length, const pe_c_image_info *image,
-                                const pe_c_section *sections, size_t count, uint32_t mode, pe_c_vc_features *out);
+                                const pe_c_section *sections, size_t count, pe_c_vc_features *out) PE_C_RESULT(3, 6);
 
 /* Returns the extended DLL characteristics, IMAGE_DLLCHARACTERISTICS_EX_ flags. */
 uint32_t pe_c_debug_characteristics(const uint8_t *bytes, size_t length, const pe_c_image_info *image,
-                                    const pe_c_section *sections, size_t count, uint32_t mode, uint32_t *out);
+                                    const pe_c_section *sections, size_t count, uint32_t *out) PE_C_RESULT(3, 6);
 
 /* Returns the Repro record. */
 uint32_t pe_c_debug_repro(const uint8_t *bytes, size_t length, const pe_c_image_info *image,
-                          const pe_c_section *sections, size_t count, uint32_t mode, pe_c_repro *out);
+                          const pe_c_section *sections, size_t count, pe_c_repro *out) PE_C_RESULT(3, 6);
 
 /* Returns the POGO record. PE_C_NOTHING also for another signature. */
 uint32_t pe_c_debug_pogo(const uint8_t *bytes, size_t length, const pe_c_image_info *image,
-                         const pe_c_section *sections, size_t count, uint32_t mode, pe_c_pogo *out);
+                         const pe_c_section *sections, size_t count, pe_c_pogo *out) PE_C_RESULT(3, 6);
 
 /* Returns the next entry of a POGO record.
  * Errors: PE_C_SHORT where the walk is not inside the bytes, or fewer than 8 bytes are left; PE_C_POGO_NAME where the name
  * is not NUL-terminated, or its padding to a multiple of 4 bytes is truncated. */
-uint32_t pe_c_next_pogo_entry(const uint8_t *bytes, size_t length, pe_c_range *walk, pe_c_pogo_entry *out);
+uint32_t pe_c_next_pogo_entry(const uint8_t *bytes, size_t length, pe_c_range *walk, pe_c_pogo_entry *out)
+    PE_C_RESULT(3, 4);
 
 /* ---- certificates
  *
  * The attribute certificate table holds the Authenticode signatures: certificates one after the other, each aligned to 8
- * bytes. It is not part of the image in memory, so its directory has a file offset.
+ * bytes. It is not part of an image as loaded, so its directory has a file offset; in an image as loaded that is the
+ * offset of something else.
  * https://learn.microsoft.com/windows/win32/debug/pe-format#the-attribute-certificate-table-image-only */
 
 /* WIN_CERTIFICATE. */
@@ -316,11 +372,12 @@ typedef struct {
 PE_C_SIZE(pe_c_certificate, 24);
 
 /* Returns the next attribute certificate. The walk starts as the range of the directory:
- * { image.certificates.virtual_address, image.certificates.size }. The body of the last certificate may end past the
+ * virtual_address and size of image.directories[PE_C_DIRECTORY_SECURITY]. The body of the last certificate may end past the
  * table, not past the file.
  * Errors: PE_C_CERTIFICATE_TABLE where the walk is not inside the bytes; PE_C_SHORT of the header; PE_C_CERTIFICATE_SIZE,
  * PE_C_CERTIFICATE_REVISION, PE_C_CERTIFICATE_TYPE. */
-uint32_t pe_c_next_certificate(const uint8_t *bytes, size_t length, pe_c_range *walk, pe_c_certificate *out);
+uint32_t pe_c_next_certificate(const uint8_t *bytes, size_t length, pe_c_range *walk, pe_c_certificate *out)
+    PE_C_RESULT(3, 4);
 
 /* ---- x64 functions and unwind records
  *
@@ -414,40 +471,41 @@ PE_C_SIZE(pe_c_plan, 32);
  * x64.
  * Errors: PE_C_EXCEPTION_SIZE, PE_C_UNMAPPED, PE_C_EXCEPTION_OFFSET, PE_C_EXCEPTION_BOUNDS. */
 uint32_t pe_c_function_table(const uint8_t *bytes, size_t length, const pe_c_image_info *image,
-                             const pe_c_section *sections, size_t count, uint32_t mode, pe_c_range *out);
+                             const pe_c_section *sections, size_t count, pe_c_range *out) PE_C_RESULT(3, 6);
 
 /* Returns the function that covers an RVA, by binary search, or PE_C_NOTHING. In a table sorted by start RVA that is the
  * last function that starts at or before the RVA, if the RVA is before its end; in any other table it is some function
  * that covers the RVA, or PE_C_NOTHING.
  * Errors: PE_C_SHORT where the table is not inside the bytes. */
 uint32_t pe_c_find_function(const uint8_t *bytes, size_t length, const pe_c_range *table, uint32_t rva,
-                            pe_c_function *out);
+                            pe_c_function *out) PE_C_RESULT(3, 5);
 
 /* Returns the function with an index, from 0.
  * Errors: PE_C_SHORT where the table is not inside the bytes; PE_C_FUNCTION_INDEX where it has no such entry. */
 uint32_t pe_c_function_at(const uint8_t *bytes, size_t length, const pe_c_range *table, uint64_t index,
-                          pe_c_function *out);
+                          pe_c_function *out) PE_C_RESULT(3, 5);
 
 /* Returns the unwind record of an unwind RVA, the field `unwind` of a function. Links are followed to their end.
  * Errors: those of pe_c_function_table; PE_C_UNMAPPED, PE_C_FUNCTION_LINK, PE_C_FUNCTION_CYCLE of the links;
  * PE_C_UNMAPPED, PE_C_SHORT, PE_C_UNWIND_VERSION of the record. */
 uint32_t pe_c_unwind_record(const uint8_t *bytes, size_t length, const pe_c_image_info *image,
-                            const pe_c_section *sections, size_t count, uint32_t mode, uint32_t unwind,
-                            pe_c_record *out);
+                            const pe_c_section *sections, size_t count, uint32_t unwind,
+                            pe_c_record *out) PE_C_RESULT(3, 7);
 
 /* Returns the next code of a record, in the order in which they are undone: the last instruction of the prolog first.
  * Errors: PE_C_SHORT where the walk is not inside the bytes, or a code is truncated; PE_C_UNWIND_CODE for an invalid
  * code. */
-uint32_t pe_c_next_code(const uint8_t *bytes, size_t length, pe_c_walk *walk, pe_c_code *out);
+uint32_t pe_c_next_code(const uint8_t *bytes, size_t length, pe_c_walk *walk, pe_c_code *out) PE_C_RESULT(3, 4);
 
 /* Returns the scope table in a record's handler_data as a walk for pe_c_next_scope. PE_C_NOTHING where it is truncated.
  * Only a handler such as __C_specific_handler has one: the caller knows it by the handler's RVA.
  * Errors: PE_C_SHORT where handler_data is not inside the bytes. */
-uint32_t pe_c_scope_table(const uint8_t *bytes, size_t length, const pe_c_range *handler_data, pe_c_range *out);
+uint32_t pe_c_scope_table(const uint8_t *bytes, size_t length, const pe_c_range *handler_data, pe_c_range *out)
+    PE_C_RESULT(3, 4);
 
 /* Returns the next entry of a scope table.
  * Errors: PE_C_SHORT where the walk is not inside the bytes, or its last entry is truncated. */
-uint32_t pe_c_next_scope(const uint8_t *bytes, size_t length, pe_c_range *walk, pe_c_scope *out);
+uint32_t pe_c_next_scope(const uint8_t *bytes, size_t length, pe_c_range *walk, pe_c_scope *out) PE_C_RESULT(3, 4);
 
 /* Returns the next record of a plan: that of the function, then that of the function to which it is chained, and so on.
  * PE_C_NOTHING after the root.
@@ -455,8 +513,8 @@ uint32_t pe_c_next_scope(const uint8_t *bytes, size_t length, pe_c_range *walk, 
  * pe_c_plan_from never ends. Records may be returned before that error. Such a plan is over after at most 3 * 2^32
  * records; a plan with other fields may never be over. */
 uint32_t pe_c_next_record(const uint8_t *bytes, size_t length, const pe_c_image_info *image,
-                          const pe_c_section *sections, size_t count, uint32_t mode, pe_c_plan *plan,
-                          pe_c_record *out);
+                          const pe_c_section *sections, size_t count, pe_c_plan *plan,
+                          pe_c_record *out) PE_C_RESULT(3, 6, 7);
 
 /* Returns the plan of a function, by its unwind RVA. */
 static inline pe_c_plan pe_c_plan_from(uint32_t unwind)
@@ -575,39 +633,41 @@ PE_C_SIZE(pe_c_arm64_code, 24);
  * ARM64.
  * Errors: PE_C_EXCEPTION_SIZE, PE_C_UNMAPPED, PE_C_EXCEPTION_OFFSET, PE_C_EXCEPTION_BOUNDS. */
 uint32_t pe_c_arm64_table(const uint8_t *bytes, size_t length, const pe_c_image_info *image,
-                          const pe_c_section *sections, size_t count, uint32_t mode, pe_c_range *out);
+                          const pe_c_section *sections, size_t count, pe_c_range *out) PE_C_RESULT(3, 6);
 
 /* Returns the function with an index, from 0.
  * Errors: PE_C_SHORT where the table is not inside the bytes; PE_C_FUNCTION_INDEX where it has no such entry. */
 uint32_t pe_c_arm64_function_at(const uint8_t *bytes, size_t length, const pe_c_range *table, uint64_t index,
-                                pe_c_arm64_function *out);
+                                pe_c_arm64_function *out) PE_C_RESULT(3, 5);
 
 /* Returns the fields of packed unwind data. It always returns PE_C_DONE. */
-uint32_t pe_c_arm64_packed_fields(const pe_c_arm64_function *function, pe_c_arm64_packed *out);
+uint32_t pe_c_arm64_packed_fields(const pe_c_arm64_function *function, pe_c_arm64_packed *out) PE_C_NOT_NULL(1, 2);
 
 /* Returns the unwind record of a function. PE_C_NOTHING where its unwind data is packed.
  * Errors: those of pe_c_arm64_table, also where the data is packed; PE_C_UNMAPPED, PE_C_SHORT, PE_C_ARM64_VERSION of the
  * record. */
 uint32_t pe_c_arm64_unwind_record(const uint8_t *bytes, size_t length, const pe_c_image_info *image,
-                                  const pe_c_section *sections, size_t count, uint32_t mode,
-                                  const pe_c_arm64_function *function, pe_c_arm64_record *out);
+                                  const pe_c_section *sections, size_t count,
+                                  const pe_c_arm64_function *function, pe_c_arm64_record *out) PE_C_RESULT(3, 6, 7);
 
 /* Returns the next epilog scope of a record.
  * Errors: PE_C_SHORT where the walk is not inside the bytes, or its last scope is truncated. */
-uint32_t pe_c_next_arm64_scope(const uint8_t *bytes, size_t length, pe_c_range *walk, pe_c_arm64_scope *out);
+uint32_t pe_c_next_arm64_scope(const uint8_t *bytes, size_t length, pe_c_range *walk, pe_c_arm64_scope *out)
+    PE_C_RESULT(3, 4);
 
 /* Returns a walk over a record's codes. `start` is the index of the first code byte: 0 for the prolog, start_index of a
  * scope or epilog_start for an epilog.
  * Errors: PE_C_SHORT where the codes are not inside the bytes; PE_C_ARM64_STREAM where their length is not a multiple of 4,
  * is above 4,294,967,292, or is below the start. */
 uint32_t pe_c_arm64_codes(const uint8_t *bytes, size_t length, const pe_c_range *codes, uint64_t start,
-                          pe_c_arm64_walk *out);
+                          pe_c_arm64_walk *out) PE_C_RESULT(3, 5);
 
 /* Returns the next code. The walk does not stop at PE_C_ARM64_END and PE_C_ARM64_END_C, since the codes of epilogs
  * follow; the caller stops there.
  * Errors: PE_C_SHORT where the walk is not inside the bytes; PE_C_ARM64_STREAM where its offset plus the bytes left is not a
  * multiple of 4 or is above 4,294,967,292, as in no walk of pe_c_arm64_codes; PE_C_ARM64_CUT for a truncated code. */
-uint32_t pe_c_next_arm64_code(const uint8_t *bytes, size_t length, pe_c_arm64_walk *walk, pe_c_arm64_code *out);
+uint32_t pe_c_next_arm64_code(const uint8_t *bytes, size_t length, pe_c_arm64_walk *walk, pe_c_arm64_code *out)
+    PE_C_RESULT(3, 4);
 
 /* ---- exports
  *
@@ -637,14 +697,14 @@ PE_C_SIZE(pe_c_export, 32);
 /* Returns the tables of the export directory as a walk for pe_c_next_export. PE_C_NOTHING without a directory.
  * Errors: PE_C_UNMAPPED, PE_C_SHORT of the directory, then of the table of RVAs, of names and of indices. */
 uint32_t pe_c_export_tables(const uint8_t *bytes, size_t length, const pe_c_image_info *image,
-                            const pe_c_section *sections, size_t count, uint32_t mode, pe_c_exports *out);
+                            const pe_c_section *sections, size_t count, pe_c_exports *out) PE_C_RESULT(3, 6);
 
 /* Returns the next export. Entries are skipped whose name is unmapped, not NUL-terminated or not UTF-8, or whose index is
  * past the table of RVAs. Each name is read to its end, so names that overlap are read once each.
  * Errors: PE_C_SHORT where the tables are not inside the bytes. */
 uint32_t pe_c_next_export(const uint8_t *bytes, size_t length, const pe_c_image_info *image,
-                          const pe_c_section *sections, size_t count, uint32_t mode, pe_c_exports *walk,
-                          pe_c_export *out);
+                          const pe_c_section *sections, size_t count, pe_c_exports *walk,
+                          pe_c_export *out) PE_C_RESULT(3, 6, 7);
 
 /* ---- imports
  *
@@ -696,22 +756,22 @@ PE_C_SIZE(pe_c_import, 32);
 /* Returns the import directory as a walk for pe_c_next_library. PE_C_NOTHING without a directory.
  * Errors: PE_C_UNMAPPED. */
 uint32_t pe_c_import_libraries(const uint8_t *bytes, size_t length, const pe_c_image_info *image,
-                               const pe_c_section *sections, size_t count, uint32_t mode, pe_c_libraries *out);
+                               const pe_c_section *sections, size_t count, pe_c_libraries *out) PE_C_RESULT(3, 6);
 
 /* Returns the next library. The directory ends at a record whose name or address table has the RVA 0. A list whose RVA is
  * unmapped is empty. Names and lists that overlap are read once each.
  * Errors: PE_C_SHORT where the record is truncated; PE_C_UNMAPPED, PE_C_IMPORT_NAME of the name; PE_C_SHORT where no zero
  * entry ends the list. */
 uint32_t pe_c_next_library(const uint8_t *bytes, size_t length, const pe_c_image_info *image,
-                           const pe_c_section *sections, size_t count, uint32_t mode, pe_c_libraries *walk,
-                           pe_c_library *out);
+                           const pe_c_section *sections, size_t count, pe_c_libraries *walk,
+                           pe_c_library *out) PE_C_RESULT(3, 6, 7);
 
 /* Returns the next import of a library.
  * Errors: PE_C_SHORT where the walk is not inside the bytes, or its last entry is truncated; PE_C_UNMAPPED of the RVA in
  * the entry; PE_C_SHORT of the hint there; PE_C_IMPORT_NAME of the name. */
 uint32_t pe_c_next_import(const uint8_t *bytes, size_t length, const pe_c_image_info *image,
-                          const pe_c_section *sections, size_t count, uint32_t mode, pe_c_imports *walk,
-                          pe_c_import *out);
+                          const pe_c_section *sections, size_t count, pe_c_imports *walk,
+                          pe_c_import *out) PE_C_RESULT(3, 6, 7);
 
 /* ---- version information and manifest
  *
@@ -762,19 +822,22 @@ PE_C_SIZE(pe_c_version, 52);
 
 /* Returns the fixed file information. PE_C_NOTHING also where version information has none. */
 uint32_t pe_c_fixed_version(const uint8_t *bytes, size_t length, const pe_c_image_info *image,
-                            const pe_c_section *sections, size_t count, uint32_t mode, pe_c_version *out);
+                            const pe_c_section *sections, size_t count, pe_c_version *out) PE_C_RESULT(3, 6);
 
 /* Returns the value of a name, PE_C_COMMENTS .. PE_C_SPECIAL_BUILD: UTF-16 code units, little-endian, with the zeros after
  * the text, which ends at the first zero. PE_C_NOTHING also without a string of that name, and for another number. */
 uint32_t pe_c_version_text(const uint8_t *bytes, size_t length, const pe_c_image_info *image,
-                           const pe_c_section *sections, size_t count, uint32_t mode, uint32_t name, pe_c_range *out);
+                           const pe_c_section *sections, size_t count, uint32_t name, pe_c_range *out)
+    PE_C_RESULT(3, 7);
 
 /* Returns the range of the manifest, an XML text. */
 uint32_t pe_c_manifest(const uint8_t *bytes, size_t length, const pe_c_image_info *image,
-                       const pe_c_section *sections, size_t count, uint32_t mode, pe_c_range *out);
+                       const pe_c_section *sections, size_t count, pe_c_range *out) PE_C_RESULT(3, 6);
 
 #ifdef __cplusplus
 }
 #endif
 #undef PE_C_SIZE
+#undef PE_C_NOT_NULL
+#undef PE_C_RESULT
 #endif

@@ -30,7 +30,6 @@ typedef struct {
     const char *file;
     const uint8_t *bytes;
     size_t length;
-    uint32_t mode;
     pe_c_image_info info;
     pe_c_section *sections;
     size_t count;
@@ -38,7 +37,7 @@ typedef struct {
 
 /* The first arguments of the calls that take an image. */
 #define BYTES(it) (it)->bytes, (it)->length
-#define IMAGE(it) BYTES(it), &(it)->info, (it)->sections, (it)->count, (it)->mode
+#define IMAGE(it) BYTES(it), &(it)->info, (it)->sections, (it)->count
 
 /* ---- reading */
 
@@ -70,7 +69,6 @@ static int map_file(const char *file, image *it)
 /* Reads the headers and the section headers. */
 static uint32_t read_image(image *it, uint32_t mode)
 {
-    it->mode = mode;
     uint32_t result = pe_c_image(it->bytes, it->length, mode, &it->info);
     if (result != PE_C_DONE)
         return result;
@@ -105,7 +103,7 @@ typedef struct {
 static uint32_t keep(const image *it, uint32_t result, int *has)
 {
     *has = result == PE_C_DONE;
-    if (result == PE_C_NOTHING || it->mode != PE_C_STRICT)
+    if (result == PE_C_NOTHING || it->info.mode != PE_C_STRICT)
         return PE_C_DONE;
     return result;
 }
@@ -168,7 +166,8 @@ static uint32_t try_debug(const image *it, pe_c_range *out)
 /* Reads every certificate, and returns the range of the table. */
 static uint32_t try_certificates(const image *it, pe_c_range *out)
 {
-    pe_c_range walk = {it->info.certificates.virtual_address, it->info.certificates.size};
+    const pe_c_directory *table = &it->info.directories[PE_C_DIRECTORY_SECURITY];
+    pe_c_range walk = {table->virtual_address, table->size};
     *out = walk;
     if (walk.offset == 0 && walk.length == 0)
         return PE_C_NOTHING;

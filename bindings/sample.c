@@ -8,6 +8,6 @@ uint32_t symbol_key(const uint8_t *bytes, size_t length, pe_c_section *room, siz
     if (result == PE_C_DONE)
         result = pe_c_sections(bytes, length, &image, room, entries);
     if (result == PE_C_DONE)
-        result = pe_c_symbol_key(bytes, length, &image, room, image.number_of_sections, PE_C_PERMISSIVE, out);
+        result = pe_c_symbol_key(bytes, length, &image, room, image.number_of_sections, out);
     return result;
 }

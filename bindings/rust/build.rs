@@ -1,37 +1,73 @@
 //! Finds libpe_c.a: in the folder that PE_C_FOLDER names; without that variable in crates/pe_c/out, where `rt lib` puts
-//! it, else where pkg-config finds pe_c.
+//! it, else where pkg-config finds pe_c. Refuses an archive of another ABI or version, and targets that it is not for.
 
 use std::path::{Path, PathBuf};
-use std::{env, process};
+use std::{env, fs, process};
 
-/// The folder of the installed archive, by pkg-config.
-fn installed() -> Option<PathBuf> {
-    let command = env::var("PKG_CONFIG").unwrap_or_else(|_| "pkg-config".to_owned());
-    let answer = process::Command::new(command).args(["--variable=libdir", "pe_c"]).output().ok()?;
-    let folder = String::from_utf8(answer.stdout).ok()?;
-    Some(PathBuf::from(folder.trim()))
+/// The name that an archive of this ABI defines.
+const ABI: &[u8] = b"pe_c_abi_1\0";
+
+fn refuse(why: &str) -> ! {
+    eprintln!("pe-c: {why}");
+    process::exit(1);
 }
 
-fn has_archive(folder: &Path) -> bool {
-    folder.join("libpe_c.a").is_file()
+/// What pkg-config says of the installed archive.
+fn installed(question: &str) -> Option<String> {
+    let command = env::var("PKG_CONFIG").unwrap_or_else(|_| "pkg-config".to_owned());
+    let answer = process::Command::new(command).args([question, "pe_c"]).output().ok()?;
+    let said = String::from_utf8(answer.stdout).ok()?;
+    Some(said.trim().to_owned()).filter(|it| answer.status.success() && !it.is_empty())
+}
+
+/// The folder of the installed archive, whose version is this crate's.
+fn installed_folder() -> Option<PathBuf> {
+    let folder = PathBuf::from(installed("--variable=libdir")?);
+    let (version, ours) = (installed("--modversion")?, env!("CARGO_PKG_VERSION"));
+    if version != ours {
+        refuse(&format!("pkg-config finds version {version} of pe_c, and this crate is version {ours}: install it anew"));
+    }
+    Some(folder)
+}
+
+fn archive_of(folder: &Path) -> PathBuf {
+    folder.join("libpe_c.a")
+}
+
+/// Looks where an archive may be, in this order.
+fn found() -> Option<PathBuf> {
+    if let Ok(named) = env::var("PE_C_FOLDER") {
+        return Some(PathBuf::from(named));
+    }
+    let here = env::var("CARGO_MANIFEST_DIR").expect("cargo names the crate's folder");
+    let built = Path::new(&here).join("../../crates/pe_c/out");
+    if archive_of(&built).is_file() {
+        return Some(built);
+    }
+    // An archive that is built later comes first.
+    if let Some(above) = built.parent().filter(|it| it.is_dir()) {
+        println!("cargo:rerun-if-changed={}", above.display());
+    }
+    installed_folder()
 }
 
 fn main() {
-    println!("cargo:rerun-if-env-changed=PE_C_FOLDER");
-    println!("cargo:rerun-if-env-changed=PKG_CONFIG_PATH");
-    let here = env::var("CARGO_MANIFEST_DIR").expect("cargo names the crate's folder");
-    let named = env::var("PE_C_FOLDER").ok().map(PathBuf::from);
-    let found = match named {
-        Some(folder) => Some(folder).filter(|it| has_archive(it)),
-        None => Some(Path::new(&here).join("../../crates/pe_c/out"))
-            .filter(|it| has_archive(it))
-            .or_else(|| installed().filter(|it| has_archive(it))),
+    for name in ["PE_C_FOLDER", "PKG_CONFIG", "PKG_CONFIG_PATH", "PKG_CONFIG_LIBDIR", "PKG_CONFIG_SYSROOT_DIR"] {
+        println!("cargo:rerun-if-env-changed={name}");
+    }
+    let target = |part: &str| env::var(format!("CARGO_CFG_TARGET_{part}")).unwrap_or_default();
+    if (target("ARCH").as_str(), target("OS").as_str()) != ("x86_64", "linux") {
+        refuse("the archive is for Linux on x86-64");
+    }
+    let archive = found().map(|folder| archive_of(&folder));
+    let Some(content) = archive.as_ref().and_then(|it| fs::read(it).ok()) else {
+        refuse("there is no libpe_c.a: PE_C_FOLDER names its folder, or PKG_CONFIG_PATH that of pe_c.pc");
     };
-    let Some(folder) = found else {
-        eprintln!("there is no libpe_c.a: PE_C_FOLDER names its folder, or PKG_CONFIG_PATH that of pe_c.pc");
-        process::exit(1);
-    };
-    println!("cargo:rerun-if-changed={}", folder.join("libpe_c.a").display());
-    println!("cargo:rustc-link-search=native={}", folder.display());
+    let archive = archive.expect("it was read");
+    if !content.windows(ABI.len()).any(|it| it == ABI) {
+        refuse(&format!("{} is of another ABI than this crate: build it anew", archive.display()));
+    }
+    println!("cargo:rerun-if-changed={}", archive.display());
+    println!("cargo:rustc-link-search=native={}", archive.parent().expect("it is in a folder").display());
     println!("cargo:rustc-link-lib=static=pe_c");
 }

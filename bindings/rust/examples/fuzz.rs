@@ -10,7 +10,7 @@ mod made;
 #[path = "../tests/reading/mod.rs"]
 mod reading;
 
-use pe_c::{sys, Image, Mode};
+use pe_c::{sys, Image, Layout, Mode};
 use reading::{read_all, Seen};
 use std::ffi::c_void;
 use std::ops::Range;
@@ -79,9 +79,10 @@ fn hot_offsets(bytes: &[u8]) -> Vec<Range<usize>> {
         return offsets;
     };
     let info = image.info();
-    let certificates = info.certificates.virtual_address as usize;
+    let certificates = info.directories[made::CERTIFICATES].virtual_address as usize;
     offsets.push(certificates..certificates.saturating_add(32));
-    for directory in [info.exports, info.imports, info.resources, info.exceptions, info.debug] {
+    for index in [made::EXPORTS, made::IMPORTS, made::RESOURCES, made::EXCEPTIONS, made::DEBUG] {
+        let directory = info.directories[index];
         let Some(offset) = image.offset(directory.virtual_address).filter(|_| directory.size > 0) else {
             continue;
         };
@@ -141,12 +142,8 @@ fn read_by_lies(bytes: &[u8], random: &mut Random, seen: &mut Seen) {
     let image = sys::ImageInfo {
         sections_offset: random.edge(number),
         file_alignment: 1 << (few % 32),
-        exports: directory,
-        imports: directory,
-        resources: directory,
-        exceptions: directory,
-        debug: directory,
-        certificates: directory,
+        mode: few >> 5 & 3,
+        directories: [directory; 16],
         machine: if few & 1 == 0 { made::X64 } else { made::ARM64 },
         width: if few & 2 == 0 { 32 } else { 64 },
         number_of_sections: (few >> 2) as u16 % 4,
@@ -161,7 +158,7 @@ fn read_by_lies(bytes: &[u8], random: &mut Random, seen: &mut Seen) {
     };
     let sections = [sys::Section::default(), section];
     let mut room = sections;
-    let (index, mode) = (random.edge(64), few >> 5 & 1);
+    let index = random.edge(64);
     macro_rules! call {
         ($name:ident($($more:expr),*), $out:ident) => {{
             let mut out = sys::$out::default();
@@ -174,7 +171,7 @@ fn read_by_lies(bytes: &[u8], random: &mut Random, seen: &mut Seen) {
     }
     macro_rules! call_of_image {
         ($name:ident($($more:expr),*), $out:ident) => {
-            call!($name(&image, sections.as_ptr(), sections.len(), mode $(, $more)*), $out)
+            call!($name(&image, sections.as_ptr(), sections.len() $(, $more)*), $out)
         };
     }
     // steps a walk while it returns items, but not forever
@@ -197,7 +194,7 @@ fn read_by_lies(bytes: &[u8], random: &mut Random, seen: &mut Seen) {
                 let mut out = sys::$out::default();
                 let (first, count) = (sections.as_ptr(), sections.len());
                 // SAFETY: as above.
-                if unsafe { sys::$name(start, length, &image, first, count, mode, &mut walk, &mut out) } != 0 {
+                if unsafe { sys::$name(start, length, &image, first, count, &mut walk, &mut out) } != 0 {
                     break;
                 }
             }
@@ -207,7 +204,7 @@ fn read_by_lies(bytes: &[u8], random: &mut Random, seen: &mut Seen) {
     unsafe {
         sys::pe_c_sections(start, length, &image, room.as_mut_ptr(), room.len());
         let mut offset = 0;
-        sys::pe_c_offset(sections.as_ptr(), sections.len(), image.file_alignment, few, &mut offset);
+        sys::pe_c_offset(&image, sections.as_ptr(), sections.len(), few, &mut offset);
         let mut fields = sys::Arm64Packed::default();
         sys::pe_c_arm64_packed_fields(&sys::Arm64Function { begin: few, unwind: few.rotate_left(7) }, &mut fields);
     }
@@ -289,8 +286,9 @@ fn main() {
         for _ in 0..INPUTS_OF_A_FILE {
             let before = change(input, offsets, &mut random);
             let mode = if random.below(2) == 0 { Mode::Strict } else { Mode::Permissive };
+            let layout = if random.below(4) == 0 { Layout::Mapped } else { Layout::File };
             let most = [1, 1, 2, 4, 8, 64][random.below(6)];
-            seen.add(read_all(input, mode, most));
+            seen.add(read_all(input, mode, layout, most));
             if random.below(4) == 0 {
                 read_by_lies(input, &mut random, &mut seen);
             }

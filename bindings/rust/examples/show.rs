@@ -300,7 +300,7 @@ fn show_resources(image: &Image) {
     if image.version().is_err() || image.manifest().is_err() {
         return;
     }
-    let directory = image.info().resources;
+    let directory = image.info().directories[2];
     if let Some(root) = image.offset(directory.virtual_address).filter(|_| directory.size >= 16) {
         let counts = number_at(image.bytes(), root + 12);
         for index in 0..u64::from((counts & 0xFFFF) + (counts >> 16)) {

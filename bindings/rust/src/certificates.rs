@@ -3,7 +3,7 @@
 //! <https://learn.microsoft.com/windows/win32/debug/pe-format#the-attribute-certificate-table-image-only>.
 //! A caller takes the body of type 2 (PKCS #7) to check the signature.
 
-use crate::image::{bytes_of, Error, Image};
+use crate::image::{bytes_of, DirectoryIndex, Error, Image, Layout};
 use crate::sys;
 use crate::walk::{items, Walk};
 
@@ -49,10 +49,15 @@ items! {
 }
 
 impl<'a> Image<'a> {
-    /// The attribute certificates. There are none without a certificate directory.
+    /// The attribute certificates. There are none without a certificate directory, and none in a module in memory.
     pub fn certificates(&self) -> Certificates<'a> {
-        let directory = self.info().certificates;
-        let walk = sys::Range { offset: u64::from(directory.virtual_address), length: u64::from(directory.size) };
+        let walk = match (self.layout(), self.info().directory(DirectoryIndex::Security)) {
+            (Layout::File, Some(table)) => {
+                sys::Range { offset: u64::from(table.virtual_address), length: u64::from(table.size) }
+            }
+            // The directory has a file offset, where a module in memory has something else.
+            _ => sys::Range::default(),
+        };
         Certificates(Walk::new(self.bytes(), walk))
     }
 }

@@ -1,11 +1,11 @@
-//! An image: its headers and sections, the mode in which it is read, and errors.
+//! An image: its headers and sections, the mode and the layout in which it is read, and errors.
 //!
 //! An image starts with the DOS header, whose last field is the file offset of the PE header. That has the COFF header,
 //! the optional header with the data directories, and the section headers, which map RVAs to file offsets. The layouts are
 //! those of Microsoft's [PE Format](https://learn.microsoft.com/windows/win32/debug/pe-format). All calls of the library
 //! are made here and in `walk`.
 
-use crate::sys::{self, ImageInfo, Section};
+use crate::sys::{self, Directory, ImageInfo, Section};
 use alloc::vec::Vec;
 use core::fmt;
 
@@ -23,12 +23,25 @@ pub enum Mode {
     Permissive,
 }
 
-impl Mode {
-    pub(crate) fn number(self) -> u32 {
-        match self {
-            Mode::Strict => 0,
-            Mode::Permissive => 1,
-        }
+/// What the bytes of an image are.
+#[derive(Clone, Copy, Debug, PartialEq, Eq, Hash)]
+pub enum Layout {
+    /// A file: the section headers map RVAs to file offsets.
+    File,
+    /// A module in memory, or a copy of one as in a minidump, from its first byte on: its sections stand at their RVAs, and
+    /// RVAs are offsets. It has no certificates.
+    Mapped,
+}
+
+/// The library's number for a way to read.
+fn number_of(mode: Mode, layout: Layout) -> u32 {
+    let mode = match mode {
+        Mode::Strict => 0,
+        Mode::Permissive => sys::PERMISSIVE,
+    };
+    mode | match layout {
+        Layout::File => 0,
+        Layout::Mapped => sys::MAPPED,
     }
 }
 
@@ -170,6 +183,48 @@ pub(crate) fn up_to_zero(bytes: &[u8]) -> &[u8] {
     bytes.split(|byte| *byte == 0).next().unwrap_or_default()
 }
 
+/// A data directory by its index, `IMAGE_DIRECTORY_ENTRY_` of winnt.h.
+#[derive(Clone, Copy, Debug, PartialEq, Eq, Hash)]
+pub enum DirectoryIndex {
+    /// The exported functions.
+    Export = 0,
+    /// The imported DLLs and functions.
+    Import = 1,
+    /// The resource tree.
+    Resource = 2,
+    /// The function table.
+    Exception = 3,
+    /// The certificate table. Its `virtual_address` is a file offset, not an RVA.
+    Security = 4,
+    /// The base relocations.
+    BaseRelocation = 5,
+    /// The debug entries.
+    Debug = 6,
+    /// Reserved.
+    Architecture = 7,
+    /// The RVA of the value for the global pointer register.
+    GlobalPointer = 8,
+    /// Thread-local storage.
+    Tls = 9,
+    /// The load configuration.
+    LoadConfig = 10,
+    /// The bound imports.
+    BoundImport = 11,
+    /// The import address tables.
+    ImportAddress = 12,
+    /// The delay-loaded imports.
+    DelayImport = 13,
+    /// The header of the .NET runtime.
+    ComDescriptor = 14,
+}
+
+impl ImageInfo {
+    /// A data directory, or `None` where it is absent.
+    pub fn directory(&self, index: DirectoryIndex) -> Option<Directory> {
+        Some(self.directories[index as usize]).filter(|it| *it != Directory::default())
+    }
+}
+
 impl Section {
     /// The name, without its padding.
     pub fn name(&self) -> &[u8] {
@@ -177,15 +232,16 @@ impl Section {
     }
 }
 
-/// A PE image: the bytes of its file, its headers and its sections.
+/// A PE image: its bytes, a file or as loaded, its headers and its sections.
 ///
 /// ```
 /// # let bytes: &[u8] = include_bytes!(concat!(env!("CARGO_MANIFEST_DIR"), "/../../crates/peinfo/data/i.bin"));
-/// use pe_c::{Image, Mode};
+/// use pe_c::{DirectoryIndex, Image, Mode};
 ///
 /// let image = Image::parse(bytes, Mode::Strict)?;
 /// assert_eq!(image.info().machine, 0x8664); // IMAGE_FILE_MACHINE_AMD64
 /// assert_eq!(image.info().width, 64); // PE32+
+/// assert_eq!(image.info().directory(DirectoryIndex::Exception).unwrap().size, 24);
 /// let section = &image.sections()[0];
 /// assert_eq!((section.name(), section.virtual_address), (b".rdata".as_slice(), 0x1000));
 /// assert_eq!(image.offset(0x1040), Some(0x240));
@@ -195,6 +251,7 @@ impl Section {
 pub struct Image<'a> {
     bytes: &'a [u8],
     mode: Mode,
+    layout: Layout,
     info: ImageInfo,
     sections: Vec<Section>,
 }
@@ -203,6 +260,7 @@ impl fmt::Debug for Image<'_> {
     fn fmt(&self, f: &mut fmt::Formatter<'_>) -> fmt::Result {
         f.debug_struct("Image")
             .field("mode", &self.mode)
+            .field("layout", &self.layout)
             .field("info", &self.info)
             .field("sections", &self.sections)
             .finish()
@@ -210,17 +268,45 @@ impl fmt::Debug for Image<'_> {
 }
 
 /// A call that takes an image.
-type Call<T> = unsafe extern "C" fn(*const u8, usize, *const ImageInfo, *const Section, usize, u32, *mut T) -> u32;
+type Call<T> = unsafe extern "C" fn(*const u8, usize, *const ImageInfo, *const Section, usize, *mut T) -> u32;
 /// A call that takes an image and one more argument.
 type CallWith<M, T> =
-    unsafe extern "C" fn(*const u8, usize, *const ImageInfo, *const Section, usize, u32, M, *mut T) -> u32;
+    unsafe extern "C" fn(*const u8, usize, *const ImageInfo, *const Section, usize, M, *mut T) -> u32;
 
 // SAFETY of all calls here: they are the declarations of `sys`, which match the archive. Each pointer and length are
 // those of one borrow that outlives the call; what the call writes overlaps no other argument, and is initialised. The
 // library requires nothing else, and all that it writes are integers.
 
 impl<'a> Image<'a> {
-    /// Reads the headers and the section headers.
+    /// Reads the headers and the section headers of a file: [`Image::parse_as`] with [`Layout::File`].
+    ///
+    /// # Errors
+    ///
+    /// Those of [`Image::parse_as`].
+    pub fn parse(bytes: &'a [u8], mode: Mode) -> Result<Self, Error> {
+        Image::parse_as(bytes, mode, Layout::File)
+    }
+
+    /// Reads the headers and the section headers, which are at the same offsets in both layouts. All that is read of the
+    /// image later is read in this mode and layout.
+    ///
+    /// ```
+    /// # let bytes: &[u8] = include_bytes!(concat!(env!("CARGO_MANIFEST_DIR"), "/../../crates/peinfo/data/i.bin"));
+    /// use pe_c::{Image, Layout, Mode};
+    ///
+    /// // The module as the loader puts it into memory: this image has one section.
+    /// let file = Image::parse(bytes, Mode::Strict)?;
+    /// let section = &file.sections()[0];
+    /// let (rva, offset) = (section.virtual_address as usize, section.pointer_to_raw_data as usize);
+    /// let mut memory = vec![0; rva];
+    /// memory[..offset].copy_from_slice(&bytes[..offset]);
+    /// memory.extend_from_slice(&bytes[offset..][..section.size_of_raw_data as usize]);
+    ///
+    /// let module = Image::parse_as(&memory, Mode::Strict, Layout::Mapped)?;
+    /// assert_eq!(module.offset(0x1025), Some(0x1025));
+    /// assert_eq!(module.functions()?.unwrap().find(0x1025)?, file.functions()?.unwrap().find(0x1025)?);
+    /// # Ok::<(), pe_c::Error>(())
+    /// ```
     ///
     /// # Errors
     ///
@@ -229,10 +315,13 @@ impl<'a> Image<'a> {
     /// - [`Error::SHORT`], [`Error::BAD_MAGIC`] of the optional header; [`Error::SHORT`] of its fields and directories;
     /// - [`Error::MEMORY`] where the section headers cannot be allocated, at most 65,535 of 40 bytes;
     /// - [`Error::SHORT`] where they are truncated.
-    pub fn parse(bytes: &'a [u8], mode: Mode) -> Result<Self, Error> {
+    pub fn parse_as(bytes: &'a [u8], mode: Mode, layout: Layout) -> Result<Self, Error> {
+        // SAFETY: it takes no arguments. The call is here so that no program links with an archive of another ABI.
+        unsafe { sys::pe_c_abi_1() };
         let mut info = ImageInfo::default();
+        let way = number_of(mode, layout);
         // SAFETY: as above.
-        let number = unsafe { sys::pe_c_image(bytes.as_ptr(), bytes.len(), mode.number(), &mut info) };
+        let number = unsafe { sys::pe_c_image(bytes.as_ptr(), bytes.len(), way, &mut info) };
         if number != sys::DONE {
             return Err(Error(number));
         }
@@ -245,10 +334,10 @@ impl<'a> Image<'a> {
         if number != sys::DONE {
             return Err(Error(number));
         }
-        Ok(Image { bytes, mode, info, sections })
+        Ok(Image { bytes, mode, layout, info, sections })
     }
 
-    /// The bytes of the file.
+    /// The bytes of the image.
     pub fn bytes(&self) -> &'a [u8] {
         self.bytes
     }
@@ -256,6 +345,11 @@ impl<'a> Image<'a> {
     /// The mode in which the image is read.
     pub fn mode(&self) -> Mode {
         self.mode
+    }
+
+    /// The layout in which the image is read.
+    pub fn layout(&self) -> Layout {
+        self.layout
     }
 
     /// The headers.
@@ -268,13 +362,13 @@ impl<'a> Image<'a> {
         &self.sections
     }
 
-    /// The file offset of an RVA, by the first section that covers it. It may be past the end of the file. `None` where no
-    /// section covers the RVA, or the file alignment is not a power of two.
+    /// The file offset of an RVA, by the first section that covers it; in [`Layout::Mapped`] the RVA itself. It may be past
+    /// the end of the bytes. `None` where no section covers the RVA, or the file alignment is not a power of two.
     pub fn offset(&self, rva: u32) -> Option<u64> {
         let mut offset = 0;
         // SAFETY: as above.
         let number = unsafe {
-            sys::pe_c_offset(self.sections.as_ptr(), self.sections.len(), self.info.file_alignment, rva, &mut offset)
+            sys::pe_c_offset(&self.info, self.sections.as_ptr(), self.sections.len(), rva, &mut offset)
         };
         (number == sys::DONE).then_some(offset)
     }
@@ -284,10 +378,8 @@ impl<'a> Image<'a> {
         let mut out = T::default();
         let (bytes, sections) = (self.bytes, &self.sections);
         // SAFETY: as above.
-        let number = unsafe {
-            let mode = self.mode.number();
-            call(bytes.as_ptr(), bytes.len(), &self.info, sections.as_ptr(), sections.len(), mode, &mut out)
-        };
+        let number =
+            unsafe { call(bytes.as_ptr(), bytes.len(), &self.info, sections.as_ptr(), sections.len(), &mut out) };
         returned(number, out)
     }
 
@@ -296,10 +388,8 @@ impl<'a> Image<'a> {
         let mut out = T::default();
         let (bytes, sections) = (self.bytes, &self.sections);
         // SAFETY: as above, and `more` is a number, or comes from a reference of the three calls below.
-        let number = unsafe {
-            let mode = self.mode.number();
-            call(bytes.as_ptr(), bytes.len(), &self.info, sections.as_ptr(), sections.len(), mode, more, &mut out)
-        };
+        let number =
+            unsafe { call(bytes.as_ptr(), bytes.len(), &self.info, sections.as_ptr(), sections.len(), more, &mut out) };
         returned(number, out)
     }
 

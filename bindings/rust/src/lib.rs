@@ -2,7 +2,7 @@
 //! unwind data, exports, imports, version information and the manifest.
 //!
 //! The library is proved to return what its definitions say, for every byte string; this crate is a thin safe layer over
-//! it, and is tested. Start with [`Image::parse`]; each part of an image is a method of [`Image`]:
+//! it, and is tested. Start with [`Image::parse`], or for a module in memory [`Image::parse_as`]; each part of an image is a method of [`Image`]:
 //!
 //! | part | methods | layout |
 //! |---|---|---|
@@ -22,12 +22,12 @@
 //! [.idata]: https://learn.microsoft.com/windows/win32/debug/pe-format#the-idata-section
 //! [version information]: https://learn.microsoft.com/windows/win32/menurc/vs-versioninfo
 //!
-//! - An `Image` borrows the bytes of the file. Names, bodies and texts are slices of these bytes: they outlive the `Image`.
+//! - An `Image` borrows the bytes of the file or module. Names, bodies and texts are slices of these bytes: they outlive the `Image`.
 //! - A directory that is absent is `Ok(None)`; a damaged one is an [`Error`]. An error in one part does not affect another.
 //! - Every list is an iterator. After an `Err` item it returns `None`.
 //! - No bytes make a call panic or loop forever. Only [`Image::parse`], for the section headers, and
 //!   [`Text::to_string_lossy`] allocate.
-//! - An `offset` is a file offset in bytes. An RVA counts from the start of the image in memory.
+//! - An `offset` counts bytes from the start of the image's bytes: a file offset, or in a module in memory an RVA.
 //! - The docs of a call list its errors in the order in which they are tested.
 //!
 //! ```
@@ -74,7 +74,7 @@ pub use arm64::{
 pub use certificates::{Certificate, Certificates};
 pub use debug::{DebugEntries, Pdb20, Pogo, PogoEntries, PogoEntry, Repro, SymbolKey};
 pub use exports::{Export, Exports};
-pub use image::{Error, Image, Mode};
+pub use image::{DirectoryIndex, Error, Image, Layout, Mode};
 pub use imports::{Import, Imports, Libraries, Library};
 pub use sys::{
     Arm64Function, Arm64Packed, Arm64Scope, DebugEntry, Directory, Function, ImageInfo, Scope, Section, VcFeatures,

@@ -12,6 +12,11 @@ pub const DONE: u32 = 0;
 /// There is nothing of the kind, or the walk is over.
 pub const NOTHING: u32 = 100;
 
+/// A mode: as [`Mode::Permissive`](crate::Mode::Permissive). Without it a mode is strict.
+pub const PERMISSIVE: u32 = 1;
+/// Added to a mode: as [`Layout::Mapped`](crate::Layout::Mapped).
+pub const MAPPED: u32 = 2;
+
 macro_rules! record {
     ($(#[$doc:meta])* $name:ident, $size:literal { $($(#[$field_doc:meta])* $field:ident: $type:ty),* $(,)? }) => {
         $(#[$doc])*
@@ -23,9 +28,9 @@ macro_rules! record {
 }
 
 record!(
-/// A range of the bytes of the file. As a walk over entries of one size, it is what is left.
+/// A range of the bytes of the image. As a walk over entries of one size, it is what is left.
 Range, 16 {
-    /// File offset.
+    /// From the start of the bytes.
     offset: u64,
     /// In bytes.
     length: u64,
@@ -40,35 +45,47 @@ Directory, 8 {
 });
 record!(
 /// The headers of an image. Without an optional header the numbers that it has are 0, and its directories are absent.
-ImageInfo, 80 {
+ImageInfo, 208 {
     /// `ImageBase`: the preferred virtual address of the image. Add RVAs to it.
     base: u64,
-    /// File offset of the section headers.
+    /// Offset of the section headers.
     sections_offset: u64,
+    /// Offset of the field that holds the checksum, 4 bytes; 0 without an optional header.
+    checksum_offset: u64,
+    /// Offset of the certificate table's entry among the directories, 8 bytes; 0 where there is no such entry.
+    certificate_entry_offset: u64,
     /// RVA of the entry point.
     entry: u32,
-    /// In bytes. If it is not a power of two, no RVA is mapped.
+    /// In bytes. If it is not a power of two, no RVA of a file is mapped.
     file_alignment: u32,
-    /// The export directory.
-    exports: Directory,
-    /// The import directory.
-    imports: Directory,
-    /// The resource directory.
-    resources: Directory,
-    /// The exception directory: the function table.
-    exceptions: Directory,
-    /// The certificate table. Its `virtual_address` is a file offset, not an RVA.
-    certificates: Directory,
-    /// The debug directory.
-    debug: Directory,
+    /// How the image is read: [`PERMISSIVE`], [`MAPPED`], both or 0.
+    mode: u32,
+    /// In bytes: sections start at multiples of it in memory.
+    section_alignment: u32,
+    /// `SizeOfImage`: bytes of the image in memory.
+    size_of_image: u32,
+    /// Bytes of the headers in the file, rounded up to the file alignment.
+    size_of_headers: u32,
+    /// `CheckSum`, as the file has it; 0 in most that are no drivers.
+    checksum: u32,
+    /// Seconds since 1970, or a hash in a reproducible build.
+    time_date_stamp: u32,
+    /// Those that the optional header has, at most 16; the others are absent.
+    number_of_directories: u32,
+    /// By their indices, `IMAGE_DIRECTORY_ENTRY_` of winnt.h. [`ImageInfo::directory`] has names for them.
+    directories: [Directory; 16],
     /// `IMAGE_FILE_MACHINE_AMD64` 0x8664, `_ARM64` 0xAA64, `_I386` 0x14C, or another.
     machine: u16,
     /// 64 for PE32+, 32 for PE32, 0 without an optional header.
     width: u16,
     /// The number of section headers.
     number_of_sections: u16,
-    /// 0.
-    spare: u16,
+    /// `IMAGE_FILE_` flags.
+    characteristics: u16,
+    /// `IMAGE_SUBSYSTEM_`: 1 native, 2 Windows GUI, 3 Windows console, 10 EFI, or another.
+    subsystem: u16,
+    /// `IMAGE_DLLCHARACTERISTICS_` flags.
+    dll_characteristics: u16,
 });
 record!(
 /// A section header, `IMAGE_SECTION_HEADER`.
@@ -109,9 +126,9 @@ DebugEntry, 28 {
     data_type: u32,
     /// Bytes of the record.
     size_of_data: u32,
-    /// RVA of the record, or 0.
+    /// RVA of the record, or 0. In an image as loaded the library reads it there.
     address_of_raw_data: u32,
-    /// File offset of the record, where the library reads it.
+    /// File offset of the record. In a file the library reads it there.
     pointer_to_raw_data: u32,
 });
 record!(
@@ -502,7 +519,7 @@ macro_rules! calls_of_an_image {
         extern "C" {
             $($(#[$doc])* pub fn $name(
                 bytes: *const u8, length: usize, image: *const ImageInfo, sections: *const Section, count: usize,
-                mode: u32, $($more: $type,)* out: *mut $out,
+                $($more: $type,)* out: *mut $out,
             ) -> u32;)*
         }
     };
@@ -518,6 +535,8 @@ macro_rules! calls_of_bytes {
 }
 
 extern "C" {
+    /// Returns the number of the archive's ABI, which its name has too: a program does not link with an archive of another.
+    pub fn pe_c_abi_1() -> u32;
     /// Writes the text of a result to the start of the array, truncated at its end. Returns the length of the whole text.
     pub fn pe_c_text(number: u32, room: *mut u8, length: usize) -> usize;
     /// Writes the section headers to the start of an array.
@@ -528,8 +547,14 @@ extern "C" {
         room: *mut Section,
         entries: usize,
     ) -> u32;
-    /// Returns the file offset of an RVA.
-    pub fn pe_c_offset(sections: *const Section, count: usize, file_alignment: u32, rva: u32, out: *mut u64) -> u32;
+    /// Returns the file offset of an RVA; in an image as loaded the RVA itself.
+    pub fn pe_c_offset(
+        image: *const ImageInfo,
+        sections: *const Section,
+        count: usize,
+        rva: u32,
+        out: *mut u64,
+    ) -> u32;
     /// Returns the fields of packed unwind data.
     pub fn pe_c_arm64_packed_fields(function: *const Arm64Function, out: *mut Arm64Packed) -> u32;
 }

@@ -82,7 +82,6 @@ pub(crate) type ImageStep<W, T> = unsafe extern "C" fn(
     *const crate::sys::ImageInfo,
     *const crate::sys::Section,
     usize,
-    u32,
     *mut W,
     *mut T,
 ) -> u32;

@@ -1,10 +1,13 @@
 //! What each call returns for images made by hand. Expected values come from how the images are made.
 
+mod facts;
 mod made;
 
+use facts::{as_loaded, facts};
 use made::*;
 use pe_c::{
-    Arm64Operation, Arm64Unwinding, Error, Handler, Image, Mode, Offset, Operation, Register, Repro, VersionName,
+    Arm64Operation, Arm64Unwinding, DirectoryIndex, Error, Handler, Image, Layout, Mode, Offset, Operation, Register, Repro,
+    VersionName,
 };
 
 fn strict(bytes: &[u8]) -> Image<'_> {
@@ -17,10 +20,12 @@ fn headers_and_sections_are_read() {
     let info = image.info();
     assert_eq!((info.machine, info.width, info.entry, info.base), (X64, 64, 0x1000, 0x1_4000_0000));
     assert_eq!((info.sections_offset, info.file_alignment), (0x148, 0x200));
-    assert_eq!((info.exceptions.virtual_address, info.exceptions.size), (0x1000, 24));
-    assert_eq!((info.certificates.virtual_address, info.certificates.size), (0x400, 16));
-    assert_eq!((info.debug.virtual_address, info.debug.size), (0x1040, 28));
-    assert_eq!((info.exports.virtual_address, info.imports.size, info.resources.size), (0, 0, 0));
+    let directory = |index| info.directory(index).map(|it| (it.virtual_address, it.size));
+    assert_eq!(directory(DirectoryIndex::Exception), Some((0x1000, 24)));
+    assert_eq!(directory(DirectoryIndex::Security), Some((0x400, 16)));
+    assert_eq!(directory(DirectoryIndex::Debug), Some((0x1040, 28)));
+    assert_eq!((directory(DirectoryIndex::Export), directory(DirectoryIndex::ComDescriptor)), (None, None));
+    assert_eq!((info.number_of_directories, info.checksum_offset, info.certificate_entry_offset), (16, 0x98, 0xE8));
     let [section] = image.sections() else { panic!("one section") };
     assert_eq!(section.name(), b".rdata");
     assert_eq!((section.virtual_size, section.virtual_address), (0x100, 0x1000));
@@ -35,6 +40,70 @@ fn addresses_have_offsets_where_a_section_covers_them() {
     assert_eq!(image.offset(0x1040), Some(0x240));
     assert_eq!(image.offset(0x0FFF), None);
     assert_eq!(image.offset(0xFFFF_FFFF), None);
+}
+
+/// Each number of the headers, by the bytes that the PE format has for it. The optional header starts at 0x58.
+#[test]
+fn all_of_the_headers_are_read() {
+    let mut bytes = with_debug();
+    let mut put = |offset: usize, value: &[u8]| bytes[offset..offset + value.len()].copy_from_slice(value);
+    put(0x48, &0x5F01_0203u32.to_le_bytes());
+    put(0x56, &0x2022u16.to_le_bytes());
+    put(0x90, &0x0012_3000u32.to_le_bytes());
+    put(0x94, &0x0000_0400u32.to_le_bytes());
+    put(0x98, &0x0009_8765u32.to_le_bytes());
+    put(0x9C, &3u16.to_le_bytes());
+    put(0x9E, &0x8160u16.to_le_bytes());
+    let image = strict(&bytes);
+    let info = image.info();
+    assert_eq!((info.time_date_stamp, info.characteristics), (0x5F01_0203, 0x2022));
+    assert_eq!((info.size_of_image, info.size_of_headers, info.checksum), (0x12_3000, 0x400, 0x9_8765));
+    assert_eq!((info.subsystem, info.dll_characteristics), (3, 0x8160));
+    assert_eq!((info.section_alignment, info.file_alignment), (0x1000, 0x200));
+    assert_eq!(bytes[info.checksum_offset as usize..][..4], 0x0009_8765u32.to_le_bytes());
+    assert_eq!(info.certificate_entry_offset, 0xC8 + 4 * 8);
+    let numbers = info.directories.iter().map(|it| it.size != 0).collect::<Vec<_>>();
+    assert_eq!(numbers.iter().position(|it| *it), Some(DirectoryIndex::Debug as usize));
+    // an optional header that has fewer directories has no other
+    bytes[0xC4] = 4;
+    let fewer = strict(&bytes);
+    assert_eq!((fewer.info().number_of_directories, fewer.info().certificate_entry_offset), (4, 0));
+    assert_eq!(fewer.info().directory(DirectoryIndex::Debug), None);
+    assert_eq!(fewer.symbol_key(), Ok(None));
+}
+
+/// The RVAs of a module in memory are its offsets, whatever its sections are.
+#[test]
+fn addresses_in_memory_are_offsets() {
+    let memory = as_loaded(&strict(SMALL));
+    let module = Image::parse_as(&memory, Mode::Strict, Layout::Mapped).unwrap();
+    assert_eq!((module.mode(), module.layout(), module.info().mode), (Mode::Strict, Layout::Mapped, 2));
+    for rva in [0, 0x0FFF, 0x1000, 0x1040, 0xFFFF_FFFF] {
+        assert_eq!(module.offset(rva), Some(rva.into()));
+    }
+    let permissive = Image::parse_as(&memory, Mode::Permissive, Layout::Mapped).unwrap();
+    assert_eq!((permissive.mode(), permissive.layout(), permissive.info().mode), (Mode::Permissive, Layout::Mapped, 3));
+    let file = Image::parse_as(SMALL, Mode::Permissive, Layout::File).unwrap();
+    assert_eq!((file.mode(), file.layout(), file.info().mode), (Mode::Permissive, Layout::File, 1));
+}
+
+#[test]
+fn images_in_memory_say_what_their_files_say() {
+    for (name, bytes) in made::all() {
+        for mode in [Mode::Strict, Mode::Permissive] {
+            let file = Image::parse(&bytes, mode).unwrap();
+            let memory = as_loaded(&file);
+            let module = Image::parse_as(&memory, mode, Layout::Mapped).unwrap();
+            assert_eq!(facts(&module), facts(&file), "{name}");
+            assert_eq!(module.certificates().count(), 0, "{name}");
+        }
+    }
+    let memory = as_loaded(&strict(&with_debug()));
+    let module = Image::parse_as(&memory, Mode::Strict, Layout::Mapped).unwrap();
+    let key = module.symbol_key().unwrap().unwrap();
+    assert_eq!((key.to_string().as_str(), key.name()), ("497B72F6390A44FC878E5A2D63B6CC4B1", b"a.pdb".as_slice()));
+    let parts: Vec<_> = module.pogo().unwrap().unwrap().entries().map(|it| it.unwrap().rva).collect();
+    assert_eq!(parts, [0x1000, 0x2000]);
 }
 
 #[test]

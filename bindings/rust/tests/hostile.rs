@@ -4,10 +4,15 @@ mod made;
 mod reading;
 
 use made::*;
-use pe_c::{sys, Image, Mode};
+use pe_c::{sys, Image, Layout, Mode};
 use reading::read_all;
 
-const MODES: [Mode; 2] = [Mode::Strict, Mode::Permissive];
+const WAYS: [(Mode, Layout); 4] = [
+    (Mode::Strict, Layout::File),
+    (Mode::Permissive, Layout::File),
+    (Mode::Strict, Layout::Mapped),
+    (Mode::Permissive, Layout::Mapped),
+];
 
 #[test]
 fn every_beginning_of_an_image_is_read_or_refused() {
@@ -15,8 +20,8 @@ fn every_beginning_of_an_image_is_read_or_refused() {
         for length in 0..image.len() {
             // an allocation of its own, so that a memory checker sees a read past its end
             let bytes = image[..length].to_vec();
-            for mode in MODES {
-                read_all(&bytes, mode, 64);
+            for (mode, layout) in WAYS {
+                read_all(&bytes, mode, layout, 64);
             }
         }
     }
@@ -29,8 +34,8 @@ fn every_byte_of_an_image_may_change() {
             for value in [0, 1, 0x7F, 0x80, 0xFF] {
                 let mut bytes = image.clone();
                 bytes[offset] = value;
-                for mode in MODES {
-                    read_all(&bytes, mode, 64);
+                for (mode, layout) in WAYS {
+                    read_all(&bytes, mode, layout, 64);
                 }
             }
         }
@@ -133,7 +138,7 @@ fn walks_over_imports_that_lie_end() {
             // SAFETY: the pointers and lengths are those of slices, and the records are lent for the call.
             let first = first_of_all(length, start, |walk, out| unsafe {
                 let (bytes, sections, count) = (bytes.as_ptr(), sections.as_ptr(), sections.len());
-                sys::pe_c_next_library(bytes, length, info, sections, count, 0, walk, out)
+                sys::pe_c_next_library(bytes, length, info, sections, count, walk, out)
             });
             assert!(is_over == 0 || first == 100);
             assert!(is_over != 0 || offset < length as u64 || first == 2);
@@ -143,7 +148,7 @@ fn walks_over_imports_that_lie_end() {
             // SAFETY: as above.
             let first = first_of_all(length, sys::Imports { left, rva }, |walk, out| unsafe {
                 let (bytes, sections, count) = (bytes.as_ptr(), sections.as_ptr(), sections.len());
-                sys::pe_c_next_import(bytes, length, info, sections, count, 0, walk, out)
+                sys::pe_c_next_import(bytes, length, info, sections, count, walk, out)
             });
             assert!(left.of(&bytes).is_some() || first == 2);
         }
@@ -179,7 +184,7 @@ fn no_bytes_may_be_null() {
     // SAFETY: slices of no entries may be null; each record is lent for its call.
     unsafe {
         assert_eq!(sys::pe_c_image(core::ptr::null(), 0, 0, &mut info), 2);
-        assert_eq!(sys::pe_c_offset(core::ptr::null(), 0, 512, 0x1000, &mut offset), 100);
+        assert_eq!(sys::pe_c_offset(&info, core::ptr::null(), 0, 0x1000, &mut offset), 100);
     }
     assert_eq!((info, offset), (sys::ImageInfo::default(), 7));
 }

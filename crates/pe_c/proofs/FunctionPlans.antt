@@ -23,6 +23,7 @@ use Rattle.pe_plan.proofs.Walks.{counted}
 use Rattle.pe_c.specs.Modes.{options_of}
 use Rattle.pe_c.specs.Plans.{HandsOutAfter, ReturnsInTurn, StepsIf, StepsPlan, ReportsUnwindRecord, ended, ending_of, plan_result, goes_on, leaves, plan_from}
 use Rattle.pe_c.specs.Unwinding.{FindsOffsetIn, FollowsToRecord, image_exceptions, flat_record, flat_record_at, is_some_number, or_no_function}
+use Rattle.pe_c.specs.Images.{exception_directory}
 use Rattle.pe_c.specs.declared.image.Image.{Image}
 use Rattle.pe_c.specs.declared.plan.Plan.{Plan}
 use Rattle.pe_c.specs.declared.unwinding.UnwindRecord.{UnwindRecord}
@@ -211,7 +212,7 @@ there b image s mode v e = record { view = v; there = e; links = refl }
 
 -- plans are of the bytes that the exception data are of
 of_bytes : (b : List ℕ) (image : Image) (s : List SectionTable) (mode : ℕ) (v : ExceptionView) → image_exceptions b image s mode ≡ Ok v → v.content ≡ b
-of_bytes b image s mode v e = (in_directory 12 b image.exceptions s image.file_alignment (options_of mode) v e).0
+of_bytes b image s mode v e = (in_directory 12 b (exception_directory image) s image.file_alignment (options_of mode) v e).0
 
 content_is : (b : List ℕ) (image : Image) (s : List SectionTable) (mode : ℕ) (v : ExceptionView) (f : RuntimeFunction) (x : Result (List UnwindInfoView) Refusal) → image_exceptions b image s mode ≡ Ok v →
     PlansFrom (links_of v s (options_of mode)) b f x → PlansFrom (links_of v s (options_of mode)) v.content f x

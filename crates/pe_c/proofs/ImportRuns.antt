@@ -25,7 +25,7 @@ use Rattle.pe_c.specs.declared.imports.Imports.{Imports}
 use Rattle.pe_c.specs.declared.imports.Libraries.{Libraries}
 use Rattle.pe_c.specs.declared.imports.Library.{Library}
 use Rattle.pe_c.specs.declared.ranges.Range.{Range}
-use Rattle.pe_c.specs.Images.{is_absent, map_of_image}
+use Rattle.pe_c.specs.Images.{import_directory, is_absent, map_of_image}
 use Rattle.pe_c.specs.Imports.{import_at, import_by, import_left, import_step, import_reported, StepsImports, StepsLibraries, libraries_at, libraries_from, library_by, library_step, library_reported, no_imports, no_libraries, slot_entry}
 use Rattle.pe_c.specs.Parts.{ImportsInTurn, ReportsImport, ReportsLibrary}
 use Rattle.pe_c.specs.Ranges.{IsRange, no_bytes, range_from}
@@ -364,12 +364,12 @@ some_bytes false = omega arith
 
 reported_of_image : (b : List ℕ) (image : Image) (sections : List SectionTable) (walk : Libraries) → AreBytes b → length b ≤ 2 ^ 63 → libraries_at image sections ≡ Ok (Some walk) →
     ReturnsReported (StepsLibraries (map_of_image image sections) (entry_size (image.width == 64)) b) (ReportsLibrary (map_of_image image sections) (entry_size (image.width == 64)) b) walk
-    (import_data_at (map_of_image image sections) (entry_size (image.width == 64)) b image.imports.virtual_address)
+    (import_data_at (map_of_image image sections) (entry_size (image.width == 64)) b (import_directory image).virtual_address)
 reported_of_image b image sections walk bytes small e =
-    by_directory (map_of_image image sections) (entry_size (image.width == 64)) b walk (is_absent image.imports) (map_of_image image sections image.imports.virtual_address) (some_bytes (image.width == 64)) bytes small e
+    by_directory (map_of_image image sections) (entry_size (image.width == 64)) b walk (is_absent (import_directory image)) (map_of_image image sections (import_directory image).virtual_address) (some_bytes (image.width == 64)) bytes small e
 
 pub libraries_in_turn : (b : List ℕ) (image : Image) (sections : List SectionTable) (walk : Libraries) (rs : List ImportRecordView) → AreBytes b → length b ≤ 2 ^ 63 → libraries_at image sections ≡ Ok (Some walk) →
-    import_data_at (map_of_image image sections) (entry_size (image.width == 64)) b image.imports.virtual_address ≡ Ok rs →
+    import_data_at (map_of_image image sections) (entry_size (image.width == 64)) b (import_directory image).virtual_address ≡ Ok rs →
     (reported : List Library) × ReturnsItems (StepsLibraries (map_of_image image sections) (entry_size (image.width == 64)) b) walk (map (λ x. Ok x) reported) ×
     AllZip (ReportsLibrary (map_of_image image sections) (entry_size (image.width == 64)) b) reported rs
 libraries_in_turn b image sections walk rs bytes small e whole =
@@ -377,7 +377,7 @@ libraries_in_turn b image sections walk rs bytes small e whole =
     (reported_of_image b image sections walk bytes small e)
 
 pub refused_in_turn : (b : List ℕ) (image : Image) (sections : List SectionTable) (walk : Libraries) (refusal : Refusal) → AreBytes b → length b ≤ 2 ^ 63 → libraries_at image sections ≡ Ok (Some walk) →
-    import_data_at (map_of_image image sections) (entry_size (image.width == 64)) b image.imports.virtual_address ≡ Err refusal →
+    import_data_at (map_of_image image sections) (entry_size (image.width == 64)) b (import_directory image).virtual_address ≡ Err refusal →
     (reported : List Library) × (rs : List ImportRecordView) ×
     ReturnsItems (StepsLibraries (map_of_image image sections) (entry_size (image.width == 64)) b) walk (map (λ x. Ok x) reported ++ Err refusal ∷ []) ×
     AllZip (ReportsLibrary (map_of_image image sections) (entry_size (image.width == 64)) b) reported rs

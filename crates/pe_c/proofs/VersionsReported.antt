@@ -13,7 +13,7 @@ use Rattle.pe_resource.specs.declared.version.VsFixedFileInfo.{VsFixedFileInfo}
 use Rattle.pe_resource.proofs.ContentRanges.{manifest_in, version_in_range, version_fixed, version_named}
 use Rattle.pe_resource.proofs.ValueRanges.{inner_bytes}
 use Rattle.pe_c.specs.HandsOut.{HandsOutIf}
-use Rattle.pe_c.specs.Images.{is_absent}
+use Rattle.pe_c.specs.Images.{is_absent, resource_directory}
 use Rattle.pe_c.specs.Modes.{options_of}
 use Rattle.pe_c.specs.Ranges.{range_of, IsRange}
 use Rattle.pe_c.specs.Versions.{IsContentBy, IsContentOf, HandsOutManifest, fixed_at, HandsOutFixed, value_at, HandsOutText, AreImageResources, ReportsRange, fixed_of, version_value}
@@ -23,7 +23,7 @@ use Rattle.pe_c.specs.declared.ranges.Range.{Range}
 ok_once : {X : Type 0} (x y : X) → Path (Result X Refusal) (Ok x) (Ok y) → x ≡ y
 ok_once x y e = cc
 
-content_range : (b : List ℕ) (image : Image) (sections : List SectionTable) (mode id : ℕ) (r : Result (Option ByteRange) Refusal) → is_absent image.resources ≡ false → IsContentOf b image sections mode id r → IsResourceRange (options_of mode) b image.resources id sections image.file_alignment r
+content_range : (b : List ℕ) (image : Image) (sections : List SectionTable) (mode id : ℕ) (r : Result (Option ByteRange) Refusal) → is_absent (resource_directory image) ≡ false → IsContentOf b image sections mode id r → IsResourceRange (options_of mode) b (resource_directory image) id sections image.file_alignment r
 content_range b image sections mode id r there h = subst (λ (t : Bool). IsContentBy t (options_of mode) b image sections id r) there h
 
 -- ---- ranges
@@ -37,7 +37,7 @@ reports b (Some r) m number old new h k = subst (ReportsRange b number new) (sym
 
 pub manifest_reported : (b : List ℕ) (image : Image) (sections : List SectionTable) (mode : ℕ) (x : ResourceView) (number : ℕ) (old new : Range) → AreImageResources b image sections mode x → HandsOutManifest b image sections mode number old new → ReportsRange b number new x.manifest
 manifest_reported b image sections mode x number old new h k =
-    let found = manifest_in (options_of mode) b image.resources sections image.file_alignment x k.0 h.1 (content_range b image sections mode 24 k.0 h.0 k.1) in
+    let found = manifest_in (options_of mode) b (resource_directory image) sections image.file_alignment x k.0 h.1 (content_range b image sections mode 24 k.0 h.0 k.1) in
     reports b found.0 x.manifest number old new found.2 (subst (λ (r : Result (Option ByteRange) Refusal). HandsOutIf number old new (r >>= λ c. Ok (option_map range_of c))) found.1 k.2)
 
 -- ---- version information
@@ -60,7 +60,7 @@ fixed_is b (Some r) bytes v h k =
 
 pub fixed_reported : (b : List ℕ) (image : Image) (sections : List SectionTable) (mode : ℕ) (x : ResourceView) (number : ℕ) (old new : VsFixedFileInfo) → AreImageResources b image sections mode x → HandsOutFixed b image sections mode number old new → HandsOutIf number old new (Ok (fixed_of x.version))
 fixed_reported b image sections mode x number old new h k =
-    let found = version_in_range (options_of mode) b image.resources sections image.file_alignment x k.0 h.1 (content_range b image sections mode 16 k.0 h.0 k.1) in
+    let found = version_in_range (options_of mode) b (resource_directory image) sections image.file_alignment x k.0 h.1 (content_range b image sections mode 16 k.0 h.0 k.1) in
     subst (HandsOutIf number old new) (fixed_is b found.0 found.1 x.version found.3 found.4)
     (subst (λ (r : Result (Option ByteRange) Refusal). HandsOutIf number old new (r >>= fixed_at b)) found.2 k.2)
 
@@ -82,6 +82,6 @@ value_is b name (Some r) bytes v number old new h k answers =
 
 pub value_reported : (b : List ℕ) (image : Image) (sections : List SectionTable) (mode : ℕ) (name : VersionName) (x : ResourceView) (number : ℕ) (old new : Range) → AreImageResources b image sections mode x → HandsOutText b image sections mode (Some name) number old new → ReportsRange b number new (version_value name x.version)
 value_reported b image sections mode name x number old new h k =
-    let found = version_in_range (options_of mode) b image.resources sections image.file_alignment x k.0 h.1 (content_range b image sections mode 16 k.0 h.0 k.1) in
+    let found = version_in_range (options_of mode) b (resource_directory image) sections image.file_alignment x k.0 h.1 (content_range b image sections mode 16 k.0 h.0 k.1) in
     value_is b name found.0 found.1 x.version number old new found.3 found.4
     (subst (λ (r : Result (Option ByteRange) Refusal). HandsOutIf number old new (r >>= value_at b name)) found.2 k.2)

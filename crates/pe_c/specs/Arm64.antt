@@ -25,6 +25,7 @@ use Rattle.pe_c.specs.declared.arm64.codes.Arm64CodeWalk.{Arm64CodeWalk}
 use Rattle.pe_c.specs.declared.arm64.functions.Arm64Packed.{Arm64Packed}
 use Rattle.pe_c.specs.declared.arm64.records.Arm64Record.{Arm64Record}
 use Rattle.pe_c.specs.declared.arm64.records.Arm64Scope.{Arm64Scope}
+use Rattle.pe_c.specs.Images.{exception_directory}
 use Rattle.pe_c.specs.declared.image.Image.{Image}
 use Rattle.pe_c.specs.declared.ranges.Range.{Range}
 
@@ -95,7 +96,7 @@ info_in b (Some offset) = offset >>= λ p. flat_info_at b p >>= λ r. Ok (Some r
 -- the record of a function, or none where its unwind data is packed
 abbrev pub arm64_record_of : List ℕ → Image → List SectionTable → ℕ → Arm64RuntimeFunction → Result (Option Arm64Record) Refusal
 arm64_record_of b image sections mode f =
-    exception_at 8 b image.exceptions sections image.file_alignment (options_of mode)
+    exception_at 8 b (exception_directory image) sections image.file_alignment (options_of mode)
     >>= λ v. info_in b (offset_of_function v sections (options_of mode) f)
 
 -- ---- epilog scopes

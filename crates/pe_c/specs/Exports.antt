@@ -13,7 +13,7 @@ use Rattle.pe_c.specs.declared.exports.Tables.{Tables}
 use Rattle.pe_c.specs.declared.image.Image.{Image}
 use Rattle.pe_c.specs.declared.ranges.Range.{Range}
 use Rattle.pe_c.specs.HandsOut.{HandsOutIf}
-use Rattle.pe_c.specs.Images.{is_absent, map_of_image}
+use Rattle.pe_c.specs.Images.{export_directory, is_absent, map_of_image}
 use Rattle.pe_c.specs.Ranges.{bytes_at, no_bytes, range_from}
 
 -- ---- the tables
@@ -34,8 +34,8 @@ walk_over offset d = record {
 -- the tables of an image's export directory as a walk, if it has one; or what refuses it
 unfoldable pub tables_at : List ℕ → Image → List SectionTable → Result (Option Exports) Refusal
 tables_at b image sections =
-    if is_absent image.exports then Ok None
-    else export_data_at (map_of_image image sections) b image.exports.virtual_address >>= λ d. Ok (Some (walk_over (map_of_image image sections) d))
+    if is_absent (export_directory image) then Ok None
+    else export_data_at (map_of_image image sections) b (export_directory image).virtual_address >>= λ d. Ok (Some (walk_over (map_of_image image sections) d))
 
 -- ---- the walk
 

@@ -1,8 +1,7 @@
 -- What calls return of an image.
-use Rattle.std.specs.Prelude.{◌≡◌, ℕ, ◌==◌, ◌&&◌, List, ◌++◌, drop, length, nat_le, Bool, true, false, Option, Some, None, Result, Ok, Err, if◌then◌else◌}
+use Rattle.std.specs.Prelude.{◌≡◌, ℕ, ◌+◌, ◌*◌, ◌==◌, ◌&&◌, List, [], ◌∷◌, ◌++◌, drop, length, map, nat_le, nat_lt, slice_index_or, Bool, true, false, Option, Some, None, Result, Ok, Err, if◌then◌else◌}
 use Rattle.pe_core.specs.Directories.{present, absent_directory}
-use Rattle.pe_core.specs.Header.{OptionalHeaderView, HeaderView, header_at}
-use Rattle.pe_core.specs.Options.{default_options}
+use Rattle.pe_core.specs.Header.{OptionalHeaderView, HeaderView, directories_offset, header_at}
 use Rattle.pe_core.specs.Refusals.{Refusal, ◌>>=◌}
 use Rattle.pe_core.specs.SectionMap.{section_map}
 use Rattle.pe_core.specs.Sections.{sections_at, sections_offset}
@@ -10,7 +9,7 @@ use Rattle.pe_core.specs.declared.data_directories.DataDirectory.{DataDirectory}
 use Rattle.pe_core.specs.declared.section_table.SectionTable.{SectionTable}
 use Rattle.pe_c.specs.declared.image.Image.{Image}
 use Rattle.pe_c.specs.HandsOut.{result_number}
-use Rattle.pe_c.specs.Modes.{mode_of_number}
+use Rattle.pe_c.specs.Modes.{mode_of_number, options_of}
 
 -- a directory, or zeros where it is absent
 abbrev pub or_absent : Option DataDirectory → DataDirectory
@@ -21,52 +20,98 @@ or_absent (Some d) = d
 abbrev pub is_absent : DataDirectory → Bool
 is_absent d = d.virtual_address == 0 && d.size == 0
 
--- what the headers say; zeros without an optional header
-abbrev pub image_info_by : HeaderView → Option OptionalHeaderView → Image
-image_info_by h None = record {
+-- the sixteen directories of a header that keeps these: zeros for those that it does not keep
+abbrev pub all_directories : List DataDirectory → List DataDirectory
+all_directories kept =
+    map (λ i. or_absent (present kept i)) (0 ∷ 1 ∷ 2 ∷ 3 ∷ 4 ∷ 5 ∷ 6 ∷ 7 ∷ 8 ∷ 9 ∷ 10 ∷ 11 ∷ 12 ∷ 13 ∷ 14 ∷ 15 ∷ [])
+
+-- the file offset of the certificate table's directory, the fifth, in an optional header at this offset, if that keeps
+-- it; else 0
+abbrev pub certificate_entry : ℕ → OptionalHeaderView → ℕ
+certificate_entry start o =
+    if nat_lt 4 (length o.data_directories) then start + directories_offset (o.standard_fields.magic == 0x20B) + 8 * 4 else 0
+
+-- what the headers say before the optional header; zeros for what that says. With it goes the mode in which
+-- they were read
+abbrev pub without_optional : ℕ → HeaderView → Image
+without_optional mode h = record {
   base = 0;
   sections_offset = sections_offset h;
+  checksum_offset = 0;
+  certificate_entry_offset = 0;
   entry = 0;
   file_alignment = 0;
-  exports = absent_directory;
-  imports = absent_directory;
-  resources = absent_directory;
-  exceptions = absent_directory;
-  certificates = absent_directory;
-  debug = absent_directory;
+  mode = mode;
+  section_alignment = 0;
+  size_of_image = 0;
+  size_of_headers = 0;
+  checksum = 0;
+  time_date_stamp = h.coff_header.time_date_stamp;
+  number_of_directories = 0;
+  directories = all_directories [];
   machine = h.coff_header.machine;
   width = 0;
   number_of_sections = h.coff_header.number_of_sections;
-  spare = 0;
+  characteristics = h.coff_header.characteristics;
+  subsystem = 0;
+  dll_characteristics = 0;
 }
-image_info_by h (Some o) = record {
+
+-- the image with what an optional header at this offset says; its checksum stands 64 bytes after its start
+abbrev pub with_optional : Image → ℕ → OptionalHeaderView → Image
+with_optional image start o = record image {
   base = o.windows_fields.image_base;
-  sections_offset = sections_offset h;
+  checksum_offset = start + 64;
+  certificate_entry_offset = certificate_entry start o;
   entry = o.standard_fields.address_of_entry_point;
   file_alignment = o.windows_fields.file_alignment;
-  exports = or_absent (present o.data_directories 0);
-  imports = or_absent (present o.data_directories 1);
-  resources = or_absent (present o.data_directories 2);
-  exceptions = or_absent (present o.data_directories 3);
-  certificates = or_absent (present o.data_directories 4);
-  debug = or_absent (present o.data_directories 6);
-  machine = h.coff_header.machine;
+  section_alignment = o.windows_fields.section_alignment;
+  size_of_image = o.windows_fields.size_of_image;
+  size_of_headers = o.windows_fields.size_of_headers;
+  checksum = o.windows_fields.check_sum;
+  number_of_directories = length o.data_directories;
+  directories = all_directories o.data_directories;
   width = if o.standard_fields.magic == 0x20B then 64 else 32;
-  number_of_sections = h.coff_header.number_of_sections;
-  spare = 0;
+  subsystem = o.windows_fields.subsystem;
+  dll_characteristics = o.windows_fields.dll_characteristics;
 }
 
--- the image of these headers
-abbrev pub image_info_of : HeaderView → Image
-image_info_of h = image_info_by h h.optional_header
+-- what all headers say; the optional header follows the PE signature and the COFF header, 24 bytes
+abbrev pub image_info_by : ℕ → HeaderView → Option OptionalHeaderView → Image
+image_info_by mode h None = without_optional mode h
+image_info_by mode h (Some o) = with_optional (without_optional mode h) (h.dos_header.pe_pointer + 24) o
 
--- the section map of an image
+-- the image of these headers, read in this mode
+abbrev pub image_info_of : ℕ → HeaderView → Image
+image_info_of mode h = image_info_by mode h h.optional_header
+
+-- the directory with this index: zeros where it is absent
+abbrev pub directory : Image → ℕ → DataDirectory
+directory image i = slice_index_or image.directories i absent_directory
+
+-- the directories that calls read, by their indices
+abbrev pub export_directory : Image → DataDirectory
+export_directory image = directory image 0
+
+abbrev pub import_directory : Image → DataDirectory
+import_directory image = directory image 1
+
+abbrev pub resource_directory : Image → DataDirectory
+resource_directory image = directory image 2
+
+abbrev pub exception_directory : Image → DataDirectory
+exception_directory image = directory image 3
+
+abbrev pub debug_directory : Image → DataDirectory
+debug_directory image = directory image 6
+
+-- the section map of an image, in the mode in which it is read
 abbrev pub map_of_image : Image → List SectionTable → ℕ → Option ℕ
-map_of_image image sections = section_map default_options sections image.file_alignment
+map_of_image image sections = section_map (options_of image.mode) sections image.file_alignment
 
 -- the image of these bytes in this mode, or the first refusal of its headers
 abbrev pub image_at : List ℕ → ℕ → Result Image Refusal
-image_at b mode = header_at b (mode_of_number mode) >>= λ h. Ok (image_info_of h)
+image_at b mode = header_at b (mode_of_number mode) >>= λ h. Ok (image_info_of mode h)
 
 -- the section headers are at the start of the room and the rest is unchanged; or they are refused and all is unchanged
 abbrev pub PutsRows : ℕ → List SectionTable → List SectionTable → Result (List SectionTable) Refusal → Type 0

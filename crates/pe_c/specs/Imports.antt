@@ -14,7 +14,7 @@ use Rattle.pe_c.specs.declared.imports.Libraries.{Libraries}
 use Rattle.pe_c.specs.declared.imports.Library.{Library}
 use Rattle.pe_c.specs.declared.ranges.Range.{Range}
 use Rattle.pe_c.specs.Exports.{one_if_some}
-use Rattle.pe_c.specs.Images.{is_absent, map_of_image}
+use Rattle.pe_c.specs.Images.{import_directory, is_absent, map_of_image}
 use Rattle.pe_c.specs.Ranges.{range_after, no_bytes, range_from}
 use Rattle.pe_c.specs.Walks.{left_entry}
 
@@ -31,8 +31,8 @@ no_libraries = record { next = 0; is_over = 1; spare = 0 }
 -- the libraries of an image's import directory, if it has one; its RVA has to be mapped
 abbrev pub libraries_at : Image → List SectionTable → Result (Option Libraries) Refusal
 libraries_at image sections =
-    if is_absent image.imports then Ok None
-    else mapped (map_of_image image sections image.imports.virtual_address) >>= λ p. Ok (Some (libraries_from p))
+    if is_absent (import_directory image) then Ok None
+    else mapped (map_of_image image sections (import_directory image).virtual_address) >>= λ p. Ok (Some (libraries_from p))
 
 -- a library, its name and its list as ranges
 abbrev pub library_reported : (ℕ → Option ℕ) → ImportRecordView → Library

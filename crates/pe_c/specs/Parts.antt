@@ -26,15 +26,15 @@ IsPart b r None = r ≡ no_bytes
 IsPart b r (Some part) = IsRange b r part
 
 -- a result that is read from debug data has the range of this part of the data
-abbrev pub ReportsPart : {Y : Type 0} → (DebugFields → Option Y) → (Y → Range) → (DebugFields → Option (List ℕ)) → Type 0
+abbrev pub ReportsPart : {Y : Type 0} → (ℕ → DebugFields → Option Y) → (Y → Range) → (DebugFields → Option (List ℕ)) → Type 0
 ReportsPart {Y} reported range_of part_of =
     (b : List ℕ) (image : Image) (sections : List SectionTable) (mode : ℕ) (y : Y) → reported_of reported b image sections mode ≡ Ok (Some y) →
-    (d : DebugFields) × (image_debug b image sections mode ≡ Ok (Some d)) × (reported d ≡ Some y) × IsPart b (range_of y) (part_of d)
+    (d : DebugFields) × (image_debug b image sections mode ≡ Ok (Some d)) × (reported mode d ≡ Some y) × IsPart b (range_of y) (part_of d)
 
 -- where debug data has a record, there is a result
-abbrev pub ReportsRecord : {X Y : Type 0} → (DebugFields → Option Y) → (DebugFields → Option X) → Type 0
+abbrev pub ReportsRecord : {X Y : Type 0} → (ℕ → DebugFields → Option Y) → (DebugFields → Option X) → Type 0
 ReportsRecord reported record_of =
-    (b : List ℕ) (image : Image) (sections : List SectionTable) (mode : ℕ) (d : DebugFields) → image_debug b image sections mode ≡ Ok (Some d) → IsSome (record_of d) → IsSome (reported d)
+    (b : List ℕ) (image : Image) (sections : List SectionTable) (mode : ℕ) (d : DebugFields) → image_debug b image sections mode ≡ Ok (Some d) → IsSome (record_of d) → IsSome (reported mode d)
 
 -- a walk at its start has the tables of these export data
 pub record HasTables (b : List ℕ) (w : Exports) (d : ExportDataView) : Type 0 where

@@ -18,7 +18,7 @@ use Rattle.pe_unwind.specs.declared.unwind_code.StackFrameOffset.TheVariants.{RS
 use Rattle.pe_unwind.specs.declared.unwind_code.UnwindCode.{UnwindCode}
 use Rattle.pe_unwind.specs.declared.unwind_code.UnwindOperation.{UnwindOperation}
 use Rattle.pe_unwind.specs.declared.unwind_code.UnwindOperation.TheVariants.{PushNonVolatile, Alloc, SetFPRegister, SaveNonVolatile, SaveXMM, Epilog, SaveXMM128, PushMachineFrame, Noop}
-use Rattle.pe_c.specs.Images.{is_absent}
+use Rattle.pe_c.specs.Images.{exception_directory, is_absent}
 use Rattle.pe_c.specs.HandsOut.{HandsOut, HandsOutIf}
 use Rattle.pe_c.specs.Modes.{options_of}
 use Rattle.pe_c.specs.Ranges.{no_bytes, range_of, last_range, bytes_at}
@@ -35,8 +35,8 @@ use Rattle.pe_c.specs.declared.unwinding.UnwindRecord.{UnwindRecord}
 unfoldable pub exception_table_at : ℕ → ℕ → List ℕ → Image → List SectionTable → ℕ → Result (Option Range) Refusal
 exception_table_at machine width b image sections mode =
     if image.machine == machine
-    then (if is_absent image.exceptions then Ok None
-    else exception_at width b image.exceptions sections image.file_alignment (options_of mode) >>= λ v. Ok (Some (range_of (table_range v))))
+    then (if is_absent (exception_directory image) then Ok None
+    else exception_at width b (exception_directory image) sections image.file_alignment (options_of mode) >>= λ v. Ok (Some (range_of (table_range v))))
     else Ok None
 
 -- the result of a lookup of an RVA in these entries, or what refuses the table
@@ -111,7 +111,7 @@ flat_record_at b p = outcome (unwind_tests b p) (unwind_record b p) >>= λ i. Ok
 
 -- the exception data of an image, with entries of 12 bytes, or what refuses it
 abbrev pub image_exceptions : List ℕ → Image → List SectionTable → ℕ → Result ExceptionView Refusal
-image_exceptions b image sections mode = exception_at 12 b image.exceptions sections image.file_alignment (options_of mode)
+image_exceptions b image sections mode = exception_at 12 b (exception_directory image) sections image.file_alignment (options_of mode)
 
 -- the file offset of the record of an unwind RVA in a table, or what refuses the table
 abbrev pub FindsOffsetIn : Result ExceptionView Refusal → List SectionTable → ℕ → ℕ → Result ℕ Refusal → Type 0

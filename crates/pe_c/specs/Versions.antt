@@ -15,18 +15,18 @@ use Rattle.pe_resource.specs.declared.version.VsFixedFileInfo.{VsFixedFileInfo}
 use Rattle.pe_c.specs.declared.image.Image.{Image}
 use Rattle.pe_c.specs.declared.ranges.Range.{Range}
 use Rattle.pe_c.specs.HandsOut.{HandsOutIf}
-use Rattle.pe_c.specs.Images.{is_absent}
+use Rattle.pe_c.specs.Images.{is_absent, resource_directory}
 use Rattle.pe_c.specs.Modes.{options_of}
 use Rattle.pe_c.specs.Ranges.{range_of, IsRange}
 
 -- the range of the content of the first resource with an id, or what refuses it; none without a resource directory
 abbrev pub IsContentBy : Bool → ParseOptions → List ℕ → Image → List SectionTable → ℕ → Result (Option ByteRange) Refusal → Type 0
 IsContentBy true o b image sections id r = r ≡ Ok None
-IsContentBy false o b image sections id r = IsResourceRange o b image.resources id sections image.file_alignment r
+IsContentBy false o b image sections id r = IsResourceRange o b (resource_directory image) id sections image.file_alignment r
 
 -- the same of an image in this mode
 abbrev pub IsContentOf : List ℕ → Image → List SectionTable → ℕ → ℕ → Result (Option ByteRange) Refusal → Type 0
-IsContentOf b image sections mode id r = IsContentBy (is_absent image.resources) (options_of mode) b image sections id r
+IsContentOf b image sections mode id r = IsContentBy (is_absent (resource_directory image)) (options_of mode) b image sections id r
 
 -- what a call for the manifest returns: the range of the content of the resource with the id 24
 abbrev pub HandsOutManifest : List ℕ → Image → List SectionTable → ℕ → ℕ → Range → Range → Type 0
@@ -76,7 +76,7 @@ HandsOutText b image sections mode (Some name) number old new =
 -- the resources of an image that has some
 abbrev pub AreImageResources : List ℕ → Image → List SectionTable → ℕ → ResourceView → Type 0
 AreImageResources b image sections mode x =
-    (is_absent image.resources ≡ false) × IsResource (options_of mode) b image.resources sections image.file_alignment (Ok x)
+    (is_absent (resource_directory image) ≡ false) × IsResource (options_of mode) b (resource_directory image) sections image.file_alignment (Ok x)
 
 -- 100 where there is nothing; else 0, and the range lies in the bytes and these are its bytes
 abbrev pub ReportsRange : List ℕ → ℕ → Range → Option (List ℕ) → Type 0

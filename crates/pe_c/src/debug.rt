@@ -12,10 +12,10 @@ ghost use Rattle.pe_records.specs.DebugRecords.{debug_view};
 ghost use Rattle.pe_c.specs.HandsOut.{HandsOutIf};
 ghost use Rattle.pe_c.specs.Debug.{debug_entries_range, image_debug, reported_of, part_after, key_of, pdb20_field, characteristics_field, repro_field, pogo_field};
 
-use crate::image::{Image, is_absent};
+use crate::image::{DEBUG_TABLE, Image, directory, is_absent};
 use crate::ranges::{NO_BYTES, Range, range_of};
 use crate::results::{DONE, NOTHING, hand_out_some, number_of, options};
-use pe_core::{ParseOptions, Result, SectionTable};
+use pe_core::{Result, SectionTable};
 use pe_records::{
     DebugData, IMAGE_DEBUG_TYPE_CODEVIEW, IMAGE_DEBUG_TYPE_POGO, IMAGE_DEBUG_TYPE_REPRO, ReproInfo,
     VCFeatureInfo,
@@ -88,20 +88,15 @@ const REPRO_HEADER: u32 = 4;
 const POGO_HEADER: u32 = 4;
 
 #[tactic(auto, unfolding(crate::specs::Debug::debug_entries_range))]
-fn table_of(
-    bytes: &[u8],
-    image: &Image,
-    sections: &[SectionTable],
-    mode: u32,
-) -> Result<Option<Range>>
-    ensures { answer_of result ≡ debug_entries_range bytes.now image.now sections.now mode }
+fn table_of(bytes: &[u8], image: &Image, sections: &[SectionTable]) -> Result<Option<Range>>
+    ensures { answer_of result ≡ debug_entries_range bytes.now image.now sections.now image.now.mode }
 {
-    let directory = image.debug;
+    let directory = directory(image, DEBUG_TABLE);
     if is_absent(directory) {
         return Ok(None);
     }
     let alignment = image.file_alignment;
-    let opts = options(mode);
+    let opts = options(image.mode);
     let range = DebugData::table_range(bytes, directory, sections, alignment, &opts)?;
     Ok(Some(range_of(range)))
 }
@@ -116,12 +111,11 @@ pub extern "C" fn pe_c_debug_entries(
     bytes: &[u8],
     image: &Image,
     sections: &[SectionTable],
-    mode: u32,
     out: &mut Range,
 ) -> u32
-    ensures { HandsOutIf result out.old out.new (debug_entries_range bytes.now image.now sections.now mode) }
+    ensures { HandsOutIf result out.old out.new (debug_entries_range bytes.now image.now sections.now image.now.mode) }
 {
-    hand_out_some(table_of(bytes, image, sections, mode), out)
+    hand_out_some(table_of(bytes, image, sections), out)
 }
 
 #[tactic(auto, unfolding(crate::specs::Debug::image_debug))]
@@ -129,39 +123,44 @@ fn read_debug<'a>(
     bytes: &'a [u8],
     image: &Image,
     sections: &[SectionTable],
-    mode: u32,
 ) -> Result<Option<DebugData<'a>>>
-    ensures { answer_by (option_map debug_view) result ≡ image_debug bytes.entry.now image.now sections.now mode }
+    ensures { answer_by (option_map debug_view) result ≡ image_debug bytes.entry.now image.now sections.now image.now.mode }
 {
-    let directory = image.debug;
+    let directory = directory(image, DEBUG_TABLE);
     if is_absent(directory) {
         return Ok(None);
     }
     let alignment = image.file_alignment;
-    let opts = options(mode);
+    let opts = options(image.mode);
     let debug = DebugData::parse_with_opts(bytes, directory, sections, alignment, &opts)?;
     Ok(Some(debug))
 }
 
 /// The range of a part, which follows a header of so many bytes in the record of the first entry of this type.
-fn part_after(debug: &DebugData, data_type: u32, header: u32, part: &[u8]) -> Option<Range>
-    ensures { result ≡ part_after (debug_view debug.now) data_type header part.now }
+fn part_after(
+    debug: &DebugData,
+    mode: u32,
+    data_type: u32,
+    header: u32,
+    part: &[u8],
+) -> Option<Range>
+    ensures { result ≡ part_after mode (debug_view debug.now) data_type header part.now }
 {
     let entry = debug.find_type(data_type)?;
-    // A mode does not change where records are.
-    let offset = entry.record_offset(&ParseOptions::default());
+    let offset = entry.record_offset(&options(mode));
     Some(Range {
         offset: u64::from(offset) + u64::from(header),
         length: part.len() as u64,
     })
 }
 
-fn key_of(debug: &DebugData) -> Option<SymbolKey>
-    ensures { result ≡ key_of (debug_view debug.now) }
+fn key_of(debug: &DebugData, mode: u32) -> Option<SymbolKey>
+    ensures { result ≡ key_of mode (debug_view debug.now) }
 {
     let record = debug.codeview_pdb70_debug_info?;
     let name = part_after(
         debug,
+        mode,
         IMAGE_DEBUG_TYPE_CODEVIEW,
         PDB70_HEADER,
         record.filename,
@@ -188,24 +187,24 @@ pub extern "C" fn pe_c_symbol_key(
     bytes: &[u8],
     image: &Image,
     sections: &[SectionTable],
-    mode: u32,
     out: &mut SymbolKey,
 ) -> u32
-    ensures { HandsOutIf result out.old out.new (reported_of key_of bytes.now image.now sections.now mode) }
+    ensures { HandsOutIf result out.old out.new (reported_of key_of bytes.now image.now sections.now image.now.mode) }
 {
-    match read_debug(bytes, image, sections, mode) {
-        Ok(Some(debug)) => hand_out_some(Ok(key_of(&debug)), out),
+    match read_debug(bytes, image, sections) {
+        Ok(Some(debug)) => hand_out_some(Ok(key_of(&debug, image.mode)), out),
         Ok(None) => NOTHING,
         Err(error) => number_of(&error),
     }
 }
 
-fn pdb20_of(debug: &DebugData) -> Option<Pdb20>
-    ensures { result ≡ pdb20_field (debug_view debug.now) }
+fn pdb20_of(debug: &DebugData, mode: u32) -> Option<Pdb20>
+    ensures { result ≡ pdb20_field mode (debug_view debug.now) }
 {
     let record = debug.codeview_pdb20_debug_info?;
     let name = part_after(
         debug,
+        mode,
         IMAGE_DEBUG_TYPE_CODEVIEW,
         PDB20_HEADER,
         record.filename,
@@ -226,13 +225,12 @@ pub extern "C" fn pe_c_debug_pdb20(
     bytes: &[u8],
     image: &Image,
     sections: &[SectionTable],
-    mode: u32,
     out: &mut Pdb20,
 ) -> u32
-    ensures { HandsOutIf result out.old out.new (reported_of pdb20_field bytes.now image.now sections.now mode) }
+    ensures { HandsOutIf result out.old out.new (reported_of pdb20_field bytes.now image.now sections.now image.now.mode) }
 {
-    match read_debug(bytes, image, sections, mode) {
-        Ok(Some(debug)) => hand_out_some(Ok(pdb20_of(&debug)), out),
+    match read_debug(bytes, image, sections) {
+        Ok(Some(debug)) => hand_out_some(Ok(pdb20_of(&debug, image.mode)), out),
         Ok(None) => NOTHING,
         Err(error) => number_of(&error),
     }
@@ -245,12 +243,11 @@ pub extern "C" fn pe_c_debug_vc_features(
     bytes: &[u8],
     image: &Image,
     sections: &[SectionTable],
-    mode: u32,
     out: &mut VCFeatureInfo,
 ) -> u32
-    ensures { HandsOutIf result out.old out.new (reported_of (λ d. d.features) bytes.now image.now sections.now mode) }
+    ensures { HandsOutIf result out.old out.new (reported_of (λ mode d. d.features) bytes.now image.now sections.now image.now.mode) }
 {
-    match read_debug(bytes, image, sections, mode) {
+    match read_debug(bytes, image, sections) {
         Ok(Some(debug)) => hand_out_some(Ok(debug.vcfeature_info), out),
         Ok(None) => NOTHING,
         Err(error) => number_of(&error),
@@ -271,20 +268,19 @@ pub extern "C" fn pe_c_debug_characteristics(
     bytes: &[u8],
     image: &Image,
     sections: &[SectionTable],
-    mode: u32,
     out: &mut u32,
 ) -> u32
-    ensures { HandsOutIf result out.old out.new (reported_of characteristics_field bytes.now image.now sections.now mode) }
+    ensures { HandsOutIf result out.old out.new (reported_of (λ mode d. characteristics_field d) bytes.now image.now sections.now image.now.mode) }
 {
-    match read_debug(bytes, image, sections, mode) {
+    match read_debug(bytes, image, sections) {
         Ok(Some(debug)) => hand_out_some(Ok(characteristics_of(&debug)), out),
         Ok(None) => NOTHING,
         Err(error) => number_of(&error),
     }
 }
 
-fn repro_of(debug: &DebugData) -> Option<Repro>
-    ensures { result ≡ repro_field (debug_view debug.now) }
+fn repro_of(debug: &DebugData, mode: u32) -> Option<Repro>
+    ensures { result ≡ repro_field mode (debug_view debug.now) }
 {
     match debug.repro_info? {
         ReproInfo::TimeDateStamp(_) => Some(Repro {
@@ -293,7 +289,7 @@ fn repro_of(debug: &DebugData) -> Option<Repro>
             spare: 0,
         }),
         ReproInfo::Buffer { buffer, .. } => Some(Repro {
-            hash: part_after(debug, IMAGE_DEBUG_TYPE_REPRO, REPRO_HEADER, buffer)?,
+            hash: part_after(debug, mode, IMAGE_DEBUG_TYPE_REPRO, REPRO_HEADER, buffer)?,
             has_hash: 1,
             spare: 0,
         }),
@@ -307,23 +303,28 @@ pub extern "C" fn pe_c_debug_repro(
     bytes: &[u8],
     image: &Image,
     sections: &[SectionTable],
-    mode: u32,
     out: &mut Repro,
 ) -> u32
-    ensures { HandsOutIf result out.old out.new (reported_of repro_field bytes.now image.now sections.now mode) }
+    ensures { HandsOutIf result out.old out.new (reported_of repro_field bytes.now image.now sections.now image.now.mode) }
 {
-    match read_debug(bytes, image, sections, mode) {
-        Ok(Some(debug)) => hand_out_some(Ok(repro_of(&debug)), out),
+    match read_debug(bytes, image, sections) {
+        Ok(Some(debug)) => hand_out_some(Ok(repro_of(&debug, image.mode)), out),
         Ok(None) => NOTHING,
         Err(error) => number_of(&error),
     }
 }
 
-fn pogo_of(debug: &DebugData) -> Option<Pogo>
-    ensures { result ≡ pogo_field (debug_view debug.now) }
+fn pogo_of(debug: &DebugData, mode: u32) -> Option<Pogo>
+    ensures { result ≡ pogo_field mode (debug_view debug.now) }
 {
     let record = debug.pogo_info?;
-    let entries = part_after(debug, IMAGE_DEBUG_TYPE_POGO, POGO_HEADER, record.bytes)?;
+    let entries = part_after(
+        debug,
+        mode,
+        IMAGE_DEBUG_TYPE_POGO,
+        POGO_HEADER,
+        record.bytes,
+    )?;
     Some(Pogo {
         entries,
         signature: record.signature,
@@ -338,13 +339,12 @@ pub extern "C" fn pe_c_debug_pogo(
     bytes: &[u8],
     image: &Image,
     sections: &[SectionTable],
-    mode: u32,
     out: &mut Pogo,
 ) -> u32
-    ensures { HandsOutIf result out.old out.new (reported_of pogo_field bytes.now image.now sections.now mode) }
+    ensures { HandsOutIf result out.old out.new (reported_of pogo_field bytes.now image.now sections.now image.now.mode) }
 {
-    match read_debug(bytes, image, sections, mode) {
-        Ok(Some(debug)) => hand_out_some(Ok(pogo_of(&debug)), out),
+    match read_debug(bytes, image, sections) {
+        Ok(Some(debug)) => hand_out_some(Ok(pogo_of(&debug, image.mode)), out),
         Ok(None) => NOTHING,
         Err(error) => number_of(&error),
     }

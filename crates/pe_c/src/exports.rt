@@ -10,7 +10,7 @@ ghost use Rattle.pe_c.specs.HandsOut.{HandsOutIf};
 ghost use Rattle.pe_c.specs.Exports.{HandsOutExport, FindsNext, StepsExports, export_table, tables_at, tables_or_short, reported_entry, view_of, walk_over};
 ghost use Rattle.pe_c.specs.Images.{map_of_image};
 
-use crate::image::{Image, is_absent, offset_of};
+use crate::image::{EXPORT_TABLE, Image, directory, is_absent, offset_of};
 use crate::ranges::{NO_BYTES, Range, range_from, slice_of};
 use crate::results::{hand_out_some, options};
 use pe_core::{ExportData, Result, SectionTable, read_u32, text_at, u16_at, u32_at};
@@ -68,26 +68,21 @@ fn walk_over(export_data: &ExportData, image: &Image, sections: &[SectionTable])
 }
 
 #[tactic(auto, unfolding(crate::specs::Exports::tables_at))]
-fn tables_at(
-    bytes: &[u8],
-    image: &Image,
-    sections: &[SectionTable],
-    mode: u32,
-) -> Result<Option<Exports>>
+fn tables_at(bytes: &[u8], image: &Image, sections: &[SectionTable]) -> Result<Option<Exports>>
     ensures { answer_of result ≡ tables_at bytes.now image.now sections.now }
 {
-    let directory = image.exports;
+    let directory = directory(image, EXPORT_TABLE);
     if is_absent(directory) {
         return Ok(None);
     }
     let alignment = image.file_alignment;
-    let opts = options(mode);
+    let opts = options(image.mode);
     let export_data = ExportData::parse_with_opts(bytes, directory, sections, alignment, &opts)?;
     Ok(Some(walk_over(&export_data, image, sections)))
 }
 
 /// Returns the tables of an image's export directory as a walk at its start: `NOTHING` where the directory is absent.
-/// The mode makes no difference.
+/// Strict and permissive mode make no difference.
 ///
 /// Errors: `UNMAPPED`, `SHORT` of the directory; `UNMAPPED`, `SHORT` of each table: of RVAs, of names, of ordinals.
 #[unsafe(no_mangle)]
@@ -95,12 +90,11 @@ pub extern "C" fn pe_c_export_tables(
     bytes: &[u8],
     image: &Image,
     sections: &[SectionTable],
-    mode: u32,
     out: &mut Exports,
 ) -> u32
     ensures { HandsOutIf result out.old out.new (tables_at bytes.now image.now sections.now) }
 {
-    hand_out_some(tables_at(bytes, image, sections, mode), out)
+    hand_out_some(tables_at(bytes, image, sections), out)
 }
 
 /// The three tables of a walk.
@@ -202,8 +196,8 @@ fn step(
 }
 
 /// Reads the next export that has a name, in the order of the name table: `NOTHING` after the last. Entries are skipped
-/// whose name is unmapped, not NUL-terminated or not UTF-8, or whose ordinal is not in the address table. No mode makes
-/// a difference. Each name is read to its end, so names that overlap are read once each.
+/// whose name is unmapped, not NUL-terminated or not UTF-8, or whose ordinal is not in the address table. Strict
+/// and permissive mode make no difference. Each name is read to its end, so names that overlap are read once each.
 ///
 /// Errors: `SHORT` where the tables are not inside the bytes. After it the walk is over.
 #[unsafe(no_mangle)]
@@ -211,7 +205,6 @@ pub extern "C" fn pe_c_next_export(
     bytes: &[u8],
     image: &Image,
     sections: &[SectionTable],
-    _mode: u32,
     walk: &mut Exports,
     out: &mut Export,
 ) -> u32

@@ -12,13 +12,13 @@ ghost use Rattle.pe_c.specs.HandsOut.{HandsOutIf};
 ghost use Rattle.pe_c.specs.Images.{map_of_image};
 ghost use Rattle.pe_c.specs.Imports.{import_at, import_step, libraries_at, library_at, library_of, library_step, named_reported};
 
-use crate::image::{Image, is_absent, offset_of};
+use crate::image::{IMPORT_TABLE, Image, directory, is_absent, offset_of};
 use crate::ranges::{NO_BYTES, Range, range_from};
-use crate::results::hand_out_some;
+use crate::results::{hand_out_some, options};
 use crate::walks::next_entry;
 use pe_core::{
-    Error, ImportDirectoryEntry, ParseOptions, Reason, Result, SectionTable, lookup_number,
-    lookup_size, lookups_at, mapped_offset, text_at, u16_at,
+    Error, ImportDirectoryEntry, Reason, Result, SectionTable, lookup_number, lookup_size,
+    lookups_at, mapped_offset, text_at, u16_at,
 };
 
 /// The size of a record of the import directory in bytes.
@@ -96,12 +96,7 @@ const NO_LIBRARIES: Libraries = Libraries {
 fn require_offset(rva: u32, image: &Image, sections: &[SectionTable]) -> Result<usize>
     ensures { Returns result (mapped (map_of_image image.now sections.now rva)) }
 {
-    mapped_offset(
-        rva,
-        sections,
-        image.file_alignment,
-        &ParseOptions::default(),
-    )
+    mapped_offset(rva, sections, image.file_alignment, &options(image.mode))
 }
 
 /// The name at a file offset, to which an RVA leads: `ImportName` where it is not NUL-terminated or not UTF-8.
@@ -117,10 +112,11 @@ fn name_at(bytes: &[u8], offset: usize, rva: u32) -> Result<&str>
 fn libraries_at(image: &Image, sections: &[SectionTable]) -> Result<Option<Libraries>>
     ensures { answer_of result ≡ libraries_at image.now sections.now }
 {
-    if is_absent(image.imports) {
+    let directory = directory(image, IMPORT_TABLE);
+    if is_absent(directory) {
         return Ok(None);
     }
-    let offset = require_offset(image.imports.virtual_address, image, sections)?;
+    let offset = require_offset(directory.virtual_address, image, sections)?;
     Ok(Some(Libraries {
         next: offset as u64,
         is_over: 0,
@@ -129,7 +125,7 @@ fn libraries_at(image: &Image, sections: &[SectionTable]) -> Result<Option<Libra
 }
 
 /// Returns the import directory of an image as a walk over its libraries, at its start: `NOTHING` where the directory
-/// is absent. No mode makes a difference.
+/// is absent. Strict and permissive mode make no difference.
 ///
 /// Errors: `UNMAPPED`.
 #[unsafe(no_mangle)]
@@ -137,7 +133,6 @@ pub extern "C" fn pe_c_import_libraries(
     _bytes: &[u8],
     image: &Image,
     sections: &[SectionTable],
-    _mode: u32,
     out: &mut Libraries,
 ) -> u32
     ensures { HandsOutIf result out.old out.new (libraries_at image.now sections.now) }
@@ -231,7 +226,7 @@ fn library_step(
 
 /// Reads the next library of an import directory: `NOTHING` after the last. The directory ends at a record whose name
 /// or address table has the RVA 0. A list whose RVA is unmapped is empty. Each name and each list is read to its end,
-/// so those that overlap are read once each. No mode makes a difference.
+/// so those that overlap are read once each. Strict and permissive mode make no difference.
 ///
 /// Errors: `SHORT` where the record is truncated; `UNMAPPED`, `IMPORT_NAME` of its name; `SHORT` where no zero entry
 /// ends its list. After the last and after an error the walk is over.
@@ -240,7 +235,6 @@ pub extern "C" fn pe_c_next_library(
     bytes: &[u8],
     image: &Image,
     sections: &[SectionTable],
-    _mode: u32,
     walk: &mut Libraries,
     out: &mut Library,
 ) -> u32
@@ -332,7 +326,7 @@ fn import_step(
 }
 
 /// Reads the next import of a library: `NOTHING` after the last. Each name is read to its end, so names that overlap
-/// are read once each. No mode makes a difference.
+/// are read once each. Strict and permissive mode make no difference.
 ///
 /// Errors: `SHORT` where the walk is not inside the bytes, or its entry is truncated; `UNMAPPED` of the entry's RVA;
 /// `SHORT` of the hint there; `IMPORT_NAME` of the name. After an error the walk is over.
@@ -341,7 +335,6 @@ pub extern "C" fn pe_c_next_import(
     bytes: &[u8],
     image: &Image,
     sections: &[SectionTable],
-    _mode: u32,
     walk: &mut Imports,
     out: &mut Import,
 ) -> u32

@@ -6,7 +6,7 @@ ghost use Rattle.pe_c.specs.Certificates.{StepsCertificates, ReportsCertificate,
 ghost use Rattle.pe_c.specs.Debug.{key_of, pdb20_field, pogo_field, repro_field};
 ghost use Rattle.pe_c.specs.DebugWalks.{StepsPogoEntries, entries_reported};
 ghost use Rattle.pe_c.specs.Exports.{StepsExports, count_of, tables_or_short, reported_entry, reported_from, walk_over, with_tables};
-ghost use Rattle.pe_c.specs.Images.{map_of_image};
+ghost use Rattle.pe_c.specs.Images.{import_directory, map_of_image};
 ghost use Rattle.pe_c.specs.Imports.{StepsLibraries, libraries_at};
 ghost use Rattle.pe_c.specs.Parts.{HasTables, ImportsInTurn, ReportsExport, ReportsLibrary, ReportsPart, ReportsRecord};
 ghost use Rattle.pe_c.specs.Modes.{options_of};
@@ -198,12 +198,12 @@ pub fn walks_report_the_exports()
 pub fn walks_report_the_imports()
     ensures libraries { (b : List ℕ) (image : Image) (sections : List SectionTable) (walk : Libraries) (rs : List ImportRecordView) →
         AreBytes b → length b ≤ 2 ^ 63 → libraries_at image sections ≡ Ok (Some walk) →
-        import_data_at (map_of_image image sections) (entry_size (image.width == 64)) b image.imports.virtual_address ≡ Ok rs →
+        import_data_at (map_of_image image sections) (entry_size (image.width == 64)) b (import_directory image).virtual_address ≡ Ok rs →
         (reported : List Library) × ReturnsItems (StepsLibraries (map_of_image image sections) (entry_size (image.width == 64)) b) walk (map (λ x. Ok x) reported) ×
         AllZip (ReportsLibrary (map_of_image image sections) (entry_size (image.width == 64)) b) reported rs }
     ensures refused { (b : List ℕ) (image : Image) (sections : List SectionTable) (walk : Libraries) (refusal : Refusal) →
         AreBytes b → length b ≤ 2 ^ 63 → libraries_at image sections ≡ Ok (Some walk) →
-        import_data_at (map_of_image image sections) (entry_size (image.width == 64)) b image.imports.virtual_address ≡ Err refusal →
+        import_data_at (map_of_image image sections) (entry_size (image.width == 64)) b (import_directory image).virtual_address ≡ Err refusal →
         (reported : List Library) × (rs : List ImportRecordView) ×
         ReturnsItems (StepsLibraries (map_of_image image sections) (entry_size (image.width == 64)) b) walk (map (λ x. Ok x) reported ++ Err refusal ∷ []) ×
         AllZip (ReportsLibrary (map_of_image image sections) (entry_size (image.width == 64)) b) reported rs }

@@ -76,15 +76,14 @@ fn next_record(
     bytes: &[u8],
     image: &Image,
     sections: &[SectionTable],
-    mode: u32,
     plan: &mut Plan,
 ) -> Result<Option<UnwindRecord>>
-    ensures { StepsPlan bytes.now image.now sections.now mode plan.old (answer_of result) plan.new }
+    ensures { StepsPlan bytes.now image.now sections.now image.now.mode plan.old (answer_of result) plan.new }
 {
     if plan.is_over != 0 {
         return Ok(None);
     }
-    match read_record(bytes, image, sections, mode, plan.unwind) {
+    match read_record(bytes, image, sections, plan.unwind) {
         Ok(record) => advance(plan, record),
         Err(error) => {
             plan.is_over = 1;
@@ -102,11 +101,10 @@ pub extern "C" fn pe_c_next_record(
     bytes: &[u8],
     image: &Image,
     sections: &[SectionTable],
-    mode: u32,
     plan: &mut Plan,
     out: &mut UnwindRecord,
 ) -> u32
-    ensures { HandsOutPlan bytes.now image.now sections.now mode plan.old plan.new result out.old out.new }
+    ensures { HandsOutPlan bytes.now image.now sections.now image.now.mode plan.old plan.new result out.old out.new }
 {
-    hand_out_some(next_record(bytes, image, sections, mode, plan), out)
+    hand_out_some(next_record(bytes, image, sections, plan), out)
 }

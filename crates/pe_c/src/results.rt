@@ -17,6 +17,15 @@ pub const NOTHING: u32 = 100;
 /// The array that the caller passes is too small.
 pub const ROOM: u32 = 101;
 
+/// Returns the number of this ABI, which its name has too. The header and the cargo crate refer to that name, so that a
+/// program that was compiled for another ABI does not link. The number grows with each change that breaks callers.
+#[unsafe(no_mangle)]
+pub extern "C" fn pe_c_abi_1() -> u32
+    ensures { result ≡ 1 }
+{
+    1
+}
+
 /// The number of a reason. `tools/make_errors` writes the arms.
 fn number_of_reason(reason: Reason) -> u32
     ensures { result ≡ result_number (kind_of_reason reason) }
@@ -71,16 +80,20 @@ pub fn number_of(error: &Error) -> u32
     }
 }
 
-/// The options of a mode: 0 is strict, any other number permissive.
+/// The options of a mode: bit 0 is permissive mode, bit 1 an image as loaded, whose RVAs are its offsets.
 pub fn options(mode: u32) -> ParseOptions
     ensures { result ≡ options_of mode }
 {
-    let parse_mode = if mode == 0 {
+    let parse_mode = if mode % 2 == 0 {
         ParseMode::Strict
     } else {
         ParseMode::Permissive
     };
-    ParseOptions::default().with_parse_mode(parse_mode)
+    ParseOptions {
+        resolve_rva: mode / 2 % 2 == 0,
+        parse_mode,
+        ..ParseOptions::default()
+    }
 }
 
 /// Writes a value to `out` and returns `DONE`, or returns the number of an error and leaves `out` unchanged.

@@ -13,7 +13,7 @@ ghost use Rattle.pe_c.specs.Ranges.{bytes_at};
 ghost use Rattle.pe_c.specs.Unwinding.{exception_table_at, LocatesIn, HandsOutFound, function_in, is_some_number, or_no_function, handler_kind, handler_address, handler_range, flat_record, flat_record_at, FindsOffset, FollowsToRecord, HandsOutRecord, from_frame, bytes_from, saving, plain, flat, StepsOver, WalksIn, HandsOutCode, scopes_at};
 ghost use Rattle.pe_c.specs.Walks.{next_of, walk_of};
 
-use crate::image::{Image, is_absent};
+use crate::image::{EXCEPTION_TABLE, Image, directory, is_absent};
 use crate::ranges::{NO_BYTES, Range, last_range, range_of, slice_of};
 use crate::results::{DONE, NOTHING, hand_out, hand_out_some, number_of, options};
 use crate::walks::next_entry;
@@ -93,15 +93,10 @@ pub struct Code {
 }
 
 #[tactic(auto, unfolding(crate::specs::Unwinding::exception_table_at))]
-fn table_of(
-    bytes: &[u8],
-    image: &Image,
-    sections: &[SectionTable],
-    mode: u32,
-) -> Result<Option<Range>>
-    ensures { answer_of result ≡ exception_table_at 0x8664 12 bytes.now image.now sections.now mode }
+fn table_of(bytes: &[u8], image: &Image, sections: &[SectionTable]) -> Result<Option<Range>>
+    ensures { answer_of result ≡ exception_table_at 0x8664 12 bytes.now image.now sections.now image.now.mode }
 {
-    let directory = image.exceptions;
+    let directory = directory(image, EXCEPTION_TABLE);
     if image.machine != COFF_MACHINE_X86_64 || is_absent(directory) {
         return Ok(None);
     }
@@ -111,7 +106,7 @@ fn table_of(
         directory,
         sections,
         alignment,
-        &options(mode),
+        &options(image.mode),
     )?;
     Ok(Some(range_of(exceptions.table_range())))
 }
@@ -125,12 +120,11 @@ pub extern "C" fn pe_c_function_table(
     bytes: &[u8],
     image: &Image,
     sections: &[SectionTable],
-    mode: u32,
     out: &mut Range,
 ) -> u32
-    ensures { HandsOutIf result out.old out.new (exception_table_at 0x8664 12 bytes.now image.now sections.now mode) }
+    ensures { HandsOutIf result out.old out.new (exception_table_at 0x8664 12 bytes.now image.now sections.now image.now.mode) }
 {
-    hand_out_some(table_of(bytes, image, sections, mode), out)
+    hand_out_some(table_of(bytes, image, sections), out)
 }
 
 fn find(bytes: &[u8], table: &Range, rva: u32) -> Result<Option<RuntimeFunction>>
@@ -257,14 +251,13 @@ fn find_record_offset(
     bytes: &[u8],
     image: &Image,
     sections: &[SectionTable],
-    mode: u32,
     unwind: u32,
 ) -> Result<usize>
-    ensures { FindsOffset bytes.now image.now sections.now mode unwind (answer_of result) }
+    ensures { FindsOffset bytes.now image.now sections.now image.now.mode unwind (answer_of result) }
 {
-    let opts = options(mode);
+    let opts = options(image.mode);
     let alignment = image.file_alignment;
-    let table = image.exceptions;
+    let table = directory(image, EXCEPTION_TABLE);
     let exceptions = ExceptionData::parse_with_opts(bytes, table, sections, alignment, &opts)?;
     exceptions.record_offset(unwind, sections, &opts)
 }
@@ -274,12 +267,11 @@ pub fn read_record(
     bytes: &[u8],
     image: &Image,
     sections: &[SectionTable],
-    mode: u32,
     unwind: u32,
 ) -> Result<UnwindRecord>
-    ensures { FollowsToRecord bytes.now image.now sections.now mode unwind (answer_of result) }
+    ensures { FollowsToRecord bytes.now image.now sections.now image.now.mode unwind (answer_of result) }
 {
-    let offset = find_record_offset(bytes, image, sections, mode, unwind)?;
+    let offset = find_record_offset(bytes, image, sections, unwind)?;
     record_at(bytes, offset)
 }
 
@@ -293,13 +285,12 @@ pub extern "C" fn pe_c_unwind_record(
     bytes: &[u8],
     image: &Image,
     sections: &[SectionTable],
-    mode: u32,
     unwind: u32,
     out: &mut UnwindRecord,
 ) -> u32
-    ensures { HandsOutRecord bytes.now image.now sections.now mode unwind result out.old out.new }
+    ensures { HandsOutRecord bytes.now image.now sections.now image.now.mode unwind result out.old out.new }
 {
-    hand_out(read_record(bytes, image, sections, mode, unwind), out)
+    hand_out(read_record(bytes, image, sections, unwind), out)
 }
 
 /// Whether an offset counts from the frame register, and the offset in bytes.

@@ -10,7 +10,7 @@ ghost use Rattle.pe_core.specs.Refusals.{answer_of};
 ghost use Rattle.pe_resource.specs.Contents.{inner};
 ghost use Rattle.pe_c.specs.Versions.{IsContentOf, HandsOutManifest, fixed_at, HandsOutFixed, value_at, name_at, HandsOutText};
 
-use crate::image::{Image, is_absent};
+use crate::image::{Image, RESOURCE_TABLE, directory, is_absent};
 use crate::ranges::{Range, range_of};
 use crate::results::{NOTHING, hand_out_some, number_of, options};
 use pe_core::{ByteRange, Result, SectionTable};
@@ -21,18 +21,24 @@ fn content_of(
     bytes: &[u8],
     image: &Image,
     sections: &[SectionTable],
-    mode: u32,
     id: u16,
 ) -> Result<Option<ByteRange>>
-    ensures content { IsContentOf bytes.now image.now sections.now mode id (answer_of result) }
+    ensures content { IsContentOf bytes.now image.now sections.now image.now.mode id (answer_of result) }
     ensures within { IfOk result (λ c. IfSome c (IsWithin bytes.now)) }
 {
-    let directory = image.resources;
+    let directory = directory(image, RESOURCE_TABLE);
     if is_absent(directory) {
         return Ok(None);
     }
     let alignment = image.file_alignment;
-    ResourceData::content_range(bytes, directory, id, sections, alignment, &options(mode))
+    ResourceData::content_range(
+        bytes,
+        directory,
+        id,
+        sections,
+        alignment,
+        &options(image.mode),
+    )
 }
 
 /// Returns the range of the manifest: `NOTHING` without one. What the version information says makes no difference.
@@ -42,12 +48,11 @@ pub extern "C" fn pe_c_manifest(
     bytes: &[u8],
     image: &Image,
     sections: &[SectionTable],
-    mode: u32,
     out: &mut Range,
 ) -> u32
-    ensures { HandsOutManifest bytes.now image.now sections.now mode result out.old out.new }
+    ensures { HandsOutManifest bytes.now image.now sections.now image.now.mode result out.old out.new }
 {
-    match content_of(bytes, image, sections, mode, RT_MANIFEST) {
+    match content_of(bytes, image, sections, RT_MANIFEST) {
         Ok(content) => hand_out_some(Ok(content.map(range_of)), out),
         Err(error) => number_of(&error),
     }
@@ -71,12 +76,11 @@ pub extern "C" fn pe_c_fixed_version(
     bytes: &[u8],
     image: &Image,
     sections: &[SectionTable],
-    mode: u32,
     out: &mut VsFixedFileInfo,
 ) -> u32
-    ensures { HandsOutFixed bytes.now image.now sections.now mode result out.old out.new }
+    ensures { HandsOutFixed bytes.now image.now sections.now image.now.mode result out.old out.new }
 {
-    match content_of(bytes, image, sections, mode, RT_VERSION) {
+    match content_of(bytes, image, sections, RT_VERSION) {
         Ok(content) => hand_out_some(fixed_at(bytes, content), out),
         Err(error) => number_of(&error),
     }
@@ -128,16 +132,15 @@ pub extern "C" fn pe_c_version_text(
     bytes: &[u8],
     image: &Image,
     sections: &[SectionTable],
-    mode: u32,
     name: u32,
     out: &mut Range,
 ) -> u32
-    ensures { HandsOutText bytes.now image.now sections.now mode (name_at name) result out.old out.new }
+    ensures { HandsOutText bytes.now image.now sections.now image.now.mode (name_at name) result out.old out.new }
 {
     let Some(name) = name_at(name) else {
         return NOTHING;
     };
-    match content_of(bytes, image, sections, mode, RT_VERSION) {
+    match content_of(bytes, image, sections, RT_VERSION) {
         Ok(content) => hand_out_some(value_at(bytes, name, content), out),
         Err(error) => number_of(&error),
     }

@@ -1,7 +1,7 @@
 //! Makes every call on an image and adds up what they return, for tests, the fuzz loop and the bench.
 #![allow(dead_code)]
 
-use pe_c::{Arm64Record, Arm64Unwinding, Error, Handler, Image, Mode, UnwindRecord, VersionName};
+use pe_c::{Arm64Record, Arm64Unwinding, Error, Handler, Image, Layout, Mode, UnwindRecord, VersionName};
 
 /// What was read.
 #[derive(Clone, Copy, Debug, Default, PartialEq, Eq)]
@@ -214,9 +214,9 @@ fn read_version(image: &Image, seen: &mut Seen) {
 }
 
 /// Makes every call on these bytes, and reads at most so many items of each table and walk.
-pub fn read_all(bytes: &[u8], mode: Mode, most: usize) -> Seen {
+pub fn read_all(bytes: &[u8], mode: Mode, layout: Layout, most: usize) -> Seen {
     let mut seen = Seen::up_to(most);
-    let answer = Image::parse(bytes, mode);
+    let answer = Image::parse_as(bytes, mode, layout);
     let Some(image) = seen.item(answer) else {
         return seen;
     };

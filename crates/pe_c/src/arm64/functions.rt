@@ -7,7 +7,7 @@ ghost use Rattle.pe_c.specs.HandsOut.{HandsOut, HandsOutIf};
 ghost use Rattle.pe_c.specs.Arm64.{arm64_function_in, packed_fields};
 ghost use Rattle.pe_c.specs.Unwinding.{exception_table_at};
 
-use crate::image::{Image, is_absent};
+use crate::image::{EXCEPTION_TABLE, Image, directory, is_absent};
 use crate::ranges::{Range, range_of, slice_of};
 use crate::results::{DONE, hand_out, hand_out_some, options};
 use pe_core::{COFF_MACHINE_ARM64, Result, SectionTable};
@@ -37,20 +37,15 @@ pub struct Arm64Packed {
 }
 
 #[tactic(auto, unfolding(crate::specs::Unwinding::exception_table_at))]
-fn table_of(
-    bytes: &[u8],
-    image: &Image,
-    sections: &[SectionTable],
-    mode: u32,
-) -> Result<Option<Range>>
-    ensures { answer_of result ≡ exception_table_at 0xAA64 8 bytes.now image.now sections.now mode }
+fn table_of(bytes: &[u8], image: &Image, sections: &[SectionTable]) -> Result<Option<Range>>
+    ensures { answer_of result ≡ exception_table_at 0xAA64 8 bytes.now image.now sections.now image.now.mode }
 {
-    let directory = image.exceptions;
+    let directory = directory(image, EXCEPTION_TABLE);
     if image.machine != COFF_MACHINE_ARM64 || is_absent(directory) {
         return Ok(None);
     }
     let alignment = image.file_alignment;
-    let opts = options(mode);
+    let opts = options(image.mode);
     let exceptions = ExceptionData::parse_arm64_with_opts(
         bytes, directory, sections, alignment, &opts,
     )?;
@@ -66,12 +61,11 @@ pub extern "C" fn pe_c_arm64_table(
     bytes: &[u8],
     image: &Image,
     sections: &[SectionTable],
-    mode: u32,
     out: &mut Range,
 ) -> u32
-    ensures { HandsOutIf result out.old out.new (exception_table_at 0xAA64 8 bytes.now image.now sections.now mode) }
+    ensures { HandsOutIf result out.old out.new (exception_table_at 0xAA64 8 bytes.now image.now sections.now image.now.mode) }
 {
-    hand_out_some(table_of(bytes, image, sections, mode), out)
+    hand_out_some(table_of(bytes, image, sections), out)
 }
 
 fn function_in(bytes: &[u8], table: &Range, index: u64) -> Result<Arm64RuntimeFunction>

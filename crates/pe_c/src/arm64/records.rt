@@ -9,7 +9,7 @@ ghost use Rattle.pe_c.specs.HandsOut.{HandsOutIf};
 ghost use Rattle.pe_c.specs.Arm64.{arm64_handler_range, arm64_handler_address, has_arm64_handler, first_count, flat_info, flat_info_at, arm64_record_of, flat_scope, flat_scope_at};
 ghost use Rattle.pe_c.specs.Walks.{next_of, walk_of};
 
-use crate::image::Image;
+use crate::image::{EXCEPTION_TABLE, Image, directory};
 use crate::ranges::{NO_BYTES, Range, last_range};
 use crate::results::{hand_out_some, options};
 use crate::walks::next_entry;
@@ -132,14 +132,13 @@ fn read_record(
     bytes: &[u8],
     image: &Image,
     sections: &[SectionTable],
-    mode: u32,
     function: Arm64RuntimeFunction,
 ) -> Result<Option<Arm64Record>>
-    ensures { answer_of result ≡ arm64_record_of bytes.now image.now sections.now mode function }
+    ensures { answer_of result ≡ arm64_record_of bytes.now image.now sections.now image.now.mode function }
 {
-    let opts = options(mode);
+    let opts = options(image.mode);
     let alignment = image.file_alignment;
-    let table = image.exceptions;
+    let table = directory(image, EXCEPTION_TABLE);
     let exceptions = ExceptionData::parse_arm64_with_opts(
         bytes, table, sections, alignment, &opts,
     )?;
@@ -158,13 +157,12 @@ pub extern "C" fn pe_c_arm64_unwind_record(
     bytes: &[u8],
     image: &Image,
     sections: &[SectionTable],
-    mode: u32,
     function: &Arm64RuntimeFunction,
     out: &mut Arm64Record,
 ) -> u32
-    ensures { HandsOutIf result out.old out.new (arm64_record_of bytes.now image.now sections.now mode function.now) }
+    ensures { HandsOutIf result out.old out.new (arm64_record_of bytes.now image.now sections.now image.now.mode function.now) }
 {
-    hand_out_some(read_record(bytes, image, sections, mode, *function), out)
+    hand_out_some(read_record(bytes, image, sections, *function), out)
 }
 
 /// An epilog scope as numbers.

@@ -1,0 +1,46 @@
+/* minidump_module: what a minidump says of a module, read from the module's memory: time stamp, image size and checksum,
+ * the key of its file on a symbol server, and that of its symbols.
+ *
+ *     minidump_module FILE    FILE is a copy of the memory, from the module's first byte on */
+#include "pe.h"
+
+#include <inttypes.h>
+#include <stdio.h>
+
+enum { MOST_SECTIONS = 96 };    /* of the Windows loader */
+
+static uint8_t memory[1 << 26];
+static pe_c_section sections[MOST_SECTIONS];
+
+static void show_key(const pe_c_key *key)
+{
+    static const int order[16] = {3, 2, 1, 0, 5, 4, 7, 6, 8, 9, 10, 11, 12, 13, 14, 15};
+    printf("symbols ");
+    for (int i = 0; i < 16; i++)
+        printf("%02X", key->guid[order[i]]);
+    printf("%" PRIX32 " %.*s\n", key->age, (int)key->name.length, (const char *)memory + key->name.offset);
+}
+
+int main(int argc, char **argv)
+{
+    FILE *file = argc == 2 ? fopen(argv[1], "rb") : NULL;
+    if (file == NULL)
+        return 2;
+    size_t length = fread(memory, 1, sizeof memory, file);
+    fclose(file);
+
+    pe_c_image_info image = PE_C_EMPTY;
+    pe_c_key key = PE_C_EMPTY;
+    uint32_t result = pe_c_image(memory, length, PE_C_PERMISSIVE | PE_C_MAPPED, &image);
+    if (result == PE_C_DONE)
+        result = pe_c_sections(memory, length, &image, sections, MOST_SECTIONS);
+    if (result == PE_C_DONE) {
+        printf("stamp %08" PRIx32 " size %08" PRIx32 " checksum %08" PRIx32 "\n", image.time_date_stamp,
+               image.size_of_image, image.checksum);
+        printf("image %08" PRIX32 "%" PRIx32 "\n", image.time_date_stamp, image.size_of_image);
+        result = pe_c_symbol_key(memory, length, &image, sections, image.number_of_sections, &key);
+    }
+    if (result == PE_C_DONE)
+        show_key(&key);
+    return result == PE_C_DONE || result == PE_C_NOTHING ? 0 : 1;
+}
