@@ -1,9 +1,17 @@
 //! A stack walk over one image.
 
-use pe_frame::{Registers, Stack, leaf, step};
+use pe_core::SectionMap;
+use pe_frame::{Registers, Stack, leaf, step_with_code};
 use pe_image::{COFF_MACHINE_X86_64, PE, ParseMode, ParseOptions, Result};
 use pe_plan::UnwindPlan;
 use std::alloc::Global;
+
+/// The code of a function from an RVA to its end. `None` if that is not all in the file.
+fn code_from<'a>(bytes: &'a [u8], map: &SectionMap<'_>, rva: u32, end: u32) -> Option<&'a [u8]> {
+    let offset = map.find(rva as usize)?;
+    let length = end.checked_sub(rva)?;
+    bytes.get(offset..offset.checked_add(length as usize)?)
+}
 
 /// The instruction pointers of a thread's frames in an x64 image that is loaded at `base`, from the innermost frame to the last
 /// one that can be unwound in this image; at most so many.
@@ -24,6 +32,7 @@ pub fn walk_stack(
     if image.header.coff_header.machine != COFF_MACHINE_X86_64 {
         return Ok(frames);
     }
+    let map = exceptions.section_map(&image.sections, &opts);
     let mut registers = registers;
     for depth in 0..most {
         frames.push(registers.rip)?;
@@ -42,7 +51,14 @@ pub fn walk_stack(
                     &image.sections,
                     &opts,
                 )?;
-                step(&records, function.begin_address, rva, registers, stack)
+                // The first frame alone may be in an epilog, which its code tells. Without code the records are undone.
+                let code = if is_return_address {
+                    None
+                } else {
+                    code_from(bytes, &map, rva, function.end_address)
+                };
+                let (start, code) = (function.begin_address, code.unwrap_or(&[]));
+                step_with_code(&records, start, rva, code, registers, stack)
             }
             None if is_return_address => break,
             None => leaf(registers, stack),
