@@ -328,6 +328,11 @@ uint32_t pe_c_next_debug_entry(const uint8_t *bytes, size_t length, pe_c_range *
 uint32_t pe_c_symbol_key(const uint8_t *bytes, size_t length, const pe_c_image_info *image,
                          const pe_c_section *sections, size_t count, pe_c_key *out) PE_C_RESULT(3, 6);
 
+/* Returns the symbol key of a CodeView record that stands alone, as a minidump has one of each module: no other debug data
+ * is read, and no damage there is an error. PE_C_NOTHING where it is not a record of PDB 7.0.
+ * Errors: PE_C_SHORT where the range is not inside the bytes; PE_C_DEBUG_SIZE where it has fewer than 24 bytes. */
+uint32_t pe_c_codeview(const uint8_t *bytes, size_t length, const pe_c_range *record, pe_c_key *out) PE_C_RESULT(3, 4);
+
 /* Returns the CodeView record, if it is one of PDB 2.0. */
 uint32_t pe_c_debug_pdb20(const uint8_t *bytes, size_t length, const pe_c_image_info *image,
                           const pe_c_section *sections, size_t count, pe_c_pdb20 *out) PE_C_RESULT(3, 6);

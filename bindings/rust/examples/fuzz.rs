@@ -219,6 +219,7 @@ fn read_by_lies(bytes: &[u8], random: &mut Random, seen: &mut Seen) {
     call!(pe_c_function_at(&range, index), Function);
     call!(pe_c_arm64_function_at(&range, index), Arm64Function);
     call!(pe_c_scope_table(&range), Range);
+    call!(pe_c_codeview(&range), Key);
     call!(pe_c_arm64_codes(&range, index), Arm64Walk);
     call_of_image!(pe_c_debug_entries(), Range);
     call_of_image!(pe_c_symbol_key(), Key);

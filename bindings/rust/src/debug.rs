@@ -5,7 +5,7 @@
 
 use crate::image::{bytes_of, up_to_zero, Error, Image};
 use crate::sys::{self, DebugEntry, VcFeatures};
-use crate::walk::{items, Walk};
+use crate::walk::{ask_of_bytes, items, Walk};
 use core::fmt;
 
 /// A CodeView record of PDB 7.0 ("RSDS"): a symbol server files the PDB under its name, GUID and age.
@@ -34,6 +34,27 @@ pub struct SymbolKey<'a> {
 }
 
 impl<'a> SymbolKey<'a> {
+    /// The key of a CodeView record that stands alone, as a minidump has one of each module. `None` where it is not one of
+    /// PDB 7.0.
+    ///
+    /// ```
+    /// let record = b"RSDS\xF6\x72\x7B\x49\x0A\x39\xFC\x44\x87\x8E\x5A\x2D\x63\xB6\xCC\x4B\x01\0\0\0a.pdb\0";
+    /// let key = pe_c::SymbolKey::of_record(record)?.expect("it is one of PDB 7.0");
+    /// assert_eq!((key.name(), key.to_string().as_str()), (b"a.pdb".as_slice(), "497B72F6390A44FC878E5A2D63B6CC4B1"));
+    /// # Ok::<(), pe_c::Error>(())
+    /// ```
+    ///
+    /// # Errors
+    ///
+    /// [`Error::DEBUG_SIZE`] where it has fewer than 24 bytes.
+    pub fn of_record(record: &'a [u8]) -> Result<Option<Self>, Error> {
+        let range = sys::Range { offset: 0, length: record.len() as u64 };
+        let Some(key) = ask_of_bytes(record, sys::pe_c_codeview, &range)? else {
+            return Ok(None);
+        };
+        Ok(Some(SymbolKey { guid: key.guid, age: key.age, name_bytes: bytes_of(key.name, record)? }))
+    }
+
     /// The PDB file's name, up to the first zero.
     pub fn name(&self) -> &'a [u8] {
         up_to_zero(self.name_bytes)

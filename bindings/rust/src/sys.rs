@@ -564,6 +564,8 @@ calls_of_bytes! {
     pe_c_image(mode: u32) -> ImageInfo;
     /// Returns the next entry of the debug directory.
     pe_c_next_debug_entry(walk: *mut Range) -> DebugEntry;
+    /// Returns the symbol key of a CodeView record that stands alone.
+    pe_c_codeview(record: *const Range) -> Key;
     /// Returns the next entry of a POGO record.
     pe_c_next_pogo_entry(walk: *mut Range) -> PogoEntry;
     /// Returns the next certificate of the certificate table.

@@ -14,6 +14,17 @@ pub(crate) fn look<M, N, T: Default>(bytes: &[u8], call: Look<M, N, T>, more: &M
     returned(number, out)
 }
 
+/// A call that takes the bytes and a record, and returns a record.
+pub(crate) type Ask<M, T> = unsafe extern "C" fn(*const u8, usize, *const M, *mut T) -> u32;
+
+/// Makes such a call.
+pub(crate) fn ask_of_bytes<M, T: Default>(bytes: &[u8], call: Ask<M, T>, more: &M) -> Result<Option<T>, Error> {
+    let mut out = T::default();
+    // SAFETY: as in `look`.
+    let number = unsafe { call(bytes.as_ptr(), bytes.len(), more, &mut out) };
+    returned(number, out)
+}
+
 /// A walk over bytes.
 #[derive(Clone, Copy, Debug)]
 pub(crate) struct Walk<'a, W> {

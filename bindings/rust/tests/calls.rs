@@ -7,7 +7,7 @@ use facts::{as_loaded, facts};
 use made::*;
 use pe_c::{
     Arm64Operation, Arm64Unwinding, DirectoryIndex, Error, Handler, Image, Layout, Mode, Offset, Operation, Register, Repro,
-    VersionName,
+    SymbolKey, VersionName,
 };
 
 fn strict(bytes: &[u8]) -> Image<'_> {
@@ -70,6 +70,24 @@ fn all_of_the_headers_are_read() {
     assert_eq!((fewer.info().number_of_directories, fewer.info().certificate_entry_offset), (4, 0));
     assert_eq!(fewer.info().directory(DirectoryIndex::Debug), None);
     assert_eq!(fewer.symbol_key(), Ok(None));
+}
+
+/// A CodeView record alone is read whatever the other debug records are, and only if it is one of PDB 7.0.
+#[test]
+fn records_that_stand_alone_have_keys() {
+    let mut bytes = with_debug();
+    let record = bytes[OFFSET as usize..][..30].to_vec();
+    let key = SymbolKey::of_record(&record).unwrap().unwrap();
+    assert_eq!((key.guid, key.age, key.name_bytes), (GUID, 1, b"a.pdb\0".as_slice()));
+    assert_eq!(strict(&bytes).symbol_key(), Ok(Some(key)));
+    // the size of the POGO record, whose entry is the third, is damaged
+    let entries = strict(&bytes).info().directory(DirectoryIndex::Debug).unwrap().virtual_address;
+    bytes[offset(entries) as usize + 2 * 28 + 16] = 4;
+    assert_eq!(strict(&bytes).symbol_key(), Err(Error::POGO_SIZE));
+    assert_eq!(SymbolKey::of_record(&bytes[OFFSET as usize..][..30]), Ok(Some(key)));
+    assert_eq!(SymbolKey::of_record(&record[..24]).unwrap().unwrap().name_bytes, b"");
+    assert_eq!(SymbolKey::of_record(&record[..23]), Err(Error::DEBUG_SIZE));
+    assert_eq!(SymbolKey::of_record(&[b"NB10".as_slice(), &record[4..]].concat()), Ok(None));
 }
 
 /// The RVAs of a module in memory are its offsets, whatever its sections are.

@@ -103,6 +103,9 @@ fn ranges_that_lie_are_refused() {
                 let mut out = sys::Range::default();
                 let answer = sys::pe_c_scope_table(start, length, &range, &mut out);
                 assert!(there || (answer == 2 && out == sys::Range::default()));
+                let mut key = sys::Key::default();
+                let answer = sys::pe_c_codeview(start, length, &range, &mut key);
+                assert!((answer == 2) != there && key == sys::Key::default());
                 let (mut table, mut certificate) = (range, sys::Certificate::default());
                 let answer = sys::pe_c_next_certificate(start, length, &mut table, &mut certificate);
                 assert_eq!(answer == 10, !there);

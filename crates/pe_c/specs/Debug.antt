@@ -1,11 +1,13 @@
 -- What calls return of debug data.
-use Rattle.std.specs.Prelude.{ℕ, ◌+◌, List, length, Option, Some, None, Result, Ok, if◌then◌else◌}
+use Rattle.std.specs.Prelude.{ℕ, ◌+◌, List, length, min, Option, Some, None, Result, Ok, if◌then◌else◌}
 use Rattle.std.specs.Option.{option_map, option_and_then}
+use Rattle.pe_core.specs.Options.{default_options}
 use Rattle.pe_core.specs.Refusals.{Refusal, ◌>>=◌}
 use Rattle.pe_core.specs.declared.section_table.SectionTable.{SectionTable}
 use Rattle.pe_records.specs.DebugDirectory.{directory_range, first_of_type}
-use Rattle.pe_records.specs.DebugRecords.{DebugFields, Stamp, Buffer, debug_data, record_offset}
+use Rattle.pe_records.specs.DebugRecords.{DebugFields, Stamp, Buffer, debug_data, pdb70_of, record_offset}
 use Rattle.pe_records.specs.DebugRecords as records
+use Rattle.pe_records.specs.declared.debug.ImageDebugDirectory.{ImageDebugDirectory}
 use Rattle.pe_c.specs.declared.debug.SymbolKey.{SymbolKey}
 use Rattle.pe_c.specs.declared.debug.Pdb20.{Pdb20}
 use Rattle.pe_c.specs.declared.debug.Repro.{Repro}
@@ -14,7 +16,7 @@ use Rattle.pe_c.specs.declared.image.Image.{Image}
 use Rattle.pe_c.specs.declared.ranges.Range.{Range}
 use Rattle.pe_c.specs.Images.{debug_directory, is_absent}
 use Rattle.pe_c.specs.Modes.{options_of, resolves}
-use Rattle.pe_c.specs.Ranges.{no_bytes, range_of}
+use Rattle.pe_c.specs.Ranges.{bytes_at, no_bytes, range_of}
 
 -- the range of the entries of the debug directory, if an image has one; or what refuses their table
 unfoldable pub debug_entries_range : List ℕ → Image → List SectionTable → ℕ → Result (Option Range) Refusal
@@ -40,6 +42,27 @@ part_after mode d kind n part =
 -- the record of PDB 7.0; its name follows 24 bytes
 abbrev pub key_of : ℕ → DebugFields → Option SymbolKey
 key_of mode d = option_and_then (λ r. option_map (λ name. record { guid = r.signature; age = r.age; spare = 0; name = name }) (part_after mode d 2 24 r.filename)) d.pdb70
+
+-- an entry whose record starts at offset 0 and has n bytes
+abbrev pub entry_of : ℕ → ImageDebugDirectory
+entry_of n = record {
+  characteristics = 0;
+  time_date_stamp = 0;
+  major_version = 0;
+  minor_version = 0;
+  data_type = 2;
+  size_of_data = n;
+  address_of_raw_data = 0;
+  pointer_to_raw_data = 0;
+}
+
+-- the key of a record of PDB 7.0 that stands alone at a range
+abbrev pub key_at : Range → records.Pdb70 → SymbolKey
+key_at r k = record { guid = k.signature; age = k.age; spare = 0; name = record { offset = r.offset + 24; length = length k.filename } }
+
+-- the key of the record at a range, which has less than 2^32 bytes; none where it is not one of PDB 7.0
+abbrev pub codeview_at : List ℕ → Range → Result (Option SymbolKey) Refusal
+codeview_at b r = bytes_at b r >>= λ d. pdb70_of default_options d (entry_of (min (length d) 4294967295)) >>= λ k. Ok (option_map (key_at r) k)
 
 -- the record of PDB 2.0; its name follows 16 bytes
 abbrev pub pdb20_field : ℕ → DebugFields → Option Pdb20

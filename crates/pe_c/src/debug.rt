@@ -10,15 +10,15 @@ ghost use Rattle.std.specs.Option.{option_map};
 ghost use Rattle.pe_core.specs.Refusals.{answer_of, answer_by};
 ghost use Rattle.pe_records.specs.DebugRecords.{debug_view};
 ghost use Rattle.pe_c.specs.HandsOut.{HandsOutIf};
-ghost use Rattle.pe_c.specs.Debug.{debug_entries_range, image_debug, reported_of, part_after, key_of, pdb20_field, characteristics_field, repro_field, pogo_field};
+ghost use Rattle.pe_c.specs.Debug.{debug_entries_range, image_debug, reported_of, part_after, codeview_at, entry_of, key_of, pdb20_field, characteristics_field, repro_field, pogo_field};
 
 use crate::image::{DEBUG_TABLE, Image, directory, is_absent};
-use crate::ranges::{NO_BYTES, Range, range_of};
+use crate::ranges::{NO_BYTES, Range, range_of, slice_of};
 use crate::results::{DONE, NOTHING, hand_out_some, number_of, options};
 use pe_core::{Result, SectionTable};
 use pe_records::{
-    DebugData, IMAGE_DEBUG_TYPE_CODEVIEW, IMAGE_DEBUG_TYPE_POGO, IMAGE_DEBUG_TYPE_REPRO, ReproInfo,
-    VCFeatureInfo,
+    CodeviewPDB70DebugInfo, DebugData, IMAGE_DEBUG_TYPE_CODEVIEW, IMAGE_DEBUG_TYPE_POGO,
+    IMAGE_DEBUG_TYPE_REPRO, ImageDebugDirectory, ReproInfo, VCFeatureInfo,
 };
 
 /// A CodeView record of PDB 7.0 ("RSDS"): a symbol server files an image's PDB under its name, GUID and age.
@@ -86,6 +86,9 @@ const REPRO_HEADER: u32 = 4;
 
 /// Bytes before the entries in a POGO record.
 const POGO_HEADER: u32 = 4;
+
+/// The most bytes that a debug record can have.
+const LONGEST_RECORD: usize = 0xFFFF_FFFF;
 
 #[tactic(auto, unfolding(crate::specs::Debug::debug_entries_range))]
 fn table_of(bytes: &[u8], image: &Image, sections: &[SectionTable]) -> Result<Option<Range>>
@@ -196,6 +199,53 @@ pub extern "C" fn pe_c_symbol_key(
         Ok(None) => NOTHING,
         Err(error) => number_of(&error),
     }
+}
+
+/// An entry of the debug directory whose record starts at offset 0 and has so many bytes.
+fn entry_of(size_of_data: u32) -> ImageDebugDirectory
+    ensures { result ≡ entry_of size_of_data }
+{
+    ImageDebugDirectory {
+        characteristics: 0,
+        time_date_stamp: 0,
+        major_version: 0,
+        minor_version: 0,
+        data_type: IMAGE_DEBUG_TYPE_CODEVIEW,
+        size_of_data,
+        address_of_raw_data: 0,
+        pointer_to_raw_data: 0,
+    }
+}
+
+/// The key of the CodeView record at a range.
+fn codeview(bytes: &[u8], range: &Range) -> Result<Option<SymbolKey>>
+    ensures { answer_of result ≡ codeview_at bytes.now range.now }
+{
+    let record = slice_of(bytes, range)?;
+    let size = record.len().min(LONGEST_RECORD) as u32;
+    match CodeviewPDB70DebugInfo::parse(record, &entry_of(size))? {
+        None => Ok(None),
+        Some(info) => Ok(Some(SymbolKey {
+            guid: info.signature,
+            age: info.age,
+            spare: 0,
+            name: Range {
+                offset: range.offset + u64::from(PDB70_HEADER),
+                length: info.filename.len() as u64,
+            },
+        })),
+    }
+}
+
+/// Reads a CodeView record alone, as a minidump has one of each module: `NOTHING` where it is not one of PDB 7.0. Other
+/// debug data, and damage there, make no difference.
+///
+/// Errors: `SHORT` where the range is not inside the bytes; `DEBUG_SIZE` where it has fewer than 24 bytes.
+#[unsafe(no_mangle)]
+pub extern "C" fn pe_c_codeview(bytes: &[u8], record: &Range, out: &mut SymbolKey) -> u32
+    ensures { HandsOutIf result out.old out.new (codeview_at bytes.now record.now) }
+{
+    hand_out_some(codeview(bytes, record), out)
 }
 
 fn pdb20_of(debug: &DebugData, mode: u32) -> Option<Pdb20>
