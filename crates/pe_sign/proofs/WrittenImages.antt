@@ -1,5 +1,5 @@
 -- What the calls return, by the parts of the image.
-use Rattle.std.proofs.Common.{◌≡◌, ℕ, Bool, List, ◌∷◌, length, Result, Ok, Err, refl, ap, sym, ◌∙◌, subst}
+use Rattle.std.proofs.Common.{◌≡◌, ℕ, Bool, List, length, Result, Ok, Err, refl, ap, sym, ◌∙◌, subst}
 use Rattle.pe_core.specs.declared.header.Header.{Header}
 use Rattle.pe_sign.specs.Attaching.{image_of, certificate_tests, table_start, attached_of, attached_file, detached_of, detached_file, with_table, without_table}
 use Rattle.pe_sign.specs.AttachingSteps.{Fits}

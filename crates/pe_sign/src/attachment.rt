@@ -2,8 +2,8 @@
 //! the data directories has its file offset and its size; each certificate in it starts at a multiple of eight bytes
 //! ([layout](https://learn.microsoft.com/windows/win32/debug/pe-format#the-attribute-certificate-table-image-only)).
 //!
-//! A signing tool hashes the image, makes a certificate of it, and attaches that. The digest of the image stays as it was,
-//! so the signature in the certificate is valid for what was written.
+//! A signing tool hashes the image, makes a certificate of it, and attaches that. The digest of the image stays as it
+//! was, so the signature in the certificate is valid for what was written.
 
 ghost use Rattle.std.specs.Prelude.{◌≡◌, ◌+◌, ◌≤◌, ◌^◌, ◌++◌, [], ◌∷◌, IfOk, length, drop, nat_lt};
 ghost use Rattle.pe_core.specs.SectionMap.{rounded_up};
@@ -158,10 +158,11 @@ pub fn attached_len(
     Ok(attached_length(placement, &left_out, bytes.len(), certificate.len()))
 }
 
-/// Attaches a certificate: writes the image at the start of `out`, with zeros up to a multiple of eight, the certificate,
-/// zeros again, the entry of the certificate directory and the checksum. Returns how long that is; the bytes of `out`
-/// after it stay as they were. `bytes` is the whole file, `header` is the image's. `certificate` is one or more entries of a
-/// certificate table (`WIN_CERTIFICATE`), each of them but the last with its padding to a multiple of eight bytes.
+/// Attaches a certificate: writes the image at the start of `out`, with zeros up to a multiple of eight, the
+/// certificate, zeros again, the entry of the certificate directory and the checksum. Returns how long that is; the
+/// bytes of `out` after it stay as they were. `bytes` is the whole file, `header` is the image's. `certificate` is one
+/// or more entries of a certificate table (`WIN_CERTIFICATE`), each of them but the last with its padding to a multiple
+/// of eight bytes.
 ///
 /// Errors, in this order, each of which leaves `out` as it was:
 /// - `Image` with `NoOptionalHeader`; `NoDirectory` if there are fewer than five data directories;
@@ -208,13 +209,13 @@ pub fn detached_len(bytes: &[u8], header: &Header<'_>) -> Result<usize, SignErro
     Ok(unsigned_length(&left_out, bytes.len()))
 }
 
-/// Detaches all certificates: writes the image at the start of `out` up to its certificate table, with zeros in the entry
-/// of the certificate directory, and the checksum. Returns how long that is; the bytes of `out` after it stay as they
-/// were. An image without certificates stays as it is, but for its checksum. `bytes` is the whole file, `header` is the
-/// image's.
+/// Detaches all certificates: writes the image at the start of `out` up to its certificate table, with zeros in the
+/// entry of the certificate directory, and the checksum. Returns how long that is; the bytes of `out` after it stay as
+/// they were. An image without certificates stays as it is, but for its checksum. `bytes` is the whole file, `header`
+/// is the image's.
 ///
-/// Errors, in this order, each of which leaves `out` as it was: those of `attach` up to `Section`; `Image` with `WriteFit`
-/// if the image does not fit into `out`.
+/// Errors, in this order, each of which leaves `out` as it was: those of `attach` up to `Section`; `Image` with
+/// `WriteFit` if the image does not fit into `out`.
 pub fn detach(bytes: &[u8], header: &Header<'_>, out: &mut [u8]) -> Result<usize, SignError>
     ensures { ReturnsWritten result (written (detached_of bytes.now header.now) out.old) out.old out.new }
 {

@@ -35,8 +35,8 @@ pub fn unsigned_length(left_out: &LeftOut, length: usize) -> usize
     }
 }
 
-/// Errors, in order: `NoDirectory`; `CertificateTable` if the certificate table passes the end of a file of this length;
-/// `TableNotLast` if it ends before that.
+/// Errors, in order: `NoDirectory`; `CertificateTable` if the certificate table passes the end of a file of this
+/// length; `TableNotLast` if it ends before that.
 fn require_table(header: &Header<'_>, left_out: &LeftOut, length: usize) -> Result<(), SignError>
     ensures { SignReturns result (sign_outcome (table_tests left_out.now length) tt) }
 {
@@ -111,8 +111,8 @@ fn require_sections(bytes: &[u8], header: &Header<'_>, end: usize) -> Result<(),
     Ok(())
 }
 
-/// The parts of the image that its digest leaves out, if its certificates can be changed. Errors, in order: `Image` with
-/// `NoOptionalHeader`; `NoDirectory`; `Image` with `CertificateTable`; `TableNotLast`; `Headers`; `Section`.
+/// The parts of the image that its digest leaves out, if its certificates can be changed. Errors, in order: `Image`
+/// with `NoOptionalHeader`; `NoDirectory`; `Image` with `CertificateTable`; `TableNotLast`; `Headers`; `Section`.
 pub fn image(bytes: &[u8], header: &Header<'_>) -> Result<LeftOut, SignError>
     ensures parts { SignReturns result (image_of bytes.now header.now) }
     ensures fits { IfOk result (λ l. Fits l (length bytes.now)) }

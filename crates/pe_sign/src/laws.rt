@@ -32,9 +32,9 @@ pub fn checksums_are_good()
         left_out_of h ≡ Ok l → detached_of b h ≡ Ok f → le f l.checksum.offset 4 ≡ checksum_of f l.checksum.offset }
 {}
 
-/// To detach what was attached leaves what is before the certificate table, with an entry of zeros and the checksum: the
-/// image as it was, but for zeros at its end, the entry and the checksum; without any certificate that it had. The header
-/// `k` is any whose parts are those of the image with the table that the entry names now.
+/// To detach what was attached leaves what is before the certificate table, with an entry of zeros and the checksum:
+/// the image as it was, but for zeros at its end, the entry and the checksum; without any certificate that it had. The
+/// header `k` is any whose parts are those of the image with the table that the entry names now.
 pub fn attached_certificates_are_detached()
     ensures { (placement : Placement) (b : List ℕ) (h k : Header) (certificate f g : List ℕ) (l : LeftOut) →
         left_out_of h ≡ Ok l → attached_of placement b h certificate ≡ Ok f →

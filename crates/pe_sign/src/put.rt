@@ -81,8 +81,8 @@ fn set_checksum(out: &mut [u8], end: usize, left_out: &LeftOut)
     set_u32(out, field, sum);
 }
 
-/// Writes the entry of the certificate directory and then the checksum into the file that is the first `end` bytes of the
-/// buffer.
+/// Writes the entry of the certificate directory and then the checksum into the file that is the first `end` bytes of
+/// the buffer.
 pub fn set_fields(out: &mut [u8], end: usize, left_out: &LeftOut, entry: DataDirectory)
     requires inside { end ≤ length out.old }
     requires field { left_out.now.checksum.offset + 4 ≤ end }
