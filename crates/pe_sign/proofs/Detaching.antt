@@ -28,7 +28,7 @@ small_sum : (b : List ℕ) (field : ℕ) → checksum_of b field < 256 ^ 4
 unfolding checksum_of
 small_sum b field = omega arith
 
-read_again : (b : List ℕ) (p n : ℕ) → p + 4 ≤ length b → n < 256 ^ 4 → le (splice b p (bytes_of 4 n)) p 4 ≡ n
+pub read_again : (b : List ℕ) (p n : ℕ) → p + 4 ≤ length b → n < 256 ^ 4 → le (splice b p (bytes_of 4 n)) p 4 ≡ n
 read_again b p n h small =
     let fits : holds b p (length (bytes_of 4 n)) ≡ true = rw (length-four n) (grind (arith, nat_tests)) in
     let same : put b p (bytes_of 4 n) ≡ splice b p (bytes_of 4 n) = rw fits refl in

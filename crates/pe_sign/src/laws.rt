@@ -1,6 +1,6 @@
 //! Laws over the definitions. Each is the contract of a function that does nothing.
 
-ghost use Rattle.std.specs.Prelude.{◌≡◌, ℕ, List, Ok, length};
+ghost use Rattle.std.specs.Prelude.{◌≡◌, ℕ, ◌+◌, ◌-◌, List, Ok, length};
 ghost use Rattle.pe_core.specs.Bytes.{le};
 ghost use Rattle.pe_core.specs.Directories.{absent_directory};
 ghost use Rattle.pe_core.specs.declared.header.Header.{Header};
@@ -40,4 +40,13 @@ pub fn attached_certificates_are_detached()
         left_out_of h ≡ Ok l → attached_of placement b h certificate ≡ Ok f →
         left_out_of k ≡ Ok (with_table l (table_start placement l (length b)) (length f)) → detached_of f k ≡ Ok g →
         g ≡ with_fields l absent_directory (before_table placement l b) }
+{}
+
+/// The entry of the certificate directory, read from what `attach` writes, names the certificate table: from where it
+/// starts to the end of the file.
+pub fn entries_name_the_table()
+    ensures { (placement : Placement) (b : List ℕ) (h : Header) (certificate f : List ℕ) (l : LeftOut) →
+        left_out_of h ≡ Ok l → attached_of placement b h certificate ≡ Ok f →
+        (le f l.directory_entry.offset 4 ≡ table_start placement l (length b))
+        × (le f (l.directory_entry.offset + 4) 4 ≡ length f - table_start placement l (length b)) }
 {}
