@@ -92,7 +92,8 @@ const LONGEST_RECORD: usize = 0xFFFF_FFFF;
 
 #[tactic(auto, unfolding(crate::specs::Debug::debug_entries_range))]
 fn table_of(bytes: &[u8], image: &Image, sections: &[SectionTable]) -> Result<Option<Range>>
-    ensures { answer_of result ≡ debug_entries_range bytes.now image.now sections.now image.now.mode }
+    ensures { answer_of result
+        ≡ debug_entries_range bytes.now image.now sections.now image.now.mode }
 {
     let directory = directory(image, DEBUG_TABLE);
     if is_absent(directory) {
@@ -116,7 +117,8 @@ pub extern "C" fn pe_c_debug_entries(
     sections: &[SectionTable],
     out: &mut Range,
 ) -> u32
-    ensures { HandsOutIf result out.old out.new (debug_entries_range bytes.now image.now sections.now image.now.mode) }
+    ensures { HandsOutIf result out.old out.new
+        (debug_entries_range bytes.now image.now sections.now image.now.mode) }
 {
     hand_out_some(table_of(bytes, image, sections), out)
 }
@@ -127,7 +129,8 @@ fn read_debug<'a>(
     image: &Image,
     sections: &[SectionTable],
 ) -> Result<Option<DebugData<'a>>>
-    ensures { answer_by (option_map debug_view) result ≡ image_debug bytes.entry.now image.now sections.now image.now.mode }
+    ensures { answer_by (option_map debug_view) result
+        ≡ image_debug bytes.entry.now image.now sections.now image.now.mode }
 {
     let directory = directory(image, DEBUG_TABLE);
     if is_absent(directory) {
@@ -192,7 +195,8 @@ pub extern "C" fn pe_c_symbol_key(
     sections: &[SectionTable],
     out: &mut SymbolKey,
 ) -> u32
-    ensures { HandsOutIf result out.old out.new (reported_of key_of bytes.now image.now sections.now image.now.mode) }
+    ensures { HandsOutIf result out.old out.new
+        (reported_of key_of bytes.now image.now sections.now image.now.mode) }
 {
     match read_debug(bytes, image, sections) {
         Ok(Some(debug)) => hand_out_some(Ok(key_of(&debug, image.mode)), out),
@@ -277,7 +281,8 @@ pub extern "C" fn pe_c_debug_pdb20(
     sections: &[SectionTable],
     out: &mut Pdb20,
 ) -> u32
-    ensures { HandsOutIf result out.old out.new (reported_of pdb20_field bytes.now image.now sections.now image.now.mode) }
+    ensures { HandsOutIf result out.old out.new
+        (reported_of pdb20_field bytes.now image.now sections.now image.now.mode) }
 {
     match read_debug(bytes, image, sections) {
         Ok(Some(debug)) => hand_out_some(Ok(pdb20_of(&debug, image.mode)), out),
@@ -295,7 +300,8 @@ pub extern "C" fn pe_c_debug_vc_features(
     sections: &[SectionTable],
     out: &mut VCFeatureInfo,
 ) -> u32
-    ensures { HandsOutIf result out.old out.new (reported_of (λ mode d. d.features) bytes.now image.now sections.now image.now.mode) }
+    ensures { HandsOutIf result out.old out.new
+        (reported_of (λ mode d. d.features) bytes.now image.now sections.now image.now.mode) }
 {
     match read_debug(bytes, image, sections) {
         Ok(Some(debug)) => hand_out_some(Ok(debug.vcfeature_info), out),
@@ -320,7 +326,8 @@ pub extern "C" fn pe_c_debug_characteristics(
     sections: &[SectionTable],
     out: &mut u32,
 ) -> u32
-    ensures { HandsOutIf result out.old out.new (reported_of (λ mode d. characteristics_field d) bytes.now image.now sections.now image.now.mode) }
+    ensures { HandsOutIf result out.old out.new (reported_of
+        (λ mode d. characteristics_field d) bytes.now image.now sections.now image.now.mode) }
 {
     match read_debug(bytes, image, sections) {
         Ok(Some(debug)) => hand_out_some(Ok(characteristics_of(&debug)), out),
@@ -355,7 +362,8 @@ pub extern "C" fn pe_c_debug_repro(
     sections: &[SectionTable],
     out: &mut Repro,
 ) -> u32
-    ensures { HandsOutIf result out.old out.new (reported_of repro_field bytes.now image.now sections.now image.now.mode) }
+    ensures { HandsOutIf result out.old out.new
+        (reported_of repro_field bytes.now image.now sections.now image.now.mode) }
 {
     match read_debug(bytes, image, sections) {
         Ok(Some(debug)) => hand_out_some(Ok(repro_of(&debug, image.mode)), out),
@@ -391,7 +399,8 @@ pub extern "C" fn pe_c_debug_pogo(
     sections: &[SectionTable],
     out: &mut Pogo,
 ) -> u32
-    ensures { HandsOutIf result out.old out.new (reported_of pogo_field bytes.now image.now sections.now image.now.mode) }
+    ensures { HandsOutIf result out.old out.new
+        (reported_of pogo_field bytes.now image.now sections.now image.now.mode) }
 {
     match read_debug(bytes, image, sections) {
         Ok(Some(debug)) => hand_out_some(Ok(pogo_of(&debug, image.mode)), out),

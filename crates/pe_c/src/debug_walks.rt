@@ -48,7 +48,8 @@ pub extern "C" fn pe_c_next_debug_entry(
     walk: &mut Range,
     out: &mut ImageDebugDirectory,
 ) -> u32
-    ensures entry { HandsOutIf result out.old out.new (next_of (debug_entry_at 0) 28 bytes.now walk.old) }
+    ensures entry { HandsOutIf result out.old out.new
+        (next_of (debug_entry_at 0) 28 bytes.now walk.old) }
     ensures walk { walk.new ≡ walk_of 28 bytes.now walk.old }
 {
     hand_out_some(next_debug_entry(bytes, walk), out)

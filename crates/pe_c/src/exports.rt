@@ -54,7 +54,8 @@ fn export_table(rva: u32, size: u64, image: &Image, sections: &[SectionTable]) -
 }
 
 fn walk_over(export_data: &ExportData, image: &Image, sections: &[SectionTable]) -> Exports
-    ensures { result ≡ walk_over (map_of_image image.now sections.now) (export_data_view export_data.now) }
+    ensures { result ≡ walk_over (map_of_image image.now sections.now)
+        (export_data_view export_data.now) }
 {
     let directory = &export_data.directory;
     let names = u64::from(directory.number_of_name_pointers);
@@ -115,7 +116,8 @@ fn reported_entry(
     sections: &[SectionTable],
 ) -> Option<Export>
     requires { 4 * i + 4 ≤ length tables.now.names.now }
-    ensures { result ≡ reported_entry (map_of_image image.now sections.now) bytes.now (view_of tables.now) i }
+    ensures { result ≡ reported_entry
+        (map_of_image image.now sections.now) bytes.now (view_of tables.now) i }
 {
     let offset = offset_of(read_u32(tables.names, 4 * i), image, sections)?;
     let name = text_at(bytes, offset)?;
@@ -141,7 +143,8 @@ fn find_next(
     image: &Image,
     sections: &[SectionTable],
 ) -> Option<(Export, u64)>
-    ensures { FindsNext (reported_entry (map_of_image image.now sections.now) bytes.now (view_of tables.now)) from (length tables.now.names.now / 4) result }
+    ensures { FindsNext (reported_entry (map_of_image image.now sections.now) bytes.now
+        (view_of tables.now)) from (length tables.now.names.now / 4) result }
 {
     for i in from..tables.names.len() / 4 {
         if let Some(export) = reported_entry(bytes, tables, i, image, sections) {
@@ -169,7 +172,8 @@ fn step(
     sections: &[SectionTable],
     walk: &mut Exports,
 ) -> Result<Option<Export>>
-    ensures { StepsExports (map_of_image image.now sections.now) bytes.now walk.old (answer_of result) walk.new }
+    ensures { StepsExports
+        (map_of_image image.now sections.now) bytes.now walk.old (answer_of result) walk.new }
 {
     let count = walk.names.length / 4;
     if count <= walk.next {
@@ -208,7 +212,8 @@ pub extern "C" fn pe_c_next_export(
     walk: &mut Exports,
     out: &mut Export,
 ) -> u32
-    ensures { HandsOutExport (map_of_image image.now sections.now) bytes.now walk.old walk.new result out.old out.new }
+    ensures { HandsOutExport
+        (map_of_image image.now sections.now) bytes.now walk.old walk.new result out.old out.new }
 {
     hand_out_some(step(bytes, image, sections, walk), out)
 }

@@ -158,7 +158,8 @@ fn library_of(
     image: &Image,
     sections: &[SectionTable],
 ) -> Result<Library>
-    ensures { ReturnsAs (λ l. Some l) result (library_of (map_of_image image.now sections.now) (entry_size (image.now.width == 64)) bytes.now entry.now) }
+    ensures { ReturnsAs (λ l. Some l) result (library_of (map_of_image image.now sections.now)
+        (entry_size (image.now.width == 64)) bytes.now entry.now) }
 {
     let offset = require_offset(entry.name_rva, image, sections)?;
     let name = name_at(bytes, offset, entry.name_rva)?;
@@ -187,7 +188,8 @@ fn library_at(
     image: &Image,
     sections: &[SectionTable],
 ) -> Result<Option<Library>>
-    ensures returned { Returns result (library_at (map_of_image image.now sections.now) (entry_size (image.now.width == 64)) bytes.now offset) }
+    ensures returned { Returns result (library_at (map_of_image image.now sections.now)
+        (entry_size (image.now.width == 64)) bytes.now offset) }
     ensures inside { IfOk result (λ l. IfSome l (λ _. offset + 20 ≤ length bytes.now)) }
 {
     let entry = ImportDirectoryEntry::parse(bytes, offset)?;
@@ -206,7 +208,8 @@ fn library_step(
     sections: &[SectionTable],
     walk: Libraries,
 ) -> (Result<Option<Library>>, Libraries)
-    ensures { (answer_of result.0, result.1) ≡ library_step (map_of_image image.now sections.now) (entry_size (image.now.width == 64)) bytes.now walk }
+    ensures { (answer_of result.0, result.1) ≡ library_step (map_of_image image.now sections.now)
+        (entry_size (image.now.width == 64)) bytes.now walk }
 {
     if walk.is_over != 0 {
         return (Ok(None), walk);
@@ -238,8 +241,11 @@ pub extern "C" fn pe_c_next_library(
     walk: &mut Libraries,
     out: &mut Library,
 ) -> u32
-    ensures returned { HandsOutIf result out.old out.new (library_step (map_of_image image.now sections.now) (entry_size (image.now.width == 64)) bytes.now walk.old).0 }
-    ensures walk { walk.new ≡ (library_step (map_of_image image.now sections.now) (entry_size (image.now.width == 64)) bytes.now walk.old).1 }
+    ensures returned { HandsOutIf result out.old out.new
+        (library_step (map_of_image image.now sections.now)
+        (entry_size (image.now.width == 64)) bytes.now walk.old).0 }
+    ensures walk { walk.new ≡ (library_step (map_of_image image.now sections.now)
+        (entry_size (image.now.width == 64)) bytes.now walk.old).1 }
 {
     let (reported, after) = library_step(bytes, image, sections, *walk);
     *walk = after;
@@ -254,7 +260,8 @@ fn named_import(
     image: &Image,
     sections: &[SectionTable],
 ) -> Result<Import>
-    ensures { Returns result (named_reported (map_of_image image.now sections.now) bytes.now entry rva) }
+    ensures { Returns result
+        (named_reported (map_of_image image.now sections.now) bytes.now entry rva) }
 {
     let name_rva = (entry % 0x8000_0000) as u32;
     let offset = require_offset(name_rva, image, sections)?;
@@ -278,7 +285,8 @@ fn import_at(
     image: &Image,
     sections: &[SectionTable],
 ) -> Result<Import>
-    ensures { Returns result (import_at (map_of_image image.now sections.now) (entry_size (image.now.width == 64)) bytes.now entry rva) }
+    ensures { Returns result (import_at (map_of_image image.now sections.now)
+        (entry_size (image.now.width == 64)) bytes.now entry rva) }
 {
     let highest = if image.width == 64 {
         0x8000_0000_0000_0000
@@ -304,7 +312,8 @@ fn import_step(
     sections: &[SectionTable],
     walk: &mut Imports,
 ) -> Result<Option<Import>>
-    ensures { (answer_of result, walk.new) ≡ import_step (map_of_image image.now sections.now) (entry_size (image.now.width == 64)) bytes.now walk.old }
+    ensures { (answer_of result, walk.new) ≡ import_step (map_of_image image.now sections.now)
+        (entry_size (image.now.width == 64)) bytes.now walk.old }
 {
     let is_64 = image.width == 64;
     let size = lookup_size(is_64);
@@ -338,8 +347,11 @@ pub extern "C" fn pe_c_next_import(
     walk: &mut Imports,
     out: &mut Import,
 ) -> u32
-    ensures returned { HandsOutIf result out.old out.new (import_step (map_of_image image.now sections.now) (entry_size (image.now.width == 64)) bytes.now walk.old).0 }
-    ensures walk { walk.new ≡ (import_step (map_of_image image.now sections.now) (entry_size (image.now.width == 64)) bytes.now walk.old).1 }
+    ensures returned { HandsOutIf result out.old out.new
+        (import_step (map_of_image image.now sections.now)
+        (entry_size (image.now.width == 64)) bytes.now walk.old).0 }
+    ensures walk { walk.new ≡ (import_step (map_of_image image.now sections.now)
+        (entry_size (image.now.width == 64)) bytes.now walk.old).1 }
 {
     hand_out_some(import_step(bytes, image, sections, walk), out)
 }

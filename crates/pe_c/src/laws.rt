@@ -57,16 +57,19 @@ ghost use Rattle.std.specs.Prelude.{◌≡◌, ℕ, List, Option, Ok, Err, IfSom
 
 /// The ranges of an unwind record lie in the bytes, and are its codes and its handler's data.
 pub fn ranges_of_records()
-    ensures codes { (b : List ℕ) (p : ℕ) (i : UnwindInfoView) → outcome (unwind_tests b p) (unwind_record b p) ≡ Ok i →
-        IsRange b (flat_record b p i).codes.left i.codes }
-    ensures handler { (b : List ℕ) (p : ℕ) (i : UnwindInfoView) → outcome (unwind_tests b p) (unwind_record b p) ≡ Ok i →
+    ensures codes { (b : List ℕ) (p : ℕ) (i : UnwindInfoView) → outcome (unwind_tests b p)
+        (unwind_record b p) ≡ Ok i → IsRange b (flat_record b p i).codes.left i.codes }
+    ensures handler { (b : List ℕ) (p : ℕ) (i : UnwindInfoView) →
+        outcome (unwind_tests b p) (unwind_record b p) ≡ Ok i →
         IfSome i.handler (λ h. IsRange b (flat_record b p i).handler_data (handler_data_of h)) }
 {}
 
 /// The ranges of an ARM64 unwind record lie in the bytes, and are its epilog scopes, its codes and its handler's data.
 pub fn ranges_of_arm64_records()
-    ensures scopes { (b : List ℕ) (p : ℕ) (i : Arm64InfoView) → info_at b p ≡ Ok i → IsRange b (flat_info b p i).scopes i.scopes }
-    ensures codes { (b : List ℕ) (p : ℕ) (i : Arm64InfoView) → info_at b p ≡ Ok i → IsRange b (flat_info b p i).codes i.codes }
+    ensures scopes { (b : List ℕ) (p : ℕ) (i : Arm64InfoView) →
+        info_at b p ≡ Ok i → IsRange b (flat_info b p i).scopes i.scopes }
+    ensures codes { (b : List ℕ) (p : ℕ) (i : Arm64InfoView) →
+        info_at b p ≡ Ok i → IsRange b (flat_info b p i).codes i.codes }
     ensures handler { (b : List ℕ) (p : ℕ) (i : Arm64InfoView) → info_at b p ≡ Ok i →
         IfSome i.handler (λ h. IsRange b (flat_info b p i).handler_data h.bytes) }
 {}
@@ -76,17 +79,30 @@ pub fn ranges_of_arm64_records()
 /// where the function's chain never ends. Each step returns a record, or ends as the plan of pe_plan does. Where
 /// reading the exception data fails, the first step returns that error.
 pub fn plans_are_those_of_functions()
-    ensures records { (b : List ℕ) (image : Image) (sections : List SectionTable) (mode : ℕ) (v : ExceptionView) (f : RuntimeFunction) (given : List UnwindRecord) →
-        image_exceptions b image sections mode ≡ Ok v → HandsOutAfter b image sections mode f.unwind_info_address given (Ok None) →
-        (is : List UnwindInfoView) × PlansFrom (links_of v sections (options_of mode)) v.content f (Ok is) × AllZip (ReportsUnwindRecord b) given is }
-    ensures refused { (b : List ℕ) (image : Image) (sections : List SectionTable) (mode : ℕ) (v : ExceptionView) (f : RuntimeFunction) (given : List UnwindRecord) (refusal : Refusal) →
-        image_exceptions b image sections mode ≡ Ok v → HandsOutAfter b image sections mode f.unwind_info_address given (Err refusal) →
-        (refusal ≢ Memory) × PlansFrom (links_of v sections (options_of mode)) v.content f (Err refusal) }
-    ensures endings { (b : List ℕ) (image : Image) (sections : List SectionTable) (mode : ℕ) (v : ExceptionView) (f : RuntimeFunction) (plan : Result (List UnwindInfoView) Refusal) (given : List UnwindRecord) (last : Result (Option UnwindRecord) Refusal) →
-        image_exceptions b image sections mode ≡ Ok v → PlansFrom (links_of v sections (options_of mode)) v.content f plan → plan ≢ Err Memory →
-        HandsOutAfter b image sections mode f.unwind_info_address given last → (last ≡ ending_of plan) ⊎ ((r : UnwindRecord) × (last ≡ Ok (Some r))) }
-    ensures without_table { (b : List ℕ) (image : Image) (sections : List SectionTable) (mode unwind : ℕ) (refusal : Refusal) (given : List UnwindRecord) (last : Result (Option UnwindRecord) Refusal) →
-        image_exceptions b image sections mode ≡ Err refusal → HandsOutAfter b image sections mode unwind given last →
+    ensures records { (b : List ℕ) (image : Image) (sections : List SectionTable)
+        (mode : ℕ) (v : ExceptionView) (f : RuntimeFunction) (given : List UnwindRecord) →
+        image_exceptions b image sections mode ≡ Ok v →
+        HandsOutAfter b image sections mode f.unwind_info_address given (Ok None) →
+        (is : List UnwindInfoView) × PlansFrom (links_of v sections (options_of mode)) v.content f
+        (Ok is) × AllZip (ReportsUnwindRecord b) given is }
+    ensures refused { (b : List ℕ) (image : Image) (sections : List SectionTable) (mode : ℕ)
+        (v : ExceptionView) (f : RuntimeFunction) (given : List UnwindRecord) (refusal : Refusal) →
+        image_exceptions b image sections mode ≡ Ok v →
+        HandsOutAfter b image sections mode f.unwind_info_address given (Err refusal) →
+        (refusal ≢ Memory)
+        × PlansFrom (links_of v sections (options_of mode)) v.content f (Err refusal) }
+    ensures endings { (b : List ℕ) (image : Image) (sections : List SectionTable) (mode : ℕ)
+        (v : ExceptionView) (f : RuntimeFunction) (plan : Result (List UnwindInfoView) Refusal)
+        (given : List UnwindRecord) (last : Result (Option UnwindRecord) Refusal) →
+        image_exceptions b image sections mode ≡ Ok v →
+        PlansFrom (links_of v sections (options_of mode)) v.content f plan →
+        plan ≢ Err Memory → HandsOutAfter b image sections mode f.unwind_info_address given last →
+        (last ≡ ending_of plan) ⊎ ((r : UnwindRecord) × (last ≡ Ok (Some r))) }
+    ensures without_table { (b : List ℕ)
+        (image : Image) (sections : List SectionTable) (mode unwind : ℕ) (refusal : Refusal)
+        (given : List UnwindRecord) (last : Result (Option UnwindRecord) Refusal) →
+        image_exceptions b image sections mode ≡ Err refusal →
+        HandsOutAfter b image sections mode unwind given last →
         (given ≡ []) × (last ≡ Err refusal) }
 {
     pe_unwind::laws::x64::one_record_of_addresses();
@@ -95,8 +111,9 @@ pub fn plans_are_those_of_functions()
 /// A plan that starts at an unwind RVA returns at most three times as many records as there are RVAs: so it comes to
 /// the root, or to an error.
 pub fn plans_end()
-    ensures { (b : List ℕ) (image : Image) (sections : List SectionTable) (mode unwind : ℕ) (given : List UnwindRecord) (p : Plan) →
-        AreBytes b → unwind < 2 ^ 32 → ReturnsInTurn b image sections mode (plan_from unwind) given p → length given ≤ 3 * 2 ^ 32 }
+    ensures { (b : List ℕ) (image : Image) (sections : List SectionTable)
+        (mode unwind : ℕ) (given : List UnwindRecord) (p : Plan) → AreBytes b → unwind < 2 ^ 32 →
+        ReturnsInTurn b image sections mode (plan_from unwind) given p → length given ≤ 3 * 2 ^ 32 }
 {}
 
 /// The ranges that calls return for debug data lie in the bytes, and are the file names, the hash and the POGO entries
@@ -104,7 +121,8 @@ pub fn plans_end()
 #[tactic(auto, using(crate::proofs::Parts::key_reports, crate::proofs::Parts::pdb20_reports, crate::proofs::Parts::repro_reports, crate::proofs::Parts::pogo_reports))]
 pub fn ranges_of_debug_data_are_their_parts()
     ensures key { ReportsPart key_of (λ k. k.name) (λ d. option_map (λ r. r.filename) d.pdb70) }
-    ensures pdb20 { ReportsPart pdb20_field (λ r. r.name) (λ d. option_map (λ r. r.filename) d.pdb20) }
+    ensures pdb20 { ReportsPart pdb20_field (λ r. r.name)
+        (λ d. option_map (λ r. r.filename) d.pdb20) }
     ensures repro { ReportsPart repro_field (λ r. r.hash) (λ d. hash_of d.repro) }
     ensures pogo { ReportsPart pogo_field (λ r. r.entries) (λ d. option_map (λ r. r.bytes) d.pogo) }
 {}
@@ -121,8 +139,11 @@ pub fn records_of_debug_data_are_reported()
 /// The functions of a table by their indices, from 0 on, are its whole entries in their order, and there are no others.
 #[tactic(auto, using(crate::proofs::Indices::functions_by_index, crate::proofs::Indices::arm64_functions_by_index))]
 pub fn indices_give_the_functions()
-    ensures x64 { (b : List ℕ) (table : Range) (bytes : List ℕ) (i : ℕ) → bytes_at b table ≡ Ok bytes → function_in b table i ≡ indexed (functions bytes) i }
-    ensures arm64 { (b : List ℕ) (table : Range) (bytes : List ℕ) (i : ℕ) → bytes_at b table ≡ Ok bytes → arm64_function_in b table i ≡ indexed (arm64_functions bytes) i }
+    ensures x64 { (b : List ℕ) (table : Range) (bytes : List ℕ) (i : ℕ) →
+        bytes_at b table ≡ Ok bytes → function_in b table i ≡ indexed (functions bytes) i }
+    ensures arm64 { (b : List ℕ) (table : Range) (bytes : List ℕ) (i : ℕ) →
+        bytes_at b table ≡ Ok bytes →
+        arm64_function_in b table i ≡ indexed (arm64_functions bytes) i }
 {}
 
 /// A walk over entries of one width returns those of its range, one a step and in their order: each whole entry, one
@@ -130,9 +151,12 @@ pub fn indices_give_the_functions()
 /// walks over scope tables, over epilog scopes and over debug entries leave nothing out, and end.
 #[tactic(auto, using(crate::proofs::EntryRuns::scopes_in_turn, crate::proofs::EntryRuns::arm64_scopes_in_turn, crate::proofs::EntryRuns::debug_entries_in_turn))]
 pub fn walks_give_their_entries()
-    ensures scopes { (b : List ℕ) (walk : Range) → ReturnsItems (StepsEntries scope_at 16 b) walk (walk_items scope_at 16 b walk) }
-    ensures arm64_scopes { (b : List ℕ) (walk : Range) → ReturnsItems (StepsEntries flat_scope_at 4 b) walk (walk_items flat_scope_at 4 b walk) }
-    ensures debug_entries { (b : List ℕ) (walk : Range) → ReturnsItems (StepsEntries (debug_entry_at 0) 28 b) walk (walk_items (debug_entry_at 0) 28 b walk) }
+    ensures scopes { (b : List ℕ) (walk : Range) →
+        ReturnsItems (StepsEntries scope_at 16 b) walk (walk_items scope_at 16 b walk) }
+    ensures arm64_scopes { (b : List ℕ) (walk : Range) →
+        ReturnsItems (StepsEntries flat_scope_at 4 b) walk (walk_items flat_scope_at 4 b walk) }
+    ensures debug_entries { (b : List ℕ) (walk : Range) → ReturnsItems
+        (StepsEntries (debug_entry_at 0) 28 b) walk (walk_items (debug_entry_at 0) 28 b walk) }
 {}
 
 /// A walk over unwind codes returns, one a step, the items of the stream of its bytes, and then nothing: the codes that
@@ -140,11 +164,17 @@ pub fn walks_give_their_entries()
 /// codes of the record. A range that is not inside the bytes is one error alone.
 #[tactic(auto, using(crate::proofs::CodeRuns::codes_in_turn, crate::proofs::CodeRuns::codes_of_record_in_turn, crate::proofs::CodeRuns::lies_once))]
 pub fn walks_give_the_codes()
-    ensures items { (b : List ℕ) (walk : CodeWalk) (bytes : List ℕ) (items : List (Result UnwindCode Error)) → bytes_at b walk.left ≡ Ok bytes → AreItems (code_stream_at bytes walk) items →
+    ensures items { (b : List ℕ)
+        (walk : CodeWalk) (bytes : List ℕ) (items : List (Result UnwindCode Error)) →
+        bytes_at b walk.left ≡ Ok bytes → AreItems (code_stream_at bytes walk) items →
         ReturnsItems (StepsCodes b) walk (map flat_item items) }
-    ensures of_records { (b : List ℕ) (p : ℕ) (i : UnwindInfoView) (items : List (Result UnwindCode Error)) → outcome (unwind_tests b p) (unwind_record b p) ≡ Ok i →
-        AreItems (code_stream_at i.codes (flat_record b p i).codes) items → ReturnsItems (StepsCodes b) (flat_record b p i).codes (map flat_item items) }
-    ensures outside { (b : List ℕ) (walk : CodeWalk) (refusal : Refusal) → bytes_at b walk.left ≡ Err refusal → ReturnsItems (StepsCodes b) walk (Err refusal ∷ []) }
+    ensures of_records { (b : List ℕ)
+        (p : ℕ) (i : UnwindInfoView) (items : List (Result UnwindCode Error)) →
+        outcome (unwind_tests b p) (unwind_record b p) ≡ Ok i →
+        AreItems (code_stream_at i.codes (flat_record b p i).codes) items →
+        ReturnsItems (StepsCodes b) (flat_record b p i).codes (map flat_item items) }
+    ensures outside { (b : List ℕ) (walk : CodeWalk) (refusal : Refusal) →
+        bytes_at b walk.left ≡ Err refusal → ReturnsItems (StepsCodes b) walk (Err refusal ∷ []) }
 {}
 
 /// A walk over ARM64 unwind codes returns, one a step, the items that tile its stream from its start on, and then
@@ -152,11 +182,18 @@ pub fn walks_give_the_codes()
 /// one error alone.
 #[tactic(auto, using(crate::proofs::Arm64CodeRuns::codes_in_turn, crate::proofs::Arm64CodeRuns::codes_of_info_in_turn))]
 pub fn walks_give_the_arm64_codes()
-    ensures items { (b : List ℕ) (codes : Range) (start : ℕ) (stream : List ℕ) (walk : Arm64CodeWalk) (items : List (Result Arm64UnwindCodeData Error)) →
-        bytes_at b codes ≡ Ok stream → arm64_walk_at b codes start ≡ Ok walk → Tiles stream start items → ReturnsItems (StepsArm64Codes b) walk (map flat_arm64_item items) }
-    ensures of_records { (b : List ℕ) (p : ℕ) (i : Arm64InfoView) (start : ℕ) (walk : Arm64CodeWalk) (items : List (Result Arm64UnwindCodeData Error)) → info_at b p ≡ Ok i →
-        arm64_walk_at b (flat_info b p i).codes start ≡ Ok walk → Tiles i.codes start items → ReturnsItems (StepsArm64Codes b) walk (map flat_arm64_item items) }
-    ensures outside { (b : List ℕ) (walk : Arm64CodeWalk) (refusal : Refusal) → left_of_stream b walk ≡ Err refusal → ReturnsItems (StepsArm64Codes b) walk (Err refusal ∷ []) }
+    ensures items { (b : List ℕ) (codes : Range) (start : ℕ)
+        (stream : List ℕ) (walk : Arm64CodeWalk) (items : List (Result Arm64UnwindCodeData Error)) →
+        bytes_at b codes ≡ Ok stream →
+        arm64_walk_at b codes start ≡ Ok walk → Tiles stream start items →
+        ReturnsItems (StepsArm64Codes b) walk (map flat_arm64_item items) }
+    ensures of_records { (b : List ℕ) (p : ℕ) (i : Arm64InfoView) (start : ℕ) (walk : Arm64CodeWalk)
+        (items : List (Result Arm64UnwindCodeData Error)) → info_at b p ≡ Ok i →
+        arm64_walk_at b (flat_info b p i).codes start ≡ Ok walk → Tiles i.codes start items →
+        ReturnsItems (StepsArm64Codes b) walk (map flat_arm64_item items) }
+    ensures outside { (b : List ℕ) (walk : Arm64CodeWalk) (refusal : Refusal) →
+        left_of_stream b walk ≡ Err refusal →
+        ReturnsItems (StepsArm64Codes b) walk (Err refusal ∷ []) }
 {}
 
 /// A walk over the entries of a POGO record returns, one a step, the entries of the stream of its bytes, and then
@@ -164,9 +201,11 @@ pub fn walks_give_the_arm64_codes()
 /// alone.
 #[tactic(auto, using(crate::proofs::PogoRuns::entries_in_turn, crate::proofs::PogoRuns::lies_once))]
 pub fn walks_give_the_pogo_entries()
-    ensures items { (b : List ℕ) (walk : Range) (bytes : List ℕ) (items : List (Result Entry Refusal)) → bytes_at b walk ≡ Ok bytes → Entries bytes items →
-        ReturnsItems (StepsPogoEntries b) walk (entries_reported walk items) }
-    ensures outside { (b : List ℕ) (walk : Range) (refusal : Refusal) → bytes_at b walk ≡ Err refusal → ReturnsItems (StepsPogoEntries b) walk (Err refusal ∷ []) }
+    ensures items { (b : List ℕ) (walk : Range)
+        (bytes : List ℕ) (items : List (Result Entry Refusal)) → bytes_at b walk ≡ Ok bytes →
+        Entries bytes items → ReturnsItems (StepsPogoEntries b) walk (entries_reported walk items) }
+    ensures outside { (b : List ℕ) (walk : Range) (refusal : Refusal) →
+        bytes_at b walk ≡ Err refusal → ReturnsItems (StepsPogoEntries b) walk (Err refusal ∷ []) }
 {}
 
 /// A walk over certificates returns, one a step and in their order, exactly the certificates that its table lists, each
@@ -174,20 +213,25 @@ pub fn walks_give_the_pogo_entries()
 /// error.
 #[tactic(auto, using(crate::proofs::CertificateRuns::certificates_in_turn, crate::proofs::CertificateRuns::refused_in_turn))]
 pub fn walks_give_the_certificates()
-    ensures certificates { (b : List ℕ) (walk : Range) (cs : List CertificateView) → listed b walk ≡ Ok cs →
-        (reported : List Certificate) × ReturnsItems (StepsCertificates b) walk (map (λ x. Ok x) reported) × AllZip (ReportsCertificate b) reported cs }
-    ensures refused { (b : List ℕ) (walk : Range) (refusal : Refusal) → listed b walk ≡ Err refusal →
-        (reported : List Certificate) × (cs : List CertificateView) × ReturnsItems (StepsCertificates b) walk (map (λ x. Ok x) reported ++ Err refusal ∷ []) ×
-        AllZip (ReportsCertificate b) reported cs }
+    ensures certificates { (b : List ℕ) (walk : Range) (cs : List CertificateView) →
+        listed b walk ≡ Ok cs → (reported : List Certificate)
+        × ReturnsItems (StepsCertificates b) walk (map (λ x. Ok x) reported)
+        × AllZip (ReportsCertificate b) reported cs }
+    ensures refused { (b : List ℕ) (walk : Range) (refusal : Refusal) →
+        listed b walk ≡ Err refusal → (reported : List Certificate) × (cs : List CertificateView)
+        × ReturnsItems (StepsCertificates b) walk (map (λ x. Ok x) reported ++ Err refusal ∷ [])
+        × AllZip (ReportsCertificate b) reported cs }
 {}
 
 /// The ranges of a walk over exports are the tables of the export data, and what the walk returns for an entry of the
 /// name table is the export that the entry has.
 #[tactic(auto, using(crate::proofs::ExportParts::reports))]
 pub fn walks_report_the_exports()
-    ensures tables { (offset : ℕ → Option ℕ) (b : List ℕ) (rva : ℕ) (d : ExportDataView) → export_data_at offset b rva ≡ Ok d → HasTables b (walk_over offset d) d }
+    ensures tables { (offset : ℕ → Option ℕ) (b : List ℕ) (rva : ℕ) (d : ExportDataView) →
+        export_data_at offset b rva ≡ Ok d → HasTables b (walk_over offset d) d }
     ensures exports { (offset : ℕ → Option ℕ) (b : List ℕ) (d : ExportDataView) (i : ℕ) →
-        ReportsExport b (reported_entry offset b (with_tables d.names d.ordinals d.addresses) i) (export_at offset b d i) }
+        ReportsExport b (reported_entry offset b (with_tables d.names d.ordinals d.addresses) i)
+        (export_at offset b d i) }
 {}
 
 /// A walk over the libraries of an image returns, one a step and in their order, the records of its import directory,
@@ -196,17 +240,21 @@ pub fn walks_report_the_exports()
 /// turn.
 #[tactic(auto, using(crate::proofs::ImportRuns::libraries_in_turn, crate::proofs::ImportRuns::refused_in_turn, crate::proofs::ImportRuns::imports_in_turn))]
 pub fn walks_report_the_imports()
-    ensures libraries { (b : List ℕ) (image : Image) (sections : List SectionTable) (walk : Libraries) (rs : List ImportRecordView) →
-        AreBytes b → length b ≤ 2 ^ 63 → libraries_at image sections ≡ Ok (Some walk) →
-        import_data_at (map_of_image image sections) (entry_size (image.width == 64)) b (import_directory image).virtual_address ≡ Ok rs →
-        (reported : List Library) × ReturnsItems (StepsLibraries (map_of_image image sections) (entry_size (image.width == 64)) b) walk (map (λ x. Ok x) reported) ×
-        AllZip (ReportsLibrary (map_of_image image sections) (entry_size (image.width == 64)) b) reported rs }
-    ensures refused { (b : List ℕ) (image : Image) (sections : List SectionTable) (walk : Libraries) (refusal : Refusal) →
-        AreBytes b → length b ≤ 2 ^ 63 → libraries_at image sections ≡ Ok (Some walk) →
-        import_data_at (map_of_image image sections) (entry_size (image.width == 64)) b (import_directory image).virtual_address ≡ Err refusal →
-        (reported : List Library) × (rs : List ImportRecordView) ×
-        ReturnsItems (StepsLibraries (map_of_image image sections) (entry_size (image.width == 64)) b) walk (map (λ x. Ok x) reported ++ Err refusal ∷ []) ×
-        AllZip (ReportsLibrary (map_of_image image sections) (entry_size (image.width == 64)) b) reported rs }
+    ensures libraries { (b : List ℕ) (image : Image) (sections : List SectionTable)
+        (walk : Libraries) (rs : List ImportRecordView) → AreBytes b → length b ≤ 2 ^ 63 →
+        libraries_at image sections ≡ Ok (Some walk) → import_data_at (map_of_image image sections)
+        (entry_size (image.width == 64)) b (import_directory image).virtual_address ≡ Ok rs →
+        (reported : List Library) × ReturnsItems (StepsLibraries (map_of_image image sections)
+        (entry_size (image.width == 64)) b) walk (map (λ x. Ok x) reported) × AllZip (ReportsLibrary
+        (map_of_image image sections) (entry_size (image.width == 64)) b) reported rs }
+    ensures refused { (b : List ℕ) (image : Image) (sections : List SectionTable)
+        (walk : Libraries) (refusal : Refusal) → AreBytes b → length b ≤ 2 ^ 63 →
+        libraries_at image sections ≡ Ok (Some walk) → import_data_at (map_of_image image sections)
+        (entry_size (image.width == 64)) b (import_directory image).virtual_address ≡ Err refusal →
+        (reported : List Library) × (rs : List ImportRecordView) × ReturnsItems
+        (StepsLibraries (map_of_image image sections) (entry_size (image.width == 64)) b) walk
+        (map (λ x. Ok x) reported ++ Err refusal ∷ []) × AllZip (ReportsLibrary
+        (map_of_image image sections) (entry_size (image.width == 64)) b) reported rs }
     ensures in_turn { ImportsInTurn }
 {}
 
@@ -215,11 +263,15 @@ pub fn walks_report_the_imports()
 /// directory lists. Where entries are left of tables that are not inside the bytes it returns one error alone.
 #[tactic(auto, using(crate::proofs::ExportRuns::exports_in_turn, crate::proofs::ExportRuns::directory_in_turn, crate::proofs::ExportRuns::lies_once))]
 pub fn walks_give_the_exports()
-    ensures entries { (offset : ℕ → Option ℕ) (b : List ℕ) (walk : Exports) (d : ExportDataView) → tables_or_short b walk ≡ Ok d →
-        ReturnsItems (StepsExports offset b) walk (map (λ x. Ok x) (reported_from (reported_entry offset b d) walk.next (count_of walk))) }
-    ensures directory { (offset : ℕ → Option ℕ) (b : List ℕ) (rva : ℕ) (d : ExportDataView) → export_data_at offset b rva ≡ Ok d →
-        (reported : List Export) × ReturnsItems (StepsExports offset b) (walk_over offset d) (map (λ x. Ok x) reported) × AllZip (λ x e. ReportsExport b (Some x) (Some e)) reported (exports offset b d) }
-    ensures outside { (offset : ℕ → Option ℕ) (b : List ℕ) (walk : Exports) (refusal : Refusal) → walk.next < count_of walk → tables_or_short b walk ≡ Err refusal →
+    ensures entries { (offset : ℕ → Option ℕ) (b : List ℕ) (walk : Exports) (d : ExportDataView) →
+        tables_or_short b walk ≡ Ok d → ReturnsItems (StepsExports offset b) walk
+        (map (λ x. Ok x) (reported_from (reported_entry offset b d) walk.next (count_of walk))) }
+    ensures directory { (offset : ℕ → Option ℕ) (b : List ℕ) (rva : ℕ) (d : ExportDataView) →
+        export_data_at offset b rva ≡ Ok d → (reported : List Export)
+        × ReturnsItems (StepsExports offset b) (walk_over offset d) (map (λ x. Ok x) reported)
+        × AllZip (λ x e. ReportsExport b (Some x) (Some e)) reported (exports offset b d) }
+    ensures outside { (offset : ℕ → Option ℕ) (b : List ℕ) (walk : Exports) (refusal : Refusal) →
+        walk.next < count_of walk → tables_or_short b walk ≡ Err refusal →
         ReturnsItems (StepsExports offset b) walk (Err refusal ∷ []) }
 {}
 

@@ -78,7 +78,8 @@ fn next_record(
     sections: &[SectionTable],
     plan: &mut Plan,
 ) -> Result<Option<UnwindRecord>>
-    ensures { StepsPlan bytes.now image.now sections.now image.now.mode plan.old (answer_of result) plan.new }
+    ensures { StepsPlan bytes.now image.now sections.now image.now.mode plan.old
+        (answer_of result) plan.new }
 {
     if plan.is_over != 0 {
         return Ok(None);
@@ -104,7 +105,8 @@ pub extern "C" fn pe_c_next_record(
     plan: &mut Plan,
     out: &mut UnwindRecord,
 ) -> u32
-    ensures { HandsOutPlan bytes.now image.now sections.now image.now.mode plan.old plan.new result out.old out.new }
+    ensures { HandsOutPlan
+        bytes.now image.now sections.now image.now.mode plan.old plan.new result out.old out.new }
 {
     hand_out_some(next_record(bytes, image, sections, plan), out)
 }

@@ -70,7 +70,8 @@ fn text_of(number: u32) -> &'static str
 #[unsafe(no_mangle)]
 pub extern "C" fn pe_c_text(number: u32, room: &mut [u8]) -> usize
     ensures whole { result ≡ length (result_text number) }
-    ensures put { room.new ≡ take (length room.old) (result_text number) ++ drop (length (result_text number)) room.old }
+    ensures put { room.new ≡ take (length room.old)
+        (result_text number) ++ drop (length (result_text number)) room.old }
 {
     let text = text_of(number).as_bytes();
     let count = text.len().min(room.len());

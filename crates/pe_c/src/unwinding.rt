@@ -94,7 +94,8 @@ pub struct Code {
 
 #[tactic(auto, unfolding(crate::specs::Unwinding::exception_table_at))]
 fn table_of(bytes: &[u8], image: &Image, sections: &[SectionTable]) -> Result<Option<Range>>
-    ensures { answer_of result ≡ exception_table_at 0x8664 12 bytes.now image.now sections.now image.now.mode }
+    ensures { answer_of result
+        ≡ exception_table_at 0x8664 12 bytes.now image.now sections.now image.now.mode }
 {
     let directory = directory(image, EXCEPTION_TABLE);
     if image.machine != COFF_MACHINE_X86_64 || is_absent(directory) {
@@ -122,7 +123,8 @@ pub extern "C" fn pe_c_function_table(
     sections: &[SectionTable],
     out: &mut Range,
 ) -> u32
-    ensures { HandsOutIf result out.old out.new (exception_table_at 0x8664 12 bytes.now image.now sections.now image.now.mode) }
+    ensures { HandsOutIf result out.old out.new
+        (exception_table_at 0x8664 12 bytes.now image.now sections.now image.now.mode) }
 {
     hand_out_some(table_of(bytes, image, sections), out)
 }
@@ -253,7 +255,8 @@ fn find_record_offset(
     sections: &[SectionTable],
     unwind: u32,
 ) -> Result<usize>
-    ensures { FindsOffset bytes.now image.now sections.now image.now.mode unwind (answer_of result) }
+    ensures { FindsOffset bytes.now image.now sections.now image.now.mode unwind
+        (answer_of result) }
 {
     let opts = options(image.mode);
     let alignment = image.file_alignment;
@@ -269,7 +272,8 @@ pub fn read_record(
     sections: &[SectionTable],
     unwind: u32,
 ) -> Result<UnwindRecord>
-    ensures { FollowsToRecord bytes.now image.now sections.now image.now.mode unwind (answer_of result) }
+    ensures { FollowsToRecord bytes.now image.now sections.now image.now.mode unwind
+        (answer_of result) }
 {
     let offset = find_record_offset(bytes, image, sections, unwind)?;
     record_at(bytes, offset)
@@ -288,7 +292,8 @@ pub extern "C" fn pe_c_unwind_record(
     unwind: u32,
     out: &mut UnwindRecord,
 ) -> u32
-    ensures { HandsOutRecord bytes.now image.now sections.now image.now.mode unwind result out.old out.new }
+    ensures { HandsOutRecord
+        bytes.now image.now sections.now image.now.mode unwind result out.old out.new }
 {
     hand_out(read_record(bytes, image, sections, unwind), out)
 }

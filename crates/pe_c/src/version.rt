@@ -23,7 +23,8 @@ fn content_of(
     sections: &[SectionTable],
     id: u16,
 ) -> Result<Option<ByteRange>>
-    ensures content { IsContentOf bytes.now image.now sections.now image.now.mode id (answer_of result) }
+    ensures content { IsContentOf bytes.now image.now sections.now image.now.mode id
+        (answer_of result) }
     ensures within { IfOk result (λ c. IfSome c (IsWithin bytes.now)) }
 {
     let directory = directory(image, RESOURCE_TABLE);
@@ -50,7 +51,8 @@ pub extern "C" fn pe_c_manifest(
     sections: &[SectionTable],
     out: &mut Range,
 ) -> u32
-    ensures { HandsOutManifest bytes.now image.now sections.now image.now.mode result out.old out.new }
+    ensures { HandsOutManifest
+        bytes.now image.now sections.now image.now.mode result out.old out.new }
 {
     match content_of(bytes, image, sections, RT_MANIFEST) {
         Ok(content) => hand_out_some(Ok(content.map(range_of)), out),
@@ -135,7 +137,8 @@ pub extern "C" fn pe_c_version_text(
     name: u32,
     out: &mut Range,
 ) -> u32
-    ensures { HandsOutText bytes.now image.now sections.now image.now.mode (name_at name) result out.old out.new }
+    ensures { HandsOutText bytes.now image.now sections.now image.now.mode
+        (name_at name) result out.old out.new }
 {
     let Some(name) = name_at(name) else {
         return NOTHING;

@@ -11,7 +11,8 @@ use pe_core::{Error, Result};
 /// The bytes from the next entry of a walk on, if there is one; the walk moves past the entry. `Short` where the walk
 /// is not inside the bytes, or its entry is truncated: then it is over.
 pub fn next_entry<'a>(bytes: &'a [u8], walk: &mut Range, width: usize) -> Result<Option<&'a [u8]>>
-    ensures entry { answer_by (option_map (λ s. s.now)) result ≡ left_entry width bytes.entry.now walk.old }
+    ensures entry { answer_by
+        (option_map (λ s. s.now)) result ≡ left_entry width bytes.entry.now walk.old }
     ensures walk { walk.new ≡ walk_of width bytes.entry.now walk.old }
     ensures whole { IfOk result (λ e. IfSome e (λ s. width ≤ length s.now)) }
 {

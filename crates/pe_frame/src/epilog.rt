@@ -362,7 +362,8 @@ fn with_rest<'a>(
     trim: Option<Instruction>,
     code: &'a [u8],
 ) -> Option<Tail<'a>>
-    ensures { option_map instructions_of result ≡ with_rest (map unwind_view plan.now) start end (alone trim) code.now }
+    ensures { option_map instructions_of result ≡ with_rest
+        (map unwind_view plan.now) start end (alone trim) code.now }
 {
     match exit_at(end, after_pops(code)) {
         Some(exit) if leaves(plan, start, end, exit) => Some(Tail {
@@ -382,7 +383,8 @@ pub(crate) fn tail_at<'a>(
     end: u64,
     code: &'a [u8],
 ) -> Option<Tail<'a>>
-    ensures { option_map instructions_of result ≡ tail (map unwind_view plan.now) start end code.now }
+    ensures { option_map instructions_of result ≡ tail
+        (map unwind_view plan.now) start end code.now }
 {
     match trim_at(frame_register(plan), code) {
         Some((trim, size)) => with_rest(plan, start, end, Some(trim), &code[size..]),
@@ -392,7 +394,8 @@ pub(crate) fn tail_at<'a>(
 
 /// The registers with the stack pointer so far from a register, of which each `lea` names one that there is.
 fn loaded(register: u8, number: u64, registers: Registers) -> Registers
-    ensures { result ≡ put_register registers 4 (moved (slice_index registers.general register) number) }
+    ensures { result ≡ put_register registers 4
+        (moved (slice_index registers.general register) number) }
 {
     let value = match registers.general.get(usize::from(register)) {
         Some(value) => *value,
@@ -429,7 +432,8 @@ fn execute_pops<M: Memory>(
     registers: Registers,
     memory: &M,
 ) -> Result<Registers, FrameError>
-    ensures { result ≡ executed_all (M.word memory.now) (map Pop (popped_first most_pops code.now)) registers }
+    ensures { result ≡ executed_all (M.word memory.now)
+        (map Pop (popped_first most_pops code.now)) registers }
 {
     let mut rest = code;
     let mut current = registers;

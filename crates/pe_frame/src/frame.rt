@@ -82,7 +82,8 @@ fn caller<M: Memory>(
 
 /// What is left of an epilog at an RVA, from which on the function has this code. In the prolog there is none.
 fn epilog_at<'a>(plan: &[UnwindInfo<'_>], start: u32, rva: u32, code: &'a [u8]) -> Option<Tail<'a>>
-    ensures { option_map instructions_of result ≡ epilog_at (map unwind_view plan.now) start rva code.now }
+    ensures { option_map instructions_of result ≡ epilog_at
+        (map unwind_view plan.now) start rva code.now }
 {
     match limit_of(plan, rva.saturating_sub(start)) {
         Some(_) => None,
@@ -117,10 +118,12 @@ pub fn step<M: Memory>(
     registers: Registers,
     memory: &M,
 ) -> Result<Registers, FrameError>
-    ensures exact { Steps (M.word memory.now) (map unwind_view plan.now) (rva - start) registers result }
-    ensures undoes { (p : Part) (parts : List Part) → map unwind_view plan.now ≡ infos (p ∷ parts) →
-        AreFrames (M.word memory.now) (p ∷ parts) (limit_of (infos (p ∷ parts)) (rva - start)) registers →
-        (u : Registers) × (result ≡ Ok u) × IsCaller (p ∷ parts) (limit_of (infos (p ∷ parts)) (rva - start)) registers u }
+    ensures exact { Steps (M.word memory.now)
+        (map unwind_view plan.now) (rva - start) registers result }
+    ensures undoes { (p : Part) (parts : List Part) →
+        map unwind_view plan.now ≡ infos (p ∷ parts) → AreFrames (M.word memory.now) (p ∷ parts)
+        (limit_of (infos (p ∷ parts)) (rva - start)) registers → (u : Registers) × (result ≡ Ok u)
+        × IsCaller (p ∷ parts) (limit_of (infos (p ∷ parts)) (rva - start)) registers u }
 {
     caller(plan, rva.saturating_sub(start), registers, memory)
 }
@@ -154,7 +157,8 @@ pub fn step_with_code<M: Memory>(
     registers: Registers,
     memory: &M,
 ) -> Result<Registers, FrameError>
-    ensures { StepsWithCode (M.word memory.now) (map unwind_view plan.now) start rva code.now registers result }
+    ensures { StepsWithCode (M.word memory.now)
+        (map unwind_view plan.now) start rva code.now registers result }
 {
     match epilog_at(plan, start, rva, code) {
         Some(tail) => {

@@ -23,42 +23,54 @@ use crate::registers::Registers;
 pub fn one_result_of_steps()
     ensures exists { (m : ℕ → Option ℕ) (plan : List UnwindInfoView) (offset : ℕ) (g : Registers) →
         (x : Result Registers FrameError) × Steps m plan offset g x }
-    ensures one { (m : ℕ → Option ℕ) (plan : List UnwindInfoView) (offset : ℕ) (g : Registers) (x y : Result Registers FrameError) →
+    ensures one { (m : ℕ → Option ℕ) (plan : List UnwindInfoView)
+        (offset : ℕ) (g : Registers) (x y : Result Registers FrameError) →
         Steps m plan offset g x → Steps m plan offset g y → by_kind x ≡ by_kind y }
 {}
 
 /// A step with the code has a result, and one alone, up to the numbers in a refusal of codes.
 pub fn one_result_of_steps_with_code()
-    ensures exists { (m : ℕ → Option ℕ) (plan : List UnwindInfoView) (start rva : ℕ) (code : List ℕ) (g : Registers) →
+    ensures exists { (m : ℕ → Option ℕ)
+        (plan : List UnwindInfoView) (start rva : ℕ) (code : List ℕ) (g : Registers) →
         (x : Result Registers FrameError) × StepsWithCode m plan start rva code g x }
-    ensures one { (m : ℕ → Option ℕ) (plan : List UnwindInfoView) (start rva : ℕ) (code : List ℕ) (g : Registers) (x y : Result Registers FrameError) →
-        StepsWithCode m plan start rva code g x → StepsWithCode m plan start rva code g y → by_kind x ≡ by_kind y }
+    ensures one { (m : ℕ → Option ℕ) (plan : List UnwindInfoView)
+        (start rva : ℕ) (code : List ℕ) (g : Registers) (x y : Result Registers FrameError) →
+        StepsWithCode m plan start rva code g x →
+        StepsWithCode m plan start rva code g y → by_kind x ≡ by_kind y }
 {}
 
 /// There are such epilogs: one that frees stack by `add`, and one that does by `lea` from the frame register. Their prologs are
 /// those of frames. In the prolog there is no epilog, nor where a jump stays in the function.
 pub fn epilogs_are_there()
-    ensures added { epilog_at (infos (pushed_part ∷ [])) 0x1000 0x1040 (0x48 ∷ 0x83 ∷ 0xC4 ∷ 0x20 ∷ 0x5B ∷ 0xC3 ∷ [])
-        ≡ Some (Add 32 ∷ Pop 3 ∷ Return 0 ∷ []) }
-    ensures of_added { IsEpilogOf (frame_of pushed_part.info) (ran None pushed_part.codes) (Add 32 ∷ Pop 3 ∷ Return 0 ∷ []) }
-    ensures pushed { AreFrames (all_known (left None pushed_part)) (pushed_part ∷ []) None (registers_of (left None pushed_part)) }
-    ensures loaded { epilog_at (infos (set_part ∷ [])) 0x1000 0x1040 (0x48 ∷ 0x8D ∷ 0x65 ∷ 0x20 ∷ 0x5B ∷ 0x5D ∷ 0xC3 ∷ [])
-        ≡ Some (Lea 5 32 ∷ Pop 3 ∷ Pop 5 ∷ Return 0 ∷ []) }
-    ensures of_loaded { IsEpilogOf (frame_of set_part.info) (ran None set_part.codes) (Lea 5 32 ∷ Pop 3 ∷ Pop 5 ∷ Return 0 ∷ []) }
-    ensures set { AreFrames (all_known (left None set_part)) (set_part ∷ []) None (registers_of (left None set_part)) }
-    ensures in_the_prolog { epilog_at (infos (pushed_part ∷ [])) 0x1000 0x1004 (0x5B ∷ 0xC3 ∷ []) ≡ None }
+    ensures added { epilog_at (infos (pushed_part ∷ [])) 0x1000 0x1040
+        (0x48 ∷ 0x83 ∷ 0xC4 ∷ 0x20 ∷ 0x5B ∷ 0xC3 ∷ []) ≡ Some (Add 32 ∷ Pop 3 ∷ Return 0 ∷ []) }
+    ensures of_added { IsEpilogOf (frame_of pushed_part.info)
+        (ran None pushed_part.codes) (Add 32 ∷ Pop 3 ∷ Return 0 ∷ []) }
+    ensures pushed { AreFrames (all_known (left None pushed_part))
+        (pushed_part ∷ []) None (registers_of (left None pushed_part)) }
+    ensures loaded { epilog_at (infos (set_part ∷ [])) 0x1000 0x1040 (0x48 ∷ 0x8D
+        ∷ 0x65 ∷ 0x20 ∷ 0x5B ∷ 0x5D ∷ 0xC3 ∷ []) ≡ Some (Lea 5 32 ∷ Pop 3 ∷ Pop 5 ∷ Return 0 ∷ []) }
+    ensures of_loaded { IsEpilogOf (frame_of set_part.info)
+        (ran None set_part.codes) (Lea 5 32 ∷ Pop 3 ∷ Pop 5 ∷ Return 0 ∷ []) }
+    ensures set { AreFrames (all_known (left None set_part))
+        (set_part ∷ []) None (registers_of (left None set_part)) }
+    ensures in_the_prolog { epilog_at
+        (infos (pushed_part ∷ [])) 0x1000 0x1004 (0x5B ∷ 0xC3 ∷ []) ≡ None }
     ensures jumped { epilog_at (infos (pushed_part ∷ [])) 0x1000 0x1040 (0xEB ∷ 0xBE ∷ []) ≡ None }
-    ensures left { epilog_at (infos (pushed_part ∷ [])) 0x1000 0x1040 (0xEB ∷ 0xBD ∷ []) ≡ Some (Jump 0xFFF ∷ []) }
+    ensures left { epilog_at
+        (infos (pushed_part ∷ [])) 0x1000 0x1040 (0xEB ∷ 0xBD ∷ []) ≡ Some (Jump 0xFFF ∷ []) }
 {}
 
 /// What is left of an epilog leads to the caller. A machine ran a prolog that pushed registers, then allocated stack and then set a
 /// frame register, each of which it may not do. From its body on the first instructions of the epilog ran, and the code has
 /// the others: a step with the code then returns the registers of the caller.
 pub fn epilogs_return_to_the_caller()
-    ensures { (m : ℕ → Option ℕ) (p : Part) (before rest : List Instruction) (i : Instruction) (start rva : ℕ) (code : List ℕ)
-        (g h : Registers) (x : Result Registers FrameError) → AreFrames m (p ∷ []) None g →
-        IsEpilogOf (frame_of p.info) (ran None p.codes) (before ++ (i ∷ rest)) → executed_all m before g ≡ Ok h →
-        epilog_at (infos (p ∷ [])) start rva code ≡ Some (i ∷ rest) → StepsWithCode m (infos (p ∷ [])) start rva code h x →
+    ensures { (m : ℕ → Option ℕ) (p : Part) (before rest : List Instruction) (i : Instruction)
+        (start rva : ℕ) (code : List ℕ) (g h : Registers) (x : Result Registers FrameError) →
+        AreFrames m (p ∷ []) None g → IsEpilogOf (frame_of p.info)
+        (ran None p.codes) (before ++ (i ∷ rest)) → executed_all m before g ≡ Ok h →
+        epilog_at (infos (p ∷ [])) start rva code ≡ Some (i ∷ rest) →
+        StepsWithCode m (infos (p ∷ [])) start rva code h x →
         (u : Registers) × (x ≡ Ok u) × IsCaller (p ∷ []) None g u }
 {}
 
@@ -67,28 +79,35 @@ pub fn epilogs_return_to_the_caller()
 /// the entry of the outermost part that saved it, or the one that it has where no part did. The known memory has to show the
 /// words that the prologs stored, and the return address; what the bodies did to other registers and memory does not matter.
 pub fn prologs_are_undone()
-    ensures whole { (m : ℕ → Option ℕ) (p : Part) (parts : List Part) (offset : ℕ) (g : Registers) (x : Result Registers FrameError) →
-        p.info.size_of_prolog ≤ offset → AreFrames m (p ∷ parts) None g → Steps m (infos (p ∷ parts)) offset g x →
+    ensures whole { (m : ℕ → Option ℕ) (p : Part) (parts : List Part) (offset : ℕ)
+        (g : Registers) (x : Result Registers FrameError) → p.info.size_of_prolog ≤ offset →
+        AreFrames m (p ∷ parts) None g → Steps m (infos (p ∷ parts)) offset g x →
         (u : Registers) × (x ≡ Ok u) × IsCaller (p ∷ parts) None g u }
-    ensures begun { (m : ℕ → Option ℕ) (p : Part) (parts : List Part) (offset : ℕ) (g : Registers) (x : Result Registers FrameError) →
-        offset < p.info.size_of_prolog → AreFrames m (p ∷ parts) (Some offset) g → Steps m (infos (p ∷ parts)) offset g x →
+    ensures begun { (m : ℕ → Option ℕ) (p : Part) (parts : List Part) (offset : ℕ)
+        (g : Registers) (x : Result Registers FrameError) → offset < p.info.size_of_prolog →
+        AreFrames m (p ∷ parts) (Some offset) g → Steps m (infos (p ∷ parts)) offset g x →
         (u : Registers) × (x ≡ Ok u) × IsCaller (p ∷ parts) (Some offset) g u }
 {}
 
 /// Bytes of a stack that are those of a machine's memory show what the memory has.
 pub fn stacks_show_memory()
     ensures { (bytes : List ℕ) (start a : ℕ) (memory : ℕ → ℕ) →
-        start ≤ a → a + 8 ≤ start + length bytes → a + 8 ≤ 2 ^ 64 → ((i : ℕ) → i < 8 → slice_index bytes (a - start + i) ≡ memory (a + i)) →
+        start ≤ a → a + 8 ≤ start + length bytes →
+        a + 8 ≤ 2 ^ 64 → ((i : ℕ) → i < 8 → slice_index bytes (a - start + i) ≡ memory (a + i)) →
         stack_word bytes start a ≡ Some (loaded memory a) }
 {}
 
 /// There are such frames: of a part in the body of a function, of one with a frame register, after its prolog and inside of
 /// it, and of an interrupt.
 pub fn prologs_are_there()
-    ensures chained { AreFrames (all_known (left None inner_part)) (inner_part ∷ home_part ∷ []) None (registers_of (left None inner_part)) }
-    ensures framed { AreFrames (all_known (left None framed_part)) (framed_part ∷ []) None (registers_of (left None framed_part)) }
-    ensures begun { AreFrames (all_known (left (Some 11) framed_part)) (framed_part ∷ []) (Some 11) (registers_of (left (Some 11) framed_part)) }
-    ensures interrupted { AreFrames (all_known (left None interrupt_part)) (interrupt_part ∷ []) None (registers_of (left None interrupt_part)) }
+    ensures chained { AreFrames (all_known (left None inner_part))
+        (inner_part ∷ home_part ∷ []) None (registers_of (left None inner_part)) }
+    ensures framed { AreFrames (all_known (left None framed_part))
+        (framed_part ∷ []) None (registers_of (left None framed_part)) }
+    ensures begun { AreFrames (all_known (left (Some 11) framed_part))
+        (framed_part ∷ []) (Some 11) (registers_of (left (Some 11) framed_part)) }
+    ensures interrupted { AreFrames (all_known (left None interrupt_part))
+        (interrupt_part ∷ []) None (registers_of (left None interrupt_part)) }
 {}
 
 /// Two registers of a thread are equal if all of them are.

@@ -94,7 +94,8 @@ fn frame_base(
     survey: Survey,
     registers: Registers,
 ) -> Result<u64, FrameError>
-    ensures { result ≡ base_of (frame_of (unwind_view info.now)) survey.sets_frame survey.has_set_frame registers }
+    ensures { result ≡ base_of
+        (frame_of (unwind_view info.now)) survey.sets_frame survey.has_set_frame registers }
 {
     let register = info.frame_register.0;
     if !survey.has_set_frame && (survey.sets_frame || register == 0) {
@@ -135,8 +136,8 @@ fn undo_codes<M: Memory>(
     registers: Registers,
     memory: &M,
 ) -> Result<Registers, FrameError>
-    ensures { (codes : List UnwindCode) → AreItems (code_stream (unwind_view info.now)) (map Ok codes) →
-        result ≡ undone_all (M.word memory.now) base (ran limit codes) registers }
+    ensures { (codes : List UnwindCode) → AreItems (code_stream (unwind_view info.now))
+        (map Ok codes) → result ≡ undone_all (M.word memory.now) base (ran limit codes) registers }
 {
     let mut current = registers;
     for item in info.unwind_codes() {

@@ -1,5 +1,5 @@
 -- Fields that are written over others, and read again.
-use Rattle.std.proofs.Common.{◌≡◌, ℕ, ◌+◌, ◌-◌, ◌%◌, ◌^◌, ◌<◌, ◌≤◌, ◌==◌, ◌&&◌, ◌||◌, Bool, true, false, cond, List, ◌++◌, length, Ok, get_or, take, refl, ap, sym, ◌∙◌, subst, arith}
+use Rattle.std.proofs.Common.{◌≡◌, ℕ, ◌+◌, ◌-◌, ◌^◌, ◌<◌, ◌≤◌, ◌==◌, ◌&&◌, ◌||◌, Bool, true, false, cond, List, length, Ok, get_or, take, refl, ap, sym, ◌∙◌, subst, arith}
 use Rattle.std.specs.Prelude.{not, nat_le, nat_lt, if◌then◌else◌}
 use Rattle.std.proofs.lemmas.Bool.Decides.{nat_tests}
 use Rattle.std.proofs.lemmas.List.{length-take-le}
@@ -9,7 +9,7 @@ use Rattle.pe_core.specs.SectionMap.{rounded_up}
 use Rattle.pe_core.specs.declared.data_directories.DataDirectory.{DataDirectory}
 use Rattle.pe_core.specs.declared.header.Header.{Header}
 use Rattle.pe_core.proofs.PutNumbers.{le-put}
-use Rattle.pe_sign.specs.Attaching.{is_signed, unsigned_length, unsigned_file, kept_length, table_start, entry_to, with_entry, with_checksum, with_fields, joined_file, attached_file, attached_of, detached_file, detached_of, with_table, before_table}
+use Rattle.pe_sign.specs.Attaching.{is_signed, unsigned_length, unsigned_file, table_start, entry_to, with_entry, with_checksum, with_fields, joined_file, attached_file, attached_of, detached_file, detached_of, with_table, before_table}
 use Rattle.pe_sign.specs.AttachingSteps.{Fits}
 use Rattle.pe_sign.specs.Checksum.{checksum_of}
 use Rattle.pe_sign.specs.Digest.{is_in, left_out_of}
@@ -28,7 +28,7 @@ small_sum : (b : List ℕ) (field : ℕ) → checksum_of b field < 256 ^ 4
 unfolding checksum_of
 small_sum b field = omega arith
 
-read_again : (b : List ℕ) (p n : ℕ) → p + 4 ≤ length b → n < 256 ^ 4 → le (splice b p (bytes_of 4 n)) p 4 ≡ n
+pub read_again : (b : List ℕ) (p n : ℕ) → p + 4 ≤ length b → n < 256 ^ 4 → le (splice b p (bytes_of 4 n)) p 4 ≡ n
 read_again b p n h small =
     let fits : holds b p (length (bytes_of 4 n)) ≡ true = rw (length-four n) (grind (arith, nat_tests)) in
     let same : put b p (bytes_of 4 n) ≡ splice b p (bytes_of 4 n) = rw fits refl in

@@ -1,17 +1,16 @@
 -- The digest of what is written.
-use Rattle.std.proofs.Common.{◌≡◌, ℕ, suc, ◌+◌, ◌-◌, ◌*◌, ◌/◌, ◌%◌, ◌<◌, ◌≤◌, ◌⊎◌, ◌==◌, ◌&&◌, ◌||◌, Bool, true, false, cond, List, [], ◌∷◌, ◌++◌, length, get_or, take, drop, replicate, refl, ap, sym, ◌∙◌, arith, length-append}
+use Rattle.std.proofs.Common.{◌≡◌, ℕ, ◌+◌, ◌-◌, ◌<◌, ◌≤◌, ◌==◌, ◌&&◌, ◌||◌, Bool, true, false, cond, List, [], ◌++◌, length, take, drop, replicate, refl, ap, sym, ◌∙◌, arith}
 use Rattle.std.specs.Prelude.{not, nat_le, nat_lt, if◌then◌else◌}
 use Rattle.std.proofs.lemmas.Bool.Decides.{nat_tests}
-use Rattle.std.proofs.lemmas.List.{append-nil, append_assoc, take_at, take_all, take-append-le, take-append-drop, length-take, length-take-le, length-drop, length-replicate}
+use Rattle.std.proofs.lemmas.List.{append-nil, take_at, take_all, take-append-le, take-append-drop, length-take, length-take-le, length-drop}
 use Rattle.pe_core.specs.Bytes.{bytes_of, splice}
 use Rattle.pe_core.specs.Directories.{absent_directory}
 use Rattle.pe_core.specs.SectionMap.{rounded_up}
-use Rattle.pe_core.specs.declared.byte_range.ByteRange.{ByteRange}
 use Rattle.pe_core.specs.declared.data_directories.DataDirectory.{DataDirectory}
-use Rattle.pe_sign.specs.Attaching.{is_signed, unsigned_length, unsigned_file, padded, kept_length, table_start, entry_to, with_entry, with_checksum, with_fields, joined_file, attached_file, detached_file, with_table, without_table, before_table}
+use Rattle.pe_sign.specs.Attaching.{is_signed, unsigned_length, unsigned_file, padded, table_start, entry_to, with_entry, with_checksum, with_fields, joined_file, attached_file, detached_file, with_table, without_table, before_table}
 use Rattle.pe_sign.specs.AttachingSteps.{Fits}
 use Rattle.pe_sign.specs.Checksum.{checksum_of}
-use Rattle.pe_sign.specs.Digest.{Covered, covered, covered_bytes, digested, is_in, is_left_out, kept_bytes, lacking, zeros_after}
+use Rattle.pe_sign.specs.Digest.{Covered, covered, covered_bytes, is_in, is_left_out, kept_bytes, lacking, zeros_after}
 use Rattle.pe_sign.specs.declared.attachment.Placement.{Placement}
 use Rattle.pe_sign.specs.declared.attachment.Placement.TheVariants.{After, InPlace}
 use Rattle.pe_sign.specs.declared.digest.LeftOut.{LeftOut}
@@ -19,7 +18,7 @@ use Rattle.pe_sign.proofs.Agreement.{Agree, agree_take, agree_splice, agree_then
 use Rattle.pe_sign.proofs.Parts.{kept_append, kept_all, kept_none}
 use Rattle.pe_sign.proofs.Slices.{in_certificates}
 use Rattle.pe_sign.proofs.Splices.{length-padded, length-splice, length-four}
-use Rattle.pe_sign.proofs.Writes.{length-entry, length-fields, length-kept, length-joined_file, kept_holds}
+use Rattle.pe_sign.proofs.Writes.{length-entry, length-joined_file, kept_holds}
 
 -- the offset is in one of the header's two fields
 abbrev pub in_fields : LeftOut → ℕ → Bool

@@ -9,3 +9,4 @@ pub mod Agreement
 pub mod Digests
 pub mod WrittenImages
 pub mod Detaching
+pub mod Entries

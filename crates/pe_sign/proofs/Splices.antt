@@ -1,14 +1,13 @@
 -- Bytes that are written over others.
-use Rattle.std.proofs.Common.{◌≡◌, ℕ, zero, suc, ◌+◌, ◌-◌, ◌*◌, ◌/◌, ◌%◌, ◌<◌, ◌≤◌, ◌⊎◌, ◌&&◌, Bool, true, false, cond, List, [], ◌∷◌, ◌++◌, length, get_or, take, drop, replicate, refl, ap, sym, ◌∙◌, subst, append_assoc, zero-add, length-append, length-take, length-drop, arith}
+use Rattle.std.proofs.Common.{◌≡◌, ℕ, ◌+◌, ◌-◌, ◌≤◌, ◌&&◌, cond, List, ◌++◌, length, get_or, take, drop, refl, sym, append_assoc, zero-add, length-append, length-take, length-drop, arith}
 use Rattle.std.specs.Prelude.{nat_le, nat_lt}
 use Rattle.std.proofs.lemmas.Bool.Decides.{nat_tests}
-use Rattle.std.proofs.lemmas.List.{places, take_at, drop_at, take-append-le, drop-append-le, length-replicate}
+use Rattle.std.proofs.lemmas.List.{places, take-append-le, drop-append-le, length-replicate}
 use Rattle.std.proofs.lemmas.List.Edits.{paste_all, paste-paste}
 use lib.Seq.{paste}
 use Rattle.pe_core.specs.Bytes.{bytes_of, splice}
 use Rattle.pe_core.specs.SectionMap.{rounded_up}
 use Rattle.pe_sign.specs.Attaching.{padded}
-use Rattle.pe_sign.specs.Digest.{lacking}
 
 pub length-splice : (b : List ℕ) (p : ℕ) (s : List ℕ) → p + length s ≤ length b → length (splice b p s) ≡ length b
 unfolding splice

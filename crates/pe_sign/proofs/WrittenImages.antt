@@ -1,5 +1,5 @@
 -- What the calls return, by the parts of the image.
-use Rattle.std.proofs.Common.{◌≡◌, ℕ, Bool, List, ◌∷◌, length, Result, Ok, Err, refl, ap, sym, ◌∙◌, subst}
+use Rattle.std.proofs.Common.{◌≡◌, ℕ, Bool, List, length, Result, Ok, Err, refl, ap, sym, ◌∙◌, subst}
 use Rattle.pe_core.specs.declared.header.Header.{Header}
 use Rattle.pe_sign.specs.Attaching.{image_of, certificate_tests, table_start, attached_of, attached_file, detached_of, detached_file, with_table, without_table}
 use Rattle.pe_sign.specs.AttachingSteps.{Fits}
@@ -15,10 +15,10 @@ pub record IsFile (l : LeftOut) (b f g : List ℕ) : Type 0 where
   pub fits : Fits l (length b)
   pub is_file : f ≡ g
 
-same_parts : (b : List ℕ) (h : Header) (k l : LeftOut) → image_of b h ≡ Ok k → left_out_of h ≡ Ok l → k ≡ l
+pub same_parts : (b : List ℕ) (h : Header) (k l : LeftOut) → image_of b h ≡ Ok k → left_out_of h ≡ Ok l → k ≡ l
 same_parts b h k l e i = let j : left_out_of h ≡ Ok k = (parts_of_image b h k e).0 in cc
 
-file_at : (x : Result LeftOut SignRefusal) (tests : LeftOut → List (Bool × SignRefusal)) (g : LeftOut → List ℕ) (f : List ℕ) →
+pub file_at : (x : Result LeftOut SignRefusal) (tests : LeftOut → List (Bool × SignRefusal)) (g : LeftOut → List ℕ) (f : List ℕ) →
     (x >>= λ k. sign_outcome (tests k) (g k)) ≡ Ok f → (k : LeftOut) × ((x ≡ Ok k) × (f ≡ g k))
 file_at (Err e) tests g f h = absurd cc
 file_at (Ok k) tests g f h = (k, (refl, sym (value_is (tests k) (g k) f h)))

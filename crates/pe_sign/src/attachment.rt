@@ -2,8 +2,8 @@
 //! the data directories has its file offset and its size; each certificate in it starts at a multiple of eight bytes
 //! ([layout](https://learn.microsoft.com/windows/win32/debug/pe-format#the-attribute-certificate-table-image-only)).
 //!
-//! A signing tool hashes the image, makes a certificate of it, and attaches that. The digest of the image stays as it was,
-//! so the signature in the certificate is valid for what was written.
+//! A signing tool hashes the image, makes a certificate of it, and attaches that. The digest of the image stays as it
+//! was, so the signature in the certificate is valid for what was written.
 
 ghost use Rattle.std.specs.Prelude.{◌≡◌, ◌+◌, ◌≤◌, ◌^◌, ◌++◌, [], ◌∷◌, IfOk, length, drop, nat_lt};
 ghost use Rattle.pe_core.specs.SectionMap.{rounded_up};
@@ -64,7 +64,9 @@ fn table_start(placement: Placement, left_out: &LeftOut, length: usize) -> usize
 
 /// The file's length after a certificate of `size` bytes is attached to `kept` bytes. `TooLarge` if it is 2^32 or more.
 fn joined_length(kept: usize, size: usize) -> Result<usize, SignError>
-    ensures { SignReturns result (sign_outcome ((nat_lt (rounded_up kept 8 + rounded_up size 8) 4294967296, TooLarge) ∷ []) (rounded_up kept 8 + rounded_up size 8)) }
+    ensures { SignReturns result
+        (sign_outcome ((nat_lt (rounded_up kept 8 + rounded_up size 8) 4294967296, TooLarge) ∷ [])
+        (rounded_up kept 8 + rounded_up size 8)) }
 {
     if kept >= LIMIT || size >= LIMIT {
         return Err(SignError::TooLarge);
@@ -96,8 +98,10 @@ fn certified(
     certificate: &[u8],
     placement: Placement,
 ) -> Result<LeftOut, SignError>
-    ensures parts { SignReturns result (certified_of placement bytes.now header.now certificate.now) }
-    ensures fits { IfOk result (λ l. FitsWith placement l (length bytes.now) (length certificate.now)) }
+    ensures parts { SignReturns result
+        (certified_of placement bytes.now header.now certificate.now) }
+    ensures fits { IfOk result
+        (λ l. FitsWith placement l (length bytes.now) (length certificate.now)) }
 {
     let left_out = image(bytes, header)?;
     let offset = left_out.certificates.offset;
@@ -115,7 +119,8 @@ fn certified(
 /// The length of the file with a certificate of `size` bytes.
 fn attached_length(placement: Placement, left_out: &LeftOut, length: usize, size: usize) -> usize
     requires { FitsWith placement left_out.now length size }
-    ensures { result ≡ rounded_up (kept_length placement left_out.now length) 8 + rounded_up size 8 }
+    ensures { result ≡ rounded_up
+        (kept_length placement left_out.now length) 8 + rounded_up size 8 }
 {
     rounded_up(kept_length(placement, left_out, length), UNIT) + rounded_up(size, UNIT)
 }
@@ -129,9 +134,12 @@ fn set_attached(
     placement: Placement,
 ) -> usize
     requires fits { FitsWith placement left_out.now (length bytes.now) (length certificate.now) }
-    requires room { rounded_up (kept_length placement left_out.now (length bytes.now)) 8 + rounded_up (length certificate.now) 8 ≤ length out.old }
-    ensures value { result ≡ length (attached_file placement left_out.now certificate.now bytes.now) }
-    ensures after { out.new ≡ attached_file placement left_out.now certificate.now bytes.now ++ drop result out.old }
+    requires room { rounded_up (kept_length placement left_out.now (length bytes.now)) 8
+        + rounded_up (length certificate.now) 8 ≤ length out.old }
+    ensures value { result ≡ length
+        (attached_file placement left_out.now certificate.now bytes.now) }
+    ensures after { out.new
+        ≡ attached_file placement left_out.now certificate.now bytes.now ++ drop result out.old }
 {
     let kept = kept_length(placement, left_out, bytes.len());
     let end = attached_length(placement, left_out, bytes.len(), certificate.len());
@@ -152,16 +160,18 @@ pub fn attached_len(
     certificate: &[u8],
     placement: Placement,
 ) -> Result<usize, SignError>
-    ensures { SignReturns result (length_of (attached_of placement bytes.now header.now certificate.now)) }
+    ensures { SignReturns result
+        (length_of (attached_of placement bytes.now header.now certificate.now)) }
 {
     let left_out = certified(bytes, header, certificate, placement)?;
     Ok(attached_length(placement, &left_out, bytes.len(), certificate.len()))
 }
 
-/// Attaches a certificate: writes the image at the start of `out`, with zeros up to a multiple of eight, the certificate,
-/// zeros again, the entry of the certificate directory and the checksum. Returns how long that is; the bytes of `out`
-/// after it stay as they were. `bytes` is the whole file, `header` is the image's. `certificate` is one or more entries of a
-/// certificate table (`WIN_CERTIFICATE`), each of them but the last with its padding to a multiple of eight bytes.
+/// Attaches a certificate: writes the image at the start of `out`, with zeros up to a multiple of eight, the
+/// certificate, zeros again, the entry of the certificate directory and the checksum. Returns how long that is; the
+/// bytes of `out` after it stay as they were. `bytes` is the whole file, `header` is the image's. `certificate` is one
+/// or more entries of a certificate table (`WIN_CERTIFICATE`), each of them but the last with its padding to a multiple
+/// of eight bytes.
 ///
 /// Errors, in this order, each of which leaves `out` as it was:
 /// - `Image` with `NoOptionalHeader`; `NoDirectory` if there are fewer than five data directories;
@@ -179,7 +189,8 @@ pub fn attach(
     placement: Placement,
     out: &mut [u8],
 ) -> Result<usize, SignError>
-    ensures { ReturnsWritten result (written (attached_of placement bytes.now header.now certificate.now) out.old) out.old out.new }
+    ensures { ReturnsWritten result (written
+        (attached_of placement bytes.now header.now certificate.now) out.old) out.old out.new }
 {
     let left_out = certified(bytes, header, certificate, placement)?;
     let length = attached_length(placement, &left_out, bytes.len(), certificate.len());
@@ -208,15 +219,16 @@ pub fn detached_len(bytes: &[u8], header: &Header<'_>) -> Result<usize, SignErro
     Ok(unsigned_length(&left_out, bytes.len()))
 }
 
-/// Detaches all certificates: writes the image at the start of `out` up to its certificate table, with zeros in the entry
-/// of the certificate directory, and the checksum. Returns how long that is; the bytes of `out` after it stay as they
-/// were. An image without certificates stays as it is, but for its checksum. `bytes` is the whole file, `header` is the
-/// image's.
+/// Detaches all certificates: writes the image at the start of `out` up to its certificate table, with zeros in the
+/// entry of the certificate directory, and the checksum. Returns how long that is; the bytes of `out` after it stay as
+/// they were. An image without certificates stays as it is, but for its checksum. `bytes` is the whole file, `header`
+/// is the image's.
 ///
-/// Errors, in this order, each of which leaves `out` as it was: those of `attach` up to `Section`; `Image` with `WriteFit`
-/// if the image does not fit into `out`.
+/// Errors, in this order, each of which leaves `out` as it was: those of `attach` up to `Section`; `Image` with
+/// `WriteFit` if the image does not fit into `out`.
 pub fn detach(bytes: &[u8], header: &Header<'_>, out: &mut [u8]) -> Result<usize, SignError>
-    ensures { ReturnsWritten result (written (detached_of bytes.now header.now) out.old) out.old out.new }
+    ensures { ReturnsWritten result
+        (written (detached_of bytes.now header.now) out.old) out.old out.new }
 {
     let left_out = image(bytes, header)?;
     require_room(out, 0, unsigned_length(&left_out, bytes.len()))?;

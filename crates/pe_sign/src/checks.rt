@@ -35,8 +35,8 @@ pub fn unsigned_length(left_out: &LeftOut, length: usize) -> usize
     }
 }
 
-/// Errors, in order: `NoDirectory`; `CertificateTable` if the certificate table passes the end of a file of this length;
-/// `TableNotLast` if it ends before that.
+/// Errors, in order: `NoDirectory`; `CertificateTable` if the certificate table passes the end of a file of this
+/// length; `TableNotLast` if it ends before that.
 fn require_table(header: &Header<'_>, left_out: &LeftOut, length: usize) -> Result<(), SignError>
     ensures { SignReturns result (sign_outcome (table_tests left_out.now length) tt) }
 {
@@ -72,7 +72,8 @@ fn ends_by(offset: usize, size: usize, end: usize) -> bool
 
 /// The file offset at which the section table ends.
 fn section_table_end(header: &Header<'_>) -> usize
-    ensures { result ≡ sections_offset (header_view header.now) + 40 * header.now.coff_header.number_of_sections }
+    ensures { result ≡ sections_offset
+        (header_view header.now) + 40 * header.now.coff_header.number_of_sections }
 {
     header.sections_offset()
         + SIZE_OF_SECTION_HEADER * header.coff_header.number_of_sections as usize
@@ -98,8 +99,10 @@ fn data_ends_by(section: SectionTable, end: usize) -> bool
 /// `Section` if the data of a section end after `end`.
 #[tactic(auto, using(crate::proofs::SectionRows::all_more, crate::proofs::SectionRows::one_fails), unfolding(pe_core::specs::Rows::each))]
 fn require_sections(bytes: &[u8], header: &Header<'_>, end: usize) -> Result<(), SignError>
-    requires { sections_offset (header_view header.now) + 40 * header.now.coff_header.number_of_sections ≤ length bytes.now }
-    ensures { SignReturns result (sign_outcome ((sections_end_by bytes.now header.now end, Section) ∷ []) tt) }
+    requires { sections_offset (header_view header.now)
+        + 40 * header.now.coff_header.number_of_sections ≤ length bytes.now }
+    ensures { SignReturns result
+        (sign_outcome ((sections_end_by bytes.now header.now end, Section) ∷ []) tt) }
 {
     let start = header.sections_offset();
     for index in 0..header.coff_header.number_of_sections as usize {
@@ -111,8 +114,8 @@ fn require_sections(bytes: &[u8], header: &Header<'_>, end: usize) -> Result<(),
     Ok(())
 }
 
-/// The parts of the image that its digest leaves out, if its certificates can be changed. Errors, in order: `Image` with
-/// `NoOptionalHeader`; `NoDirectory`; `Image` with `CertificateTable`; `TableNotLast`; `Headers`; `Section`.
+/// The parts of the image that its digest leaves out, if its certificates can be changed. Errors, in order: `Image`
+/// with `NoOptionalHeader`; `NoDirectory`; `Image` with `CertificateTable`; `TableNotLast`; `Headers`; `Section`.
 pub fn image(bytes: &[u8], header: &Header<'_>) -> Result<LeftOut, SignError>
     ensures parts { SignReturns result (image_of bytes.now header.now) }
     ensures fits { IfOk result (λ l. Fits l (length bytes.now)) }

@@ -124,7 +124,8 @@ fn cut<'a>(part: Part<'a>, range: ByteRange) -> (Part<'a>, Part<'a>)
 fn without_fields<'a>(part: Part<'a>, left_out: &LeftOut) -> [&'a [u8]; 4]
     requires room { part.offset + length part.bytes.now < 2 ^ 64 }
     requires apart { Throughout (is_in left_out.now.certificates) false part.offset part.bytes.now }
-    ensures { joined_slices result ≡ kept_bytes (is_left_out left_out.now) part.entry.offset part.entry.bytes.now }
+    ensures { joined_slices result ≡ kept_bytes
+        (is_left_out left_out.now) part.entry.offset part.entry.bytes.now }
 {
     let (first, second) = cut(part, left_out.checksum);
     let (a, b) = cut(first, left_out.directory_entry);

@@ -1,6 +1,6 @@
 //! Laws over the definitions. Each is the contract of a function that does nothing.
 
-ghost use Rattle.std.specs.Prelude.{◌≡◌, ℕ, List, Ok, length};
+ghost use Rattle.std.specs.Prelude.{◌≡◌, ℕ, ◌+◌, ◌-◌, List, Ok, length};
 ghost use Rattle.pe_core.specs.Bytes.{le};
 ghost use Rattle.pe_core.specs.Directories.{absent_directory};
 ghost use Rattle.pe_core.specs.declared.header.Header.{Header};
@@ -16,9 +16,10 @@ ghost use Rattle.pe_sign.specs.declared.digest.LeftOut.{LeftOut};
 /// certificate table that the entry names now.
 #[tactic(auto, using(crate::proofs::WrittenImages::attached_digest_of, crate::proofs::WrittenImages::detached_digest_of))]
 pub fn digests_stay()
-    ensures attached { (placement : Placement) (b : List ℕ) (h : Header) (certificate f : List ℕ) (l : LeftOut) →
-        left_out_of h ≡ Ok l → attached_of placement b h certificate ≡ Ok f →
-        covered_bytes (covered (with_table l (table_start placement l (length b)) (length f)) f) ≡ covered_bytes (covered l b) }
+    ensures attached { (placement : Placement) (b : List ℕ) (h : Header) (certificate f : List ℕ)
+        (l : LeftOut) → left_out_of h ≡ Ok l → attached_of placement b h certificate ≡ Ok f →
+        covered_bytes (covered (with_table l (table_start placement l (length b)) (length f)) f)
+        ≡ covered_bytes (covered l b) }
     ensures detached { (b : List ℕ) (h : Header) (f : List ℕ) (l : LeftOut) →
         left_out_of h ≡ Ok l → detached_of b h ≡ Ok f → covered (without_table l) f ≡ covered l b }
 {}
@@ -26,18 +27,28 @@ pub fn digests_stay()
 /// The checksum of an image that `attach` or `detach` writes is what its header's field has.
 #[tactic(auto, using(crate::proofs::Detaching::attached_sum, crate::proofs::Detaching::detached_sum))]
 pub fn checksums_are_good()
-    ensures attached { (placement : Placement) (b : List ℕ) (h : Header) (certificate f : List ℕ) (l : LeftOut) →
-        left_out_of h ≡ Ok l → attached_of placement b h certificate ≡ Ok f → le f l.checksum.offset 4 ≡ checksum_of f l.checksum.offset }
-    ensures detached { (b : List ℕ) (h : Header) (f : List ℕ) (l : LeftOut) →
-        left_out_of h ≡ Ok l → detached_of b h ≡ Ok f → le f l.checksum.offset 4 ≡ checksum_of f l.checksum.offset }
+    ensures attached { (placement : Placement) (b : List ℕ) (h : Header) (certificate f : List ℕ)
+        (l : LeftOut) → left_out_of h ≡ Ok l → attached_of placement b h certificate ≡ Ok f →
+        le f l.checksum.offset 4 ≡ checksum_of f l.checksum.offset }
+    ensures detached { (b : List ℕ) (h : Header) (f : List ℕ) (l : LeftOut) → left_out_of h ≡ Ok l →
+        detached_of b h ≡ Ok f → le f l.checksum.offset 4 ≡ checksum_of f l.checksum.offset }
 {}
 
-/// To detach what was attached leaves what is before the certificate table, with an entry of zeros and the checksum: the
-/// image as it was, but for zeros at its end, the entry and the checksum; without any certificate that it had. The header
-/// `k` is any whose parts are those of the image with the table that the entry names now.
+/// To detach what was attached leaves what is before the certificate table, with an entry of zeros and the checksum:
+/// the image as it was, but for zeros at its end, the entry and the checksum; without any certificate that it had. The
+/// header `k` is any whose parts are those of the image with the table that the entry names now.
 pub fn attached_certificates_are_detached()
-    ensures { (placement : Placement) (b : List ℕ) (h k : Header) (certificate f g : List ℕ) (l : LeftOut) →
-        left_out_of h ≡ Ok l → attached_of placement b h certificate ≡ Ok f →
-        left_out_of k ≡ Ok (with_table l (table_start placement l (length b)) (length f)) → detached_of f k ≡ Ok g →
-        g ≡ with_fields l absent_directory (before_table placement l b) }
+    ensures { (placement : Placement) (b : List ℕ) (h k : Header) (certificate f g : List ℕ)
+        (l : LeftOut) → left_out_of h ≡ Ok l → attached_of placement b h certificate ≡ Ok f →
+        left_out_of k ≡ Ok (with_table l (table_start placement l (length b)) (length f)) →
+        detached_of f k ≡ Ok g → g ≡ with_fields l absent_directory (before_table placement l b) }
+{}
+
+/// The entry of the certificate directory, read from what `attach` writes, names the certificate table: from where it
+/// starts to the end of the file.
+pub fn entries_name_the_table()
+    ensures { (placement : Placement) (b : List ℕ) (h : Header) (certificate f : List ℕ)
+        (l : LeftOut) → left_out_of h ≡ Ok l → attached_of placement b h certificate ≡ Ok f →
+        (le f l.directory_entry.offset 4 ≡ table_start placement l (length b))
+        × (le f (l.directory_entry.offset + 4) 4 ≡ length f - table_start placement l (length b)) }
 {}

@@ -52,7 +52,8 @@ fn set_padded(out: &mut [u8], offset: usize, slice: &[u8])
 
 /// Writes at the start of the buffer what stays of a file, and then a certificate, each with its zeros.
 pub fn set_joined(out: &mut [u8], kept: &[u8], certificate: &[u8])
-    requires { rounded_up (length kept.now) 8 + rounded_up (length certificate.now) 8 ≤ length out.old }
+    requires { rounded_up
+        (length kept.now) 8 + rounded_up (length certificate.now) 8 ≤ length out.old }
     ensures { out.new ≡ splice out.old 0 (padded kept.now ++ padded certificate.now) }
 {
     set_padded(out, 0, kept);
@@ -81,8 +82,8 @@ fn set_checksum(out: &mut [u8], end: usize, left_out: &LeftOut)
     set_u32(out, field, sum);
 }
 
-/// Writes the entry of the certificate directory and then the checksum into the file that is the first `end` bytes of the
-/// buffer.
+/// Writes the entry of the certificate directory and then the checksum into the file that is the first `end` bytes of
+/// the buffer.
 pub fn set_fields(out: &mut [u8], end: usize, left_out: &LeftOut, entry: DataDirectory)
     requires inside { end ≤ length out.old }
     requires field { left_out.now.checksum.offset + 4 ≤ end }

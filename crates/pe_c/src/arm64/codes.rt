@@ -232,7 +232,8 @@ fn step(left: &[u8], walk: &mut Arm64CodeWalk) -> Result<Option<Arm64Code>>
 }
 
 fn next_code(bytes: &[u8], walk: &mut Arm64CodeWalk) -> Result<Option<Arm64Code>>
-    ensures { WalksInArm64 (left_of_stream bytes.now walk.old) walk.old (answer_of result) walk.new }
+    ensures { WalksInArm64
+        (left_of_stream bytes.now walk.old) walk.old (answer_of result) walk.new }
 {
     match left_of_stream(bytes, walk) {
         Ok(left) => step(left, walk),

@@ -38,7 +38,8 @@ pub struct Arm64Packed {
 
 #[tactic(auto, unfolding(crate::specs::Unwinding::exception_table_at))]
 fn table_of(bytes: &[u8], image: &Image, sections: &[SectionTable]) -> Result<Option<Range>>
-    ensures { answer_of result ≡ exception_table_at 0xAA64 8 bytes.now image.now sections.now image.now.mode }
+    ensures { answer_of result
+        ≡ exception_table_at 0xAA64 8 bytes.now image.now sections.now image.now.mode }
 {
     let directory = directory(image, EXCEPTION_TABLE);
     if image.machine != COFF_MACHINE_ARM64 || is_absent(directory) {
@@ -63,7 +64,8 @@ pub extern "C" fn pe_c_arm64_table(
     sections: &[SectionTable],
     out: &mut Range,
 ) -> u32
-    ensures { HandsOutIf result out.old out.new (exception_table_at 0xAA64 8 bytes.now image.now sections.now image.now.mode) }
+    ensures { HandsOutIf result out.old out.new
+        (exception_table_at 0xAA64 8 bytes.now image.now sections.now image.now.mode) }
 {
     hand_out_some(table_of(bytes, image, sections), out)
 }

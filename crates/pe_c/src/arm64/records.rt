@@ -134,7 +134,8 @@ fn read_record(
     sections: &[SectionTable],
     function: Arm64RuntimeFunction,
 ) -> Result<Option<Arm64Record>>
-    ensures { answer_of result ≡ arm64_record_of bytes.now image.now sections.now image.now.mode function }
+    ensures { answer_of result
+        ≡ arm64_record_of bytes.now image.now sections.now image.now.mode function }
 {
     let opts = options(image.mode);
     let alignment = image.file_alignment;
@@ -160,7 +161,8 @@ pub extern "C" fn pe_c_arm64_unwind_record(
     function: &Arm64RuntimeFunction,
     out: &mut Arm64Record,
 ) -> u32
-    ensures { HandsOutIf result out.old out.new (arm64_record_of bytes.now image.now sections.now image.now.mode function.now) }
+    ensures { HandsOutIf result out.old out.new
+        (arm64_record_of bytes.now image.now sections.now image.now.mode function.now) }
 {
     hand_out_some(read_record(bytes, image, sections, *function), out)
 }

@@ -1,5 +1,5 @@
-use Rattle.std.proofs.Common.{◌∙◌, sym, refl, ap, ℕ, List, ◌++◌, length, drop}
-use Rattle.std.specs.Prelude.{Ok, Result}
+use Rattle.std.proofs.Common.{◌∙◌, sym, refl, ap, ℕ, List, ◌++◌, drop}
+use Rattle.std.specs.Prelude.{Ok}
 use Rattle.std.proofs.lemmas.Result.{err_from_is_err_and}
 use Rattle.pe_sign.specs.Attaching.{attached_of, attached_file}
 use Rattle.pe_sign.proofs.Tests.{attached_value, attached_refused, written_refused, written_short, written_done}

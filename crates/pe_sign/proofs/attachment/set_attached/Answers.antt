@@ -1,6 +1,5 @@
 use Rattle.std.proofs.Common.{ℕ, List, ◌++◌, ◌∙◌, ap, sym, length, take, drop}
 use Rattle.pe_core.specs.Bytes.{splice}
-use Rattle.pe_core.specs.declared.data_directories.DataDirectory.{DataDirectory}
 use Rattle.pe_sign.specs.Attaching.{padded, joined_file, table_start, entry_to, with_fields}
 use Rattle.pe_sign.proofs.Writes.{length-attached, length-joined_file, file_set}
 use Rattle.pe_sign.proofs.attachment.set_attached.Goals as goal

@@ -1,6 +1,5 @@
-use Rattle.std.proofs.Common.{ℕ, List, length, ap, sym, ◌∙◌}
+use Rattle.std.proofs.Common.{ℕ, List, ap, sym, ◌∙◌}
 use Rattle.pe_core.specs.Bytes.{splice}
-use Rattle.pe_core.specs.SectionMap.{rounded_up}
 use Rattle.pe_sign.specs.Attaching.{padded}
 use Rattle.pe_sign.proofs.Splices.{length-padded}
 use Rattle.pe_sign.proofs.Writes.{two_set}
