@@ -14,6 +14,7 @@ pub mod NumberBytes
 pub mod SpelledRecords
 pub mod SpelledOptional
 pub mod Modes
+pub mod Splices
 pub mod PutNumbers
 pub mod EntryItems
 pub mod ExportLists

@@ -1,22 +1,18 @@
 -- A number that is put at a place is read there again.
-use Rattle.std.proofs.Common.{◌≡◌, ℕ, zero, suc, ◌+◌, ◌/◌, ◌%◌, ◌^◌, ◌<◌, ◌≤◌, true, List, [], ◌∷◌, ◌++◌, length, take, drop, refl, ap, ◌∙◌, arith, append_assoc, length-append}
+use Rattle.std.proofs.Common.{◌≡◌, ℕ, zero, suc, ◌+◌, ◌/◌, ◌%◌, ◌^◌, ◌<◌, ◌≤◌, true, List, [], ◌∷◌, ◌++◌, length, take, drop, ◌∙◌, arith, append_assoc, length-append}
 use Rattle.std.specs.Prelude.{slice_index}
 use Rattle.std.proofs.Math.Nat.{pow-suc}
 use Rattle.std.proofs.lemmas.Bool.Decides.{nat_tests}
 use Rattle.std.proofs.lemmas.List.{places, length-take-le}
 use Rattle.pe_core.proofs.NumberBytes.{le-zero, le-cons}
+use Rattle.pe_core.proofs.Splices.{length-bytes_of}
 use Rattle.pe_core.specs.Bytes.{le, bytes_of, holds, put, splice}
-
-length-bytes_of : (n number : ℕ) → length (bytes_of n number) ≡ n
-unfolding bytes_of
-length-bytes_of zero number = refl
-length-bytes_of (suc n) number = ap suc (length-bytes_of n (number / 256))
 
 byte_after : (front : List ℕ) (x : ℕ) (rest : List ℕ) (p : ℕ) → length front ≡ p → slice_index (front ++ x ∷ rest) p ≡ x
 byte_after front x rest p e = grind (arith, places)
 
 -- the number behind what stands in front of it
-le-after : (n number : ℕ) (front rest : List ℕ) (p : ℕ) → length front ≡ p → number < 256 ^ n → le (front ++ (bytes_of n number ++ rest)) p n ≡ number
+pub le-after : (n number : ℕ) (front rest : List ℕ) (p : ℕ) → length front ≡ p → number < 256 ^ n → le (front ++ (bytes_of n number ++ rest)) p n ≡ number
 unfolding bytes_of
 le-after zero number front rest p e small = le-zero _ p ∙ omega arith
 le-after (suc n) number front rest p e small =

@@ -134,12 +134,12 @@ ReturnsUnlessMemoryAfter tested view (Ok x) defined = defined ≡ Ok (view x)
 ReturnsUnlessMemoryAfter tested view (Err e) defined = UnlessMemory e (defined ≡ Err (kind_of e)) × IfMemory e (IsOk tested)
 
 -- the value if all tests pass, or the refusal of the first test that fails
-abbrev pub outcome : {Y : Type 0} → List (Bool × Refusal) → Y → Result Y Refusal
+abbrev pub outcome : {Y R : Type 0} → List (Bool × R) → Y → Result Y R
 outcome [] value = Ok value
 outcome (test ∷ tests) value = if test.0 then outcome tests value else Err test.1
 
 -- two steps in turn; a refusal of the first is the result
 infixl 10 ◌>>=◌
-abbrev pub ◌>>=◌ : {A B : Type 0} → Result A Refusal → (A → Result B Refusal) → Result B Refusal
+abbrev pub ◌>>=◌ : {A B R : Type 0} → Result A R → (A → Result B R) → Result B R
 (Ok x) >>= f = f x
 (Err e) >>= f = Err e

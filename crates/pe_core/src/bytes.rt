@@ -1,8 +1,8 @@
 //! Little-endian numbers and slices at an offset, read and written with bounds checks. Every offset (`offset`) counts
 //! from the start of the slice that is passed.
 
-ghost use Rattle.std.specs.Prelude.{◌≡◌, ◌+◌, ◌<◌, ◌≤◌, length};
-ghost use Rattle.pe_core.specs.Bytes.{le, range, bytes_of, put, record_at, data_at, fit_at};
+ghost use Rattle.std.specs.Prelude.{◌≡◌, ◌+◌, ◌<◌, ◌≤◌, length, replicate};
+ghost use Rattle.pe_core.specs.Bytes.{le, range, bytes_of, splice, put, record_at, data_at, fit_at};
 ghost use Rattle.pe_core.specs.Refusals.{Returns, ReturnsAs};
 ghost use Rattle.pe_core.specs.Rows.{SplitsEntry};
 
@@ -163,14 +163,67 @@ pub fn require_room(buffer: &[u8], offset: usize, n: usize) -> Result<()>
     }
 }
 
-/// Writes `piece` at `offset`. Error: `WriteFit`; `buffer` is then unchanged.
+/// Writes `piece` at `offset`, where the caller knows it to fit.
 #[tactic(auto, unfolding(crate::specs::Bytes::splice))]
+pub fn set_slice(buffer: &mut [u8], offset: usize, piece: &[u8])
+    requires { offset + length piece.now ≤ length buffer.old }
+    ensures { buffer.new ≡ splice buffer.old offset piece.now }
+{
+    buffer[offset..offset + piece.len()].copy_from_slice(piece);
+}
+
+/// Writes `n` zeros at `offset`, where the caller knows them to fit.
+#[tactic(auto, unfolding(crate::specs::Bytes::splice))]
+pub fn set_zeros(buffer: &mut [u8], offset: usize, n: usize)
+    requires { offset + n ≤ length buffer.old }
+    ensures { buffer.new ≡ splice buffer.old offset (replicate n 0) }
+{
+    buffer[offset..offset + n].fill(0);
+}
+
+/// Writes a byte at `offset`, which the caller knows to fit.
+#[tactic(auto, unfolding(crate::specs::Bytes::bytes_of))]
+pub fn set_u8(buffer: &mut [u8], offset: usize, n: u8)
+    requires { offset + 1 ≤ length buffer.old }
+    ensures { buffer.new ≡ splice buffer.old offset (bytes_of 1 n) }
+{
+    set_slice(buffer, offset, &u8::to_le_bytes(n));
+}
+
+/// Writes a `u16` at `offset`, whose 2 bytes the caller knows to fit.
+#[tactic(auto, unfolding(crate::specs::Bytes::bytes_of))]
+pub fn set_u16(buffer: &mut [u8], offset: usize, n: u16)
+    requires { offset + 2 ≤ length buffer.old }
+    ensures { buffer.new ≡ splice buffer.old offset (bytes_of 2 n) }
+{
+    set_slice(buffer, offset, &u16::to_le_bytes(n));
+}
+
+/// Writes a `u32` at `offset`, whose 4 bytes the caller knows to fit.
+#[tactic(auto, unfolding(crate::specs::Bytes::bytes_of))]
+pub fn set_u32(buffer: &mut [u8], offset: usize, n: u32)
+    requires { offset + 4 ≤ length buffer.old }
+    ensures { buffer.new ≡ splice buffer.old offset (bytes_of 4 n) }
+{
+    set_slice(buffer, offset, &u32::to_le_bytes(n));
+}
+
+/// Writes a `u64` at `offset`, whose 8 bytes the caller knows to fit.
+#[tactic(auto, unfolding(crate::specs::Bytes::bytes_of))]
+pub fn set_u64(buffer: &mut [u8], offset: usize, n: u64)
+    requires { offset + 8 ≤ length buffer.old }
+    ensures { buffer.new ≡ splice buffer.old offset (bytes_of 8 n) }
+{
+    set_slice(buffer, offset, &u64::to_le_bytes(n));
+}
+
+/// Writes `piece` at `offset`. Error: `WriteFit`; `buffer` is then unchanged.
 pub fn put_slice(buffer: &mut [u8], offset: usize, piece: &[u8]) -> Result<()>
     ensures fit { Returns result (fit_at buffer.old offset (length piece.now)) }
     ensures after { buffer.new ≡ put buffer.old offset piece.now }
 {
     require_room(buffer, offset, piece.len())?;
-    buffer[offset..offset + piece.len()].copy_from_slice(piece);
+    set_slice(buffer, offset, piece);
     Ok(())
 }
 
@@ -180,7 +233,9 @@ pub fn put_u8(buffer: &mut [u8], offset: usize, n: u8) -> Result<()>
     ensures fit { Returns result (fit_at buffer.old offset 1) }
     ensures after { buffer.new ≡ put buffer.old offset (bytes_of 1 n) }
 {
-    put_slice(buffer, offset, &u8::to_le_bytes(n))
+    require_room(buffer, offset, 1)?;
+    set_u8(buffer, offset, n);
+    Ok(())
 }
 
 /// Writes a `u16` at `offset`. Error: `WriteFit`; `buffer` is then unchanged.
@@ -189,7 +244,9 @@ pub fn put_u16(buffer: &mut [u8], offset: usize, n: u16) -> Result<()>
     ensures fit { Returns result (fit_at buffer.old offset 2) }
     ensures after { buffer.new ≡ put buffer.old offset (bytes_of 2 n) }
 {
-    put_slice(buffer, offset, &u16::to_le_bytes(n))
+    require_room(buffer, offset, 2)?;
+    set_u16(buffer, offset, n);
+    Ok(())
 }
 
 /// Writes a `u32` at `offset`. Error: `WriteFit`; `buffer` is then unchanged.
@@ -198,7 +255,9 @@ pub fn put_u32(buffer: &mut [u8], offset: usize, n: u32) -> Result<()>
     ensures fit { Returns result (fit_at buffer.old offset 4) }
     ensures after { buffer.new ≡ put buffer.old offset (bytes_of 4 n) }
 {
-    put_slice(buffer, offset, &u32::to_le_bytes(n))
+    require_room(buffer, offset, 4)?;
+    set_u32(buffer, offset, n);
+    Ok(())
 }
 
 /// Writes a `u64` at `offset`. Error: `WriteFit`; `buffer` is then unchanged.
@@ -207,5 +266,7 @@ pub fn put_u64(buffer: &mut [u8], offset: usize, n: u64) -> Result<()>
     ensures fit { Returns result (fit_at buffer.old offset 8) }
     ensures after { buffer.new ≡ put buffer.old offset (bytes_of 8 n) }
 {
-    put_slice(buffer, offset, &u64::to_le_bytes(n))
+    require_room(buffer, offset, 8)?;
+    set_u64(buffer, offset, n);
+    Ok(())
 }

@@ -34,7 +34,8 @@ mod text;
 pub use byte_range::ByteRange;
 pub use bytes::{
     data_at, put_slice, put_u8, put_u16, put_u32, put_u64, read_u8, read_u16, read_u32, read_u64,
-    require_bytes, require_room, slice_at, split_entry, u8_at, u16_at, u32_at, u64_at,
+    require_bytes, require_room, set_slice, set_u8, set_u16, set_u32, set_u64, set_zeros, slice_at,
+    split_entry, u8_at, u16_at, u32_at, u64_at,
 };
 pub use counted_table::CountedTable;
 pub use data_directories::{DataDirectories, DataDirectory, MOST_DIRECTORIES};

@@ -1,11 +1,10 @@
 -- Records that are written field by field.
-use Rattle.std.proofs.Common.{◌≡◌, ℕ, zero, suc, ◌+◌, ◌*◌, ◌/◌, ◌≤◌, ◌<◌, Bool, true, false, cond, List, [], ◌∷◌, ◌++◌, length, get_or, take, ne_eqb, refl, ap, sym, ◌∙◌, arith}
+use Rattle.std.proofs.Common.{◌≡◌, ℕ, ◌+◌, ◌*◌, ◌≤◌, ◌<◌, Bool, true, false, cond, List, [], ◌∷◌, ◌++◌, length, get_or, take, ne_eqb, refl, sym, ◌∙◌, arith}
 use Rattle.std.specs.Prelude.{◌==◌}
 use Rattle.std.specs.List.{flat_map}
 use Rattle.std.proofs.lemmas.Grind.{flat_map-append}
 use Rattle.std.proofs.lemmas.List.{append-nil, length-append, take-append-drop, take_more}
-use Rattle.std.proofs.lemmas.List.Edits.{paste_all, paste-paste}
-use lib.Seq.{paste}
+use Rattle.pe_core.proofs.Splices.{length-bytes_of, splice-splice}
 use Rattle.pe_core.specs.Bytes.{bytes_of, splice}
 use Rattle.pe_core.specs.Header.{OptionalHeaderView}
 use Rattle.pe_core.specs.Spelling.{spell_coff, spell_directory, spell_dos, spell_optional, spell_section, spell_standard_fields_32, spell_standard_fields_64, spell_windows_fields_32, spell_windows_fields_64}
@@ -15,15 +14,6 @@ use Rattle.pe_core.specs.declared.header.DosHeader.{DosHeader}
 use Rattle.pe_core.specs.declared.optional_header.StandardFields.{StandardFields}
 use Rattle.pe_core.specs.declared.optional_header.WindowsFields.{WindowsFields}
 use Rattle.pe_core.specs.declared.section_table.SectionTable.{SectionTable}
-
-splice_is_paste : (b : List ℕ) (p : ℕ) (s : List ℕ) → splice b p s ≡ paste b p s (length s)
-unfolding splice
-splice_is_paste b p s = sym (paste_all b p s (length s) refl)
-
--- what stands before the second piece is all that has to be there
-pub joined_inside : (b : List ℕ) (p : ℕ) (x y : List ℕ) → p ≤ length b → splice (splice b p x) (p + length x) y ≡ splice b p (x ++ y)
-joined_inside b p x y h =
-    rw (splice_is_paste b p x, splice_is_paste (paste b p x (length x)) (p + length x) y, paste-paste b p x y (length x) (length y) refl refl h, splice_is_paste b p (x ++ y), length-append x y) refl
 
 -- the bytes x, n of them, are put at p: the bytes b have become now
 pub record Laid (b : List ℕ) (p n : ℕ) (now x : List ℕ) : Type 0 where
@@ -36,15 +26,10 @@ laid_first x n h l e = record { inside = h; count = l; same = e }
 
 pub laid_next : {b old now x : List ℕ} {p n : ℕ} (y : List ℕ) (m : ℕ) → Laid b p n old x → length y ≡ m → now ≡ splice old (p + n) y → Laid b p (n + m) now (x ++ y)
 laid_next {b} {old} {now} {x} {p} {n} y m l k e =
-    let j : splice (splice b p x) (p + length x) y ≡ splice b p (x ++ y) = joined_inside b p x y l.inside in
+    let j : splice (splice b p x) (p + length x) y ≡ splice b p (x ++ y) = splice-splice b p x y l.inside in
     let c : length x ≡ n = l.count in
     let f : now ≡ splice (splice b p x) (p + n) y = rw (← l.same) e in
     record { inside = l.inside; count = omega (arith, length-append x y, l.count, k); same = f ∙ (rw c at j) }
-
-pub length-bytes_of : (w n : ℕ) → length (bytes_of w n) ≡ w
-unfolding bytes_of
-length-bytes_of zero n = refl
-length-bytes_of (suc w) n = ap suc (length-bytes_of w (n / 256))
 
 -- a number of w bytes is written at the place, or behind what is written there
 pub number_first : {b now : List ℕ} {p : ℕ} (w v : ℕ) → p ≤ length b → now ≡ splice b p (bytes_of w v) → Laid b p w now (bytes_of w v)

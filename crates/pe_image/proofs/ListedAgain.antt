@@ -14,7 +14,8 @@ use Rattle.pe_image.specs.Overlay.{Piece, all_fit, overlay}
 use Rattle.pe_image.specs.Pieces.{certificate_pieces, certificates_end, in_a_row}
 use Rattle.pe_image.specs.Writing.{certificate_directory, certificates_by, certificates_over, certificates_written}
 use Rattle.pe_image.specs.WritingSteps.{put_in_turn}
-use Rattle.pe_image.proofs.Overlays.{length-splice, overlay_in_turn, put_append}
+use Rattle.pe_core.proofs.Splices.{length-splice}
+use Rattle.pe_image.proofs.Overlays.{overlay_in_turn, put_append}
 use Rattle.pe_image.proofs.Rows.{all_fit_append, and_left, and_right, fits_if}
 use Rattle.pe_image.proofs.WrittenCertificates.{put_at_once}
 

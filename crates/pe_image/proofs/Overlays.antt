@@ -1,37 +1,15 @@
 -- Pieces that are put one after the other are their overlay.
-use Rattle.std.proofs.Common.{◌≡◌, ℕ, zero, suc, ◌+◌, ◌-◌, ◌<◌, ◌≤◌, ◌&&◌, Bool, true, false, cond, List, [], ◌∷◌, ◌++◌, length, get_or, Option, Some, None, filter, refl, ap, sym, ◌∙◌, arith, ⊎_elim}
-use Rattle.std.specs.Prelude.{slice_index, nat_le, nat_lt}
+use Rattle.std.proofs.Common.{◌≡◌, ℕ, ◌+◌, ◌-◌, ◌≤◌, Bool, true, false, cond, List, [], ◌∷◌, ◌++◌, length, get_or, Option, Some, None, filter, refl, ap, sym, ◌∙◌, arith}
+use Rattle.std.specs.Prelude.{slice_index}
 use Rattle.std.specs.List.{last_or}
-use Rattle.std.proofs.lemmas.List.{places, length-append, length-take, length-drop, ext_get_or, get_or_push, get_or_append_left}
+use Rattle.std.proofs.lemmas.List.{ext_get_or}
 use Rattle.std.proofs.lemmas.Bool.Decides.{nat_tests}
-use Rattle.std.proofs.lemmas.Bool.{cases_lt}
+use Rattle.pe_core.proofs.EntryItems.{length-each, get_or-each}
+use Rattle.pe_core.proofs.Splices.{length-splice, get_or-splice}
 use Rattle.pe_core.specs.Rows.{each}
 use Rattle.pe_image.specs.Overlay.{Piece, has_byte, byte_of, byte_after, overlay, all_fit}
 use Rattle.pe_core.specs.Bytes.{splice}
 use Rattle.pe_image.specs.WritingSteps.{put_in_turn}
-
-pub length-splice : (b : List ℕ) (p : ℕ) (s : List ℕ) → p + length s ≤ length b → length (splice b p s) ≡ length b
-unfolding splice
-length-splice b p s h = simp (length-append, length-take, length-drop) (omega arith)
-
-pub get_or-splice : (b : List ℕ) (p : ℕ) (s : List ℕ) (q : ℕ) → p + length s ≤ length b → get_or (splice b p s) q 0 ≡ cond (nat_le p q && nat_lt q (p + length s)) (get_or s (q - p) 0) (get_or b q 0)
-unfolding splice
-get_or-splice b p s q h = grind (arith, nat_tests, places)
-
-pub length-each : {X : Type 0} (f : ℕ → X) (n : ℕ) → length (each f n) ≡ n
-unfolding each
-length-each f zero = refl
-length-each f (suc n) = simp length-append (omega (arith, length-each f n))
-
-pub get_or-each : {X : Type 0} (f : ℕ → X) (n k : ℕ) (d : X) → k < n → get_or (each f n) k d ≡ f k
-unfolding each
-get_or-each f zero k d h = absurd (omega arith)
-get_or-each f (suc n) k d h =
-    let l = length-each f n in
-    ⊎_elim
-    (λ (lt : k < n). get_or_append_left (each f n) (f n ∷ []) d k (omega (arith, l)) ∙ get_or-each f n k d lt)
-    (λ (ge : n ≤ k). let e : k ≡ n = omega arith in rw e (get_or_push (each f n) (f n) d n l))
-    (cases_lt k n)
 
 -- the last of a list is the same whatever stood before its first element
 last_some : {X : Type 0} (xs : List X) (x : X) (q a b : ℕ) (r : ℕ → Option X → ℕ) → ((c d : ℕ) (y : X) → r c (Some y) ≡ r d (Some y)) → r a (last_or (Some x) xs) ≡ r b (last_or (Some x) xs)

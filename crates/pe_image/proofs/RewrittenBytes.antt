@@ -34,7 +34,8 @@ use Rattle.pe_image.specs.Layout.{alignment, directory, is_64}
 use Rattle.pe_image.specs.Overlay.{Piece, EndsInZeros, all_fit, has_byte, byte_of, byte_after, last_piece, overlay, piece}
 use Rattle.pe_image.specs.Pieces.{all_certificate_pieces, all_section_pieces, certificate_pieces, header_pieces, in_a_row, lacking, section_pieces}
 use Rattle.pe_image.specs.Writing.{AreAligned, all_in_source, certificate_directory, clash_free, image_by, image_end, image_pieces, image_tests, image_written, padded_pieces, whole_by, whole_written}
-use Rattle.pe_image.proofs.Overlays.{byte_after_cons, get_or-each, length-each}
+use Rattle.pe_core.proofs.EntryItems.{get_or-each, length-each}
+use Rattle.pe_image.proofs.Overlays.{byte_after_cons}
 use Rattle.pe_image.proofs.Permissive.{certificates_alone, core_of_image}
 use Rattle.pe_image.proofs.Rows.{accepted_too}
 use Rattle.pe_image.proofs.SectionsFirst.{core_before, of_two, sections_of_core}

@@ -7,7 +7,8 @@ use Rattle.pe_core.specs.Refusals.{Refusal, WriteFit, outcome}
 use Rattle.pe_core.specs.Spelling.{spell_optional}
 use Rattle.pe_image.specs.Overlay.{all_fit}
 use Rattle.pe_image.specs.Pieces.{header_pieces}
-use Rattle.pe_image.proofs.Laid.{length-bytes_of, length_coff, length_dos}
+use Rattle.pe_core.proofs.Splices.{length-bytes_of}
+use Rattle.pe_image.proofs.Laid.{length_coff, length_dos}
 use Rattle.pe_image.proofs.Rows.{refused_if, unfit_if}
 
 pub headers_fit : (n : ℕ) (h : HeaderView) (o : OptionalHeaderView) → length h.dos_header.rest ≡ 58 → all_fit n (header_pieces h o) ≡ (nat_le 64 n && (nat_le (64 + length h.dos_stub) n && (nat_le (h.dos_header.pe_pointer + 4) n && (nat_le (h.dos_header.pe_pointer + 24) n && nat_le (h.dos_header.pe_pointer + 24 + length (spell_optional o)) n))))

@@ -24,9 +24,8 @@ use crate::pe::PE;
 use crate::write::certificates::{require_table, set_table, write_table};
 use crate::write::headers::{require_headers, set_headers};
 use crate::write::overlaps::last_raw_end;
-use crate::write::records::set_slice;
 use crate::write::sections::SectionWriter;
-use pe_core::{Error, OptionalHeader, Reason, Result, require_room};
+use pe_core::{Error, OptionalHeader, Reason, Result, require_room, set_slice};
 use std::alloc::Allocator;
 
 impl<'a, A: Allocator + Copy + Drop> PE<'a, A> {

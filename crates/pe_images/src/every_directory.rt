@@ -30,6 +30,25 @@ fn headers_of_all(alloc: Global) -> Result<Vec<u8>, AllocError> {
     )
 }
 
+/// Three debug entries at 0x640 with their records after them, and two certificates at 0xA00.
+fn put_debug_data_and_certificates(bytes: &mut [u8]) {
+    put(
+        bytes,
+        &[
+            (0x644, &[0x44, 0x33, 0x22, 0x11, 0, 0, 0, 0, 16]),
+            (0x668, &[2, 0, 0, 0, 30, 0, 0, 0, 0, 0, 0, 0, 0xA0, 6]),
+            (0x684, &[13, 0, 0, 0, 16, 0, 0, 0, 0, 0, 0, 0, 0xC0, 6]),
+            (
+                0x6A0,
+                b"RSDS\x10\x11\x12\x13\x14\x15\x16\x17\x18\x19\x1A\x1B\x1C\x1D\x1E\x1F\x09\0\0\0a.pdb\0",
+            ),
+            (0x6C0, b"GCTL\0\x10\0\0\x03\0\0\0.mn\0"),
+            (0xA00, &[9, 0, 0, 0, 0, 2, 2, 0, 0xAA]),
+            (0xA10, &[10, 0, 0, 0, 0, 1, 1, 0, 0xBB, 0xCC]),
+        ],
+    );
+}
+
 /// Two functions, exports at 0x300 with two names, imports at 0x400 from two libraries, resources at 0x500, relocations at
 /// 0x600, three debug entries at 0x640 with their records after them, and two certificates at 0xA00.
 pub fn with_every_directory(alloc: Global) -> Result<Vec<u8>, AllocError> {
@@ -69,21 +88,7 @@ pub fn with_every_directory(alloc: Global) -> Result<Vec<u8>, AllocError> {
             (0x600, &[0, 0x10, 0, 0, 0x10, 0, 0, 0, 8, 0xA0, 0x10, 0xA0]),
         ],
     );
-    put(
-        &mut bytes,
-        &[
-            (0x644, &[0x44, 0x33, 0x22, 0x11, 0, 0, 0, 0, 16]),
-            (0x668, &[2, 0, 0, 0, 30, 0, 0, 0, 0, 0, 0, 0, 0xA0, 6]),
-            (0x684, &[13, 0, 0, 0, 16, 0, 0, 0, 0, 0, 0, 0, 0xC0, 6]),
-            (
-                0x6A0,
-                b"RSDS\x10\x11\x12\x13\x14\x15\x16\x17\x18\x19\x1A\x1B\x1C\x1D\x1E\x1F\x09\0\0\0a.pdb\0",
-            ),
-            (0x6C0, b"GCTL\0\x10\0\0\x03\0\0\0.mn\0"),
-            (0xA00, &[9, 0, 0, 0, 0, 2, 2, 0, 0xAA]),
-            (0xA10, &[10, 0, 0, 0, 0, 1, 1, 0, 0xBB, 0xCC]),
-        ],
-    );
+    put_debug_data_and_certificates(&mut bytes);
     Ok(bytes)
 }
 

@@ -1,18 +1,12 @@
 -- Bytes that are written over others.
-use Rattle.std.proofs.Common.{◌≡◌, ℕ, zero, suc, ◌+◌, ◌-◌, ◌/◌, ◌≤◌, Bool, true, false, cond, Err, List, [], ◌∷◌, ◌++◌, length, take, drop, refl, ap, sym, ◌∙◌, subst, append_assoc, length-append, length-take, length-drop, arith}
+use Rattle.std.proofs.Common.{◌≡◌, ℕ, ◌+◌, ◌-◌, ◌≤◌, Bool, true, false, cond, Err, List, [], ◌∷◌, ◌++◌, length, take, drop, refl, ap, sym, ◌∙◌, subst, append_assoc, length-append, length-take, length-drop, arith}
 use Rattle.std.proofs.lemmas.List.{take_at, drop_all, append-nil, length-replicate}
-use Rattle.std.proofs.lemmas.List.Edits.{paste_all, paste-paste}
 use borrow.Rule.Slice.PartMut.{put_mid}
-use lib.Seq.{paste}
-use Rattle.pe_core.specs.Bytes.{bytes_of, holds, splice, put, fit_at}
+use Rattle.pe_core.proofs.Splices.{length-bytes_of, splice-splice}
+use Rattle.pe_core.specs.Bytes.{holds, splice, put, fit_at}
 use Rattle.pe_core.specs.Refusals.{Refusal, WriteFit, outcome}
 use Rattle.pe_records.specs.Certificates.{CertificateView}
 use Rattle.pe_records.specs.CertificateWriting.{spell_certificate, written_certificate, written_certificates, written_length, padding}
-
-length-bytes_of : (w n : ℕ) → length (bytes_of w n) ≡ w
-unfolding bytes_of
-length-bytes_of zero n = refl
-length-bytes_of (suc w) n = ap suc (length-bytes_of w (n / 256))
 
 pub length-spell : (c : CertificateView) → length (spell_certificate c) ≡ 8
 unfolding spell_certificate
@@ -47,15 +41,6 @@ kept_if false b s value r e = refl
 pub kept : (b : List ℕ) (p n : ℕ) (c : CertificateView) (r : Refusal) → n ≡ written_length c → fit_at b p n ≡ Err r → b ≡ put b p (written_certificate c)
 kept b p n c r same e =
     rw (length_written c) (kept_if (holds b p (written_length c)) b (splice b p (written_certificate c)) tt r (subst (λ (m : ℕ). fit_at b p m ≡ Err r) same e))
-
-splice_is_paste : (b : List ℕ) (p : ℕ) (s : List ℕ) → splice b p s ≡ paste b p s (length s)
-unfolding splice
-splice_is_paste b p s = sym (paste_all b p s (length s) refl)
-
--- two splices side by side; what stands before the second is all that has to be there
-splice-splice : (b : List ℕ) (p : ℕ) (x y : List ℕ) → p ≤ length b → splice (splice b p x) (p + length x) y ≡ splice b p (x ++ y)
-splice-splice b p x y h =
-    rw (splice_is_paste b p x, splice_is_paste (paste b p x (length x)) (p + length x) y, paste-paste b p x y (length x) (length y) refl refl h, splice_is_paste b p (x ++ y), length-append x y) refl
 
 pub three_pieces : (b : List ℕ) (p : ℕ) (c : CertificateView) → p ≤ length b → splice b p (written_certificate c) ≡ splice (splice (splice b p (spell_certificate c)) (p + 8) c.body) (p + 8 + length c.body) (padding c)
 three_pieces b p c h =

@@ -2,10 +2,10 @@
 use Rattle.std.proofs.Common.{◌≡◌, ℕ, ◌+◌, ◌*◌, ◌/◌, ◌%◌, ◌<◌, ◌^◌, refl, arith}
 use Rattle.pe_resource.specs.declared.entry.ResourceEntry.{ResourceEntry}
 use Rattle.pe_resource.specs.declared.version.VersionField.{VersionField}
-use Rattle.pe_resource.specs.ResourceEntries.{entry_of, number_of}
+use Rattle.pe_resource.specs.ResourceEntries.{entry_of_number, number_of}
 use Rattle.pe_resource.specs.VersionFields.{version_of_halves, high_half, low_half}
 
-pub number_back : (n : ℕ) → n < 2 ^ 64 → number_of (entry_of n) ≡ n
+pub number_back : (n : ℕ) → n < 2 ^ 64 → number_of (entry_of_number n) ≡ n
 number_back n h = omega arith
 
 high : (a b : ℕ) → b < 2 ^ 32 → (a * 2 ^ 32 + b) / 2 ^ 32 ≡ a
@@ -20,7 +20,7 @@ high16 a b h = omega arith
 low16 : (a b : ℕ) → b < 2 ^ 16 → (a * 2 ^ 16 + b) % 2 ^ 16 ≡ b
 low16 a b h = omega arith
 
-pub entry_back : (e : ResourceEntry) → e.offset_to_data_or_directory < 2 ^ 32 → entry_of (number_of e) ≡ e
+pub entry_back : (e : ResourceEntry) → e.offset_to_data_or_directory < 2 ^ 32 → entry_of_number (number_of e) ≡ e
 entry_back e h = simp (high e.name_or_id e.offset_to_data_or_directory h, low e.name_or_id e.offset_to_data_or_directory h) refl
 
 pub version_back : (v : VersionField) → v.minor < 2 ^ 16 → v.revision < 2 ^ 16 → version_of_halves (high_half v) (low_half v) ≡ v

@@ -7,8 +7,8 @@ use Rattle.pe_resource.specs.declared.entry.ResourceEntry.{ResourceEntry}
 use Rattle.pe_resource.specs.declared.directory.ResourceEntryIterator.{ResourceEntryIterator}
 
 -- the entry of a 64-bit number: the high half is the name or id, the low half the offset
-abbrev pub entry_of : ℕ → ResourceEntry
-entry_of n = record { name_or_id = n / 2 ^ 32; offset_to_data_or_directory = n % 2 ^ 32 }
+abbrev pub entry_of_number : ℕ → ResourceEntry
+entry_of_number n = record { name_or_id = n / 2 ^ 32; offset_to_data_or_directory = n % 2 ^ 32 }
 
 -- the 64-bit number of an entry
 abbrev pub number_of : ResourceEntry → ℕ
@@ -64,5 +64,5 @@ abbrev pub entries_left : ResourceEntryIterator → List ResourceEntry
 entries_left s = entries s.bytes.now
 
 -- the items that an iterator has left; none is a refusal
-abbrev pub items_left : ResourceEntryIterator → List (Result ResourceEntry Refusal)
-items_left s = map (λ e. Ok e) (entries_left s)
+abbrev pub resource_items_left : ResourceEntryIterator → List (Result ResourceEntry Refusal)
+resource_items_left s = map (λ e. Ok e) (entries_left s)

@@ -9,7 +9,7 @@ ghost use Rattle.std.specs.Iterator.SizeHint.{IsWithinCount};
 ghost use Rattle.pe_core.specs.Options.{default_options};
 ghost use Rattle.pe_core.specs.Refusals.{Returns, ReturnsAs, answer_of};
 ghost use Rattle.pe_resource.specs.Directories.{directory_of, directory_at, count, entries_at};
-ghost use Rattle.pe_resource.specs.ResourceEntries.{entries, entries_left, items_left, with_id};
+ghost use Rattle.pe_resource.specs.ResourceEntries.{entries, entries_left, resource_items_left, with_id};
 
 use crate::constants::RESOURCE_ENTRY_SIZE;
 use crate::entry::ResourceEntry;
@@ -170,9 +170,9 @@ fn first_with_id(bytes: &[u8], id: u16) -> Option<ResourceEntry>
 impl<'a> Iterator for ResourceEntryIterator<'a> {
     type Item = Result<ResourceEntry>;
 
-    ghost next_gives = { YieldsFirstBy (answer_of) items_left };
+    ghost next_gives = { YieldsFirstBy (answer_of) resource_items_left };
 
-    ghost remaining = { item_count items_left };
+    ghost remaining = { item_count resource_items_left };
 
     #[tactic(auto, using(crate::proofs::Entries::items_more, crate::proofs::Entries::items_none))]
     fn next(&mut self) -> Option<Result<ResourceEntry>> {
@@ -186,10 +186,12 @@ impl<'a> Iterator for ResourceEntryIterator<'a> {
 
     #[tactic(auto, using(crate::proofs::Entries::items_count))]
     fn size_hint(&self) -> (usize, Option<usize>)
-        ensures lower { IsWithinCount result.0 (item_count items_left self.now) }
-        ensures upper { IfSome result.1 (UpTo (item_count items_left self.now)) }
-        ensures exact { result
-            ≡ (length (items_left self.now), Some (length (items_left self.now))) }
+        ensures lower { IsWithinCount result.0 (item_count resource_items_left self.now) }
+        ensures upper { IfSome result.1 (UpTo (item_count resource_items_left self.now)) }
+        ensures exact { result ≡ (
+          length (resource_items_left self.now),
+          Some (length (resource_items_left self.now)),
+        ) }
     {
         let entries = self.len();
         (entries, Some(entries))
@@ -199,7 +201,7 @@ impl<'a> Iterator for ResourceEntryIterator<'a> {
 impl<'a> ExactSizeIterator for ResourceEntryIterator<'a> {
     #[tactic(auto, using(crate::proofs::Entries::items_count))]
     fn len(&self) -> usize
-        ensures { result ≡ length (items_left self.now) }
+        ensures { result ≡ length (resource_items_left self.now) }
     {
         self.bytes.len() / RESOURCE_ENTRY_SIZE
     }

@@ -7,7 +7,7 @@ ghost use Rattle.std.specs.Prelude.{◌≡◌, ◌≢◌, ◌+◌, ◌*◌, ◌<
 ghost use Rattle.std.specs.Fn.{FnReturnsAt};
 ghost use Rattle.pe_core.specs.Refusals.{Returns, Memory, ResourceCycle, answer_of};
 ghost use Rattle.pe_resource.specs.declared.entry.ResourceEntry.{ResourceEntry};
-ghost use Rattle.pe_resource.specs.ResourceEntries.{entry_of, number_of, entry_at, has_name, name_offset, id_of, is_directory, directory_offset, data_offset, has_id};
+ghost use Rattle.pe_resource.specs.ResourceEntries.{entry_of_number, number_of, entry_at, has_name, name_offset, id_of, is_directory, directory_offset, data_offset, has_id};
 ghost use Rattle.pe_resource.specs.ResourceWalk.{first_at, step, Walks, IsEndlessWalk, IsSteady, Found};
 
 use crate::constants::{
@@ -29,7 +29,7 @@ pub struct ResourceEntry {
 }
 
 impl From<u64> for ResourceEntry {
-    ghost from_gives = { λ n e. e ≡ entry_of n };
+    ghost from_gives = { λ n e. e ≡ entry_of_number n };
 
     /// The entry with the high half of the number as `name_or_id` and the low half as `offset_to_data_or_directory`.
     fn from(value: u64) -> ResourceEntry {

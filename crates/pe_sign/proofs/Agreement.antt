@@ -7,7 +7,7 @@ use Rattle.pe_core.specs.Bytes.{splice}
 use Rattle.pe_core.specs.Rows.{each}
 use Rattle.pe_sign.specs.Checksum.{summed_byte, summed_word, with_carry, checksum_of}
 use Rattle.pe_sign.specs.Digest.{unless, kept_bytes}
-use Rattle.pe_sign.proofs.Splices.{length-splice, get_or-splice}
+use Rattle.pe_core.proofs.Splices.{length-splice, get_or-splice}
 
 -- two files of one length have the same bytes where none is left out
 pub record Agree (is_out : ℕ → Bool) (xs ys : List ℕ) : Type 0 where

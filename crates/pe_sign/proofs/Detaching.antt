@@ -9,7 +9,7 @@ use Rattle.pe_core.specs.SectionMap.{rounded_up}
 use Rattle.pe_core.specs.declared.data_directories.DataDirectory.{DataDirectory}
 use Rattle.pe_core.specs.declared.header.Header.{Header}
 use Rattle.pe_core.proofs.PutNumbers.{le-put}
-use Rattle.pe_sign.specs.Attaching.{is_signed, unsigned_length, unsigned_file, table_start, entry_to, with_entry, with_checksum, with_fields, joined_file, attached_file, attached_of, detached_file, detached_of, with_table, before_table}
+use Rattle.pe_sign.specs.Attaching.{is_signed, unsigned_length, unsigned_file, table_start, entry_to, with_entry, with_checksum, with_both_fields, joined_file, attached_file, attached_of, detached_file, detached_of, with_table, before_table}
 use Rattle.pe_sign.specs.AttachingSteps.{Fits}
 use Rattle.pe_sign.specs.Checksum.{checksum_of}
 use Rattle.pe_sign.specs.Digest.{is_in, left_out_of}
@@ -18,7 +18,7 @@ use Rattle.pe_sign.specs.declared.attachment.Placement.TheVariants.{After, InPla
 use Rattle.pe_sign.specs.declared.digest.LeftOut.{LeftOut}
 use Rattle.pe_sign.proofs.Agreement.{Agree, agree_take, agree_splice, agree_more, in_field, splice_same, sum_same}
 use Rattle.pe_sign.proofs.Digests.{Holds, in_fields, agree_fields, front_of, holds_joined, holds_more, holds_unsigned, length-before, start_inside}
-use Rattle.pe_sign.proofs.Splices.{get_or-splice, length-splice, length-four}
+use Rattle.pe_core.proofs.Splices.{get_or-splice, length-splice, length-bytes_of}
 use Rattle.pe_sign.proofs.WrittenImages.{attached_is, detached_is}
 use Rattle.pe_sign.proofs.Writes.{length-entry}
 
@@ -30,7 +30,7 @@ small_sum b field = omega arith
 
 pub read_again : (b : List ℕ) (p n : ℕ) → p + 4 ≤ length b → n < 256 ^ 4 → le (splice b p (bytes_of 4 n)) p 4 ≡ n
 read_again b p n h small =
-    let fits : holds b p (length (bytes_of 4 n)) ≡ true = rw (length-four n) (grind (arith, nat_tests)) in
+    let fits : holds b p (length (bytes_of 4 n)) ≡ true = rw (length-bytes_of 4 n) (grind (arith, nat_tests)) in
     let same : put b p (bytes_of 4 n) ≡ splice b p (bytes_of 4 n) = rw fits refl in
     ap (λ (x : List ℕ). le x p 4) (sym same) ∙ le-put b p 4 n h small
 
@@ -40,7 +40,7 @@ field_is_sum l b h =
     let p : ℕ = l.checksum.offset in
     let n : ℕ = checksum_of b p in
     let x : List ℕ = bytes_of 4 n in
-    let agree : Agree (in_field p) (splice b p x) b = agree_splice (in_field p) b p x (omega (arith, length-four n)) (λ k i. rw (length-four n) i) in
+    let agree : Agree (in_field p) (splice b p x) b = agree_splice (in_field p) b p x (omega (arith, length-bytes_of 4 n)) (λ k i. rw (length-bytes_of 4 n) i) in
     read_again b p n h (small_sum b p) ∙ sym (sum_same p (splice b p x) b agree)
 
 -- ---- fields over files that differ in them alone
@@ -75,8 +75,8 @@ entry_same l row x y h a =
     let p : ℕ = l.directory_entry.offset in
     let s : List ℕ = bytes_of 4 row.virtual_address in
     let t : List ℕ = bytes_of 4 row.size in
-    let ss : length s ≡ 4 = length-four row.virtual_address in
-    let ts : length t ≡ 4 = length-four row.size in
+    let ss : length s ≡ 4 = length-bytes_of 4 row.virtual_address in
+    let ts : length t ≡ 4 = length-bytes_of 4 row.size in
     let first : length (splice x p s) ≡ length x = length-splice x p s (omega (arith, ss, h.entry)) in
     let rest : ℕ → Bool = λ k. is_in l.checksum k || (nat_le (p + 4) k && nat_lt k (p + 4 + 4)) in
     let half : Agree rest (splice x p s) (splice y p s) = written_both (in_fields l) rest x y p s (omega (arith, ss, h.entry)) a
@@ -90,15 +90,15 @@ checksum_same l x y e h a =
     let n : ℕ = checksum_of y p in
     let field : Agree (in_field p) x y = agree_more (is_in l.checksum) (in_field p) x y a (λ k i. rw e i) in
     ap (λ (m : ℕ). splice x p (bytes_of 4 m)) (sum_same p x y field)
-    ∙ splice_same x y p (bytes_of 4 n) (omega (arith, length-four n)) (agree_more (in_field p) (λ k. nat_le p k && nat_lt k (p + length (bytes_of 4 n))) x y field (λ k i. rw (length-four n) at i))
+    ∙ splice_same x y p (bytes_of 4 n) (omega (arith, length-bytes_of 4 n)) (agree_more (in_field p) (λ k. nat_le p k && nat_lt k (p + length (bytes_of 4 n))) x y field (λ k i. rw (length-bytes_of 4 n) at i))
 
-pub fields_same : (l : LeftOut) (row : DataDirectory) (x y : List ℕ) → Holds l (length x) → Agree (in_fields l) x y → with_fields l row x ≡ with_fields l row y
+pub fields_same : (l : LeftOut) (row : DataDirectory) (x y : List ℕ) → Holds l (length x) → Agree (in_fields l) x y → with_both_fields l row x ≡ with_both_fields l row y
 fields_same l row x y h a =
     checksum_same l (with_entry l row x) (with_entry l row y) h.checksum_size (omega (arith, length-entry l row x h.entry, h.checksum)) (entry_same l row x y h a)
 
 -- ---- what was attached is detached
 
-fields_of_table : (l : LeftOut) (start end : ℕ) (row : DataDirectory) (b : List ℕ) → with_fields (with_table l start end) row b ≡ with_fields l row b
+fields_of_table : (l : LeftOut) (start end : ℕ) (row : DataDirectory) (b : List ℕ) → with_both_fields (with_table l start end) row b ≡ with_both_fields l row b
 unfolding with_entry with_checksum
 fields_of_table l start end row b = refl
 
@@ -117,7 +117,7 @@ holds_start : (placement : Placement) (l : LeftOut) (b : List ℕ) → Fits l (l
 holds_start placement l b f = holds_more l (unsigned_length l (length b)) (table_start placement l (length b)) (holds_unsigned l (length b) f) (start_holds placement l (length b) f)
 
 pub detached_again : (placement : Placement) (l : LeftOut) (c b : List ℕ) → Fits l (length b) →
-    detached_file (with_table l (table_start placement l (length b)) (length (attached_file placement l c b))) (attached_file placement l c b) ≡ with_fields l absent_directory (before_table placement l b)
+    detached_file (with_table l (table_start placement l (length b)) (length (attached_file placement l c b))) (attached_file placement l c b) ≡ with_both_fields l absent_directory (before_table placement l b)
 detached_again placement l c b fits =
     let start : ℕ = table_start placement l (length b) in
     let j : List ℕ = joined_file placement l c b in
@@ -130,9 +130,9 @@ detached_again placement l c b fits =
     let some : is_signed (with_table l start (length f)) ≡ true = is_table start (length f) (omega (arith, holds.checksum)) in
     let cut : length (take start f) ≡ start = length-take-le start f inside in
     fields_of_table l start (length f) absent_directory (unsigned_file (with_table l start (length f)) f)
-    ∙ ap (λ (t : Bool). with_fields l absent_directory (take (if t then start else length f) f)) some
+    ∙ ap (λ (t : Bool). with_both_fields l absent_directory (take (if t then start else length f) f)) some
     ∙ fields_same l absent_directory (take start f) (take start j) (holds_more l start (length (take start f)) holds (omega (arith, cut))) (agree_take (in_fields l) f j start inside agree)
-    ∙ ap (λ (x : List ℕ). with_fields l absent_directory x) (front_of placement l c b fits)
+    ∙ ap (λ (x : List ℕ). with_both_fields l absent_directory x) (front_of placement l c b fits)
 
 -- ---- the same by the calls
 
@@ -155,7 +155,7 @@ detached_sum b h f l e i =
     subst (λ (g : List ℕ). le g l.checksum.offset 4 ≡ checksum_of g l.checksum.offset) (sym is.is_file) (field_is_sum l x (omega (arith, size, cut, is.fits.checksum)))
 
 pub detached_again_of : (placement : Placement) (b : List ℕ) (h k : Header) (c f g : List ℕ) (l : LeftOut) → left_out_of h ≡ Ok l → attached_of placement b h c ≡ Ok f →
-    left_out_of k ≡ Ok (with_table l (table_start placement l (length b)) (length f)) → detached_of f k ≡ Ok g → g ≡ with_fields l absent_directory (before_table placement l b)
+    left_out_of k ≡ Ok (with_table l (table_start placement l (length b)) (length f)) → detached_of f k ≡ Ok g → g ≡ with_both_fields l absent_directory (before_table placement l b)
 detached_again_of placement b h k c f g l e i m d =
     let s : ℕ = table_start placement l (length b) in
     let is = attached_is placement b h c f l e i in

@@ -7,17 +7,18 @@ use Rattle.pe_core.specs.Bytes.{bytes_of, splice}
 use Rattle.pe_core.specs.Directories.{absent_directory}
 use Rattle.pe_core.specs.SectionMap.{rounded_up}
 use Rattle.pe_core.specs.declared.data_directories.DataDirectory.{DataDirectory}
-use Rattle.pe_sign.specs.Attaching.{is_signed, unsigned_length, unsigned_file, padded, table_start, entry_to, with_entry, with_checksum, with_fields, joined_file, attached_file, detached_file, with_table, without_table, before_table}
+use Rattle.pe_sign.specs.Attaching.{is_signed, unsigned_length, unsigned_file, padded, table_start, entry_to, with_entry, with_checksum, with_both_fields, joined_file, attached_file, detached_file, with_table, without_table, before_table}
 use Rattle.pe_sign.specs.AttachingSteps.{Fits}
 use Rattle.pe_sign.specs.Checksum.{checksum_of}
-use Rattle.pe_sign.specs.Digest.{Covered, covered, covered_bytes, is_in, is_left_out, kept_bytes, lacking, zeros_after}
+use Rattle.pe_sign.specs.Digest.{Covered, covered, covered_bytes, is_in, is_left_out, kept_bytes, lacking_to_eight, zeros_after}
 use Rattle.pe_sign.specs.declared.attachment.Placement.{Placement}
 use Rattle.pe_sign.specs.declared.attachment.Placement.TheVariants.{After, InPlace}
 use Rattle.pe_sign.specs.declared.digest.LeftOut.{LeftOut}
 use Rattle.pe_sign.proofs.Agreement.{Agree, agree_take, agree_splice, agree_then, agree_more, kept_same, kept_by}
 use Rattle.pe_sign.proofs.Parts.{kept_append, kept_all, kept_none}
 use Rattle.pe_sign.proofs.Slices.{in_certificates}
-use Rattle.pe_sign.proofs.Splices.{length-padded, length-splice, length-four}
+use Rattle.pe_core.proofs.Splices.{length-splice, length-bytes_of}
+use Rattle.pe_sign.proofs.Splices.{length-padded}
 use Rattle.pe_sign.proofs.Writes.{length-entry, length-joined_file, kept_holds}
 
 -- the offset is in one of the header's two fields
@@ -38,7 +39,7 @@ left_out_before : (l : LeftOut) (k : ℕ) → is_in l.certificates k ≡ false �
 left_out_before l k h = ap (λ t. in_fields l k || t) h ∙ or_false (in_fields l k)
 
 covered_at : (l : LeftOut) (b : List ℕ) (u : ℕ) → u ≤ length b → ((k : ℕ) → k < u → is_in l.certificates k ≡ false) → ((k : ℕ) → u ≤ k → k < length b → is_in l.certificates k ≡ true) →
-    covered l b ≡ covered_by (kept_bytes (in_fields l) 0 (take u b)) (lacking u)
+    covered l b ≡ covered_by (kept_bytes (in_fields l) 0 (take u b)) (lacking_to_eight u)
 covered_at l b u h below above =
     let q : ℕ → Bool = is_left_out l in
     let r : ℕ → Bool = is_in l.certificates in
@@ -57,7 +58,7 @@ covered_at l b u h below above =
     let rest : kept_bytes r 0 b ≡ xs =
     ap (λ (zs : List ℕ). kept_bytes r 0 zs) (sym whole) ∙ kept_append r 0 xs ys ∙ ap (λ (zs : List ℕ). kept_bytes r 0 xs ++ zs) after_r ∙ append-nil (kept_bytes r 0 xs) ∙ before_r in
     ap (λ (c : List ℕ). covered_by c (zeros_after l b)) content
-    ∙ ap (λ (n : ℕ). covered_by (kept_bytes (in_fields l) 0 xs) (lacking n)) (ap (λ (zs : List ℕ). length zs) rest ∙ size)
+    ∙ ap (λ (n : ℕ). covered_by (kept_bytes (in_fields l) 0 xs) (lacking_to_eight n)) (ap (λ (zs : List ℕ). length zs) rest ∙ size)
 
 -- before the start of a range, in it, and nowhere in an empty one
 range_below : (start size k : ℕ) → k < start → (nat_le start k && nat_lt k (start + size)) ≡ false
@@ -84,21 +85,21 @@ above_table true l n k e ends h i = range_above l.certificates.offset l.certific
 above_table false l n k e ends h i = absurd (omega arith)
 
 -- what the digest of an image covers whose certificates are its end
-pub covered_unsigned : (l : LeftOut) (b : List ℕ) → Fits l (length b) → covered l b ≡ covered_by (kept_bytes (in_fields l) 0 (unsigned_file l b)) (lacking (unsigned_length l (length b)))
+pub covered_unsigned : (l : LeftOut) (b : List ℕ) → Fits l (length b) → covered l b ≡ covered_by (kept_bytes (in_fields l) 0 (unsigned_file l b)) (lacking_to_eight (unsigned_length l (length b)))
 covered_unsigned l b f =
     covered_at l b (unsigned_length l (length b)) f.inside (λ k h. below_table (is_signed l) l (length b) k refl h) (λ k h i. above_table (is_signed l) l (length b) k refl f.table_end h i)
 
 -- the same with a table that is named from an offset to the end
-pub covered_tabled : (l : LeftOut) (b : List ℕ) (start : ℕ) → start ≤ length b → covered (with_table l start (length b)) b ≡ covered_by (kept_bytes (in_fields l) 0 (take start b)) (lacking start)
+pub covered_tabled : (l : LeftOut) (b : List ℕ) (start : ℕ) → start ≤ length b → covered (with_table l start (length b)) b ≡ covered_by (kept_bytes (in_fields l) 0 (take start b)) (lacking_to_eight start)
 covered_tabled l b start h =
     covered_at (with_table l start (length b)) b start h (λ k i. range_below start (length b - start) k i) (λ k i j. range_above start (length b - start) k i (omega arith))
 
 -- and without one
-pub covered_bare : (l : LeftOut) (b : List ℕ) → covered (without_table l) b ≡ covered_by (kept_bytes (in_fields l) 0 b) (lacking (length b))
+pub covered_bare : (l : LeftOut) (b : List ℕ) → covered (without_table l) b ≡ covered_by (kept_bytes (in_fields l) 0 b) (lacking_to_eight (length b))
 covered_bare l b =
     let all : take (length b) b ≡ b = take_all (length b) b (omega arith) in
     covered_at (without_table l) b (length b) (omega arith) (λ k i. nowhere 0 0 k refl) (λ k i j. absurd (omega arith))
-    ∙ ap (λ (zs : List ℕ). covered_by (kept_bytes (in_fields l) 0 zs) (lacking (length b))) all
+    ∙ ap (λ (zs : List ℕ). covered_by (kept_bytes (in_fields l) 0 zs) (lacking_to_eight (length b))) all
 
 -- ---- the two fields are all that is changed
 
@@ -120,8 +121,8 @@ agree_entry l row b e h =
     let n : ℕ = l.directory_entry.length in
     let x : List ℕ = bytes_of 4 row.virtual_address in
     let y : List ℕ = bytes_of 4 row.size in
-    let xs : length x ≡ 4 = length-four row.virtual_address in
-    let ys : length y ≡ 4 = length-four row.size in
+    let xs : length x ≡ 4 = length-bytes_of 4 row.virtual_address in
+    let ys : length y ≡ 4 = length-bytes_of 4 row.size in
     let first : length (splice b p x) ≡ length b = length-splice b p x (omega (arith, xs)) in
     agree_then (is_in l.directory_entry) (splice (splice b p x) (p + 4) y) (splice b p x) b
     (agree_splice (is_in l.directory_entry) (splice b p x) (p + 4) y (omega (arith, ys, first)) (λ k i. inner_range p (p + 4) (length y) n k (omega arith) (omega (arith, ys, e)) i))
@@ -133,7 +134,7 @@ agree_checksum l b e h =
     let p : ℕ = l.checksum.offset in
     let n : ℕ = l.checksum.length in
     let x : List ℕ = bytes_of 4 (checksum_of b p) in
-    let xs : length x ≡ 4 = length-four (checksum_of b p) in
+    let xs : length x ≡ 4 = length-bytes_of 4 (checksum_of b p) in
     agree_splice (is_in l.checksum) b p x (omega (arith, xs)) (λ k i. inner_range p p (length x) n k (omega arith) (omega (arith, xs, e)) i)
 
 -- a file of n bytes or more, in which both fields are
@@ -143,18 +144,18 @@ pub record Holds (l : LeftOut) (n : ℕ) : Type 0 where
   pub checksum : l.checksum.offset + 4 ≤ n
   pub entry : l.directory_entry.offset + 8 ≤ n
 
-pub agree_fields : (l : LeftOut) (row : DataDirectory) (b : List ℕ) → Holds l (length b) → Agree (in_fields l) (with_fields l row b) b
+pub agree_fields : (l : LeftOut) (row : DataDirectory) (b : List ℕ) → Holds l (length b) → Agree (in_fields l) (with_both_fields l row b) b
 agree_fields l row b h =
     let size : length (with_entry l row b) ≡ length b = length-entry l row b h.entry in
-    agree_then (in_fields l) (with_fields l row b) (with_entry l row b) b
-    (agree_more (is_in l.checksum) (in_fields l) (with_fields l row b) (with_entry l row b) (agree_checksum l (with_entry l row b) h.checksum_size (omega (arith, size, h.checksum))) (λ k i. left_of (is_in l.checksum k) (is_in l.directory_entry k) i))
+    agree_then (in_fields l) (with_both_fields l row b) (with_entry l row b) b
+    (agree_more (is_in l.checksum) (in_fields l) (with_both_fields l row b) (with_entry l row b) (agree_checksum l (with_entry l row b) h.checksum_size (omega (arith, size, h.checksum))) (λ k i. left_of (is_in l.checksum k) (is_in l.directory_entry k) i))
     (agree_more (is_in l.directory_entry) (in_fields l) (with_entry l row b) b (agree_entry l row b h.entry_size h.entry) (λ k i. right_of (is_in l.checksum k) (is_in l.directory_entry k) i))
 
 -- ---- what is before the table
 
 take_padded : (n : ℕ) (x : List ℕ) → n ≤ length x → take n (padded x) ≡ take n x
 unfolding padded
-take_padded n x h = take-append-le n x (replicate (lacking (length x)) 0) h
+take_padded n x h = take-append-le n x (replicate (lacking_to_eight (length x)) 0) h
 
 after_front : (s : Bool) (o : ℕ) (b c : List ℕ) → (if s then o else length b) ≤ length b →
     take (if s then o else rounded_up (length b) 8) (padded (take (length b) b) ++ padded c) ≡ (if s then take (if s then o else length b) b else padded b)
@@ -207,36 +208,36 @@ past_fields l n k h e =
     ap (λ t. t || is_in l.directory_entry k) (range_past l.checksum.offset l.checksum.length k (omega (arith, h.checksum_size, h.checksum, e)))
     ∙ range_past l.directory_entry.offset l.directory_entry.length k (omega (arith, h.entry_size, h.entry, e))
 
-no_more_zeros : (n : ℕ) → lacking (rounded_up n 8) ≡ 0
+no_more_zeros : (n : ℕ) → lacking_to_eight (rounded_up n 8) ≡ 0
 no_more_zeros n = omega arith
 
 -- zeros that are in the file need not be added to its digest
-padded_digest : (l : LeftOut) (x : List ℕ) → Holds l (length x) → kept_bytes (in_fields l) 0 (padded x) ++ replicate (lacking (rounded_up (length x) 8)) 0 ≡ kept_bytes (in_fields l) 0 x ++ replicate (lacking (length x)) 0
+padded_digest : (l : LeftOut) (x : List ℕ) → Holds l (length x) → kept_bytes (in_fields l) 0 (padded x) ++ replicate (lacking_to_eight (rounded_up (length x) 8)) 0 ≡ kept_bytes (in_fields l) 0 x ++ replicate (lacking_to_eight (length x)) 0
 unfolding padded
 padded_digest l x h =
     let q : ℕ → Bool = in_fields l in
-    let zeros : List ℕ = replicate (lacking (length x)) 0 in
+    let zeros : List ℕ = replicate (lacking_to_eight (length x)) 0 in
     let last : kept_bytes q (0 + length x) zeros ≡ zeros = kept_all q (0 + length x) zeros (λ k from to. past_fields l (length x) k h (omega (arith, from))) in
     ap (λ (n : ℕ). kept_bytes q 0 (x ++ zeros) ++ replicate n 0) (no_more_zeros (length x)) ∙ append-nil (kept_bytes q 0 (x ++ zeros))
     ∙ kept_append q 0 x zeros ∙ ap (λ (zs : List ℕ). kept_bytes q 0 x ++ zs) last
 
 after_digest : (s : Bool) (l : LeftOut) (o : ℕ) (b : List ℕ) → Holds l (if s then o else length b) →
-    kept_bytes (in_fields l) 0 (if s then take (if s then o else length b) b else padded b) ++ replicate (lacking (if s then o else rounded_up (length b) 8)) 0
-    ≡ kept_bytes (in_fields l) 0 (take (if s then o else length b) b) ++ replicate (lacking (if s then o else length b)) 0
+    kept_bytes (in_fields l) 0 (if s then take (if s then o else length b) b else padded b) ++ replicate (lacking_to_eight (if s then o else rounded_up (length b) 8)) 0
+    ≡ kept_bytes (in_fields l) 0 (take (if s then o else length b) b) ++ replicate (lacking_to_eight (if s then o else length b)) 0
 after_digest true l o b h = refl
 after_digest false l o b h =
-    padded_digest l b h ∙ ap (λ (x : List ℕ). kept_bytes (in_fields l) 0 x ++ replicate (lacking (length b)) 0) (sym (take_all (length b) b (omega arith)))
+    padded_digest l b h ∙ ap (λ (x : List ℕ). kept_bytes (in_fields l) 0 x ++ replicate (lacking_to_eight (length b)) 0) (sym (take_all (length b) b (omega arith)))
 
 same_digest : (placement : Placement) (l : LeftOut) (b : List ℕ) → Fits l (length b) →
-    kept_bytes (in_fields l) 0 (before_table placement l b) ++ replicate (lacking (table_start placement l (length b))) 0
-    ≡ kept_bytes (in_fields l) 0 (unsigned_file l b) ++ replicate (lacking (unsigned_length l (length b))) 0
+    kept_bytes (in_fields l) 0 (before_table placement l b) ++ replicate (lacking_to_eight (table_start placement l (length b))) 0
+    ≡ kept_bytes (in_fields l) 0 (unsigned_file l b) ++ replicate (lacking_to_eight (unsigned_length l (length b))) 0
 same_digest After l b f = after_digest (is_signed l) l l.certificates.offset b (holds_unsigned l (length b) f)
 same_digest InPlace l b f =
     let x : List ℕ = unsigned_file l b in
     let size : length x ≡ unsigned_length l (length b) = length-take-le (unsigned_length l (length b)) b f.inside in
-    ap (λ (n : ℕ). kept_bytes (in_fields l) 0 (padded x) ++ replicate (lacking (rounded_up n 8)) 0) (sym size)
+    ap (λ (n : ℕ). kept_bytes (in_fields l) 0 (padded x) ++ replicate (lacking_to_eight (rounded_up n 8)) 0) (sym size)
     ∙ padded_digest l x (holds_more l (unsigned_length l (length b)) (length x) (holds_unsigned l (length b) f) (omega (arith, size)))
-    ∙ ap (λ (n : ℕ). kept_bytes (in_fields l) 0 x ++ replicate (lacking n) 0) size
+    ∙ ap (λ (n : ℕ). kept_bytes (in_fields l) 0 x ++ replicate (lacking_to_eight n) 0) size
 
 pub attached_digest : (placement : Placement) (l : LeftOut) (c b : List ℕ) → Fits l (length b) →
     covered_bytes (covered (with_table l (table_start placement l (length b)) (length (attached_file placement l c b))) (attached_file placement l c b)) ≡ covered_bytes (covered l b)
@@ -250,7 +251,7 @@ attached_digest placement l c b fits =
     let same : kept_bytes q 0 (take start f) ≡ kept_bytes q 0 (before_table placement l b) =
     kept_same q (take start f) (take start j) (agree_take q f j start inside agree) ∙ ap (λ (x : List ℕ). kept_bytes q 0 x) (front_of placement l c b fits) in
     ap (λ (x : Covered). covered_bytes x) (covered_tabled l f start inside)
-    ∙ ap (λ (x : List ℕ). x ++ replicate (lacking start) 0) same
+    ∙ ap (λ (x : List ℕ). x ++ replicate (lacking_to_eight start) 0) same
     ∙ same_digest placement l b fits
     ∙ ap (λ (x : Covered). covered_bytes x) (sym (covered_unsigned l b fits))
 
@@ -262,6 +263,6 @@ detached_digest l b fits =
     let size : length x ≡ unsigned_length l (length b) = length-take-le (unsigned_length l (length b)) b fits.inside in
     let agree : Agree q f x = agree_fields l absent_directory x (holds_more l (unsigned_length l (length b)) (length x) (holds_unsigned l (length b) fits) (omega (arith, size))) in
     covered_bare l f
-    ∙ ap (λ (c : List ℕ). covered_by c (lacking (length f))) (kept_same q f x agree)
-    ∙ ap (λ (n : ℕ). covered_by (kept_bytes q 0 x) (lacking n)) (agree.count ∙ size)
+    ∙ ap (λ (c : List ℕ). covered_by c (lacking_to_eight (length f))) (kept_same q f x agree)
+    ∙ ap (λ (n : ℕ). covered_by (kept_bytes q 0 x) (lacking_to_eight n)) (agree.count ∙ size)
     ∙ sym (covered_unsigned l b fits)

@@ -5,20 +5,20 @@ use Rattle.std.proofs.lemmas.Bool.Decides.{nat_tests}
 use Rattle.pe_core.specs.Bytes.{le, bytes_of, splice}
 use Rattle.pe_core.specs.Directories.{kept_rows}
 use Rattle.pe_core.specs.Header.{directories_offset}
-use Rattle.pe_core.specs.Refusals.{Refusal}
+use Rattle.pe_core.specs.Refusals.{Refusal, outcome, ◌>>=◌}
 use Rattle.pe_core.specs.declared.data_directories.DataDirectory.{DataDirectory}
 use Rattle.pe_core.specs.declared.header.Header.{Header}
 use Rattle.pe_core.specs.declared.optional_header.OptionalHeader.{OptionalHeader}
-use Rattle.pe_sign.specs.Attaching.{image_of, certificate_tests, table_start, entry_to, with_entry, with_checksum, with_fields, joined_file, attached_file, attached_of}
+use Rattle.pe_sign.specs.Attaching.{changeable_parts, attach_tests, table_start, entry_to, with_entry, with_checksum, with_both_fields, joined_file, attached_file, attached_of}
 use Rattle.pe_sign.specs.AttachingSteps.{FitsWith}
 use Rattle.pe_sign.specs.Checksum.{checksum_of}
 use Rattle.pe_sign.specs.Digest.{left_out_before, left_out_of, nothing}
-use Rattle.pe_sign.specs.SignRefusals.{SignRefusal, sign_outcome, ◌>>=◌}
+use Rattle.pe_sign.specs.SignRefusals.{SignRefusal}
 use Rattle.pe_sign.specs.declared.attachment.Placement.{Placement}
 use Rattle.pe_sign.specs.declared.digest.LeftOut.{LeftOut}
 use Rattle.pe_sign.proofs.Detaching.{read_again}
 use Rattle.pe_sign.proofs.Digests.{Holds, holds_joined, start_inside}
-use Rattle.pe_sign.proofs.Splices.{get_or-splice, length-splice, length-four}
+use Rattle.pe_core.proofs.Splices.{get_or-splice, length-splice, length-bytes_of}
 use Rattle.pe_sign.proofs.Tests.{other_value, certified_fits}
 use Rattle.pe_sign.proofs.WrittenImages.{attached_is, file_at, same_parts}
 use Rattle.pe_sign.proofs.Writes.{length-entry, length-joined_file, length-attached}
@@ -40,12 +40,12 @@ past p q k h i = grind (arith, nat_tests)
 le_before : (b : List ℕ) (p q m : ℕ) → p + 4 ≤ length b → q + 4 ≤ p → le (splice b p (bytes_of 4 m)) q 4 ≡ le b q 4
 le_before b p q m h i =
     let s : List ℕ = bytes_of 4 m in
-    le_same (splice b p s) b q 4 (λ k from to. get_or-splice b p s k (omega (arith, length-four m)) ∙ ap (λ t. cond t (get_or s (k - p) 0) (get_or b k 0)) (outside p (length s) q k from to i))
+    le_same (splice b p s) b q 4 (λ k from to. get_or-splice b p s k (omega (arith, length-bytes_of 4 m)) ∙ ap (λ t. cond t (get_or s (k - p) 0) (get_or b k 0)) (outside p (length s) q k from to i))
 
 le_after : (b : List ℕ) (p q m : ℕ) → p + 4 ≤ length b → p + 4 ≤ q → le (splice b p (bytes_of 4 m)) q 4 ≡ le b q 4
 le_after b p q m h i =
     let s : List ℕ = bytes_of 4 m in
-    le_same (splice b p s) b q 4 (λ k from to. get_or-splice b p s k (omega (arith, length-four m)) ∙ ap (λ n. cond (nat_le p k && nat_lt k (p + n)) (get_or s (k - p) 0) (get_or b k 0)) (length-four m) ∙ ap (λ t. cond t (get_or s (k - p) 0) (get_or b k 0)) (past p q k from i))
+    le_same (splice b p s) b q 4 (λ k from to. get_or-splice b p s k (omega (arith, length-bytes_of 4 m)) ∙ ap (λ n. cond (nat_le p k && nat_lt k (p + n)) (get_or s (k - p) 0) (get_or b k 0)) (length-bytes_of 4 m) ∙ ap (λ t. cond t (get_or s (k - p) 0) (get_or b k 0)) (past p q k from i))
 
 -- what an entry of these two numbers reads
 pub record Reads (b : List ℕ) (p : ℕ) (entry : DataDirectory) : Type 0 where
@@ -57,14 +57,14 @@ unfolding with_entry
 reads_entry l row b h i j =
     let p : ℕ = l.directory_entry.offset in
     let s : List ℕ = bytes_of 4 row.virtual_address in
-    let first : length (splice b p s) ≡ length b = length-splice b p s (omega (arith, length-four row.virtual_address)) in
+    let first : length (splice b p s) ≡ length b = length-splice b p s (omega (arith, length-bytes_of 4 row.virtual_address)) in
     record {
       offset = le_before (splice b p s) (p + 4) p row.size (omega (arith, first)) (omega arith) ∙ read_again b p row.virtual_address (omega arith) i;
       size = read_again (splice b p s) (p + 4) row.size (omega (arith, first)) j;
     }
 
 pub reads_fields : (l : LeftOut) (row : DataDirectory) (b : List ℕ) → Holds l (length b) → l.checksum.offset + 4 ≤ l.directory_entry.offset → row.virtual_address < 256 ^ 4 → row.size < 256 ^ 4 →
-    Reads (with_fields l row b) l.directory_entry.offset row
+    Reads (with_both_fields l row b) l.directory_entry.offset row
 unfolding with_checksum
 reads_fields l row b h apart i j =
     let x : List ℕ = with_entry l row b in
@@ -93,15 +93,15 @@ apart_before p (Some o) = λ e. entry_by (nat_lt 4 (length (kept_rows o.data_dir
 apart_of : (h : Header) (l : LeftOut) → left_out_of h ≡ Ok l → l.directory_entry.length ≡ 8 → l.checksum.offset + 4 ≤ l.directory_entry.offset
 apart_of h l e = subst (λ (r : Result LeftOut Refusal). IsApart r) e (apart_before h.dos_header.pe_pointer h.optional_header)
 
-certified_at : (placement : Placement) (b : List ℕ) (h : Header) (c f : List ℕ) (l : LeftOut) → image_of b h ≡ Ok l → attached_of placement b h c ≡ Ok f → FitsWith placement l (length b) (length c)
+certified_at : (placement : Placement) (b : List ℕ) (h : Header) (c f : List ℕ) (l : LeftOut) → changeable_parts b h ≡ Ok l → attached_of placement b h c ≡ Ok f → FitsWith placement l (length b) (length c)
 certified_at placement b h c f l e i =
-    let tests : LeftOut → List (Bool × SignRefusal) = λ k. certificate_tests placement k c (length b) in
-    let after : sign_outcome (tests l) (attached_file placement l c b) ≡ Ok f = subst (λ (x : Result LeftOut SignRefusal). (x >>= λ k. sign_outcome (tests k) (attached_file placement k c b)) ≡ Ok f) e i in
-    certified_fits placement b h c l (ap (λ (x : Result LeftOut SignRefusal). x >>= λ k. sign_outcome (tests k) k) e ∙ other_value (tests l) (attached_file placement l c b) f l after)
+    let tests : LeftOut → List (Bool × SignRefusal) = λ k. attach_tests placement k c (length b) in
+    let after : outcome (tests l) (attached_file placement l c b) ≡ Ok f = subst (λ (x : Result LeftOut SignRefusal). (x >>= λ k. outcome (tests k) (attached_file placement k c b)) ≡ Ok f) e i in
+    certified_fits placement b h c l (ap (λ (x : Result LeftOut SignRefusal). x >>= λ k. outcome (tests k) k) e ∙ other_value (tests l) (attached_file placement l c b) f l after)
 
-image_at : (placement : Placement) (b : List ℕ) (h : Header) (c f : List ℕ) (l : LeftOut) → left_out_of h ≡ Ok l → attached_of placement b h c ≡ Ok f → image_of b h ≡ Ok l
+image_at : (placement : Placement) (b : List ℕ) (h : Header) (c f : List ℕ) (l : LeftOut) → left_out_of h ≡ Ok l → attached_of placement b h c ≡ Ok f → changeable_parts b h ≡ Ok l
 image_at placement b h c f l e i =
-    let p = file_at (image_of b h) (λ k. certificate_tests placement k c (length b)) (λ k. attached_file placement k c b) f i in
+    let p = file_at (changeable_parts b h) (λ k. attach_tests placement k c (length b)) (λ k. attached_file placement k c b) f i in
     p.1.0 ∙ ap (λ (k : LeftOut). Ok k) (same_parts b h p.0 l p.1.0 e)
 
 pub attached_entry : (placement : Placement) (b : List ℕ) (h : Header) (c f : List ℕ) (l : LeftOut) → left_out_of h ≡ Ok l → attached_of placement b h c ≡ Ok f →

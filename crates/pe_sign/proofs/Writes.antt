@@ -5,13 +5,14 @@ use Rattle.pe_core.specs.Bytes.{bytes_of, splice}
 use Rattle.pe_core.specs.SectionMap.{rounded_up}
 use Rattle.pe_core.specs.declared.data_directories.DataDirectory.{DataDirectory}
 use Rattle.pe_core.specs.Directories.{absent_directory}
-use Rattle.pe_sign.specs.Attaching.{padded, with_entry, with_checksum, with_fields, unsigned_length, unsigned_file, kept_length, table_start, entry_to, joined_file, attached_file, detached_file}
+use Rattle.pe_sign.specs.Attaching.{padded, with_entry, with_checksum, with_both_fields, unsigned_length, unsigned_file, kept_length, table_start, entry_to, joined_file, attached_file, detached_file}
 use Rattle.pe_sign.specs.AttachingSteps.{Fits}
 use Rattle.pe_sign.specs.Checksum.{checksum_of}
 use Rattle.pe_sign.specs.declared.attachment.Placement.{Placement}
 use Rattle.pe_sign.specs.declared.attachment.Placement.TheVariants.{After, InPlace}
 use Rattle.pe_sign.specs.declared.digest.LeftOut.{LeftOut}
-use Rattle.pe_sign.proofs.Splices.{length-splice, splice-splice, splice_front, splice_first, length-padded, length-four}
+use Rattle.pe_core.proofs.Splices.{length-splice, splice-splice, length-bytes_of}
+use Rattle.pe_sign.proofs.Splices.{splice_front, splice_first, length-padded}
 
 -- ---- lengths
 
@@ -21,14 +22,14 @@ length-entry l row b h =
     let p : ℕ = l.directory_entry.offset in
     let x : List ℕ = bytes_of 4 row.virtual_address in
     let y : List ℕ = bytes_of 4 row.size in
-    let first : length (splice b p x) ≡ length b = length-splice b p x (omega (arith, length-four row.virtual_address)) in
-    length-splice (splice b p x) (p + 4) y (omega (arith, first, length-four row.size)) ∙ first
+    let first : length (splice b p x) ≡ length b = length-splice b p x (omega (arith, length-bytes_of 4 row.virtual_address)) in
+    length-splice (splice b p x) (p + 4) y (omega (arith, first, length-bytes_of 4 row.size)) ∙ first
 
 pub length-checksum : (l : LeftOut) (b : List ℕ) → l.checksum.offset + 4 ≤ length b → length (with_checksum l b) ≡ length b
 unfolding with_checksum
-length-checksum l b h = let n : ℕ = checksum_of b l.checksum.offset in length-splice b l.checksum.offset (bytes_of 4 n) (omega (arith, length-four n))
+length-checksum l b h = let n : ℕ = checksum_of b l.checksum.offset in length-splice b l.checksum.offset (bytes_of 4 n) (omega (arith, length-bytes_of 4 n))
 
-pub length-fields : (l : LeftOut) (row : DataDirectory) (b : List ℕ) → l.checksum.offset + 4 ≤ length b → l.directory_entry.offset + 8 ≤ length b → length (with_fields l row b) ≡ length b
+pub length-fields : (l : LeftOut) (row : DataDirectory) (b : List ℕ) → l.checksum.offset + 4 ≤ length b → l.directory_entry.offset + 8 ≤ length b → length (with_both_fields l row b) ≡ length b
 length-fields l row b h i =
     let e : length (with_entry l row b) ≡ length b = length-entry l row b i in
     length-checksum l (with_entry l row b) (omega (arith, e)) ∙ e
@@ -41,9 +42,9 @@ entry_first l row x y h =
     let p : ℕ = l.directory_entry.offset in
     let s : List ℕ = bytes_of 4 row.virtual_address in
     let t : List ℕ = bytes_of 4 row.size in
-    let first : length (splice x p s) ≡ length x = length-splice x p s (omega (arith, length-four row.virtual_address)) in
-    ap (λ (b : List ℕ). splice b (p + 4) t) (splice_first x y p s (omega (arith, length-four row.virtual_address)))
-    ∙ splice_first (splice x p s) y (p + 4) t (omega (arith, first, length-four row.size))
+    let first : length (splice x p s) ≡ length x = length-splice x p s (omega (arith, length-bytes_of 4 row.virtual_address)) in
+    ap (λ (b : List ℕ). splice b (p + 4) t) (splice_first x y p s (omega (arith, length-bytes_of 4 row.virtual_address)))
+    ∙ splice_first (splice x p s) y (p + 4) t (omega (arith, first, length-bytes_of 4 row.size))
 
 pub checksum_set : (l : LeftOut) (old now : List ℕ) (end sum : ℕ) → end ≤ length old → l.checksum.offset + 4 ≤ end →
     sum ≡ checksum_of (take end old) l.checksum.offset → now ≡ splice old l.checksum.offset (bytes_of 4 sum) → now ≡ with_checksum l (take end old) ++ drop end old
@@ -54,10 +55,10 @@ checksum_set l old now end sum h i s e =
     let front : length (take end old) ≡ end = length-take-le end old h in
     e ∙ ap (λ (k : ℕ). splice old p (bytes_of 4 k)) s
     ∙ ap (λ (b : List ℕ). splice b p (bytes_of 4 n)) (sym (take-append-drop end old))
-    ∙ splice_first (take end old) (drop end old) p (bytes_of 4 n) (omega (arith, front, length-four n))
+    ∙ splice_first (take end old) (drop end old) p (bytes_of 4 n) (omega (arith, front, length-bytes_of 4 n))
 
 pub fields_set : (l : LeftOut) (row : DataDirectory) (old between now : List ℕ) (end : ℕ) → end ≤ length old → l.directory_entry.offset + 8 ≤ end →
-    between ≡ with_entry l row old → now ≡ with_checksum l (take end between) ++ drop end between → now ≡ with_fields l row (take end old) ++ drop end old
+    between ≡ with_entry l row old → now ≡ with_checksum l (take end between) ++ drop end between → now ≡ with_both_fields l row (take end old) ++ drop end old
 fields_set l row old between now end h i e f =
     let x : List ℕ = take end old in
     let y : List ℕ = drop end old in
@@ -80,13 +81,13 @@ pub length-joined : (x y : List ℕ) → length (padded x ++ padded y) ≡ round
 length-joined x y = length-append (padded x) (padded y) ∙ ap (λ (n : ℕ). n + length (padded y)) (length-padded x) ∙ ap (λ (n : ℕ). rounded_up (length x) 8 + n) (length-padded y)
 
 pub file_set : (l : LeftOut) (row : DataDirectory) (file old between now : List ℕ) (end : ℕ) → length file ≡ end →
-    between ≡ splice old 0 file → now ≡ with_fields l row (take end between) ++ drop end between → now ≡ with_fields l row file ++ drop end old
+    between ≡ splice old 0 file → now ≡ with_both_fields l row (take end between) ++ drop end between → now ≡ with_both_fields l row file ++ drop end old
 file_set l row file old between now end size e f =
     let same : between ≡ file ++ drop (length file) old = e ∙ splice_front old file in
     let rest : List ℕ = drop (length file) old in
-    f ∙ ap (λ (b : List ℕ). with_fields l row (take end b) ++ drop end b) same
-    ∙ ap (λ (b : List ℕ). with_fields l row b ++ drop end (file ++ rest)) (take_at file rest end size)
-    ∙ ap (λ (b : List ℕ). with_fields l row file ++ b) (drop_at file rest end size ∙ ap (λ (n : ℕ). drop n old) size)
+    f ∙ ap (λ (b : List ℕ). with_both_fields l row (take end b) ++ drop end b) same
+    ∙ ap (λ (b : List ℕ). with_both_fields l row b ++ drop end (file ++ rest)) (take_at file rest end size)
+    ∙ ap (λ (b : List ℕ). with_both_fields l row file ++ b) (drop_at file rest end size ∙ ap (λ (n : ℕ). drop n old) size)
 
 -- ---- lengths of the files that are written
 

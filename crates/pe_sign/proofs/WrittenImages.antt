@@ -1,10 +1,11 @@
 -- What the calls return, by the parts of the image.
 use Rattle.std.proofs.Common.{◌≡◌, ℕ, Bool, List, length, Result, Ok, Err, refl, ap, sym, ◌∙◌, subst}
 use Rattle.pe_core.specs.declared.header.Header.{Header}
-use Rattle.pe_sign.specs.Attaching.{image_of, certificate_tests, table_start, attached_of, attached_file, detached_of, detached_file, with_table, without_table}
+use Rattle.pe_sign.specs.Attaching.{changeable_parts, attach_tests, table_start, attached_of, attached_file, detached_of, detached_file, with_table, without_table}
 use Rattle.pe_sign.specs.AttachingSteps.{Fits}
 use Rattle.pe_sign.specs.Digest.{covered, covered_bytes, left_out_of}
-use Rattle.pe_sign.specs.SignRefusals.{SignRefusal, sign_outcome, ◌>>=◌}
+use Rattle.pe_core.specs.Refusals.{outcome, ◌>>=◌}
+use Rattle.pe_sign.specs.SignRefusals.{SignRefusal}
 use Rattle.pe_sign.specs.declared.attachment.Placement.{Placement}
 use Rattle.pe_sign.specs.declared.digest.LeftOut.{LeftOut}
 use Rattle.pe_sign.proofs.Digests.{attached_digest, detached_digest}
@@ -15,11 +16,11 @@ pub record IsFile (l : LeftOut) (b f g : List ℕ) : Type 0 where
   pub fits : Fits l (length b)
   pub is_file : f ≡ g
 
-pub same_parts : (b : List ℕ) (h : Header) (k l : LeftOut) → image_of b h ≡ Ok k → left_out_of h ≡ Ok l → k ≡ l
+pub same_parts : (b : List ℕ) (h : Header) (k l : LeftOut) → changeable_parts b h ≡ Ok k → left_out_of h ≡ Ok l → k ≡ l
 same_parts b h k l e i = let j : left_out_of h ≡ Ok k = (parts_of_image b h k e).0 in cc
 
 pub file_at : (x : Result LeftOut SignRefusal) (tests : LeftOut → List (Bool × SignRefusal)) (g : LeftOut → List ℕ) (f : List ℕ) →
-    (x >>= λ k. sign_outcome (tests k) (g k)) ≡ Ok f → (k : LeftOut) × ((x ≡ Ok k) × (f ≡ g k))
+    (x >>= λ k. outcome (tests k) (g k)) ≡ Ok f → (k : LeftOut) × ((x ≡ Ok k) × (f ≡ g k))
 file_at (Err e) tests g f h = absurd cc
 file_at (Ok k) tests g f h = (k, (refl, sym (value_is (tests k) (g k) f h)))
 
@@ -29,7 +30,7 @@ bare_at (Ok k) g f h = let same : g k ≡ f = cc in (k, (refl, sym same))
 
 pub attached_is : (placement : Placement) (b : List ℕ) (h : Header) (c f : List ℕ) (l : LeftOut) → left_out_of h ≡ Ok l → attached_of placement b h c ≡ Ok f → IsFile l b f (attached_file placement l c b)
 attached_is placement b h c f l e i =
-    let p = file_at (image_of b h) (λ k. certificate_tests placement k c (length b)) (λ k. attached_file placement k c b) f i in
+    let p = file_at (changeable_parts b h) (λ k. attach_tests placement k c (length b)) (λ k. attached_file placement k c b) f i in
     let same : p.0 ≡ l = same_parts b h p.0 l p.1.0 e in
     record {
       fits = subst (λ (k : LeftOut). Fits k (length b)) same (image_fits b h p.0 p.1.0);
@@ -38,7 +39,7 @@ attached_is placement b h c f l e i =
 
 pub detached_is : (b : List ℕ) (h : Header) (f : List ℕ) (l : LeftOut) → left_out_of h ≡ Ok l → detached_of b h ≡ Ok f → IsFile l b f (detached_file l b)
 detached_is b h f l e i =
-    let p = bare_at (image_of b h) (λ k. detached_file k b) f i in
+    let p = bare_at (changeable_parts b h) (λ k. detached_file k b) f i in
     let same : p.0 ≡ l = same_parts b h p.0 l p.1.0 e in
     record {
       fits = subst (λ (k : LeftOut). Fits k (length b)) same (image_fits b h p.0 p.1.0);

@@ -6,7 +6,7 @@ use Rattle.pe_core.specs.Bytes.{le, bytes_of, splice}
 use Rattle.pe_core.specs.Directories.{absent_directory}
 use Rattle.pe_core.specs.Header.{header_view}
 use Rattle.pe_core.specs.Records.{section_table}
-use Rattle.pe_core.specs.Refusals.{CertificateSize, CertificateTable, Short, WriteFit}
+use Rattle.pe_core.specs.Refusals.{CertificateSize, CertificateTable, Short, WriteFit, outcome, ◌>>=◌}
 use Rattle.pe_core.specs.Rows.{rows}
 use Rattle.pe_core.specs.SectionMap.{rounded_up}
 use Rattle.pe_core.specs.Sections.{raw_end, sections_offset}
@@ -14,8 +14,8 @@ use Rattle.pe_core.specs.declared.data_directories.DataDirectory.{DataDirectory}
 use Rattle.pe_core.specs.declared.header.Header.{Header}
 use Rattle.pe_core.specs.declared.section_table.SectionTable.{SectionTable}
 use Rattle.pe_sign.specs.Checksum.{checksum_of}
-use Rattle.pe_sign.specs.Digest.{lacking, left_out_of, nothing}
-use Rattle.pe_sign.specs.SignRefusals.{SignRefusal, Image, NoDirectory, TableNotLast, Headers, Section, TableOffset, TooLarge, sign_kind_of, sign_outcome, of_image, ◌>>=◌}
+use Rattle.pe_sign.specs.Digest.{lacking_to_eight, left_out_of, nothing}
+use Rattle.pe_sign.specs.SignRefusals.{SignRefusal, Image, NoDirectory, TableNotLast, Headers, Section, TableOffset, TooLarge, sign_kind_of, of_image}
 use Rattle.pe_sign.specs.declared.attachment.Placement.{Placement}
 use Rattle.pe_sign.specs.declared.attachment.Placement.TheVariants.{After, InPlace}
 use Rattle.pe_sign.specs.declared.digest.LeftOut.{LeftOut}
@@ -48,18 +48,18 @@ unfoldable pub with_checksum : LeftOut → List ℕ → List ℕ
 with_checksum l b = splice b l.checksum.offset (bytes_of 4 (checksum_of b l.checksum.offset))
 
 -- the file with this entry, and with its checksum
-abbrev pub with_fields : LeftOut → DataDirectory → List ℕ → List ℕ
-with_fields l entry b = with_checksum l (with_entry l entry b)
+abbrev pub with_both_fields : LeftOut → DataDirectory → List ℕ → List ℕ
+with_both_fields l entry b = with_checksum l (with_entry l entry b)
 
 -- ---- what is written
 
 -- without certificates: the bytes before the table, an entry of zeros, and the checksum
 abbrev pub detached_file : LeftOut → List ℕ → List ℕ
-detached_file l b = with_fields l absent_directory (unsigned_file l b)
+detached_file l b = with_both_fields l absent_directory (unsigned_file l b)
 
 -- bytes, and zeros up to a multiple of eight
 unfoldable pub padded : List ℕ → List ℕ
-padded b = b ++ replicate (lacking (length b)) 0
+padded b = b ++ replicate (lacking_to_eight (length b)) 0
 
 -- how many of a file's n bytes stay: all of them, or those before the table
 abbrev pub kept_length : Placement → LeftOut → ℕ → ℕ
@@ -83,7 +83,7 @@ entry_to start end = record { virtual_address = start; size = end - start }
 abbrev pub attached_file : Placement → LeftOut → List ℕ → List ℕ → List ℕ
 attached_file placement l certificate b =
     let file = joined_file placement l certificate b in
-    with_fields l (entry_to (table_start placement l (length b)) (length file)) file
+    with_both_fields l (entry_to (table_start placement l (length b)) (length file)) file
 
 -- ---- the tests
 
@@ -103,8 +103,8 @@ sections_end_by b h n =
     list_all (data_ends_by n) (rows (section_table b) 40 (sections_offset (header_view h)) h.coff_header.number_of_sections)
 
 -- there is an entry; the table, if there is one, ends where the file ends; headers and sections end before it
-abbrev pub image_tests : List ℕ → Header → LeftOut → List (Bool × SignRefusal)
-image_tests b h l =
+abbrev pub layout_tests : List ℕ → Header → LeftOut → List (Bool × SignRefusal)
+layout_tests b h l =
     (l.directory_entry.length == 8, NoDirectory)
     ∷ (nat_le (l.certificates.offset + l.certificates.length) (length b), Image CertificateTable)
     ∷ (not (is_signed l) || nat_le (length b) (l.certificates.offset + l.certificates.length), TableNotLast)
@@ -113,8 +113,8 @@ image_tests b h l =
     ∷ []
 
 -- the parts of an image whose certificates can be changed
-abbrev pub image_of : List ℕ → Header → Result LeftOut SignRefusal
-image_of b h = of_image (left_out_of h) >>= λ l. sign_outcome (image_tests b h l) l
+abbrev pub changeable_parts : List ℕ → Header → Result LeftOut SignRefusal
+changeable_parts b h = of_image (left_out_of h) >>= λ l. outcome (layout_tests b h l) l
 
 -- a certificate that goes after others needs a table at a multiple of eight
 abbrev pub is_aligned : Placement → LeftOut → Bool
@@ -122,8 +122,8 @@ is_aligned After l = l.certificates.offset % 8 == 0
 is_aligned InPlace l = true
 
 -- the table is aligned, the certificate is as long as it says, and the file's offsets fit 32 bits
-abbrev pub certificate_tests : Placement → LeftOut → List ℕ → ℕ → List (Bool × SignRefusal)
-certificate_tests placement l certificate n =
+abbrev pub attach_tests : Placement → LeftOut → List ℕ → ℕ → List (Bool × SignRefusal)
+attach_tests placement l certificate n =
     (is_aligned placement l, TableOffset)
     ∷ (nat_le 8 (length certificate), Image Short)
     ∷ (nat_le (le certificate 0 4) (length certificate), Image CertificateSize)
@@ -134,12 +134,12 @@ certificate_tests placement l certificate n =
 
 -- the image without certificates
 abbrev pub detached_of : List ℕ → Header → Result (List ℕ) SignRefusal
-detached_of b h = image_of b h >>= λ l. Ok (detached_file l b)
+detached_of b h = changeable_parts b h >>= λ l. Ok (detached_file l b)
 
 -- the image with this certificate
 abbrev pub attached_of : Placement → List ℕ → Header → List ℕ → Result (List ℕ) SignRefusal
 attached_of placement b h certificate =
-    image_of b h >>= λ l. sign_outcome (certificate_tests placement l certificate (length b)) (attached_file placement l certificate b)
+    changeable_parts b h >>= λ l. outcome (attach_tests placement l certificate (length b)) (attached_file placement l certificate b)
 
 -- the length of a file
 abbrev pub length_of : Result (List ℕ) SignRefusal → Result ℕ SignRefusal
@@ -148,12 +148,12 @@ length_of file = file >>= λ f. Ok (length f)
 -- a file at the start of a buffer, whose other bytes stay: its length, and the buffer
 abbrev pub written : Result (List ℕ) SignRefusal → List ℕ → Result (ℕ × List ℕ) SignRefusal
 written file old =
-    file >>= λ f. sign_outcome ((nat_le (length f) (length old), Image WriteFit) ∷ []) (length f, f ++ drop (length f) old)
+    file >>= λ f. outcome ((nat_le (length f) (length old), Image WriteFit) ∷ []) (length f, f ++ drop (length f) old)
 
 -- the number returned and the bytes left are the defined ones; a refusal is the defined one, and changes nothing
-abbrev pub ReturnsWritten : Result ℕ SignError → Result (ℕ × List ℕ) SignRefusal → List ℕ → List ℕ → Type 0
-ReturnsWritten (Ok n) defined old new = defined ≡ Ok (n, new)
-ReturnsWritten (Err e) defined old new = (defined ≡ Err (sign_kind_of e)) × (new ≡ old)
+abbrev pub SignReturnsWritten : Result ℕ SignError → Result (ℕ × List ℕ) SignRefusal → List ℕ → List ℕ → Type 0
+SignReturnsWritten (Ok n) defined old new = defined ≡ Ok (n, new)
+SignReturnsWritten (Err e) defined old new = (defined ≡ Err (sign_kind_of e)) × (new ≡ old)
 
 -- ---- what was written
 

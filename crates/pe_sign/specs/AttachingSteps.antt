@@ -1,11 +1,11 @@
 -- The steps of attaching and detaching. Only private contracts cite them.
 use Rattle.std.specs.Prelude.{◌≡◌, ℕ, ◌+◌, ◌<◌, ◌≤◌, ◌==◌, ◌||◌, not, Bool, true, List, [], ◌∷◌, length, nat_le, Result}
-use Rattle.pe_core.specs.Refusals.{CertificateSize, CertificateTable, Short}
+use Rattle.pe_core.specs.Refusals.{CertificateSize, CertificateTable, Short, outcome, ◌>>=◌}
 use Rattle.pe_core.specs.Bytes.{le}
 use Rattle.pe_core.specs.SectionMap.{rounded_up}
 use Rattle.pe_core.specs.declared.header.Header.{Header}
-use Rattle.pe_sign.specs.Attaching.{is_signed, unsigned_length, kept_length, certificate_tests, image_of}
-use Rattle.pe_sign.specs.SignRefusals.{SignRefusal, Image, NoDirectory, TableNotLast, sign_outcome, ◌>>=◌}
+use Rattle.pe_sign.specs.Attaching.{is_signed, unsigned_length, kept_length, attach_tests, changeable_parts}
+use Rattle.pe_sign.specs.SignRefusals.{SignRefusal, Image, NoDirectory, TableNotLast}
 use Rattle.pe_sign.specs.declared.attachment.Placement.{Placement}
 use Rattle.pe_sign.specs.declared.digest.LeftOut.{LeftOut}
 
@@ -27,7 +27,7 @@ size_tests certificate =
 -- the parts of an image to which the certificate can be attached
 abbrev pub certified_of : Placement → List ℕ → Header → List ℕ → Result LeftOut SignRefusal
 certified_of placement b h certificate =
-    image_of b h >>= λ l. sign_outcome (certificate_tests placement l certificate (length b)) l
+    changeable_parts b h >>= λ l. outcome (attach_tests placement l certificate (length b)) l
 
 -- in a file of n bytes both fields are before the certificate table, which ends the file
 pub record Fits (l : LeftOut) (n : ℕ) : Type 0 where

@@ -63,12 +63,12 @@ abbrev pub digested : LeftOut → List ℕ → List ℕ
 digested l b = kept_bytes (is_left_out l) 0 b
 
 -- how many zeros fill up n bytes to a multiple of eight
-abbrev pub lacking : ℕ → ℕ
-lacking n = (8 - n % 8) % 8
+abbrev pub lacking_to_eight : ℕ → ℕ
+lacking_to_eight n = (8 - n % 8) % 8
 
 -- how many zeros follow them: as many as fill up the file without its certificates to a multiple of eight
 abbrev pub zeros_after : LeftOut → List ℕ → ℕ
-zeros_after l b = lacking (length (kept_bytes (is_in l.certificates) 0 b))
+zeros_after l b = lacking_to_eight (length (kept_bytes (is_in l.certificates) 0 b))
 
 -- each offset of the bytes is in the range, or none is
 abbrev pub Throughout : (ℕ → Bool) → Bool → ℕ → List ℕ → Type 0

@@ -1,5 +1,5 @@
 -- What an error of attaching and detaching is, without its numbers and its text.
-use Rattle.std.specs.Prelude.{◌≡◌, Bool, List, [], ◌∷◌, Result, Ok, Err, if◌then◌else◌}
+use Rattle.std.specs.Prelude.{◌≡◌, Result, Ok, Err}
 use Rattle.pe_core.specs.Refusals.{Refusal, kind_of}
 use Rattle.pe_sign.specs.declared.error.SignError.{SignError}
 use Rattle.pe_sign.specs.declared.error.SignError.TheVariants as errors
@@ -29,18 +29,7 @@ abbrev pub SignReturns : {X : Type 0} → Result X SignError → Result X SignRe
 SignReturns (Ok x) defined = defined ≡ Ok x
 SignReturns (Err e) defined = defined ≡ Err (sign_kind_of e)
 
--- the value if all tests pass, or the refusal of the first test that fails
-abbrev pub sign_outcome : {Y : Type 0} → List (Bool × SignRefusal) → Y → Result Y SignRefusal
-sign_outcome [] value = Ok value
-sign_outcome (test ∷ tests) value = if test.0 then sign_outcome tests value else Err test.1
-
 -- the result of a definition of pe_core
 abbrev pub of_image : {X : Type 0} → Result X Refusal → Result X SignRefusal
 of_image (Ok x) = Ok x
 of_image (Err r) = Err (Image r)
-
--- two steps in turn; a refusal of the first is the result
-infixl 10 ◌>>=◌
-abbrev pub ◌>>=◌ : {A B : Type 0} → Result A SignRefusal → (A → Result B SignRefusal) → Result B SignRefusal
-(Ok x) >>= f = f x
-(Err e) >>= f = Err e

@@ -7,16 +7,18 @@
 
 ghost use Rattle.std.specs.Prelude.{◌≡◌, ◌+◌, ◌≤◌, ◌^◌, ◌++◌, [], ◌∷◌, IfOk, length, drop, nat_lt};
 ghost use Rattle.pe_core.specs.SectionMap.{rounded_up};
-ghost use Rattle.pe_sign.specs.SignRefusals.{TooLarge, SignReturns, sign_outcome};
-ghost use Rattle.pe_sign.specs.Attaching.{kept_length, unsigned_length, table_start, attached_file, attached_of, detached_file, detached_of, length_of, written, ReturnsWritten};
+ghost use Rattle.pe_core.specs.Refusals.{outcome};
+ghost use Rattle.pe_sign.specs.SignRefusals.{TooLarge, SignReturns};
+ghost use Rattle.pe_sign.specs.Attaching.{kept_length, unsigned_length, table_start, attached_file, attached_of, detached_file, detached_of, length_of, written, SignReturnsWritten};
 ghost use Rattle.pe_sign.specs.AttachingSteps.{Fits, FitsWith, size_tests, certified_of};
 
 use crate::checks::{image, is_signed, unsigned_length};
 use crate::digest::LeftOut;
 use crate::error::SignError;
-use crate::put::{UNIT, set_fields, set_joined, set_slice};
+use crate::put::{UNIT, set_fields, set_joined};
 use pe_core::{
     DataDirectory, Error, Header, Reason, read_u32, require_bytes, require_room, rounded_up,
+    set_slice,
 };
 
 /// The size of the header of a certificate in bytes.
@@ -65,7 +67,7 @@ fn table_start(placement: Placement, left_out: &LeftOut, length: usize) -> usize
 /// The file's length after a certificate of `size` bytes is attached to `kept` bytes. `TooLarge` if it is 2^32 or more.
 fn joined_length(kept: usize, size: usize) -> Result<usize, SignError>
     ensures { SignReturns result
-        (sign_outcome ((nat_lt (rounded_up kept 8 + rounded_up size 8) 4294967296, TooLarge) ∷ [])
+        (outcome ((nat_lt (rounded_up kept 8 + rounded_up size 8) 4294967296, TooLarge) ∷ [])
         (rounded_up kept 8 + rounded_up size 8)) }
 {
     if kept >= LIMIT || size >= LIMIT {
@@ -81,7 +83,7 @@ fn joined_length(kept: usize, size: usize) -> Result<usize, SignError>
 /// Errors, in order: `Image` with `Short` if the certificate has fewer than eight bytes; `Image` with `CertificateSize`
 /// if it has fewer than its header says.
 fn require_certificate(certificate: &[u8]) -> Result<(), SignError>
-    ensures { SignReturns result (sign_outcome (size_tests certificate.now) tt) }
+    ensures { SignReturns result (outcome (size_tests certificate.now) tt) }
 {
     require_bytes(certificate, 0, SIZE_OF_CERTIFICATE_HEADER)?;
     let length = read_u32(certificate, 0);
@@ -189,7 +191,7 @@ pub fn attach(
     placement: Placement,
     out: &mut [u8],
 ) -> Result<usize, SignError>
-    ensures { ReturnsWritten result (written
+    ensures { SignReturnsWritten result (written
         (attached_of placement bytes.now header.now certificate.now) out.old) out.old out.new }
 {
     let left_out = certified(bytes, header, certificate, placement)?;
@@ -227,7 +229,7 @@ pub fn detached_len(bytes: &[u8], header: &Header<'_>) -> Result<usize, SignErro
 /// Errors, in this order, each of which leaves `out` as it was: those of `attach` up to `Section`; `Image` with
 /// `WriteFit` if the image does not fit into `out`.
 pub fn detach(bytes: &[u8], header: &Header<'_>, out: &mut [u8]) -> Result<usize, SignError>
-    ensures { ReturnsWritten result
+    ensures { SignReturnsWritten result
         (written (detached_of bytes.now header.now) out.old) out.old out.new }
 {
     let left_out = image(bytes, header)?;

@@ -5,8 +5,9 @@
 ghost use Rattle.std.specs.Prelude.{◌≡◌, ◌+◌, ◌*◌, ◌≤◌, [], ◌∷◌, IfOk, length, nat_le};
 ghost use Rattle.pe_core.specs.Header.{header_view};
 ghost use Rattle.pe_core.specs.Sections.{sections_offset};
-ghost use Rattle.pe_sign.specs.SignRefusals.{Section, SignReturns, sign_outcome};
-ghost use Rattle.pe_sign.specs.Attaching.{is_signed, unsigned_length, headers_end_by, data_ends_by, sections_end_by, image_of};
+ghost use Rattle.pe_core.specs.Refusals.{outcome};
+ghost use Rattle.pe_sign.specs.SignRefusals.{Section, SignReturns};
+ghost use Rattle.pe_sign.specs.Attaching.{is_signed, unsigned_length, headers_end_by, data_ends_by, sections_end_by, changeable_parts};
 ghost use Rattle.pe_sign.specs.AttachingSteps.{Fits, table_tests};
 
 use crate::digest::{LeftOut, SIZE_OF_ENTRY, left_out};
@@ -38,7 +39,7 @@ pub fn unsigned_length(left_out: &LeftOut, length: usize) -> usize
 /// Errors, in order: `NoDirectory`; `CertificateTable` if the certificate table passes the end of a file of this
 /// length; `TableNotLast` if it ends before that.
 fn require_table(header: &Header<'_>, left_out: &LeftOut, length: usize) -> Result<(), SignError>
-    ensures { SignReturns result (sign_outcome (table_tests left_out.now length) tt) }
+    ensures { SignReturns result (outcome (table_tests left_out.now length) tt) }
 {
     if left_out.directory_entry.length != SIZE_OF_ENTRY {
         return Err(SignError::NoDirectory(count_of_directories(header)));
@@ -102,7 +103,7 @@ fn require_sections(bytes: &[u8], header: &Header<'_>, end: usize) -> Result<(),
     requires { sections_offset (header_view header.now)
         + 40 * header.now.coff_header.number_of_sections ≤ length bytes.now }
     ensures { SignReturns result
-        (sign_outcome ((sections_end_by bytes.now header.now end, Section) ∷ []) tt) }
+        (outcome ((sections_end_by bytes.now header.now end, Section) ∷ []) tt) }
 {
     let start = header.sections_offset();
     for index in 0..header.coff_header.number_of_sections as usize {
@@ -117,7 +118,7 @@ fn require_sections(bytes: &[u8], header: &Header<'_>, end: usize) -> Result<(),
 /// The parts of the image that its digest leaves out, if its certificates can be changed. Errors, in order: `Image`
 /// with `NoOptionalHeader`; `NoDirectory`; `Image` with `CertificateTable`; `TableNotLast`; `Headers`; `Section`.
 pub fn image(bytes: &[u8], header: &Header<'_>) -> Result<LeftOut, SignError>
-    ensures parts { SignReturns result (image_of bytes.now header.now) }
+    ensures parts { SignReturns result (changeable_parts bytes.now header.now) }
     ensures fits { IfOk result (λ l. Fits l (length bytes.now)) }
 {
     let left_out = left_out(header)?;

@@ -4,7 +4,7 @@ ghost use Rattle.std.specs.Prelude.{◌≡◌, ℕ, ◌+◌, ◌-◌, List, Ok, 
 ghost use Rattle.pe_core.specs.Bytes.{le};
 ghost use Rattle.pe_core.specs.Directories.{absent_directory};
 ghost use Rattle.pe_core.specs.declared.header.Header.{Header};
-ghost use Rattle.pe_sign.specs.Attaching.{table_start, attached_of, detached_of, with_fields, with_table, without_table, before_table};
+ghost use Rattle.pe_sign.specs.Attaching.{table_start, attached_of, detached_of, with_both_fields, with_table, without_table, before_table};
 ghost use Rattle.pe_sign.specs.Checksum.{checksum_of};
 ghost use Rattle.pe_sign.specs.Digest.{left_out_of, covered, covered_bytes};
 ghost use Rattle.pe_sign.specs.declared.attachment.Placement.{Placement};
@@ -41,7 +41,8 @@ pub fn attached_certificates_are_detached()
     ensures { (placement : Placement) (b : List ℕ) (h k : Header) (certificate f g : List ℕ)
         (l : LeftOut) → left_out_of h ≡ Ok l → attached_of placement b h certificate ≡ Ok f →
         left_out_of k ≡ Ok (with_table l (table_start placement l (length b)) (length f)) →
-        detached_of f k ≡ Ok g → g ≡ with_fields l absent_directory (before_table placement l b) }
+        detached_of f k ≡ Ok g →
+        g ≡ with_both_fields l absent_directory (before_table placement l b) }
 {}
 
 /// The entry of the certificate directory, read from what `attach` writes, names the certificate table: from where it

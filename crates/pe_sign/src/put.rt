@@ -1,44 +1,17 @@
 //! Writes the parts of a file whose certificates change into the caller's buffer. Offsets count from its start. The
 //! caller has checked that everything fits.
 
-ghost use Rattle.std.specs.Prelude.{◌≡◌, ◌+◌, ◌≤◌, ◌++◌, length, take, drop, replicate};
-ghost use Rattle.pe_core.specs.Bytes.{bytes_of, splice};
+ghost use Rattle.std.specs.Prelude.{◌≡◌, ◌+◌, ◌≤◌, ◌++◌, length, take, drop};
+ghost use Rattle.pe_core.specs.Bytes.{splice};
 ghost use Rattle.pe_core.specs.SectionMap.{rounded_up};
-ghost use Rattle.pe_sign.specs.Attaching.{padded, with_entry, with_checksum, with_fields};
+ghost use Rattle.pe_sign.specs.Attaching.{padded, with_entry, with_checksum, with_both_fields};
 
 use crate::digest::LeftOut;
 use crate::image_checksum::checksum_of;
-use pe_core::{DataDirectory, rounded_up};
+use pe_core::{DataDirectory, rounded_up, set_slice, set_u32, set_zeros};
 
 /// Certificates start at a multiple of this many bytes.
 pub const UNIT: usize = 8;
-
-/// Writes a slice at an offset.
-#[tactic(auto, unfolding(pe_core::specs::Bytes::splice))]
-pub fn set_slice(out: &mut [u8], offset: usize, slice: &[u8])
-    requires { offset + length slice.now ≤ length out.old }
-    ensures { out.new ≡ splice out.old offset slice.now }
-{
-    out[offset..offset + slice.len()].copy_from_slice(slice);
-}
-
-/// Writes `n` zeros at an offset.
-#[tactic(auto, unfolding(pe_core::specs::Bytes::splice))]
-fn set_zeros(out: &mut [u8], offset: usize, n: usize)
-    requires { offset + n ≤ length out.old }
-    ensures { out.new ≡ splice out.old offset (replicate n 0) }
-{
-    out[offset..offset + n].fill(0);
-}
-
-/// Writes a number of 4 bytes at an offset.
-#[tactic(auto, unfolding(pe_core::specs::Bytes::bytes_of))]
-fn set_u32(out: &mut [u8], offset: usize, n: u32)
-    requires { offset + 4 ≤ length out.old }
-    ensures { out.new ≡ splice out.old offset (bytes_of 4 n) }
-{
-    set_slice(out, offset, &n.to_le_bytes());
-}
 
 /// Writes a slice at an offset, and zeros after it up to a multiple of eight bytes from the offset on.
 fn set_padded(out: &mut [u8], offset: usize, slice: &[u8])
@@ -88,7 +61,7 @@ pub fn set_fields(out: &mut [u8], end: usize, left_out: &LeftOut, entry: DataDir
     requires inside { end ≤ length out.old }
     requires field { left_out.now.checksum.offset + 4 ≤ end }
     requires entry { left_out.now.directory_entry.offset + 8 ≤ end }
-    ensures { out.new ≡ with_fields left_out.now entry (take end out.old) ++ drop end out.old }
+    ensures { out.new ≡ with_both_fields left_out.now entry (take end out.old) ++ drop end out.old }
 {
     set_entry(out, left_out, entry);
     set_checksum(out, end, left_out);

@@ -1,39 +1,16 @@
 -- Bytes that are the concatenation of a record's parts, from a place on, are read as that record.
-use Rattle.std.proofs.Common.{rules, ◌≡◌, ℕ, zero, suc, ◌+◌, ◌*◌, ◌/◌, ◌%◌, ◌^◌, ◌<◌, Bool, true, false, List, [], ◌∷◌, ◌++◌, length, take, drop, Option, Some, None, Ok, refl, ap, sym, ◌∙◌, subst, arith, append_assoc, length-append}
-use Rattle.std.specs.Prelude.{slice_index, if◌then◌else◌, is_some, IfSome, ◌==◌}
+use Rattle.std.proofs.Common.{rules, ◌≡◌, ℕ, ◌+◌, ◌*◌, ◌^◌, ◌<◌, Bool, true, false, List, [], ◌∷◌, ◌++◌, length, take, drop, Option, Some, None, Ok, refl, ap, sym, ◌∙◌, subst, arith, append_assoc, length-append}
+use Rattle.std.specs.Prelude.{if◌then◌else◌, is_some, IfSome, ◌==◌}
 use Rattle.std.specs.Option.{option_map}
-use Rattle.std.proofs.Math.Nat.{pow-suc}
 use Rattle.std.proofs.lemmas.List.{length-drop, length-take-le, places, same_lists, take-append-drop}
 use Rattle.std.proofs.Math.Seq.{drop-append_seam}
-use Rattle.pe_core.proofs.NumberBytes.{le-zero, le-cons}
+use Rattle.pe_core.proofs.PutNumbers.{le-after}
+use Rattle.pe_core.proofs.Splices.{length-bytes_of}
 use Rattle.pe_core.specs.Bytes.{le, bytes_of, holds, range}
 use Rattle.pe_core.specs.Refusals.{Refusal, Short, Arm64Version, outcome}
 use Rattle.pe_unwind.specs.Arm64Record.{Arm64HandlerView, Arm64InfoView, extension_size, extension_at, scope_count, code_words, handler_size, handler_at, info_with, info_tests, info_at, word_bytes, AreRecord, HasWords}
 use Rattle.pe_unwind.specs.Arm64Words.{bits, has_handler, has_extension}
 use Rattle.pe_unwind.proofs.Arm64Records.{held}
-
-length-bytes_of : (n number : ℕ) → length (bytes_of n number) ≡ n
-unfolding bytes_of
-length-bytes_of zero number = refl
-length-bytes_of (suc n) number = ap suc (length-bytes_of n (number / 256))
-
-byte_after : (front : List ℕ) (x : ℕ) (rest : List ℕ) (p : ℕ) → length front ≡ p → slice_index (front ++ x ∷ rest) p ≡ x
-byte_after front x rest p e = grind (arith, places)
-
--- the number behind what stands in front of it
-le-after : (n number : ℕ) (front rest : List ℕ) (p : ℕ) → length front ≡ p → number < 256 ^ n → le (front ++ (bytes_of n number ++ rest)) p n ≡ number
-unfolding bytes_of
-le-after zero number front rest p e small = le-zero _ p ∙ omega arith
-le-after (suc n) number front rest p e small =
-    let x = number % 256 in
-    let after = bytes_of n (number / 256) ++ rest in
-    let below : number / 256 < 256 ^ n = omega (arith, pow-suc 256 n) in
-    let moved : (front ++ x ∷ []) ++ after ≡ front ++ x ∷ after = append_assoc front (x ∷ []) after in
-    let count : length (front ++ x ∷ []) ≡ suc p = omega (arith, length-append front (x ∷ [])) in
-    let others : le ((front ++ x ∷ []) ++ after) (suc p) n ≡ number / 256 = le-after n (number / 256) (front ++ x ∷ []) rest (suc p) count below in
-    let same : le (front ++ x ∷ after) (suc p) n ≡ number / 256 = rw moved at others in
-    let first : slice_index (front ++ x ∷ after) p ≡ x = byte_after front x after p e in
-    omega (arith, le-cons (front ++ x ∷ after) p n, same, first)
 
 length_word : (t : Bool) (o : Option ℕ) → is_some o ≡ t → length (word_bytes o) ≡ (if t then 4 else 0)
 length_word true (Some w) e = length-bytes_of 4 w

@@ -15,7 +15,7 @@ use Rattle.pe_unwind.specs.declared.function_table.RuntimeFunction.{RuntimeFunct
 use Rattle.pe_unwind.specs.ExceptionTable.{ExceptionView, table_of}
 use Rattle.pe_unwind.specs.Unwinding.{Unwinds, UnwindsFound, UnwindsAt, record_at_offset, record_at_address}
 use Rattle.pe_unwind.specs.Links.{Table, IsOdd, table_count, link_entry_at, link, next, address_of, IsEndless, Follows, links_of}
-use Rattle.pe_unwind.specs.LinkSteps.{Leads}
+use Rattle.pe_unwind.specs.LinkSteps.{LinkLeads}
 
 pub next_ok : (t : Table) (u p : ℕ) → u % 2 ≡ 1 → t.offset (u - 1) ≡ Some p → t.start ≤ p → (p - t.start) % 12 ≡ 0 → (p - t.start) / 12 < table_count t → next t u ≡ Some ((function_at t.entries (p - t.start)).unwind_info_address)
 unfolding next link link_entry_at
@@ -94,7 +94,7 @@ cycles t u v h =
     endless-from_never_stops t u (never_stops (next t) (key t) (table_count t) (follows_key t) (keys_below t) u (ap is_some more))
 
 -- a refusal of one step is the refusal of the chain
-pub follows-from_leads : (t : Table) (u k v : ℕ) (e : Refusal) → after (next t) k u ≡ Some v → v % 2 ≢ 0 → Leads t v (Err e) → Follows t u (Err e)
+pub follows-from_leads : (t : Table) (u k v : ℕ) (e : Refusal) → after (next t) k u ≡ Some v → v % 2 ≢ 0 → LinkLeads t v (Err e) → Follows t u (Err e)
 follows-from_leads t u k v Unmapped is odd h = (v, (k, is), omega arith, h)
 follows-from_leads t u k v FunctionLink is odd h = (v, (k, is), omega arith, h.0, h.1, h.2)
 follows-from_leads t u k v other is odd h = absurd h

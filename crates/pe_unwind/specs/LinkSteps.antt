@@ -4,8 +4,8 @@ use Rattle.pe_core.specs.Refusals.{Refusal, Unmapped, FunctionLink}
 use Rattle.pe_unwind.specs.Links.{Table, link_entry_at, next}
 
 -- the result of following one odd RVA
-abbrev pub Leads : Table → ℕ → Result ℕ Refusal → Type 0
-Leads t u (Ok v) = next t u ≡ Some v
-Leads t u (Err Unmapped) = t.offset (u - 1) ≡ None
-Leads t u (Err FunctionLink) = (p : ℕ) × (t.offset (u - 1) ≡ Some p) × (link_entry_at t p ≡ None)
-Leads t u (Err other) = ⊥
+abbrev pub LinkLeads : Table → ℕ → Result ℕ Refusal → Type 0
+LinkLeads t u (Ok v) = next t u ≡ Some v
+LinkLeads t u (Err Unmapped) = t.offset (u - 1) ≡ None
+LinkLeads t u (Err FunctionLink) = (p : ℕ) × (t.offset (u - 1) ≡ Some p) × (link_entry_at t p ≡ None)
+LinkLeads t u (Err other) = ⊥

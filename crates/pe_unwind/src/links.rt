@@ -4,7 +4,7 @@
 
 ghost use Rattle.std.specs.Prelude.{◌≡◌, ◌%◌};
 ghost use Rattle.pe_core.specs.Refusals.{answer_of};
-ghost use Rattle.pe_unwind.specs.LinkSteps.{Leads};
+ghost use Rattle.pe_unwind.specs.LinkSteps.{LinkLeads};
 ghost use Rattle.pe_unwind.specs.Links.{table_view, Follows};
 ghost use Rattle.pe_unwind.specs.Unwinding.{FindsRecord};
 
@@ -27,7 +27,7 @@ impl<'a, 'b> Links<'a, 'b> {
     /// starts there.
     fn follow(&self, address: u32) -> Result<u32>
         requires { address % 2 ≡ 1 }
-        ensures { Leads (table_view self.now) address (answer_of result) }
+        ensures { LinkLeads (table_view self.now) address (answer_of result) }
     {
         let offset = self.sections.offset_of(address - 1)?;
         // The start is tested first, so that no difference below is negative.

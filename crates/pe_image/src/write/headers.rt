@@ -8,8 +8,8 @@ ghost use Rattle.pe_image.specs.Overlay.{all_fit};
 ghost use Rattle.pe_image.specs.Pieces.{header_pieces};
 ghost use Rattle.pe_image.specs.WritingSteps.{put_in_turn};
 
-use crate::write::records::{optional_size, set_coff, set_dos, set_optional, set_slice, set_u32};
-use pe_core::{Header, OptionalHeader, Result, require_room};
+use crate::write::records::{optional_size, set_coff, set_dos, set_optional};
+use pe_core::{Header, OptionalHeader, Result, require_room, set_slice, set_u32};
 
 /// Returns `WriteFit` if the headers don't all fit.
 #[tactic(auto, using(crate::proofs::WrittenHeaders::headers_fit))]

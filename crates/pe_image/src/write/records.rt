@@ -2,7 +2,7 @@
 //! buffer; the caller has checked that the record fits. Layouts:
 //! <https://learn.microsoft.com/windows/win32/debug/pe-format>.
 
-ghost use Rattle.std.specs.Prelude.{◌≡◌, ◌+◌, ◌*◌, ◌≤◌, ◌++◌, length, replicate};
+ghost use Rattle.std.specs.Prelude.{◌≡◌, ◌+◌, ◌*◌, ◌≤◌, ◌++◌, length};
 ghost use Rattle.std.specs.List.{flat_map};
 ghost use Rattle.pe_core.specs.Bytes.{bytes_of, splice};
 ghost use Rattle.pe_core.specs.Header.{optional_header_view};
@@ -10,62 +10,8 @@ ghost use Rattle.pe_core.specs.Spelling.{spell_coff, spell_directory, spell_dos,
 
 use pe_core::{
     CoffHeader, DataDirectory, DosHeader, MAGIC_64, OptionalHeader, SectionTable, StandardFields,
-    WindowsFields,
+    WindowsFields, set_slice, set_u8, set_u16, set_u32, set_u64,
 };
-
-/// Writes `piece` at `offset`.
-#[tactic(auto, unfolding(pe_core::specs::Bytes::splice))]
-pub fn set_slice(buffer: &mut [u8], offset: usize, piece: &[u8])
-    requires { offset + length piece.now ≤ length buffer.old }
-    ensures { buffer.new ≡ splice buffer.old offset piece.now }
-{
-    buffer[offset..offset + piece.len()].copy_from_slice(piece);
-}
-
-/// Writes `n` zeros at `offset`.
-#[tactic(auto, unfolding(pe_core::specs::Bytes::splice))]
-pub fn set_zeros(buffer: &mut [u8], offset: usize, n: usize)
-    requires { offset + n ≤ length buffer.old }
-    ensures { buffer.new ≡ splice buffer.old offset (replicate n 0) }
-{
-    buffer[offset..offset + n].fill(0);
-}
-
-/// Writes a number of 1 byte at `offset`.
-#[tactic(auto, unfolding(pe_core::specs::Bytes::bytes_of))]
-fn set_u8(buffer: &mut [u8], offset: usize, n: u8)
-    requires { offset + 1 ≤ length buffer.old }
-    ensures { buffer.new ≡ splice buffer.old offset (bytes_of 1 n) }
-{
-    set_slice(buffer, offset, &n.to_le_bytes());
-}
-
-/// Writes a number of 2 bytes at `offset`.
-#[tactic(auto, unfolding(pe_core::specs::Bytes::bytes_of))]
-fn set_u16(buffer: &mut [u8], offset: usize, n: u16)
-    requires { offset + 2 ≤ length buffer.old }
-    ensures { buffer.new ≡ splice buffer.old offset (bytes_of 2 n) }
-{
-    set_slice(buffer, offset, &n.to_le_bytes());
-}
-
-/// Writes a number of 4 bytes at `offset`.
-#[tactic(auto, unfolding(pe_core::specs::Bytes::bytes_of))]
-pub fn set_u32(buffer: &mut [u8], offset: usize, n: u32)
-    requires { offset + 4 ≤ length buffer.old }
-    ensures { buffer.new ≡ splice buffer.old offset (bytes_of 4 n) }
-{
-    set_slice(buffer, offset, &n.to_le_bytes());
-}
-
-/// Writes a number of 8 bytes at `offset`.
-#[tactic(auto, unfolding(pe_core::specs::Bytes::bytes_of))]
-fn set_u64(buffer: &mut [u8], offset: usize, n: u64)
-    requires { offset + 8 ≤ length buffer.old }
-    ensures { buffer.new ≡ splice buffer.old offset (bytes_of 8 n) }
-{
-    set_slice(buffer, offset, &n.to_le_bytes());
-}
 
 /// Writes the low 4 bytes of the number at `offset`. PE32 has 4 bytes for fields that PE32+ has 8 for.
 #[tactic(auto, unfolding(pe_core::specs::Bytes::bytes_of))]

@@ -11,8 +11,8 @@ ghost use Rattle.pe_image.specs.Writing.{ReturnsWritten, all_in_source, clash_fr
 ghost use Rattle.pe_image.specs.WritingSteps.{put_in_turn};
 
 use crate::write::overlaps::{first_clash, first_outside, raw_end};
-use crate::write::records::{set_section, set_slice, set_zeros};
-use pe_core::{Error, Reason, Result, SectionTable, require_room};
+use crate::write::records::set_section;
+use pe_core::{Error, Reason, Result, SectionTable, require_room, set_slice, set_zeros};
 
 /// The size of a section header in bytes.
 const SIZE_OF_SECTION_HEADER: usize = 40;

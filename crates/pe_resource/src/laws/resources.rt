@@ -19,7 +19,7 @@ ghost use Rattle.pe_resource.specs.declared.string.ResourceStringIterator.{Resou
 ghost use Rattle.pe_resource.specs.declared.version.VersionField.{VersionField};
 ghost use Rattle.pe_resource.specs.declared.version.VersionName.{VersionName};
 ghost use Rattle.pe_resource.specs.Contents.{IsThere, inner};
-ghost use Rattle.pe_resource.specs.ResourceEntries.{entry_of, number_of, items_left};
+ghost use Rattle.pe_resource.specs.ResourceEntries.{entry_of_number, number_of, resource_items_left};
 ghost use Rattle.pe_resource.specs.ResourceWalk.{Walks};
 ghost use Rattle.pe_resource.specs.Resources.{ResourceView, IsResource, IsResourceRange, IsManifestIn, IsVersionIn};
 ghost use Rattle.pe_resource.specs.VersionFields.{version_of_halves, high_half, low_half, whole_number, HasParts, VersionView, fixed_info_of, value_named, version_in, value_range_in};
@@ -32,9 +32,9 @@ use crate::version::VersionField;
 /// The conversions between entries and numbers are inverse to each other.
 #[tactic(auto, using(crate::proofs::Halves::number_back, crate::proofs::Halves::entry_back))]
 pub fn entries_are_numbers()
-    ensures from { (n : ℕ) → n < 2 ^ 64 → number_of (entry_of n) ≡ n }
+    ensures from { (n : ℕ) → n < 2 ^ 64 → number_of (entry_of_number n) ≡ n }
     ensures value { (e : ResourceEntry) →
-        e.offset_to_data_or_directory < 2 ^ 32 → entry_of (number_of e) ≡ e }
+        e.offset_to_data_or_directory < 2 ^ 32 → entry_of_number (number_of e) ≡ e }
 {}
 
 /// The conversions between versions and their two numbers are inverse to each other.
@@ -62,7 +62,7 @@ pub fn versions_in_order()
 pub fn entry_iterators_give_the_entries()
     ensures items { (s : ResourceEntryIterator) (xs : List (Result ResourceEntry Error)) →
         Drains ⟦<ResourceEntryIterator<'static> as Iterator>⟧.next_gives s xs →
-        map (answer_of) xs ≡ items_left s }
+        map (answer_of) xs ≡ resource_items_left s }
     ensures none { (s t u : ResourceEntryIterator) (r : Option (Result ResourceEntry Error)) →
         ⟦<ResourceEntryIterator<'static> as Iterator>⟧.next_gives s None t →
         ⟦<ResourceEntryIterator<'static> as Iterator>⟧.next_gives t r u → r ≡ None }

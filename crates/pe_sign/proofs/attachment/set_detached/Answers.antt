@@ -13,5 +13,5 @@ pub returns-clause-after : goal.returns-clause-after
 returns-clause-after c =
     let l = c.args.left_out.now in
     let b = c.args.bytes.now in
-    file_set l absent_directory (unsigned_file l b) c.args.out.now c.set_slice.new.out c.set_fields.new.out c.unsigned_length-end.result
+    file_set l absent_directory (unsigned_file l b) c.args.out.now c.set_slice.new.buffer c.set_fields.new.out c.unsigned_length-end.result
     (length-take-le _ b c.requires.fits.inside ∙ sym c.unsigned_length-end.ensures) (c.set_slice.ensures ∙ ap (λ (n : ℕ). splice c.args.out.now 0 (take n b)) c.unsigned_length-end.ensures) c.set_fields.ensures
