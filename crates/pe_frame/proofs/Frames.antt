@@ -94,7 +94,7 @@ keeps_also q (o ∷ parts) w v same keeps = (
 )
 
 -- other registers that agree are those of the same frames
-frames_also : (m : ℕ → Option ℕ) (parts : List Part) (w v : Registers) → Agrees parts w v → AreFrames m parts None w → AreFrames m parts None v
+pub frames_also : (m : ℕ → Option ℕ) (parts : List Part) (w v : Registers) → Agrees parts w v → AreFrames m parts None w → AreFrames m parts None v
 frames_also m [] w v agrees frames = absurd frames
 frames_also m (q ∷ []) w v agrees frames =
     (frames.0, frames.1, stops_also true q m w v agrees.count agrees.xmm_count agrees.stack agrees.frames.0 frames.2)

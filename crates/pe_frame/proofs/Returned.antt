@@ -1,9 +1,10 @@
 -- What is left of an epilog leads to the caller.
-use Rattle.std.specs.Prelude.{if◌then◌else◌}
-use Rattle.std.proofs.Common.{◌≡◌, ◌≢◌, ℕ, ◌+◌, ◌-◌, ◌^◌, ◌<◌, Bool, true, false, ltb, List, [], ◌∷◌, ◌++◌, length, get_or, Option, Some, None, Result, Ok, Err, refl, ap, sym, ◌∙◌, subst, arith}
+use Rattle.std.specs.Prelude.{if◌then◌else◌, IsSome}
+use Rattle.std.proofs.Common.{◌≡◌, ◌≢◌, ℕ, ◌+◌, ◌-◌, ◌%◌, ◌/◌, ◌^◌, ◌<◌, ◌≤◌, ◌⊎◌, ◌||◌, inl, inr, Bool, true, false, ltb, eqb, List, [], ◌∷◌, ◌++◌, length, get_or, Option, Some, None, Result, Ok, Err, refl, ap, sym, ◌∙◌, subst, arith}
+use Rattle.std.specs.List.{AllByRecursion}
 use Rattle.std.proofs.lemmas.Bool.{lt-ltb}
 use Rattle.std.proofs.lemmas.Bool.Decides.{nat_tests}
-use Rattle.std.proofs.lemmas.List.{get_or-set_same, length-set, set-set}
+use Rattle.std.proofs.lemmas.List.{get_or-set_other, length-set, set-get_or, set-set}
 use Rattle.pe_unwind.specs.declared.register.Register.{Register}
 use Rattle.pe_unwind.specs.declared.unwind_code.UnwindOperation.{UnwindOperation}
 use Rattle.pe_unwind.specs.declared.unwind_code.UnwindOperation.TheVariants.{PushNonVolatile, Alloc, SetFPRegister, SaveNonVolatile, SaveXMM, Epilog, SaveXMM128, PushMachineFrame, Noop}
@@ -12,15 +13,16 @@ use Rattle.pe_frame.specs.declared.epilog.Instruction.TheVariants.{Add, Lea, Pop
 use Rattle.pe_frame.specs.declared.error.FrameError.{FrameError}
 use Rattle.pe_frame.specs.declared.error.FrameError.TheVariants.{Address, Operation, NotRising}
 use Rattle.pe_frame.specs.declared.registers.Registers.{Registers}
-use Rattle.pe_frame.specs.Undoing.{◌>>=◌, Frame, pointer, put_register, put_rip, number, above, require_integer, raised, undone, undone_all, popped, is_framed, is_interrupted, ran}
+use Rattle.pe_frame.specs.Undoing.{◌>>=◌, Frame, offset_number, pointer, put_register, put_xmm, put_rip, number, above, require_integer, raised, undone, undone_all, popped, is_framed, is_interrupted, ran}
 use Rattle.pe_unwind.specs.UnwindRecord.{UnwindInfoView}
 use Rattle.pe_frame.specs.Steps.{frame_of, rising}
-use Rattle.pe_frame.specs.Machine.{Machine, top, run, IsProlog, KeepsFrame}
-use Rattle.pe_frame.specs.Frames.{Part, infos, AreFrames, IsCaller}
+use Rattle.pe_frame.specs.Machine.{Machine, top, base, run, SavesNone, MayMove, IsProlog, KeepsFrame, saves, saves_xmm, chosen}
+use Rattle.pe_frame.specs.Frames.{Part, infos, left, registers_of, SavesOrKeeps, AreFrames, restored, restored_xmm, IsCaller}
 use Rattle.pe_frame.specs.Epilogs.{moved, epilog_at, executed, executed_all, StepsFrom, StepsWithCode}
-use Rattle.pe_frame.specs.EpilogFrames.{Exits, Pops, Leads, IsEpilogOf}
-use Rattle.pe_frame.proofs.Runs.{entered, count, sinks, pointer_set, pointer_other}
-use Rattle.pe_frame.proofs.Frames.{entry_of, called}
+use Rattle.pe_frame.specs.EpilogFrames.{Exits, Pops, moves, allocated, pushes, Leads, Frees, FreesAndPops, AreRestored, IsBack, IsEpilogOfParts, AreReady}
+use Rattle.pe_frame.proofs.Runs.{count, pointer_set, pointer_other}
+use Rattle.pe_frame.proofs.Saved.{Holds, holds, known}
+use Rattle.pe_frame.proofs.Frames.{entry_of, frames_also, called}
 use Rattle.pe_frame.proofs.Tails.{then_same, then_then, then_ok, executed_append}
 use Rattle.pe_frame.proofs.Undone as undone
 
@@ -49,113 +51,6 @@ pops_undo m b (Epilog x y ∷ before) is g p = absurd p
 pops_undo m b (SaveXMM128 r o ∷ before) is g p = absurd p
 pops_undo m b (PushMachineFrame e ∷ before) is g p = absurd p
 pops_undo m b (Noop ∷ before) is g p = absurd p
-
--- the frame register leads where `lea` wants
-led : (b o d n : ℕ) → moved o d ≡ n → b + n < 2 ^ 64 → moved (b + o) d ≡ b + n
-led b o d n e small = omega arith
-
-raised_from : (b n : ℕ) (g : Registers) → length g.general ≡ 16 → b + n < 2 ^ 64 → raised n (put_register g 4 b) ≡ Ok (put_register g 4 (b + n))
-raised_from b n g len small =
-    undone.raised_at n b (put_register g 4 b) (pointer_set g.general b len) small
-    ∙ ap (λ (xs : List ℕ). Ok (record { general = xs; xmm = g.xmm; rip = g.rip })) (set-set g.general 4 b (b + n))
-
--- what `lea` runs is what the frame register and the allocation before it undo
-abbrev Runs : (ℕ → Option ℕ) → ℕ → List UnwindOperation → List Instruction → Registers → Type 0
-Runs m b codes is g = executed_all m is g ≡ (undone_all m b codes g >>= popped m)
-
-lea_alone : (m : ℕ → Option ℕ) (b d : ℕ) (f : Frame) (before : List UnwindOperation) (rest : List Instruction) (g : Registers) → get_or g.general f.register 0 ≡ b + f.offset → b < 2 ^ 64 →
-    moved f.offset d ≡ 0 → Pops before rest → Runs m b (SetFPRegister ∷ before) (Lea f.register d ∷ rest) g
-lea_alone m b d f before rest g value small e p =
-    let at : moved (get_or g.general f.register 0) d ≡ b = ap (λ (k : ℕ). moved k d) value ∙ (led b f.offset d 0 e (omega arith) ∙ omega arith) in
-    rw at (pops_undo m b before rest (put_register g 4 b) p)
-
-lea_after : (m : ℕ → Option ℕ) (b d n : ℕ) (f : Frame) (before : List UnwindOperation) (rest : List Instruction) (g : Registers) → length g.general ≡ 16 → get_or g.general f.register 0 ≡ b + f.offset → b + n < 2 ^ 64 →
-    moved f.offset d ≡ n → Pops before rest → Runs m b (SetFPRegister ∷ Alloc n ∷ before) (Lea f.register d ∷ rest) g
-lea_after m b d n f before rest g len value small e p =
-    let at : moved (get_or g.general f.register 0) d ≡ b + n = ap (λ (k : ℕ). moved k d) value ∙ led b f.offset d n e small in
-    rw at (rw (raised_from b n g len small) (pops_undo m b before rest (put_register g 4 (b + n)) p))
-
-set_value : (c : Bool) (f : Frame) (before : List UnwindOperation) (s : Machine) (b : ℕ) (g : Registers) → IsProlog c f (SetFPRegister ∷ before) s → top (run f before s) ≡ b →
-    KeepsFrame f (SetFPRegister ∷ before) (Some (top (run f before s))) (run f (SetFPRegister ∷ before) s).general g → get_or g.general f.register 0 ≡ b + f.offset
-set_value c f before s b g p at k =
-    let len = count c f before s p.1 in
-    k.2 ∙ (get_or-set_same (run f before s).general f.register (top (run f before s) + f.offset) 0 (omega (arith, p.0.0.savable.number)) ∙ ap (λ (t : ℕ). t + f.offset) at)
-
-base_fits : (c : Bool) (f : Frame) (before : List UnwindOperation) (s : Machine) (b : ℕ) → IsProlog c f before s → top (run f before s) ≡ b → b < 2 ^ 64
-base_fits c f before s b p at =
-    let low = sinks c f before s p in
-    let room = (entered c f before s p).values 4 in
-    omega arith
-
-freed_fits : (c : Bool) (f : Frame) (n : ℕ) (before : List UnwindOperation) (s : Machine) (b : ℕ) → IsProlog c f (Alloc n ∷ before) s → top (run f (Alloc n ∷ before) s) ≡ b → b + n < 2 ^ 64
-freed_fits c f n before s b p at =
-    let low = sinks c f before s p.1 in
-    let room = (entered c f before s p.1).values 4 in
-    let t = pointer_set (run f before s).general (top (run f before s) - n) (count c f before s p.1) in
-    omega (arith, p.0.1)
-
--- an epilog undoes its prolog and pops the return address
-runs : (m : ℕ → Option ℕ) (b : ℕ) (c : Bool) (f : Frame) (codes : List UnwindOperation) (s : Machine) (g : Registers) (is : List Instruction) → IsProlog c f codes s → IsEpilogOf f codes is → length g.general ≡ 16 →
-    undone.HasBase (run f codes s).frame codes (top (run f codes s)) b → KeepsFrame f codes (run f codes s).frame (run f codes s).general g → Runs m b codes is g
-runs m b c f [] s g is p e len hb k = pops_undo m b [] is g e
-runs m b c f (PushNonVolatile r ∷ before) s g is p e len hb k = pops_undo m b (PushNonVolatile r ∷ before) is g e
-runs m b c f (Alloc n ∷ before) s g is p e len hb k =
-    rw e.1 (joined (raised n g) (executed_all m e.0) (undone_all m b before) (popped m) (λ v. pops_undo m b before e.0 v e.2))
-runs m b c f (SetFPRegister ∷ []) s g is p e len hb k =
-    rw e.2 (lea_alone m b e.0 f [] e.1 g (set_value c f [] s b g p hb k) (base_fits c f [] s b p.1 hb) e.3.0 e.3.1)
-runs m b c f (SetFPRegister ∷ PushNonVolatile r ∷ before) s g is p e len hb k =
-    rw e.2 (lea_alone m b e.0 f (PushNonVolatile r ∷ before) e.1 g (set_value c f (PushNonVolatile r ∷ before) s b g p hb k) (base_fits c f (PushNonVolatile r ∷ before) s b p.1 hb) e.3.0 e.3.1)
-runs m b c f (SetFPRegister ∷ Alloc n ∷ before) s g is p e len hb k =
-    rw e.2 (lea_after m b e.0 n f before e.1 g len (set_value c f (Alloc n ∷ before) s b g p hb k) (freed_fits c f n before s b p.1 hb) e.3.0 e.3.1)
-runs m b c f (SetFPRegister ∷ SetFPRegister ∷ before) s g is p e len hb k = absurd e.3.1
-runs m b c f (SetFPRegister ∷ SaveNonVolatile r o ∷ before) s g is p e len hb k = absurd e.3.1
-runs m b c f (SetFPRegister ∷ SaveXMM r o ∷ before) s g is p e len hb k = absurd e.3.1
-runs m b c f (SetFPRegister ∷ Epilog x y ∷ before) s g is p e len hb k = absurd e.3.1
-runs m b c f (SetFPRegister ∷ SaveXMM128 r o ∷ before) s g is p e len hb k = absurd e.3.1
-runs m b c f (SetFPRegister ∷ PushMachineFrame x ∷ before) s g is p e len hb k = absurd e.3.1
-runs m b c f (SetFPRegister ∷ Noop ∷ before) s g is p e len hb k = absurd e.3.1
-runs m b c f (SaveNonVolatile r o ∷ before) s g is p e len hb k = absurd e
-runs m b c f (SaveXMM r o ∷ before) s g is p e len hb k = absurd e
-runs m b c f (Epilog x y ∷ before) s g is p e len hb k = absurd e
-runs m b c f (SaveXMM128 r o ∷ before) s g is p e len hb k = absurd e
-runs m b c f (PushMachineFrame x ∷ before) s g is p e len hb k = absurd e
-runs m b c f (Noop ∷ before) s g is p e len hb k = absurd e
-
-pops_plain : (codes : List UnwindOperation) (is : List Instruction) → Pops codes is → is_interrupted codes ≡ false
-pops_plain [] is p = refl
-pops_plain (PushNonVolatile r ∷ before) is p = pops_plain before p.0 p.2
-pops_plain (Alloc n ∷ before) is p = absurd p
-pops_plain (SetFPRegister ∷ before) is p = absurd p
-pops_plain (SaveNonVolatile r o ∷ before) is p = absurd p
-pops_plain (SaveXMM r o ∷ before) is p = absurd p
-pops_plain (Epilog x y ∷ before) is p = absurd p
-pops_plain (SaveXMM128 r o ∷ before) is p = absurd p
-pops_plain (PushMachineFrame e ∷ before) is p = absurd p
-pops_plain (Noop ∷ before) is p = absurd p
-
-leads_plain : (f : Frame) (d : ℕ) (before : List UnwindOperation) (rest : List Instruction) → Leads f d before rest → is_interrupted before ≡ false
-leads_plain f d [] rest h = refl
-leads_plain f d (Alloc n ∷ before) rest h = pops_plain before rest h.1
-leads_plain f d (PushNonVolatile r ∷ before) rest h = pops_plain (PushNonVolatile r ∷ before) rest h.1
-leads_plain f d (SetFPRegister ∷ before) rest h = absurd h.1
-leads_plain f d (SaveNonVolatile r o ∷ before) rest h = absurd h.1
-leads_plain f d (SaveXMM r o ∷ before) rest h = absurd h.1
-leads_plain f d (Epilog x y ∷ before) rest h = absurd h.1
-leads_plain f d (SaveXMM128 r o ∷ before) rest h = absurd h.1
-leads_plain f d (PushMachineFrame e ∷ before) rest h = absurd h.1
-leads_plain f d (Noop ∷ before) rest h = absurd h.1
-
-plain : (f : Frame) (codes : List UnwindOperation) (is : List Instruction) → IsEpilogOf f codes is → is_interrupted codes ≡ false
-plain f [] is e = refl
-plain f (PushNonVolatile r ∷ before) is e = pops_plain (PushNonVolatile r ∷ before) is e
-plain f (Alloc n ∷ before) is e = pops_plain before e.0 e.2
-plain f (SetFPRegister ∷ before) is e = leads_plain f e.0 before e.1 e.3
-plain f (SaveNonVolatile r o ∷ before) is e = absurd e
-plain f (SaveXMM r o ∷ before) is e = absurd e
-plain f (Epilog x y ∷ before) is e = absurd e
-plain f (SaveXMM128 r o ∷ before) is e = absurd e
-plain f (PushMachineFrame x ∷ before) is e = absurd e
-plain f (Noop ∷ before) is e = absurd e
 
 -- what a step that succeeded was
 record Went {A B : Type 0} (x : Result A FrameError) (f : A → Result B FrameError) (y : B) : Type 0 where
@@ -205,40 +100,360 @@ popped_rose m g u len e =
     let same : put_rip x.value w.value ≡ u = cc in
     record { count = ap (λ (y : Registers). length y.general) (sym same) ∙ rose.count; pointer_is = ap pointer (sym same) ∙ rose.pointer_is }
 
-all_rise : (m : ℕ → Option ℕ) (c : Bool) (f : Frame) (codes : List UnwindOperation) (s : Machine) (is : List Instruction) (g u : Registers) → IsProlog c f codes s → Pops codes is → length g.general ≡ 16 →
+-- what comes to the same registers came to them by the same way
+all_of : (m : ℕ → Option ℕ) (is js : List Instruction) (g u : Registers) → is ≡ js → executed_all m is g ≡ Ok u → executed_all m js g ≡ Ok u
+all_of m is js g u e h = ap (λ (ks : List Instruction). executed_all m ks g) (sym e) ∙ h
+
+put_same : (g : Registers) → put_register g 4 (pointer g) ≡ g
+put_same g = ap (λ (xs : List ℕ). record { general = xs; xmm = g.xmm; rip = g.rip }) (set-get_or g.general 4 0)
+
+put_put : (g : Registers) (a b : ℕ) → put_register (put_register g 4 a) 4 b ≡ put_register g 4 b
+put_put g a b = ap (λ (xs : List ℕ). record { general = xs; xmm = g.xmm; rip = g.rip }) (set-set g.general 4 a b)
+
+-- the stack pointer before the last push, by the base of the frame and the stack pointer
+abbrev trail : ℕ → ℕ → List UnwindOperation → ℕ
+trail b p (Alloc n ∷ before) = trail b (p + n) before
+trail b p (SetFPRegister ∷ before) = trail b b before
+trail b p codes = p
+
+-- undoing goes through it
+abbrev Trails : (ℕ → Option ℕ) → ℕ → List UnwindOperation → Registers → Registers → Type 0
+Trails m b codes g e = undone_all m b (pushes codes) (put_register g 4 (trail b (pointer g) codes)) ≡ Ok e
+
+trails_here : (m : ℕ → Option ℕ) (b : ℕ) (codes : List UnwindOperation) (g e : Registers) → undone_all m b codes g ≡ Ok e → undone_all m b codes (put_register g 4 (pointer g)) ≡ Ok e
+trails_here m b codes g e h = ap (λ (x : Registers). undone_all m b codes x) (put_same g) ∙ h
+
+trails_next : (m : ℕ → Option ℕ) (b : ℕ) (before : List UnwindOperation) (g v e : Registers) (p : ℕ) → put_register g 4 p ≡ v → pointer v ≡ p → Trails m b before v e →
+    undone_all m b (pushes before) (put_register g 4 (trail b p before)) ≡ Ok e
+trails_next m b before g v e p same at t =
+    let put : put_register v 4 (trail b p before) ≡ put_register g 4 (trail b p before) =
+    ap (λ (x : Registers). put_register x 4 (trail b p before)) (sym same) ∙ put_put g p (trail b p before) in
+    ap (λ (x : Registers). undone_all m b (pushes before) x) (sym put) ∙ (ap (λ (k : ℕ). undone_all m b (pushes before) (put_register v 4 (trail b k before))) (sym at) ∙ t)
+
+-- what freeing stack did
+record IsRaised (n : ℕ) (g v : Registers) : Type 0 where
+  pub same : put_register g 4 (pointer g + n) ≡ v
+  pub count : length v.general ≡ 16
+  pub pointer_is : pointer v ≡ pointer g + n
+
+raised_is : (n : ℕ) (g v : Registers) → length g.general ≡ 16 → raised n g ≡ Ok v → IsRaised n g v
+raised_is n g v len e =
+    let w = went (above (pointer g) n) (λ a. Ok (put_register g 4 a)) v e in
+    let sum : w.value ≡ pointer g + n = picked (ltb (pointer g + n) (2 ^ 64)) (pointer g + n) w.value (Address (pointer g)) w.first in
+    let put : put_register g 4 w.value ≡ v = cc in
+    let rose = raised_rose n g v len e in
+    record { same = ap (λ (k : ℕ). put_register g 4 k) (sym sum) ∙ put; count = rose.count; pointer_is = rose.pointer_is }
+
+trails : (m : ℕ → Option ℕ) (b : ℕ) (codes : List UnwindOperation) (g e : Registers) → length g.general ≡ 16 → undone_all m b codes g ≡ Ok e → Trails m b codes g e
+trails m b [] g e len h = trails_here m b [] g e h
+trails m b (Alloc n ∷ before) g e len h =
+    let w = went (raised n g) (undone_all m b before) e h in
+    let r = raised_is n g w.value len w.first in
+    trails_next m b before g w.value e (pointer g + n) r.same r.pointer_is (trails m b before w.value e r.count w.next)
+trails m b (SetFPRegister ∷ before) g e len h =
+    let v : Registers = put_register g 4 b in
+    let count : length v.general ≡ 16 = length-set g.general 4 b ∙ len in
+    trails_next m b before g v e b refl (pointer_set g.general b len) (trails m b before v e count h)
+trails m b (PushNonVolatile r ∷ before) g e len h = trails_here m b (PushNonVolatile r ∷ before) g e h
+trails m b (SaveNonVolatile r o ∷ before) g e len h = trails_here m b (SaveNonVolatile r o ∷ before) g e h
+trails m b (SaveXMM r o ∷ before) g e len h = trails_here m b (SaveXMM r o ∷ before) g e h
+trails m b (Epilog x y ∷ before) g e len h = trails_here m b (Epilog x y ∷ before) g e h
+trails m b (SaveXMM128 r o ∷ before) g e len h = trails_here m b (SaveXMM128 r o ∷ before) g e h
+trails m b (PushMachineFrame x ∷ before) g e len h = trails_here m b (PushMachineFrame x ∷ before) g e h
+trails m b (Noop ∷ before) g e len h = trails_here m b (Noop ∷ before) g e h
+
+-- with a frame register: the stack pointer is where the prolog left it, and this is the base
+abbrev IsExact : Option ℕ → ℕ → ℕ → ℕ → Type 0
+IsExact None b p t = Unit {0}
+IsExact (Some c) b p t = (p ≡ t) × (c ≡ b)
+
+exact_none : (frame : Option ℕ) (b p t : ℕ) → frame ≡ None → IsExact frame b p t
+exact_none None b p t e = tt
+exact_none (Some c) b p t e = cc
+
+exact_alloc : (frame : Option ℕ) (b p n t u : ℕ) → u ≡ t - n → n ≤ t → IsExact frame b p u → IsExact frame b (p + n) t
+exact_alloc None b p n t u e small h = tt
+exact_alloc (Some c) b p n t u e small h = (let at : p ≡ u = h.0 in omega arith, h.1)
+
+-- from there on the stack pointer moves by what was allocated
+trail_sum : (c : Bool) (f : Frame) (codes : List UnwindOperation) (s : Machine) (b p : ℕ) → IsProlog c f codes s → IsExact (run f codes s).frame b p (top (run f codes s)) → trail b p (moves codes) ≡ p + allocated (moves codes)
+trail_sum c f [] s b p q h = omega arith
+trail_sum c f (Alloc n ∷ before) s b p q h =
+    let t = top (run f before s) in
+    let set_top : top (run f (Alloc n ∷ before) s) ≡ t - n = pointer_set (run f before s).general (t - n) (count c f before s q.1) in
+    let next = trail_sum c f before s b (p + n) q.1 (exact_alloc (run f before s).frame b p n t (top (run f (Alloc n ∷ before) s)) set_top q.0.1 h) in
+    omega (arith, next)
+trail_sum c f (SetFPRegister ∷ before) s b p q h =
+    let next = trail_sum c f before s b b q.1 (exact_none (run f before s).frame b b (top (run f before s)) q.0.1) in
+    let t = pointer_other (run f before s).general f.register (top (run f before s) + f.offset) q.0.0.savable.other in
+    let at : p ≡ top (run f (SetFPRegister ∷ before) s) = h.0 in
+    let is : top (run f before s) ≡ b = h.1 in
+    omega (arith, next)
+trail_sum c f (PushNonVolatile r ∷ before) s b p q h = omega arith
+trail_sum c f (SaveNonVolatile r o ∷ before) s b p q h = trail_sum c f before s b p q.1 h
+trail_sum c f (SaveXMM r o ∷ before) s b p q h = absurd q.0
+trail_sum c f (Epilog x y ∷ before) s b p q h = trail_sum c f before s b p q.1 h
+trail_sum c f (SaveXMM128 r o ∷ before) s b p q h = trail_sum c f before s b p q.1 h
+trail_sum c f (PushMachineFrame x ∷ before) s b p q h = omega arith
+trail_sum c f (Noop ∷ before) s b p q h = trail_sum c f before s b p q.1 h
+
+-- `lea` leads there
+record IsLed (f : Frame) (d b p : ℕ) (codes : List UnwindOperation) (frame : Option ℕ) : Type 0 where
+  pub framed : IsSome frame
+  pub offset : ℕ
+  pub wants : moved f.offset d ≡ offset
+  pub is : trail b p codes ≡ b + offset
+
+led_by : (c : Bool) (f : Frame) (codes : List UnwindOperation) (s : Machine) (d b p : ℕ) → IsProlog c f codes s → Leads f d (moves codes) → IsLed f d b p (moves codes) (run f codes s).frame
+led_by c f [] s d b p q h = absurd h
+led_by c f (Alloc n ∷ before) s d b p q h =
+    let next = led_by c f before s d b (p + n) q.1 h in
+    record { framed = next.framed; offset = next.offset; wants = next.wants; is = next.is }
+led_by c f (SetFPRegister ∷ before) s d b p q h =
+    record {
+      framed = refl;
+      offset = allocated (moves before);
+      wants = h;
+      is = trail_sum c f before s b b q.1 (exact_none (run f before s).frame b b (top (run f before s)) q.0.1);
+    }
+led_by c f (PushNonVolatile r ∷ before) s d b p q h = absurd h
+led_by c f (SaveNonVolatile r o ∷ before) s d b p q h = led_by c f before s d b p q.1 h
+led_by c f (SaveXMM r o ∷ before) s d b p q h = absurd h
+led_by c f (Epilog x y ∷ before) s d b p q h = led_by c f before s d b p q.1 h
+led_by c f (SaveXMM128 r o ∷ before) s d b p q h = led_by c f before s d b p q.1 h
+led_by c f (PushMachineFrame x ∷ before) s d b p q h = absurd h
+led_by c f (Noop ∷ before) s d b p q h = led_by c f before s d b p q.1 h
+
+-- the frame register leads where `lea` wants
+led : (b o d n : ℕ) → moved o d ≡ n → b + n < 2 ^ 64 → moved (b + o) d ≡ b + n
+led b o d n e small = omega arith
+
+-- writing the stack pointer changes no register that was saved
+restored_moved : (c : Bool) (f : Frame) (codes : List UnwindOperation) (s : Machine) (g : Registers) (x : ℕ) → IsProlog c f codes s → AreRestored codes s g → AreRestored codes s (put_register g 4 x)
+restored_moved c f [] s g x p h = tt
+restored_moved c f (PushNonVolatile r ∷ before) s g x p h = restored_moved c f before s g x p.1 h
+restored_moved c f (Alloc n ∷ before) s g x p h = restored_moved c f before s g x p.1 h
+restored_moved c f (SetFPRegister ∷ before) s g x p h = restored_moved c f before s g x p.1 h
+restored_moved c f (SaveNonVolatile r o ∷ before) s g x p h = (get_or-set_other g.general 4 r.0 x 0 p.0.0.other ∙ h.0, restored_moved c f before s g x p.1 h.1)
+restored_moved c f (SaveXMM r o ∷ before) s g x p h = absurd p.0
+restored_moved c f (Epilog a b ∷ before) s g x p h = restored_moved c f before s g x p.1 h
+restored_moved c f (SaveXMM128 r o ∷ before) s g x p h = (h.0, restored_moved c f before s g x p.1 h.1)
+restored_moved c f (PushMachineFrame e ∷ before) s g x p h = restored_moved c f before s g x p.1 h
+restored_moved c f (Noop ∷ before) s g x p h = restored_moved c f before s g x p.1 h
+
+-- without saves an epilog undoes all
+without_saves : (m : ℕ → Option ℕ) (b : ℕ) (codes : List UnwindOperation) (g : Registers) → SavesNone codes → undone_all m b codes g ≡ undone_all m b (moves codes) g
+without_saves m b [] g h = refl
+without_saves m b (PushNonVolatile r ∷ before) g h = then_same (undone m b (PushNonVolatile r) g) (undone_all m b before) (undone_all m b (moves before)) (λ v. without_saves m b before v h)
+without_saves m b (Alloc n ∷ before) g h = then_same (undone m b (Alloc n) g) (undone_all m b before) (undone_all m b (moves before)) (λ v. without_saves m b before v h)
+without_saves m b (SetFPRegister ∷ before) g h = without_saves m b before (put_register g 4 b) h
+without_saves m b (SaveNonVolatile r o ∷ before) g h = absurd h
+without_saves m b (SaveXMM r o ∷ before) g h = refl
+without_saves m b (Epilog x y ∷ before) g h = without_saves m b before g h
+without_saves m b (SaveXMM128 r o ∷ before) g h = absurd h
+without_saves m b (PushMachineFrame e ∷ before) g h = then_same (undone m b (PushMachineFrame e) g) (undone_all m b before) (undone_all m b (moves before)) (λ v. without_saves m b before v h)
+without_saves m b (Noop ∷ before) g h = without_saves m b before g h
+
+-- up to the last push no frame register was set
+frame_none : (c : Bool) (f : Frame) (codes : List UnwindOperation) (s : Machine) (is : List Instruction) → IsProlog c f codes s → Pops (moves codes) is → (run f codes s).frame ≡ None
+frame_none c f [] s is p q = p.frame
+frame_none c f (PushNonVolatile r ∷ before) s is p q = frame_none c f before s q.0 p.1 q.2
+frame_none c f (Alloc n ∷ before) s is p q = absurd q
+frame_none c f (SetFPRegister ∷ before) s is p q = absurd q
+frame_none c f (SaveNonVolatile r o ∷ before) s is p q = frame_none c f before s is p.1 q
+frame_none c f (SaveXMM r o ∷ before) s is p q = absurd q
+frame_none c f (Epilog x y ∷ before) s is p q = frame_none c f before s is p.1 q
+frame_none c f (SaveXMM128 r o ∷ before) s is p q = frame_none c f before s is p.1 q
+frame_none c f (PushMachineFrame e ∷ before) s is p q = absurd q
+frame_none c f (Noop ∷ before) s is p q = frame_none c f before s is p.1 q
+
+-- a step that changes nothing can be left out
+stays_then : (m : ℕ → Option ℕ) (b : ℕ) (o : UnwindOperation) (before : List UnwindOperation) (g v e : Registers) → undone m b o g ≡ Ok v → v ≡ g → undone_all m b (o ∷ before) g ≡ Ok e → undone_all m b before g ≡ Ok e
+stays_then m b o before g v e step same h =
+    let stays : undone m b o g ≡ Ok g = step ∙ ap Ok same in
+    ap (λ (x : Result Registers FrameError). x >>= undone_all m b before) (sym stays) ∙ h
+
+-- where saved registers are restored, undoing their saves changes nothing
+unsaved : (m : ℕ → Option ℕ) (b : ℕ) (c : Bool) (f : Frame) (codes : List UnwindOperation) (s : Machine) (g e : Registers) (is : List Instruction) → IsProlog c f codes s → Holds (λ a v. m a ≡ Some v) c f codes s →
+    undone.HasBase (run f codes s).frame codes (top (run f codes s)) b → AreRestored codes s g → Pops (pushes (moves codes)) is → length g.general ≡ 16 → undone_all m b codes g ≡ Ok e → undone_all m b (moves codes) g ≡ Ok e
+unsaved m b c f [] s g e is p k hb r q len h = h
+unsaved m b c f (PushNonVolatile i ∷ before) s g e is p k hb r q len h =
+    let none = frame_none c f before s q.0 p.1 q.2 in
+    let may : SavesNone before = subst (λ (x : Option ℕ). MayMove x before) none p.0.2 in
+    sym (then_same (undone m b (PushNonVolatile i) g) (undone_all m b before) (undone_all m b (moves before)) (λ v. without_saves m b before v may)) ∙ h
+unsaved m b c f (Alloc n ∷ before) s g e is p k hb r q len h =
+    let w = went (raised n g) (undone_all m b before) e h in
+    let a = raised_is n g w.value len w.first in
+    let still : AreRestored before s w.value = subst (λ (x : Registers). AreRestored before s x) a.same (restored_moved c f before s g (pointer g + n) p.1 r) in
+    let hb_next = undone.base_moved (run f before s).frame (Alloc n ∷ before) before (top (run f (Alloc n ∷ before) s)) (top (run f before s)) b p.0.0 hb in
+    let rest = unsaved m b c f before s w.value e is p.1 k hb_next still q a.count w.next in
+    ap (λ (x : Result Registers FrameError). x >>= undone_all m b (moves before)) w.first ∙ rest
+unsaved m b c f (SetFPRegister ∷ before) s g e is p k hb r q len h =
+    let hb_next = undone.base_none (run f before s).frame before (top (run f before s)) b p.0.1 (inr hb) in
+    unsaved m b c f before s (put_register g 4 b) e is p.1 k hb_next (restored_moved c f before s g b p.1 r) q (length-set g.general 4 b ∙ len) h
+unsaved m b c f (SaveNonVolatile i o ∷ before) s g e is p k hb r q len h =
+    let t = top (run f before s) in
+    let v = get_or s.general i.0 0 in
+    let is_base : base (run f before s) ≡ b = undone.base_saved (run f before s).frame i o before t b hb in
+    let word : m (b + offset_number o) ≡ Some v = ap (λ (x : ℕ). m (x + offset_number o)) (sym is_base) ∙ k.0 in
+    let step = undone.load_ok m b i o g v p.0.0.number word (omega (arith, p.0.2)) in
+    let same : put_register g i.0 v ≡ g =
+    ap (λ (x : ℕ). put_register g i.0 x) (sym r.0) ∙ ap (λ (xs : List ℕ). record { general = xs; xmm = g.xmm; rip = g.rip }) (set-get_or g.general i.0 0) in
+    let hb_next = undone.base_saved_rest (run f before s).frame i o before t b hb in
+    unsaved m b c f before s g e is p.1 k.1 hb_next r.1 q len (stays_then m b (SaveNonVolatile i o) before g (put_register g i.0 v) e step same h)
+unsaved m b c f (SaveXMM i o ∷ before) s g e is p k hb r q len h = absurd p.0
+unsaved m b c f (Epilog x y ∷ before) s g e is p k hb r q len h =
+    unsaved m b c f before s g e is p.1 k (undone.base_weaker (run f before s).frame (Epilog x y ∷ before) before (top (run f before s)) b (λ z. z) hb) r q len h
+unsaved m b c f (SaveXMM128 i o ∷ before) s g e is p k hb r q len h =
+    let t = top (run f before s) in
+    let v = get_or s.xmm (i.0 - 17) 0 in
+    let is_base : base (run f before s) ≡ b = undone.base_xmm (run f before s).frame i o before t b hb in
+    let low : m (b + offset_number o) ≡ Some (v % 2 ^ 64) = ap (λ (x : ℕ). m (x + offset_number o)) (sym is_base) ∙ k.0 in
+    let high : m (b + offset_number o + 8) ≡ Some (v / 2 ^ 64) = ap (λ (x : ℕ). m (x + offset_number o + 8)) (sym is_base) ∙ k.1.0 in
+    let step = undone.load_xmm m b i o g v p.0.0.least p.0.0.most low high (omega (arith, p.0.1)) in
+    let same : put_xmm g (i.0 - 17) v ≡ g =
+    ap (λ (x : ℕ). put_xmm g (i.0 - 17) x) (sym r.0) ∙ ap (λ (xs : List ℕ). record { general = g.general; xmm = xs; rip = g.rip }) (set-get_or g.xmm (i.0 - 17) 0) in
+    let hb_next = undone.base_wide_rest (run f before s).frame i o before t b hb in
+    unsaved m b c f before s g e is p.1 k.1.1 hb_next r.1 q len (stays_then m b (SaveXMM128 i o) before g (put_xmm g (i.0 - 17) v) e step same h)
+unsaved m b c f (PushMachineFrame x ∷ before) s g e is p k hb r q len h = absurd q
+unsaved m b c f (Noop ∷ before) s g e is p k hb r q len h =
+    unsaved m b c f before s g e is p.1 k (undone.base_weaker (run f before s).frame (Noop ∷ before) before (top (run f before s)) b (λ z. z) hb) r q len h
+
+-- the frame register has its value from the prolog
+value_of : (c : Bool) (f : Frame) (codes : List UnwindOperation) (s : Machine) (b : ℕ) (g : Registers) (frame : Option ℕ) → IsProlog c f codes s → (run f codes s).frame ≡ frame → IsSome frame →
+    undone.HasBase frame codes (top (run f codes s)) b → KeepsFrame f codes frame (run f codes s).general g → get_or g.general f.register 0 ≡ b + f.offset
+value_of c f codes s b g None p e some hb k = cc
+value_of c f codes s b g (Some x) p e some hb k =
+    let i = undone.is_set c f codes s x p e in
+    k.2 ∙ (i.value ∙ ap (λ (y : ℕ). y + f.offset) hb)
+
+exact_of : (frame : Option ℕ) (codes : List UnwindOperation) (t b p : ℕ) → undone.HasBase frame codes t b → (IsSome frame → p ≡ t) → IsExact frame b p t
+exact_of None codes t b p hb back = tt
+exact_of (Some c) codes t b p hb back = (back refl, hb)
+
+-- no list of pops starts with `lea`
+abbrev HasNoLea : List Instruction → Type 0
+HasNoLea (Lea r d ∷ is) = ⊥
+HasNoLea is = Unit {0}
+
+exit_no_lea : (i : Instruction) → Exits i → HasNoLea (i ∷ [])
+exit_no_lea (Return n) h = tt
+exit_no_lea (Jump a) h = tt
+exit_no_lea JumpByMemory h = tt
+exit_no_lea (Add n) h = absurd h
+exit_no_lea (Lea r d) h = absurd h
+exit_no_lea (Pop r) h = absurd h
+
+pops_no_lea : (codes : List UnwindOperation) (is : List Instruction) → Pops codes is → HasNoLea is
+pops_no_lea [] is p = subst HasNoLea (sym p.2) (exit_no_lea p.0 p.1)
+pops_no_lea (PushNonVolatile r ∷ before) is p = subst HasNoLea (sym p.1) tt
+pops_no_lea (Alloc n ∷ before) is p = absurd p
+pops_no_lea (SetFPRegister ∷ before) is p = absurd p
+pops_no_lea (SaveNonVolatile r o ∷ before) is p = absurd p
+pops_no_lea (SaveXMM r o ∷ before) is p = absurd p
+pops_no_lea (Epilog x y ∷ before) is p = absurd p
+pops_no_lea (SaveXMM128 r o ∷ before) is p = absurd p
+pops_no_lea (PushMachineFrame e ∷ before) is p = absurd p
+pops_no_lea (Noop ∷ before) is p = absurd p
+
+back_of : (is : List Instruction) (left : Machine) (g : Registers) → HasNoLea is → IsBack is left g → IsSome left.frame → pointer g ≡ top left
+back_of [] left g none h = h
+back_of (Lea r d ∷ is) left g none h = absurd none
+back_of (Add n ∷ is) left g none h = h
+back_of (Pop r ∷ is) left g none h = h
+back_of (Return n ∷ is) left g none h = h
+back_of (Jump a ∷ is) left g none h = h
+back_of (JumpByMemory ∷ is) left g none h = h
+
+-- pops of an epilog pop no stack pointer
+abbrev Spares : List UnwindOperation → Type 0
+Spares [] = Unit {0}
+Spares (PushNonVolatile r ∷ before) = (r.0 ≢ 4) × Spares before
+Spares (other ∷ before) = Spares before
+
+spares_moves : (c : Bool) (f : Frame) (codes : List UnwindOperation) (s : Machine) → IsProlog c f codes s → Spares (moves codes)
+spares_moves c f [] s p = tt
+spares_moves c f (PushNonVolatile r ∷ before) s p = (p.0.0.other, spares_moves c f before s p.1)
+spares_moves c f (Alloc n ∷ before) s p = spares_moves c f before s p.1
+spares_moves c f (SetFPRegister ∷ before) s p = spares_moves c f before s p.1
+spares_moves c f (SaveNonVolatile r o ∷ before) s p = spares_moves c f before s p.1
+spares_moves c f (SaveXMM r o ∷ before) s p = absurd p.0
+spares_moves c f (Epilog x y ∷ before) s p = spares_moves c f before s p.1
+spares_moves c f (SaveXMM128 r o ∷ before) s p = spares_moves c f before s p.1
+spares_moves c f (PushMachineFrame e ∷ before) s p = spares_moves c f before s p.1
+spares_moves c f (Noop ∷ before) s p = spares_moves c f before s p.1
+
+spares_pushes : (codes : List UnwindOperation) → Spares codes → Spares (pushes codes)
+spares_pushes [] h = h
+spares_pushes (PushNonVolatile r ∷ before) h = h
+spares_pushes (Alloc n ∷ before) h = spares_pushes before h
+spares_pushes (SetFPRegister ∷ before) h = spares_pushes before h
+spares_pushes (SaveNonVolatile r o ∷ before) h = h
+spares_pushes (SaveXMM r o ∷ before) h = h
+spares_pushes (Epilog x y ∷ before) h = h
+spares_pushes (SaveXMM128 r o ∷ before) h = h
+spares_pushes (PushMachineFrame e ∷ before) h = h
+spares_pushes (Noop ∷ before) h = h
+
+-- no interrupt entered the function
+plain_moves : (codes : List UnwindOperation) (is : List Instruction) → Pops (moves codes) is → is_interrupted codes ≡ false
+plain_moves [] is p = refl
+plain_moves (PushNonVolatile r ∷ before) is p = plain_moves before p.0 p.2
+plain_moves (Alloc n ∷ before) is p = absurd p
+plain_moves (SetFPRegister ∷ before) is p = absurd p
+plain_moves (SaveNonVolatile r o ∷ before) is p = plain_moves before is p
+plain_moves (SaveXMM r o ∷ before) is p = absurd p
+plain_moves (Epilog x y ∷ before) is p = plain_moves before is p
+plain_moves (SaveXMM128 r o ∷ before) is p = plain_moves before is p
+plain_moves (PushMachineFrame e ∷ before) is p = absurd p
+plain_moves (Noop ∷ before) is p = plain_moves before is p
+
+plain : (codes : List UnwindOperation) (is : List Instruction) → Pops (pushes (moves codes)) is → is_interrupted codes ≡ false
+plain [] is p = refl
+plain (PushNonVolatile r ∷ before) is p = plain_moves before p.0 p.2
+plain (Alloc n ∷ before) is p = plain before is p
+plain (SetFPRegister ∷ before) is p = plain before is p
+plain (SaveNonVolatile r o ∷ before) is p = plain before is p
+plain (SaveXMM r o ∷ before) is p = absurd p
+plain (Epilog x y ∷ before) is p = plain before is p
+plain (SaveXMM128 r o ∷ before) is p = plain before is p
+plain (PushMachineFrame e ∷ before) is p = absurd p
+plain (Noop ∷ before) is p = plain before is p
+
+all_rise : (m : ℕ → Option ℕ) (codes : List UnwindOperation) (is : List Instruction) (g u : Registers) → Spares codes → Pops codes is → length g.general ≡ 16 →
     executed_all m is g ≡ Ok u → pointer g < pointer u
-all_rise m c f [] s is g u p q len e =
+all_rise m [] is g u p q len e =
     let rose = popped_rose m g u len (sym (pops_undo m 0 [] is g q) ∙ e) in
     omega (arith, rose.pointer_is)
-all_rise m c f (PushNonVolatile r ∷ before) s is g u p q len e =
+all_rise m (PushNonVolatile r ∷ before) is g u p q len e =
     let w = went (executed m (Pop r.0) g) (executed_all m q.0) u (ap (λ (js : List Instruction). executed_all m js g) (sym q.1) ∙ e) in
-    let rose = push_rose m 0 r g w.value p.0.0.other len w.first in
-    let rest = all_rise m c f before s q.0 w.value u p.1 q.2 rose.count w.next in
+    let rose = push_rose m 0 r g w.value p.0 len w.first in
+    let rest = all_rise m before q.0 w.value u p.1 q.2 rose.count w.next in
     omega (arith, rose.pointer_is)
-all_rise m c f (Alloc n ∷ before) s is g u p q len e = absurd q
-all_rise m c f (SetFPRegister ∷ before) s is g u p q len e = absurd q
-all_rise m c f (SaveNonVolatile r o ∷ before) s is g u p q len e = absurd q
-all_rise m c f (SaveXMM r o ∷ before) s is g u p q len e = absurd q
-all_rise m c f (Epilog x y ∷ before) s is g u p q len e = absurd q
-all_rise m c f (SaveXMM128 r o ∷ before) s is g u p q len e = absurd q
-all_rise m c f (PushMachineFrame x ∷ before) s is g u p q len e = absurd q
-all_rise m c f (Noop ∷ before) s is g u p q len e = absurd q
+all_rise m (Alloc n ∷ before) is g u p q len e = absurd q
+all_rise m (SetFPRegister ∷ before) is g u p q len e = absurd q
+all_rise m (SaveNonVolatile r o ∷ before) is g u p q len e = absurd q
+all_rise m (SaveXMM r o ∷ before) is g u p q len e = absurd q
+all_rise m (Epilog x y ∷ before) is g u p q len e = absurd q
+all_rise m (SaveXMM128 r o ∷ before) is g u p q len e = absurd q
+all_rise m (PushMachineFrame x ∷ before) is g u p q len e = absurd q
+all_rise m (Noop ∷ before) is g u p q len e = absurd q
 
 none_append : (before rest : List Instruction) (i : Instruction) → [] ≡ before ++ (i ∷ rest) → ⊥
 none_append [] rest i e = cc
 none_append (j ∷ before) rest i e = cc
 
 -- once the first instruction has run, the stack pointer is below that of the caller wherever the others have come to
-rises : (m : ℕ → Option ℕ) (c : Bool) (f : Frame) (codes : List UnwindOperation) (s : Machine) (is before rest : List Instruction) (i : Instruction) (g h u : Registers) → IsProlog c f codes s → Pops codes is →
+rises : (m : ℕ → Option ℕ) (codes : List UnwindOperation) (is before rest : List Instruction) (i : Instruction) (g h u : Registers) → Spares codes → Pops codes is →
     is ≡ before ++ (i ∷ rest) → length g.general ≡ 16 → executed_all m before g ≡ Ok h → executed_all m is g ≡ Ok u → pointer h < pointer u
-rises m c f codes s is [] rest i g h u p q at len ran all =
+rises m codes is [] rest i g h u p q at len ran all =
     let same : g ≡ h = cc in
-    subst (λ (x : Registers). pointer x < pointer u) same (all_rise m c f codes s is g u p q len all)
-rises m c f [] s is (j ∷ before) rest i g h u p q at len ran all =
+    subst (λ (x : Registers). pointer x < pointer u) same (all_rise m codes is g u p q len all)
+rises m [] is (j ∷ before) rest i g h u p q at len ran all =
     let both : q.0 ∷ [] ≡ j ∷ (before ++ (i ∷ rest)) = sym q.2 ∙ at in
     let none : [] ≡ before ++ (i ∷ rest) = cc in
     absurd (none_append before rest i none)
-rises m c f (PushNonVolatile r ∷ codes) s is (j ∷ before) rest i g h u p q at len ran all =
+rises m (PushNonVolatile r ∷ codes) is (j ∷ before) rest i g h u p q at len ran all =
     let both : Pop r.0 ∷ q.0 ≡ j ∷ (before ++ (i ∷ rest)) = sym q.1 ∙ at in
     let head : Pop r.0 ≡ j = cc in
     let others : q.0 ≡ before ++ (i ∷ rest) = cc in
@@ -246,65 +461,28 @@ rises m c f (PushNonVolatile r ∷ codes) s is (j ∷ before) rest i g h u p q a
     let x = went (executed m (Pop r.0) g) (executed_all m q.0) u (ap (λ (js : List Instruction). executed_all m js g) (sym q.1) ∙ all) in
     let oks : Ok w.value ≡ Ok x.value = sym w.first ∙ (ap (λ (k : Instruction). executed m k g) (sym head) ∙ x.first) in
     let same : w.value ≡ x.value = cc in
-    let rose = push_rose m 0 r g x.value p.0.0.other len x.first in
-    rises m c f codes s q.0 before rest i x.value h u p.1 q.2 others rose.count (subst (λ (y : Registers). executed_all m before y ≡ Ok h) same w.next) x.next
-rises m c f (Alloc n ∷ codes) s is (j ∷ before) rest i g h u p q at len ran all = absurd q
-rises m c f (SetFPRegister ∷ codes) s is (j ∷ before) rest i g h u p q at len ran all = absurd q
-rises m c f (SaveNonVolatile r o ∷ codes) s is (j ∷ before) rest i g h u p q at len ran all = absurd q
-rises m c f (SaveXMM r o ∷ codes) s is (j ∷ before) rest i g h u p q at len ran all = absurd q
-rises m c f (Epilog x y ∷ codes) s is (j ∷ before) rest i g h u p q at len ran all = absurd q
-rises m c f (SaveXMM128 r o ∷ codes) s is (j ∷ before) rest i g h u p q at len ran all = absurd q
-rises m c f (PushMachineFrame e ∷ codes) s is (j ∷ before) rest i g h u p q at len ran all = absurd q
-rises m c f (Noop ∷ codes) s is (j ∷ before) rest i g h u p q at len ran all = absurd q
+    let rose = push_rose m 0 r g x.value p.0 len x.first in
+    rises m codes q.0 before rest i x.value h u p.1 q.2 others rose.count (subst (λ (y : Registers). executed_all m before y ≡ Ok h) same w.next) x.next
+rises m (Alloc n ∷ codes) is (j ∷ before) rest i g h u p q at len ran all = absurd q
+rises m (SetFPRegister ∷ codes) is (j ∷ before) rest i g h u p q at len ran all = absurd q
+rises m (SaveNonVolatile r o ∷ codes) is (j ∷ before) rest i g h u p q at len ran all = absurd q
+rises m (SaveXMM r o ∷ codes) is (j ∷ before) rest i g h u p q at len ran all = absurd q
+rises m (Epilog x y ∷ codes) is (j ∷ before) rest i g h u p q at len ran all = absurd q
+rises m (SaveXMM128 r o ∷ codes) is (j ∷ before) rest i g h u p q at len ran all = absurd q
+rises m (PushMachineFrame e ∷ codes) is (j ∷ before) rest i g h u p q at len ran all = absurd q
+rises m (Noop ∷ codes) is (j ∷ before) rest i g h u p q at len ran all = absurd q
 
 -- the same where an instruction has freed the stack
-trimmed : (m : ℕ → Option ℕ) (c : Bool) (f : Frame) (codes : List UnwindOperation) (s : Machine) (t j : Instruction) (is before rest : List Instruction) (i : Instruction) (g h u : Registers) → IsProlog c f codes s → Pops codes is →
+trimmed : (m : ℕ → Option ℕ) (codes : List UnwindOperation) (t j : Instruction) (is before rest : List Instruction) (i : Instruction) (g h u : Registers) → Spares codes → Pops codes is →
     t ∷ is ≡ j ∷ (before ++ (i ∷ rest)) → ((v : Registers) → executed m t g ≡ Ok v → length v.general ≡ 16) → executed_all m (j ∷ before) g ≡ Ok h → executed_all m (t ∷ is) g ≡ Ok u → pointer h < pointer u
-trimmed m c f codes s t j is before rest i g h u p q both len ran all =
+trimmed m codes t j is before rest i g h u p q both len ran all =
     let head : t ≡ j = cc in
     let others : is ≡ before ++ (i ∷ rest) = cc in
     let w = went (executed m j g) (executed_all m before) h ran in
     let x = went (executed m t g) (executed_all m is) u all in
     let oks : Ok w.value ≡ Ok x.value = sym w.first ∙ (ap (λ (k : Instruction). executed m k g) (sym head) ∙ x.first) in
     let same : w.value ≡ x.value = cc in
-    rises m c f codes s is before rest i x.value h u p q others (len x.value x.first) (subst (λ (y : Registers). executed_all m before y ≡ Ok h) same w.next) x.next
-
-lea_count : (m : ℕ → Option ℕ) (r d : ℕ) (g v : Registers) → length g.general ≡ 16 → executed m (Lea r d) g ≡ Ok v → length v.general ≡ 16
-lea_count m r d g v len e =
-    let same : put_register g 4 (moved (get_or g.general r 0) d) ≡ v = cc in
-    ap (λ (x : Registers). length x.general) (sym same) ∙ (length-set g.general 4 (moved (get_or g.general r 0) d) ∙ len)
-
-all_of : (m : ℕ → Option ℕ) (is js : List Instruction) (g u : Registers) → is ≡ js → executed_all m is g ≡ Ok u → executed_all m js g ≡ Ok u
-all_of m is js g u e h = ap (λ (ks : List Instruction). executed_all m ks g) (sym e) ∙ h
-
-sinks_below : (m : ℕ → Option ℕ) (c : Bool) (f : Frame) (codes : List UnwindOperation) (s : Machine) (is before rest : List Instruction) (i : Instruction) (g h u : Registers) → IsProlog c f codes s → IsEpilogOf f codes is →
-    is ≡ before ++ (i ∷ rest) → length g.general ≡ 16 → executed_all m before g ≡ Ok h → executed_all m is g ≡ Ok u → pointer g < pointer u → pointer h < pointer u
-sinks_below m c f codes s is [] rest i g h u p e at len ran all low =
-    let same : g ≡ h = cc in
-    subst (λ (x : Registers). pointer x < pointer u) same low
-sinks_below m c f [] s is (j ∷ before) rest i g h u p e at len ran all low = rises m c f [] s is (j ∷ before) rest i g h u p e at len ran all
-sinks_below m c f (PushNonVolatile r ∷ codes) s is (j ∷ before) rest i g h u p e at len ran all low = rises m c f (PushNonVolatile r ∷ codes) s is (j ∷ before) rest i g h u p e at len ran all
-sinks_below m c f (Alloc n ∷ codes) s is (j ∷ before) rest i g h u p e at len ran all low =
-    trimmed m c f codes s (Add n) j e.0 before rest i g h u p.1 e.2 (sym e.1 ∙ at) (λ v x. (raised_rose n g v len x).count) ran (all_of m is (Add n ∷ e.0) g u e.1 all)
-sinks_below m c f (SetFPRegister ∷ []) s is (j ∷ before) rest i g h u p e at len ran all low =
-    trimmed m c f [] s (Lea f.register e.0) j e.1 before rest i g h u p.1 e.3.1 (sym e.2 ∙ at) (λ v x. lea_count m f.register e.0 g v len x) ran (all_of m is (Lea f.register e.0 ∷ e.1) g u e.2 all)
-sinks_below m c f (SetFPRegister ∷ PushNonVolatile r ∷ codes) s is (j ∷ before) rest i g h u p e at len ran all low =
-    trimmed m c f (PushNonVolatile r ∷ codes) s (Lea f.register e.0) j e.1 before rest i g h u p.1 e.3.1 (sym e.2 ∙ at) (λ v x. lea_count m f.register e.0 g v len x) ran (all_of m is (Lea f.register e.0 ∷ e.1) g u e.2 all)
-sinks_below m c f (SetFPRegister ∷ Alloc n ∷ codes) s is (j ∷ before) rest i g h u p e at len ran all low =
-    trimmed m c f codes s (Lea f.register e.0) j e.1 before rest i g h u p.1.1 e.3.1 (sym e.2 ∙ at) (λ v x. lea_count m f.register e.0 g v len x) ran (all_of m is (Lea f.register e.0 ∷ e.1) g u e.2 all)
-sinks_below m c f (SetFPRegister ∷ SetFPRegister ∷ codes) s is (j ∷ before) rest i g h u p e at len ran all low = absurd e.3.1
-sinks_below m c f (SetFPRegister ∷ SaveNonVolatile r o ∷ codes) s is (j ∷ before) rest i g h u p e at len ran all low = absurd e.3.1
-sinks_below m c f (SetFPRegister ∷ SaveXMM r o ∷ codes) s is (j ∷ before) rest i g h u p e at len ran all low = absurd e.3.1
-sinks_below m c f (SetFPRegister ∷ Epilog x y ∷ codes) s is (j ∷ before) rest i g h u p e at len ran all low = absurd e.3.1
-sinks_below m c f (SetFPRegister ∷ SaveXMM128 r o ∷ codes) s is (j ∷ before) rest i g h u p e at len ran all low = absurd e.3.1
-sinks_below m c f (SetFPRegister ∷ PushMachineFrame x ∷ codes) s is (j ∷ before) rest i g h u p e at len ran all low = absurd e.3.1
-sinks_below m c f (SetFPRegister ∷ Noop ∷ codes) s is (j ∷ before) rest i g h u p e at len ran all low = absurd e.3.1
-sinks_below m c f (SaveNonVolatile r o ∷ codes) s is (j ∷ before) rest i g h u p e at len ran all low = absurd e
-sinks_below m c f (SaveXMM r o ∷ codes) s is (j ∷ before) rest i g h u p e at len ran all low = absurd e
-sinks_below m c f (Epilog x y ∷ codes) s is (j ∷ before) rest i g h u p e at len ran all low = absurd e
-sinks_below m c f (SaveXMM128 r o ∷ codes) s is (j ∷ before) rest i g h u p e at len ran all low = absurd e
-sinks_below m c f (PushMachineFrame x ∷ codes) s is (j ∷ before) rest i g h u p e at len ran all low = absurd e
-sinks_below m c f (Noop ∷ codes) s is (j ∷ before) rest i g h u p e at len ran all low = absurd e
+    rises m codes is before rest i x.value h u p q others (len x.value x.first) (subst (λ (y : Registers). executed_all m before y ≡ Ok h) same w.next) x.next
 
 record Rose (p : ℕ) (w u : Registers) : Type 0 where
   pub same : w ≡ u
@@ -338,16 +516,93 @@ entry_same (Ok u) b v e =
     ap (λ (x : Registers × Bool). Ok x.0) pair
 entry_same (Err d) b v e = cc
 
-pub caller_of_rest : (m : ℕ → Option ℕ) (p : Part) (before rest : List Instruction) (i : Instruction) (start rva : ℕ) (code : List ℕ) (g h : Registers) (x : Result Registers FrameError) → AreFrames m (p ∷ []) None g →
-    IsEpilogOf (frame_of p.info) (ran None p.codes) (before ++ (i ∷ rest)) → executed_all m before g ≡ Ok h → epilog_at (infos (p ∷ [])) start rva code ≡ Some (i ∷ rest) →
-    StepsWithCode m (infos (p ∷ [])) start rva code h x → (u : Registers) × (x ≡ Ok u) × IsCaller (p ∷ []) None g u
-caller_of_rest m p before rest i start rva code g h x frames epilog ran_so_far decodes steps =
+-- the instruction that frees stack leads the stack pointer to the last push
+freed : (m : ℕ → Option ℕ) (b : ℕ) (c : Bool) (f : Frame) (codes : List UnwindOperation) (s : Machine) (g : Registers) (i : Instruction) (is : List Instruction) → IsProlog c f codes s → Frees f (moves codes) i →
+    undone.HasBase (run f codes s).frame codes (top (run f codes s)) b → KeepsFrame f codes (run f codes s).frame (run f codes s).general g → IsBack (i ∷ is) (run f codes s) g → trail b (pointer g) (moves codes) < 2 ^ 64 →
+    executed m i g ≡ Ok (put_register g 4 (trail b (pointer g) (moves codes)))
+freed m b c f codes s g (Add n) is p e hb k back small =
+    let exact = exact_of (run f codes s).frame codes (top (run f codes s)) b (pointer g) hb back in
+    let sum = trail_sum c f codes s b (pointer g) p exact in
+    let at : pointer g + n ≡ trail b (pointer g) (moves codes) = ap (λ (x : ℕ). pointer g + x) e ∙ sym sum in
+    undone.raised_at n (pointer g) g refl (omega (arith, at)) ∙ ap (λ (x : ℕ). Ok (put_register g 4 x)) at
+freed m b c f codes s g (Lea r d) is p e hb k back small =
+    let l = led_by c f codes s d b (pointer g) p e.1 in
+    let value = value_of c f codes s b g (run f codes s).frame p refl l.framed hb k in
+    let at : moved (get_or g.general r 0) d ≡ trail b (pointer g) (moves codes) =
+    ap (λ (x : ℕ). moved (get_or g.general x 0) d) e.0 ∙ (ap (λ (x : ℕ). moved x d) value ∙ (led b f.offset d l.offset l.wants (omega (arith, l.is)) ∙ sym l.is)) in
+    ap (λ (x : ℕ). Ok (put_register g 4 x)) at
+freed m b c f codes s g (Pop r) is p e hb k back small = absurd e
+freed m b c f codes s g (Return n) is p e hb k back small = absurd e
+freed m b c f codes s g (Jump a) is p e hb k back small = absurd e
+freed m b c f codes s g JumpByMemory is p e hb k back small = absurd e
+
+-- an epilog comes to the caller, and the rest of it starts below
+record Ends (m : ℕ → Option ℕ) (i : Instruction) (rest : List Instruction) (h u : Registers) : Type 0 where
+  pub all : executed_all m (i ∷ rest) h ≡ Ok u
+  pub below : pointer h < pointer u
+
+ends_by : (m : ℕ → Option ℕ) (before rest : List Instruction) (i : Instruction) (g h u : Registers) → executed_all m before g ≡ Ok h → executed_all m (before ++ (i ∷ rest)) g ≡ Ok u → pointer h < pointer u → Ends m i rest h u
+ends_by m before rest i g h u ran all low = record { all = sym (executed_append m before (i ∷ rest) g ∙ rw ran refl) ∙ all; below = low }
+
+freed_below : (m : ℕ → Option ℕ) (codes : List UnwindOperation) (t : Instruction) (is before rest : List Instruction) (i : Instruction) (g v h u : Registers) → Spares codes → Pops codes is → t ∷ is ≡ before ++ (i ∷ rest) →
+    executed m t g ≡ Ok v → length v.general ≡ 16 → executed_all m before g ≡ Ok h → executed_all m (t ∷ is) g ≡ Ok u → pointer g < pointer u → pointer h < pointer u
+freed_below m codes t is [] rest i g v h u p q at step len ran all low =
+    let same : g ≡ h = cc in
+    subst (λ (x : Registers). pointer x < pointer u) same low
+freed_below m codes t is (j ∷ before) rest i g v h u p q at step len ran all low =
+    trimmed m codes t j is before rest i g h u p q at (λ w x. let both : Ok v ≡ Ok w = sym step ∙ x in let same : v ≡ w = cc in ap (λ (y : Registers). length y.general) (sym same) ∙ len) ran all
+
+-- the pops, from the last push on
+popped_rest : (m : ℕ → Option ℕ) (b t : ℕ) (codes : List UnwindOperation) (is : List Instruction) (g e u : Registers) → undone_all m b codes (put_register g 4 t) ≡ Ok e → popped m e ≡ Ok u → Pops codes is → executed_all m is (put_register g 4 t) ≡ Ok u
+popped_rest m b t codes is g e u un up q = pops_undo m b codes is (put_register g 4 t) q ∙ rw un up
+
+last_push_fits : (m : ℕ → Option ℕ) (t : ℕ) (codes : List UnwindOperation) (is : List Instruction) (g u : Registers) → Spares codes → Pops codes is → length g.general ≡ 16 → executed_all m is (put_register g 4 t) ≡ Ok u → pointer u < 2 ^ 64 → t < 2 ^ 64
+last_push_fits m t codes is g u p q len all small =
+    let low = all_rise m codes is (put_register g 4 t) u p q (length-set g.general 4 t ∙ len) all in
+    omega (arith, pointer_set g.general t len)
+
+ends_of : (m : ℕ → Option ℕ) (b : ℕ) (c : Bool) (f : Frame) (codes : List UnwindOperation) (s : Machine) (g h e u : Registers) (is before rest : List Instruction) (i : Instruction) → IsProlog c f codes s →
+    undone.HasBase (run f codes s).frame codes (top (run f codes s)) b → KeepsFrame f codes (run f codes s).frame (run f codes s).general g → IsBack is (run f codes s) g → length g.general ≡ 16 → FreesAndPops f (moves codes) is →
+    is ≡ before ++ (i ∷ rest) → executed_all m before g ≡ Ok h → Trails m b (moves codes) g e → popped m e ≡ Ok u → pointer u < 2 ^ 64 → pointer g < pointer u → Ends m i rest h u
+ends_of m b c f codes s g h e u is before rest i p hb k back len (inl (none, pops)) at ran un up small low =
+    let exact = exact_of (run f codes s).frame codes (top (run f codes s)) b (pointer g) hb (back_of is (run f codes s) g (pops_no_lea (pushes (moves codes)) is pops) back) in
+    let sum : trail b (pointer g) (moves codes) ≡ pointer g = trail_sum c f codes s b (pointer g) p exact ∙ omega (arith, none) in
+    let same : put_register g 4 (trail b (pointer g) (moves codes)) ≡ g = ap (λ (x : ℕ). put_register g 4 x) sum ∙ put_same g in
+    let there = popped_rest m b (trail b (pointer g) (moves codes)) (pushes (moves codes)) is g e u un up pops in
+    let all : executed_all m is g ≡ Ok u = subst (λ (x : Registers). executed_all m is x ≡ Ok u) same there in
+    let below = rises m (pushes (moves codes)) is before rest i g h u (spares_pushes (moves codes) (spares_moves c f codes s p)) pops at len ran all in
+    ends_by m before rest i g h u ran (all_of m is (before ++ (i ∷ rest)) g u at all) below
+ends_of m b c f codes s g h e u is before rest i p hb k back len (inr (j, js, first, frees, pops)) at ran un up small low =
+    let t = trail b (pointer g) (moves codes) in
+    let spares = spares_pushes (moves codes) (spares_moves c f codes s p) in
+    let there = popped_rest m b t (pushes (moves codes)) js g e u un up pops in
+    let fits = last_push_fits m t (pushes (moves codes)) js g u spares pops len there small in
+    let step = freed m b c f codes s g j js p frees hb k (subst (λ (x : List Instruction). IsBack x (run f codes s) g) first back) fits in
+    let all : executed_all m (j ∷ js) g ≡ Ok u = rw step there in
+    let below = freed_below m (pushes (moves codes)) j js before rest i g (put_register g 4 t) h u spares pops (sym first ∙ at) step (length-set g.general 4 t ∙ len) ran all low in
+    ends_by m before rest i g h u ran (all_of m (j ∷ js) (before ++ (i ∷ rest)) g u (sym first ∙ at) all) below
+
+-- the pops of an epilog
+pops_of : (f : Frame) (codes : List UnwindOperation) (is : List Instruction) → FreesAndPops f codes is → (js : List Instruction) × Pops (pushes codes) js
+pops_of f codes is (inl (none, pops)) = (is, pops)
+pops_of f codes is (inr (j, js, first, frees, pops)) = (js, pops)
+
+-- registers from which the rest of an epilog comes to the caller
+record Comes (m : ℕ → Option ℕ) (parts : List Part) (i : Instruction) (rest : List Instruction) (g h : Registers) : Type 0 where
+  pub caller : Registers
+  pub ends : Ends m i rest h caller
+  pub is : IsCaller parts None g caller
+
+comes_alone : (m : ℕ → Option ℕ) (p : Part) (before rest : List Instruction) (i : Instruction) (g h : Registers) → AreFrames m (p ∷ []) None g → IsEpilogOfParts (p ∷ []) (before ++ (i ∷ rest)) → AreReady (p ∷ []) (before ++ (i ∷ rest)) g →
+    executed_all m before g ≡ Ok h → Comes m (p ∷ []) i rest g h
+comes_alone m p before rest i g h frames epilog ready ran_so_far =
     let f = frame_of p.info in
     let codes = ran None p.codes in
     let is = before ++ (i ∷ rest) in
     let body = frames.2.body in
     let prolog = frames.0.prolog in
-    let calm = plain f codes is epilog in
+    let pops = pops_of f (moves codes) is epilog in
+    let calm = plain codes pops.0 pops.1 in
     let e = entry_of true None p m g frames.0 frames.2 in
     let b = undone.has_base true f (is_framed codes) codes p.entry g frames.0.frame prolog body.frame in
     let last = called m p [] None g e.entry false frames e.count (e.leaves, sym calm) e.registers e.xmm_registers in
@@ -357,7 +612,115 @@ caller_of_rest m p before rest i start rva code g h x frames epilog ran_so_far d
     let low : pointer g < pointer last.0 = subst (λ (y : Registers). pointer g < pointer y) up.same up.low in
     let in_base : (undone_all m b.base codes g >>= with_kind (is_interrupted codes)) ≡ with_kind (is_interrupted codes) e.entry = rw b.is at e.is in
     let undoes = entry_same (undone_all m b.base codes g) (is_interrupted codes) e.entry in_base in
-    let all : executed_all m is g ≡ Ok last.0 = runs m b.base true f codes p.entry g is prolog epilog body.count b.saves body.frame ∙ rw undoes to_caller in
-    let next : executed_all m (i ∷ rest) h ≡ Ok last.0 = sym (executed_append m before (i ∷ rest) g ∙ rw ran_so_far refl) ∙ all in
-    let below = sinks_below m true f codes p.entry is before rest i g h last.0 prolog epilog refl body.count ran_so_far all low in
-    (last.0, step_of (epilog_at (infos (p ∷ [])) start rva code) (i ∷ rest) m (infos (p ∷ [])) (rva - start) h last.0 x decodes next below steps, last.2)
+    let held = known m (run f codes p.entry).memory true f codes p.entry body.memory (holds true f codes p.entry prolog) in
+    let moves_undone = unsaved m b.base true f codes p.entry g e.entry pops.0 prolog held b.saves ready.restored pops.1 body.count undoes in
+    let trail_undone = trails m b.base (moves codes) g e.entry body.count moves_undone in
+    let above_return = popped_rose m e.entry last.0 e.count to_caller in
+    let at_entry : pointer e.entry ≡ top p.entry = undone.left_plain codes p.entry e.entry calm e.leaves in
+    let small : pointer last.0 < 2 ^ 64 = omega (arith, above_return.pointer_is, frames.1) in
+    let ends = ends_of m b.base true f codes p.entry g h e.entry last.0 is before rest i prolog b.saves body.frame ready.back body.count epilog refl ran_so_far trail_undone to_caller small low in
+    record { caller = last.0; ends = ends; is = last.2 }
+
+-- a part that only saved registers left the stack pointer where it was
+record IsStill (f : Frame) (codes : List UnwindOperation) (s : Machine) : Type 0 where
+  pub general : (run f codes s).general ≡ s.general
+  pub frame : (run f codes s).frame ≡ None
+
+still : (c : Bool) (f : Frame) (codes : List UnwindOperation) (s : Machine) → IsProlog c f codes s → moves codes ≡ [] → IsStill f codes s
+still c f [] s p e = record { general = refl; frame = p.frame }
+still c f (PushNonVolatile r ∷ before) s p e = cc
+still c f (Alloc n ∷ before) s p e = cc
+still c f (SetFPRegister ∷ before) s p e = cc
+still c f (SaveNonVolatile r o ∷ before) s p e = let i = still c f before s p.1 e in record { general = i.general; frame = i.frame }
+still c f (SaveXMM r o ∷ before) s p e = cc
+still c f (Epilog x y ∷ before) s p e = let i = still c f before s p.1 e in record { general = i.general; frame = i.frame }
+still c f (SaveXMM128 r o ∷ before) s p e = let i = still c f before s p.1 e in record { general = i.general; frame = i.frame }
+still c f (PushMachineFrame x ∷ before) s p e = cc
+still c f (Noop ∷ before) s p e = let i = still c f before s p.1 e in record { general = i.general; frame = i.frame }
+
+still_pointer : (f : Frame) (codes : List UnwindOperation) (s : Machine) (frame : Option ℕ) (there : List ℕ) (g : Registers) → frame ≡ None → there ≡ s.general → KeepsFrame f codes frame there g → pointer g ≡ top s
+still_pointer f codes s None there g none same k = k ∙ ap (λ (xs : List ℕ). get_or xs 4 0) same
+still_pointer f codes s (Some b) there g none same k = cc
+
+either : (b c : Bool) → (b || c) ≡ true → (b ≡ true) ⊎ (c ≡ true)
+either true c e = inl refl
+either false c e = inr e
+
+-- what it saved is as it was
+restored_is : (codes : List UnwindOperation) (s : Machine) (g : Registers) (r : ℕ) → moves codes ≡ [] → AreRestored codes s g → saves codes r ≡ true → get_or g.general r 0 ≡ get_or s.general r 0
+restored_is [] s g r e h saved = cc
+restored_is (PushNonVolatile q ∷ before) s g r e h saved = cc
+restored_is (Alloc n ∷ before) s g r e h saved = cc
+restored_is (SetFPRegister ∷ before) s g r e h saved = cc
+restored_is (SaveNonVolatile q o ∷ before) s g r e h saved =
+    elim (either (eqb q.0 r) (saves before r) saved) [
+      | inl this ↦ (let same : q.0 ≡ r = grind (arith, nat_tests) in subst (λ (k : ℕ). get_or g.general k 0 ≡ get_or s.general k 0) same h.0)
+      | inr other ↦ restored_is before s g r e h.1 other
+    ]
+restored_is (SaveXMM q o ∷ before) s g r e h saved = cc
+restored_is (Epilog x y ∷ before) s g r e h saved = restored_is before s g r e h saved
+restored_is (SaveXMM128 q o ∷ before) s g r e h saved = restored_is before s g r e h.1 saved
+restored_is (PushMachineFrame x ∷ before) s g r e h saved = cc
+restored_is (Noop ∷ before) s g r e h saved = restored_is before s g r e h saved
+
+restored_xmm_is : (codes : List UnwindOperation) (s : Machine) (g : Registers) (r : ℕ) → moves codes ≡ [] → AreRestored codes s g → saves_xmm codes r ≡ true → get_or g.xmm r 0 ≡ get_or s.xmm r 0
+restored_xmm_is [] s g r e h saved = cc
+restored_xmm_is (PushNonVolatile q ∷ before) s g r e h saved = cc
+restored_xmm_is (Alloc n ∷ before) s g r e h saved = cc
+restored_xmm_is (SetFPRegister ∷ before) s g r e h saved = cc
+restored_xmm_is (SaveNonVolatile q o ∷ before) s g r e h saved = restored_xmm_is before s g r e h.1 saved
+restored_xmm_is (SaveXMM q o ∷ before) s g r e h saved = cc
+restored_xmm_is (Epilog x y ∷ before) s g r e h saved = restored_xmm_is before s g r e h saved
+restored_xmm_is (SaveXMM128 q o ∷ before) s g r e h saved =
+    elim (either (eqb (q.0 - 17) r) (saves_xmm before r) saved) [
+      | inl this ↦ (let same : q.0 - 17 ≡ r = grind (arith, nat_tests) in subst (λ (k : ℕ). get_or g.xmm k 0 ≡ get_or s.xmm k 0) same h.0)
+      | inr other ↦ restored_xmm_is before s g r e h.1 other
+    ]
+restored_xmm_is (PushMachineFrame x ∷ before) s g r e h saved = cc
+restored_xmm_is (Noop ∷ before) s g r e h saved = restored_xmm_is before s g r e h saved
+
+chosen_same : (b : Bool) (old now : ℕ) → (b ≡ true → now ≡ old) → chosen b old now ≡ now
+chosen_same true old now h = sym (h refl)
+chosen_same false old now h = refl
+
+-- so the frame registers of the parts around it are
+frames_kept : (p : Part) (parts : List Part) (g : Registers) → moves (ran None p.codes) ≡ [] → AreRestored (ran None p.codes) p.entry g →
+    AllByRecursion (λ o. IsSome (left None o).frame → SavesOrKeeps None p g (o.info.frame_register).0) parts →
+    AllByRecursion (λ o. IsSome (left None o).frame → get_or g.general (o.info.frame_register).0 0 ≡ get_or p.entry.general (o.info.frame_register).0 0) parts
+frames_kept p [] g e h keeps = tt
+frames_kept p (o ∷ parts) g e h keeps = (
+  λ framed. elim (keeps.0 framed) [ inl saved ↦ restored_is (ran None p.codes) p.entry g (o.info.frame_register).0 e h saved | inr kept ↦ kept ],
+  frames_kept p parts g e h keeps.1,
+)
+
+comes : (m : ℕ → Option ℕ) (p : Part) (parts : List Part) (before rest : List Instruction) (i : Instruction) (g h : Registers) → AreFrames m (p ∷ parts) None g → IsEpilogOfParts (p ∷ parts) (before ++ (i ∷ rest)) →
+    AreReady (p ∷ parts) (before ++ (i ∷ rest)) g → executed_all m before g ≡ Ok h → Comes m (p ∷ parts) i rest g h
+comes m p [] before rest i g h frames epilog ready ran_so_far = comes_alone m p before rest i g h frames epilog ready ran_so_far
+comes m p (q ∷ parts) before rest i g h frames epilog ready ran_so_far =
+    let codes = ran None p.codes in
+    let stays = still false (frame_of p.info) codes p.entry frames.0.prolog epilog.0 in
+    let body = frames.2.body in
+    let at = still_pointer (frame_of p.info) codes p.entry (run (frame_of p.info) codes p.entry).frame (run (frame_of p.info) codes p.entry).general g stays.frame stays.general body.frame in
+    let next = frames_also m (q ∷ parts) (registers_of p.entry) g (record {
+      count = body.count;
+      xmm_count = body.xmm_count;
+      stack = at;
+      frames = frames_kept p (q ∷ parts) g epilog.0 ready.0 frames.3;
+    }) frames.4 in
+    let c = comes m q parts before rest i g h next epilog.1 ready.1 ran_so_far in
+    record {
+      caller = c.caller;
+      ends = c.ends;
+      is = record {
+        leaves = c.is.leaves;
+        registers = λ r other. c.is.registers r other ∙ ap (λ (k : ℕ). restored (q ∷ parts) None r k) (sym (chosen_same (saves codes r) (get_or p.entry.general r 0) (get_or g.general r 0) (restored_is codes p.entry g r epilog.0 ready.0)));
+        xmm_registers = λ r. c.is.xmm_registers r ∙ ap (λ (k : ℕ). restored_xmm (q ∷ parts) None r k) (sym (chosen_same (saves_xmm codes r) (get_or p.entry.xmm r 0) (get_or g.xmm r 0) (restored_xmm_is codes p.entry g r epilog.0 ready.0)));
+      };
+    }
+
+pub caller_of_rest : (m : ℕ → Option ℕ) (p : Part) (parts : List Part) (before rest : List Instruction) (i : Instruction) (start rva : ℕ) (code : List ℕ) (g h : Registers) (x : Result Registers FrameError) → AreFrames m (p ∷ parts) None g →
+    IsEpilogOfParts (p ∷ parts) (before ++ (i ∷ rest)) → AreReady (p ∷ parts) (before ++ (i ∷ rest)) g → executed_all m before g ≡ Ok h → epilog_at (infos (p ∷ parts)) start rva code ≡ Some (i ∷ rest) →
+    StepsWithCode m (infos (p ∷ parts)) start rva code h x → (u : Registers) × (x ≡ Ok u) × IsCaller (p ∷ parts) None g u
+caller_of_rest m p parts before rest i start rva code g h x frames epilog ready ran_so_far decodes steps =
+    let c = comes m p parts before rest i g h frames epilog ready ran_so_far in
+    (c.caller, step_of (epilog_at (infos (p ∷ parts)) start rva code) (i ∷ rest) m (infos (p ∷ parts)) (rva - start) h c.caller x decodes c.ends.all c.ends.below steps, c.is)

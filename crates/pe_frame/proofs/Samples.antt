@@ -6,7 +6,9 @@ use Rattle.pe_frame.specs.Undoing.{ran}
 use Rattle.pe_frame.specs.Steps.{frame_of}
 use Rattle.pe_frame.specs.Machine.{IsProlog, IsBody}
 use Rattle.pe_frame.specs.Frames.{Part, left, registers_of, IsRecord, SavesOrKeeps, AreFrames}
-use Rattle.pe_frame.specs.Samples.{all_known, home_part, inner_part, framed_part, interrupt_part, pushed_part, set_part}
+use Rattle.pe_frame.specs.EpilogFrames.{IsReady, AreReady}
+use Rattle.pe_frame.specs.declared.epilog.Instruction.TheVariants.{Add, Lea, Pop, Return}
+use Rattle.pe_frame.specs.Samples.{all_known, home_part, inner_part, framed_part, interrupt_part, pushed_part}
 
 abbrev HasItems : Part → Type 0
 HasItems p = AreItems (code_stream p.info) (map Ok p.codes)
@@ -102,18 +104,8 @@ pushed_body = search rules
 pub pushed : AreFrames (all_known (left None pushed_part)) (pushed_part ∷ []) None (registers_of (left None pushed_part))
 pushed = (record { items = pushed_items; prolog = pushed_prolog; frame = inl refl }, omega arith, record { order = tt; body = pushed_body })
 
-set_items : HasItems set_part
-set_items = (
-  2,
-  (omega arith, (refl, inr (inr (inl (refl, refl))))),
-  (2, (omega arith, (refl, inr (inl (refl, refl)))), (2, (omega arith, (refl, inl (refl, refl))), (2, (omega arith, (refl, inl (refl, refl))), refl))),
-)
+pub framed_ready : IsReady (frame_of framed_part.info) (ran None framed_part.codes) framed_part.entry (Lea 5 32 ∷ Pop 3 ∷ Pop 5 ∷ Return 0 ∷ []) (registers_of (left None framed_part))
+framed_ready = record { restored = (refl, tt); back = tt }
 
-set_prolog : RunsProlog true set_part
-set_prolog = search rules
-
-set_body : IsBody true (frame_of set_part.info) (ran None set_part.codes) set_part.entry (all_known (left None set_part)) (registers_of (left None set_part))
-set_body = search rules
-
-pub set_frames : AreFrames (all_known (left None set_part)) (set_part ∷ []) None (registers_of (left None set_part))
-set_frames = (record { items = set_items; prolog = set_prolog; frame = inr refl }, omega arith, record { order = tt; body = set_body })
+pub chained_ready : AreReady (inner_part ∷ home_part ∷ []) (Add 32 ∷ Pop 7 ∷ Return 0 ∷ []) (registers_of (left None inner_part))
+chained_ready = ((refl, tt), record { restored = (refl, tt); back = λ h. cc })

@@ -24,35 +24,35 @@ abbrev pub Points : Option ℕ → List UnwindOperation → ℕ → ℕ → Type
 Points None codes t p = p ≡ t
 Points (Some b) codes t p = (p ≤ t) × (PushesLate codes → p ≡ t)
 
-base_none : (frame : Option ℕ) (codes : List UnwindOperation) (t b : ℕ) → frame ≡ None → SavesNone codes ⊎ (t ≡ b) → HasBase frame codes t b
+pub base_none : (frame : Option ℕ) (codes : List UnwindOperation) (t b : ℕ) → frame ≡ None → SavesNone codes ⊎ (t ≡ b) → HasBase frame codes t b
 base_none None codes t b e h = h
 base_none (Some c) codes t b e h = cc
 
-base_weaker : (frame : Option ℕ) (codes rest : List UnwindOperation) (t b : ℕ) → (SavesNone codes → SavesNone rest) → HasBase frame codes t b → HasBase frame rest t b
+pub base_weaker : (frame : Option ℕ) (codes rest : List UnwindOperation) (t b : ℕ) → (SavesNone codes → SavesNone rest) → HasBase frame codes t b → HasBase frame rest t b
 base_weaker None codes rest t b f (inl h) = inl (f h)
 base_weaker None codes rest t b f (inr h) = inr h
 base_weaker (Some c) codes rest t b f h = h
 
-base_moved : (frame : Option ℕ) (codes rest : List UnwindOperation) (t u b : ℕ) → MayMove frame rest → HasBase frame codes t b → HasBase frame rest u b
+pub base_moved : (frame : Option ℕ) (codes rest : List UnwindOperation) (t u b : ℕ) → MayMove frame rest → HasBase frame codes t b → HasBase frame rest u b
 base_moved None codes rest t u b may h = inl may
 base_moved (Some c) codes rest t u b may h = h
 
-base_saved : (frame : Option ℕ) (r : Register) (o : StackFrameOffset) (before : List UnwindOperation) (t b : ℕ) → HasBase frame (SaveNonVolatile r o ∷ before) t b → base_by frame t ≡ b
+pub base_saved : (frame : Option ℕ) (r : Register) (o : StackFrameOffset) (before : List UnwindOperation) (t b : ℕ) → HasBase frame (SaveNonVolatile r o ∷ before) t b → base_by frame t ≡ b
 base_saved None r o before t b (inl h) = absurd h
 base_saved None r o before t b (inr h) = h
 base_saved (Some c) r o before t b h = h
 
-base_xmm : (frame : Option ℕ) (r : Register) (o : StackFrameOffset) (before : List UnwindOperation) (t b : ℕ) → HasBase frame (SaveXMM128 r o ∷ before) t b → base_by frame t ≡ b
+pub base_xmm : (frame : Option ℕ) (r : Register) (o : StackFrameOffset) (before : List UnwindOperation) (t b : ℕ) → HasBase frame (SaveXMM128 r o ∷ before) t b → base_by frame t ≡ b
 base_xmm None r o before t b (inl h) = absurd h
 base_xmm None r o before t b (inr h) = h
 base_xmm (Some c) r o before t b h = h
 
-base_wide_rest : (frame : Option ℕ) (r : Register) (o : StackFrameOffset) (before : List UnwindOperation) (t b : ℕ) → HasBase frame (SaveXMM128 r o ∷ before) t b → HasBase frame before t b
+pub base_wide_rest : (frame : Option ℕ) (r : Register) (o : StackFrameOffset) (before : List UnwindOperation) (t b : ℕ) → HasBase frame (SaveXMM128 r o ∷ before) t b → HasBase frame before t b
 base_wide_rest None r o before t b (inl h) = absurd h
 base_wide_rest None r o before t b (inr h) = inr h
 base_wide_rest (Some c) r o before t b h = h
 
-base_saved_rest : (frame : Option ℕ) (r : Register) (o : StackFrameOffset) (before : List UnwindOperation) (t b : ℕ) → HasBase frame (SaveNonVolatile r o ∷ before) t b → HasBase frame before t b
+pub base_saved_rest : (frame : Option ℕ) (r : Register) (o : StackFrameOffset) (before : List UnwindOperation) (t b : ℕ) → HasBase frame (SaveNonVolatile r o ∷ before) t b → HasBase frame before t b
 base_saved_rest None r o before t b (inl h) = absurd h
 base_saved_rest None r o before t b (inr h) = inr h
 base_saved_rest (Some c) r o before t b h = h
@@ -115,7 +115,7 @@ pop_ok m b r g v small other e room =
     let raise = raised_at 8 (pointer g) (put_register g r.0 v) (pointer_other g.general r.0 v other) room in
     rw (integer_ok (PushNonVolatile r) r.0 small) (rw (number_ok m (pointer g) v e) raise)
 
-load_ok : (m : ℕ → Option ℕ) (b : ℕ) (r : Register) (o : StackFrameOffset) (g : Registers) (v : ℕ) → r.0 < 16 → m (b + offset_number o) ≡ Some v → b + offset_number o < 2 ^ 64 →
+pub load_ok : (m : ℕ → Option ℕ) (b : ℕ) (r : Register) (o : StackFrameOffset) (g : Registers) (v : ℕ) → r.0 < 16 → m (b + offset_number o) ≡ Some v → b + offset_number o < 2 ^ 64 →
     undone m b (SaveNonVolatile r o) g ≡ Ok (put_register g r.0 v)
 load_ok m b r o g v small e room =
     rw (integer_ok (SaveNonVolatile r o) r.0 small) (rw (above_ok b (offset_number o) room) (rw (number_ok m (b + offset_number o) v e) refl))
@@ -125,7 +125,7 @@ xmm_words_ok m a v low high room =
     let joined : v % 2 ^ 64 + v / 2 ^ 64 * 2 ^ 64 ≡ v = omega arith in
     rw (number_ok m a (v % 2 ^ 64) low) (rw (above_ok a 8 room) (rw (number_ok m (a + 8) (v / 2 ^ 64) high) (ap Ok joined)))
 
-load_xmm : (m : ℕ → Option ℕ) (b : ℕ) (r : Register) (o : StackFrameOffset) (g : Registers) (v : ℕ) → 17 ≤ r.0 → r.0 < 33 → m (b + offset_number o) ≡ Some (v % 2 ^ 64) → m (b + offset_number o + 8) ≡ Some (v / 2 ^ 64) → b + offset_number o + 8 < 2 ^ 64 →
+pub load_xmm : (m : ℕ → Option ℕ) (b : ℕ) (r : Register) (o : StackFrameOffset) (g : Registers) (v : ℕ) → 17 ≤ r.0 → r.0 < 33 → m (b + offset_number o) ≡ Some (v % 2 ^ 64) → m (b + offset_number o + 8) ≡ Some (v / 2 ^ 64) → b + offset_number o + 8 < 2 ^ 64 →
     undone m b (SaveXMM128 r o) g ≡ Ok (put_xmm g (r.0 - 17) v)
 load_xmm m b r o g v least most low high small =
     rw (xmm_ok (SaveXMM128 r o) r.0 least most) (rw (above_ok b (offset_number o) (omega arith)) (rw (xmm_words_ok m (b + offset_number o) v low high small) refl))
@@ -330,7 +330,7 @@ set_other c f (SaveXMM128 r o ∷ before) s b p e = set_other c f before s b p.1
 set_other c f (PushMachineFrame x ∷ before) s b p e = set_other c f before s b p.1 e
 set_other c f (Noop ∷ before) s b p e = set_other c f before s b p.1 e
 
-is_set : (c : Bool) (f : Frame) (codes : List UnwindOperation) (s : Machine) (b : ℕ) → IsProlog c f codes s → (run f codes s).frame ≡ Some b → IsSet f codes s b
+pub is_set : (c : Bool) (f : Frame) (codes : List UnwindOperation) (s : Machine) (b : ℕ) → IsProlog c f codes s → (run f codes s).frame ≡ Some b → IsSet f codes s b
 is_set c f [] s b p e = let none = p.frame in cc
 is_set c f (PushNonVolatile r ∷ before) s b p e =
     let i = is_set c f before s b p.1 e in

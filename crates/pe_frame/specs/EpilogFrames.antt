@@ -1,10 +1,14 @@
--- The epilog of a prolog of pushes, allocations and a frame register.
-use Rattle.std.specs.Prelude.{◌≡◌, ℕ, List, [], ◌∷◌}
+-- The epilog of a prolog that pushes registers first, and then allocates stack, sets a frame register and saves registers.
+use Rattle.std.specs.Prelude.{◌≡◌, ℕ, ◌+◌, ◌-◌, ◌⊎◌, IsSome, List, [], ◌∷◌, slice_index, None}
 use Rattle.pe_unwind.specs.declared.unwind_code.UnwindOperation.{UnwindOperation}
-use Rattle.pe_unwind.specs.declared.unwind_code.UnwindOperation.TheVariants.{PushNonVolatile, Alloc, SetFPRegister}
+use Rattle.pe_unwind.specs.declared.unwind_code.UnwindOperation.TheVariants.{PushNonVolatile, Alloc, SetFPRegister, SaveNonVolatile, Epilog, SaveXMM128, Noop}
 use Rattle.pe_frame.specs.declared.epilog.Instruction.{Instruction}
 use Rattle.pe_frame.specs.declared.epilog.Instruction.TheVariants.{Add, Lea, Pop, Return, Jump, JumpByMemory}
-use Rattle.pe_frame.specs.Undoing.{Frame}
+use Rattle.pe_frame.specs.declared.registers.Registers.{Registers}
+use Rattle.pe_frame.specs.Undoing.{Frame, pointer, ran}
+use Rattle.pe_frame.specs.Steps.{frame_of}
+use Rattle.pe_frame.specs.Frames.{Part}
+use Rattle.pe_frame.specs.Machine.{Machine, top, run}
 use Rattle.pe_frame.specs.Epilogs.{moved}
 
 -- an instruction leaves the function and drops nothing of the caller's
@@ -20,14 +24,76 @@ Pops [] is = (i : Instruction) × Exits i × (is ≡ i ∷ [])
 Pops (PushNonVolatile r ∷ before) is = (rest : List Instruction) × (is ≡ Pop r.0 ∷ rest) × Pops before rest
 Pops (other ∷ before) is = ⊥
 
--- `lea` leads from the frame register to the last of the pushes, past what was allocated before the frame register was set
-abbrev pub Leads : Frame → ℕ → List UnwindOperation → List Instruction → Type 0
-Leads f d (Alloc n ∷ before) rest = (moved f.offset d ≡ n) × Pops before rest
-Leads f d before rest = (moved f.offset d ≡ 0) × Pops before rest
+-- What an epilog undoes. Registers that were saved by stores are restored before it.
+abbrev pub moves : List UnwindOperation → List UnwindOperation
+moves [] = []
+moves (SaveNonVolatile r o ∷ before) = moves before
+moves (SaveXMM128 r o ∷ before) = moves before
+moves (Epilog a b ∷ before) = moves before
+moves (Noop ∷ before) = moves before
+moves (o ∷ before) = o ∷ moves before
 
--- the whole epilog of a prolog: it frees what the prolog allocated by one instruction
+-- the stack that was allocated after the last push, and what was done up to that push
+abbrev pub allocated : List UnwindOperation → ℕ
+allocated (Alloc n ∷ before) = allocated before + n
+allocated (SetFPRegister ∷ before) = allocated before
+allocated codes = 0
+
+abbrev pub pushes : List UnwindOperation → List UnwindOperation
+pushes (Alloc n ∷ before) = pushes before
+pushes (SetFPRegister ∷ before) = pushes before
+pushes codes = codes
+
+-- `lea` leads from the frame register to the last push, past what was allocated before the frame register was set
+abbrev pub Leads : Frame → ℕ → List UnwindOperation → Type 0
+Leads f d (Alloc n ∷ before) = Leads f d before
+Leads f d (SetFPRegister ∷ before) = moved f.offset d ≡ allocated before
+Leads f d codes = ⊥
+
+-- an instruction frees what was allocated: `add` all of it, from where the prolog left the stack pointer
+abbrev pub Frees : Frame → List UnwindOperation → Instruction → Type 0
+Frees f codes (Add n) = n ≡ allocated codes
+Frees f codes (Lea r d) = (r ≡ f.register) × Leads f d codes
+Frees f codes other = ⊥
+
+-- an instruction frees the stack, if any was allocated, and pops undo the pushes
+abbrev pub FreesAndPops : Frame → List UnwindOperation → List Instruction → Type 0
+FreesAndPops f codes is =
+    ((allocated codes ≡ 0) × Pops (pushes codes) is)
+    ⊎ ((i : Instruction) × (rest : List Instruction) × (is ≡ i ∷ rest) × Frees f codes i × Pops (pushes codes) rest)
+
+-- the whole epilog of a prolog
 abbrev pub IsEpilogOf : Frame → List UnwindOperation → List Instruction → Type 0
-IsEpilogOf f (Alloc n ∷ before) is = (rest : List Instruction) × (is ≡ Add n ∷ rest) × Pops before rest
-IsEpilogOf f (SetFPRegister ∷ before) is =
-    (d : ℕ) × (rest : List Instruction) × (is ≡ Lea f.register d ∷ rest) × Leads f d before rest
-IsEpilogOf f codes is = Pops codes is
+IsEpilogOf f codes is = FreesAndPops f (moves codes) is
+
+-- each register that a store saved has its value from the entry again
+abbrev pub AreRestored : List UnwindOperation → Machine → Registers → Type 0
+AreRestored [] s g = Unit {0}
+AreRestored (SaveNonVolatile r o ∷ before) s g =
+    (slice_index g.general r.0 ≡ slice_index s.general r.0) × AreRestored before s g
+AreRestored (SaveXMM128 r o ∷ before) s g =
+    (slice_index g.xmm (r.0 - 17) ≡ slice_index s.xmm (r.0 - 17)) × AreRestored before s g
+AreRestored (other ∷ before) s g = AreRestored before s g
+
+-- the stack pointer is where the prolog left it, if a frame register let the body move it; `lea` needs no such place
+abbrev pub IsBack : List Instruction → Machine → Registers → Type 0
+IsBack (Lea r d ∷ is) left g = Unit {0}
+IsBack is left g = IsSome left.frame → pointer g ≡ top left
+
+-- the body is done, and an epilog of these instructions may begin
+pub record IsReady (f : Frame) (codes : List UnwindOperation) (s : Machine) (is : List Instruction) (g : Registers) : Type 0 where
+  pub restored : AreRestored codes s g
+  pub back : IsBack is (run f codes s) g
+
+-- The epilog of a function in one of its parts: each part that is not the function itself only saved registers, and so leaves
+-- nothing to undo.
+abbrev pub IsEpilogOfParts : List Part → List Instruction → Type 0
+IsEpilogOfParts [] is = ⊥
+IsEpilogOfParts (p ∷ []) is = IsEpilogOf (frame_of p.info) (ran None p.codes) is
+IsEpilogOfParts (p ∷ q ∷ parts) is = (moves (ran None p.codes) ≡ []) × IsEpilogOfParts (q ∷ parts) is
+
+-- the bodies are done
+abbrev pub AreReady : List Part → List Instruction → Registers → Type 0
+AreReady [] is g = ⊥
+AreReady (p ∷ []) is g = IsReady (frame_of p.info) (ran None p.codes) p.entry is g
+AreReady (p ∷ q ∷ parts) is g = AreRestored (ran None p.codes) p.entry g × AreReady (q ∷ parts) is g

@@ -116,9 +116,16 @@ lies_in_parents [] a = false
 lies_in_parents (i ∷ is) a =
     option_map_or (λ f. lies_in f.begin_address f.end_address a) i.chained_info false || lies_in_parents is a
 
--- an instruction leaves the function; of jumps to an RVA those do that end in none of its entries
+-- where the function starts: where the last of the entries does to which one of its records is chained, if there is one
+abbrev pub function_start : ℕ → List UnwindInfoView → ℕ
+function_start start [] = start
+function_start start (i ∷ is) = function_start (option_map_or (λ f. f.begin_address) i.chained_info start) is
+
+-- An instruction leaves the function. Of jumps to an RVA those do that end in none of its entries, and those to its start,
+-- where it calls itself in place of returning.
 abbrev pub leaves : List UnwindInfoView → ℕ → ℕ → Instruction → Bool
-leaves plan start end (Jump a) = not (lies_in start end a || lies_in_parents plan a)
+leaves plan start end (Jump a) =
+    a == function_start start plan || not (lies_in start end a || lies_in_parents plan a)
 leaves plan start end other = true
 
 abbrev pub exit_of : List UnwindInfoView → ℕ → ℕ → List ℕ → Option Instruction

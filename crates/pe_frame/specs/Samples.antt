@@ -74,16 +74,6 @@ pushed_part = record {
   entry = sample_machine;
 }
 
--- push rbp; push rbx; sub rsp,64; lea rbp,[rsp+32]
-abbrev pub set_part : Part
-set_part = record {
-  info = sample_info 11 5 32 (11 ∷ 3 ∷ 6 ∷ 114 ∷ 2 ∷ 48 ∷ 1 ∷ 80 ∷ []);
-  codes =
-      code 11 SetFPRegister ∷ code 6 (Alloc 64) ∷ code 2 (PushNonVolatile (register 3))
-      ∷ code 1 (PushNonVolatile (register 5)) ∷ [];
-  entry = sample_machine;
-}
-
 -- an interrupt with an error code; sub rsp,64; mov [rsp+32],rbx, which lies below the machine frame
 abbrev pub interrupt_part : Part
 interrupt_part = record {

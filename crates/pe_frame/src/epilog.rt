@@ -9,7 +9,7 @@ ghost use Rattle.std.specs.Prelude.{◌≡◌, ◌+◌, ◌≤◌, length, map, 
 ghost use Rattle.std.specs.Option.{option_map};
 ghost use Rattle.pe_unwind.specs.UnwindRecord.{unwind_view};
 ghost use Rattle.pe_frame.specs.declared.epilog.Instruction.TheVariants.{Pop};
-ghost use Rattle.pe_frame.specs.Epilogs.{widened, moved, operand, add_form, lea_form, trim_form, pop_of, pop_form, popped_first, most_pops, after_pops, jump_of, jump_by_memory, jump_form, exit_form, lies_in_parents, leaves, frame_register_of, with_rest, tail, executed, executed_all};
+ghost use Rattle.pe_frame.specs.Epilogs.{widened, moved, operand, add_form, lea_form, trim_form, pop_of, pop_form, popped_first, most_pops, after_pops, jump_of, jump_by_memory, jump_form, exit_form, lies_in_parents, function_start, leaves, frame_register_of, with_rest, tail, executed, executed_all};
 ghost use Rattle.pe_frame.specs.Undoing.{put_register};
 ghost use Rattle.pe_frame.specs.Tails.{alone, instructions_of};
 
@@ -331,13 +331,27 @@ fn lies_in_parents(plan: &[UnwindInfo<'_>], rva: u64) -> bool
     false
 }
 
-/// Whether an instruction leaves the function: a jump to an RVA may stay in it.
+/// The RVA where the function starts, of which the first record may be a part that starts at `start`.
+fn function_start(plan: &[UnwindInfo<'_>], start: u32) -> u32
+    ensures { result ≡ function_start start (map unwind_view plan.now) }
+{
+    let mut found = start;
+    for info in plan {
+        if let Some(parent) = info.chained_info {
+            found = parent.begin_address;
+        }
+    }
+    found
+}
+
+/// Whether an instruction leaves the function: a jump to an RVA may stay in it. One to its start calls it anew.
 fn leaves(plan: &[UnwindInfo<'_>], start: u32, end: u64, instruction: Instruction) -> bool
     ensures { result ≡ leaves (map unwind_view plan.now) start end instruction }
 {
     match instruction {
         Instruction::Jump(rva) => {
-            !(u64::from(start) <= rva && rva < end || lies_in_parents(plan, rva))
+            rva == u64::from(function_start(plan, start))
+                || !(u64::from(start) <= rva && rva < end || lies_in_parents(plan, rva))
         }
         _ => true,
     }

@@ -140,11 +140,13 @@ pub fn step<M: Memory>(
 /// | `lea rsp, [register + n]`, by the frame register of the first record | 48 or 49, 8D, ModRM with mode 1 or 2, for r12 the SIB byte 24, ib or id |
 /// | `pop register`, of any but rsp | 58 + r, 41 58 + r |
 /// | `ret`, `ret n` | C3, F3 C3, C2 iw |
-/// | `jmp` to an RVA outside of the function | EB ib, E9 id |
+/// | `jmp` to an RVA outside of the function, or to its start | EB ib, E9 id |
 /// | `jmp` by an address in memory | FF /4 or 48 FF /4, with mode 0 |
 ///
 /// The function is the bytes from `start` to the end of `code`, and the entries to which its records are chained: a jump into
-/// one of them does not leave it. Where the bytes are anything else, this call is `step`. Call it in the top frame, and in one
+/// one of them does not leave it, except to the start of the last, or to `start` where there is none: there the function calls
+/// itself in place of returning.
+/// Where the bytes are anything else, this call is `step`. Call it in the top frame, and in one
 /// that an interrupt stopped. In every other frame `rva` is a return address, where no epilog has begun: call `step`.
 ///
 /// Refused in an epilog: for each instruction in turn `Memory` and `Address` where they come up, and last `NotRising`. Else as

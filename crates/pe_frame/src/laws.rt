@@ -8,13 +8,13 @@ ghost use Rattle.pe_frame.specs.declared.registers.Registers.{Registers};
 ghost use Rattle.pe_frame.specs.Memory.{stack_word};
 ghost use Rattle.pe_frame.specs.Machine.{loaded};
 ghost use Rattle.pe_frame.specs.Frames.{Part, infos, left, registers_of, AreFrames, IsCaller};
-ghost use Rattle.pe_frame.specs.Samples.{all_known, home_part, inner_part, framed_part, interrupt_part, pushed_part, set_part};
+ghost use Rattle.pe_frame.specs.Samples.{all_known, home_part, inner_part, framed_part, interrupt_part, pushed_part};
 ghost use Rattle.pe_frame.specs.Steps.{Steps, frame_of, by_kind};
 ghost use Rattle.pe_frame.specs.declared.epilog.Instruction.TheVariants.{Add, Lea, Pop, Return, Jump};
 ghost use Rattle.pe_frame.specs.declared.epilog.Instruction.{Instruction};
 ghost use Rattle.pe_frame.specs.Undoing.{ran};
 ghost use Rattle.pe_frame.specs.Epilogs.{executed_all, epilog_at, StepsWithCode};
-ghost use Rattle.pe_frame.specs.EpilogFrames.{IsEpilogOf};
+ghost use Rattle.pe_frame.specs.EpilogFrames.{IsEpilogOf, IsEpilogOfParts, IsReady, AreReady};
 
 use crate::registers::Registers;
 
@@ -39,8 +39,9 @@ pub fn one_result_of_steps_with_code()
         StepsWithCode m plan start rva code g y → by_kind x ≡ by_kind y }
 {}
 
-/// There are such epilogs: one that frees stack by `add`, and one that does by `lea` from the frame register. Their prologs are
-/// those of frames. In the prolog there is no epilog, nor where a jump stays in the function.
+/// There are such epilogs: one that frees stack by `add`; one that does by `lea` from the frame register, after a prolog that
+/// allocated stack before and after it set that register, and saved a register in between; and one in a part of a function.
+/// Their prologs are those of frames. In the prolog there is no epilog, nor where a jump stays in the function; one to its start leaves it.
 pub fn epilogs_are_there()
     ensures added { epilog_at (infos (pushed_part ∷ [])) 0x1000 0x1040
         (0x48 ∷ 0x83 ∷ 0xC4 ∷ 0x20 ∷ 0x5B ∷ 0xC3 ∷ []) ≡ Some (Add 32 ∷ Pop 3 ∷ Return 0 ∷ []) }
@@ -48,30 +49,47 @@ pub fn epilogs_are_there()
         (ran None pushed_part.codes) (Add 32 ∷ Pop 3 ∷ Return 0 ∷ []) }
     ensures pushed { AreFrames (all_known (left None pushed_part))
         (pushed_part ∷ []) None (registers_of (left None pushed_part)) }
-    ensures loaded { epilog_at (infos (set_part ∷ [])) 0x1000 0x1040 (0x48 ∷ 0x8D
+    ensures loaded { epilog_at (infos (framed_part ∷ [])) 0x1000 0x1040 (0x48 ∷ 0x8D
         ∷ 0x65 ∷ 0x20 ∷ 0x5B ∷ 0x5D ∷ 0xC3 ∷ []) ≡ Some (Lea 5 32 ∷ Pop 3 ∷ Pop 5 ∷ Return 0 ∷ []) }
-    ensures of_loaded { IsEpilogOf (frame_of set_part.info)
-        (ran None set_part.codes) (Lea 5 32 ∷ Pop 3 ∷ Pop 5 ∷ Return 0 ∷ []) }
-    ensures set { AreFrames (all_known (left None set_part))
-        (set_part ∷ []) None (registers_of (left None set_part)) }
+    ensures of_loaded { IsEpilogOf (frame_of framed_part.info)
+        (ran None framed_part.codes) (Lea 5 32 ∷ Pop 3 ∷ Pop 5 ∷ Return 0 ∷ []) }
+    ensures ready { IsReady (frame_of framed_part.info)
+        (ran None framed_part.codes) framed_part.entry (Lea 5 32 ∷ Pop 3 ∷ Pop 5 ∷ Return 0 ∷ [])
+        (registers_of (left None framed_part)) }
+    ensures framed { AreFrames (all_known (left None framed_part))
+        (framed_part ∷ []) None (registers_of (left None framed_part)) }
+    ensures in_a_part { epilog_at (infos (inner_part ∷ home_part ∷ [])) 0x1000 0x1040
+        (0x48 ∷ 0x83 ∷ 0xC4 ∷ 0x20 ∷ 0x5F ∷ 0xC3 ∷ []) ≡ Some (Add 32 ∷ Pop 7 ∷ Return 0 ∷ []) }
+    ensures of_parts { IsEpilogOfParts
+        (inner_part ∷ home_part ∷ []) (Add 32 ∷ Pop 7 ∷ Return 0 ∷ []) }
+    ensures parts_ready { AreReady (inner_part ∷ home_part ∷ [])
+        (Add 32 ∷ Pop 7 ∷ Return 0 ∷ []) (registers_of (left None inner_part)) }
+    ensures parts { AreFrames (all_known (left None inner_part))
+        (inner_part ∷ home_part ∷ []) None (registers_of (left None inner_part)) }
     ensures in_the_prolog { epilog_at
         (infos (pushed_part ∷ [])) 0x1000 0x1004 (0x5B ∷ 0xC3 ∷ []) ≡ None }
-    ensures jumped { epilog_at (infos (pushed_part ∷ [])) 0x1000 0x1040 (0xEB ∷ 0xBE ∷ []) ≡ None }
+    ensures jumped { epilog_at (infos (pushed_part ∷ [])) 0x1000 0x1040 (0xEB ∷ 0xBF ∷ []) ≡ None }
+    ensures again { epilog_at
+        (infos (pushed_part ∷ [])) 0x1000 0x1040 (0xEB ∷ 0xBE ∷ []) ≡ Some (Jump 0x1000 ∷ []) }
     ensures left { epilog_at
         (infos (pushed_part ∷ [])) 0x1000 0x1040 (0xEB ∷ 0xBD ∷ []) ≡ Some (Jump 0xFFF ∷ []) }
 {}
 
-/// What is left of an epilog leads to the caller. A machine ran a prolog that pushed registers, then allocated stack and then set a
-/// frame register, each of which it may not do. From its body on the first instructions of the epilog ran, and the code has
-/// the others: a step with the code then returns the registers of the caller.
+/// What is left of an epilog leads to the caller. A machine ran the prolog of a function, which pushed registers first, and then in
+/// any order allocated stack, set a frame register and saved registers by stores, each of which it may not do. It may have come
+/// to parts of the function that only saved registers. What stores saved was restored. From there on the first instructions of
+/// the epilog ran, and the code has the others: a step with the code then returns the registers of the caller.
 pub fn epilogs_return_to_the_caller()
-    ensures { (m : ℕ → Option ℕ) (p : Part) (before rest : List Instruction) (i : Instruction)
+    ensures { (m : ℕ → Option ℕ) (p : Part) (parts : List Part)
+        (before rest : List Instruction) (i : Instruction)
         (start rva : ℕ) (code : List ℕ) (g h : Registers) (x : Result Registers FrameError) →
-        AreFrames m (p ∷ []) None g → IsEpilogOf (frame_of p.info)
-        (ran None p.codes) (before ++ (i ∷ rest)) → executed_all m before g ≡ Ok h →
-        epilog_at (infos (p ∷ [])) start rva code ≡ Some (i ∷ rest) →
-        StepsWithCode m (infos (p ∷ [])) start rva code h x →
-        (u : Registers) × (x ≡ Ok u) × IsCaller (p ∷ []) None g u }
+        AreFrames m (p ∷ parts) None g →
+        IsEpilogOfParts (p ∷ parts) (before ++ (i ∷ rest)) →
+        AreReady (p ∷ parts) (before ++ (i ∷ rest)) g →
+        executed_all m before g ≡ Ok h →
+        epilog_at (infos (p ∷ parts)) start rva code ≡ Some (i ∷ rest) →
+        StepsWithCode m (infos (p ∷ parts)) start rva code h x →
+        (u : Registers) × (x ≡ Ok u) × IsCaller (p ∷ parts) None g u }
 {}
 
 /// A step undoes what the prologs of a function did: where a machine ran them and stopped in the innermost part, after its

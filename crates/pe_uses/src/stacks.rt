@@ -32,7 +32,8 @@ pub fn walk_stack(
     if image.header.coff_header.machine != COFF_MACHINE_X86_64 {
         return Ok(frames);
     }
-    let map = exceptions.section_map(&image.sections, &opts);
+    let sections = &image.sections;
+    let map = exceptions.section_map(sections, &opts);
     let mut registers = registers;
     for depth in 0..most {
         frames.push(registers.rip)?;
@@ -44,21 +45,12 @@ pub fn walk_stack(
         let inside = rva.saturating_sub(u32::from(is_return_address));
         let caller = match exceptions.find_function(inside)? {
             Some(function) => {
-                let records = UnwindPlan::of_function(
-                    alloc,
-                    exceptions,
-                    function,
-                    &image.sections,
-                    &opts,
-                )?;
+                let plan = UnwindPlan::of_function(alloc, exceptions, function, sections, &opts)?;
                 // The first frame alone may be in an epilog, which its code tells. Without code the records are undone.
-                let code = if is_return_address {
-                    None
-                } else {
-                    code_from(bytes, &map, rva, function.end_address)
-                };
-                let (start, code) = (function.begin_address, code.unwrap_or(&[]));
-                step_with_code(&records, start, rva, code, registers, stack)
+                let end = function.end_address;
+                let end = if is_return_address { rva } else { end };
+                let code = code_from(bytes, &map, rva, end).unwrap_or(&[]);
+                step_with_code(&plan, function.begin_address, rva, code, registers, stack)
             }
             None if is_return_address => break,
             None => leaf(registers, stack),

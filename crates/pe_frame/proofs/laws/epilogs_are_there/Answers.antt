@@ -1,7 +1,7 @@
 use Rattle.std.proofs.Common.{refl}
 use Rattle.pe_core.specs.Bytes.{le}
 use Rattle.pe_frame.specs.Epilogs.{operand, add_form, lea_form, pop_form, popped_first, after_pops, jump_form, exit_form}
-use Rattle.pe_frame.proofs.Samples.{pushed, set_frames}
+use Rattle.pe_frame.proofs.Samples.{chained, chained_ready, pushed, framed, framed_ready}
 use Rattle.pe_frame.proofs.laws.epilogs_are_there.Goals as goal
 
 pub returns-clause-added : goal.returns-clause-added
@@ -12,12 +12,26 @@ pub returns-clause-loaded : goal.returns-clause-loaded
 unfolding le operand add_form lea_form pop_form popped_first after_pops jump_form exit_form
 returns-clause-loaded c = refl
 
+pub returns-clause-in_a_part : goal.returns-clause-in_a_part
+unfolding le operand add_form lea_form pop_form popped_first after_pops jump_form exit_form
+returns-clause-in_a_part c = refl
+
+pub returns-clause-parts_ready : goal.returns-clause-parts_ready
+returns-clause-parts_ready c = chained_ready
+
+pub returns-clause-parts : goal.returns-clause-parts
+returns-clause-parts c = chained
+
 pub returns-clause-in_the_prolog : goal.returns-clause-in_the_prolog
 returns-clause-in_the_prolog c = refl
 
 pub returns-clause-jumped : goal.returns-clause-jumped
 unfolding le operand add_form lea_form pop_form popped_first after_pops jump_form exit_form
 returns-clause-jumped c = refl
+
+pub returns-clause-again : goal.returns-clause-again
+unfolding le operand add_form lea_form pop_form popped_first after_pops jump_form exit_form
+returns-clause-again c = refl
 
 pub returns-clause-left : goal.returns-clause-left
 unfolding le operand add_form lea_form pop_form popped_first after_pops jump_form exit_form
@@ -26,5 +40,8 @@ returns-clause-left c = refl
 pub returns-clause-pushed : goal.returns-clause-pushed
 returns-clause-pushed c = pushed
 
-pub returns-clause-set : goal.returns-clause-set
-returns-clause-set c = set_frames
+pub returns-clause-framed : goal.returns-clause-framed
+returns-clause-framed c = framed
+
+pub returns-clause-ready : goal.returns-clause-ready
+returns-clause-ready c = framed_ready
