@@ -76,9 +76,9 @@ extern "C" {
  *
  * Its number is in the name of this call, and grows with each change that breaks callers. A program refers to the name
  * from each file that includes this header, so it does not link with an archive of another ABI. Returns the number. */
-uint32_t pe_c_abi_1(void);
+uint32_t pe_c_abi_2(void);
 #if defined(__GNUC__)
-static uint32_t (*const pe_c_abi)(void) __attribute__((used)) = pe_c_abi_1;
+static uint32_t (*const pe_c_abi)(void) __attribute__((used)) = pe_c_abi_2;
 #endif
 
 /* ---- results
@@ -229,7 +229,9 @@ uint32_t pe_c_sections(const uint8_t *bytes, size_t length, const pe_c_image_inf
 
 /* Returns the file offset of an RVA, by the first section that covers it; in an image as loaded the RVA itself. The offset
  * may be past the end of the bytes. PE_C_NOTHING where no section covers the RVA, or the file alignment is not a power of
- * two. */
+ * two.
+ * A section's data start at its raw pointer rounded down to a multiple of 512. Of a file whose alignment is below 512, as
+ * iPXE's, every call that maps RVAs so finds other offsets than a reader that does not round. */
 uint32_t pe_c_offset(const pe_c_image_info *image, const pe_c_section *sections, size_t count, uint32_t rva,
                      uint64_t *out) PE_C_RESULT(1, 5);
 
@@ -455,7 +457,7 @@ typedef struct {
     uint32_t target;                /* RVA of the __except block; 0 for __finally */
 } pe_c_scope;
 
-/* A plan: a walk over the records of a function, up to the root of its chain. pe_c_plan_from makes it. */
+/* A plan: a walk over the records of a function, up to the root of its chain. pe_c_plan_from starts it. */
 typedef struct {
     uint32_t unwind;                /* unwind RVA of the next record */
     uint32_t is_over;               /* 1 after the root or an error, else 0 */
@@ -512,21 +514,18 @@ uint32_t pe_c_scope_table(const uint8_t *bytes, size_t length, const pe_c_range 
  * Errors: PE_C_SHORT where the walk is not inside the bytes, or its last entry is truncated. */
 uint32_t pe_c_next_scope(const uint8_t *bytes, size_t length, pe_c_range *walk, pe_c_scope *out) PE_C_RESULT(3, 4);
 
+/* Starts the plan of a function, by its unwind RVA, the field `unwind` of the function. It always returns PE_C_DONE. */
+uint32_t pe_c_plan_from(uint32_t unwind, pe_c_plan *out) PE_C_NOT_NULL(2);
+
 /* Returns the next record of a plan: that of the function, then that of the function to which it is chained, and so on.
  * PE_C_NOTHING after the root.
- * Errors: those of pe_c_unwind_record for the next record; PE_C_FUNCTION_CYCLE if, and only if, the chain of a plan made by
- * pe_c_plan_from never ends. Records may be returned before that error. Such a plan is over after at most 3 * 2^32
+ * Errors: those of pe_c_unwind_record for the next record; PE_C_FUNCTION_CYCLE if, and only if, the chain of a plan that
+ * pe_c_plan_from started never ends. Records may be returned before that error. Such a plan is over after at most 3 * 2^32
  * records; a plan with other fields may never be over. */
 uint32_t pe_c_next_record(const uint8_t *bytes, size_t length, const pe_c_image_info *image,
                           const pe_c_section *sections, size_t count, pe_c_plan *plan,
                           pe_c_record *out) PE_C_RESULT(3, 6, 7);
 
-/* Returns the plan of a function, by its unwind RVA. */
-static inline pe_c_plan pe_c_plan_from(uint32_t unwind)
-{
-    pe_c_plan plan = {unwind, 0, unwind, 0, 0, 1};
-    return plan;
-}
 
 /* ---- ARM64 functions and unwind records
  *
@@ -677,8 +676,8 @@ uint32_t pe_c_next_arm64_code(const uint8_t *bytes, size_t length, pe_c_arm64_wa
 /* ---- exports
  *
  * The export directory has three tables: the RVAs of what is exported, the RVAs of names in alphabetical order, and for
- * each name the index of its RVA in the first table. An RVA inside the directory is a forwarder: that of a text such as
- * "NTDLL.RtlAllocateHeap". It is returned as any other.
+ * each name the index of its RVA in the first table. An export's ordinal is that index plus a base. An RVA inside the
+ * directory is a forwarder: that of a text such as "NTDLL.RtlAllocateHeap".
  * https://learn.microsoft.com/windows/win32/debug/pe-format#the-edata-section-image-only */
 
 /* A walk over exports. */
@@ -694,10 +693,32 @@ typedef struct {
     uint64_t offset;                 /* file offset of the RVA; 0 unless has_offset */
     uint32_t rva;                   /* RVA of what is exported */
     uint32_t has_offset;             /* 1 where the RVA is mapped, else 0 */
+    uint32_t index;                 /* index in the table of RVAs, for pe_c_export_at */
+    uint32_t spare;                 /* 0 */
 } pe_c_export;
 
+/* The table of RVAs, which has all exports by their index, also those without a name. */
+typedef struct {
+    pe_c_range name;                /* of the DLL: UTF-8, without its final zero; empty unless has_name */
+    pe_c_range addresses;           /* RVAs of what is exported, 4 bytes each */
+    pe_c_directory directory;       /* the export directory: an RVA inside it is that of a forwarder's text */
+    uint32_t ordinal_base;          /* ordinal of the export with the index 0 */
+    uint32_t has_name;              /* 1 where the directory has a name that is mapped and is UTF-8 text, else 0 */
+} pe_c_address_table;
+
+/* An export by its index. */
+typedef struct {
+    pe_c_range forwarder;           /* the forwarder's text, "DLL.NAME" or "DLL.#ORDINAL": UTF-8, without its final zero;
+                                       empty unless is_forwarder, and where no text is there */
+    uint64_t ordinal;               /* its index plus ordinal_base */
+    uint32_t rva;                   /* RVA of what is exported, or of the forwarder's text; 0 for an unused ordinal */
+    uint32_t is_forwarder;          /* 1 or 0 */
+} pe_c_exported;
+
 PE_C_SIZE(pe_c_exports, 56);
-PE_C_SIZE(pe_c_export, 32);
+PE_C_SIZE(pe_c_export, 40);
+PE_C_SIZE(pe_c_address_table, 48);
+PE_C_SIZE(pe_c_exported, 32);
 
 /* Returns the tables of the export directory as a walk for pe_c_next_export. PE_C_NOTHING without a directory.
  * Errors: PE_C_UNMAPPED, PE_C_SHORT of the directory, then of the table of RVAs, of names and of indices. */
@@ -710,6 +731,17 @@ uint32_t pe_c_export_tables(const uint8_t *bytes, size_t length, const pe_c_imag
 uint32_t pe_c_next_export(const uint8_t *bytes, size_t length, const pe_c_image_info *image,
                           const pe_c_section *sections, size_t count, pe_c_exports *walk,
                           pe_c_export *out) PE_C_RESULT(3, 6, 7);
+
+/* Returns the table of RVAs of the export directory, the ordinal base and the DLL's name. PE_C_NOTHING without a directory.
+ * Errors: those of pe_c_export_tables. */
+uint32_t pe_c_export_addresses(const uint8_t *bytes, size_t length, const pe_c_image_info *image,
+                               const pe_c_section *sections, size_t count, pe_c_address_table *out) PE_C_RESULT(3, 6);
+
+/* Returns the export with an index, from 0. PE_C_NOTHING where the table has no such entry.
+ * Errors: PE_C_SHORT where the table is not inside the bytes. */
+uint32_t pe_c_export_at(const uint8_t *bytes, size_t length, const pe_c_image_info *image,
+                        const pe_c_section *sections, size_t count, const pe_c_address_table *table, uint64_t index,
+                        pe_c_exported *out) PE_C_RESULT(3, 6, 8);
 
 /* ---- imports
  *

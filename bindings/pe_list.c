@@ -6,9 +6,9 @@
  *     pe_list unwind FILE HEXRVA          the x64 function that covers an RVA, and its unwind records, up to the root of
  *                                         their chain
  *
- * The file is mapped; nothing of it is copied. `list` refuses the images that `peinfo list` refuses, but for those with
- * damaged base relocations alone, which no call reads. The status is 0, 1 for an image that is refused, 2 for misused
- * arguments, 3 for an error of a file or of standard output. */
+ * Control characters of texts are printed as \xNN. The file is mapped; nothing of it is copied. `list` refuses the images
+ * that `peinfo list` refuses, but for those with damaged base relocations alone, which no call reads. The status is 0, 1
+ * for an image that is refused, 2 for misused arguments, 3 for an error of a file or of standard output. */
 #define _POSIX_C_SOURCE 200809L
 #include "pe.h"
 
@@ -275,6 +275,67 @@ static int list(image *it, uint32_t mode)
     return FINE;
 }
 
+/* ---- texts */
+
+/* Prints a character in UTF-8, U+FFFD for an unpaired surrogate, and a control character as \xNN: a text of an image is
+ * not to drive a terminal. */
+static void show_character(uint32_t c)
+{
+    if (c >= 0xD800 && c < 0xE000)
+        c = 0xFFFD;
+    if (c < 0x20 || (c >= 0x7F && c < 0xA0)) {
+        printf("\\x%02" PRIX32, c);
+    } else if (c < 0x80) {
+        putchar((int)c);
+    } else if (c < 0x800) {
+        putchar((int)(0xC0 | c >> 6));
+        putchar((int)(0x80 | (c & 63)));
+    } else {
+        if (c < 0x10000) {
+            putchar((int)(0xE0 | c >> 12));
+        } else {
+            putchar((int)(0xF0 | c >> 18));
+            putchar((int)(0x80 | (c >> 12 & 63)));
+        }
+        putchar((int)(0x80 | (c >> 6 & 63)));
+        putchar((int)(0x80 | (c & 63)));
+    }
+}
+
+/* Reads a character of UTF-8. Returns its length in bytes, or 0 where none starts there. */
+static size_t character_at(const uint8_t *text, size_t length, uint32_t *out)
+{
+    static const uint32_t least[5] = {0, 0, 0x80, 0x800, 0x10000};
+    static const size_t sizes[16] = {1, 1, 1, 1, 1, 1, 1, 1, 0, 0, 0, 0, 2, 2, 3, 4};
+    size_t size = sizes[text[0] >> 4];
+    if (size == 0 || size > length)
+        return 0;
+    uint32_t c = size == 1 ? text[0] : text[0] & (0x7Fu >> size);
+    for (size_t i = 1; i < size; i++) {
+        if (text[i] >> 6 != 2)
+            return 0;
+        c = c << 6 | (text[i] & 63);
+    }
+    *out = c;
+    return c < least[size] || c > 0x10FFFF || (c >= 0xD800 && c < 0xE000) ? 0 : size;
+}
+
+/* Prints a name up to its first zero. Bytes that are not UTF-8 are printed as \xNN. */
+static void show_name(const uint8_t *name, uint64_t length)
+{
+    size_t left = strnlen((const char *)name, length);
+    while (left > 0) {
+        uint32_t c = 0;
+        size_t size = character_at(name, left, &c);
+        if (size == 0)
+            printf("\\x%02X", (unsigned)name[0]);
+        else
+            show_character(c);
+        name += size == 0 ? 1 : size;
+        left -= size == 0 ? 1 : size;
+    }
+}
+
 /* ---- key */
 
 /* Prints the GUID and the age as symbol servers write them, and the PDB's name up to its first zero. */
@@ -294,8 +355,9 @@ static int show_key(image *it)
     printf("key ");
     for (int i = 0; i < 16; i++)
         printf("%02X", key.guid[order[i]]);
-    const char *name = (const char *)it->bytes + key.name.offset;
-    printf("%" PRIX32 " %.*s\n", key.age, (int)strnlen(name, key.name.length), name);
+    printf("%" PRIX32 " ", key.age);
+    show_name(it->bytes + key.name.offset, key.name.length);
+    putchar('\n');
     return FINE;
 }
 
@@ -305,28 +367,6 @@ static const char *const names[] = {
     "Comments", "CompanyName", "FileDescription", "FileVersion", "InternalName", "LegalCopyright", "LegalTrademarks",
     "OriginalFilename", "PrivateBuild", "ProductName", "ProductVersion", "SpecialBuild"
 };
-
-/* Prints a character in UTF-8, or U+FFFD for an unpaired surrogate. */
-static void show_character(uint32_t c)
-{
-    if (c >= 0xD800 && c < 0xE000)
-        c = 0xFFFD;
-    if (c < 0x80) {
-        putchar((int)c);
-    } else if (c < 0x800) {
-        putchar((int)(0xC0 | c >> 6));
-        putchar((int)(0x80 | (c & 63)));
-    } else {
-        if (c < 0x10000) {
-            putchar((int)(0xE0 | c >> 12));
-        } else {
-            putchar((int)(0xF0 | c >> 18));
-            putchar((int)(0x80 | (c >> 12 & 63)));
-        }
-        putchar((int)(0x80 | (c >> 6 & 63)));
-        putchar((int)(0x80 | (c & 63)));
-    }
-}
 
 /* Prints UTF-16 code units up to the first zero. */
 static void show_units(const uint8_t *units, uint64_t length)
@@ -450,7 +490,8 @@ static int show_unwinding(image *it, uint32_t rva)
     if (result != PE_C_DONE)
         return refused(it, result, "");
     show_function("function", &function);
-    pe_c_plan plan = pe_c_plan_from(function.unwind);
+    pe_c_plan plan = PE_C_EMPTY;
+    pe_c_plan_from(function.unwind, &plan);
     pe_c_record record = PE_C_EMPTY;
     while ((result = pe_c_next_record(IMAGE(it), &plan, &record)) == PE_C_DONE) {
         result = show_record(it, &record);

@@ -5,7 +5,7 @@ use std::path::{Path, PathBuf};
 use std::{env, fs, process};
 
 /// The name that an archive of this ABI defines.
-const ABI: &[u8] = b"pe_c_abi_1\0";
+const ABI: &[u8] = b"pe_c_abi_2\0";
 
 fn refuse(why: &str) -> ! {
     eprintln!("pe-c: {why}");
@@ -25,7 +25,9 @@ fn installed_folder() -> Option<PathBuf> {
     let folder = PathBuf::from(installed("--variable=libdir")?);
     let (version, ours) = (installed("--modversion")?, env!("CARGO_PKG_VERSION"));
     if version != ours {
-        refuse(&format!("pkg-config finds version {version} of pe_c, and this crate is version {ours}: install it anew"));
+        refuse(&format!(
+            "pkg-config finds version {version} of pe_c, and this crate is version {ours}: install it anew"
+        ));
     }
     Some(folder)
 }

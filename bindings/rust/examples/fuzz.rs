@@ -238,6 +238,10 @@ fn read_by_lies(bytes: &[u8], random: &mut Random, seen: &mut Seen) {
     let tables = call_of_image!(pe_c_export_tables(), Exports);
     walk_of_image!(pe_c_next_export(tables), Export);
     walk_of_image!(pe_c_next_export(sys::Exports { names: range, next: index, ..tables }), Export);
+    let table = call_of_image!(pe_c_export_addresses(), AddressTable);
+    call_of_image!(pe_c_export_at(&table, index), Exported);
+    let lie = sys::AddressTable { addresses: range, directory, ordinal_base: few, ..table };
+    call_of_image!(pe_c_export_at(&lie, index), Exported);
     let libraries = call_of_image!(pe_c_import_libraries(), Libraries);
     walk_of_image!(pe_c_next_library(libraries), Library);
     walk_of_image!(pe_c_next_library(sys::Libraries { next: range.offset, ..libraries }), Library);
@@ -251,6 +255,9 @@ fn read_by_lies(bytes: &[u8], random: &mut Random, seen: &mut Seen) {
         ..sys::Plan::default()
     };
     walk_of_image!(pe_c_next_record(plan), Record);
+    let mut started = sys::Plan::default();
+    unsafe { sys::pe_c_plan_from(few, &mut started) };
+    walk_of_image!(pe_c_next_record(started), Record);
 }
 
 /// The arguments: the seconds, the seed, and the files.

@@ -40,6 +40,7 @@ fn show_code(code: Code) {
         Operation::SaveXmm128(register, offset) => format!("SaveXMM128({register:?}, {})", offset_of(offset)),
         Operation::MachineFrame { has_error_code } => format!("PushMachineFrame({has_error_code})"),
         Operation::Noop => "Noop".to_owned(),
+        _ => "?".to_owned(),
     };
     println!("code {} {operation}", code.code_offset);
 }
@@ -115,6 +116,7 @@ fn arm64_operation(operation: Arm64Operation) -> String {
                 RegisterKind::Integer => 0,
                 RegisterKind::Float => 1,
                 RegisterKind::Vector => 2,
+                _ => u8::MAX,
             };
             format!(
                 "SaveAnyReg {{ kind: {kind}, pair: {pair}, preindexed: {preindexed}, reg: {register}, \
@@ -130,11 +132,13 @@ fn arm64_operation(operation: Arm64Operation) -> String {
                 CustomStack::Context => "Context",
                 CustomStack::EcContext => "EcContext",
                 CustomStack::ClearUnwoundToCall => "ClearUnwoundToCall",
+                _ => "?",
             };
             format!("CustomStack({case})")
         }
         plain @ (SetFp | Nop | End | EndC | SaveNext | PacSignLr) => format!("{plain:?}"),
         Reserved { .. } => "Reserved".to_owned(),
+        _ => "?".to_owned(),
     }
 }
 
@@ -254,13 +258,13 @@ fn show_debug(image: &Image) {
     }
     let key = there(image.symbol_key());
     if let Some(key) = key {
-        println!("pdb70 {} {} {:?} {:?}", 0x5344_5352, key.age, key.guid, key.name_bytes);
+        println!("pdb70 {} {} {:?} {:?}", 0x5344_5352, key.age, key.guid.0, key.name_bytes);
     }
     if let Some(it) = there(image.pdb20()) {
         println!("pdb20 {} {} {} {} {:?}", 0x3031_424E, it.offset, it.signature, it.age, it.name_bytes);
     }
     if let Some(key) = key {
-        println!("guid {:?}", key.guid);
+        println!("guid {:?}", key.guid.0);
     }
     if let Some(it) = there(image.vc_features()) {
         println!(
@@ -355,7 +359,7 @@ fn show_tables(image: &Image) {
 }
 
 /// Reads every library, then every import: errors come in the order of `peinfo list`.
-fn imports<'i, 'a>(image: &'i Image<'a>) -> Result<Vec<(&'a [u8], Import<'a>)>, Error> {
+fn imports<'a>(image: &Image<'a>) -> Result<Vec<(&'a [u8], Import<'a>)>, Error> {
     let libraries: Vec<_> = image.libraries()?.into_iter().flatten().collect::<Result<_, _>>()?;
     let each = libraries.iter().flat_map(|it| it.imports().map(|import| import.map(|import| (it.name, import))));
     each.collect()

@@ -11,6 +11,7 @@ use crate::walk::{items, look, Walk};
 
 /// What the operating system put on the stack, with the names of Microsoft's custom stack cases.
 #[derive(Clone, Copy, Debug, PartialEq, Eq, Hash)]
+#[non_exhaustive]
 pub enum CustomStack {
     /// `MSFT_OP_TRAP_FRAME`.
     TrapFrame,
@@ -26,6 +27,7 @@ pub enum CustomStack {
 
 /// The kind of a saved register.
 #[derive(Clone, Copy, Debug, PartialEq, Eq, Hash)]
+#[non_exhaustive]
 pub enum RegisterKind {
     /// x, 8 bytes.
     Integer,
@@ -40,6 +42,7 @@ pub enum RegisterKind {
 /// Register numbers n mean xn, or dn of a floating-point register. Sizes and offsets are in bytes; offsets count from sp. A
 /// preindexed store (`_x`) moves sp down by its offset first.
 #[derive(Clone, Copy, Debug, PartialEq, Eq, Hash)]
+#[non_exhaustive]
 pub enum Arm64Operation {
     /// `alloc_s`: allocated stack.
     AllocSmall {

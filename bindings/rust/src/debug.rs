@@ -4,6 +4,7 @@
 //! Symbolizers take the symbol key, and fetch the PDB from a symbol server by it.
 
 use crate::image::{bytes_of, up_to_zero, Error, Image};
+use crate::symbol_server::Guid;
 use crate::sys::{self, DebugEntry, VcFeatures};
 use crate::walk::{ask_of_bytes, items, Walk};
 use core::fmt;
@@ -11,6 +12,7 @@ use core::fmt;
 /// A CodeView record of PDB 7.0 ("RSDS"): a symbol server files the PDB under its name, GUID and age.
 ///
 /// `Display` writes the key as symbol servers do: the GUID's 32 digits, then the age, in upper-case hexadecimal.
+/// [`path`](Self::path) is the whole path there.
 ///
 /// ```
 /// # #[path = "../tests/made/mod.rs"] mod made;
@@ -25,8 +27,8 @@ use core::fmt;
 /// ```
 #[derive(Clone, Copy, Debug, PartialEq, Eq)]
 pub struct SymbolKey<'a> {
-    /// As in the file: little-endian u32, u16, u16, then 8 bytes.
-    pub guid: [u8; 16],
+    /// Of the PDB.
+    pub guid: Guid,
     /// Grows by one each time the PDB is written.
     pub age: u32,
     /// The PDB file's name and the zeros after it, up to the end of the record.
@@ -52,7 +54,7 @@ impl<'a> SymbolKey<'a> {
         let Some(key) = ask_of_bytes(record, sys::pe_c_codeview, &range)? else {
             return Ok(None);
         };
-        Ok(Some(SymbolKey { guid: key.guid, age: key.age, name_bytes: bytes_of(key.name, record)? }))
+        Ok(Some(SymbolKey { guid: Guid(key.guid), age: key.age, name_bytes: bytes_of(key.name, record)? }))
     }
 
     /// The PDB file's name, up to the first zero.
@@ -63,9 +65,7 @@ impl<'a> SymbolKey<'a> {
 
 impl fmt::Display for SymbolKey<'_> {
     fn fmt(&self, f: &mut fmt::Formatter<'_>) -> fmt::Result {
-        for offset in [3, 2, 1, 0, 5, 4, 7, 6, 8, 9, 10, 11, 12, 13, 14, 15] {
-            write!(f, "{:02X}", self.guid[offset])?;
-        }
+        self.guid.write(f, "")?;
         write!(f, "{:X}", self.age)
     }
 }
@@ -197,7 +197,7 @@ impl<'a> Image<'a> {
             return Ok(None);
         };
         let name_bytes = bytes_of(key.name, self.bytes())?;
-        Ok(Some(SymbolKey { guid: key.guid, age: key.age, name_bytes }))
+        Ok(Some(SymbolKey { guid: Guid(key.guid), age: key.age, name_bytes }))
     }
 
     /// The CodeView record, if it is one of PDB 2.0.

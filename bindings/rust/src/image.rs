@@ -11,6 +11,7 @@ use core::fmt;
 
 /// How damaged headers and directories are read.
 #[derive(Clone, Copy, Debug, PartialEq, Eq, Hash)]
+#[non_exhaustive]
 pub enum Mode {
     /// They are errors.
     Strict,
@@ -25,6 +26,7 @@ pub enum Mode {
 
 /// What the bytes of an image are.
 #[derive(Clone, Copy, Debug, PartialEq, Eq, Hash)]
+#[non_exhaustive]
 pub enum Layout {
     /// A file: the section headers map RVAs to file offsets.
     File,
@@ -46,6 +48,7 @@ fn number_of(mode: Mode, layout: Layout) -> u32 {
 }
 
 /// An error, by the library's number, which is stable. `Display` writes the library's text, `Debug` the constant's name.
+/// Errors may be added: a match over the constants needs an arm for every other.
 ///
 /// ```
 /// use pe_c::{Error, Image, Mode};
@@ -270,8 +273,11 @@ impl fmt::Debug for Image<'_> {
 /// A call that takes an image.
 type Call<T> = unsafe extern "C" fn(*const u8, usize, *const ImageInfo, *const Section, usize, *mut T) -> u32;
 /// A call that takes an image and one more argument.
-type CallWith<M, T> =
-    unsafe extern "C" fn(*const u8, usize, *const ImageInfo, *const Section, usize, M, *mut T) -> u32;
+type CallWith<M, T> = unsafe extern "C" fn(*const u8, usize, *const ImageInfo, *const Section, usize, M, *mut T) -> u32;
+
+/// A call that takes an image, a record and a number.
+type Look<M, T> =
+    unsafe extern "C" fn(*const u8, usize, *const ImageInfo, *const Section, usize, *const M, u64, *mut T) -> u32;
 
 // SAFETY of all calls here: they are the declarations of `sys`, which match the archive. Each pointer and length are
 // those of one borrow that outlives the call; what the call writes overlaps no other argument, and is initialised. The
@@ -317,7 +323,7 @@ impl<'a> Image<'a> {
     /// - [`Error::SHORT`] where they are truncated.
     pub fn parse_as(bytes: &'a [u8], mode: Mode, layout: Layout) -> Result<Self, Error> {
         // SAFETY: it takes no arguments. The call is here so that no program links with an archive of another ABI.
-        unsafe { sys::pe_c_abi_1() };
+        unsafe { sys::pe_c_abi_2() };
         let mut info = ImageInfo::default();
         let way = number_of(mode, layout);
         // SAFETY: as above.
@@ -364,12 +370,14 @@ impl<'a> Image<'a> {
 
     /// The file offset of an RVA, by the first section that covers it; in [`Layout::Mapped`] the RVA itself. It may be past
     /// the end of the bytes. `None` where no section covers the RVA, or the file alignment is not a power of two.
+    ///
+    /// A section's data start at its raw pointer rounded down to a multiple of 512. Of a file whose alignment is below 512,
+    /// as iPXE's, every call that maps RVAs so finds other offsets than a reader that does not round.
     pub fn offset(&self, rva: u32) -> Option<u64> {
         let mut offset = 0;
         // SAFETY: as above.
-        let number = unsafe {
-            sys::pe_c_offset(&self.info, self.sections.as_ptr(), self.sections.len(), rva, &mut offset)
-        };
+        let number =
+            unsafe { sys::pe_c_offset(&self.info, self.sections.as_ptr(), self.sections.len(), rva, &mut offset) };
         (number == sys::DONE).then_some(offset)
     }
 
@@ -401,6 +409,16 @@ impl<'a> Image<'a> {
     /// Makes a call that takes a record too.
     pub(crate) fn ask_of<M, T: Default>(&self, call: CallWith<*const M, T>, more: &M) -> Result<Option<T>, Error> {
         self.call_with(call, more)
+    }
+
+    /// Makes a call that takes a record and a number too.
+    pub(crate) fn look<M, T: Default>(&self, call: Look<M, T>, more: &M, index: u64) -> Result<Option<T>, Error> {
+        let mut out = T::default();
+        let (bytes, sections) = (self.bytes, &self.sections);
+        let (first, count) = (sections.as_ptr(), sections.len());
+        // SAFETY: as above, and `more` is lent for the call.
+        let number = unsafe { call(bytes.as_ptr(), bytes.len(), &self.info, first, count, more, index, &mut out) };
+        returned(number, out)
     }
 
     /// Makes a call that moves a walk.

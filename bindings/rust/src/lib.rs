@@ -10,7 +10,7 @@
 //! | debug data | [`symbol_key`](Image::symbol_key), [`debug_entries`](Image::debug_entries), [`pogo`](Image::pogo), .. | [debug section] |
 //! | certificates | [`certificates`](Image::certificates) | [certificate table] |
 //! | unwind data | [`functions`](Image::functions), [`arm64_functions`](Image::arm64_functions) | [x64], [ARM64] |
-//! | exports, imports | [`exports`](Image::exports), [`libraries`](Image::libraries) | [.edata], [.idata] |
+//! | exports, imports | [`exports`](Image::exports), [`export_addresses`](Image::export_addresses), [`libraries`](Image::libraries) | [.edata], [.idata] |
 //! | resources | [`version`](Image::version), [`version_text`](Image::version_text), [`manifest`](Image::manifest) | [version information] |
 //!
 //! [PE Format]: https://learn.microsoft.com/windows/win32/debug/pe-format
@@ -62,6 +62,7 @@ mod debug;
 mod exports;
 mod image;
 mod imports;
+mod symbol_server;
 pub mod sys;
 mod version;
 mod walk;
@@ -73,9 +74,10 @@ pub use arm64::{
 };
 pub use certificates::{Certificate, Certificates};
 pub use debug::{DebugEntries, Pdb20, Pogo, PogoEntries, PogoEntry, Repro, SymbolKey};
-pub use exports::{Export, Exports};
+pub use exports::{AddressTable, Export, Exported, Exports};
 pub use image::{DirectoryIndex, Error, Image, Layout, Mode};
 pub use imports::{Import, Imports, Libraries, Library};
+pub use symbol_server::{Guid, SymbolPath};
 pub use sys::{
     Arm64Function, Arm64Packed, Arm64Scope, DebugEntry, Directory, Function, ImageInfo, Scope, Section, VcFeatures,
 };

@@ -285,8 +285,7 @@ Scope, 16 {
     target: u32,
 });
 record!(
-/// A walk over the records of a function, up to the root of its chain. It starts with `saved` equal to `unwind`, `limit`
-/// 1, and 0 in the other fields.
+/// A walk over the records of a function, up to the root of its chain. [`pe_c_plan_from`] starts it.
 Plan, 32 {
     /// Unwind RVA of the next record.
     unwind: u32,
@@ -401,7 +400,7 @@ Exports, 56 {
 });
 record!(
 /// An export. See [`Export`](crate::Export).
-Export, 32 {
+Export, 40 {
     /// UTF-8, without its final zero.
     name: Range,
     /// File offset of the RVA; 0 unless `has_offset`.
@@ -410,6 +409,36 @@ Export, 32 {
     rva: u32,
     /// 1 where the RVA is mapped, else 0.
     has_offset: u32,
+    /// Index in the table of RVAs.
+    index: u32,
+    /// 0.
+    spare: u32,
+});
+record!(
+/// The export directory's table of RVAs. See [`AddressTable`](crate::AddressTable).
+AddressTable, 48 {
+    /// The DLL's name: UTF-8, without its final zero; empty unless `has_name`.
+    name: Range,
+    /// RVAs of what is exported, 4 bytes each.
+    addresses: Range,
+    /// The export directory: an RVA inside it is that of a forwarder's text.
+    directory: Directory,
+    /// Ordinal of the export with the index 0.
+    ordinal_base: u32,
+    /// 1 where the directory has a name that is mapped and is UTF-8 text, else 0.
+    has_name: u32,
+});
+record!(
+/// An export by its index. See [`Exported`](crate::Exported).
+Exported, 32 {
+    /// A forwarder's text: UTF-8, without its final zero; empty unless `is_forwarder`, and where no text is there.
+    forwarder: Range,
+    /// The index plus the ordinal base.
+    ordinal: u64,
+    /// RVA of what is exported, or of the forwarder's text; 0 for an unused ordinal.
+    rva: u32,
+    /// 1 or 0.
+    is_forwarder: u32,
 });
 record!(
 /// A walk over the libraries of an import directory.
@@ -536,7 +565,7 @@ macro_rules! calls_of_bytes {
 
 extern "C" {
     /// Returns the number of the archive's ABI, which its name has too: a program does not link with an archive of another.
-    pub fn pe_c_abi_1() -> u32;
+    pub fn pe_c_abi_2() -> u32;
     /// Writes the text of a result to the start of the array, truncated at its end. Returns the length of the whole text.
     pub fn pe_c_text(number: u32, room: *mut u8, length: usize) -> usize;
     /// Writes the section headers to the start of an array.
@@ -548,13 +577,10 @@ extern "C" {
         entries: usize,
     ) -> u32;
     /// Returns the file offset of an RVA; in an image as loaded the RVA itself.
-    pub fn pe_c_offset(
-        image: *const ImageInfo,
-        sections: *const Section,
-        count: usize,
-        rva: u32,
-        out: *mut u64,
-    ) -> u32;
+    pub fn pe_c_offset(image: *const ImageInfo, sections: *const Section, count: usize, rva: u32, out: *mut u64)
+        -> u32;
+    /// Starts the plan of a function, by its unwind RVA.
+    pub fn pe_c_plan_from(unwind: u32, out: *mut Plan) -> u32;
     /// Returns the fields of packed unwind data.
     pub fn pe_c_arm64_packed_fields(function: *const Arm64Function, out: *mut Arm64Packed) -> u32;
 }
@@ -619,6 +645,10 @@ calls_of_an_image! {
     pe_c_export_tables() -> Exports;
     /// Returns the next export.
     pe_c_next_export(walk: *mut Exports) -> Export;
+    /// Returns the export directory's table of RVAs.
+    pe_c_export_addresses() -> AddressTable;
+    /// Returns the export with an index.
+    pe_c_export_at(table: *const AddressTable, index: u64) -> Exported;
     /// Returns the import directory, as a walk.
     pe_c_import_libraries() -> Libraries;
     /// Returns the next library.

@@ -45,6 +45,7 @@ impl sys::Version {
 /// # Ok::<(), pe_c::Error>(())
 /// ```
 #[derive(Clone, Copy, Debug, PartialEq, Eq, Hash)]
+#[non_exhaustive]
 pub enum VersionName {
     /// Remarks for diagnosis.
     Comments,

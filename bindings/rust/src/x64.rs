@@ -38,6 +38,7 @@ pub enum Offset {
 
 /// What an instruction of the prolog did, with Microsoft's names.
 #[derive(Clone, Copy, Debug, PartialEq, Eq, Hash)]
+#[non_exhaustive]
 pub enum Operation {
     /// `UWOP_PUSH_NONVOL`: pushed a register.
     Push(Register),
@@ -296,9 +297,15 @@ impl<'i, 'a> Functions<'i, 'a> {
     /// [`Error::FUNCTION_CYCLE`] is returned if, and only if, the chain never ends. Records may be returned before it. The
     /// errors of the table come from [`Image::functions`].
     pub fn plan(&self, function: Function) -> Plan<'i, 'a> {
-        let start = sys::Plan { unwind: function.unwind, saved: function.unwind, limit: 1, ..sys::Plan::default() };
-        Plan(ImageWalk::new(self.image, start))
+        Plan(ImageWalk::new(self.image, plan_from(function.unwind)))
     }
+}
+
+fn plan_from(unwind: u32) -> sys::Plan {
+    let mut plan = sys::Plan::default();
+    // SAFETY: a writable record.
+    let _ = unsafe { sys::pe_c_plan_from(unwind, &mut plan) };
+    plan
 }
 
 /// The records of a function, up to the root of its chain. [`Functions::plan`] says which errors an item can be.

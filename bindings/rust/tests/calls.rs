@@ -6,8 +6,8 @@ mod made;
 use facts::{as_loaded, facts};
 use made::*;
 use pe_c::{
-    Arm64Operation, Arm64Unwinding, DirectoryIndex, Error, Handler, Image, Layout, Mode, Offset, Operation, Register, Repro,
-    SymbolKey, VersionName,
+    Arm64Operation, Arm64Unwinding, DirectoryIndex, Error, Handler, Image, Layout, Mode, Offset, Operation, Register,
+    Repro, SymbolKey, VersionName,
 };
 
 fn strict(bytes: &[u8]) -> Image<'_> {
@@ -78,7 +78,7 @@ fn records_that_stand_alone_have_keys() {
     let mut bytes = with_debug();
     let record = bytes[OFFSET as usize..][..30].to_vec();
     let key = SymbolKey::of_record(&record).unwrap().unwrap();
-    assert_eq!((key.guid, key.age, key.name_bytes), (GUID, 1, b"a.pdb\0".as_slice()));
+    assert_eq!((key.guid.0, key.age, key.name_bytes), (GUID, 1, b"a.pdb\0".as_slice()));
     assert_eq!(strict(&bytes).symbol_key(), Ok(Some(key)));
     // the size of the POGO record, whose entry is the third, is damaged
     let entries = strict(&bytes).info().directory(DirectoryIndex::Debug).unwrap().virtual_address;
@@ -183,7 +183,10 @@ fn debug_records_are_read() {
     assert_eq!((entries[0].address_of_raw_data, entries[0].pointer_to_raw_data), (ADDRESS, OFFSET));
     assert_eq!(entries[3].time_date_stamp, 0x5F00_0000);
     let key = image.symbol_key().unwrap().unwrap();
-    assert_eq!((key.guid, key.age, key.name_bytes, key.name()), (GUID, 1, b"a.pdb\0".as_slice(), b"a.pdb".as_slice()));
+    assert_eq!(
+        (key.guid.0, key.age, key.name_bytes, key.name()),
+        (GUID, 1, b"a.pdb\0".as_slice(), b"a.pdb".as_slice())
+    );
     assert_eq!(key.to_string(), "497B72F6390A44FC878E5A2D63B6CC4B1");
     assert!(bytes.as_ptr_range().contains(&key.name().as_ptr()), "the name is borrowed");
     assert_eq!(image.pdb20(), Ok(None));
@@ -485,6 +488,26 @@ fn exports_are_listed() {
         image.exports().unwrap().unwrap().map(Result::unwrap).map(|it| (it.name, it.rva, it.offset)).collect();
     assert_eq!(exports, [(b"first".as_slice(), 0x9_0000, None), (b"second".as_slice(), 0x1004, Some(0x404))]);
     assert!(strict(SMALL).exports().unwrap().is_none());
+}
+
+/// All exports by their index: those with names, an ordinal that is not used, and a forwarder without a name.
+#[test]
+fn exports_have_ordinals_and_forwarders() {
+    let bytes = with_exports();
+    let image = strict(&bytes);
+    let table = image.export_addresses().unwrap().unwrap();
+    assert_eq!((table.name(), table.ordinal_base(), table.len()), (Some(b"made.dll".as_slice()), 5, 4));
+    let found: Vec<_> = table.iter().map(|it| (it.ordinal, it.forwarder)).collect();
+    let text = b"NTDLL.RtlFree".as_slice();
+    assert_eq!(found, [(5, None), (6, None), (7, None), (8, Some(text))]);
+    let rvas: Vec<_> = table.iter().map(|it| it.rva).collect();
+    assert_eq!(rvas[..3], [0x1004, 0x9_0000, 0]);
+    let at = bytes.windows(text.len()).position(|it| it == text).unwrap() as u32;
+    assert_eq!(offset(rvas[3]), at);
+    let indices: Vec<_> = image.exports().unwrap().unwrap().map(|it| it.unwrap().index).collect();
+    assert_eq!(indices, [1, 0]);
+    assert_eq!((table.get(4), table.get(u64::MAX)), (None, None));
+    assert!(strict(SMALL).export_addresses().unwrap().is_none());
 }
 
 #[test]

@@ -13,7 +13,7 @@ use Rattle.pe_core.specs.Refusals.{Refusal, ◌>>=◌}
 use Rattle.pe_core.specs.SectionMap.{mapped}
 use Rattle.pe_core.specs.Text.{text_at, text_of, text_to_zero}
 use Rattle.pe_core.specs.declared.export.ExportDirectoryTable.{ExportDirectoryTable}
-use Rattle.pe_c.specs.Exports.{export_reported, reported_entry, walk_over, with_tables}
+use Rattle.pe_c.specs.Exports.{export_reported, index_at, reported_entry, walk_over, with_tables}
 use Rattle.pe_c.specs.Parts.{HasTables, ReportsExport}
 use Rattle.pe_c.specs.Ranges.{IsRange, no_bytes, range_from}
 
@@ -44,27 +44,27 @@ text_stands b p name e = text_by b p name (position (λ c. c == 0) (drop p b)) r
 
 -- ---- exports
 
-by_address : (offset : ℕ → Option ℕ) (b : List ℕ) (p : ℕ) (name : List ℕ) (rva : Option ℕ) → text_at b p ≡ Some name →
+by_address : (offset : ℕ → Option ℕ) (b : List ℕ) (p k : ℕ) (name : List ℕ) (rva : Option ℕ) → text_at b p ≡ Some name →
     ReportsExport b
-    (option_map (export_reported p) (option_map (λ r. record { name = name; rva = r; offset = offset r }) rva))
+    (option_map (export_reported p k) (option_map (λ r. record { name = name; rva = r; offset = offset r }) rva))
     (option_map (λ r. record { name = name; rva = r; offset = offset r }) rva)
-by_address offset b p name None e = tt
-by_address offset b p name (Some rva) e = (text_stands b p name e, refl, refl, refl)
+by_address offset b p k name None e = tt
+by_address offset b p k name (Some rva) e = (text_stands b p name e, refl, refl, refl)
 
-by_text : (offset : ℕ → Option ℕ) (b : List ℕ) (d : ExportDataView) (i p : ℕ) (name : Option (List ℕ)) → text_at b p ≡ name →
-    ReportsExport b (option_map (export_reported p) (option_and_then (named_export offset d i) name)) (option_and_then (named_export offset d i) name)
-by_text offset b d i p None e = tt
-by_text offset b d i p (Some name) e = by_address offset b p name (option_and_then (table_entry 4 d.addresses) (table_entry 2 d.ordinals i)) e
+by_text : (offset : ℕ → Option ℕ) (b : List ℕ) (d : ExportDataView) (i p k : ℕ) (name : Option (List ℕ)) → text_at b p ≡ name →
+    ReportsExport b (option_map (export_reported p k) (option_and_then (named_export offset d i) name)) (option_and_then (named_export offset d i) name)
+by_text offset b d i p k None e = tt
+by_text offset b d i p k (Some name) e = by_address offset b p k name (option_and_then (table_entry 4 d.addresses) (table_entry 2 d.ordinals i)) e
 
-by_offset : (offset : ℕ → Option ℕ) (b : List ℕ) (d : ExportDataView) (i : ℕ) (at : Option ℕ) →
+by_offset : (offset : ℕ → Option ℕ) (b : List ℕ) (d : ExportDataView) (i k : ℕ) (at : Option ℕ) →
     ReportsExport b
-    (option_and_then (λ p. option_map (export_reported p) (option_and_then (named_export offset d i) (text_at b p))) at)
+    (option_and_then (λ p. option_map (export_reported p k) (option_and_then (named_export offset d i) (text_at b p))) at)
     (option_and_then (named_export offset d i) (option_and_then (text_at b) at))
-by_offset offset b d i None = tt
-by_offset offset b d i (Some p) = by_text offset b d i p (text_at b p) refl
+by_offset offset b d i k None = tt
+by_offset offset b d i k (Some p) = by_text offset b d i p k (text_at b p) refl
 
 pub reports : (offset : ℕ → Option ℕ) (b : List ℕ) (d : ExportDataView) (i : ℕ) → ReportsExport b (reported_entry offset b (with_tables d.names d.ordinals d.addresses) i) (export_at offset b d i)
-reports offset b d i = by_offset offset b d i (offset (le d.names (4 * i) 4))
+reports offset b d i = by_offset offset b d i (index_at d i) (offset (le d.names (4 * i) 4))
 
 -- ---- tables
 

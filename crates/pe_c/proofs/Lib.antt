@@ -1,3 +1,4 @@
+pub mod AddressEntries
 pub mod Addresses
 pub mod Arm64CodeRuns
 pub mod CertificateRuns

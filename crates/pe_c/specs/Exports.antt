@@ -83,13 +83,17 @@ abbrev pub one_if_some : {X : Type 0} → Option X → ℕ
 one_if_some None = 0
 one_if_some (Some x) = 1
 
--- an export whose name is at offset p
-abbrev pub export_reported : ℕ → ExportView → Export
-export_reported p e = record { name = record { offset = p; length = length e.name }; offset = or_zero e.offset; rva = e.rva; has_offset = one_if_some e.offset }
+-- an export whose name is at offset p, with its index in the address table
+abbrev pub export_reported : ℕ → ℕ → ExportView → Export
+export_reported p index e = record { name = record { offset = p; length = length e.name }; offset = or_zero e.offset; rva = e.rva; has_offset = one_if_some e.offset; index = index; spare = 0 }
+
+-- the index in the address table that entry i of the ordinal table has
+abbrev pub index_at : ExportDataView → ℕ → ℕ
+index_at d i = le d.ordinals (2 * i) 2
 
 -- the export of entry i of the name table, if its name is mapped and is text, and its ordinal is in the address table
 abbrev pub reported_entry : (ℕ → Option ℕ) → List ℕ → ExportDataView → ℕ → Option Export
-reported_entry offset b d i = option_and_then (λ p. option_map (export_reported p) (option_and_then (named_export offset d i) (text_at b p))) (offset (le d.names (4 * i) 4))
+reported_entry offset b d i = option_and_then (λ p. option_map (export_reported p (index_at d i)) (option_and_then (named_export offset d i) (text_at b p))) (offset (le d.names (4 * i) 4))
 
 -- the exports of the entries from one index up to another, in their order; an entry may have none
 abbrev pub reported_from : (ℕ → Option Export) → ℕ → ℕ → List Export

@@ -3,6 +3,7 @@ pub mod Arm64
 pub mod Certificates
 pub mod Debug
 pub mod DebugWalks
+pub mod ExportAddresses
 pub mod Exports
 pub mod Images
 pub mod Imports

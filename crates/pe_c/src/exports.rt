@@ -1,6 +1,6 @@
 //! Exports. The export directory has three tables: the RVAs of what is exported, the RVAs of names, and for each name
-//! the index of its RVA in the first table. A walk returns the exports that have a name. An RVA inside the directory is
-//! that of a forwarder, and is returned as any other.
+//! the index of its RVA in the first table. A walk returns the exports that have a name; `export_addresses` has all of
+//! them by their index, and says which are forwarders.
 //! https://learn.microsoft.com/windows/win32/debug/pe-format#the-edata-section-image-only
 
 ghost use Rattle.std.specs.Prelude.{◌≡◌, ◌+◌, ◌*◌, ◌/◌, ◌≤◌, length};
@@ -41,10 +41,14 @@ pub struct Export {
     pub rva: u32,
     /// 1 where a section maps the RVA, else 0.
     pub has_offset: u32,
+    /// Index in the address table: plus the ordinal base it is the ordinal.
+    pub index: u32,
+    /// 0.
+    pub spare: u32,
 }
 
 /// The range of a table of so many bytes at an RVA. An empty table needs no mapped RVA.
-fn export_table(rva: u32, size: u64, image: &Image, sections: &[SectionTable]) -> Range
+pub fn export_table(rva: u32, size: u64, image: &Image, sections: &[SectionTable]) -> Range
     ensures { result ≡ export_table (map_of_image image.now sections.now) rva size }
 {
     if size == 0 {
@@ -132,6 +136,8 @@ fn reported_entry(
         offset: exported.unwrap_or(0) as u64,
         rva,
         has_offset: u32::from(exported.is_some()),
+        index: u32::from(ordinal),
+        spare: 0,
     })
 }
 

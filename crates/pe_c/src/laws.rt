@@ -5,10 +5,11 @@ ghost use Rattle.pe_c.specs.Arm64.{StepsArm64Codes, arm64_function_in, arm64_wal
 ghost use Rattle.pe_c.specs.Certificates.{StepsCertificates, ReportsCertificate, listed};
 ghost use Rattle.pe_c.specs.Debug.{key_of, pdb20_field, pogo_field, repro_field};
 ghost use Rattle.pe_c.specs.DebugWalks.{StepsPogoEntries, entries_reported};
+ghost use Rattle.pe_c.specs.ExportAddresses.{address_table, exported_at, exported_with, forwarder_text};
 ghost use Rattle.pe_c.specs.Exports.{StepsExports, count_of, tables_or_short, reported_entry, reported_from, walk_over, with_tables};
 ghost use Rattle.pe_c.specs.Images.{import_directory, map_of_image};
 ghost use Rattle.pe_c.specs.Imports.{StepsLibraries, libraries_at};
-ghost use Rattle.pe_c.specs.Parts.{HasTables, ImportsInTurn, ReportsExport, ReportsLibrary, ReportsPart, ReportsRecord};
+ghost use Rattle.pe_c.specs.Parts.{HasTables, ImportsInTurn, IsPart, ReportsExport, ReportsLibrary, ReportsPart, ReportsRecord};
 ghost use Rattle.pe_c.specs.Modes.{options_of};
 ghost use Rattle.pe_c.specs.Plans.{HandsOutAfter, ReturnsInTurn, ReportsUnwindRecord, ending_of, plan_from};
 ghost use Rattle.pe_c.specs.Ranges.{IsRange, bytes_at};
@@ -18,6 +19,7 @@ ghost use Rattle.pe_c.specs.Versions.{ReportsFixed, ReportsManifest, ReportsValu
 ghost use Rattle.pe_c.specs.Walks.{StepsEntries, walk_items, indexed};
 ghost use Rattle.pe_c.specs.declared.arm64.codes.Arm64CodeWalk.{Arm64CodeWalk};
 ghost use Rattle.pe_c.specs.declared.certificates.Certificate.{Certificate};
+ghost use Rattle.pe_c.specs.declared.export_addresses.AddressTable.{AddressTable};
 ghost use Rattle.pe_c.specs.declared.exports.Export.{Export};
 ghost use Rattle.pe_c.specs.declared.exports.Exports.{Exports};
 ghost use Rattle.pe_c.specs.declared.image.Image.{Image};
@@ -31,6 +33,7 @@ ghost use Rattle.pe_core.specs.Bytes.{AreBytes, holds};
 ghost use Rattle.pe_core.specs.Exports.{ExportDataView, export_at, export_data_at, exports};
 ghost use Rattle.pe_core.specs.Imports.{ImportRecordView, entry_size, import_data_at};
 ghost use Rattle.pe_core.specs.Refusals.{CertificateTable, Memory, Refusal, outcome};
+ghost use Rattle.pe_core.specs.declared.data_directories.DataDirectory.{DataDirectory};
 ghost use Rattle.pe_core.specs.declared.error.Error.{Error};
 ghost use Rattle.pe_core.specs.declared.section_table.SectionTable.{SectionTable};
 ghost use Rattle.pe_plan.specs.Plans.{PlansFrom};
@@ -53,7 +56,7 @@ ghost use Rattle.pe_unwind.specs.declared.function_table.RuntimeFunction.{Runtim
 ghost use Rattle.pe_unwind.specs.declared.unwind_code.UnwindCode.{UnwindCode};
 ghost use Rattle.std.specs.List.{AllZip};
 ghost use Rattle.std.specs.Option.{option_map};
-ghost use Rattle.std.specs.Prelude.{◌≡◌, ℕ, List, Option, Ok, Err, IfSome, ◌⊎◌, ◌*◌, ◌==◌, ◌^◌, ◌<◌, ◌≤◌, length, Some, Result, true, false, [], ◌∷◌, ◌++◌, ◌≢◌, map};
+ghost use Rattle.std.specs.Prelude.{◌≡◌, ℕ, ◌+◌, List, Option, Ok, Err, IfSome, ◌⊎◌, ◌*◌, ◌==◌, ◌^◌, ◌<◌, ◌≤◌, length, Some, Result, true, false, [], ◌∷◌, ◌++◌, ◌≢◌, map};
 
 /// The ranges of an unwind record lie in the bytes, and are its codes and its handler's data.
 pub fn ranges_of_records()
@@ -74,10 +77,10 @@ pub fn ranges_of_arm64_records()
         IfSome i.handler (λ h. IsRange b (flat_info b p i).handler_data h.bytes) }
 {}
 
-/// The plan of a function, one record a step, is that of pe_plan. Where a step returns nothing, the records before it
-/// are those of the function's plan, one for one. The error of a step is the error of the plan, so it is a cycle only
-/// where the function's chain never ends. Each step returns a record, or ends as the plan of pe_plan does. Where
-/// reading the exception data fails, the first step returns that error.
+/// The plan that `pe_c_plan_from` starts for a function, one record a step, is that of pe_plan. Where a step returns
+/// nothing, the records before it are those of the function's plan, one for one. The error of a step is the error of
+/// the plan, so it is a cycle only where the function's chain never ends. Each step returns a record, or ends as the
+/// plan of pe_plan does. Where reading the exception data fails, the first step returns that error.
 pub fn plans_are_those_of_functions()
     ensures records { (b : List ℕ) (image : Image) (sections : List SectionTable)
         (mode : ℕ) (v : ExceptionView) (f : RuntimeFunction) (given : List UnwindRecord) →
@@ -108,7 +111,7 @@ pub fn plans_are_those_of_functions()
     pe_unwind::laws::x64::one_record_of_addresses();
 }
 
-/// A plan that starts at an unwind RVA returns at most three times as many records as there are RVAs: so it comes to
+/// A plan that `pe_c_plan_from` starts returns at most three times as many records as there are RVAs: so it comes to
 /// the root, or to an error.
 pub fn plans_end()
     ensures { (b : List ℕ) (image : Image) (sections : List SectionTable)
@@ -232,6 +235,26 @@ pub fn walks_report_the_exports()
     ensures exports { (offset : ℕ → Option ℕ) (b : List ℕ) (d : ExportDataView) (i : ℕ) →
         ReportsExport b (reported_entry offset b (with_tables d.names d.ordinals d.addresses) i)
         (export_at offset b d i) }
+{}
+
+/// The address table of an export directory has the range of the directory's addresses and that of its name, and each of
+/// its entries that of a forwarder's text. The index that a walk over exports returns with a name is that of the entry
+/// which has the export's RVA.
+#[tactic(auto, using(crate::proofs::AddressEntries::entries))]
+pub fn exports_by_index_are_those_by_name()
+    ensures addresses { (offset : ℕ → Option ℕ) (b : List ℕ) (rva : ℕ) (directory : DataDirectory)
+        (d : ExportDataView) → export_data_at offset b rva ≡ Ok d →
+        IsRange b (address_table offset b directory d).addresses d.addresses }
+    ensures name { (offset : ℕ → Option ℕ) (b : List ℕ) (rva : ℕ) (directory : DataDirectory)
+        (d : ExportDataView) → export_data_at offset b rva ≡ Ok d →
+        IsPart b (address_table offset b directory d).name d.name }
+    ensures forwarders { (offset : ℕ → Option ℕ) (b : List ℕ) (directory : DataDirectory)
+        (ordinal rva : ℕ) → IsPart b (exported_with offset b directory ordinal rva).forwarder
+        (forwarder_text offset b directory rva) }
+    ensures named { (offset : ℕ → Option ℕ) (b : List ℕ) (d : ExportDataView) (t : AddressTable)
+        (i : ℕ) (x : Export) → bytes_at b t.addresses ≡ Ok d.addresses →
+        reported_entry offset b d i ≡ Some x → exported_at offset b t x.index ≡ Ok (Some
+        (exported_with offset b t.directory (t.ordinal_base + x.index) x.rva)) }
 {}
 
 /// A walk over the libraries of an image returns, one a step and in their order, the records of its import directory,

@@ -14,6 +14,7 @@ mod arm64;
 mod certificates;
 mod debug;
 mod debug_walks;
+mod export_addresses;
 mod exports;
 mod image;
 mod imports;

@@ -5,15 +5,14 @@
 
 ghost use Rattle.std.specs.Prelude.{◌≡◌};
 ghost use Rattle.pe_core.specs.Refusals.{answer_of};
-ghost use Rattle.pe_c.specs.Plans.{goes_on, ended, returned_record, after_record, StepsPlan, HandsOutPlan};
+ghost use Rattle.pe_c.specs.Plans.{goes_on, ended, plan_from, returned_record, after_record, StepsPlan, HandsOutPlan};
 
 use crate::image::Image;
-use crate::results::hand_out_some;
+use crate::results::{DONE, hand_out_some};
 use crate::unwinding::{UnwindRecord, read_record};
 use pe_core::{Error, Reason, Result, SectionTable};
 
-/// The records that are left from a function to the root of its chain. At its start `unwind` and `saved` are the
-/// function's unwind RVA, `limit` is 1, and the other fields are 0.
+/// The records that are left from a function to the root of its chain. `pe_c_plan_from` starts it.
 #[repr(C)]
 #[derive(Clone, Copy)]
 pub struct Plan {
@@ -29,6 +28,23 @@ pub struct Plan {
     pub steps: u64,
     /// After how many records another RVA is saved.
     pub limit: u64,
+}
+
+/// Starts the plan of a function, by its unwind RVA. Always returns `DONE`.
+#[unsafe(no_mangle)]
+pub extern "C" fn pe_c_plan_from(unwind: u32, out: &mut Plan) -> u32
+    ensures done { result ≡ 0 }
+    ensures plan { out.new ≡ plan_from unwind }
+{
+    *out = Plan {
+        unwind,
+        is_over: 0,
+        saved: unwind,
+        spare: 0,
+        steps: 0,
+        limit: 1,
+    };
+    DONE
 }
 
 /// The plan that continues at an unwind RVA. After `limit` records it saves the RVA and doubles the limit, so that the

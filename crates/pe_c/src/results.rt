@@ -20,10 +20,10 @@ pub const ROOM: u32 = 101;
 /// Returns the number of this ABI, which its name has too. The header and the cargo crate refer to that name, so that a
 /// program that was compiled for another ABI does not link. The number grows with each change that breaks callers.
 #[unsafe(no_mangle)]
-pub extern "C" fn pe_c_abi_1() -> u32
-    ensures { result ≡ 1 }
+pub extern "C" fn pe_c_abi_2() -> u32
+    ensures { result ≡ 2 }
 {
-    1
+    2
 }
 
 /// The number of a reason. `tools/make_errors` writes the arms.

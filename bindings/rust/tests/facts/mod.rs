@@ -95,6 +95,13 @@ fn push_unwinding(lines: &mut Vec<String>, image: &Image) {
 }
 
 fn push_tables(lines: &mut Vec<String>, image: &Image) {
+    match image.export_addresses() {
+        Ok(table) => {
+            lines.push(format!("dll {:?}", table.map(|it| (it.name(), it.ordinal_base()))));
+            push_all(lines, "exported", table.iter().flat_map(|it| it.iter()));
+        }
+        Err(error) => lines.push(format!("exported {error:?}")),
+    }
     match image.exports() {
         Ok(exports) => {
             let exports = exports.into_iter().flatten();

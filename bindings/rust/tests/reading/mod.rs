@@ -183,6 +183,15 @@ fn read_exports(image: &Image, seen: &mut Seen) {
     }
 }
 
+fn read_addresses(image: &Image, seen: &mut Seen) {
+    if let Some(table) = seen.keep(image.export_addresses()) {
+        seen.touch(table.name().unwrap_or_default());
+        for entry in table.iter().take(seen.most) {
+            seen.touch(entry.forwarder.unwrap_or_default());
+        }
+    }
+}
+
 fn read_imports(image: &Image, seen: &mut Seen) {
     let Some(libraries) = seen.keep(image.libraries()) else {
         return;
@@ -229,6 +238,7 @@ pub fn read_all(bytes: &[u8], mode: Mode, layout: Layout, most: usize) -> Seen {
     read_certificates(&image, &mut seen);
     read_functions(&image, &mut seen);
     read_arm64_functions(&image, &mut seen);
+    read_addresses(&image, &mut seen);
     read_exports(&image, &mut seen);
     read_imports(&image, &mut seen);
     read_version(&image, &mut seen);

@@ -1,0 +1,25 @@
+//! Prints where a symbol server has the PDB of an image, and the image.
+//!
+//!     cargo run --example symbols FILE
+
+use pe_c::{Error, Image, Mode};
+
+/// The paths on a symbol server of an image's PDB, such as `a.pdb/497B72F6390A44FC878E5A2D63B6CC4B1/a.pdb`, and of the
+/// image, whose file has this name. One that has no such path is left out.
+pub fn symbol_paths(bytes: &[u8], file_name: &str) -> Result<Vec<String>, Error> {
+    let image = Image::parse(bytes, Mode::Permissive)?;
+    let pdb = image.symbol_key()?.and_then(|key| key.path());
+    let own = image.info().symbol_path(file_name);
+    Ok(pdb.into_iter().chain(own).map(|path| path.to_string()).collect())
+}
+
+fn main() {
+    let Some(name) = std::env::args().nth(1) else {
+        eprintln!("usage: symbols FILE");
+        std::process::exit(2);
+    };
+    let bytes = std::fs::read(&name).expect("the file is read");
+    for path in symbol_paths(&bytes, &name).expect("it is an image") {
+        println!("{path}");
+    }
+}

@@ -1,0 +1,137 @@
+//! Where a symbol server has an image and its PDB. The path is the file's name, an identifier and the name again: of a
+//! PDB the GUID and the age of the image's CodeView record, of an image its time stamp and its size in memory. See
+//! [Microsoft's page](https://learn.microsoft.com/windows/win32/debug/using-symsrv). A symbolizer joins it to the server's
+//! URL, or to the folder of its own store.
+
+use crate::debug::SymbolKey;
+use crate::sys::ImageInfo;
+use core::fmt;
+
+/// A GUID, as the bytes of a file have it: little-endian u32, u16, u16, then 8 bytes.
+///
+/// `Display` writes it as Windows does (`StringFromGUID2`): in braces, with hyphens, in upper-case hexadecimal.
+///
+/// ```
+/// let guid = pe_c::Guid(*b"\xF6\x72\x7B\x49\x0A\x39\xFC\x44\x87\x8E\x5A\x2D\x63\xB6\xCC\x4B");
+/// assert_eq!(guid.to_string(), "{497B72F6-390A-44FC-878E-5A2D63B6CC4B}");
+/// ```
+#[derive(Clone, Copy, Debug, Default, PartialEq, Eq, Hash)]
+pub struct Guid(pub [u8; 16]);
+
+/// The bytes of a GUID in the order in which its digits are written, in the groups that hyphens divide.
+const GROUPS: [&[usize]; 5] = [&[3, 2, 1, 0], &[5, 4], &[7, 6], &[8, 9], &[10, 11, 12, 13, 14, 15]];
+
+impl Guid {
+    /// Writes the 32 digits, and a text between their groups.
+    pub(crate) fn write(&self, f: &mut fmt::Formatter<'_>, between: &str) -> fmt::Result {
+        for (group, offsets) in GROUPS.iter().enumerate() {
+            if group > 0 {
+                f.write_str(between)?;
+            }
+            for offset in *offsets {
+                write!(f, "{:02X}", self.0[*offset])?;
+            }
+        }
+        Ok(())
+    }
+}
+
+impl fmt::Display for Guid {
+    fn fmt(&self, f: &mut fmt::Formatter<'_>) -> fmt::Result {
+        f.write_str("{")?;
+        self.write(f, "-")?;
+        f.write_str("}")
+    }
+}
+
+/// What identifies a file beside its name.
+#[derive(Clone, Copy, Debug, PartialEq, Eq, Hash)]
+enum Identifier {
+    Pdb { guid: Guid, age: u32 },
+    Image { time_date_stamp: u32, size_of_image: u32 },
+}
+
+/// The path of a file on a symbol server, which `Display` writes: the file's name, its identifier and the name again, with
+/// slashes. Both names are one component of a path, whatever the image says.
+///
+/// The case of the letters is that of the name. Servers ignore the case; a store in a folder of a file system that does
+/// not needs one case for all.
+#[derive(Clone, Copy, Debug, PartialEq, Eq, Hash)]
+pub struct SymbolPath<'a> {
+    name: &'a str,
+    identifier: Identifier,
+}
+
+impl<'a> SymbolPath<'a> {
+    /// The file's name, the last part of the path.
+    pub fn name(&self) -> &'a str {
+        self.name
+    }
+}
+
+impl fmt::Display for SymbolPath<'_> {
+    fn fmt(&self, f: &mut fmt::Formatter<'_>) -> fmt::Result {
+        write!(f, "{}/", self.name)?;
+        match self.identifier {
+            Identifier::Pdb { guid, age } => {
+                guid.write(f, "")?;
+                write!(f, "{age:X}")?;
+            }
+            Identifier::Image { time_date_stamp, size_of_image } => {
+                write!(f, "{time_date_stamp:08X}{size_of_image:x}")?;
+            }
+        }
+        write!(f, "/{}", self.name)
+    }
+}
+
+/// Characters that no file of Windows has in its name, beside control characters and the separators `\` and `/`.
+const RESERVED: [char; 7] = ['<', '>', ':', '"', '|', '?', '*'];
+
+/// The last component of a path of Windows or Unix, if it can be the name of a file: not `.`, `..` or another text of dots
+/// and spaces alone, and without reserved characters.
+fn file_name(path: &str) -> Option<&str> {
+    let name = path.rsplit(['\\', '/']).next()?;
+    let is_named = name.chars().any(|it| it != '.' && it != ' ');
+    let is_reserved = name.chars().any(|it| it.is_control() || RESERVED.contains(&it));
+    (is_named && !is_reserved).then_some(name)
+}
+
+impl<'a> SymbolKey<'a> {
+    /// The path of the PDB: its name, the GUID's 32 digits in upper-case hexadecimal with the age, in hexadecimal without
+    /// leading zeros, and the name again.
+    ///
+    /// Of a name that is a path, such as `C:\build\a.pdb` or `../../a.pdb`, it is the last component. `None` where that is
+    /// empty, of dots and spaces alone, not UTF-8, or has a control character or one of `< > : " | ? *`.
+    ///
+    /// ```
+    /// let record = b"RSDS\xF6\x72\x7B\x49\x0A\x39\xFC\x44\x87\x8E\x5A\x2D\x63\xB6\xCC\x4B\x01\0\0\0C:\\build\\Foo.pdb\0";
+    /// let key = pe_c::SymbolKey::of_record(record)?.expect("it is one of PDB 7.0");
+    /// let path = key.path().expect("the name is that of a file");
+    /// assert_eq!(path.to_string(), "Foo.pdb/497B72F6390A44FC878E5A2D63B6CC4B1/Foo.pdb");
+    /// # Ok::<(), pe_c::Error>(())
+    /// ```
+    pub fn path(&self) -> Option<SymbolPath<'a>> {
+        let name = file_name(core::str::from_utf8(self.name()).ok()?)?;
+        Some(SymbolPath { name, identifier: Identifier::Pdb { guid: self.guid, age: self.age } })
+    }
+}
+
+impl ImageInfo {
+    /// The path of the image itself: a name, its time stamp as eight digits in upper-case hexadecimal with the size of the
+    /// image in lower case without leading zeros, and the name again.
+    ///
+    /// An image does not say its name: the caller passes it, as a minidump has one of each module. Of a path it is the last
+    /// component. `None` where that is no name, as for [`SymbolKey::path`], or without an optional header.
+    ///
+    /// ```
+    /// let image = pe_c::sys::ImageInfo { width: 32, time_date_stamp: 0x542D_574E, size_of_image: 0xC_2000, ..Default::default() };
+    /// let path = image.symbol_path("C:\\Windows\\Foo.exe").expect("the name is that of a file");
+    /// assert_eq!(path.to_string(), "Foo.exe/542D574Ec2000/Foo.exe");
+    /// ```
+    pub fn symbol_path<'n>(&self, name: &'n str) -> Option<SymbolPath<'n>> {
+        let (time_date_stamp, size_of_image) = (self.time_date_stamp, self.size_of_image);
+        let name = file_name(name).filter(|_| self.width != 0)?;
+        Some(SymbolPath { name, identifier: Identifier::Image { time_date_stamp, size_of_image } })
+    }
+}

@@ -1,0 +1,102 @@
+-- Exports by their index: the parts of an address table, and the entry that a named export has.
+use Rattle.std.proofs.Common.{◌≡◌, ℕ, ◌+◌, ◌*◌, Bool, true, false, List, length, Option, Some, None, Result, Ok, refl, ap, subst, ◌∙◌}
+use Rattle.std.specs.Prelude.{◌==◌, if◌then◌else◌}
+use Rattle.std.specs.Option.{option_and_then, option_map}
+use Rattle.pe_core.specs.Bytes.{holds, le, record_at}
+use Rattle.pe_core.specs.Exports.{ExportDataView, export_data_at, image_name, named_export, table_at, table_entry, text_at_address}
+use Rattle.pe_core.specs.Records.{export_directory}
+use Rattle.pe_core.specs.Refusals.{Refusal, ◌>>=◌}
+use Rattle.pe_core.specs.SectionMap.{mapped}
+use Rattle.pe_core.specs.Text.{text_at}
+use Rattle.pe_core.specs.declared.data_directories.DataDirectory.{DataDirectory}
+use Rattle.pe_core.specs.declared.export.ExportDirectoryTable.{ExportDirectoryTable}
+use Rattle.pe_c.specs.ExportAddresses.{address_table, exported_at, exported_with, forwarder_text, lies_in, or_no_bytes, text_range}
+use Rattle.pe_c.specs.Exports.{export_reported, index_at, reported_entry}
+use Rattle.pe_c.specs.Parts.{IsPart}
+use Rattle.pe_c.specs.Ranges.{IsRange, bytes_at}
+use Rattle.pe_c.specs.declared.export_addresses.AddressTable.{AddressTable}
+use Rattle.pe_c.specs.declared.export_addresses.Exported.{Exported}
+use Rattle.pe_c.specs.declared.exports.Export.{Export}
+use Rattle.pe_c.proofs.ExportParts.{given, same_inside, tables_stand, text_stands}
+
+-- ---- texts
+
+text_part : (b : List ℕ) (p : ℕ) (text : Option (List ℕ)) → text_at b p ≡ text → IsPart b (or_no_bytes (option_map (λ t. record { offset = p; length = length t }) text)) text
+text_part b p None e = refl
+text_part b p (Some t) e = text_stands b p t e
+
+part_at : (b : List ℕ) (at : Option ℕ) → IsPart b (or_no_bytes (option_and_then (λ p. option_map (λ t. record { offset = p; length = length t }) (text_at b p)) at)) (option_and_then (text_at b) at)
+part_at b None = refl
+part_at b (Some p) = text_part b p (text_at b p) refl
+
+part_unless : (offset : ℕ → Option ℕ) (b : List ℕ) (rva : ℕ) (none : Bool) → IsPart b (or_no_bytes (if none then None else text_range offset b rva)) (if none then None else text_at_address offset b rva)
+part_unless offset b rva true = refl
+part_unless offset b rva false = part_at b (offset rva)
+
+part_if : (offset : ℕ → Option ℕ) (b : List ℕ) (rva : ℕ) (there : Bool) → IsPart b (or_no_bytes (if there then text_range offset b rva else None)) (if there then text_at_address offset b rva else None)
+part_if offset b rva true = part_at b (offset rva)
+part_if offset b rva false = refl
+
+pub forwarders : (offset : ℕ → Option ℕ) (b : List ℕ) (d : DataDirectory) (ordinal rva : ℕ) →
+    IsPart b (exported_with offset b d ordinal rva).forwarder (forwarder_text offset b d rva)
+forwarders offset b d ordinal rva = part_if offset b rva (lies_in d rva)
+
+-- ---- the table
+
+name_is : (offset : ℕ → Option ℕ) (b : List ℕ) (rva : ℕ) (d : ExportDataView) → export_data_at offset b rva ≡ Ok d → image_name offset b d.directory.name_rva ≡ d.name
+unfolding export_data_at
+name_is offset b rva d e =
+    let p = given (mapped (offset rva)) _ d e in
+    let directory = given (record_at b p.0 40 (export_directory b p.0)) _ d p.2 in
+    let t : ExportDirectoryTable = directory.0 in
+    let addresses = given (table_at offset b t.address_table_rva (4 * t.address_table_entries)) _ d directory.2 in
+    let names = given (table_at offset b t.name_pointer_rva (4 * t.number_of_name_pointers)) _ d addresses.2 in
+    let ordinals = given (table_at offset b t.ordinal_table_rva (2 * t.number_of_name_pointers)) _ d names.2 in
+    subst (λ (x : ExportDataView). image_name offset b x.directory.name_rva ≡ x.name) (same_inside _ d ordinals.2) refl
+
+pub names_stand : (offset : ℕ → Option ℕ) (b : List ℕ) (rva : ℕ) (directory : DataDirectory) (d : ExportDataView) → export_data_at offset b rva ≡ Ok d → IsPart b (address_table offset b directory d).name d.name
+names_stand offset b rva directory d e =
+    subst (λ (x : Option (List ℕ)). IsPart b (address_table offset b directory d).name x) (name_is offset b rva d e)
+    (part_unless offset b d.directory.name_rva (d.directory.name_rva == 0))
+
+pub addresses_stand : (offset : ℕ → Option ℕ) (b : List ℕ) (rva : ℕ) (directory : DataDirectory) (d : ExportDataView) → export_data_at offset b rva ≡ Ok d → IsRange b (address_table offset b directory d).addresses d.addresses
+addresses_stand offset b rva directory d e = (tables_stand offset b rva d e).addresses
+
+-- ---- the entry of a named export
+
+by_rva : (f : ℕ → ℕ → Exported) (offset : ℕ → Option ℕ) (d : ExportDataView) (p k : ℕ) (name : List ℕ) (rva : Option ℕ) (x : Export) → table_entry 4 d.addresses k ≡ rva →
+    option_map (export_reported p k) (option_map (λ r. record { name = name; rva = r; offset = offset r }) rva) ≡ Some x →
+    option_map (f x.index) (table_entry 4 d.addresses x.index) ≡ Some (f x.index x.rva)
+by_rva f offset d p k name None x h e = absurd cc
+by_rva f offset d p k name (Some r) x h e =
+    let is : export_reported p k (record { name = name; rva = r; offset = offset r }) ≡ x = cc in
+    let index : k ≡ x.index = ap (λ (y : Export). y.index) is in
+    let rva : r ≡ x.rva = ap (λ (y : Export). y.rva) is in
+    let entry : table_entry 4 d.addresses x.index ≡ Some x.rva = subst (λ (n : ℕ). table_entry 4 d.addresses n ≡ Some x.rva) index (h ∙ ap (λ (n : ℕ). Some n) rva) in
+    ap (λ (o : Option ℕ). option_map (f x.index) o) entry
+
+by_index : (f : ℕ → ℕ → Exported) (offset : ℕ → Option ℕ) (d : ExportDataView) (p k : ℕ) (name : List ℕ) (there : Bool) (x : Export) →
+    option_map (export_reported p k) (option_map (λ r. record { name = name; rva = r; offset = offset r }) (option_and_then (table_entry 4 d.addresses) (if there then Some k else None))) ≡ Some x →
+    option_map (f x.index) (table_entry 4 d.addresses x.index) ≡ Some (f x.index x.rva)
+by_index f offset d p k name true x e = by_rva f offset d p k name (table_entry 4 d.addresses k) x refl e
+by_index f offset d p k name false x e = absurd cc
+
+by_name : (f : ℕ → ℕ → Exported) (offset : ℕ → Option ℕ) (d : ExportDataView) (p i : ℕ) (name : Option (List ℕ)) (x : Export) →
+    option_map (export_reported p (index_at d i)) (option_and_then (named_export offset d i) name) ≡ Some x →
+    option_map (f x.index) (table_entry 4 d.addresses x.index) ≡ Some (f x.index x.rva)
+by_name f offset d p i None x e = absurd cc
+by_name f offset d p i (Some name) x e = by_index f offset d p (index_at d i) name (holds d.ordinals (2 * i) 2) x e
+
+by_place : (f : ℕ → ℕ → Exported) (offset : ℕ → Option ℕ) (b : List ℕ) (d : ExportDataView) (i : ℕ) (at : Option ℕ) (x : Export) →
+    option_and_then (λ p. option_map (export_reported p (index_at d i)) (option_and_then (named_export offset d i) (text_at b p))) at ≡ Some x →
+    option_map (f x.index) (table_entry 4 d.addresses x.index) ≡ Some (f x.index x.rva)
+by_place f offset b d i None x e = absurd cc
+by_place f offset b d i (Some p) x e = by_name f offset d p i (text_at b p) x e
+
+pub entries : (offset : ℕ → Option ℕ) (b : List ℕ) (d : ExportDataView) (t : AddressTable) (i : ℕ) (x : Export) →
+    bytes_at b t.addresses ≡ Ok d.addresses → reported_entry offset b d i ≡ Some x →
+    exported_at offset b t x.index ≡ Ok (Some (exported_with offset b t.directory (t.ordinal_base + x.index) x.rva))
+entries offset b d t i x there e =
+    let f : ℕ → ℕ → Exported = λ k r. exported_with offset b t.directory (t.ordinal_base + k) r in
+    ap (λ (r : Result (List ℕ) Refusal). r >>= λ table. Ok (option_map (exported_with offset b t.directory (t.ordinal_base + x.index)) (table_entry 4 table x.index))) there
+    ∙ ap (λ (o : Option Exported). Ok o) (by_place f offset b d i (offset (le d.names (4 * i) 4)) x e)

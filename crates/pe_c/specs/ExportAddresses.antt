@@ -1,0 +1,71 @@
+-- The address table of an export directory: every export by its index, also those without a name.
+use Rattle.std.specs.Prelude.{ℕ, ◌+◌, ◌*◌, ◌==◌, ◌&&◌, Bool, true, false, List, length, nat_le, nat_lt, Option, Some, None, Result, Ok, if◌then◌else◌}
+use Rattle.std.specs.Option.{option_and_then, option_map}
+use Rattle.pe_core.specs.Exports.{ExportDataView, export_data_at, table_entry, text_at_address}
+use Rattle.pe_core.specs.Refusals.{Refusal, ◌>>=◌}
+use Rattle.pe_core.specs.Text.{text_at}
+use Rattle.pe_core.specs.declared.data_directories.DataDirectory.{DataDirectory}
+use Rattle.pe_core.specs.declared.section_table.SectionTable.{SectionTable}
+use Rattle.pe_c.specs.Exports.{export_table, one_if_some}
+use Rattle.pe_c.specs.Images.{export_directory, is_absent, map_of_image}
+use Rattle.pe_c.specs.Ranges.{bytes_at, no_bytes}
+use Rattle.pe_c.specs.declared.export_addresses.AddressTable.{AddressTable}
+use Rattle.pe_c.specs.declared.export_addresses.Exported.{Exported}
+use Rattle.pe_c.specs.declared.image.Image.{Image}
+use Rattle.pe_c.specs.declared.ranges.Range.{Range}
+
+-- the range of the text at an RVA, if the RVA is mapped and a text is there
+abbrev pub text_range : (ℕ → Option ℕ) → List ℕ → ℕ → Option Range
+text_range offset b rva = option_and_then (λ p. option_map (λ text. record { offset = p; length = length text }) (text_at b p)) (offset rva)
+
+-- the range of the DLL's name; the RVA 0 is that of none
+abbrev pub dll_name : (ℕ → Option ℕ) → List ℕ → ℕ → Option Range
+dll_name offset b rva = if rva == 0 then None else text_range offset b rva
+
+-- a range, the empty one without one
+abbrev pub or_no_bytes : Option Range → Range
+or_no_bytes None = no_bytes
+or_no_bytes (Some r) = r
+
+-- the address table of a directory's export data
+abbrev pub address_table : (ℕ → Option ℕ) → List ℕ → DataDirectory → ExportDataView → AddressTable
+address_table offset b directory d = record {
+  name = or_no_bytes (dll_name offset b d.directory.name_rva);
+  addresses = export_table offset d.directory.address_table_rva (4 * d.directory.address_table_entries);
+  directory = directory;
+  ordinal_base = d.directory.ordinal_base;
+  has_name = one_if_some (dll_name offset b d.directory.name_rva);
+}
+
+-- the address table of an image, if it has an export directory; or what refuses that
+unfoldable pub address_table_at : List ℕ → Image → List SectionTable → Result (Option AddressTable) Refusal
+address_table_at b image sections =
+    if is_absent (export_directory image) then Ok None
+    else export_data_at (map_of_image image sections) b (export_directory image).virtual_address >>= λ d. Ok (Some (address_table (map_of_image image sections) b (export_directory image) d))
+
+-- whether an RVA lies in a directory
+abbrev pub lies_in : DataDirectory → ℕ → Bool
+lies_in d rva = nat_le d.virtual_address rva && nat_lt rva (d.virtual_address + d.size)
+
+-- the text of a forwarder, if the RVA is that of one and a text is there
+abbrev pub forwarder_text : (ℕ → Option ℕ) → List ℕ → DataDirectory → ℕ → Option (List ℕ)
+forwarder_text offset b d rva = if lies_in d rva then text_at_address offset b rva else None
+
+-- 1 or 0
+abbrev pub one_if : Bool → ℕ
+one_if true = 1
+one_if false = 0
+
+-- the entry with this ordinal and RVA: a forwarder where the RVA lies in the export directory
+abbrev pub exported_with : (ℕ → Option ℕ) → List ℕ → DataDirectory → ℕ → ℕ → Exported
+exported_with offset b directory ordinal rva = record {
+  forwarder = or_no_bytes (if lies_in directory rva then text_range offset b rva else None);
+  ordinal = ordinal;
+  rva = rva;
+  is_forwarder = one_if (lies_in directory rva);
+}
+
+-- the entry with an index, if the table has it: its ordinal is the base plus the index
+abbrev pub exported_at : (ℕ → Option ℕ) → List ℕ → AddressTable → ℕ → Result (Option Exported) Refusal
+exported_at offset b t i =
+    bytes_at b t.addresses >>= λ table. Ok (option_map (exported_with offset b t.directory (t.ordinal_base + i)) (table_entry 4 table i))
