@@ -1,0 +1,282 @@
+//! What the program says of an image, as records: JSON is made of them as they are, and text by `summary` and `show`. Each
+//! value comes from a call of the crate `pe_c`.
+
+pub mod certificates;
+pub mod debug;
+pub mod exports;
+pub mod extracted;
+pub mod functions;
+pub mod headers;
+pub mod imports;
+pub mod sections;
+pub mod version;
+
+use clap::ValueEnum;
+use pe_c::{Error, Image};
+use serde::{Serialize, Serializer};
+use std::fmt;
+use std::path::Path;
+
+/// The version of the JSON that `docs/JSON.md` describes. It grows when a field changes its meaning or goes away.
+pub const JSON_VERSION: u32 = 1;
+
+/// A part of an image that can be asked for.
+#[derive(Clone, Copy, Debug, PartialEq, Eq, ValueEnum)]
+pub enum Topic {
+    Headers,
+    Sections,
+    Imports,
+    Exports,
+    Debug,
+    Certificates,
+    /// The functions of x64 and ARM64, by their unwind data
+    Functions,
+    /// Version information, and the length of the manifest
+    Version,
+    All,
+}
+
+impl Topic {
+    /// What a summary speaks of: everything, each with fewer words.
+    pub const SUMMARY: &'static [Topic] = &[Topic::All];
+}
+
+/// The parts that are wanted: all where none is named.
+pub fn wanted(topics: &[Topic]) -> Vec<Topic> {
+    if topics.is_empty() {
+        vec![Topic::All]
+    } else {
+        topics.to_vec()
+    }
+}
+
+/// Why something is refused: the library's number, name and text.
+#[derive(Clone, Debug, PartialEq, Eq, Serialize)]
+pub struct Refusal {
+    pub number: u32,
+    pub name: &'static str,
+    pub text: String,
+}
+
+impl From<Error> for Refusal {
+    fn from(error: Error) -> Refusal {
+        Refusal { number: error.number(), name: error.name().unwrap_or("UNKNOWN"), text: error.to_string() }
+    }
+}
+
+impl fmt::Display for Refusal {
+    fn fmt(&self, f: &mut fmt::Formatter<'_>) -> fmt::Result {
+        write!(f, "{} ({})", self.text, self.name)
+    }
+}
+
+/// A part of an image: absent, there, or refused. In JSON `null`, its value, or an object with the one field `error`.
+#[derive(Clone, Debug)]
+pub enum Part<T> {
+    Absent,
+    Present(T),
+    Refused(Refusal),
+}
+
+impl<T> Part<T> {
+    pub fn present(&self) -> Option<&T> {
+        match self {
+            Part::Present(value) => Some(value),
+            _ => None,
+        }
+    }
+
+    pub fn refusal(&self) -> Option<&Refusal> {
+        match self {
+            Part::Refused(refusal) => Some(refusal),
+            _ => None,
+        }
+    }
+}
+
+impl<T> From<Result<Option<T>, Error>> for Part<T> {
+    fn from(found: Result<Option<T>, Error>) -> Part<T> {
+        match found {
+            Ok(Some(value)) => Part::Present(value),
+            Ok(None) => Part::Absent,
+            Err(error) => Part::Refused(error.into()),
+        }
+    }
+}
+
+#[derive(Serialize)]
+struct Refused<'a> {
+    error: &'a Refusal,
+}
+
+impl<T: Serialize> Serialize for Part<T> {
+    fn serialize<S: Serializer>(&self, serializer: S) -> Result<S::Ok, S::Error> {
+        match self {
+            Part::Absent => serializer.serialize_none(),
+            Part::Present(value) => value.serialize(serializer),
+            Part::Refused(error) => Refused { error }.serialize(serializer),
+        }
+    }
+}
+
+/// A list that ends early where an entry is refused: in JSON the entries, and the error of the first that is none.
+#[derive(Clone, Debug, Serialize)]
+pub struct List<T> {
+    pub entries: Vec<T>,
+    #[serde(skip_serializing_if = "Option::is_none")]
+    pub error: Option<Refusal>,
+}
+
+impl<T> List<T> {
+    /// The items up to the first error, each as `of` shows it.
+    pub fn of<I>(items: impl Iterator<Item = Result<I, Error>>, mut of: impl FnMut(I) -> T) -> List<T> {
+        let mut list = List { entries: Vec::new(), error: None };
+        for item in items {
+            match item {
+                Ok(item) => list.entries.push(of(item)),
+                Err(error) => list.error = Some(error.into()),
+            }
+        }
+        list
+    }
+}
+
+/// A name in an image. In JSON its text, or an object with the one field `hex` where it is not UTF-8.
+#[derive(Clone, Debug, PartialEq, Eq)]
+pub struct Name(pub Vec<u8>);
+
+impl fmt::Display for Name {
+    fn fmt(&self, f: &mut fmt::Formatter<'_>) -> fmt::Result {
+        f.pad(&crate::escape::Escaped(&self.0).to_string())
+    }
+}
+
+#[derive(Serialize)]
+struct Hex {
+    hex: String,
+}
+
+impl Serialize for Name {
+    fn serialize<S: Serializer>(&self, serializer: S) -> Result<S::Ok, S::Error> {
+        match std::str::from_utf8(&self.0) {
+            Ok(text) => text.serialize(serializer),
+            Err(_) => Hex { hex: hex_of(&self.0) }.serialize(serializer),
+        }
+    }
+}
+
+/// Two digits for each byte.
+pub fn hex_of(bytes: &[u8]) -> String {
+    bytes.iter().map(|byte| format!("{byte:02x}")).collect()
+}
+
+/// A number and its name, if it has one.
+#[derive(Clone, Debug, Serialize)]
+pub struct Named {
+    pub number: u32,
+    pub name: Option<&'static str>,
+}
+
+impl Named {
+    pub fn of(number: u32, names: &'static [(u32, &'static str)]) -> Named {
+        Named { number, name: crate::names::name_of(number, names) }
+    }
+}
+
+impl fmt::Display for Named {
+    fn fmt(&self, f: &mut fmt::Formatter<'_>) -> fmt::Result {
+        match self.name {
+            Some(name) => f.write_str(name),
+            None => write!(f, "0x{:x}", self.number),
+        }
+    }
+}
+
+/// What is said of a file.
+#[derive(Debug, Serialize)]
+pub struct Facts {
+    pub json_version: u32,
+    pub file: String,
+    pub file_size: usize,
+    /// Why there is no image, and nothing else.
+    #[serde(skip_serializing_if = "Option::is_none")]
+    pub error: Option<Refusal>,
+    #[serde(skip_serializing_if = "Option::is_none")]
+    pub headers: Option<headers::Headers>,
+    #[serde(skip_serializing_if = "Option::is_none")]
+    pub sections: Option<Vec<sections::Section>>,
+    #[serde(skip_serializing_if = "Option::is_none")]
+    pub imports: Option<Part<List<imports::Library>>>,
+    #[serde(skip_serializing_if = "Option::is_none")]
+    pub exports: Option<Part<exports::Exports>>,
+    #[serde(skip_serializing_if = "Option::is_none")]
+    pub debug: Option<debug::Debug>,
+    #[serde(skip_serializing_if = "Option::is_none")]
+    pub certificates: Option<List<certificates::Certificate>>,
+    #[serde(skip_serializing_if = "Option::is_none")]
+    pub functions: Option<Part<functions::Functions>>,
+    #[serde(skip_serializing_if = "Option::is_none")]
+    pub version: Option<version::Version>,
+}
+
+impl Facts {
+    fn empty(path: &Path, file_size: usize) -> Facts {
+        Facts {
+            json_version: JSON_VERSION,
+            file: path.to_string_lossy().into_owned(),
+            file_size,
+            error: None,
+            headers: None,
+            sections: None,
+            imports: None,
+            exports: None,
+            debug: None,
+            certificates: None,
+            functions: None,
+            version: None,
+        }
+    }
+
+    /// Of a file that is no image.
+    pub fn refused(path: &Path, file_size: usize, error: Error) -> Facts {
+        Facts { error: Some(error.into()), ..Facts::empty(path, file_size) }
+    }
+
+    /// Of an image the parts that are wanted.
+    pub fn of(path: &Path, image: &Image<'_>, topics: &[Topic]) -> Facts {
+        let is_wanted = |topic| topics.contains(&topic) || topics.contains(&Topic::All);
+        let name = path.file_name().map(|name| name.to_string_lossy()).unwrap_or_default();
+        Facts {
+            headers: is_wanted(Topic::Headers).then(|| headers::of(image, &name)),
+            sections: is_wanted(Topic::Sections).then(|| sections::of(image)),
+            imports: is_wanted(Topic::Imports).then(|| imports::of(image)),
+            exports: is_wanted(Topic::Exports).then(|| exports::of(image)),
+            debug: is_wanted(Topic::Debug).then(|| debug::of(image)),
+            certificates: is_wanted(Topic::Certificates).then(|| certificates::of(image)),
+            functions: is_wanted(Topic::Functions).then(|| functions::of(image)),
+            version: is_wanted(Topic::Version).then(|| version::of(image)),
+            ..Facts::empty(path, image.bytes().len())
+        }
+    }
+
+    /// All that is refused, each with the part that it is of.
+    pub fn refusals(&self) -> Vec<(&'static str, &Refusal)> {
+        let mut found = Vec::new();
+        found.extend(self.error.iter().map(|it| ("image", it)));
+        if let Some(part) = &self.imports {
+            found.extend(part.refusal().or(part.present().and_then(|it| it.error.as_ref())).map(|it| ("imports", it)));
+            let libraries = part.present().into_iter().flat_map(|it| &it.entries);
+            found.extend(libraries.filter_map(|it| it.imports.error.as_ref()).map(|it| ("imports", it)));
+        }
+        found.extend(self.exports.iter().filter_map(Part::refusal).map(|it| ("exports", it)));
+        found.extend(self.debug.iter().flat_map(|it| it.refusals()).map(|it| ("debug data", it)));
+        found.extend(self.certificates.iter().filter_map(|it| it.error.as_ref()).map(|it| ("certificates", it)));
+        found.extend(self.functions.iter().filter_map(Part::refusal).map(|it| ("functions", it)));
+        found.extend(self.version.iter().flat_map(|it| it.refusals()));
+        found
+    }
+
+    pub fn is_refused(&self) -> bool {
+        !self.refusals().is_empty()
+    }
+}

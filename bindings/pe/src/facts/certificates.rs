@@ -1,0 +1,22 @@
+//! The attribute certificates. Signatures are shown and not verified.
+
+use super::{List, Named};
+use crate::names::CERTIFICATE_TYPES;
+use pe_c::Image;
+use serde::Serialize;
+
+#[derive(Clone, Debug, Serialize)]
+pub struct Certificate {
+    /// With its header of 8 bytes.
+    pub size: u32,
+    pub revision: u16,
+    pub r#type: Named,
+}
+
+pub fn of(image: &Image<'_>) -> List<Certificate> {
+    List::of(image.certificates(), |certificate| Certificate {
+        size: certificate.length,
+        revision: certificate.revision,
+        r#type: Named::of(certificate.kind.into(), CERTIFICATE_TYPES),
+    })
+}

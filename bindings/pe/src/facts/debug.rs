@@ -1,0 +1,165 @@
+//! Debug data: the entries of the directory, and the records of six types.
+
+use super::{hex_of, List, Name, Named, Part, Refusal};
+use crate::names::DEBUG_TYPES;
+use pe_c::{Image, Repro};
+use serde::Serialize;
+
+#[derive(Clone, Debug, Serialize)]
+pub struct Debug {
+    pub entries: Part<List<Entry>>,
+    /// The PDB of the CodeView record, if that is one of PDB 7.0.
+    pub pdb: Part<Pdb>,
+    /// The PDB of a CodeView record of PDB 2.0.
+    pub pdb20: Part<Pdb20>,
+    pub repro: Part<ReproRecord>,
+    pub pogo: Part<Pogo>,
+    pub vc_features: Part<VcFeatures>,
+    /// `IMAGE_DLLCHARACTERISTICS_EX_` flags.
+    pub extended_dll_characteristics: Part<u32>,
+}
+
+#[derive(Clone, Debug, Serialize)]
+pub struct Entry {
+    pub r#type: Named,
+    pub size: u32,
+    pub rva: u32,
+    pub file_offset: u32,
+    pub time_date_stamp: u32,
+}
+
+#[derive(Clone, Debug, Serialize)]
+pub struct Pdb {
+    pub name: Name,
+    pub guid: String,
+    pub age: u32,
+    /// The GUID's digits and the age.
+    pub key: String,
+    /// Null where the name can't be that of a file.
+    pub symbol_server_path: Option<String>,
+}
+
+#[derive(Clone, Debug, Serialize)]
+pub struct Pdb20 {
+    pub name: Name,
+    pub time_date_stamp: u32,
+    pub age: u32,
+}
+
+#[derive(Clone, Debug, Serialize)]
+pub struct ReproRecord {
+    /// Null where the time stamps of the image are the hash.
+    pub hash_hex: Option<String>,
+}
+
+#[derive(Clone, Debug, Serialize)]
+pub struct Pogo {
+    /// `LTCG` or `PGU`.
+    pub signature: &'static str,
+    pub parts: List<PogoPart>,
+}
+
+#[derive(Clone, Debug, Serialize)]
+pub struct PogoPart {
+    pub name: Name,
+    pub rva: u32,
+    pub size: u32,
+}
+
+/// Counts of compiled files, as `dumpbin /headers` shows them.
+#[derive(Clone, Debug, Serialize)]
+pub struct VcFeatures {
+    pub before_vc_11: u32,
+    pub c_and_cpp: u32,
+    pub gs: u32,
+    pub sdl: u32,
+    pub guard_n: u32,
+}
+
+impl Debug {
+    /// The directory's refusal, or else that of the records, which all six share.
+    pub fn refusals(&self) -> Vec<&Refusal> {
+        let entries = self.entries.refusal().or(self.entries.present().and_then(|it| it.error.as_ref()));
+        entries.or(self.pdb.refusal()).into_iter().collect()
+    }
+}
+
+/// `LTCG`, the other signature of POGO records is `PGU`.
+const LTCG: u32 = 0x4C54_4347;
+
+pub fn of(image: &Image<'_>) -> Debug {
+    Debug {
+        entries: entries_of(image),
+        pdb: pdb_of(image),
+        pdb20: image
+            .pdb20()
+            .map(|it| {
+                it.map(|record| Pdb20 {
+                    name: Name(record.name().to_vec()),
+                    time_date_stamp: record.signature,
+                    age: record.age,
+                })
+            })
+            .into(),
+        repro: image.repro().map(|it| it.map(repro_of)).into(),
+        pogo: image.pogo().map(|it| it.map(pogo_of)).into(),
+        vc_features: image.vc_features().map(|it| it.map(features_of)).into(),
+        extended_dll_characteristics: image.debug_characteristics().into(),
+    }
+}
+
+fn entries_of(image: &Image<'_>) -> Part<List<Entry>> {
+    let entries = image.debug_entries().map(|found| {
+        found.map(|entries| {
+            List::of(entries, |entry| Entry {
+                r#type: Named::of(entry.data_type, DEBUG_TYPES),
+                size: entry.size_of_data,
+                rva: entry.address_of_raw_data,
+                file_offset: entry.pointer_to_raw_data,
+                time_date_stamp: entry.time_date_stamp,
+            })
+        })
+    });
+    entries.into()
+}
+
+fn pdb_of(image: &Image<'_>) -> Part<Pdb> {
+    let key = image.symbol_key().map(|found| {
+        found.map(|key| Pdb {
+            name: Name(key.name().to_vec()),
+            guid: key.guid.to_string(),
+            age: key.age,
+            key: key.to_string(),
+            symbol_server_path: key.path().map(|path| path.to_string()),
+        })
+    });
+    key.into()
+}
+
+fn repro_of(record: Repro<'_>) -> ReproRecord {
+    match record {
+        Repro::TimeStamp => ReproRecord { hash_hex: None },
+        Repro::Hash(bytes) => ReproRecord { hash_hex: Some(hex_of(bytes)) },
+    }
+}
+
+fn pogo_of(record: pe_c::Pogo<'_>) -> Pogo {
+    Pogo {
+        signature: if record.signature == LTCG { "LTCG" } else { "PGU" },
+        parts: List::of(record.entries(), |entry| PogoPart {
+            name: Name(entry.name().to_vec()),
+            rva: entry.rva,
+            size: entry.size,
+        }),
+    }
+}
+
+fn features_of(record: pe_c::VcFeatures) -> VcFeatures {
+    VcFeatures {
+        before_vc_11: record.pre_vc_plusplus_count,
+        c_and_cpp: record.c_and_cplusplus_count,
+        gs: record.guard_stack_count,
+        sdl: record.sdl_count,
+        guard_n: record.guard_count,
+    }
+}

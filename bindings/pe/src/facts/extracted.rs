@@ -1,0 +1,66 @@
+//! Parts of an image whose bytes are written to a file.
+
+use super::Refusal;
+use crate::files::Report;
+use crate::Status;
+use clap::ValueEnum;
+use pe_c::{Error, Image};
+use std::fs::OpenOptions;
+use std::io::{self, Write};
+use std::path::Path;
+
+#[derive(Clone, Copy, Debug, PartialEq, Eq, ValueEnum)]
+pub enum ExtractedPart {
+    /// The manifest, an XML text
+    Manifest,
+    /// The first certificate of type PKCS #7, without its header
+    Certificate,
+}
+
+/// `WIN_CERT_TYPE_PKCS_SIGNED_DATA`
+const PKCS_SIGNED_DATA: u16 = 2;
+
+impl ExtractedPart {
+    fn bytes_of<'a>(self, image: &Image<'a>) -> Result<Option<&'a [u8]>, Error> {
+        match self {
+            ExtractedPart::Manifest => image.manifest(),
+            ExtractedPart::Certificate => {
+                for certificate in image.certificates() {
+                    let certificate = certificate?;
+                    if certificate.kind == PKCS_SIGNED_DATA {
+                        return Ok(Some(certificate.body));
+                    }
+                }
+                Ok(None)
+            }
+        }
+    }
+
+    /// Writes the part. The text is for standard output.
+    pub fn write_to(self, image: &Image<'_>, to: &Path) -> Report {
+        match self.bytes_of(image) {
+            Ok(Some(bytes)) if to == Path::new("-") => Report::of(bytes, Status::Done),
+            Ok(Some(bytes)) => match write_new(to, bytes) {
+                Ok(()) => Report::of("", Status::Done),
+                Err(error) => {
+                    eprintln!("pe: {}: {error}", to.display());
+                    Report::of("", Status::FileError)
+                }
+            },
+            Ok(None) => {
+                eprintln!("pe: the image has no such part");
+                Report::of("", Status::Refused)
+            }
+            Err(error) => {
+                eprintln!("pe: {}", Refusal::from(error));
+                Report::of("", Status::Refused)
+            }
+        }
+    }
+}
+
+/// Writes a file that must not exist, and removes what was begun of it if that fails.
+fn write_new(path: &Path, bytes: &[u8]) -> io::Result<()> {
+    let mut file = OpenOptions::new().write(true).create_new(true).open(path)?;
+    file.write_all(bytes).inspect_err(|_| drop(std::fs::remove_file(path)))
+}

@@ -1,0 +1,133 @@
+//! The files of a run: those that are named, and with `-r` those below the folders that are named. Files are read side by
+//! side, a few at a time, and what is said of them comes out in their order; so a million files take no more memory than a
+//! few.
+
+use crate::Status;
+use indicatif::{ProgressBar, ProgressStyle};
+use pe_c::{Error, Image, Mode};
+use rayon::prelude::*;
+use std::fs::{self, File};
+use std::io::{self, IsTerminal, Read, Write};
+use std::path::{Path, PathBuf};
+
+/// How many files are read side by side.
+const AT_ONCE: usize = 64;
+
+/// How much of a file below a folder is read to see whether it is an image.
+const START: u64 = 4096;
+
+/// What is said of a file.
+pub struct Report {
+    pub text: Vec<u8>,
+    pub status: Status,
+    /// Whether the file has the signatures of an image.
+    pub is_image: bool,
+}
+
+impl Report {
+    pub fn of(text: impl Into<Vec<u8>>, status: Status) -> Report {
+        Report { text: text.into(), status, is_image: true }
+    }
+}
+
+/// A file, and whether it is one of those below a folder.
+struct Found {
+    path: PathBuf,
+    is_below: bool,
+}
+
+/// The files below a folder, each folder's in the order of their names. Links to folders are not followed, and links
+/// that lead nowhere, pipes and the like are left out. A folder that cannot be read is an item by itself, so that
+/// reading it tells why.
+struct Below {
+    waiting: Vec<PathBuf>,
+}
+
+impl Iterator for Below {
+    type Item = PathBuf;
+
+    fn next(&mut self) -> Option<PathBuf> {
+        while let Some(path) = self.waiting.pop() {
+            if !fs::symlink_metadata(&path).is_ok_and(|it| it.is_dir()) {
+                match fs::metadata(&path) {
+                    Ok(it) if !it.is_file() => continue,
+                    Err(error) if error.kind() == io::ErrorKind::NotFound => continue,
+                    _ => return Some(path),
+                }
+            }
+            let Ok(entries) = fs::read_dir(&path) else { return Some(path) };
+            let mut paths: Vec<PathBuf> = entries.flatten().map(|entry| entry.path()).collect();
+            paths.sort_unstable_by(|a, b| b.cmp(a));
+            self.waiting.append(&mut paths);
+        }
+        None
+    }
+}
+
+fn found(paths: &[PathBuf], is_recursive: bool) -> impl Iterator<Item = Found> + '_ {
+    paths.iter().flat_map(move |path| {
+        let is_below = is_recursive && path.is_dir();
+        let files = if is_below { Below { waiting: vec![path.clone()] } } else { Below { waiting: Vec::new() } };
+        let own = (!is_below).then(|| path.clone());
+        own.into_iter().chain(files).map(move |path| Found { path, is_below })
+    })
+}
+
+/// A sign that work goes on, where standard error is a terminal and standard output is none.
+fn progress(is_recursive: bool) -> ProgressBar {
+    if !is_recursive || io::stdout().is_terminal() {
+        return ProgressBar::hidden();
+    }
+    let bar = ProgressBar::new_spinner();
+    if let Ok(style) = ProgressStyle::with_template("{spinner} {pos} files, {per_sec}, {elapsed}") {
+        bar.set_style(style);
+    }
+    bar
+}
+
+/// Reads a file whole. Of one below a folder the start is read first: one without an image's signatures is no image, and
+/// is not read on.
+fn content(found: &Found) -> io::Result<Option<Vec<u8>>> {
+    if found.is_below {
+        let mut start = Vec::new();
+        File::open(&found.path)?.take(START).read_to_end(&mut start)?;
+        if Image::parse(&start, Mode::Permissive).is_err_and(|error| error == Error::BAD_MAGIC) {
+            return Ok(None);
+        }
+    }
+    fs::read(&found.path).map(Some)
+}
+
+/// Writes what `report` says of each file, in their order. Returns the worst status.
+pub fn each(
+    paths: &[PathBuf],
+    is_recursive: bool,
+    out: &mut dyn Write,
+    report: impl Fn(&Path, &[u8]) -> Report + Sync,
+) -> io::Result<Status> {
+    let mut worst = Status::Done;
+    let mut files = found(paths, is_recursive).peekable();
+    let bar = progress(is_recursive);
+    while files.peek().is_some() {
+        let some: Vec<Found> = files.by_ref().take(AT_ONCE).collect();
+        let of = |found: &Found| Ok(content(found)?.map(|bytes| report(&found.path, &bytes)));
+        let reports: Vec<io::Result<Option<Report>>> = some.par_iter().map(of).collect();
+        for (found, report) in some.iter().zip(reports) {
+            worst = worst.max(write(found, report, out)?);
+        }
+        bar.inc(some.len() as u64);
+    }
+    bar.finish_and_clear();
+    Ok(worst)
+}
+
+fn write(found: &Found, report: io::Result<Option<Report>>, out: &mut dyn Write) -> io::Result<Status> {
+    match report {
+        Ok(Some(report)) if report.is_image || !found.is_below => out.write_all(&report.text).map(|()| report.status),
+        Ok(_) => Ok(Status::Done),
+        Err(error) => {
+            eprintln!("pe: {}: {error}", crate::escape::escaped(&found.path.to_string_lossy()));
+            Ok(Status::FileError)
+        }
+    }
+}

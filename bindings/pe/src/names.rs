@@ -1,0 +1,143 @@
+//! The names of winnt.h for the numbers of headers. Layouts and numbers:
+//! <https://learn.microsoft.com/windows/win32/debug/pe-format>.
+
+/// A number and its name.
+type Names = [(u32, &'static str)];
+
+/// `IMAGE_FILE_MACHINE_`
+pub const MACHINES: &Names = &[
+    (0x14C, "x86"),
+    (0x166, "MIPS R4000"),
+    (0x1A2, "SH3"),
+    (0x1A6, "SH4"),
+    (0x1C0, "ARM"),
+    (0x1C2, "Thumb"),
+    (0x1C4, "ARM Thumb-2"),
+    (0x1F0, "PowerPC"),
+    (0x200, "Itanium"),
+    (0xEBC, "EFI byte code"),
+    (0x5032, "RISC-V 32"),
+    (0x5064, "RISC-V 64"),
+    (0x6232, "LoongArch 32"),
+    (0x6264, "LoongArch 64"),
+    (0x8664, "x64"),
+    (0xA641, "ARM64EC"),
+    (0xA64E, "ARM64X"),
+    (0xAA64, "ARM64"),
+];
+
+/// `IMAGE_SUBSYSTEM_`
+pub const SUBSYSTEMS: &Names = &[
+    (0, "unknown subsystem"),
+    (1, "native"),
+    (2, "Windows GUI"),
+    (3, "Windows console"),
+    (5, "OS/2 console"),
+    (7, "POSIX console"),
+    (8, "native Windows 9x"),
+    (9, "Windows CE"),
+    (10, "EFI application"),
+    (11, "EFI boot service driver"),
+    (12, "EFI runtime driver"),
+    (13, "EFI ROM"),
+    (14, "Xbox"),
+    (16, "Windows boot application"),
+];
+
+/// `IMAGE_FILE_`
+pub const CHARACTERISTICS: &Names = &[
+    (0x1, "RELOCS_STRIPPED"),
+    (0x2, "EXECUTABLE_IMAGE"),
+    (0x4, "LINE_NUMS_STRIPPED"),
+    (0x8, "LOCAL_SYMS_STRIPPED"),
+    (0x10, "AGGRESIVE_WS_TRIM"),
+    (0x20, "LARGE_ADDRESS_AWARE"),
+    (0x80, "BYTES_REVERSED_LO"),
+    (0x100, "32BIT_MACHINE"),
+    (0x200, "DEBUG_STRIPPED"),
+    (0x400, "REMOVABLE_RUN_FROM_SWAP"),
+    (0x800, "NET_RUN_FROM_SWAP"),
+    (0x1000, "SYSTEM"),
+    (0x2000, "DLL"),
+    (0x4000, "UP_SYSTEM_ONLY"),
+    (0x8000, "BYTES_REVERSED_HI"),
+];
+
+/// `IMAGE_DLLCHARACTERISTICS_`
+pub const DLL_CHARACTERISTICS: &Names = &[
+    (0x20, "HIGH_ENTROPY_VA"),
+    (0x40, "DYNAMIC_BASE"),
+    (0x80, "FORCE_INTEGRITY"),
+    (0x100, "NX_COMPAT"),
+    (0x200, "NO_ISOLATION"),
+    (0x400, "NO_SEH"),
+    (0x800, "NO_BIND"),
+    (0x1000, "APPCONTAINER"),
+    (0x2000, "WDM_DRIVER"),
+    (0x4000, "GUARD_CF"),
+    (0x8000, "TERMINAL_SERVER_AWARE"),
+];
+
+/// `IMAGE_DIRECTORY_ENTRY_`, by index
+pub const DIRECTORIES: [&str; 16] = [
+    "export",
+    "import",
+    "resource",
+    "exception",
+    "certificate",
+    "base relocation",
+    "debug",
+    "architecture",
+    "global pointer",
+    "TLS",
+    "load configuration",
+    "bound import",
+    "import address",
+    "delay import",
+    "CLR header",
+    "reserved",
+];
+
+/// `IMAGE_DEBUG_TYPE_`
+pub const DEBUG_TYPES: &Names = &[
+    (1, "COFF"),
+    (2, "CodeView"),
+    (3, "FPO"),
+    (4, "Misc"),
+    (5, "Exception"),
+    (6, "Fixup"),
+    (7, "OMAP to source"),
+    (8, "OMAP from source"),
+    (9, "Borland"),
+    (11, "CLSID"),
+    (12, "VC feature"),
+    (13, "POGO"),
+    (14, "ILTCG"),
+    (15, "MPX"),
+    (16, "Repro"),
+    (17, "Embedded portable PDB"),
+    (19, "PDB checksum"),
+    (20, "Extended DLL characteristics"),
+];
+
+/// `WIN_CERT_TYPE_`
+pub const CERTIFICATE_TYPES: &Names =
+    &[(1, "X.509"), (2, "PKCS #7 signed data"), (3, "reserved"), (4, "terminal server stack signed")];
+
+/// `IMAGE_SCN_MEM_`, as letters: read, write, execute.
+const PERMISSIONS: [(u32, char); 3] = [(0x4000_0000, 'r'), (0x8000_0000, 'w'), (0x2000_0000, 'x')];
+
+/// The name of a number.
+pub fn name_of(number: u32, names: &'static Names) -> Option<&'static str> {
+    names.iter().find(|it| it.0 == number).map(|it| it.1)
+}
+
+/// The names of the flags that are set.
+pub fn flags_of(flags: u32, names: &'static Names) -> Vec<&'static str> {
+    names.iter().filter(|it| flags & it.0 != 0).map(|it| it.1).collect()
+}
+
+/// What a section's flags permit, such as `r-x`.
+pub fn permissions(flags: u32) -> String {
+    PERMISSIONS.iter().map(|(flag, letter)| if flags & flag != 0 { *letter } else { '-' }).collect()
+}

@@ -1,0 +1,112 @@
+//! An image in a screen of text.
+
+use crate::escape::escaped;
+use crate::facts::headers::Headers;
+use crate::facts::sections::Section;
+use crate::facts::{Facts, Part};
+use crate::page::{Page, Style};
+use crate::show::time_of;
+
+/// How many DLLs a summary names.
+const LIBRARIES: usize = 12;
+/// The steps of a bar of entropy, for 8 bits a byte.
+const STEPS: f64 = 8.0;
+
+pub fn text(facts: &Facts, style: Style) -> String {
+    let mut page = Page::new(style);
+    page.heading(&heading_of(facts));
+    if let Some(headers) = &facts.headers {
+        headers_of(headers, &mut page);
+    }
+    sections_of(facts.sections.as_deref().unwrap_or_default(), &mut page);
+    tables_of(facts, &mut page);
+    version_of(facts, &mut page);
+    symbols_of(facts, &mut page);
+    for (part, refusal) in facts.refusals() {
+        page.warning(format_args!("{part}: {refusal}"));
+    }
+    page.into_text()
+}
+
+fn heading_of(facts: &Facts) -> String {
+    let file = escaped(&facts.file);
+    let Some(headers) = &facts.headers else { return format!("{file}: refused") };
+    let kind = if headers.is_dll { "DLL" } else { "program" };
+    let format = headers.format.unwrap_or("image without an optional header,");
+    format!("{file}: {format} {kind} for {}, {}", headers.machine, headers.subsystem)
+}
+
+fn headers_of(headers: &Headers, page: &mut Page) {
+    page.row("built", built(headers));
+    page.row("entry point", format_args!("{:#x}, image base {:#x}", headers.entry_rva, headers.image_base_va));
+    page.row("in memory", format_args!("{} bytes", headers.size_of_image));
+}
+
+/// When the image was built. The time stamp of a reproducible build is none.
+pub fn built(headers: &Headers) -> String {
+    match (headers.is_reproducible, headers.time_date_stamp) {
+        (true, 0) => "reproducibly".to_string(),
+        (true, stamp) => format!("reproducibly, time stamp {stamp:#010x} is a hash"),
+        (false, 0) => "without a time stamp".to_string(),
+        (false, stamp) => format!("{} by its time stamp", time_of(stamp)),
+    }
+}
+
+fn bar_of(entropy: f64) -> String {
+    let full = (entropy / 8.0 * STEPS).round() as usize;
+    "█".repeat(full) + &"░".repeat(STEPS as usize - full.min(STEPS as usize))
+}
+
+fn sections_of(sections: &[Section], page: &mut Page) {
+    for (index, section) in sections.iter().enumerate() {
+        let entropy = section.entropy.map_or(String::new(), |it| format!(" {} {it:.2} bits a byte", bar_of(it)));
+        let label = if index == 0 { "sections" } else { "" };
+        let Section { name, permissions, rva, virtual_size, .. } = section;
+        page.row(label, format_args!("{name:9}{permissions} {virtual_size:>9} bytes at {rva:<#10x}{entropy}"));
+    }
+}
+
+fn tables_of(facts: &Facts, page: &mut Page) {
+    if let Some(imports) = facts.imports.as_ref().and_then(Part::present) {
+        let counts = imports.entries.iter().map(|it| format!("{} {}", it.name, it.imports.entries.len()));
+        let more = imports.entries.len().saturating_sub(LIBRARIES);
+        let more = if more > 0 { format!(" and {more} more") } else { String::new() };
+        page.row("imports", counts.take(LIBRARIES).collect::<Vec<_>>().join(", ") + &more);
+    }
+    if let Some(exports) = facts.exports.as_ref().and_then(Part::present) {
+        let forwarders = exports.forwarders();
+        let of_others = if forwarders > 0 { format!(", {forwarders} of them forwarders") } else { String::new() };
+        page.row("exports", format_args!("{}{of_others}", exports.entries.len()));
+    }
+    if let Some(functions) = facts.functions.as_ref().and_then(Part::present) {
+        page.row("functions", format_args!("{} with unwind data", functions.entries.len()));
+    }
+    for certificate in facts.certificates.iter().flat_map(|it| &it.entries) {
+        page.row("certificate", format_args!("{}, {} bytes, not verified", certificate.r#type, certificate.size));
+    }
+}
+
+fn version_of(facts: &Facts, page: &mut Page) {
+    let Some(version) = &facts.version else { return };
+    if let Some(strings) = version.strings.present() {
+        for (label, name) in
+            [("product", "ProductName"), ("description", "FileDescription"), ("company", "CompanyName")]
+        {
+            if let Some(text) = strings.get(name).filter(|it| !it.is_empty()) {
+                page.row(label, escaped(text));
+            }
+        }
+    }
+    if let Some(fixed) = version.fixed.present() {
+        page.row("version", format_args!("{}, of the product {}", fixed.file_version, fixed.product_version));
+    }
+    if let Some(manifest) = version.manifest.present() {
+        page.row("manifest", format_args!("{} bytes", manifest.size));
+    }
+}
+
+fn symbols_of(facts: &Facts, page: &mut Page) {
+    let Some(pdb) = facts.debug.as_ref().and_then(|it| it.pdb.present()) else { return };
+    page.row("PDB", &pdb.name);
+    page.row("symbol key", &pdb.key);
+}

@@ -1,0 +1,298 @@
+//! The program as it is run, over images that are made by hand: what is expected stands in how they are made.
+
+#[path = "../../rust/tests/made/mod.rs"]
+mod made;
+
+use serde_json::{json, Value};
+use std::fs;
+use std::path::PathBuf;
+use std::process::Command;
+
+/// A folder for one test, which goes away with it.
+struct Folder(PathBuf);
+
+impl Folder {
+    fn new(test: &str) -> Folder {
+        let path = std::env::temp_dir().join(format!("pe-{test}-{}", std::process::id()));
+        fs::create_dir_all(&path).unwrap();
+        Folder(path)
+    }
+
+    fn file(&self, name: &str, bytes: &[u8]) -> String {
+        let path = self.0.join(name);
+        fs::write(&path, bytes).unwrap();
+        path.to_str().unwrap().to_string()
+    }
+}
+
+impl Drop for Folder {
+    fn drop(&mut self) {
+        let _ = fs::remove_dir_all(&self.0);
+    }
+}
+
+/// Standard output, standard error and the status of a run.
+fn run(arguments: &[&str]) -> (String, String, i32) {
+    let ran = Command::new(env!("CARGO_BIN_EXE_pe")).args(arguments).output().unwrap();
+    let text = |bytes: Vec<u8>| String::from_utf8(bytes).unwrap();
+    (text(ran.stdout), text(ran.stderr), ran.status.code().unwrap())
+}
+
+/// The JSON of an image, whose parts are all accepted.
+fn json_of(test: &str, bytes: &[u8]) -> Value {
+    let folder = Folder::new(test);
+    let (out, _, status) = run(&["--json", &folder.file("a.exe", bytes)]);
+    assert_eq!(status, 0);
+    serde_json::from_str(&out).unwrap()
+}
+
+#[test]
+fn headers_and_sections() {
+    let all = json_of("headers", &made::with_certificates());
+    assert_eq!(all["json_version"], 1);
+    assert_eq!(all["file_size"], 0x400 + 0x200 + 24);
+    let headers = &all["headers"];
+    assert_eq!((&headers["format"], &headers["machine"]["name"]), (&json!("PE32+"), &json!("x64")));
+    assert_eq!((&headers["entry_rva"], &headers["image_base_va"]), (&json!(0x1234), &json!(0x1_8000_0000u64)));
+    assert_eq!(headers["directories"], json!([{"index": 4, "name": "certificate", "file_offset": 0x600, "size": 24}]));
+    let section = &all["sections"][0];
+    assert_eq!(
+        (&section["name"], &section["rva"], &section["file_offset"]),
+        (&json!(".rdata"), &json!(0x1000), &json!(0x400))
+    );
+    assert_eq!(
+        (&section["file_size"], &section["permissions"], &section["entropy"]),
+        (&json!(0x200), &json!("---"), &json!(0.0))
+    );
+}
+
+#[test]
+fn exports_with_all_ordinals() {
+    assert_eq!(
+        json_of("exports", &made::with_exports())["exports"],
+        json!({
+        "name": "made.dll", "ordinal_base": 5, "entries": [
+            {"ordinal": 5, "rva": 0x1004, "names": ["second"]},
+            {"ordinal": 6, "rva": 0x9_0000, "names": ["first"]},
+            {"ordinal": 8, "rva": 0x1060, "names": [], "forwarder": "NTDLL.RtlFree"},
+        ]})
+    );
+}
+
+#[test]
+fn imports_by_name_and_by_ordinal() {
+    assert_eq!(
+        json_of("imports", &made::with_imports())["imports"],
+        json!({"entries": [
+            {"name": "KERNEL32.dll", "imports": {"entries": [
+                {"name": "Sleep", "hint": 0x2A, "slot_rva": 0x8000},
+                {"name": null, "ordinal": 17, "slot_rva": 0x8008},
+            ]}},
+            {"name": "a.dll", "imports": {"entries": [{"name": "f", "hint": 0, "slot_rva": 0x103C}]}},
+        ]})
+    );
+}
+
+#[test]
+fn debug_records() {
+    let debug = &json_of("debug", &made::with_debug())["debug"];
+    assert_eq!(
+        debug["pdb"],
+        json!({
+        "name": "a.pdb", "guid": "{497B72F6-390A-44FC-878E-5A2D63B6CC4B}", "age": 1,
+        "key": "497B72F6390A44FC878E5A2D63B6CC4B1",
+        "symbol_server_path": "a.pdb/497B72F6390A44FC878E5A2D63B6CC4B1/a.pdb"})
+    );
+    assert_eq!((&debug["pdb20"], &debug["repro"]), (&json!(null), &json!({"hash_hex": "68617368"})));
+    assert_eq!(
+        debug["pogo"],
+        json!({"signature": "LTCG", "parts": {"entries": [
+        {"name": ".text$mn", "rva": 0x1000, "size": 16}, {"name": ".bss", "rva": 0x2000, "size": 8}]}})
+    );
+    assert_eq!(debug["vc_features"], json!({"before_vc_11": 1, "c_and_cpp": 2, "gs": 3, "sdl": 4, "guard_n": 5}));
+    assert_eq!(debug["extended_dll_characteristics"], 0x41);
+    let types: Vec<&Value> =
+        debug["entries"]["entries"].as_array().unwrap().iter().map(|it| &it["type"]["number"]).collect();
+    assert_eq!(types, [2, 12, 13, 16, 20]);
+}
+
+#[test]
+fn older_debug_records() {
+    let all = json_of("old", &made::with_old_debug());
+    assert_eq!(all["debug"]["pdb20"], json!({"name": "b.pdb", "time_date_stamp": 0x3333, "age": 7}));
+    assert_eq!((&all["debug"]["pdb"], &all["debug"]["repro"]), (&json!(null), &json!({"hash_hex": null})));
+    assert_eq!(all["headers"]["is_reproducible"], true);
+}
+
+#[test]
+fn certificates_functions_and_versions() {
+    assert_eq!(
+        json_of("certificates", &made::with_certificates())["certificates"],
+        json!({"entries": [
+            {"size": 9, "revision": 0x200, "type": {"number": 2, "name": "PKCS #7 signed data"}},
+            {"size": 8, "revision": 0x100, "type": {"number": 1, "name": "X.509"}},
+        ]})
+    );
+    let arm64 = json_of("arm64", &made::with_arm64_functions());
+    assert_eq!(arm64["functions"]["entries"][1], json!({"start_rva": 0x5010, "end_rva": null, "unwind": 0x1010}));
+    assert_eq!(
+        json_of("version", &made::with_resources())["version"],
+        json!({
+        "fixed": {"file_version": "3.11.3150.1013", "product_version": "1.2.3.4"},
+        "strings": {"CompanyName": "Größe & Söhne \u{1F600}", "ProductName": "made"},
+        "manifest": {"size": 11}})
+    );
+}
+
+#[test]
+fn a_summary_is_a_screen_of_text() {
+    let folder = Folder::new("summary");
+    let file = folder.file("made.dll", &made::with_exports());
+    let (out, _, status) = run(&[&file]);
+    assert_eq!(status, 0);
+    assert!(out.starts_with(&format!("{file}: PE32+ program for x64, unknown subsystem\n")), "{out}");
+    assert!(out.contains("\n  entry point   0x1234, image base 0x180000000\n"), "{out}");
+    assert!(out.contains("\n  exports       3, 1 of them forwarders\n"), "{out}");
+    assert!(!out.contains('\x1b'), "colours are for terminals");
+}
+
+#[test]
+fn readmes_show_what_is_printed() {
+    let readme = include_str!("../README.md");
+    let mut count = 0;
+    for block in readme.split("\n    $ pe ").skip(1) {
+        let (words, rest) = block.split_once('\n').unwrap();
+        let lines = rest.lines().take_while(|line| line.is_empty() || line.starts_with("    "));
+        let wanted: Vec<&str> =
+            lines.map(|line| line.get(4..).unwrap_or_default()).take_while(|it| !it.starts_with('$')).collect();
+        let ran = Command::new(env!("CARGO_BIN_EXE_pe")).args(words.split(' ')).current_dir("../..").output().unwrap();
+        assert_eq!(String::from_utf8(ran.stdout).unwrap().trim_end(), wanted.join("\n").trim_end(), "{words}");
+        count += 1;
+    }
+    assert_eq!(count, 3);
+}
+
+#[test]
+fn parts_are_shown_whole() {
+    let folder = Folder::new("show");
+    let (out, _, status) = run(&["show", &folder.file("a.dll", &made::with_exports()), "exports"]);
+    assert_eq!(status, 0);
+    let end = "Exports of made.dll\n  ordinal  RVA      name    forwarder\n  5        0x1004   second\n  6        0x90000  first\n  \
+               8        0x1060           to NTDLL.RtlFree\n";
+    assert!(out.ends_with(end), "{out}");
+    let (out, _, _) = run(&["show", &folder.file("b.exe", &made::with_imports()), "imports"]);
+    assert!(out.ends_with("Imports from KERNEL32.dll\n  Sleep\n  #17\n\nImports from a.dll\n  f\n"), "{out}");
+}
+
+#[test]
+fn keys_are_paths_of_a_symbol_server() {
+    let folder = Folder::new("key");
+    let (out, _, status) = run(&["key", &folder.file("a.exe", &made::with_debug())]);
+    // The image's own path has its time stamp and its size in memory, both of which are 0 here.
+    assert_eq!((out.as_str(), status), ("a.pdb/497B72F6390A44FC878E5A2D63B6CC4B1/a.pdb\na.exe/000000000/a.exe\n", 0));
+}
+
+#[test]
+fn functions_are_unwound_up_to_the_root() {
+    let folder = Folder::new("unwind");
+    let file = folder.file("a.exe", &made::with_functions());
+    let (out, _, status) = run(&["unwind", &file, "0x5012"]);
+    assert_eq!(
+        (out.as_str(), status),
+        (
+            "\
+function 0x5010 to 0x5020
+  record of version 1, a prolog of 5 bytes
+    after   5 bytes  UWOP_SAVE_NONVOL    save rbx at [rbp - 0 + 40]
+  chained to a record of version 1, a prolog of 8 bytes
+    after   8 bytes  UWOP_ALLOC          allocate 32 bytes of stack
+    after   4 bytes  UWOP_SET_FPREG      set rbp to rsp + 32
+    after   1 bytes  UWOP_PUSH_NONVOL    push rbp
+    exception handler at 0x1100
+",
+            0
+        )
+    );
+    let (out, _, status) = run(&["unwind", "--json", &file, "5032"]);
+    let endless: Value = serde_json::from_str(&out).unwrap();
+    assert_eq!((endless["error"]["name"].as_str(), status), (Some("FUNCTION_CYCLE"), 1));
+    let (out, _, status) = run(&["unwind", &file, "4fff"]);
+    assert_eq!((out.contains("leaf function"), status), (true, 0));
+}
+
+#[test]
+fn damaged_parts_are_warnings_and_cost_themselves() {
+    let folder = Folder::new("damaged");
+    let file = folder.file("a.exe", &made::with_refused_import());
+    let (out, _, status) = run(&["--json", &file]);
+    let all: Value = serde_json::from_str(&out).unwrap();
+    assert_eq!((&all["imports"]["entries"][0]["imports"]["error"]["name"], status), (&json!("IMPORT_NAME"), 1));
+    assert_eq!(all["sections"].as_array().unwrap().len(), 1);
+    let (out, _, status) = run(&[&file]);
+    assert!(
+        out.ends_with("  warning       imports: import name not NUL-terminated or not UTF-8 (IMPORT_NAME)\n"),
+        "{out}"
+    );
+    assert_eq!(status, 1);
+}
+
+#[test]
+fn hostile_names_forge_no_lines() {
+    let folder = Folder::new("hostile");
+    let mut bytes = made::with_exports();
+    bytes[0x148..0x150].copy_from_slice(b"\x1b[2J\n\xff\"a");
+    let file = folder.file("a.exe", &bytes);
+    for arguments in [vec![file.as_str()], vec!["show", &file]] {
+        let (out, _, _) = run(&arguments);
+        assert!(out.contains("\\x1b[2J\\x0a\\xff\"a"), "{out}");
+        assert!(!out.contains('\x1b'), "{out}");
+    }
+    let (out, _, _) = run(&["--json", &file]);
+    assert_eq!(out.lines().count(), 1);
+    let all: Value = serde_json::from_str(&out).unwrap();
+    assert_eq!(all["sections"][0]["name"], json!({"hex": "1b5b324a0aff2261"}));
+}
+
+#[test]
+fn statuses() {
+    let folder = Folder::new("statuses");
+    let image = folder.file("a.exe", made::SMALL);
+    let short = folder.file("b.exe", b"MZ");
+    let none = folder.0.join("none").to_str().unwrap().to_string();
+    assert_eq!(run(&[&image]).2, 0);
+    assert_eq!(run(&[&image, &short]).2, 1);
+    assert_eq!(run(&[&short, &none]).2, 3);
+    assert_eq!(run(&["unwind", &image, "xyz"]).2, 2);
+    assert_eq!(run(&[]).2, 2);
+    let (out, _, _) = run(&["--json", &short]);
+    let all: Value = serde_json::from_str(&out).unwrap();
+    assert_eq!(all["error"], json!({"number": 2, "name": "SHORT", "text": "truncated"}));
+}
+
+#[test]
+fn folders_are_read_in_order_and_other_files_skipped() {
+    let folder = Folder::new("folders");
+    for number in 0..200 {
+        folder.file(&format!("{number:03}.exe"), &made::with_exports());
+        folder.file(&format!("{number:03}.txt"), b"no image");
+    }
+    let (out, _, status) = run(&["--json", "-r", folder.0.to_str().unwrap()]);
+    assert_eq!(status, 0);
+    let files: Vec<Value> = out.lines().map(|line| serde_json::from_str(line).unwrap()).collect();
+    let name = |it: &Value| it["file"].as_str().unwrap().rsplit('/').next().unwrap().to_string();
+    let wanted: Vec<String> = (0..200).map(|number| format!("{number:03}.exe")).collect();
+    assert_eq!(files.iter().map(name).collect::<Vec<_>>(), wanted);
+}
+
+#[test]
+fn parts_are_extracted_to_new_files() {
+    let folder = Folder::new("extract");
+    let file = folder.file("a.exe", &made::with_resources());
+    let to = folder.0.join("a.manifest");
+    let to = to.to_str().unwrap();
+    assert_eq!(run(&["extract", &file, "manifest", to]).2, 0);
+    assert_eq!(fs::read(to).unwrap(), made::MANIFEST);
+    assert_eq!(run(&["extract", &file, "manifest", to]).2, 3, "the file exists");
+    assert_eq!(run(&["extract", &file, "manifest", "-"]).0.as_bytes(), made::MANIFEST);
+    assert_eq!(run(&["extract", &file, "certificate", "-"]).2, 1);
+}

@@ -1,0 +1,33 @@
+//! Prints the versions of images, a line each: file version, product version, product, company.
+//!
+//!     cargo run --example version_report FILE ..
+
+use pe_c::{Error, Image, Mode, VersionName};
+
+/// Four numbers as Windows shows a version.
+fn dotted(numbers: [u16; 4]) -> String {
+    numbers.map(|number| number.to_string()).join(".")
+}
+
+/// The version of an image, or `None` without version information. A string that is missing is empty, and control
+/// characters of strings are escaped.
+pub fn version_line(bytes: &[u8]) -> Result<Option<String>, Error> {
+    let image = Image::parse(bytes, Mode::Permissive)?;
+    let Some(fixed) = image.version()? else { return Ok(None) };
+    let mut fields = vec![dotted(fixed.file_version()), dotted(fixed.product_version())];
+    for name in [VersionName::ProductName, VersionName::CompanyName] {
+        let text = image.version_text(name)?.map_or(String::new(), |text| text.to_string_lossy());
+        fields.push(text.chars().flat_map(|it| if it.is_control() { it.escape_default().collect() } else { vec![it] }).collect());
+    }
+    Ok(Some(fields.join("\t")))
+}
+
+fn main() {
+    for name in std::env::args().skip(1) {
+        let bytes = std::fs::read(&name).expect("the file is read");
+        match version_line(&bytes) {
+            Ok(line) => println!("{name}\t{}", line.as_deref().unwrap_or("no version information")),
+            Err(error) => println!("{name}\t{error}"),
+        }
+    }
+}
