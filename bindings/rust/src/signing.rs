@@ -143,9 +143,8 @@ impl<'a> Image<'a> {
         let (first, count, way) = (certificate.as_ptr(), certificate.len(), placement as u32);
         let mut length = 0;
         // SAFETY: the pointers and lengths are those of slices and records that are lent for the call.
-        let number = unsafe {
-            sys::pe_c_attached_length(bytes.as_ptr(), bytes.len(), info, first, count, way, &mut length)
-        };
+        let number =
+            unsafe { sys::pe_c_attached_length(bytes.as_ptr(), bytes.len(), info, first, count, way, &mut length) };
         Error::of(number)?;
         file_of(length, |room, written| {
             let (start, size) = (room.as_mut_ptr(), room.len());

@@ -64,8 +64,11 @@ sign_texts =
 unfoldable pub sign_text : ℕ → List ℕ
 sign_text n = slice_index_or sign_texts n (codes "unknown result")
 
+-- the text of 0 or of the number of any refusal
+abbrev pub error_text : ℕ → List ℕ
+error_text n = if nat_lt n 201 then refusal_text n else sign_text (n - 201)
+
 -- the text of the number of a result
 unfoldable pub result_text : ℕ → List ℕ
 result_text n =
-    if n == 100 then codes "there is nothing of the kind" else (
-      if n == 101 then codes "the array is too small" else (if nat_lt n 201 then refusal_text n else sign_text (n - 201)))
+    if n == 100 then codes "there is nothing of the kind" else (if n == 101 then codes "the array is too small" else error_text n)

@@ -125,15 +125,15 @@ first_of_array q n p k next r h =
     let fewer : (rs : List ByteRange) → suc k - suc (length rs) ≡ k - length rs = λ rs. omega arith in
     ⊎_elim
     (λ (e : (kept_ranges q p (n - p) ≡ []) × (r ≡ nothing) × (next ≡ n)).
-      ap (λ (rs : List ByteRange). in_array (suc k) rs) e.0
-      ∙ ap (λ (j : ℕ). replicate j nothing) all
-      ∙ ap (λ (j : ℕ). nothing ∷ replicate j nothing) others
-      ∙ ap (λ (x : ByteRange). x ∷ in_array k []) (sym e.1)
-      ∙ ap (λ (j : ℕ). r ∷ in_array k (kept_ranges q n j)) (sym empty)
-      ∙ ap (λ (m : ℕ). r ∷ in_array k (kept_ranges q m (n - m))) (sym e.2))
+    ap (λ (rs : List ByteRange). in_array (suc k) rs) e.0
+    ∙ ap (λ (j : ℕ). replicate j nothing) all
+    ∙ ap (λ (j : ℕ). nothing ∷ replicate j nothing) others
+    ∙ ap (λ (x : ByteRange). x ∷ in_array k []) (sym e.1)
+    ∙ ap (λ (j : ℕ). r ∷ in_array k (kept_ranges q n j)) (sym empty)
+    ∙ ap (λ (m : ℕ). r ∷ in_array k (kept_ranges q m (n - m))) (sym e.2))
     (λ (e : kept_ranges q p (n - p) ≡ r ∷ kept_ranges q next (n - next)).
-      ap (λ (rs : List ByteRange). in_array (suc k) rs) e
-      ∙ ap (λ (j : ℕ). r ∷ (kept_ranges q next (n - next) ++ replicate j nothing)) (fewer (kept_ranges q next (n - next))))
+    ap (λ (rs : List ByteRange). in_array (suc k) rs) e
+    ∙ ap (λ (j : ℕ). r ∷ (kept_ranges q next (n - next) ++ replicate j nothing)) (fewer (kept_ranges q next (n - next))))
     h
 
 -- ---- the bytes of the ranges are those that are kept
@@ -230,8 +230,7 @@ ranges_cover b h r c e f =
     let p = parts_by (left_out_of h) (λ l. covered_ranges l b) r e in
     let s = parts_by (left_out_of h) (λ l. covered l b) c f in
     let same : p.0 ≡ s.0 = (let both : ◌≡◌ {A = Result LeftOut Refusal} (Ok p.0) (Ok s.0) = sym p.1.0 ∙ s.1.0 in cc) in
-    let by : r ≡ covered_ranges s.0 b = p.1.1 ∙ ap (λ (l : LeftOut). covered_ranges l b) same in
-    (
+    let by : r ≡ covered_ranges s.0 b = p.1.1 ∙ ap (λ (l : LeftOut). covered_ranges l b) same in (
       ap (λ (x : DigestRanges). flat_map (bytes_in b) x.ranges) by ∙ array_bytes (is_left_out s.0) b 4 ∙ ap (λ (x : Covered). x.content) (sym s.1.1),
       ap (λ (x : DigestRanges). x.zeros) by ∙ ap (λ (x : Covered). x.zeros) (sym s.1.1),
     )

@@ -33,14 +33,14 @@ pub moves_three : (l : LeftOut) (p x y z end : ℕ) → p ≤ x → x ≤ y → 
 moves_three l p x y z end u v w a b c h small =
     ⊎_elim (λ (more : p < z). more)
     (λ (stays : z ≤ p).
-      let at : x ≡ p = omega (arith, u, v, w, stays) in
-      let again : y ≡ p = omega (arith, u, v, w, stays) in
-      absurd (
-        none_of_three (is_in l.checksum p) (is_in l.directory_entry p) (is_in l.certificates p)
-        (λ t. let i : p < x = a t small in absurd (omega (arith, i, at)))
-        (λ t. let i : x < y = b (ap (is_in l.directory_entry) at ∙ t) (omega (arith, at, small)) in absurd (omega (arith, i, at, again)))
-        (λ t. let i : y < z = c (ap (is_in l.certificates) again ∙ t) (omega (arith, again, small)) in absurd (omega (arith, i, again, stays)))
-        h))
+    let at : x ≡ p = omega (arith, u, v, w, stays) in
+    let again : y ≡ p = omega (arith, u, v, w, stays) in
+    absurd (
+    none_of_three (is_in l.checksum p) (is_in l.directory_entry p) (is_in l.certificates p)
+    (λ t. let i : p < x = a t small in absurd (omega (arith, i, at)))
+    (λ t. let i : x < y = b (ap (is_in l.directory_entry) at ∙ t) (omega (arith, at, small)) in absurd (omega (arith, i, at, again)))
+    (λ t. let i : y < z = c (ap (is_in l.certificates) again ∙ t) (omega (arith, again, small)) in absurd (omega (arith, i, again, stays)))
+    h))
     (cases_lt p z)
 
 -- ---- up to the next part
@@ -83,17 +83,17 @@ pub one_starts : (l : LeftOut) (x y z end : ℕ) → z ≤ y → y ≤ x → x �
 one_starts l x y z end u v w a b c h =
     ⊎_elim (λ (i : z < y). inr (inr (c i)))
     (λ (i : y ≤ z).
-      let at : y ≡ z = omega (arith, i, u) in
-      ⊎_elim (λ (j : y < x). inr (inl (subst (λ (p : ℕ). StartsAt l.directory_entry p) at (b j))))
-      (λ (j : x ≤ y). let there : x ≡ z = omega (arith, j, v, at) in inl (subst (λ (p : ℕ). StartsAt l.checksum p) there (a (omega (arith, there, h)))))
-      (cases_lt y x))
+    let at : y ≡ z = omega (arith, i, u) in
+    ⊎_elim (λ (j : y < x). inr (inl (subst (λ (p : ℕ). StartsAt l.directory_entry p) at (b j))))
+    (λ (j : x ≤ y). let there : x ≡ z = omega (arith, j, v, at) in inl (subst (λ (p : ℕ). StartsAt l.checksum p) there (a (omega (arith, there, h)))))
+    (cases_lt y x))
     (cases_lt z y)
 
 pub is_left_out_there : (l : LeftOut) (p : ℕ) → OneStarts l p → is_left_out l p ≡ true
 is_left_out_there l p s =
     ⊎_elim (λ (h : StartsAt l.checksum p). in_checksum l p h.0)
     (λ (h : StartsAt l.directory_entry p ⊎ StartsAt l.certificates p).
-      ⊎_elim (λ (i : StartsAt l.directory_entry p). in_entry l p i.0) (λ (i : StartsAt l.certificates p). in_certificates l p i.0) h)
+    ⊎_elim (λ (i : StartsAt l.directory_entry p). in_entry l p i.0) (λ (i : StartsAt l.certificates p). in_certificates l p i.0) h)
     s
 
 -- fewer parts start after a later offset
@@ -114,7 +114,7 @@ fewer_parts l p q h s =
     let c = later_one l.certificates p q later in
     ⊎_elim (λ (i : StartsAt l.checksum q). omega (arith, fewer_one l.checksum p q h i.1, b, c))
     (λ (i : StartsAt l.directory_entry q ⊎ StartsAt l.certificates q).
-      ⊎_elim (λ (j : StartsAt l.directory_entry q). omega (arith, fewer_one l.directory_entry p q h j.1, a, c)) (λ (j : StartsAt l.certificates q). omega (arith, fewer_one l.certificates p q h j.1, a, b)) i)
+    ⊎_elim (λ (j : StartsAt l.directory_entry q). omega (arith, fewer_one l.directory_entry p q h j.1, a, c)) (λ (j : StartsAt l.certificates q). omega (arith, fewer_one l.certificates p q h j.1, a, b)) i)
     s
 
 -- ---- four ranges are all of them
@@ -145,10 +145,10 @@ four_ranges l n a b c d r s t u one two three four v w x y f g h i =
     let start : n - 0 ≡ n = omega arith in
     let none : n - d ≡ 0 = omega (arith, at) in
     sym (
-      ap (λ (j : ℕ). in_array 4 (kept_ranges q 0 j)) (sym start)
-      ∙ first_of_array q n 0 3 a r one
-      ∙ ap (λ (rs : List ByteRange). r ∷ rs) (
-        first_of_array q n a 2 b s two
-        ∙ ap (λ (rs : List ByteRange). s ∷ rs) (
-          first_of_array q n b 1 c t three
-          ∙ ap (λ (rs : List ByteRange). t ∷ rs) (first_of_array q n c 0 d u four ∙ ap (λ (j : ℕ). u ∷ in_array 0 (kept_ranges q d j)) none))))
+    ap (λ (j : ℕ). in_array 4 (kept_ranges q 0 j)) (sym start)
+    ∙ first_of_array q n 0 3 a r one
+    ∙ ap (λ (rs : List ByteRange). r ∷ rs) (
+    first_of_array q n a 2 b s two
+    ∙ ap (λ (rs : List ByteRange). s ∷ rs) (
+    first_of_array q n b 1 c t three
+    ∙ ap (λ (rs : List ByteRange). t ∷ rs) (first_of_array q n c 0 d u four ∙ ap (λ (j : ℕ). u ∷ in_array 0 (kept_ranges q d j)) none))))
