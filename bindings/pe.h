@@ -1,4 +1,5 @@
-/* pe.h: reads PE images (Windows .exe and .dll files) by a proved library, from C11 and C++17.
+/* pe.h: reads PE images (Windows .exe and .dll files), and attaches their certificates, by a proved library, from C11 and
+ * C++17.
  *
  * The caller's obligations, for each call:
  *   - `bytes` points to the `length` bytes of the image, a file or memory, which are readable and which nothing writes
@@ -118,14 +119,20 @@ enum {
     PE_C_RESOURCE_CYCLE = 29,       /* loop in the resource tree */
     PE_C_RESOURCE_STRING = 30,      /* version string value missing, or its length above 32,767 */
     PE_C_TE_SIZE = 31,              /* stripped size smaller than the TE header; never returned */
-    PE_C_NO_OPTIONAL_HEADER = 32,   /* image has no optional header; never returned */
+    PE_C_NO_OPTIONAL_HEADER = 32,   /* image has no optional header */
     PE_C_WRITE_ALIGNMENT = 33,      /* alignment cannot be written; never returned */
     PE_C_WRITE_SYMBOLS = 34,        /* images with COFF symbols cannot be written; never returned */
     PE_C_WRITE_OVERLAP = 35,        /* sections overlap in the file; never returned */
     PE_C_WRITE_SECTION = 36,        /* section data is not in the source bytes; never returned */
-    PE_C_WRITE_FIT = 37,            /* write does not fit the buffer; never returned */
+    PE_C_WRITE_FIT = 37,            /* write does not fit the buffer */
     PE_C_NOTHING = 100,             /* there is nothing of the kind, or the walk is over */
-    PE_C_ROOM = 101                 /* the array is too small */
+    PE_C_ROOM = 101,                /* the array is too small */
+    PE_C_SIGN_NO_DIRECTORY = 201,   /* image has no certificate directory */
+    PE_C_SIGN_TABLE_NOT_LAST = 202, /* certificate table ends before the end of the file */
+    PE_C_SIGN_HEADERS = 203,        /* headers end after the start of the certificates or the end of the file */
+    PE_C_SIGN_SECTION = 204,        /* section data ends after the start of the certificates or the end of the file */
+    PE_C_SIGN_TABLE_OFFSET = 205,   /* certificate table is not aligned to 8 bytes */
+    PE_C_SIGN_TOO_LARGE = 206,      /* image with the certificate has 2^32 bytes or more */
 };
 
 /* Modes. PE_C_MAPPED is added to one of the others, or stands for PE_C_STRICT | PE_C_MAPPED. */
@@ -385,6 +392,86 @@ PE_C_SIZE(pe_c_certificate, 24);
  * PE_C_CERTIFICATE_REVISION, PE_C_CERTIFICATE_TYPE. */
 uint32_t pe_c_next_certificate(const uint8_t *bytes, size_t length, pe_c_range *walk, pe_c_certificate *out)
     PE_C_RESULT(3, 4);
+
+/* ---- signing
+ *
+ * A signing tool hashes an image, makes a certificate of the digest, and attaches that. A signature must survive being
+ * attached, so the Authenticode digest leaves out three parts of the file: the field CheckSum, the entry of the certificate
+ * directory, and the certificates. Zeros follow, as many as fill up the file without its certificates to a multiple of
+ * eight, since that is where certificates are attached.
+ * https://learn.microsoft.com/windows/win32/debug/pe-format#process-for-generating-the-authenticode-pe-image-hash
+ *
+ * `bytes` are the whole file, also in mode PE_C_MAPPED. Each of these calls reads the headers from them, as pe_c_image
+ * does, in the mode of `image`, whose other fields make no difference. So a caller need not read an image anew to go on with
+ * what was written, and each call may return the errors of pe_c_image before its own. */
+
+/* What an Authenticode digest covers: hash the ranges in their order, and then so many zeros. */
+typedef struct {
+    pe_c_range ranges[4];           /* in the order of the file; those that are not needed are at the end, and empty */
+    uint64_t zeros;                 /* 0 to 7 */
+} pe_c_digest;
+
+/* The checksum that an image should have. Windows tests it for drivers and boot files. */
+typedef struct {
+    uint64_t offset;                /* file offset of the field that holds it, 4 bytes, little-endian */
+    uint32_t value;                 /* what the field has to hold; what it holds makes no difference */
+    uint32_t spare;                 /* 0 */
+} pe_c_checksum_field;
+
+/* Where a certificate is attached. Other even numbers are as PE_C_AFTER, other odd ones as PE_C_IN_PLACE. */
+enum {
+    PE_C_AFTER = 0,                 /* after the certificates that are there */
+    PE_C_IN_PLACE = 1               /* in place of the certificates that are there */
+};
+
+PE_C_SIZE(pe_c_digest, 72);
+PE_C_SIZE(pe_c_checksum_field, 16);
+
+/* Returns what the Authenticode digest of an image covers.
+ * Errors: those of pe_c_image; PE_C_NO_OPTIONAL_HEADER. */
+uint32_t pe_c_digest_ranges(const uint8_t *bytes, size_t length, const pe_c_image_info *image, pe_c_digest *out)
+    PE_C_RESULT(3, 4);
+
+/* Returns the checksum that an image should have, and where its field is.
+ * Errors: those of pe_c_image; PE_C_NO_OPTIONAL_HEADER. */
+uint32_t pe_c_checksum(const uint8_t *bytes, size_t length, const pe_c_image_info *image, pe_c_checksum_field *out)
+    PE_C_RESULT(3, 4);
+
+/* Returns the length of the file that pe_c_attach writes with these arguments.
+ * Errors: those of pe_c_attach, but for PE_C_WRITE_FIT. */
+uint32_t pe_c_attached_length(const uint8_t *bytes, size_t length, const pe_c_image_info *image,
+                              const uint8_t *certificate, size_t certificate_length, uint32_t placement,
+                              uint64_t *out) PE_C_RESULT(3, 7);
+
+/* Writes the file with a certificate to the start of the array, and its length to `out`: zeros up to a multiple of eight
+ * bytes, the certificate, zeros again, the entry of the certificate directory and the checksum. What the digest covers stays
+ * as it was. The rest of the array is unchanged, and all of it after an error. The array overlaps neither the file nor the
+ * certificate; it may be NULL if room_length is 0, and the certificate if certificate_length is.
+ * `certificate` is one or more entries of a certificate table (WIN_CERTIFICATE), each but the last with its padding to a
+ * multiple of eight bytes; `placement` is PE_C_AFTER or PE_C_IN_PLACE.
+ * Errors: those of pe_c_image; PE_C_NO_OPTIONAL_HEADER; PE_C_SIGN_NO_DIRECTORY where the image has fewer than five
+ * directories; PE_C_CERTIFICATE_TABLE where the table passes the end of the file, PE_C_SIGN_TABLE_NOT_LAST where it ends
+ * before that; PE_C_SIGN_HEADERS, PE_C_SIGN_SECTION where headers or the data of a section end after the start of the table,
+ * or after the end of the file without one; PE_C_SIGN_TABLE_OFFSET where the certificate is to go after others whose table
+ * is not at a multiple of eight; PE_C_SHORT, PE_C_CERTIFICATE_SIZE of a certificate shorter than eight bytes, or than its
+ * first entry says; PE_C_SIGN_TOO_LARGE where the file with it has 2^32 bytes or more; PE_C_WRITE_FIT where that does not
+ * fit into the array. */
+uint32_t pe_c_attach(const uint8_t *bytes, size_t length, const pe_c_image_info *image, const uint8_t *certificate,
+                     size_t certificate_length, uint32_t placement, uint8_t *room, size_t room_length,
+                     uint64_t *out) PE_C_RESULT(3, 9);
+
+/* Returns the length of the file that pe_c_detach writes with these arguments.
+ * Errors: those of pe_c_detach, but for PE_C_WRITE_FIT. */
+uint32_t pe_c_detached_length(const uint8_t *bytes, size_t length, const pe_c_image_info *image, uint64_t *out)
+    PE_C_RESULT(3, 4);
+
+/* Writes the file without certificates to the start of the array, and its length to `out`: all before the certificate table,
+ * with zeros in the entry of the certificate directory, and the checksum. An image without certificates stays as it is, but
+ * for its checksum. The rest of the array is unchanged, and all of it after an error. The array does not overlap the file;
+ * it may be NULL if room_length is 0.
+ * Errors: those of pe_c_attach up to PE_C_SIGN_SECTION; PE_C_WRITE_FIT where the file does not fit into the array. */
+uint32_t pe_c_detach(const uint8_t *bytes, size_t length, const pe_c_image_info *image, uint8_t *room,
+                     size_t room_length, uint64_t *out) PE_C_RESULT(3, 6);
 
 /* ---- x64 functions and unwind records
  *

@@ -235,6 +235,21 @@ fn read_by_lies(bytes: &[u8], random: &mut Random, seen: &mut Seen) {
     call_of_image!(pe_c_fixed_version(), Version);
     call_of_image!(pe_c_version_text(few % 16), Range);
     call_of_image!(pe_c_manifest(), Range);
+    call!(pe_c_digest_ranges(&image), Digest);
+    call!(pe_c_checksum(&image), ChecksumField);
+    let part = &bytes[..length.min(16)];
+    let mut room = vec![7; (index as usize).min(2 * length)];
+    let (mut needed, mut written, mut left) = (0, 0, 0);
+    // SAFETY: as above.
+    unsafe {
+        sys::pe_c_attached_length(start, length, &image, part.as_ptr(), part.len(), few, &mut needed);
+        let (first, size) = (room.as_mut_ptr(), room.len());
+        sys::pe_c_attach(start, length, &image, part.as_ptr(), part.len(), few, first, size, &mut written);
+        assert!(written == 0 || written == needed && written <= size as u64);
+        sys::pe_c_detached_length(start, length, &image, &mut needed);
+        sys::pe_c_detach(start, length, &image, first, size, &mut left);
+        assert!(left == 0 || left == needed && left <= size as u64);
+    }
     let tables = call_of_image!(pe_c_export_tables(), Exports);
     walk_of_image!(pe_c_next_export(tables), Export);
     walk_of_image!(pe_c_next_export(sys::Exports { names: range, next: index, ..tables }), Export);

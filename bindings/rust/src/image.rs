@@ -3,7 +3,7 @@
 //! An image starts with the DOS header, whose last field is the file offset of the PE header. That has the COFF header,
 //! the optional header with the data directories, and the section headers, which map RVAs to file offsets. The layouts are
 //! those of Microsoft's [PE Format](https://learn.microsoft.com/windows/win32/debug/pe-format). All calls of the library
-//! are made here and in `walk`.
+//! are made here, in `walk` and in `signing`.
 
 use crate::sys::{self, Directory, ImageInfo, Section};
 use alloc::vec::Vec;
@@ -79,7 +79,7 @@ macro_rules! errors {
 
 // Written by tools/make_errors.
 errors! {
-    /// Out of memory. Only [`Image::parse`] returns it.
+    /// Out of memory. Only [`Image::parse`], [`Image::attach`] and [`Image::detach`] return it.
     MEMORY = 1;
     /// Truncated.
     SHORT = 2;
@@ -137,12 +137,36 @@ errors! {
     RESOURCE_CYCLE = 29;
     /// Version string value missing, or its length above 32,767.
     RESOURCE_STRING = 30;
+    /// Image has no optional header.
+    NO_OPTIONAL_HEADER = 32;
+    /// Write does not fit the buffer.
+    WRITE_FIT = 37;
+    /// Image has no certificate directory.
+    SIGN_NO_DIRECTORY = 201;
+    /// Certificate table ends before the end of the file.
+    SIGN_TABLE_NOT_LAST = 202;
+    /// Headers end after the start of the certificates or the end of the file.
+    SIGN_HEADERS = 203;
+    /// Section data ends after the start of the certificates or the end of the file.
+    SIGN_SECTION = 204;
+    /// Certificate table is not aligned to 8 bytes.
+    SIGN_TABLE_OFFSET = 205;
+    /// Image with the certificate has 2^32 bytes or more.
+    SIGN_TOO_LARGE = 206;
 }
 
 impl Error {
     /// The number: that of the constant `PE_C_` in `pe.h`.
     pub const fn number(self) -> u32 {
         self.0
+    }
+
+    /// The error of a call that returned a number, unless it succeeded.
+    pub(crate) fn of(number: u32) -> Result<(), Error> {
+        match number {
+            sys::DONE => Ok(()),
+            number => Err(Error(number)),
+        }
     }
 }
 

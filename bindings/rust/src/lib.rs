@@ -1,5 +1,6 @@
 //! Reads PE images (Windows .exe and .dll files) by a proved library: headers, debug data, certificates, x64 and ARM64
-//! unwind data, exports, imports, version information and the manifest.
+//! unwind data, exports, imports, version information and the manifest. For signing tools it says what a digest covers, and
+//! attaches and detaches certificates.
 //!
 //! The library is proved to return what its definitions say, for every byte string; this crate is a thin safe layer over
 //! it, and is tested. Start with [`Image::parse`], or for a module in memory [`Image::parse_as`]; each part of an image is a method of [`Image`]:
@@ -9,6 +10,7 @@
 //! | headers, sections | [`info`](Image::info), [`sections`](Image::sections), [`offset`](Image::offset) | [PE Format] |
 //! | debug data | [`symbol_key`](Image::symbol_key), [`debug_entries`](Image::debug_entries), [`pogo`](Image::pogo), .. | [debug section] |
 //! | certificates | [`certificates`](Image::certificates) | [certificate table] |
+//! | signing | [`digest_ranges`](Image::digest_ranges), [`checksum`](Image::checksum), [`attach`](Image::attach), [`detach`](Image::detach) | [image hash] |
 //! | unwind data | [`functions`](Image::functions), [`arm64_functions`](Image::arm64_functions) | [x64], [ARM64] |
 //! | exports, imports | [`exports`](Image::exports), [`export_addresses`](Image::export_addresses), [`libraries`](Image::libraries) | [.edata], [.idata] |
 //! | resources | [`version`](Image::version), [`version_text`](Image::version_text), [`manifest`](Image::manifest) | [version information] |
@@ -16,6 +18,7 @@
 //! [PE Format]: https://learn.microsoft.com/windows/win32/debug/pe-format
 //! [debug section]: https://learn.microsoft.com/windows/win32/debug/pe-format#the-debug-section
 //! [certificate table]: https://learn.microsoft.com/windows/win32/debug/pe-format#the-attribute-certificate-table-image-only
+//! [image hash]: https://learn.microsoft.com/windows/win32/debug/pe-format#process-for-generating-the-authenticode-pe-image-hash
 //! [x64]: https://learn.microsoft.com/cpp/build/exception-handling-x64
 //! [ARM64]: https://learn.microsoft.com/cpp/build/arm64-exception-handling
 //! [.edata]: https://learn.microsoft.com/windows/win32/debug/pe-format#the-edata-section-image-only
@@ -25,8 +28,8 @@
 //! - An `Image` borrows the bytes of the file or module. Names, bodies and texts are slices of these bytes: they outlive the `Image`.
 //! - A directory that is absent is `Ok(None)`; a damaged one is an [`Error`]. An error in one part does not affect another.
 //! - Every list is an iterator. After an `Err` item it returns `None`.
-//! - No bytes make a call panic or loop forever. Only [`Image::parse`], for the section headers, and
-//!   [`Text::to_string_lossy`] allocate.
+//! - No bytes make a call panic or loop forever. Only [`Image::parse`], for the section headers, [`Image::attach`],
+//!   [`Image::detach`] and [`Text::to_string_lossy`] allocate.
 //! - An `offset` counts bytes from the start of the image's bytes: a file offset, or in a module in memory an RVA.
 //! - The docs of a call list its errors in the order in which they are tested.
 //!
@@ -62,6 +65,7 @@ mod debug;
 mod exports;
 mod image;
 mod imports;
+mod signing;
 mod symbol_server;
 pub mod sys;
 mod version;
@@ -77,6 +81,7 @@ pub use debug::{DebugEntries, Pdb20, Pogo, PogoEntries, PogoEntry, Repro, Symbol
 pub use exports::{AddressTable, Export, Exported, Exports};
 pub use image::{DirectoryIndex, Error, Image, Layout, Mode};
 pub use imports::{Import, Imports, Libraries, Library};
+pub use signing::{Checksum, DigestRanges, Placement};
 pub use symbol_server::{Guid, SymbolPath};
 pub use sys::{
     Arm64Function, Arm64Packed, Arm64Scope, DebugEntry, Directory, Function, ImageInfo, Scope, Section, VcFeatures,

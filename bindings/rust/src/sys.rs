@@ -214,6 +214,24 @@ Certificate, 24 {
     kind: u16,
 });
 record!(
+/// What an Authenticode digest covers. See [`DigestRanges`](crate::DigestRanges).
+Digest, 72 {
+    /// In the order of the file. Those that are not needed are at the end, and empty.
+    ranges: [Range; 4],
+    /// How many bytes of zero follow, at most 7.
+    zeros: u64,
+});
+record!(
+/// The checksum that an image should have. See [`Checksum`](crate::Checksum).
+ChecksumField, 16 {
+    /// File offset of the field that holds it, 4 bytes.
+    offset: u64,
+    /// What the field has to hold.
+    value: u32,
+    /// 0.
+    spare: u32,
+});
+record!(
 /// An entry of the x64 function table, `RUNTIME_FUNCTION`.
 Function, 12 {
     /// RVA of its first byte.
@@ -581,6 +599,18 @@ extern "C" {
         -> u32;
     /// Starts the plan of a function, by its unwind RVA.
     pub fn pe_c_plan_from(unwind: u32, out: *mut Plan) -> u32;
+    /// Writes the file with a certificate to the start of an array, and returns its length.
+    pub fn pe_c_attach(
+        bytes: *const u8,
+        length: usize,
+        image: *const ImageInfo,
+        certificate: *const u8,
+        certificate_length: usize,
+        placement: u32,
+        room: *mut u8,
+        room_length: usize,
+        out: *mut u64,
+    ) -> u32;
     /// Returns the fields of packed unwind data.
     pub fn pe_c_arm64_packed_fields(function: *const Arm64Function, out: *mut Arm64Packed) -> u32;
 }
@@ -596,6 +626,16 @@ calls_of_bytes! {
     pe_c_next_pogo_entry(walk: *mut Range) -> PogoEntry;
     /// Returns the next certificate of the certificate table.
     pe_c_next_certificate(walk: *mut Range) -> Certificate;
+    /// Returns what the Authenticode digest of an image covers.
+    pe_c_digest_ranges(image: *const ImageInfo) -> Digest;
+    /// Returns the checksum that an image should have, and the file offset of its field.
+    pe_c_checksum(image: *const ImageInfo) -> ChecksumField;
+    /// Returns the length of the file that [`pe_c_attach`] writes.
+    pe_c_attached_length(image: *const ImageInfo, certificate: *const u8, certificate_length: usize, placement: u32) -> u64;
+    /// Returns the length of the file that [`pe_c_detach`] writes.
+    pe_c_detached_length(image: *const ImageInfo) -> u64;
+    /// Writes the file without certificates to the start of an array, and returns its length.
+    pe_c_detach(image: *const ImageInfo, room: *mut u8, room_length: usize) -> u64;
     /// Returns the x64 function that covers an RVA.
     pe_c_find_function(table: *const Range, rva: u32) -> Function;
     /// Returns the x64 function with an index.

@@ -6,8 +6,8 @@ mod made;
 use facts::{as_loaded, facts};
 use made::*;
 use pe_c::{
-    Arm64Operation, Arm64Unwinding, DirectoryIndex, Error, Handler, Image, Layout, Mode, Offset, Operation, Register,
-    Repro, SymbolKey, VersionName,
+    Arm64Operation, Arm64Unwinding, DirectoryIndex, Error, Handler, Image, Layout, Mode, Offset, Operation, Placement,
+    Register, Repro, SymbolKey, VersionName,
 };
 
 fn strict(bytes: &[u8]) -> Image<'_> {
@@ -143,7 +143,7 @@ fn images_are_refused_by_number() {
 #[test]
 fn answers_have_texts() {
     let mut texts = Vec::new();
-    for number in (0..=40).chain([100, 101, 102, u32::MAX]) {
+    for number in (0..=40).chain([100, 101, 102, u32::MAX]).chain(201..=207) {
         let mut room = [0; 128];
         // SAFETY: the pointer and the length are those of one array.
         let length = unsafe { pe_c::sys::pe_c_text(number, room.as_mut_ptr(), room.len()) };
@@ -152,11 +152,12 @@ fn answers_have_texts() {
     }
     assert_eq!(Error::SHORT.to_string(), texts[2]);
     assert!(texts[2].contains("truncated"), "{}", texts[2]);
-    // those of 1 to 37, and of 100 and 101, differ from each other
-    let mut known: Vec<_> = texts[1..38].iter().chain(&texts[41..43]).collect();
+    // those of 1 to 37, of 100 and 101, and of 201 to 206 differ from each other and from that of all others
+    let mut known: Vec<_> = texts[1..38].iter().chain(&texts[41..43]).chain(&texts[45..52]).collect();
     known.sort();
     known.dedup();
-    assert_eq!(known.len(), 39);
+    assert_eq!(known.len(), 46);
+    assert_eq!(texts[51], texts[44]);
 }
 
 #[test]
@@ -262,6 +263,122 @@ fn damaged_certificates_are_refused() {
         let found: Vec<_> = image.certificates().collect();
         assert_eq!(found, [Err(error)]);
     }
+}
+
+/// A certificate whose body is one byte.
+const CERTIFICATE: [u8; 9] = [9, 0, 0, 0, 0, 2, 2, 0, 0x77];
+
+/// The image of 1,040 bytes without its certificate, and with more bytes after its section.
+fn unsigned(more: &[u8]) -> Vec<u8> {
+    let mut bytes = SMALL[..0x400].to_vec();
+    bytes[0xE8..0xF0].fill(0);
+    bytes.extend(more);
+    bytes
+}
+
+/// The checksum is at 0x98, the entry of the certificate directory at 0xE8, and the certificate at 0x400.
+#[test]
+fn digests_leave_out_three_parts() {
+    let digest = strict(SMALL).digest_ranges().unwrap();
+    assert_eq!(digest.ranges().collect::<Vec<_>>(), [0..0x98, 0x9C..0xE8, 0xF0..0x400]);
+    let slices: Vec<_> = digest.slices().collect();
+    assert_eq!(slices, [&SMALL[..0x98], &SMALL[0x9C..0xE8], &SMALL[0xF0..0x400]]);
+    assert!(SMALL.as_ptr_range().contains(&slices[2].as_ptr()), "a slice is borrowed");
+    assert_eq!(digest.zeros(), 0);
+    for (more, zeros) in [(1, 7), (5, 3), (8, 0)] {
+        let bytes = unsigned(&vec![0x55; more]);
+        let digest = strict(&bytes).digest_ranges().unwrap();
+        assert_eq!((digest.ranges().last(), digest.zeros()), (Some(0xF0..0x400 + more), zeros));
+    }
+    // the certificates seem to be the whole file
+    let mut bytes = SMALL.to_vec();
+    bytes[0xE8..0xF0].copy_from_slice(&[0, 0, 0, 0, 0xFF, 0xFF, 0xFF, 0xFF]);
+    let digest = strict(&bytes).digest_ranges().unwrap();
+    assert_eq!((digest.ranges().count(), digest.slices().count(), digest.zeros()), (0, 0, 0));
+}
+
+/// The checksums are those that `osslsigncode verify` 2.9 calculates.
+#[test]
+fn checksums_are_calculated() {
+    let sum = strict(SMALL).checksum().unwrap();
+    assert_eq!((sum.offset, sum.value), (0x98, 0x7C12));
+    let mut bytes = SMALL.to_vec();
+    bytes[0x98..0x9C].copy_from_slice(&[0x11, 0x22, 0x33, 0x44]);
+    assert_eq!(strict(&bytes).checksum().unwrap(), sum);
+}
+
+#[test]
+fn certificates_are_attached_and_detached() {
+    let bytes = unsigned(&[0x55; 3]);
+    for placement in [Placement::After, Placement::InPlace] {
+        let file = strict(&bytes).attach(&CERTIFICATE, placement).unwrap();
+        assert_eq!(file.len(), 0x418);
+        assert_eq!(file[0x98..0x9C], [0x99, 0xD1, 0, 0]);
+        assert_eq!(file[0xE8..0xF0], [8, 4, 0, 0, 0x10, 0, 0, 0]);
+        assert_eq!(file[0x400..0x408], [0x55, 0x55, 0x55, 0, 0, 0, 0, 0]);
+        assert_eq!(file[0x408..0x411], CERTIFICATE);
+        let image = strict(&file);
+        let found: Vec<_> = image.certificates().map(|it| it.unwrap().body).collect();
+        assert_eq!(found, [[0x77]]);
+        assert_eq!(image.info().checksum, image.checksum().unwrap().value);
+        // what the digest covers is the same, with its zeros in the file
+        let covered = |image: &Image| {
+            let digest = image.digest_ranges().unwrap();
+            [digest.slices().collect::<Vec<_>>().concat(), vec![0; digest.zeros()]].concat()
+        };
+        assert_eq!(covered(&image), covered(&strict(&bytes)));
+        let detached = image.detach().unwrap();
+        assert_eq!((detached.len(), &detached[0x400..]), (0x408, &file[0x400..0x408]));
+        assert_eq!(covered(&strict(&detached)), covered(&image));
+    }
+    let after = strict(SMALL).attach(&CERTIFICATE, Placement::After).unwrap();
+    assert_eq!((after.len(), &after[0x98..0x9C]), (0x420, [0xB4, 0x7E, 0, 0].as_slice()));
+    assert_eq!(strict(&after).certificates().count(), 2);
+    let instead = strict(SMALL).attach(&CERTIFICATE, Placement::InPlace).unwrap();
+    assert_eq!((instead.len(), strict(&instead).certificates().count()), (0x410, 1));
+    assert_eq!(strict(SMALL).detach().unwrap().len(), 0x400);
+}
+
+#[test]
+fn signing_is_refused_by_number() {
+    let with = |offset: usize, part: &[u8]| {
+        let mut bytes = SMALL.to_vec();
+        bytes[offset..offset + part.len()].copy_from_slice(part);
+        bytes
+    };
+    for (bytes, error) in [
+        (with(0x54, &[0]), Error::NO_OPTIONAL_HEADER),
+        (with(0xC4, &[4]), Error::SIGN_NO_DIRECTORY),
+        (with(0xED, &[1]), Error::CERTIFICATE_TABLE),
+        (with(0xEC, &[8]), Error::SIGN_TABLE_NOT_LAST),
+        (with(0xE8, &[0x10, 0, 0, 0, 0, 4]), Error::SIGN_HEADERS),
+        (with(0xE8, &[0xF8, 3, 0, 0, 0x18]), Error::SIGN_SECTION),
+    ] {
+        // the section headers are elsewhere without an optional header, and are there
+        let image = strict(&bytes);
+        assert_eq!(image.attach(&CERTIFICATE, Placement::InPlace), Err(error));
+        assert_eq!(image.detach(), Err(error));
+    }
+    let bytes = with(0x54, &[0]);
+    assert_eq!(strict(&bytes).digest_ranges(), Err(Error::NO_OPTIONAL_HEADER));
+    assert_eq!(strict(&bytes).checksum(), Err(Error::NO_OPTIONAL_HEADER));
+    let bytes = with(0xE8, &[1, 4, 0, 0, 0xF]);
+    assert_eq!(strict(&bytes).attach(&CERTIFICATE, Placement::After), Err(Error::SIGN_TABLE_OFFSET));
+    assert_eq!(strict(&bytes).attach(&CERTIFICATE, Placement::InPlace).map(|file| file.len()), Ok(0x418));
+    for (certificate, error) in [(&CERTIFICATE[..7], Error::SHORT), (&CERTIFICATE[..8], Error::CERTIFICATE_SIZE)] {
+        assert_eq!(strict(SMALL).attach(certificate, Placement::After), Err(error));
+    }
+    assert_eq!(Error::SIGN_TOO_LARGE.number(), 206);
+    // a room that is too small stays as it was
+    let (image, mut room, mut length) = (strict(SMALL), [0xEE; 0x41F], 5);
+    let (bytes, info) = (image.bytes(), image.info());
+    let (first, size) = (CERTIFICATE.as_ptr(), CERTIFICATE.len());
+    let (out, end) = (room.as_mut_ptr(), room.len());
+    // SAFETY: the pointers and lengths are those of slices, arrays and records.
+    let number =
+        unsafe { pe_c::sys::pe_c_attach(bytes.as_ptr(), bytes.len(), info, first, size, 0, out, end, &mut length) };
+    assert_eq!((number, length), (Error::WRITE_FIT.number(), 5));
+    assert!(room.iter().all(|byte| *byte == 0xEE));
 }
 
 #[test]

@@ -188,6 +188,12 @@ fn no_bytes_may_be_null() {
     unsafe {
         assert_eq!(sys::pe_c_image(core::ptr::null(), 0, 0, &mut info), 2);
         assert_eq!(sys::pe_c_offset(&info, core::ptr::null(), 0, 0x1000, &mut offset), 100);
+        assert_eq!(sys::pe_c_detach(core::ptr::null(), 0, &info, core::ptr::null_mut(), 0, &mut offset), 2);
+        // a certificate and a room of no bytes: the first is truncated, the second too small
+        let (bytes, length, none) = (SMALL.as_ptr(), SMALL.len(), core::ptr::null());
+        let room = core::ptr::null_mut();
+        assert_eq!(sys::pe_c_attach(bytes, length, &info, none, 0, 0, room, 0, &mut offset), 2);
+        assert_eq!(sys::pe_c_detach(bytes, length, &info, room, 0, &mut offset), 37);
     }
     assert_eq!((info, offset), (sys::ImageInfo::default(), 7));
 }

@@ -2,8 +2,12 @@
 use Rattle.std.proofs.Common.{◌≡◌, ℕ, ◌≤◌, sym, arith}
 use Rattle.std.specs.Prelude.{codes}
 use Rattle.std.proofs.lemmas.List.{get_or_past}
-use Rattle.pe_c.specs.Texts.{texts, refusal_text}
+use Rattle.pe_c.specs.Texts.{texts, refusal_text, sign_texts, sign_text}
 
 pub text_past : (n : ℕ) → 38 ≤ n → codes "unknown result" ≡ refusal_text n
 unfolding refusal_text
 text_past n h = sym (get_or_past texts n (codes "unknown result") (omega arith))
+
+pub sign_text_past : (n : ℕ) → 6 ≤ n → codes "unknown result" ≡ sign_text n
+unfolding sign_text
+sign_text_past n h = sym (get_or_past sign_texts n (codes "unknown result") (omega arith))

@@ -3,6 +3,7 @@ pub mod Addresses
 pub mod Arm64CodeRuns
 pub mod CertificateRuns
 pub mod CodeRuns
+pub mod DigestParts
 pub mod EntryRuns
 pub mod ExportParts
 pub mod ExportRuns

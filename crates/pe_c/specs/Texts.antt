@@ -1,6 +1,6 @@
 -- The texts of results.
 -- `tools/make_errors` writes the list of errors.
-use Rattle.std.specs.Prelude.{ℕ, ◌==◌, List, [], ◌∷◌, slice_index_or, codes, if◌then◌else◌}
+use Rattle.std.specs.Prelude.{ℕ, ◌-◌, ◌==◌, List, [], ◌∷◌, nat_lt, slice_index_or, codes, if◌then◌else◌}
 
 -- the texts of 0 and of the refusals, in the order of their numbers
 abbrev pub texts : List (List ℕ)
@@ -49,7 +49,26 @@ texts =
 unfoldable pub refusal_text : ℕ → List ℕ
 refusal_text n = slice_index_or texts n (codes "unknown result")
 
+-- the texts of the refusals of signing, in the order of their numbers
+abbrev pub sign_texts : List (List ℕ)
+sign_texts =
+    codes "image has no certificate directory" ∷
+    codes "certificate table ends before the end of the file" ∷
+    codes "headers end after the start of the certificates or the end of the file" ∷
+    codes "section data ends after the start of the certificates or the end of the file" ∷
+    codes "certificate table is not aligned to 8 bytes" ∷
+    codes "image with the certificate has 2^32 bytes or more" ∷
+    []
+
+-- the text of a refusal of signing, by its number from 201 on
+unfoldable pub sign_text : ℕ → List ℕ
+sign_text n = slice_index_or sign_texts n (codes "unknown result")
+
+-- the text of 0 or of the number of any refusal
+abbrev pub error_text : ℕ → List ℕ
+error_text n = if nat_lt n 201 then refusal_text n else sign_text (n - 201)
+
 -- the text of the number of a result
 unfoldable pub result_text : ℕ → List ℕ
 result_text n =
-    if n == 100 then codes "there is nothing of the kind" else (if n == 101 then codes "the array is too small" else refusal_text n)
+    if n == 100 then codes "there is nothing of the kind" else (if n == 101 then codes "the array is too small" else error_text n)

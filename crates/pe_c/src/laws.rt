@@ -14,6 +14,7 @@ ghost use Rattle.pe_c.specs.Modes.{options_of};
 ghost use Rattle.pe_c.specs.Plans.{HandsOutAfter, ReturnsInTurn, ReportsUnwindRecord, ending_of, plan_from};
 ghost use Rattle.pe_c.specs.Ranges.{IsRange, bytes_at};
 ghost use Rattle.pe_c.specs.Runs.{ReturnsItems};
+ghost use Rattle.pe_c.specs.Signing.{CoversDigest, digest_at, headers_of};
 ghost use Rattle.pe_c.specs.Unwinding.{StepsCodes, image_exceptions, flat_item, flat_record, function_in, code_stream_at};
 ghost use Rattle.pe_c.specs.Versions.{ReportsFixed, ReportsManifest, ReportsValue};
 ghost use Rattle.pe_c.specs.Walks.{StepsEntries, walk_items, indexed};
@@ -27,10 +28,12 @@ ghost use Rattle.pe_c.specs.declared.imports.Libraries.{Libraries};
 ghost use Rattle.pe_c.specs.declared.imports.Library.{Library};
 ghost use Rattle.pe_c.specs.declared.plan.Plan.{Plan};
 ghost use Rattle.pe_c.specs.declared.ranges.Range.{Range};
+ghost use Rattle.pe_c.specs.declared.signing.Digest.{Digest};
 ghost use Rattle.pe_c.specs.declared.unwinding.CodeWalk.{CodeWalk};
 ghost use Rattle.pe_c.specs.declared.unwinding.UnwindRecord.{UnwindRecord};
 ghost use Rattle.pe_core.specs.Bytes.{AreBytes, holds};
 ghost use Rattle.pe_core.specs.Exports.{ExportDataView, export_at, export_data_at, exports};
+ghost use Rattle.pe_core.specs.Header.{HeaderView};
 ghost use Rattle.pe_core.specs.Imports.{ImportRecordView, entry_size, import_data_at};
 ghost use Rattle.pe_core.specs.Refusals.{CertificateTable, Memory, Refusal, outcome};
 ghost use Rattle.pe_core.specs.declared.data_directories.DataDirectory.{DataDirectory};
@@ -224,6 +227,14 @@ pub fn walks_give_the_certificates()
         listed b walk ≡ Err refusal → (reported : List Certificate) × (cs : List CertificateView)
         × ReturnsItems (StepsCertificates b) walk (map (λ x. Ok x) reported ++ Err refusal ∷ [])
         × AllZip (ReportsCertificate b) reported cs }
+{}
+
+/// The ranges of a digest that `pe_c_digest_ranges` returns have, one after the other, the bytes that pe_sign defines the
+/// digest of the image to cover, and the same zeros follow. The headers are those of the bytes.
+#[tactic(auto, using(crate::proofs::DigestParts::digest_covers))]
+pub fn ranges_of_digests_are_what_they_cover()
+    ensures { (b : List ℕ) (image : Image) (d : Digest) → digest_at b image ≡ Ok d →
+        (h : HeaderView) × ((headers_of b image ≡ Ok h) × CoversDigest b h d) }
 {}
 
 /// The ranges of a walk over exports are the tables of the export data, and what the walk returns for an entry of the

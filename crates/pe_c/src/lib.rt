@@ -1,5 +1,6 @@
 //! The library for C and other languages: functions of the C ABI that read headers, directories and exception data of
-//! PE images (https://learn.microsoft.com/windows/win32/debug/pe-format). `bindings/pe.h` declares them.
+//! PE images (https://learn.microsoft.com/windows/win32/debug/pe-format), and that attach and detach their certificates.
+//! `bindings/pe.h` declares them.
 //!
 //! A caller passes the bytes of the file, plain records, and an `out` to write to. A call returns 0 (`DONE`) with the
 //! value in `out`, or a number that says why there is none, with `out` unchanged. Comments name errors as `pe.h` does,
@@ -22,6 +23,7 @@ pub mod laws;
 mod plan;
 mod ranges;
 mod results;
+mod signing;
 mod texts;
 mod unwinding;
 mod version;

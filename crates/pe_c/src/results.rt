@@ -1,12 +1,15 @@
-//! The results of calls as numbers: 0, the number of an error of pe_core, or 100 and 101. Callers may store them: the
-//! numbers stay the same from version to version.
+//! The results of calls as numbers: 0, the number of an error of pe_core, 100 and 101, or that of an error of signing, from
+//! 201 on. Callers may store them: the numbers stay the same from version to version.
 
 ghost use Rattle.std.specs.Prelude.{◌≡◌};
 ghost use Rattle.pe_core.specs.Refusals.{kind_of, kind_of_reason, answer_of};
 ghost use Rattle.pe_c.specs.HandsOut.{result_number, HandsOut, HandsOutIf};
 ghost use Rattle.pe_c.specs.Modes.{options_of};
+ghost use Rattle.pe_c.specs.Signing.{SignHandsOut, sign_number};
+ghost use Rattle.pe_sign.specs.SignRefusals.{sign_answer_of, sign_kind_of};
 
 use pe_core::{Error, ParseMode, ParseOptions, Reason, Result};
+use pe_sign::SignError;
 
 /// The call succeeded.
 pub const DONE: u32 = 0;
@@ -80,6 +83,21 @@ pub fn number_of(error: &Error) -> u32
     }
 }
 
+/// The number of an error of signing. It stays the same from version to version. `tools/make_errors` writes the arms.
+pub fn number_of_signing(error: &SignError) -> u32
+    ensures { result ≡ sign_number (sign_kind_of error.now) }
+{
+    match error {
+        SignError::Image(error) => number_of(error),
+        SignError::NoDirectory(_) => 201,
+        SignError::TableNotLast(_) => 202,
+        SignError::Headers(_) => 203,
+        SignError::Section(_) => 204,
+        SignError::TableOffset(_) => 205,
+        SignError::TooLarge => 206,
+    }
+}
+
 /// The options of a mode: bit 0 is permissive mode, bit 1 an image as loaded, whose RVAs are its offsets.
 pub fn options(mode: u32) -> ParseOptions
     ensures { result ≡ options_of mode }
@@ -120,5 +138,18 @@ pub fn hand_out_some<T: Copy>(given: Result<Option<T>>, out: &mut T) -> u32
         }
         Ok(None) => NOTHING,
         Err(error) => number_of(&error),
+    }
+}
+
+/// The same by an error of signing.
+pub fn hand_out_signed<T: Copy>(given: std::result::Result<T, SignError>, out: &mut T) -> u32
+    ensures { SignHandsOut result out.old out.new (sign_answer_of given) }
+{
+    match given {
+        Ok(value) => {
+            *out = value;
+            DONE
+        }
+        Err(error) => number_of_signing(&error),
     }
 }

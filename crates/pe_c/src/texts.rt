@@ -1,9 +1,12 @@
 //! The texts of the results of calls, for a caller's messages.
 
 ghost use Rattle.std.specs.Prelude.{◌≡◌, length, take, drop, ◌++◌};
-ghost use Rattle.pe_c.specs.Texts.{refusal_text, result_text};
+ghost use Rattle.pe_c.specs.Texts.{refusal_text, result_text, sign_text};
 
 use crate::results::{NOTHING, ROOM};
+
+/// The number of the first error of signing.
+const SIGNING: u32 = 201;
 
 /// The text of 0 or of the number of an error. `tools/make_errors` writes the arms.
 #[tactic(auto, unfolding(crate::specs::Texts::refusal_text))]
@@ -53,6 +56,22 @@ fn refusal_text(number: u32) -> &'static str
     }
 }
 
+/// The text of an error of signing, by its number from `SIGNING` on. `tools/make_errors` writes the arms.
+#[tactic(auto, unfolding(crate::specs::Texts::sign_text))]
+fn sign_text(number: u32) -> &'static str
+    ensures { result.now ≡ sign_text number }
+{
+    match number {
+        0 => "image has no certificate directory",
+        1 => "certificate table ends before the end of the file",
+        2 => "headers end after the start of the certificates or the end of the file",
+        3 => "section data ends after the start of the certificates or the end of the file",
+        4 => "certificate table is not aligned to 8 bytes",
+        5 => "image with the certificate has 2^32 bytes or more",
+        _ => "unknown result",
+    }
+}
+
 /// The text of the number of a result.
 #[tactic(auto, unfolding(crate::specs::Texts::result_text))]
 fn text_of(number: u32) -> &'static str
@@ -61,7 +80,8 @@ fn text_of(number: u32) -> &'static str
     match number {
         NOTHING => "there is nothing of the kind",
         ROOM => "the array is too small",
-        _ => refusal_text(number),
+        _ if number < SIGNING => refusal_text(number),
+        _ => sign_text(number - SIGNING),
     }
 }
 

@@ -6,8 +6,8 @@ use Rattle.std.proofs.lemmas.List.{length-take-le}
 use Rattle.pe_core.specs.Bytes.{le, bytes_of, holds, put, splice}
 use Rattle.pe_core.specs.Directories.{absent_directory}
 use Rattle.pe_core.specs.SectionMap.{rounded_up}
+use Rattle.pe_core.specs.Header.{HeaderView}
 use Rattle.pe_core.specs.declared.data_directories.DataDirectory.{DataDirectory}
-use Rattle.pe_core.specs.declared.header.Header.{Header}
 use Rattle.pe_core.proofs.PutNumbers.{le-put}
 use Rattle.pe_sign.specs.Attaching.{is_signed, unsigned_length, unsigned_file, table_start, entry_to, with_entry, with_checksum, with_both_fields, joined_file, attached_file, attached_of, detached_file, detached_of, with_table, before_table}
 use Rattle.pe_sign.specs.AttachingSteps.{Fits}
@@ -136,7 +136,7 @@ detached_again placement l c b fits =
 
 -- ---- the same by the calls
 
-pub attached_sum : (placement : Placement) (b : List ℕ) (h : Header) (c f : List ℕ) (l : LeftOut) → left_out_of h ≡ Ok l → attached_of placement b h c ≡ Ok f → le f l.checksum.offset 4 ≡ checksum_of f l.checksum.offset
+pub attached_sum : (placement : Placement) (b : List ℕ) (h : HeaderView) (c f : List ℕ) (l : LeftOut) → left_out_of h ≡ Ok l → attached_of placement b h c ≡ Ok f → le f l.checksum.offset 4 ≡ checksum_of f l.checksum.offset
 attached_sum placement b h c f l e i =
     let is = attached_is placement b h c f l e i in
     let j : List ℕ = joined_file placement l c b in
@@ -145,7 +145,7 @@ attached_sum placement b h c f l e i =
     let size : length x ≡ length j = length-entry l (entry_to (table_start placement l (length b)) (length j)) j holds.entry in
     subst (λ (g : List ℕ). le g l.checksum.offset 4 ≡ checksum_of g l.checksum.offset) (sym is.is_file) (field_is_sum l x (omega (arith, size, holds.checksum)))
 
-pub detached_sum : (b : List ℕ) (h : Header) (f : List ℕ) (l : LeftOut) → left_out_of h ≡ Ok l → detached_of b h ≡ Ok f → le f l.checksum.offset 4 ≡ checksum_of f l.checksum.offset
+pub detached_sum : (b : List ℕ) (h : HeaderView) (f : List ℕ) (l : LeftOut) → left_out_of h ≡ Ok l → detached_of b h ≡ Ok f → le f l.checksum.offset 4 ≡ checksum_of f l.checksum.offset
 detached_sum b h f l e i =
     let is = detached_is b h f l e i in
     let j : List ℕ = unsigned_file l b in
@@ -154,7 +154,7 @@ detached_sum b h f l e i =
     let size : length x ≡ length j = length-entry l absent_directory j (omega (arith, cut, is.fits.entry)) in
     subst (λ (g : List ℕ). le g l.checksum.offset 4 ≡ checksum_of g l.checksum.offset) (sym is.is_file) (field_is_sum l x (omega (arith, size, cut, is.fits.checksum)))
 
-pub detached_again_of : (placement : Placement) (b : List ℕ) (h k : Header) (c f g : List ℕ) (l : LeftOut) → left_out_of h ≡ Ok l → attached_of placement b h c ≡ Ok f →
+pub detached_again_of : (placement : Placement) (b : List ℕ) (h k : HeaderView) (c f g : List ℕ) (l : LeftOut) → left_out_of h ≡ Ok l → attached_of placement b h c ≡ Ok f →
     left_out_of k ≡ Ok (with_table l (table_start placement l (length b)) (length f)) → detached_of f k ≡ Ok g → g ≡ with_both_fields l absent_directory (before_table placement l b)
 detached_again_of placement b h k c f g l e i m d =
     let s : ℕ = table_start placement l (length b) in

@@ -3,12 +3,9 @@ use Rattle.std.proofs.Common.{◌≡◌, ℕ, zero, suc, ◌+◌, ◌-◌, ◌*�
 use Rattle.std.specs.Prelude.{nat_le, nat_lt, slice_index, if◌then◌else◌}
 use Rattle.std.proofs.lemmas.Bool.Decides.{nat_tests}
 use Rattle.pe_core.specs.Bytes.{le, bytes_of, splice}
-use Rattle.pe_core.specs.Directories.{kept_rows}
-use Rattle.pe_core.specs.Header.{directories_offset}
+use Rattle.pe_core.specs.Header.{HeaderView, OptionalHeaderView, directories_offset}
 use Rattle.pe_core.specs.Refusals.{Refusal, outcome, ◌>>=◌}
 use Rattle.pe_core.specs.declared.data_directories.DataDirectory.{DataDirectory}
-use Rattle.pe_core.specs.declared.header.Header.{Header}
-use Rattle.pe_core.specs.declared.optional_header.OptionalHeader.{OptionalHeader}
 use Rattle.pe_sign.specs.Attaching.{changeable_parts, attach_tests, table_start, entry_to, with_entry, with_checksum, with_both_fields, joined_file, attached_file, attached_of}
 use Rattle.pe_sign.specs.AttachingSteps.{FitsWith}
 use Rattle.pe_sign.specs.Checksum.{checksum_of}
@@ -86,25 +83,25 @@ abbrev pub IsApart : {R : Type 0} → Result LeftOut R → Type 0
 IsApart (Ok l) = l.directory_entry.length ≡ 8 → l.checksum.offset + 4 ≤ l.directory_entry.offset
 IsApart (Err r) = Unit {0}
 
-apart_before : (p : ℕ) (o : Option OptionalHeader) → IsApart (left_out_before p o)
+apart_before : (p : ℕ) (o : Option OptionalHeaderView) → IsApart (left_out_before p o)
 apart_before p None = tt
-apart_before p (Some o) = λ e. entry_by (nat_lt 4 (length (kept_rows o.data_directories))) (o.standard_fields.magic == 0x20B) p e
+apart_before p (Some o) = λ e. entry_by (nat_lt 4 (length o.data_directories)) (o.standard_fields.magic == 0x20B) p e
 
-apart_of : (h : Header) (l : LeftOut) → left_out_of h ≡ Ok l → l.directory_entry.length ≡ 8 → l.checksum.offset + 4 ≤ l.directory_entry.offset
+apart_of : (h : HeaderView) (l : LeftOut) → left_out_of h ≡ Ok l → l.directory_entry.length ≡ 8 → l.checksum.offset + 4 ≤ l.directory_entry.offset
 apart_of h l e = subst (λ (r : Result LeftOut Refusal). IsApart r) e (apart_before h.dos_header.pe_pointer h.optional_header)
 
-certified_at : (placement : Placement) (b : List ℕ) (h : Header) (c f : List ℕ) (l : LeftOut) → changeable_parts b h ≡ Ok l → attached_of placement b h c ≡ Ok f → FitsWith placement l (length b) (length c)
+certified_at : (placement : Placement) (b : List ℕ) (h : HeaderView) (c f : List ℕ) (l : LeftOut) → changeable_parts b h ≡ Ok l → attached_of placement b h c ≡ Ok f → FitsWith placement l (length b) (length c)
 certified_at placement b h c f l e i =
     let tests : LeftOut → List (Bool × SignRefusal) = λ k. attach_tests placement k c (length b) in
     let after : outcome (tests l) (attached_file placement l c b) ≡ Ok f = subst (λ (x : Result LeftOut SignRefusal). (x >>= λ k. outcome (tests k) (attached_file placement k c b)) ≡ Ok f) e i in
     certified_fits placement b h c l (ap (λ (x : Result LeftOut SignRefusal). x >>= λ k. outcome (tests k) k) e ∙ other_value (tests l) (attached_file placement l c b) f l after)
 
-image_at : (placement : Placement) (b : List ℕ) (h : Header) (c f : List ℕ) (l : LeftOut) → left_out_of h ≡ Ok l → attached_of placement b h c ≡ Ok f → changeable_parts b h ≡ Ok l
+image_at : (placement : Placement) (b : List ℕ) (h : HeaderView) (c f : List ℕ) (l : LeftOut) → left_out_of h ≡ Ok l → attached_of placement b h c ≡ Ok f → changeable_parts b h ≡ Ok l
 image_at placement b h c f l e i =
     let p = file_at (changeable_parts b h) (λ k. attach_tests placement k c (length b)) (λ k. attached_file placement k c b) f i in
     p.1.0 ∙ ap (λ (k : LeftOut). Ok k) (same_parts b h p.0 l p.1.0 e)
 
-pub attached_entry : (placement : Placement) (b : List ℕ) (h : Header) (c f : List ℕ) (l : LeftOut) → left_out_of h ≡ Ok l → attached_of placement b h c ≡ Ok f →
+pub attached_entry : (placement : Placement) (b : List ℕ) (h : HeaderView) (c f : List ℕ) (l : LeftOut) → left_out_of h ≡ Ok l → attached_of placement b h c ≡ Ok f →
     Reads f l.directory_entry.offset (entry_to (table_start placement l (length b)) (length f))
 attached_entry placement b h c f l e i =
     let is = attached_is placement b h c f l e i in

@@ -1,6 +1,8 @@
 pub mod Sums
 pub mod Parts
 pub mod Slices
+pub mod KeptRanges
+pub mod RangeSteps
 pub mod Splices
 pub mod Tests
 pub mod SectionRows

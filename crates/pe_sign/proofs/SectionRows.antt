@@ -3,11 +3,10 @@ use Rattle.std.proofs.Common.{◌≡◌, ℕ, zero, suc, ◌+◌, ◌*◌, ◌<�
 use Rattle.std.specs.List.{list_all}
 use Rattle.std.proofs.lemmas.Bool.{cases_lt}
 use Rattle.std.proofs.lemmas.List.Folds.{list_all-append}
-use Rattle.pe_core.specs.Header.{header_view}
+use Rattle.pe_core.specs.Header.{HeaderView}
 use Rattle.pe_core.specs.Records.{section_table}
 use Rattle.pe_core.specs.Rows.{each}
 use Rattle.pe_core.specs.Sections.{sections_offset}
-use Rattle.pe_core.specs.declared.header.Header.{Header}
 use Rattle.pe_core.specs.declared.section_table.SectionTable.{SectionTable}
 use Rattle.pe_sign.specs.Attaching.{data_ends_by, sections_end_by}
 
@@ -33,9 +32,9 @@ one_fails p f (suc n) k h i =
     (λ (ge : n ≤ k). let e : k ≡ n = omega arith in ap (λ t. list_all p (each f n) && (t && true)) (last_fails p f k n e i) ∙ and_false (list_all p (each f n)))
     (cases_lt k n)
 
-pub section_fails : (b : List ℕ) (h : Header) (end start k : ℕ) (s : SectionTable) → start ≡ sections_offset (header_view h) → k < h.coff_header.number_of_sections →
+pub section_fails : (b : List ℕ) (h : HeaderView) (end start k : ℕ) (s : SectionTable) → start ≡ sections_offset h → k < h.coff_header.number_of_sections →
     s ≡ section_table b (start + 40 * k) → data_ends_by end s ≡ false → sections_end_by b h end ≡ false
 section_fails b h end start k s at lt is fails =
-    let f : ℕ → SectionTable = λ i. section_table b (sections_offset (header_view h) + 40 * i) in
+    let f : ℕ → SectionTable = λ i. section_table b (sections_offset h + 40 * i) in
     let same : s ≡ f k = is ∙ ap (λ (p : ℕ). section_table b (p + 40 * k)) at in
     one_fails (data_ends_by end) f h.coff_header.number_of_sections k lt (ap (λ t. data_ends_by end t) (sym same) ∙ fails)

@@ -37,7 +37,7 @@ throughout_after q v r w x y cut all k from to = all k (omega (arith, cut.end)) 
 none_of_three : (l : LeftOut) (p : ℕ) (xs : List ℕ) → Throughout (is_in l.checksum) false p xs → Throughout (is_in l.directory_entry) false p xs → Throughout (is_in l.certificates) false p xs → kept_bytes (is_left_out l) p xs ≡ xs
 none_of_three l p xs a b c = kept_all (is_left_out l) p xs (λ k from to. rw (a k from to, b k from to, c k from to) refl)
 
-in_checksum : (l : LeftOut) (k : ℕ) → is_in l.checksum k ≡ true → is_left_out l k ≡ true
+pub in_checksum : (l : LeftOut) (k : ℕ) → is_in l.checksum k ≡ true → is_left_out l k ≡ true
 in_checksum l k h = rw h refl
 
 or_true : (a c : Bool) → ((a || true) || c) ≡ true
@@ -49,7 +49,7 @@ or_last true b = refl
 or_last false true = refl
 or_last false false = refl
 
-in_entry : (l : LeftOut) (k : ℕ) → is_in l.directory_entry k ≡ true → is_left_out l k ≡ true
+pub in_entry : (l : LeftOut) (k : ℕ) → is_in l.directory_entry k ≡ true → is_left_out l k ≡ true
 in_entry l k h = rw h (or_true (is_in l.checksum k) (is_in l.certificates k))
 
 pub in_certificates : (l : LeftOut) (k : ℕ) → is_in l.certificates k ≡ true → is_left_out l k ≡ true

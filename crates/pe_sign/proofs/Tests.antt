@@ -5,8 +5,7 @@ use Rattle.std.proofs.lemmas.Bool.Decides.{nat_tests}
 use Rattle.pe_core.specs.Bytes.{le, fit_at}
 use Rattle.pe_core.specs.Refusals.{Refusal, WriteFit, outcome, ◌>>=◌}
 use Rattle.pe_core.specs.SectionMap.{rounded_up}
-use Rattle.pe_core.specs.declared.header.Header.{Header}
-use Rattle.pe_core.specs.declared.optional_header.OptionalHeader.{OptionalHeader}
+use Rattle.pe_core.specs.Header.{HeaderView, OptionalHeaderView}
 use Rattle.pe_sign.specs.Attaching.{is_signed, unsigned_length, kept_length, headers_end_by, sections_end_by, layout_tests, changeable_parts, attach_tests, is_aligned, attached_of, attached_file, detached_of, detached_file, length_of, written}
 use Rattle.pe_sign.specs.AttachingSteps.{Fits, FitsWith, certified_of, table_tests}
 use Rattle.pe_sign.specs.Digest.{left_out_before, left_out_of}
@@ -46,7 +45,7 @@ abbrev pub size_or : {R : Type 0} → Result LeftOut R → ℕ
 size_or (Ok l) = l.checksum.length
 size_or (Err r) = 4
 
-checksum_size_of : (p : ℕ) (o : Option OptionalHeader) (l : LeftOut) → left_out_before p o ≡ Ok l → l.checksum.length ≡ 4
+checksum_size_of : (p : ℕ) (o : Option OptionalHeaderView) (l : LeftOut) → left_out_before p o ≡ Ok l → l.checksum.length ≡ 4
 checksum_size_of p None l h = absurd cc
 checksum_size_of p (Some o) l h = ap (λ (r : Result LeftOut Refusal). size_or r) (sym h)
 
@@ -59,7 +58,7 @@ first_and_tests (Ok k) tests l h =
     (ap (λ m. Ok m) same, subst (λ (m : LeftOut). outcome (tests m) m ≡ Ok m) same (h ∙ ap (λ m. Ok m) (sym same)))
 
 -- the parts of an image that passes its tests are those of its header
-pub parts_of_image : (b : List ℕ) (h : Header) (l : LeftOut) → changeable_parts b h ≡ Ok l → (left_out_of h ≡ Ok l) × (outcome (layout_tests b h l) l ≡ Ok l)
+pub parts_of_image : (b : List ℕ) (h : HeaderView) (l : LeftOut) → changeable_parts b h ≡ Ok l → (left_out_of h ≡ Ok l) × (outcome (layout_tests b h l) l ≡ Ok l)
 parts_of_image b h l e = first_and_tests (left_out_of h) (layout_tests b h) l e
 
 implied : (s t : Bool) → (not s || t) ≡ true → s ≡ true → t ≡ true
@@ -70,7 +69,7 @@ not_past : (s : Bool) (o n : ℕ) → o ≤ n → cond s o n ≤ n
 not_past true o n h = h
 not_past false o n h = omega arith
 
-pub image_fits : (b : List ℕ) (h : Header) (l : LeftOut) → changeable_parts b h ≡ Ok l → Fits l (length b)
+pub image_fits : (b : List ℕ) (h : HeaderView) (l : LeftOut) → changeable_parts b h ≡ Ok l → Fits l (length b)
 image_fits b h l e =
     let n : ℕ = length b in
     let end : ℕ = l.certificates.offset + l.certificates.length in
@@ -98,10 +97,10 @@ certified_parts (Ok k) tests l h =
     let same : k ≡ l = value_is (tests k) k l h in
     (ap (λ m. Ok m) same, subst (λ (m : LeftOut). outcome (tests m) m ≡ Ok m) same (h ∙ ap (λ m. Ok m) (sym same)))
 
-pub certified_image : (placement : Placement) (b : List ℕ) (h : Header) (c : List ℕ) (l : LeftOut) → certified_of placement b h c ≡ Ok l → changeable_parts b h ≡ Ok l
+pub certified_image : (placement : Placement) (b : List ℕ) (h : HeaderView) (c : List ℕ) (l : LeftOut) → certified_of placement b h c ≡ Ok l → changeable_parts b h ≡ Ok l
 certified_image placement b h c l e = (certified_parts (changeable_parts b h) (λ k. attach_tests placement k c (length b)) l e).0
 
-pub certified_fits : (placement : Placement) (b : List ℕ) (h : Header) (c : List ℕ) (l : LeftOut) → certified_of placement b h c ≡ Ok l → FitsWith placement l (length b) (length c)
+pub certified_fits : (placement : Placement) (b : List ℕ) (h : HeaderView) (c : List ℕ) (l : LeftOut) → certified_of placement b h c ≡ Ok l → FitsWith placement l (length b) (length c)
 certified_fits placement b h c l e =
     let both = certified_parts (changeable_parts b h) (λ k. attach_tests placement k c (length b)) l e in
     let one = passed (is_aligned placement l) _ _ l both.1 in
@@ -122,16 +121,16 @@ then_refused : {Z : Type 0} (x : Result LeftOut SignRefusal) (tests : LeftOut �
 then_refused (Err e) tests g r h = cc
 then_refused (Ok k) tests g r h = other_refused (tests k) k (g k) r h
 
-pub attached_value : (placement : Placement) (b : List ℕ) (h : Header) (c : List ℕ) (l : LeftOut) → certified_of placement b h c ≡ Ok l → attached_of placement b h c ≡ Ok (attached_file placement l c b)
+pub attached_value : (placement : Placement) (b : List ℕ) (h : HeaderView) (c : List ℕ) (l : LeftOut) → certified_of placement b h c ≡ Ok l → attached_of placement b h c ≡ Ok (attached_file placement l c b)
 attached_value placement b h c l e = then_value (changeable_parts b h) (λ k. attach_tests placement k c (length b)) (λ k. attached_file placement k c b) l e
 
-pub attached_refused : (placement : Placement) (b : List ℕ) (h : Header) (c : List ℕ) (r : SignRefusal) → certified_of placement b h c ≡ Err r → attached_of placement b h c ≡ Err r
+pub attached_refused : (placement : Placement) (b : List ℕ) (h : HeaderView) (c : List ℕ) (r : SignRefusal) → certified_of placement b h c ≡ Err r → attached_of placement b h c ≡ Err r
 attached_refused placement b h c r e = then_refused (changeable_parts b h) (λ k. attach_tests placement k c (length b)) (λ k. attached_file placement k c b) r e
 
-pub detached_value : (b : List ℕ) (h : Header) (l : LeftOut) → changeable_parts b h ≡ Ok l → detached_of b h ≡ Ok (detached_file l b)
+pub detached_value : (b : List ℕ) (h : HeaderView) (l : LeftOut) → changeable_parts b h ≡ Ok l → detached_of b h ≡ Ok (detached_file l b)
 detached_value b h l e = ap (λ (x : Result LeftOut SignRefusal). x >>= λ k. Ok (detached_file k b)) e
 
-pub detached_refused : (b : List ℕ) (h : Header) (r : SignRefusal) → changeable_parts b h ≡ Err r → detached_of b h ≡ Err r
+pub detached_refused : (b : List ℕ) (h : HeaderView) (r : SignRefusal) → changeable_parts b h ≡ Err r → detached_of b h ≡ Err r
 detached_refused b h r e = ap (λ (x : Result LeftOut SignRefusal). x >>= λ k. Ok (detached_file k b)) e
 
 -- ---- a file and a buffer
@@ -172,7 +171,7 @@ later_tests (test ∷ tests) rest u y h =
     let p : (test.0 ≡ true) × (outcome {Y = Unit {0}} tests tt ≡ Ok u) = passed test.0 test.1 (outcome {Y = Unit {0}} tests tt) u h in
     ap (λ t. if t then outcome (tests ++ rest) y else Err test.1) p.0 ∙ later_tests tests rest u y p.1
 
-pub section_refused : (b : List ℕ) (h : Header) (l : LeftOut) (u : Unit {0}) (end : ℕ) (r : SignRefusal) → left_out_of h ≡ Ok l →
+pub section_refused : (b : List ℕ) (h : HeaderView) (l : LeftOut) (u : Unit {0}) (end : ℕ) (r : SignRefusal) → left_out_of h ≡ Ok l →
     outcome {Y = Unit {0}} (table_tests l (length b)) tt ≡ Ok u → end ≡ unsigned_length l (length b) → headers_end_by h l end ≡ true →
     outcome {Y = Unit {0}} ((sections_end_by b h end, Section) ∷ []) tt ≡ Err r → changeable_parts b h ≡ Err r
 section_refused b h l u end r e table at headers sections =

@@ -1,10 +1,10 @@
 -- What the calls return, by the parts of the image.
 use Rattle.std.proofs.Common.{◌≡◌, ℕ, Bool, List, length, Result, Ok, Err, refl, ap, sym, ◌∙◌, subst}
-use Rattle.pe_core.specs.declared.header.Header.{Header}
 use Rattle.pe_sign.specs.Attaching.{changeable_parts, attach_tests, table_start, attached_of, attached_file, detached_of, detached_file, with_table, without_table}
 use Rattle.pe_sign.specs.AttachingSteps.{Fits}
 use Rattle.pe_sign.specs.Digest.{covered, covered_bytes, left_out_of}
 use Rattle.pe_core.specs.Refusals.{outcome, ◌>>=◌}
+use Rattle.pe_core.specs.Header.{HeaderView}
 use Rattle.pe_sign.specs.SignRefusals.{SignRefusal}
 use Rattle.pe_sign.specs.declared.attachment.Placement.{Placement}
 use Rattle.pe_sign.specs.declared.digest.LeftOut.{LeftOut}
@@ -16,7 +16,7 @@ pub record IsFile (l : LeftOut) (b f g : List ℕ) : Type 0 where
   pub fits : Fits l (length b)
   pub is_file : f ≡ g
 
-pub same_parts : (b : List ℕ) (h : Header) (k l : LeftOut) → changeable_parts b h ≡ Ok k → left_out_of h ≡ Ok l → k ≡ l
+pub same_parts : (b : List ℕ) (h : HeaderView) (k l : LeftOut) → changeable_parts b h ≡ Ok k → left_out_of h ≡ Ok l → k ≡ l
 same_parts b h k l e i = let j : left_out_of h ≡ Ok k = (parts_of_image b h k e).0 in cc
 
 pub file_at : (x : Result LeftOut SignRefusal) (tests : LeftOut → List (Bool × SignRefusal)) (g : LeftOut → List ℕ) (f : List ℕ) →
@@ -28,7 +28,7 @@ bare_at : (x : Result LeftOut SignRefusal) (g : LeftOut → List ℕ) (f : List 
 bare_at (Err e) g f h = absurd cc
 bare_at (Ok k) g f h = let same : g k ≡ f = cc in (k, (refl, sym same))
 
-pub attached_is : (placement : Placement) (b : List ℕ) (h : Header) (c f : List ℕ) (l : LeftOut) → left_out_of h ≡ Ok l → attached_of placement b h c ≡ Ok f → IsFile l b f (attached_file placement l c b)
+pub attached_is : (placement : Placement) (b : List ℕ) (h : HeaderView) (c f : List ℕ) (l : LeftOut) → left_out_of h ≡ Ok l → attached_of placement b h c ≡ Ok f → IsFile l b f (attached_file placement l c b)
 attached_is placement b h c f l e i =
     let p = file_at (changeable_parts b h) (λ k. attach_tests placement k c (length b)) (λ k. attached_file placement k c b) f i in
     let same : p.0 ≡ l = same_parts b h p.0 l p.1.0 e in
@@ -37,7 +37,7 @@ attached_is placement b h c f l e i =
       is_file = p.1.1 ∙ ap (λ (k : LeftOut). attached_file placement k c b) same;
     }
 
-pub detached_is : (b : List ℕ) (h : Header) (f : List ℕ) (l : LeftOut) → left_out_of h ≡ Ok l → detached_of b h ≡ Ok f → IsFile l b f (detached_file l b)
+pub detached_is : (b : List ℕ) (h : HeaderView) (f : List ℕ) (l : LeftOut) → left_out_of h ≡ Ok l → detached_of b h ≡ Ok f → IsFile l b f (detached_file l b)
 detached_is b h f l e i =
     let p = bare_at (changeable_parts b h) (λ k. detached_file k b) f i in
     let same : p.0 ≡ l = same_parts b h p.0 l p.1.0 e in
@@ -46,14 +46,14 @@ detached_is b h f l e i =
       is_file = p.1.1 ∙ ap (λ (k : LeftOut). detached_file k b) same;
     }
 
-pub attached_digest_of : (placement : Placement) (b : List ℕ) (h : Header) (c f : List ℕ) (l : LeftOut) → left_out_of h ≡ Ok l → attached_of placement b h c ≡ Ok f →
+pub attached_digest_of : (placement : Placement) (b : List ℕ) (h : HeaderView) (c f : List ℕ) (l : LeftOut) → left_out_of h ≡ Ok l → attached_of placement b h c ≡ Ok f →
     covered_bytes (covered (with_table l (table_start placement l (length b)) (length f)) f) ≡ covered_bytes (covered l b)
 attached_digest_of placement b h c f l e i =
     let s : ℕ = table_start placement l (length b) in
     let is = attached_is placement b h c f l e i in
     ap (λ (x : List ℕ). covered_bytes (covered (with_table l s (length x)) x)) is.is_file ∙ attached_digest placement l c b is.fits
 
-pub detached_digest_of : (b : List ℕ) (h : Header) (f : List ℕ) (l : LeftOut) → left_out_of h ≡ Ok l → detached_of b h ≡ Ok f → covered (without_table l) f ≡ covered l b
+pub detached_digest_of : (b : List ℕ) (h : HeaderView) (f : List ℕ) (l : LeftOut) → left_out_of h ≡ Ok l → detached_of b h ≡ Ok f → covered (without_table l) f ≡ covered l b
 detached_digest_of b h f l e i =
     let is = detached_is b h f l e i in
     ap (λ (x : List ℕ). covered (without_table l) x) is.is_file ∙ detached_digest l b is.fits

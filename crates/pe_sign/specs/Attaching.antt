@@ -4,14 +4,13 @@ use Rattle.std.specs.Prelude.{◌≡◌, ℕ, ◌+◌, ◌-◌, ◌*◌, ◌%◌
 use Rattle.std.specs.List.{list_all}
 use Rattle.pe_core.specs.Bytes.{le, bytes_of, splice}
 use Rattle.pe_core.specs.Directories.{absent_directory}
-use Rattle.pe_core.specs.Header.{header_view}
+use Rattle.pe_core.specs.Header.{HeaderView}
 use Rattle.pe_core.specs.Records.{section_table}
 use Rattle.pe_core.specs.Refusals.{CertificateSize, CertificateTable, Short, WriteFit, outcome, ◌>>=◌}
 use Rattle.pe_core.specs.Rows.{rows}
 use Rattle.pe_core.specs.SectionMap.{rounded_up}
 use Rattle.pe_core.specs.Sections.{raw_end, sections_offset}
 use Rattle.pe_core.specs.declared.data_directories.DataDirectory.{DataDirectory}
-use Rattle.pe_core.specs.declared.header.Header.{Header}
 use Rattle.pe_core.specs.declared.section_table.SectionTable.{SectionTable}
 use Rattle.pe_sign.specs.Checksum.{checksum_of}
 use Rattle.pe_sign.specs.Digest.{lacking_to_eight, left_out_of, nothing}
@@ -88,22 +87,22 @@ attached_file placement l certificate b =
 -- ---- the tests
 
 -- the checksum, the entry and the section table end at or before file offset n
-abbrev pub headers_end_by : Header → LeftOut → ℕ → Bool
+abbrev pub headers_end_by : HeaderView → LeftOut → ℕ → Bool
 headers_end_by h l n =
     nat_le (l.checksum.offset + 4) n && nat_le (l.directory_entry.offset + 8) n
-    && nat_le (sections_offset (header_view h) + 40 * h.coff_header.number_of_sections) n
+    && nat_le (sections_offset h + 40 * h.coff_header.number_of_sections) n
 
 -- the section has no data, or they end at or before file offset n
 abbrev pub data_ends_by : ℕ → SectionTable → Bool
 data_ends_by n s = s.size_of_raw_data == 0 || nat_le (raw_end s) n
 
 -- so do the data of all sections
-abbrev pub sections_end_by : List ℕ → Header → ℕ → Bool
+abbrev pub sections_end_by : List ℕ → HeaderView → ℕ → Bool
 sections_end_by b h n =
-    list_all (data_ends_by n) (rows (section_table b) 40 (sections_offset (header_view h)) h.coff_header.number_of_sections)
+    list_all (data_ends_by n) (rows (section_table b) 40 (sections_offset h) h.coff_header.number_of_sections)
 
 -- there is an entry; the table, if there is one, ends where the file ends; headers and sections end before it
-abbrev pub layout_tests : List ℕ → Header → LeftOut → List (Bool × SignRefusal)
+abbrev pub layout_tests : List ℕ → HeaderView → LeftOut → List (Bool × SignRefusal)
 layout_tests b h l =
     (l.directory_entry.length == 8, NoDirectory)
     ∷ (nat_le (l.certificates.offset + l.certificates.length) (length b), Image CertificateTable)
@@ -113,7 +112,7 @@ layout_tests b h l =
     ∷ []
 
 -- the parts of an image whose certificates can be changed
-abbrev pub changeable_parts : List ℕ → Header → Result LeftOut SignRefusal
+abbrev pub changeable_parts : List ℕ → HeaderView → Result LeftOut SignRefusal
 changeable_parts b h = of_image (left_out_of h) >>= λ l. outcome (layout_tests b h l) l
 
 -- a certificate that goes after others needs a table at a multiple of eight
@@ -133,11 +132,11 @@ attach_tests placement l certificate n =
 -- ---- the calls
 
 -- the image without certificates
-abbrev pub detached_of : List ℕ → Header → Result (List ℕ) SignRefusal
+abbrev pub detached_of : List ℕ → HeaderView → Result (List ℕ) SignRefusal
 detached_of b h = changeable_parts b h >>= λ l. Ok (detached_file l b)
 
 -- the image with this certificate
-abbrev pub attached_of : Placement → List ℕ → Header → List ℕ → Result (List ℕ) SignRefusal
+abbrev pub attached_of : Placement → List ℕ → HeaderView → List ℕ → Result (List ℕ) SignRefusal
 attached_of placement b h certificate =
     changeable_parts b h >>= λ l. outcome (attach_tests placement l certificate (length b)) (attached_file placement l certificate b)
 

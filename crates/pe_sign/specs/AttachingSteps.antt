@@ -3,7 +3,7 @@ use Rattle.std.specs.Prelude.{◌≡◌, ℕ, ◌+◌, ◌<◌, ◌≤◌, ◌==
 use Rattle.pe_core.specs.Refusals.{CertificateSize, CertificateTable, Short, outcome, ◌>>=◌}
 use Rattle.pe_core.specs.Bytes.{le}
 use Rattle.pe_core.specs.SectionMap.{rounded_up}
-use Rattle.pe_core.specs.declared.header.Header.{Header}
+use Rattle.pe_core.specs.Header.{HeaderView}
 use Rattle.pe_sign.specs.Attaching.{is_signed, unsigned_length, kept_length, attach_tests, changeable_parts}
 use Rattle.pe_sign.specs.SignRefusals.{SignRefusal, Image, NoDirectory, TableNotLast}
 use Rattle.pe_sign.specs.declared.attachment.Placement.{Placement}
@@ -25,7 +25,7 @@ size_tests certificate =
     ∷ []
 
 -- the parts of an image to which the certificate can be attached
-abbrev pub certified_of : Placement → List ℕ → Header → List ℕ → Result LeftOut SignRefusal
+abbrev pub certified_of : Placement → List ℕ → HeaderView → List ℕ → Result LeftOut SignRefusal
 certified_of placement b h certificate =
     changeable_parts b h >>= λ l. outcome (attach_tests placement l certificate (length b)) l
 

@@ -3,9 +3,8 @@ use Rattle.std.specs.Prelude.{ℕ, ◌+◌, ◌*◌, ◌/◌, ◌%◌, ◌-◌, 
 use Rattle.std.specs.List.{fold}
 use Rattle.pe_core.specs.Refusals.{Refusal, NoOptionalHeader, ◌>>=◌}
 use Rattle.pe_core.specs.Rows.{each}
+use Rattle.pe_core.specs.Header.{HeaderView, OptionalHeaderView}
 use Rattle.pe_core.specs.declared.byte_range.ByteRange.{ByteRange}
-use Rattle.pe_core.specs.declared.header.Header.{Header}
-use Rattle.pe_core.specs.declared.optional_header.OptionalHeader.{OptionalHeader}
 
 -- the byte at an offset; it is 0 in the four bytes of the field, and after the end
 abbrev pub summed_byte : List ℕ → ℕ → ℕ → ℕ
@@ -24,13 +23,13 @@ unfoldable pub checksum_of : List ℕ → ℕ → ℕ
 checksum_of b field = (length b + fold with_carry 0 (each (summed_word b field) ((length b + 1) / 2))) % 4294967296
 
 -- the field of an image with this PE pointer: 64 bytes after the start of the optional header, if there is one
-abbrev pub range_before : ℕ → Option OptionalHeader → Result ByteRange Refusal
+abbrev pub range_before : ℕ → Option OptionalHeaderView → Result ByteRange Refusal
 range_before pointer None = Err NoOptionalHeader
 range_before pointer (Some o) = Ok (record { offset = pointer + 88; length = 4 })
 
-abbrev pub checksum_range_of : Header → Result ByteRange Refusal
+abbrev pub checksum_range_of : HeaderView → Result ByteRange Refusal
 checksum_range_of h = range_before h.dos_header.pe_pointer h.optional_header
 
 -- the checksum of a file with this header
-abbrev pub checked_sum : List ℕ → Header → Result ℕ Refusal
+abbrev pub checked_sum : List ℕ → HeaderView → Result ℕ Refusal
 checked_sum b h = checksum_range_of h >>= λ field. Ok (checksum_of b field.offset)

@@ -1,13 +1,11 @@
 -- The bytes that the Authenticode digest of an image covers. (Windows Authenticode Portable Executable Signature Format.)
 use Rattle.std.specs.Prelude.{◌≡◌, ℕ, suc, ◌+◌, ◌-◌, ◌%◌, ◌<◌, ◌≤◌, ◌==◌, ◌&&◌, ◌||◌, Bool, true, false, List, [], ◌∷◌, ◌++◌, length, flat_map, replicate, nat_le, nat_lt, Option, Some, None, Result, Ok, Err, if◌then◌else◌}
 use Rattle.std.specs.Borrow.{Bor}
-use Rattle.pe_core.specs.Directories.{kept_rows, present}
-use Rattle.pe_core.specs.Header.{directories_offset}
+use Rattle.pe_core.specs.Directories.{present}
+use Rattle.pe_core.specs.Header.{HeaderView, OptionalHeaderView, directories_offset}
 use Rattle.pe_core.specs.Refusals.{Refusal, NoOptionalHeader, ◌>>=◌}
 use Rattle.pe_core.specs.declared.byte_range.ByteRange.{ByteRange}
 use Rattle.pe_core.specs.declared.data_directories.DataDirectory.{DataDirectory}
-use Rattle.pe_core.specs.declared.header.Header.{Header}
-use Rattle.pe_core.specs.declared.optional_header.OptionalHeader.{OptionalHeader}
 use Rattle.pe_sign.specs.declared.digest.AuthenticodeRanges.{AuthenticodeRanges}
 use Rattle.pe_sign.specs.declared.digest.LeftOut.{LeftOut}
 use Rattle.pe_sign.specs.declared.digest.Part.{Part}
@@ -17,9 +15,9 @@ abbrev pub nothing : ByteRange
 nothing = record { offset = 0; length = 0 }
 
 -- where the entry of the certificate directory is in the file: the fifth entry, if the header has as many
-abbrev pub entry_range : ℕ → OptionalHeader → ByteRange
+abbrev pub entry_range : ℕ → OptionalHeaderView → ByteRange
 entry_range pointer o =
-    if nat_lt 4 (length (kept_rows o.data_directories))
+    if nat_lt 4 (length o.data_directories)
     then record { offset = pointer + 24 + directories_offset (o.standard_fields.magic == 0x20B) + 32; length = 8 }
     else nothing
 
@@ -29,15 +27,15 @@ certificates_range None = nothing
 certificates_range (Some d) = record { offset = d.virtual_address; length = d.size }
 
 -- the parts of the file that the digest leaves out; without an optional header there is no digest
-abbrev pub left_out_before : ℕ → Option OptionalHeader → Result LeftOut Refusal
+abbrev pub left_out_before : ℕ → Option OptionalHeaderView → Result LeftOut Refusal
 left_out_before pointer None = Err NoOptionalHeader
 left_out_before pointer (Some o) = Ok (record {
   checksum = record { offset = pointer + 88; length = 4 };
   directory_entry = entry_range pointer o;
-  certificates = certificates_range (present (kept_rows o.data_directories) 4);
+  certificates = certificates_range (present o.data_directories 4);
 })
 
-abbrev pub left_out_of : Header → Result LeftOut Refusal
+abbrev pub left_out_of : HeaderView → Result LeftOut Refusal
 left_out_of h = left_out_before h.dos_header.pe_pointer h.optional_header
 
 -- the file offset is in the range
@@ -105,5 +103,5 @@ abbrev pub covered_bytes : Covered → List ℕ
 covered_bytes c = c.content ++ replicate c.zeros 0
 
 -- what the digest of an image with this header covers
-abbrev pub digest_of : List ℕ → Header → Result Covered Refusal
+abbrev pub digest_of : List ℕ → HeaderView → Result Covered Refusal
 digest_of b h = left_out_of h >>= λ l. Ok (covered l b)

@@ -6,6 +6,7 @@
 //! was, so the signature in the certificate is valid for what was written.
 
 ghost use Rattle.std.specs.Prelude.{◌≡◌, ◌+◌, ◌≤◌, ◌^◌, ◌++◌, [], ◌∷◌, IfOk, length, drop, nat_lt};
+ghost use Rattle.pe_core.specs.Header.{header_view};
 ghost use Rattle.pe_core.specs.SectionMap.{rounded_up};
 ghost use Rattle.pe_core.specs.Refusals.{outcome};
 ghost use Rattle.pe_sign.specs.SignRefusals.{TooLarge, SignReturns};
@@ -101,7 +102,7 @@ fn certified(
     placement: Placement,
 ) -> Result<LeftOut, SignError>
     ensures parts { SignReturns result
-        (certified_of placement bytes.now header.now certificate.now) }
+        (certified_of placement bytes.now (header_view header.now) certificate.now) }
     ensures fits { IfOk result
         (λ l. FitsWith placement l (length bytes.now) (length certificate.now)) }
 {
@@ -163,7 +164,7 @@ pub fn attached_len(
     placement: Placement,
 ) -> Result<usize, SignError>
     ensures { SignReturns result
-        (length_of (attached_of placement bytes.now header.now certificate.now)) }
+        (length_of (attached_of placement bytes.now (header_view header.now) certificate.now)) }
 {
     let left_out = certified(bytes, header, certificate, placement)?;
     Ok(attached_length(placement, &left_out, bytes.len(), certificate.len()))
@@ -192,7 +193,7 @@ pub fn attach(
     out: &mut [u8],
 ) -> Result<usize, SignError>
     ensures { SignReturnsWritten result (written
-        (attached_of placement bytes.now header.now certificate.now) out.old) out.old out.new }
+        (attached_of placement bytes.now (header_view header.now) certificate.now) out.old) out.old out.new }
 {
     let left_out = certified(bytes, header, certificate, placement)?;
     let length = attached_length(placement, &left_out, bytes.len(), certificate.len());
@@ -215,7 +216,7 @@ fn set_detached(out: &mut [u8], bytes: &[u8], left_out: &LeftOut) -> usize
 
 /// The length of the file that `detach` writes with these arguments. Errors: those of `detach`, but for the buffer's.
 pub fn detached_len(bytes: &[u8], header: &Header<'_>) -> Result<usize, SignError>
-    ensures { SignReturns result (length_of (detached_of bytes.now header.now)) }
+    ensures { SignReturns result (length_of (detached_of bytes.now (header_view header.now))) }
 {
     let left_out = image(bytes, header)?;
     Ok(unsigned_length(&left_out, bytes.len()))
@@ -230,7 +231,7 @@ pub fn detached_len(bytes: &[u8], header: &Header<'_>) -> Result<usize, SignErro
 /// `WriteFit` if the image does not fit into `out`.
 pub fn detach(bytes: &[u8], header: &Header<'_>, out: &mut [u8]) -> Result<usize, SignError>
     ensures { SignReturnsWritten result
-        (written (detached_of bytes.now header.now) out.old) out.old out.new }
+        (written (detached_of bytes.now (header_view header.now)) out.old) out.old out.new }
 {
     let left_out = image(bytes, header)?;
     require_room(out, 0, unsigned_length(&left_out, bytes.len()))?;

@@ -82,7 +82,7 @@ fn section_table_end(header: &Header<'_>) -> usize
 
 /// Whether the checksum, the entry of the certificate directory and the section table end at or before `end`.
 fn headers_end_by(header: &Header<'_>, left_out: &LeftOut, end: usize) -> bool
-    ensures { result ≡ headers_end_by header.now left_out.now end }
+    ensures { result ≡ headers_end_by (header_view header.now) left_out.now end }
 {
     ends_by(left_out.checksum.offset, SIZE_OF_CHECKSUM, end)
         && ends_by(left_out.directory_entry.offset, SIZE_OF_ENTRY, end)
@@ -103,7 +103,7 @@ fn require_sections(bytes: &[u8], header: &Header<'_>, end: usize) -> Result<(),
     requires { sections_offset (header_view header.now)
         + 40 * header.now.coff_header.number_of_sections ≤ length bytes.now }
     ensures { SignReturns result
-        (outcome ((sections_end_by bytes.now header.now end, Section) ∷ []) tt) }
+        (outcome ((sections_end_by bytes.now (header_view header.now) end, Section) ∷ []) tt) }
 {
     let start = header.sections_offset();
     for index in 0..header.coff_header.number_of_sections as usize {
@@ -118,7 +118,7 @@ fn require_sections(bytes: &[u8], header: &Header<'_>, end: usize) -> Result<(),
 /// The parts of the image that its digest leaves out, if its certificates can be changed. Errors, in order: `Image`
 /// with `NoOptionalHeader`; `NoDirectory`; `Image` with `CertificateTable`; `TableNotLast`; `Headers`; `Section`.
 pub fn image(bytes: &[u8], header: &Header<'_>) -> Result<LeftOut, SignError>
-    ensures parts { SignReturns result (changeable_parts bytes.now header.now) }
+    ensures parts { SignReturns result (changeable_parts bytes.now (header_view header.now)) }
     ensures fits { IfOk result (λ l. Fits l (length bytes.now)) }
 {
     let left_out = left_out(header)?;

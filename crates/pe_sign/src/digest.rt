@@ -7,6 +7,7 @@
 
 ghost use Rattle.std.specs.Prelude.{◌≡◌, ◌+◌, ◌^◌, ◌<◌, ◌≤◌, ◌⊎◌, false, length};
 ghost use Rattle.std.specs.Result.{IfOk};
+ghost use Rattle.pe_core.specs.Header.{header_view, optional_header_view};
 ghost use Rattle.pe_core.specs.Refusals.{Returns, ReturnsAs};
 ghost use Rattle.pe_sign.specs.Digest.{left_out_of, is_in, is_left_out, kept_bytes, digested, zeros_after, Throughout, IsCut, joined_slices, ranges_view, covered, digest_of};
 
@@ -35,14 +36,14 @@ pub struct LeftOut {
 }
 
 /// No bytes.
-const NOTHING: ByteRange = ByteRange {
+pub const NOTHING: ByteRange = ByteRange {
     offset: 0,
     length: 0,
 };
 
 /// Where the entry of the certificates is, in an image with this PE pointer.
 fn entry_range(pe_pointer: u32, optional_header: &OptionalHeader) -> ByteRange
-    ensures { result ≡ Rattle.pe_sign.specs.Digest.entry_range pe_pointer optional_header.now }
+    ensures { result ≡ Rattle.pe_sign.specs.Digest.entry_range pe_pointer (optional_header_view optional_header.now) }
 {
     if optional_header.data_directories.rows().len() <= CERTIFICATES {
         return NOTHING;
@@ -60,7 +61,7 @@ fn entry_range(pe_pointer: u32, optional_header: &OptionalHeader) -> ByteRange
 
 /// The parts that the digest of an image with this header leaves out. Error: `NoOptionalHeader`.
 pub fn left_out(header: &Header<'_>) -> Result<LeftOut>
-    ensures { Returns result (left_out_of header.now) }
+    ensures { Returns result (left_out_of (header_view header.now)) }
 {
     let checksum = checksum_range(header)?;
     let mut left_out = LeftOut {
@@ -146,7 +147,7 @@ pub struct AuthenticodeRanges<'a> {
 }
 
 /// What the digest of a file covers that leaves out these parts.
-fn ranges_without<'a>(bytes: &'a [u8], left_out: &LeftOut) -> AuthenticodeRanges<'a>
+pub fn ranges_without<'a>(bytes: &'a [u8], left_out: &LeftOut) -> AuthenticodeRanges<'a>
     ensures { ranges_view result ≡ covered left_out.now bytes.entry.now }
 {
     let whole = Part { offset: 0, bytes };
@@ -166,7 +167,7 @@ pub fn authenticode_ranges<'a>(
     bytes: &'a [u8],
     header: &Header<'_>,
 ) -> Result<AuthenticodeRanges<'a>>
-    ensures { ReturnsAs ranges_view result (digest_of bytes.entry.now header.now) }
+    ensures { ReturnsAs ranges_view result (digest_of bytes.entry.now (header_view header.now)) }
 {
     let left_out = left_out(header)?;
     Ok(ranges_without(bytes, &left_out))

@@ -5,6 +5,7 @@
 //! [CheckSum]: https://learn.microsoft.com/windows/win32/debug/pe-format#optional-header-windows-specific-fields-image-only
 
 ghost use Rattle.std.specs.Prelude.{◌≡◌, ◌*◌, ◌<◌, length};
+ghost use Rattle.pe_core.specs.Header.{header_view};
 ghost use Rattle.pe_core.specs.Refusals.{Returns};
 ghost use Rattle.pe_sign.specs.Checksum.{summed_byte, summed_word, with_carry, checksum_of, checksum_range_of, checked_sum};
 
@@ -70,7 +71,7 @@ pub fn checksum_of(bytes: &[u8], field: usize) -> u32
 /// The file range of the field that holds the checksum, which `header.optional_header` has as
 /// `windows_fields.check_sum`. Error: `NoOptionalHeader`.
 pub fn checksum_range(header: &Header<'_>) -> Result<ByteRange>
-    ensures { Returns result (checksum_range_of header.now) }
+    ensures { Returns result (checksum_range_of (header_view header.now)) }
 {
     if header.optional_header.is_none() {
         return Err(Error::Malformed(Reason::NoOptionalHeader));
@@ -86,7 +87,7 @@ pub fn checksum_range(header: &Header<'_>) -> Result<ByteRange>
 /// The checksum of the image whose file is `bytes`: what the field has to hold. What it holds is not read. `header` is
 /// the image's, and says where the field is. Error: `NoOptionalHeader`.
 pub fn checksum(bytes: &[u8], header: &Header<'_>) -> Result<u32>
-    ensures { Returns result (checked_sum bytes.now header.now) }
+    ensures { Returns result (checked_sum bytes.now (header_view header.now)) }
 {
     let field = checksum_range(header)?;
     Ok(checksum_of(bytes, field.offset))

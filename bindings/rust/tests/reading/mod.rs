@@ -1,7 +1,7 @@
 //! Makes every call on an image and adds up what they return, for tests, the fuzz loop and the bench.
 #![allow(dead_code)]
 
-use pe_c::{Arm64Record, Arm64Unwinding, Error, Handler, Image, Layout, Mode, UnwindRecord, VersionName};
+use pe_c::{Arm64Record, Arm64Unwinding, Error, Handler, Image, Layout, Mode, Placement, UnwindRecord, VersionName};
 
 /// What was read.
 #[derive(Clone, Copy, Debug, Default, PartialEq, Eq)]
@@ -83,6 +83,36 @@ fn read_certificates(image: &Image, seen: &mut Seen) {
             assert_eq!(certificate.body.len() as u64, u64::from(certificate.length).saturating_sub(8));
             seen.touch(certificate.body);
         }
+    }
+}
+
+/// A certificate of two bytes.
+const CERTIFICATE: [u8; 10] = [10, 0, 0, 0, 0, 2, 2, 0, 0xAB, 0xCD];
+
+fn read_signing(image: &Image, seen: &mut Seen) {
+    if let Some(digest) = seen.item(image.digest_ranges()) {
+        let mut end = 0;
+        for (i, range) in digest.ranges().enumerate() {
+            assert!(range.start < range.end && range.end <= image.bytes().len());
+            assert!(if i == 0 { range.start >= end } else { range.start > end }, "ranges that touch are one");
+            end = range.end;
+        }
+        for slice in digest.slices() {
+            seen.touch(slice);
+        }
+        assert!(digest.zeros() < 8);
+    }
+    if let Some(sum) = seen.item(image.checksum()) {
+        assert!(sum.offset + 4 <= image.bytes().len() as u64);
+    }
+    for placement in [Placement::After, Placement::InPlace] {
+        if let Some(file) = seen.item(image.attach(&CERTIFICATE, placement)) {
+            assert_eq!(file.len() % 8, 0);
+            assert_eq!(file[file.len() - 16..file.len() - 6], CERTIFICATE);
+        }
+    }
+    if let Some(file) = seen.item(image.detach()) {
+        assert!(file.len() <= image.bytes().len());
     }
 }
 
@@ -236,6 +266,9 @@ pub fn read_all(bytes: &[u8], mode: Mode, layout: Layout, most: usize) -> Seen {
     std::hint::black_box(image.offset(image.info().entry));
     read_debug(&image, &mut seen);
     read_certificates(&image, &mut seen);
+    if seen.most > 8 {
+        read_signing(&image, &mut seen);
+    }
     read_functions(&image, &mut seen);
     read_arm64_functions(&image, &mut seen);
     read_addresses(&image, &mut seen);

@@ -1,6 +1,7 @@
 use Rattle.std.proofs.Common.{◌∙◌, sym, refl, ap, ℕ, List, ◌++◌, drop}
 use Rattle.std.specs.Prelude.{Ok}
 use Rattle.std.proofs.lemmas.Result.{err_from_is_err_and}
+use Rattle.pe_core.specs.Header.{header_view}
 use Rattle.pe_sign.specs.Attaching.{attached_of, attached_file}
 use Rattle.pe_sign.proofs.Tests.{attached_value, attached_refused, written_refused, written_short, written_done}
 use Rattle.pe_sign.proofs.Writes.{length-attached}
@@ -9,7 +10,7 @@ use Rattle.pe_sign.proofs.attachment.attach.Goals as goal
 pub returns-in_err-left_out : goal.returns-in_err-left_out
 returns-in_err-left_out c =
     let p = err_from_is_err_and c.from_residual.result c.from_residual.ensures.1 in
-    rw (p.1, p.2) (written_refused _ c.args.out.now _ (attached_refused c.args.placement c.args.bytes.now c.args.header.now c.args.certificate.now _ c.in_err-left_out.ensures.parts), refl)
+    rw (p.1, p.2) (written_refused _ c.args.out.now _ (attached_refused c.args.placement c.args.bytes.now (header_view c.args.header.now) c.args.certificate.now _ c.in_err-left_out.ensures.parts), refl)
 
 pub returns-in_err-require_room : goal.returns-in_err-require_room
 returns-in_err-require_room c =
@@ -18,7 +19,7 @@ returns-in_err-require_room c =
     let b = c.args.bytes.now in
     let file = attached_file c.args.placement l c.args.certificate.now b in
     rw (p.1, p.2) (
-      written_short _ file c.args.out.now c.attached_length-length.result _ (attached_value c.args.placement b c.args.header.now c.args.certificate.now l c.in_ok-left_out.ensures.parts)
+      written_short _ file c.args.out.now c.attached_length-length.result _ (attached_value c.args.placement b (header_view c.args.header.now) c.args.certificate.now l c.in_ok-left_out.ensures.parts)
           (length-attached c.args.placement l c.args.certificate.now b c.in_ok-left_out.ensures.fits.image ∙ sym c.attached_length-length.ensures) c.in_err-require_room.ensures,
       refl,
     )
@@ -28,7 +29,7 @@ returns c =
     let l = c.in_ok-left_out.left_out in
     let b = c.args.bytes.now in
     let file = attached_file c.args.placement l c.args.certificate.now b in
-    written_done (attached_of c.args.placement b c.args.header.now c.args.certificate.now) file c.args.out.now c.attached_length-length.result c.in_ok-require_room.field-0
-    (attached_value c.args.placement b c.args.header.now c.args.certificate.now l c.in_ok-left_out.ensures.parts)
+    written_done (attached_of c.args.placement b (header_view c.args.header.now) c.args.certificate.now) file c.args.out.now c.attached_length-length.result c.in_ok-require_room.field-0
+    (attached_value c.args.placement b (header_view c.args.header.now) c.args.certificate.now l c.in_ok-left_out.ensures.parts)
     (length-attached c.args.placement l c.args.certificate.now b c.in_ok-left_out.ensures.fits.image ∙ sym c.attached_length-length.ensures) c.in_ok-require_room.ensures
     ∙ ap (λ (n : ℕ). Ok (n, file ++ drop n c.args.out.now)) (sym c.set_attached.ensures.value) ∙ ap (λ (x : List ℕ). Ok (c.set_attached.result, x)) (sym c.set_attached.ensures.after)
