@@ -13,6 +13,7 @@ Examples:
   pe --json -r C:/Windows               a line of JSON for each image below a folder
   pe unwind program.exe 1a2b            how the function at an RVA is unwound
   pe key program.exe                    where a symbol server has its PDB and itself
+  pe digest program.exe                 what its signature signs, as SHA-256
   pe extract program.exe manifest -     its manifest, on standard output
 
 Exit status: 0 done; 1 an image, or a part that was asked for, is refused; 2 misused arguments; 3 an error of a file.";
@@ -88,6 +89,13 @@ pub enum Command {
     },
     /// Show where a symbol server has the PDB of an image, and the image.
     Key {
+        #[arg(required = true, value_name = "FILE")]
+        files: Vec<PathBuf>,
+        #[command(flatten)]
+        reading: Reading,
+    },
+    /// Show the SHA-256 of what an Authenticode signature of an image covers
+    Digest {
         #[arg(required = true, value_name = "FILE")]
         files: Vec<PathBuf>,
         #[command(flatten)]

@@ -2,6 +2,7 @@
 //! the crate `pe_c`, whose library is proved to return what its definitions say; this program only writes it down.
 
 mod arguments;
+mod digest;
 mod escape;
 mod facts;
 mod files;
@@ -61,6 +62,9 @@ fn run(arguments: &Arguments, out: &mut dyn Write) -> io::Result<Status> {
         }),
         Command::Key { files, reading } => files::each(files, false, out, |path, bytes| {
             report(path, bytes, reading, &[Topic::Headers, Topic::Debug], show::keys)
+        }),
+        Command::Digest { files, reading } => files::each(files, false, out, |path, bytes| {
+            with_image(bytes, reading, |image| digest::report(path, image, reading.json))
         }),
         Command::Unwind { file, rva, reading } => files::each(slice::from_ref(file), false, out, |_, bytes| {
             with_image(bytes, reading, |image| unwind::report(image, *rva, reading.json))

@@ -193,6 +193,25 @@ fn keys_are_paths_of_a_symbol_server() {
 }
 
 #[test]
+fn digests_leave_out_checksum_entry_and_certificates() {
+    let folder = Folder::new("digest");
+    let mut bytes = made::with_certificates();
+    let before = run(&["digest", &folder.file("a.exe", &bytes)]).0;
+    // The checksum is at 0x98, and the entry of the certificate directory at 0xE8.
+    bytes[0x98..0x9C].copy_from_slice(&[1, 2, 3, 4]);
+    bytes[0x608] ^= 1;
+    assert_eq!(run(&["digest", &folder.file("a.exe", &bytes)]).0, before);
+    bytes[0x400] ^= 1;
+    let (out, _, status) = run(&["digest", "--json", &folder.file("a.exe", &bytes)]);
+    let other: Value = serde_json::from_str(&out).unwrap();
+    assert_eq!(
+        (before.len(), before.starts_with(other["sha256_hex"].as_str().unwrap()), status),
+        (64 + 3 + folder.0.join("a.exe").as_os_str().len(), false, 0)
+    );
+    assert_eq!(other["checksum"], 0x0403_0201);
+}
+
+#[test]
 fn functions_are_unwound_up_to_the_root() {
     let folder = Folder::new("unwind");
     let file = folder.file("a.exe", &made::with_functions());
@@ -282,6 +301,44 @@ fn folders_are_read_in_order_and_other_files_skipped() {
     let name = |it: &Value| it["file"].as_str().unwrap().rsplit('/').next().unwrap().to_string();
     let wanted: Vec<String> = (0..200).map(|number| format!("{number:03}.exe")).collect();
     assert_eq!(files.iter().map(name).collect::<Vec<_>>(), wanted);
+}
+
+/// Numbers that are the same in each run (xorshift).
+fn next(state: &mut u64) -> usize {
+    *state ^= *state << 13;
+    *state ^= *state >> 7;
+    *state ^= *state << 17;
+    *state as usize
+}
+
+#[test]
+fn damaged_images_are_lines_of_json_and_text() {
+    let folder = Folder::new("mutants");
+    let (mut files, mut state) = (Vec::new(), 1);
+    for (name, bytes) in made::all() {
+        for number in 0..100 {
+            let mut damaged = bytes.clone();
+            for _ in 0..1 + next(&mut state) % 8 {
+                let at = next(&mut state) % damaged.len();
+                damaged[at] = [0, 1, 0x7F, 0x80, 0xFF, next(&mut state) as u8][next(&mut state) % 6];
+            }
+            damaged.truncate(if number % 4 == 0 { next(&mut state) % damaged.len() } else { damaged.len() });
+            files.push(folder.file(&format!("{name}-{number}"), &damaged));
+        }
+    }
+    let files: Vec<&str> = files.iter().map(String::as_str).collect();
+    let (out, _, status) = run(&[&["--json"], files.as_slice()].concat());
+    assert_eq!((out.lines().count(), status), (files.len(), 1));
+    for (line, file) in out.lines().zip(&files) {
+        let all: Value = serde_json::from_str(line).unwrap();
+        assert_eq!(all["file"], **file);
+    }
+    let (out, error, status) = run(&files);
+    assert_eq!((error.as_str(), status), ("", 1));
+    assert!(out.chars().all(|it| it == '\n' || !it.is_control()));
+    for file in files.iter().filter(|file| file.contains("functions")) {
+        assert!(run(&["unwind", file, "5012"]).2 < 2, "{file}");
+    }
 }
 
 #[test]
