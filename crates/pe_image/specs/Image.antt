@@ -1,6 +1,6 @@
 -- An image by mode: it is refused if its core is refused. Strict mode also refuses it if a field is refused, for the
 -- first such field. Permissive mode leaves a refused field empty. (This project's profile.)
-use Rattle.std.specs.Prelude.{◌≡◌, ℕ, Bool, List, [], map, Option, Some, None, Result, Ok, Err, IsOk, unwrap_or, option_and_then}
+use Rattle.std.specs.Prelude.{◌≡◌, ℕ, Bool, List, [], map, Option, Some, None, Result, Ok, Err, IsOk, unwrap_or, option_and_then, ◌==◌, if◌then◌else◌}
 use Rattle.std.specs.Option.{option_map}
 use Rattle.pe_core.specs.Exports.{ExportDataView, ExportView, export_data_view, export_view}
 use Rattle.pe_core.specs.Header.{HeaderView, header_view}
@@ -83,6 +83,10 @@ core_part x = record { header = x.header; sections = x.sections; export_data = x
 -- debug data
 abbrev pub debug_of : List ℕ → ParseOptions → CoreView → Field DebugFields
 debug_of b opts c = debug_field b opts c.sections c.header.optional_header
+
+-- the exception data of an image for a machine: those that it has, or none where it is for another machine
+abbrev pub exceptions_on : ℕ → ImageView → Option ExceptionView
+exceptions_on machine image = if image.header.coff_header.machine == machine then image.exception_data else None
 
 -- exception data, by the machine in the COFF header
 abbrev pub exceptions_of : List ℕ → ParseOptions → CoreView → Field ExceptionView

@@ -5,12 +5,13 @@
 ghost use Rattle.std.specs.Prelude.{◌≡◌, IfOk, Ok};
 ghost use Rattle.std.specs.Option.{option_and_then, option_map};
 ghost use Rattle.pe_core.specs.Exports.{export_data_view};
+ghost use Rattle.pe_core.specs.declared.header.TheConstants.{COFF_MACHINE_ARM64, COFF_MACHINE_X86_64};
 ghost use Rattle.pe_core.specs.Options.{default_options};
 ghost use Rattle.pe_resource.specs.Resources.{resource_view};
 ghost use Rattle.pe_image.specs.FieldSteps.{first_fields_view};
 ghost use Rattle.pe_image.specs.Core.{sections_read};
 ghost use Rattle.pe_image.specs.CoreParts.{core_view, CoreHasLayout, CoreHasLibraries};
-ghost use Rattle.pe_image.specs.Image.{image_of, image_view, source_of, HasLibraries, ReturnsImage};
+ghost use Rattle.pe_image.specs.Image.{exceptions_on, image_of, image_view, source_of, HasLibraries, ReturnsImage};
 ghost use Rattle.pe_image.specs.ImageSteps.{ReturnsAfterCore};
 ghost use Rattle.pe_image.specs.LayoutParts.{layout_of};
 ghost use Rattle.pe_image.specs.Memory.{AsksForMemory, HasCertificates, MemoryOnlyIf};
@@ -19,7 +20,7 @@ use crate::core_image::Core;
 use crate::fields::{FirstFields, resource_data};
 use crate::layout::is_library;
 use pe_core::{
-    Export, ExportData, Header, Import, ImportData, ParseOptions, RelocationData, Result,
+    COFF_MACHINE_ARM64, COFF_MACHINE_X86_64, Export, ExportData, Header, Import, ImportData, ParseOptions, RelocationData, Result,
     SectionTable,
 };
 use pe_records::{CertificateDirectoryTable, DebugData};
@@ -219,5 +220,33 @@ impl<'a, A: Allocator + Copy + Drop> PE<'a, A> {
     {
         let core = Core::read(alloc, bytes, opts)?;
         PE::with_core(alloc, bytes, opts, core)
+    }
+
+    /// The exception data of an x64 image, whose entries `functions` and `find_function` read. `None` without any, and
+    /// for any other machine.
+    pub fn x64_exceptions(&self) -> Option<&ExceptionData<'a>>
+        ensures { option_map (λ e. e.now) result
+            ≡ exceptions_on COFF_MACHINE_X86_64 (image_view self.now) }
+    {
+        self.exceptions_on(COFF_MACHINE_X86_64)
+    }
+
+    /// The exception data of an ARM64 image, whose entries `functions_arm64` reads. `None` without any, and for any
+    /// other machine.
+    pub fn arm64_exceptions(&self) -> Option<&ExceptionData<'a>>
+        ensures { option_map (λ e. e.now) result
+            ≡ exceptions_on COFF_MACHINE_ARM64 (image_view self.now) }
+    {
+        self.exceptions_on(COFF_MACHINE_ARM64)
+    }
+
+    /// The exception data, if the image is for this machine.
+    fn exceptions_on(&self, machine: u16) -> Option<&ExceptionData<'a>>
+        ensures { option_map (λ e. e.now) result ≡ exceptions_on machine (image_view self.now) }
+    {
+        match &self.exception_data {
+            Some(exceptions) if self.header.coff_header.machine == machine => Some(exceptions),
+            _ => None,
+        }
     }
 }

@@ -1,6 +1,6 @@
 //! The unwind codes of ARM64 functions.
 
-use pe_image::{Arm64UnwindCodeData, COFF_MACHINE_ARM64, PE, ParseMode, ParseOptions, Result};
+use pe_image::{Arm64UnwindCodeData, PE, ParseMode, ParseOptions, Result};
 use std::alloc::Global;
 
 /// The codes of each function whose unwind data are not packed into its entry: those of its prolog up to `End`, and
@@ -9,12 +9,9 @@ pub fn arm64_codes(alloc: Global, bytes: &[u8]) -> Result<Vec<Arm64UnwindCodeDat
     let opts = ParseOptions::default().with_parse_mode(ParseMode::Permissive);
     let image = PE::parse_with_opts(alloc, bytes, &opts)?;
     let mut codes = Vec::new(alloc);
-    let Some(exceptions) = &image.exception_data else {
+    let Some(exceptions) = image.arm64_exceptions() else {
         return Ok(codes);
     };
-    if image.header.coff_header.machine != COFF_MACHINE_ARM64 {
-        return Ok(codes);
-    }
     for function in exceptions.functions_arm64() {
         if let Some(info) = exceptions.get_unwind_info_arm64(function?, &image.sections) {
             for code in info?.unwind_codes(0)? {

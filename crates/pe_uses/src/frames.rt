@@ -1,7 +1,7 @@
 //! What an unwinder undoes in the frame of a function.
 
 use pe_image::{
-    COFF_MACHINE_X86_64, PE, ParseMode, ParseOptions, Register, Result, UnwindCode, UnwindInfo,
+    PE, ParseMode, ParseOptions, Register, Result, UnwindCode, UnwindInfo,
 };
 use std::alloc::Global;
 
@@ -41,12 +41,9 @@ pub fn frame_of(alloc: Global, record: &UnwindInfo, offset: u32) -> Result<Frame
 pub fn frame_at(alloc: Global, bytes: &[u8], rva: u32) -> Result<Option<Frame>> {
     let opts = ParseOptions::default().with_parse_mode(ParseMode::Permissive);
     let image = PE::parse_with_opts(alloc, bytes, &opts)?;
-    let Some(exceptions) = &image.exception_data else {
+    let Some(exceptions) = image.x64_exceptions() else {
         return Ok(None);
     };
-    if image.header.coff_header.machine != COFF_MACHINE_X86_64 {
-        return Ok(None);
-    }
     let Some(function) = exceptions.find_function(rva)? else {
         return Ok(None);
     };

@@ -2,7 +2,7 @@
 
 use pe_core::SectionMap;
 use pe_frame::{Registers, Stack, leaf, step_with_code};
-use pe_image::{COFF_MACHINE_X86_64, PE, ParseMode, ParseOptions, Result};
+use pe_image::{PE, ParseMode, ParseOptions, Result};
 use pe_plan::UnwindPlan;
 use std::alloc::Global;
 
@@ -26,12 +26,9 @@ pub fn walk_stack(
     let opts = ParseOptions::default().with_parse_mode(ParseMode::Permissive);
     let image = PE::parse_with_opts(alloc, bytes, &opts)?;
     let mut frames = Vec::new(alloc);
-    let Some(exceptions) = &image.exception_data else {
+    let Some(exceptions) = image.x64_exceptions() else {
         return Ok(frames);
     };
-    if image.header.coff_header.machine != COFF_MACHINE_X86_64 {
-        return Ok(frames);
-    }
     let sections = &image.sections;
     let map = exceptions.section_map(sections, &opts);
     let mut registers = registers;

@@ -1,7 +1,7 @@
 //! What an unwinder undoes up to the root of a chain of records.
 
 use crate::frames::{Frame, frame_of};
-use pe_image::{COFF_MACHINE_X86_64, PE, ParseMode, ParseOptions, Result};
+use pe_image::{PE, ParseMode, ParseOptions, Result};
 use pe_plan::UnwindPlan;
 use std::alloc::Global;
 
@@ -11,12 +11,9 @@ use std::alloc::Global;
 pub fn frames_at(alloc: Global, bytes: &[u8], rva: u32) -> Result<Option<Vec<Frame>>> {
     let opts = ParseOptions::default().with_parse_mode(ParseMode::Permissive);
     let image = PE::parse_with_opts(alloc, bytes, &opts)?;
-    let Some(exceptions) = &image.exception_data else {
+    let Some(exceptions) = image.x64_exceptions() else {
         return Ok(None);
     };
-    if image.header.coff_header.machine != COFF_MACHINE_X86_64 {
-        return Ok(None);
-    }
     let Some(function) = exceptions.find_function(rva)? else {
         return Ok(None);
     };
