@@ -12,6 +12,7 @@ pub mod Parts
 pub mod Plans
 pub mod Ranges
 pub mod Runs
+pub mod StackFrames
 pub mod Texts
 pub mod Unwinding
 pub mod Versions

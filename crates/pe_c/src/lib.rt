@@ -22,6 +22,7 @@ pub mod laws;
 mod plan;
 mod ranges;
 mod results;
+mod stack_frames;
 mod texts;
 mod unwinding;
 mod version;

@@ -12,10 +12,11 @@ use pe_unwind::laws::derives::clones_are_their_originals;
 use pe_unwind::{ExceptionData, RuntimeFunction, UnwindInfo};
 use std::array::repeat;
 
-/// How many records a short plan has at most: as many as the unwinder of Windows follows.
+/// How many records a short plan has at most. Those of a part of a function and of the function are two.
 const MOST_RECORDS: usize = 32;
 
 /// The plan of a function that has at most 32 records.
+#[derive(Drop)]
 pub struct ShortPlan<'a> {
     /// The records, and after them others, which mean nothing.
     records: [UnwindInfo<'a>; MOST_RECORDS],
