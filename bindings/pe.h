@@ -567,7 +567,8 @@ typedef struct {
     uint64_t rip;
 } pe_c_registers;
 
-/* A frame of a stack walk. A caller sets all fields but `address`; a step changes `registers`, or after an error `address`. */
+/* A frame of a stack walk. A caller sets all fields but `address`.
+ * A step changes `registers`, or after an error `address`. */
 typedef struct {
     pe_c_registers registers;       /* inside the function; after a step those of its caller */
     uint64_t stack_start;           /* address of the first byte of the stack that is passed */

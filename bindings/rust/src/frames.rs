@@ -194,8 +194,8 @@ pub struct Frame {
 #[derive(Clone, Copy, Debug, PartialEq, Eq)]
 #[non_exhaustive]
 pub enum End {
-    /// No module has the instruction pointer of the last frame, or none of its functions has: only the top frame, and one that
-    /// an interrupt stopped, can be that of a leaf function.
+    /// No module has the instruction pointer of the last frame, or none of its functions has: only the top frame, and one
+    /// that an interrupt stopped, can be that of a leaf function.
     NoFunction,
     /// As many frames were returned as the caller wants.
     Bound,
@@ -205,12 +205,12 @@ pub enum End {
 
 /// A stack walk: the frames of a thread, from the top frame outwards, through all modules of a process.
 ///
-/// `modules` returns the module that has an address, and `memory` a piece of memory that has the eight bytes at an address. A
-/// step reads one piece: that of the stack pointer, or if an address is missing there, the piece of that address alone.
+/// `modules` returns the module that has an address, and `memory` a piece of memory that has the eight bytes at an address.
+/// A step reads one piece: that of the stack pointer, or if an address is missing there, the piece of that address alone.
 ///
-/// The walk is over at a frame that is in no function of a module, at memory that is missing, where the stack pointer does not
-/// rise, at any other error, and after `most` frames. [`Frames::end`] says which. Only past an interrupt does the stack pointer
-/// not have to rise.
+/// The walk is over at a frame that is in no function of a module, at memory that is missing, where the stack pointer does
+/// not rise, at any other error, and after `most` frames. [`Frames::end`] says which. Only past an interrupt does the stack
+/// pointer not have to rise.
 ///
 /// ```
 /// # #[path = "../tests/made/mod.rs"] mod made;

@@ -678,7 +678,8 @@ calls_of_bytes! {
     pe_c_scope_table(handler_data: *const Range) -> Range;
     /// Returns the next entry of a scope table.
     pe_c_next_scope(walk: *mut Range) -> Scope;
-    /// Finds the registers of the caller of a leaf function, by the bytes of its stack, and writes them over those of the frame.
+    /// Finds the registers of the caller of a leaf function, by the bytes of its stack, and writes them over those of the
+    /// frame.
     pe_c_leaf() -> Frame;
     /// Returns the ARM64 function with an index.
     pe_c_arm64_function_at(table: *const Range, index: u64) -> Arm64Function;

@@ -143,8 +143,7 @@ fn read_record(record: &UnwindRecord, seen: &mut Seen) {
 /// A stack, which any registers of a function may point into.
 static STACK: [u8; 256] = [0x21; 256];
 
-/// Steps out of a function, from its start, from the middle of it and from its end, with and without its code; and a walk from
-/// there.
+/// Steps out of a function, from its start, its middle and its end, with and without its code; and a walk from there.
 fn step_out(image: &Image, functions: &Functions, function: Function, seen: &mut Seen) {
     let stack = Stack { start: 0x2_0000, bytes: &STACK };
     let mut registers = Registers { general: [0x2_0080; 16], ..Registers::default() };
