@@ -11,6 +11,7 @@
 //! [`step_with_code`] knows one by its bytes.
 #![tactic(auto)]
 
+mod arm64;
 mod epilog;
 mod error;
 mod frame;
@@ -20,6 +21,7 @@ mod record;
 mod registers;
 mod undo;
 
+pub use arm64::{Arm64Registers, step_arm64};
 pub use error::FrameError;
 pub use frame::{leaf, step, step_with_code};
 pub use memory::{Memory, Stack};
