@@ -11,4 +11,4 @@ mod step;
 mod undo;
 
 pub use registers::Arm64Registers;
-pub use step::step_arm64;
+pub use step::{leaf_arm64, step_arm64};

@@ -3,7 +3,7 @@
 ghost use Rattle.std.specs.Prelude.{◌≡◌, ◌-◌, ◌/◌, Ok};
 ghost use Rattle.pe_unwind.specs.Arm64Record.{info_view};
 ghost use Rattle.pe_frame.specs.declared.arm64.registers.Arm64Registers.{Arm64Registers};
-ghost use Rattle.pe_frame.specs.Arm64Undoing.{returned_arm64};
+ghost use Rattle.pe_frame.specs.Arm64Undoing.{returned_arm64, link_register, put_pc};
 ghost use Rattle.pe_frame.specs.Arm64Steps.{StepsArm64};
 ghost use Rattle.pe_frame.specs.Arm64Frames.{Arm64Part, IsArm64Frame, effects_at};
 ghost use Rattle.pe_frame.specs.Arm64Machine.{IsArm64Caller};
@@ -24,9 +24,7 @@ fn leave(pointer: u64, entry: Arm64Registers) -> Result<Arm64Registers, FrameErr
     if entry.sp < pointer {
         return Err(FrameError::NotRising(entry.sp));
     }
-    let mut caller = entry;
-    caller.pc = entry.general[LINK_REGISTER];
-    Ok(caller)
+    Ok(leaf_arm64(entry))
 }
 
 /// The registers of the caller, where so many instructions of the function are before the instruction pointer.
@@ -54,16 +52,16 @@ fn caller<M: Memory>(
 ///
 /// **A walk.** In the top frame `rva` is the instruction that is about to run: look the function up by it. In each other frame
 /// it is a return address, which may lie after the end of the function if the call is its last instruction: look up by
-/// `rva - 4`, and pass `rva` to this call. A function without an entry is a leaf: its caller goes on at the link register, with
-/// all other registers as they are. The walk ends where the caller's `pc` is 0 or lies in no image, or where a step is refused.
-/// A step may leave the stack pointer where it is, in the top frame, before the prolog has moved it: end the walk where it
-/// does so in any other frame, as a function that calls has stored the link register.
+/// `rva - 4`, and pass `rva` to this call. Where no function covers the address, call [`leaf_arm64`], in the top frame alone.
+/// The walk ends where the caller's `pc` is 0 or lies in no image, or where a step is refused. A step may leave the stack
+/// pointer where it is, in the top frame, before the prolog has moved it. End the walk where it does so in any other frame: a
+/// function that calls has stored the link register.
 ///
-/// Refused, in this order: `Codes` if one of the codes up to the first `end` is truncated; for each code in turn `Arm64Code` if
-/// it is not undone, then `Address` and `Memory` where they come up; last `NotRising` if the caller's stack pointer is below
-/// this one. These codes are not undone: frames of the operating system's own (`CustomStack`), `AllocZ`, `SaveZReg`, `SavePReg`,
-/// `SaveAnyReg`, reserved codes, those that save a register after x30 or d15, and `SaveNext` unless the first code after it
-/// that is another one saves a pair.
+/// Refused, in this order: `Codes` if one of the codes up to the first `end` is truncated; for each code in turn `Arm64Code`
+/// if it is not undone, then `Address` and `Memory` where they come up; last `NotRising` if the caller's stack pointer is
+/// below this one. These codes are not undone: frames of the operating system's own (`CustomStack`), `AllocZ`, `SaveZReg`,
+/// `SavePReg`, `SaveAnyReg`, reserved codes, those that save a register after x30 or d15, and `SaveNext` unless the first code
+/// after it that is another one saves a pair.
 pub fn step_arm64<M: Memory>(
     info: &Arm64UnwindInfo<'_>,
     start: u32,
@@ -80,4 +78,14 @@ pub fn step_arm64<M: Memory>(
 {
     let offset = rva.saturating_sub(start);
     caller(info, offset / SIZE_OF_INSTRUCTION, registers, memory)
+}
+
+/// The registers of the caller of a leaf function: one without an entry in the function table, which changes neither the stack
+/// pointer nor a register that a function preserves. The caller goes on at the link register.
+pub fn leaf_arm64(registers: Arm64Registers) -> Arm64Registers
+    ensures { result ≡ put_pc registers (link_register registers) }
+{
+    let mut caller = registers;
+    caller.pc = registers.general[LINK_REGISTER];
+    caller
 }
