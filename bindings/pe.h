@@ -12,9 +12,9 @@
  *
  * No call allocates, keeps state, prints, calls back, or needs initialisation. Any thread may call at any time.
  *
- * Results. A call returns PE_C_DONE and fills `out`, or returns another number and leaves `out` unchanged. The comment
- * of a call lists its errors in the order in which they are tested. PE_C_NOTHING means that there is nothing of the
- * kind; it is no error.
+ * Results. A call returns PE_C_DONE and fills `out`, or returns another number and leaves `out` unchanged, but for the
+ * address in a pe_c_frame. The comment of a call lists its errors in the order in which they are tested. PE_C_NOTHING means
+ * that there is nothing of the kind; it is no error.
  *
  * Units. An `offset` is a number of bytes from the start of `bytes`: in a file a file offset, in an image as loaded an
  * RVA. A range that a call returns lies inside `bytes`.
@@ -127,6 +127,11 @@ enum {
     PE_C_WRITE_FIT = 37,            /* write does not fit the buffer */
     PE_C_NOTHING = 100,             /* there is nothing of the kind, or the walk is over */
     PE_C_ROOM = 101,                /* the array is too small */
+    PE_C_MISSING = 102,             /* eight bytes of memory are missing, at pe_c_frame.address */
+    PE_C_BAD_ADDRESS = 103,         /* address and the offset of an unwind code do not fit 64 bits */
+    PE_C_BAD_OPERATION = 104,       /* unwind operation cannot be undone */
+    PE_C_NOT_RISING = 105,          /* stack pointer of the caller is not above that of the function */
+    PE_C_LONG_CHAIN = 106,          /* more than 32 unwind records are chained */
     PE_C_SIGN_NO_DIRECTORY = 201,   /* image has no certificate directory */
     PE_C_SIGN_TABLE_NOT_LAST = 202, /* certificate table ends before the end of the file */
     PE_C_SIGN_HEADERS = 203,        /* headers end after the start of the certificates or the end of the file */
@@ -480,8 +485,9 @@ uint32_t pe_c_detach(const uint8_t *bytes, size_t length, const pe_c_image_info 
  * chained to another function, whose record continues it. A leaf function needs no entry.
  * https://learn.microsoft.com/cpp/build/exception-handling-x64
  *
- * To unwind at an RVA: pe_c_function_table, pe_c_find_function, pe_c_plan_from, then pe_c_next_record until
- * PE_C_NOTHING, and pe_c_next_code for each record. */
+ * For the registers of the caller: pe_c_function_table, pe_c_find_function, then pe_c_step, or pe_c_leaf where it returned
+ * PE_C_NOTHING. For the records and codes themselves: pe_c_plan_from, then pe_c_next_record until PE_C_NOTHING, and
+ * pe_c_next_code for each record. */
 
 /* RUNTIME_FUNCTION. */
 typedef struct {
@@ -554,12 +560,31 @@ typedef struct {
     uint64_t limit;                 /* records after which another RVA is saved */
 } pe_c_plan;
 
+/* The registers of a thread that unwinding restores. */
+typedef struct {
+    uint64_t general[16];           /* rax, rcx, rdx, rbx, rsp, rbp, rsi, rdi, r8 .. r15: rsp is general[4] */
+    uint64_t xmm[32];               /* of xmm0 .. xmm15 the low half and then the high half, as CONTEXT has them */
+    uint64_t rip;
+} pe_c_registers;
+
+/* A frame of a stack walk. A caller sets all fields but `address`.
+ * A step changes `registers`, or after an error `address`. */
+typedef struct {
+    pe_c_registers registers;       /* inside the function; after a step those of its caller */
+    uint64_t stack_start;           /* address of the first byte of the stack that is passed */
+    uint64_t address;               /* the one that PE_C_MISSING, _BAD_ADDRESS or _NOT_RISING speaks of */
+    pe_c_function function;         /* the one that pe_c_find_function returned; pe_c_leaf does not read it */
+    uint32_t rva;                   /* rip less the address where the image is loaded; pe_c_leaf does not read it */
+} pe_c_frame;
+
 PE_C_SIZE(pe_c_function, 12);
 PE_C_SIZE(pe_c_walk, 24);
 PE_C_SIZE(pe_c_record, 72);
 PE_C_SIZE(pe_c_code, 8);
 PE_C_SIZE(pe_c_scope, 16);
 PE_C_SIZE(pe_c_plan, 32);
+PE_C_SIZE(pe_c_registers, 392);
+PE_C_SIZE(pe_c_frame, 424);
 
 /* Returns the range of the function table, entries of 12 bytes. PE_C_NOTHING without one, or for a machine other than
  * x64.
@@ -613,6 +638,31 @@ uint32_t pe_c_next_record(const uint8_t *bytes, size_t length, const pe_c_image_
                           const pe_c_section *sections, size_t count, pe_c_plan *plan,
                           pe_c_record *out) PE_C_RESULT(3, 6, 7);
 
+/* Finds the registers of a function's caller, from those inside the function, in its prolog and epilogs too, and writes them
+ * over those of the frame. It undoes the records of frame->function, up to the root of their chain, or runs what is left of
+ * an epilog.
+ *
+ * The stack is one piece of memory: `stack_length` bytes that start at the address frame->stack_start. After PE_C_MISSING
+ * a caller reads a piece that has the eight bytes at frame->address, and makes the same call again.
+ *
+ * In the top frame, and in one that an interrupt stopped, frame->rva is that of the instruction which is about to run: look
+ * the function up by it, and pass in `code` the bytes of the function from it to frame->function.end, as the image has them
+ * at pe_c_offset. In every other frame it is that of a return address, which may lie at the end of the function: look the
+ * function up by frame->rva - 1, and pass no code. Without code epilogs are not recognized.
+ *
+ * Errors: those of pe_c_function_table, without PE_C_NOTHING; for each record those of pe_c_unwind_record, and
+ * PE_C_LONG_CHAIN where more than 32 are chained, as in each loop. In an epilog for each instruction PE_C_MISSING,
+ * PE_C_BAD_ADDRESS. Else for each record PE_C_SHORT, PE_C_UNWIND_CODE of its codes, PE_C_BAD_OPERATION, PE_C_BAD_ADDRESS
+ * of its frame register; for each code PE_C_BAD_OPERATION, PE_C_BAD_ADDRESS, PE_C_MISSING; then PE_C_MISSING,
+ * PE_C_BAD_ADDRESS of the return address. Last PE_C_NOT_RISING, but for interrupts: so a walk ends. */
+uint32_t pe_c_step(const uint8_t *bytes, size_t length, const pe_c_image_info *image, const pe_c_section *sections,
+                   size_t count, const uint8_t *code, size_t code_length, const uint8_t *stack, size_t stack_length,
+                   pe_c_frame *frame) PE_C_RESULT(3, 10);
+
+/* Finds the registers of the caller of a leaf function, one that no function of the table covers: its return address is at
+ * rsp. It writes them over those of the frame. The stack is as in pe_c_step.
+ * Errors: PE_C_MISSING of the return address; PE_C_BAD_ADDRESS where it is the last word below 2^64. */
+uint32_t pe_c_leaf(const uint8_t *stack, size_t stack_length, pe_c_frame *frame) PE_C_RESULT(3);
 
 /* ---- ARM64 functions and unwind records
  *

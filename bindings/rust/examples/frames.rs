@@ -1,45 +1,34 @@
-use pe_c::{Code, Error, Image, Mode, Register};
+use pe_c::{End, Frames, Image, Module, Registers, Stack};
 
-/// What to undo of one unwind record.
-pub struct Frame {
-    /// The codes to undo, in order. Each has run once `code_offset` bytes of the function have.
-    pub codes: Vec<Code>,
-    /// The frame register and its offset in bytes, if there is one. Saves count from the register less its offset once the
-    /// record's `SetFrame` has run, and in all of a record that names the register and does not set it; else from rsp.
-    pub frame_register: Option<(Register, u32)>,
-}
-
-/// What to undo at an RVA of an x64 function: its own record, of which only what has run applies inside the prolog, and
-/// then, whole, each record to which it is chained, up to the root. Nothing without such a function.
-pub fn frames_at(bytes: &[u8], rva: u32) -> Result<Vec<Frame>, Error> {
-    let image = Image::parse(bytes, Mode::Permissive)?;
-    let mut frames = Vec::new();
-    let Some(functions) = image.functions()? else { return Ok(frames) };
-    let Some(function) = functions.find(rva)? else { return Ok(frames) };
-    let mut offset = rva.saturating_sub(function.begin);
-    for record in functions.plan(function) {
-        let record = record?;
-        let mut codes = Vec::new();
-        for code in record.codes() {
-            let code = code?;
-            if u32::from(code.code_offset) <= offset {
-                codes.push(code);
-            }
-        }
-        frames.push(Frame { codes, frame_register: record.frame() });
-        offset = u32::MAX;
-    }
-    Ok(frames)
+/// The instruction pointers of a thread's frames, from the top frame outwards, at most 1,000, and why there are no more. The
+/// images are those of the thread's process, each with the address where it is loaded, in ascending order.
+pub fn backtrace(images: &[(u64, Image<'_>)], registers: Registers, stack: Stack<'_>) -> (Vec<u64>, Option<End>) {
+    let module = |address| {
+        let index = images.partition_point(|(base, _)| *base <= address).checked_sub(1)?;
+        let (base, image) = images.get(index)?;
+        Some(Module { image, base: *base })
+    };
+    let mut frames = Frames::new(registers, 1000, module, |_| Some(stack));
+    let pointers = frames.by_ref().map(|frame| frame.registers.rip).collect();
+    (pointers, frames.end())
 }
 
 fn main() -> Result<(), Box<dyn std::error::Error>> {
+    // The frames of a thread in one image. Its stack starts at address 20000 with the words that are named.
     let arguments: Vec<String> = std::env::args().skip(1).collect();
-    let [file, rva] = arguments.as_slice() else { return Err("usage: frames FILE HEXRVA".into()) };
-    for frame in frames_at(&std::fs::read(file)?, u32::from_str_radix(rva, 16)?)? {
-        println!("frame register {:?}", frame.frame_register);
-        for code in frame.codes {
-            println!("{} {:?}", code.code_offset, code.operation);
-        }
+    let [file, numbers @ ..] = arguments.as_slice() else { return Err("usage: frames FILE BASE RIP WORD..".into()) };
+    let numbers = numbers.iter().map(|it| u64::from_str_radix(it, 16)).collect::<Result<Vec<_>, _>>()?;
+    let [base, rip, words @ ..] = numbers.as_slice() else { return Err("usage: frames FILE BASE RIP WORD..".into()) };
+    let data = std::fs::read(file)?;
+    let image = Image::parse(&data, pe_c::Mode::Permissive)?;
+    let bytes: Vec<u8> = words.iter().flat_map(|word| word.to_le_bytes()).collect();
+    let stack = Stack { start: 0x2_0000, bytes: &bytes };
+    let mut registers = Registers { rip: *rip, ..Registers::default() };
+    registers.set_rsp(stack.start);
+    let (pointers, end) = backtrace(&[(*base, image)], registers, stack);
+    for pointer in pointers {
+        println!("{pointer:x}");
     }
+    println!("{end:?}");
     Ok(())
 }

@@ -273,6 +273,20 @@ fn read_by_lies(bytes: &[u8], random: &mut Random, seen: &mut Seen) {
     let mut started = sys::Plan::default();
     unsafe { sys::pe_c_plan_from(few, &mut started) };
     walk_of_image!(pe_c_next_record(started), Record);
+    let mut frame = sys::Frame {
+        registers: sys::Registers { general: [random.edge(number); 16], xmm: [index; 32], rip: few.into() },
+        stack_start: random.edge(number),
+        address: 0,
+        function: sys::Function { begin: few % 64, end: few, unwind: directory.virtual_address },
+        rva: few % 96,
+    };
+    let (first, count) = (sections.as_ptr(), sections.len());
+    // SAFETY: as above. The bytes of the image stand for the code and for the stack.
+    unsafe {
+        let step = sys::pe_c_step(start, length, &image, first, count, start, length, start, length, &mut frame);
+        let leaf = sys::pe_c_leaf(start, length, &mut frame);
+        seen.refusals += u64::from(step != 0) + u64::from(leaf != 0);
+    }
 }
 
 /// The arguments: the seconds, the seed, and the files.

@@ -77,7 +77,7 @@ macro_rules! errors {
     };
 }
 
-// Written by tools/make_errors.
+// Written by tools/make_errors, but for those of steps.
 errors! {
     /// Out of memory. Only [`Image::parse`], [`Image::attach`] and [`Image::detach`] return it.
     MEMORY = 1;
@@ -153,6 +153,17 @@ errors! {
     SIGN_TABLE_OFFSET = 205;
     /// Image with the certificate has 2^32 bytes or more.
     SIGN_TOO_LARGE = 206;
+    // Of steps of a stack walk, which pe_core does not make.
+    /// Eight bytes of memory are missing: [`StepError::Missing`](crate::StepError::Missing).
+    MISSING = 102;
+    /// Address and the offset of an unwind code do not fit 64 bits: [`StepError::Address`](crate::StepError::Address).
+    BAD_ADDRESS = 103;
+    /// Unwind operation cannot be undone.
+    BAD_OPERATION = 104;
+    /// Stack pointer of the caller is not above that of the function: [`StepError::NotRising`](crate::StepError::NotRising).
+    NOT_RISING = 105;
+    /// More than 32 unwind records are chained.
+    LONG_CHAIN = 106;
 }
 
 impl Error {
@@ -167,6 +178,11 @@ impl Error {
             sys::DONE => Ok(()),
             number => Err(Error(number)),
         }
+    }
+
+    /// The error with the number of a result.
+    pub(crate) const fn with_number(number: u32) -> Error {
+        Error(number)
     }
 }
 
@@ -443,6 +459,29 @@ impl<'a> Image<'a> {
         // SAFETY: as above, and `more` is lent for the call.
         let number = unsafe { call(bytes.as_ptr(), bytes.len(), &self.info, first, count, more, index, &mut out) };
         returned(number, out)
+    }
+
+    /// Makes a step of a stack walk, and returns its number.
+    pub(crate) fn step_frame(&self, code: &[u8], stack: &[u8], frame: &mut sys::Frame) -> u32 {
+        let (bytes, sections) = (self.bytes, &self.sections);
+        let (first, count) = (sections.as_ptr(), sections.len());
+        let (code, code_length) = (code.as_ptr(), code.len());
+        let (stack, stack_length) = (stack.as_ptr(), stack.len());
+        // SAFETY: as above; the two further slices and the frame are lent for the call.
+        unsafe {
+            sys::pe_c_step(
+                bytes.as_ptr(),
+                bytes.len(),
+                &self.info,
+                first,
+                count,
+                code,
+                code_length,
+                stack,
+                stack_length,
+                frame,
+            )
+        }
     }
 
     /// Makes a call that moves a walk.

@@ -12,6 +12,7 @@
 //! | certificates | [`certificates`](Image::certificates) | [certificate table] |
 //! | signing | [`digest_ranges`](Image::digest_ranges), [`checksum`](Image::checksum), [`attach`](Image::attach), [`detach`](Image::detach) | [image hash] |
 //! | unwind data | [`functions`](Image::functions), [`arm64_functions`](Image::arm64_functions) | [x64], [ARM64] |
+//! | a stack walk | [`Frames`]; one step of it [`Functions::step`], [`Registers::leaf`] | [x64] |
 //! | exports, imports | [`exports`](Image::exports), [`export_addresses`](Image::export_addresses), [`libraries`](Image::libraries) | [.edata], [.idata] |
 //! | resources | [`version`](Image::version), [`version_text`](Image::version_text), [`manifest`](Image::manifest) | [version information] |
 //!
@@ -28,8 +29,8 @@
 //! - An `Image` borrows the bytes of the file or module. Names, bodies and texts are slices of these bytes: they outlive the `Image`.
 //! - A directory that is absent is `Ok(None)`; a damaged one is an [`Error`]. An error in one part does not affect another.
 //! - Every list is an iterator. After an `Err` item it returns `None`.
-//! - No bytes make a call panic or loop forever. Only [`Image::parse`], for the section headers, [`Image::attach`],
-//!   [`Image::detach`] and [`Text::to_string_lossy`] allocate.
+//! - No bytes, registers or memory make a call panic or loop forever. Only [`Image::parse`], for the section headers,
+//!   [`Image::attach`], [`Image::detach`] and [`Text::to_string_lossy`] allocate.
 //! - An `offset` counts bytes from the start of the image's bytes: a file offset, or in a module in memory an RVA.
 //! - The docs of a call list its errors in the order in which they are tested.
 //!
@@ -63,6 +64,7 @@ mod arm64;
 mod certificates;
 mod debug;
 mod exports;
+mod frames;
 mod image;
 mod imports;
 mod signing;
@@ -79,12 +81,13 @@ pub use arm64::{
 pub use certificates::{Certificate, Certificates};
 pub use debug::{DebugEntries, Pdb20, Pogo, PogoEntries, PogoEntry, Repro, SymbolKey};
 pub use exports::{AddressTable, Export, Exported, Exports};
+pub use frames::{End, Frame, Frames, Module, Stack, StepError, Way};
 pub use image::{DirectoryIndex, Error, Image, Layout, Mode};
 pub use imports::{Import, Imports, Libraries, Library};
 pub use signing::{Checksum, DigestRanges, Placement};
 pub use symbol_server::{Guid, SymbolPath};
 pub use sys::{
-    Arm64Function, Arm64Packed, Arm64Scope, DebugEntry, Directory, Function, ImageInfo, Scope, Section, VcFeatures,
+    Arm64Function, Arm64Packed, Arm64Scope, DebugEntry, Directory, Function, ImageInfo, Registers, Scope, Section, VcFeatures,
 };
 pub use version::{FixedVersion, Text, VersionName};
 pub use x64::{Code, Codes, Functions, Handler, Offset, Operation, Plan, Register, Scopes, UnwindRecord};

@@ -319,6 +319,38 @@ Plan, 32 {
     limit: u64,
 });
 record!(
+/// The registers of a thread that unwinding restores.
+///
+/// ```
+/// let mut registers = pe_c::Registers::default();
+/// registers.set_rsp(0x2_0000);
+/// registers.set_xmm(6, 1 << 64);
+/// assert_eq!((registers.general[4], registers.xmm[13]), (0x2_0000, 1));
+/// assert_eq!((registers.rsp(), registers.xmm(6)), (0x2_0000, 1 << 64));
+/// ```
+Registers, 392 {
+    /// rax, rcx, rdx, rbx, rsp, rbp, rsi, rdi, r8 to r15.
+    general: [u64; 16],
+    /// Of xmm0 to xmm15 the low half and then the high half.
+    xmm: [u64; 32],
+    /// The instruction pointer.
+    rip: u64,
+});
+record!(
+/// A frame of a stack walk, as [`pe_c_step`] takes it and leaves it.
+Frame, 424 {
+    /// Inside the function; after a step those of its caller.
+    registers: Registers,
+    /// Address of the first byte of the stack that is passed.
+    stack_start: u64,
+    /// The address that an error speaks of.
+    address: u64,
+    /// The function that lookup found; [`pe_c_leaf`] does not read it.
+    function: Function,
+    /// `rip` less the address where the image is loaded; [`pe_c_leaf`] does not read it.
+    rva: u32,
+});
+record!(
 /// An entry of the ARM64 function table.
 Arm64Function, 8 {
     /// RVA of its first byte.
@@ -646,6 +678,9 @@ calls_of_bytes! {
     pe_c_scope_table(handler_data: *const Range) -> Range;
     /// Returns the next entry of a scope table.
     pe_c_next_scope(walk: *mut Range) -> Scope;
+    /// Finds the registers of the caller of a leaf function, by the bytes of its stack, and writes them over those of the
+    /// frame.
+    pe_c_leaf() -> Frame;
     /// Returns the ARM64 function with an index.
     pe_c_arm64_function_at(table: *const Range, index: u64) -> Arm64Function;
     /// Returns the next epilog scope of an ARM64 unwind record.
@@ -677,6 +712,8 @@ calls_of_an_image! {
     pe_c_unwind_record(unwind: u32) -> Record;
     /// Returns the next record of a plan.
     pe_c_next_record(plan: *mut Plan) -> Record;
+    /// Finds the registers of an x64 function's caller, and writes them over those of the frame.
+    pe_c_step(code: *const u8, code_length: usize, stack: *const u8, stack_length: usize) -> Frame;
     /// Returns the range of the ARM64 function table.
     pe_c_arm64_table() -> Range;
     /// Returns the unwind record of an ARM64 function, unless its unwind data is packed.

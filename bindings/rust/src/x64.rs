@@ -236,6 +236,11 @@ pub struct Functions<'i, 'a> {
 }
 
 impl<'i, 'a> Functions<'i, 'a> {
+    /// The image that has them.
+    pub(crate) fn image(&self) -> &'i Image<'a> {
+        self.image
+    }
+
     /// The number of functions.
     pub fn len(&self) -> u64 {
         self.table.length / 12

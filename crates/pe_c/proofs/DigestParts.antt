@@ -1,11 +1,10 @@
 -- The ranges of a digest as callers get them.
 use Rattle.std.proofs.Common.{◌≡◌, ℕ, List, [], ◌∷◌, ◌++◌, length, map, flat_map, slice_index_or, Result, Ok, Err, refl, ap, sym, ◌∙◌}
-use Rattle.pe_core.specs.Bytes.{range}
 use Rattle.pe_core.specs.Header.{HeaderView}
 use Rattle.pe_core.specs.Offsets.{bytes_in}
 use Rattle.pe_core.specs.Refusals.{Refusal, ◌>>=◌}
 use Rattle.pe_core.specs.declared.byte_range.ByteRange.{ByteRange}
-use Rattle.pe_sign.specs.Digest.{Covered, covered, digest_of, left_out_of}
+use Rattle.pe_sign.specs.Digest.{covered, digest_of, left_out_of}
 use Rattle.pe_sign.specs.DigestRanges.{covered_ranges, digest_ranges_of}
 use Rattle.pe_sign.specs.declared.digest.LeftOut.{LeftOut}
 use Rattle.pe_sign.specs.declared.file_ranges.DigestRanges.{DigestRanges}

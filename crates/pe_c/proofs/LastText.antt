@@ -1,12 +1,16 @@
--- A number behind the last refusal says nothing of its own.
-use Rattle.std.proofs.Common.{◌≡◌, ℕ, ◌≤◌, sym, arith}
+-- A number behind the last one with a text says nothing of its own.
+use Rattle.std.proofs.Common.{◌≡◌, ℕ, ◌-◌, ◌≤◌, sym, arith}
 use Rattle.std.specs.Prelude.{codes}
 use Rattle.std.proofs.lemmas.List.{get_or_past}
-use Rattle.pe_c.specs.Texts.{texts, refusal_text, sign_texts, sign_text}
+use Rattle.pe_c.specs.Texts.{texts, refusal_text, other_texts, other_text, sign_texts, sign_text}
 
 pub text_past : (n : ℕ) → 38 ≤ n → codes "unknown result" ≡ refusal_text n
 unfolding refusal_text
 text_past n h = sym (get_or_past texts n (codes "unknown result") (omega arith))
+
+pub other_text_past : (n : ℕ) → 107 ≤ n → codes "unknown result" ≡ other_text n
+unfolding other_text
+other_text_past n h = sym (get_or_past other_texts (n - 100) (codes "unknown result") (omega arith))
 
 pub sign_text_past : (n : ℕ) → 6 ≤ n → codes "unknown result" ≡ sign_text n
 unfolding sign_text

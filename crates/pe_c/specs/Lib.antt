@@ -13,6 +13,7 @@ pub mod Plans
 pub mod Ranges
 pub mod Runs
 pub mod Signing
+pub mod StackFrames
 pub mod Texts
 pub mod Unwinding
 pub mod Versions

@@ -1,6 +1,6 @@
 -- The texts of results.
 -- `tools/make_errors` writes the list of errors.
-use Rattle.std.specs.Prelude.{ℕ, ◌-◌, ◌==◌, List, [], ◌∷◌, nat_lt, slice_index_or, codes, if◌then◌else◌}
+use Rattle.std.specs.Prelude.{ℕ, ◌-◌, nat_lt, List, [], ◌∷◌, slice_index_or, codes, if◌then◌else◌}
 
 -- the texts of 0 and of the refusals, in the order of their numbers
 abbrev pub texts : List (List ℕ)
@@ -49,6 +49,21 @@ texts =
 unfoldable pub refusal_text : ℕ → List ℕ
 refusal_text n = slice_index_or texts n (codes "unknown result")
 
+-- the texts of the results from 100 on, which are no refusals of bytes
+abbrev pub other_texts : List (List ℕ)
+other_texts =
+    codes "there is nothing of the kind" ∷
+    codes "the array is too small" ∷
+    codes "memory is missing" ∷
+    codes "address and the offset of an unwind code do not fit 64 bits" ∷
+    codes "unwind operation cannot be undone" ∷
+    codes "stack pointer of the caller is not above that of the function" ∷
+    codes "more than 32 unwind records are chained" ∷
+    []
+
+unfoldable pub other_text : ℕ → List ℕ
+other_text n = slice_index_or other_texts (n - 100) (codes "unknown result")
+
 -- the texts of the refusals of signing, in the order of their numbers
 abbrev pub sign_texts : List (List ℕ)
 sign_texts =
@@ -64,11 +79,7 @@ sign_texts =
 unfoldable pub sign_text : ℕ → List ℕ
 sign_text n = slice_index_or sign_texts n (codes "unknown result")
 
--- the text of 0 or of the number of any refusal
-abbrev pub error_text : ℕ → List ℕ
-error_text n = if nat_lt n 201 then refusal_text n else sign_text (n - 201)
-
 -- the text of the number of a result
 unfoldable pub result_text : ℕ → List ℕ
 result_text n =
-    if n == 100 then codes "there is nothing of the kind" else (if n == 101 then codes "the array is too small" else error_text n)
+    if nat_lt n 100 then refusal_text n else (if nat_lt n 201 then other_text n else sign_text (n - 201))

@@ -24,6 +24,7 @@ mod plan;
 mod ranges;
 mod results;
 mod signing;
+mod stack_frames;
 mod texts;
 mod unwinding;
 mod version;

@@ -1,5 +1,5 @@
-//! The results of calls as numbers: 0, the number of an error of pe_core, 100 and 101, or that of an error of signing, from
-//! 201 on. Callers may store them: the numbers stay the same from version to version.
+//! The results of calls as numbers: 0, the number of an error of pe_core, one from 100 on, which this crate alone has, or that
+//! of an error of signing, from 201 on. Callers may store them: the numbers stay the same from version to version.
 
 ghost use Rattle.std.specs.Prelude.{◌≡◌};
 ghost use Rattle.pe_core.specs.Refusals.{kind_of, kind_of_reason, answer_of};
@@ -19,6 +19,23 @@ pub const NOTHING: u32 = 100;
 
 /// The array that the caller passes is too small.
 pub const ROOM: u32 = 101;
+
+// Of steps of a stack walk, which read no more of the image: the errors of pe_frame, and one of their own.
+
+/// Eight bytes of memory are not in the piece that the caller passes.
+pub const MISSING: u32 = 102;
+
+/// An address from which an unwind code counts: its sum passes 2^64, or the frame register lies below its offset.
+pub const BAD_ADDRESS: u32 = 103;
+
+/// An unwind operation that no step undoes.
+pub const BAD_OPERATION: u32 = 104;
+
+/// The stack pointer of the caller is not above that of the function.
+pub const NOT_RISING: u32 = 105;
+
+/// More records are chained than a step takes.
+pub const LONG_CHAIN: u32 = 106;
 
 /// Returns the number of this ABI, which its name has too. The header and the cargo crate refer to that name, so that a
 /// program that was compiled for another ABI does not link. The number grows with each change that breaks callers.

@@ -1,9 +1,9 @@
 //! The texts of the results of calls, for a caller's messages.
 
-ghost use Rattle.std.specs.Prelude.{◌≡◌, length, take, drop, ◌++◌};
-ghost use Rattle.pe_c.specs.Texts.{refusal_text, result_text, sign_text};
+ghost use Rattle.std.specs.Prelude.{◌≡◌, ◌≤◌, length, take, drop, ◌++◌};
+ghost use Rattle.pe_c.specs.Texts.{refusal_text, other_text, result_text, sign_text};
 
-use crate::results::{NOTHING, ROOM};
+use crate::results::{BAD_ADDRESS, BAD_OPERATION, LONG_CHAIN, MISSING, NOT_RISING, NOTHING, ROOM};
 
 /// The number of the first error of signing.
 const SIGNING: u32 = 201;
@@ -56,6 +56,24 @@ fn refusal_text(number: u32) -> &'static str
     }
 }
 
+/// The text of the number of a result that is no error of pe_core.
+#[tactic(auto, unfolding(crate::specs::Texts::other_text))]
+fn other_text(number: u32) -> &'static str
+    requires { 100 ≤ number }
+    ensures { result.now ≡ other_text number }
+{
+    match number {
+        NOTHING => "there is nothing of the kind",
+        ROOM => "the array is too small",
+        MISSING => "memory is missing",
+        BAD_ADDRESS => "address and the offset of an unwind code do not fit 64 bits",
+        BAD_OPERATION => "unwind operation cannot be undone",
+        NOT_RISING => "stack pointer of the caller is not above that of the function",
+        LONG_CHAIN => "more than 32 unwind records are chained",
+        _ => "unknown result",
+    }
+}
+
 /// The text of an error of signing, by its number from `SIGNING` on. `tools/make_errors` writes the arms.
 #[tactic(auto, unfolding(crate::specs::Texts::sign_text))]
 fn sign_text(number: u32) -> &'static str
@@ -77,11 +95,12 @@ fn sign_text(number: u32) -> &'static str
 fn text_of(number: u32) -> &'static str
     ensures { result.now ≡ result_text number }
 {
-    match number {
-        NOTHING => "there is nothing of the kind",
-        ROOM => "the array is too small",
-        _ if number < SIGNING => refusal_text(number),
-        _ => sign_text(number - SIGNING),
+    if number < NOTHING {
+        refusal_text(number)
+    } else if number < SIGNING {
+        other_text(number)
+    } else {
+        sign_text(number - SIGNING)
     }
 }
 

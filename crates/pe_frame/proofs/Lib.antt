@@ -10,3 +10,11 @@ pub mod Frames
 pub mod Tails
 pub mod Returned
 pub mod Samples
+pub mod Arm64Streams
+pub mod Arm64Effects
+pub mod Arm64Nexts
+pub mod Arm64Calls
+pub mod Arm64Runs
+pub mod Arm64Reverted
+pub mod Arm64Frames
+pub mod Arm64Samples

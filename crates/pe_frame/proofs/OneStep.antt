@@ -12,7 +12,7 @@ use Rattle.pe_frame.specs.Undoing.{◌>>=◌, entered, pointer}
 use Rattle.pe_frame.specs.Steps.{known_codes, HasCodes, frame_of, limit_of, Enters, Then, Undoes, returned, rising, Steps, OfCodes, error_kind, by_kind}
 use Rattle.pe_frame.specs.Epilogs.{executed_all, StepsFrom}
 
-same_then : {A B : Type 0} (x y : Result A FrameError) (f : A → Result B FrameError) → by_kind x ≡ by_kind y → by_kind (x >>= f) ≡ by_kind (y >>= f)
+pub same_then : {A B : Type 0} (x y : Result A FrameError) (f : A → Result B FrameError) → by_kind x ≡ by_kind y → by_kind (x >>= f) ≡ by_kind (y >>= f)
 same_then (Ok x) (Ok y) f e = let same : x ≡ y = cc in ap (λ z. by_kind (f z)) same
 same_then (Ok x) (Err d) f e = cc
 same_then (Err d) (Ok y) f e = cc

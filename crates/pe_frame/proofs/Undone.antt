@@ -130,7 +130,7 @@ pub load_xmm : (m : ℕ → Option ℕ) (b : ℕ) (r : Register) (o : StackFrame
 load_xmm m b r o g v least most low high small =
     rw (xmm_ok (SaveXMM128 r o) r.0 least most) (rw (above_ok b (offset_number o) (omega arith)) (rw (xmm_words_ok m (b + offset_number o) v low high small) refl))
 
-restored_by : (old now next : ℕ) (b same : Bool) → (same ≡ true → next ≡ old) → (same ≡ false → next ≡ now) → chosen b old next ≡ chosen (same || b) old now
+pub restored_by : (old now next : ℕ) (b same : Bool) → (same ≡ true → next ≡ old) → (same ≡ false → next ≡ now) → chosen b old next ≡ chosen (same || b) old now
 restored_by old now next true true is not = refl
 restored_by old now next true false is not = refl
 restored_by old now next false true is not = is refl

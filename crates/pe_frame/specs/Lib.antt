@@ -8,3 +8,10 @@ pub mod Machine
 pub mod Frames
 pub mod EpilogFrames
 pub mod Samples
+pub mod Arm64Operations
+pub mod Arm64Undoing
+pub mod Arm64Steps
+pub mod Arm64Reading
+pub mod Arm64Machine
+pub mod Arm64Frames
+pub mod Arm64Samples

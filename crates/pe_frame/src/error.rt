@@ -1,6 +1,6 @@
 //! Why a step is refused.
 
-use pe_unwind::UnwindOperation;
+use pe_unwind::{Arm64UnwindCode, UnwindOperation};
 
 /// Why the caller's registers can't be found.
 #[derive(Debug, Drop, thiserror::Error)]
@@ -19,7 +19,10 @@ pub enum FrameError {
     /// register, or `SaveXMM`, which saves half of a register and is in records of version 1 alone.
     #[error("unwind operation cannot be undone: {0:?}")]
     Operation(UnwindOperation),
-    /// The stack pointer of the caller, which is not above that of the function.
+    /// An ARM64 unwind code that no step undoes.
+    #[error("unwind code cannot be undone: {0:?}")]
+    Arm64Code(Arm64UnwindCode),
+    /// The stack pointer of the caller, which is not above that of the function; on ARM64 it is below that.
     #[error("stack pointer {0:#x} of the caller is not above that of the function")]
     NotRising(u64),
 }

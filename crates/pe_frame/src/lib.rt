@@ -1,16 +1,20 @@
-//! One step of a stack walk on x64: the registers of a function's caller, from its own registers, its unwind records and
-//! the memory of its stack.
+//! One step of a stack walk on x64 and on ARM64: the registers of a function's caller, from its own registers, its unwind
+//! records and the memory of its stack.
 //!
-//! A prolog pushes registers, allocates stack, may set a frame register and saves further registers. Unwind codes say what
-//! it did, the last step first, so that undoing them in turn leads back to the function's entry, where the stack pointer
-//! points at the return address. [Microsoft's page](https://learn.microsoft.com/cpp/build/exception-handling-x64) has the
+//! On x64 a prolog pushes registers, allocates stack, may set a frame register and saves further registers. Unwind codes say
+//! what it did, the last step first, so that undoing them in turn leads back to the function's entry, where the stack
+//! pointer points at the return address. [Microsoft's page](https://learn.microsoft.com/cpp/build/exception-handling-x64) has the
 //! codes and the procedure.
 //!
 //! A walk is `UnwindPlan::of` of pe_plan and [`step`] in turn, or [`leaf`] where no function covers the address. What a
 //! caller of `step` looks up, and how a walk ends, is said there. In an epilog the codes do not hold any more:
 //! [`step_with_code`] knows one by its bytes.
+//!
+//! On ARM64 a walk is `ExceptionData::get_unwind_info_arm64` of pe_unwind and [`step_arm64`] in turn, or [`leaf_arm64`]. How
+//! ARM64 differs is said in `arm64`.
 #![tactic(auto)]
 
+mod arm64;
 mod epilog;
 mod error;
 mod frame;
@@ -20,6 +24,7 @@ mod record;
 mod registers;
 mod undo;
 
+pub use arm64::{Arm64Registers, leaf_arm64, step_arm64};
 pub use error::FrameError;
 pub use frame::{leaf, step, step_with_code};
 pub use memory::{Memory, Stack};

@@ -23,7 +23,7 @@ const NUMBERS_OF_A_WORD: u128 = 0x1_0000_0000_0000_0000;
 const RSP_OF_MACHINE_FRAME: u64 = 24;
 
 /// The number of the eight bytes at an address.
-fn number<M: Memory>(memory: &M, address: u64) -> Result<u64, FrameError>
+pub(crate) fn number<M: Memory>(memory: &M, address: u64) -> Result<u64, FrameError>
     ensures { result ≡ number (M.word memory.now) address }
 {
     match memory.u64_at(address) {
@@ -33,7 +33,7 @@ fn number<M: Memory>(memory: &M, address: u64) -> Result<u64, FrameError>
 }
 
 /// The address so many bytes above another.
-fn above(address: u64, offset: u64) -> Result<u64, FrameError>
+pub(crate) fn above(address: u64, offset: u64) -> Result<u64, FrameError>
     ensures { result ≡ above address offset }
 {
     match address.checked_add(offset) {

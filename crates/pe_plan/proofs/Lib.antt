@@ -7,3 +7,4 @@ pub mod Roots
 pub mod OnePlan
 pub mod Walks
 pub mod SomePlan
+pub mod ShortPlans

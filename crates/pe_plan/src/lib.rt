@@ -5,11 +5,14 @@
 //! them. A hostile image may chain records in a loop: a plan is proved to be `FunctionCycle` exactly if the chain never
 //! ends, and otherwise all records or the first error.
 //!
-//! A caller passes an RVA to `UnwindPlan::of`, and the records that it returns to `step` of pe_frame.
+//! A caller passes an RVA to `UnwindPlan::of`, and the records that it returns to `step` of pe_frame. One that does not
+//! allocate takes a `ShortPlan`.
 #![tactic(auto)]
 
 mod chain;
 pub mod laws;
 mod plan;
+mod short_plan;
 
 pub use plan::UnwindPlan;
+pub use short_plan::ShortPlan;

@@ -1,10 +1,9 @@
 -- One range of a digest after the other.
-use Rattle.std.proofs.Common.{◌≡◌, ℕ, ◌+◌, ◌-◌, ◌<◌, ◌≤◌, ◌||◌, ◌⊎◌, Bool, true, false, List, [], ◌∷◌, refl, ap, sym, ◌∙◌, subst, inl, inr, ⊎_elim, arith}
-use Rattle.std.specs.Prelude.{nat_le, nat_lt, if◌then◌else◌}
+use Rattle.std.proofs.Common.{◌≡◌, ℕ, ◌+◌, ◌-◌, ◌<◌, ◌≤◌, ◌||◌, ◌⊎◌, Bool, true, false, List, [], ◌∷◌, refl, ap, sym, ◌∙◌, ⊎_elim, arith}
 use Rattle.std.proofs.lemmas.Bool.{cases_lt}
 use Rattle.std.proofs.lemmas.Bool.Decides.{nat_tests}
 use Rattle.pe_core.specs.declared.byte_range.ByteRange.{ByteRange}
-use Rattle.pe_sign.specs.Digest.{is_in, is_left_out, nothing}
+use Rattle.pe_sign.specs.Digest.{is_in, is_left_out}
 use Rattle.pe_sign.specs.DigestRanges.{in_array, kept_ranges}
 use Rattle.pe_sign.specs.DigestSteps.{Between, IsFirstRange, one_if_after, parts_after}
 use Rattle.pe_sign.specs.declared.digest.LeftOut.{LeftOut}
@@ -56,66 +55,6 @@ has_none r start end h k from to = grind (arith, nat_tests)
 
 pub has_first : (r : ByteRange) → 0 < r.length → is_in r r.offset ≡ true
 has_first r h = grind (arith, nat_tests)
-
-all_false : (a b c : Bool) → a ≡ false → b ≡ false → c ≡ false → ((a || b) || c) ≡ false
-all_false a b c e f g = rw (e, f, g) refl
-
-pub each_false : (a b c : Bool) → ((a || b) || c) ≡ false → (a ≡ false) × (b ≡ false) × (c ≡ false)
-each_false true b c h = absurd cc
-each_false false true c h = absurd cc
-each_false false false true h = absurd cc
-each_false false false false h = (refl, refl, refl)
-
-pub none_between : (l : LeftOut) (p x y z : ℕ) → z ≤ y → y ≤ x → Between (is_in l.checksum) false p x → Between (is_in l.directory_entry) false p y → Between (is_in l.certificates) false p z →
-    Between (is_left_out l) false p z
-none_between l p x y z u v a b c k from to =
-    all_false (is_in l.checksum k) (is_in l.directory_entry k) (is_in l.certificates k) (a k from (omega (arith, u, v, to))) (b k from (omega (arith, u, to))) (c k from to)
-
--- a part has the offset and starts there
-abbrev pub StartsAt : ByteRange → ℕ → Type 0
-StartsAt r p = (is_in r p ≡ true) × (p ≡ r.offset)
-
--- one of the parts starts at the offset
-abbrev pub OneStarts : LeftOut → ℕ → Type 0
-OneStarts l p = StartsAt l.checksum p ⊎ (StartsAt l.directory_entry p ⊎ StartsAt l.certificates p)
-
-pub one_starts : (l : LeftOut) (x y z end : ℕ) → z ≤ y → y ≤ x → x ≤ end → (x < end → StartsAt l.checksum x) → (y < x → StartsAt l.directory_entry y) → (z < y → StartsAt l.certificates z) → z < end → OneStarts l z
-one_starts l x y z end u v w a b c h =
-    ⊎_elim (λ (i : z < y). inr (inr (c i)))
-    (λ (i : y ≤ z).
-    let at : y ≡ z = omega (arith, i, u) in
-    ⊎_elim (λ (j : y < x). inr (inl (subst (λ (p : ℕ). StartsAt l.directory_entry p) at (b j))))
-    (λ (j : x ≤ y). let there : x ≡ z = omega (arith, j, v, at) in inl (subst (λ (p : ℕ). StartsAt l.checksum p) there (a (omega (arith, there, h)))))
-    (cases_lt y x))
-    (cases_lt z y)
-
-pub is_left_out_there : (l : LeftOut) (p : ℕ) → OneStarts l p → is_left_out l p ≡ true
-is_left_out_there l p s =
-    ⊎_elim (λ (h : StartsAt l.checksum p). in_checksum l p h.0)
-    (λ (h : StartsAt l.directory_entry p ⊎ StartsAt l.certificates p).
-    ⊎_elim (λ (i : StartsAt l.directory_entry p). in_entry l p i.0) (λ (i : StartsAt l.certificates p). in_certificates l p i.0) h)
-    s
-
--- fewer parts start after a later offset
-later_one : (r : ByteRange) (p q : ℕ) → p ≤ q → one_if_after q r ≤ one_if_after p r
-later_one r p q h = grind (arith, nat_tests)
-
-fewer_one : (r : ByteRange) (p q : ℕ) → p < q → q ≡ r.offset → one_if_after q r + 1 ≤ one_if_after p r
-fewer_one r p q h e = grind (arith, nat_tests)
-
-pub later_parts : (l : LeftOut) (p q : ℕ) → p ≤ q → parts_after l q ≤ parts_after l p
-later_parts l p q h = omega (arith, later_one l.checksum p q h, later_one l.directory_entry p q h, later_one l.certificates p q h)
-
-pub fewer_parts : (l : LeftOut) (p q : ℕ) → p < q → OneStarts l q → parts_after l q < parts_after l p
-fewer_parts l p q h s =
-    let later : p ≤ q = omega (arith, h) in
-    let a = later_one l.checksum p q later in
-    let b = later_one l.directory_entry p q later in
-    let c = later_one l.certificates p q later in
-    ⊎_elim (λ (i : StartsAt l.checksum q). omega (arith, fewer_one l.checksum p q h i.1, b, c))
-    (λ (i : StartsAt l.directory_entry q ⊎ StartsAt l.certificates q).
-    ⊎_elim (λ (j : StartsAt l.directory_entry q). omega (arith, fewer_one l.directory_entry p q h j.1, a, c)) (λ (j : StartsAt l.certificates q). omega (arith, fewer_one l.certificates p q h j.1, a, b)) i)
-    s
 
 -- ---- four ranges are all of them
 

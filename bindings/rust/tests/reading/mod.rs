@@ -1,7 +1,10 @@
 //! Makes every call on an image and adds up what they return, for tests, the fuzz loop and the bench.
 #![allow(dead_code)]
 
-use pe_c::{Arm64Record, Arm64Unwinding, Error, Handler, Image, Layout, Mode, Placement, UnwindRecord, VersionName};
+use pe_c::{
+    Arm64Record, Arm64Unwinding, Error, Frames, Function, Functions, Handler, Image, Layout, Mode, Module, Placement,
+    Registers, Stack, StepError, UnwindRecord, VersionName,
+};
 
 /// What was read.
 #[derive(Clone, Copy, Debug, Default, PartialEq, Eq)]
@@ -137,6 +140,29 @@ fn read_record(record: &UnwindRecord, seen: &mut Seen) {
     }
 }
 
+/// A stack, which any registers of a function may point into.
+static STACK: [u8; 256] = [0x21; 256];
+
+/// Steps out of a function, from its start, its middle and its end, with and without its code; and a walk from there.
+fn step_out(image: &Image, functions: &Functions, function: Function, seen: &mut Seen) {
+    let stack = Stack { start: 0x2_0000, bytes: &STACK };
+    let mut registers = Registers { general: [0x2_0080; 16], ..Registers::default() };
+    registers.set_rsp(0x2_0010);
+    let middle = function.begin.wrapping_add(function.end.wrapping_sub(function.begin) / 2);
+    for rva in [function.begin, middle, function.end] {
+        for code in [[].as_slice(), image.code(rva, function.end)] {
+            let answer = functions.step(function, rva, code, &registers, stack);
+            if let Err(StepError::NotRising(rsp)) = answer {
+                assert!(rsp <= registers.rsp());
+            }
+            seen.item(answer.map_err(StepError::error));
+        }
+        registers.rip = rva.into();
+        let module = Module { image, base: 0 };
+        assert!(Frames::new(registers, 4, |_| Some(module), |_| Some(stack)).count() <= 4);
+    }
+}
+
 fn read_functions(image: &Image, seen: &mut Seen) {
     let Some(functions) = seen.keep(image.functions()) else {
         return;
@@ -152,6 +178,7 @@ fn read_functions(image: &Image, seen: &mut Seen) {
         if let Some(record) = seen.item(answer) {
             read_record(&record, seen);
         }
+        step_out(image, &functions, function, seen);
         for record in functions.plan(function).take(seen.most) {
             if let Some(record) = seen.item(record) {
                 read_record(&record, seen);

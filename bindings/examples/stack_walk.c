@@ -1,0 +1,68 @@
+#include "pe.h"
+
+/* The registers of the caller of an x64 frame, in place: by the image, which is loaded at `base` and has the frame's rip, and
+ * a piece of the thread's stack from address frame->stack_start on. In the top frame `is_call` is 0. In every other it is 1:
+ * its rip is a return address, so the call before it is looked up. PE_C_NOTHING where no function has made that call. */
+uint32_t caller_of(const uint8_t *bytes, size_t length, const pe_c_image_info *image, const pe_c_section *sections,
+                   uint64_t base, const uint8_t *stack, size_t stack_length, uint32_t is_call, pe_c_frame *frame)
+{
+    size_t count = image->number_of_sections, code_length = 0;
+    uint64_t offset = 0;
+    pe_c_range table = PE_C_EMPTY;
+    frame->rva = (uint32_t)(frame->registers.rip - base);
+    uint32_t result = pe_c_function_table(bytes, length, image, sections, count, &table);
+    if (result == PE_C_DONE)
+        result = pe_c_find_function(bytes, length, &table, frame->rva - is_call, &frame->function);
+    if (result == PE_C_NOTHING && !is_call)
+        return pe_c_leaf(stack, stack_length, frame);
+    if (result != PE_C_DONE)
+        return result;
+    /* The code tells whether the top frame is in an epilog. */
+    if (!is_call && pe_c_offset(image, sections, count, frame->rva, &offset) == PE_C_DONE && offset < length) {
+        code_length = frame->function.end - frame->rva;
+        if (code_length > length - offset)
+            code_length = 0;
+    }
+    return pe_c_step(bytes, length, image, sections, count, code_length ? bytes + offset : NULL, code_length, stack,
+                     stack_length, frame);
+}
+
+#include <inttypes.h>
+#include <stdio.h>
+#include <stdlib.h>
+
+static uint8_t bytes[1 << 20];
+static uint8_t stack[1 << 12];
+static pe_c_section sections[96];
+
+/* The frames of a thread in one image. Its stack starts at address 20000 with the words that are named:
+ *     stack_walk FILE BASE RIP WORD.. */
+int main(int argc, char **argv)
+{
+    FILE *file = argc > 3 ? fopen(argv[1], "rb") : NULL;
+    if (file == NULL)
+        return 2;
+    size_t length = fread(bytes, 1, sizeof bytes, file), stack_length = 0;
+    fclose(file);
+    uint64_t base = strtoull(argv[2], NULL, 16);
+    for (int i = 4; i < argc && stack_length < sizeof stack; i++, stack_length += 8)
+        for (int j = 0; j < 8; j++)
+            stack[stack_length + j] = (uint8_t)(strtoull(argv[i], NULL, 16) >> 8 * j);
+
+    pe_c_image_info image = PE_C_EMPTY;
+    uint32_t result = pe_c_image(bytes, length, PE_C_PERMISSIVE, &image);
+    if (result == PE_C_DONE)
+        result = pe_c_sections(bytes, length, &image, sections, 96);
+    pe_c_frame frame = PE_C_EMPTY;
+    frame.registers.rip = strtoull(argv[3], NULL, 16);
+    frame.registers.general[4] = frame.stack_start = 0x20000;
+    for (uint32_t depth = 0; result == PE_C_DONE && depth < 1000; depth++) {
+        printf("%" PRIx64 "\n", frame.registers.rip);
+        if (frame.registers.rip - base > UINT32_MAX)
+            return 0;
+        result = caller_of(bytes, length, &image, sections, base, stack, stack_length, depth > 0, &frame);
+    }
+    if (result == PE_C_MISSING)
+        printf("memory is missing at %" PRIx64 "\n", frame.address);
+    return result == PE_C_DONE || result == PE_C_NOTHING || result == PE_C_MISSING ? 0 : 1;
+}

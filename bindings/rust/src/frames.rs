@@ -1,0 +1,341 @@
+//! Stack walks on x64. A step finds the registers of a function's caller: in the table of functions it looks up the one that
+//! the instruction pointer is in, and undoes what that function's prolog did. A walk makes step after step, through all
+//! modules, from the innermost frame outwards. See
+//! [Microsoft's page](https://learn.microsoft.com/cpp/build/exception-handling-x64).
+//!
+//! A return address may be the end of its function, if the call before it is the last instruction, so a walk looks up the
+//! byte before it. The top frame alone, and one that an interrupt stopped, can be in an epilog, which its code tells.
+
+use crate::image::{Error, Image};
+use crate::sys::{self, Function, Registers};
+use crate::x64::{Functions, Operation};
+use core::fmt;
+
+/// A piece of a thread's memory: bytes, and the address of the first.
+#[derive(Clone, Copy, Debug)]
+pub struct Stack<'s> {
+    /// The address of the first byte.
+    pub start: u64,
+    /// The bytes.
+    pub bytes: &'s [u8],
+}
+
+/// Why the registers of the caller are not found.
+#[derive(Clone, Copy, Debug, PartialEq, Eq)]
+#[non_exhaustive]
+pub enum StepError {
+    /// The eight bytes at this address are not in the piece of memory.
+    Missing(u64),
+    /// This address and the offset of an unwind code do not fit 64 bits, or it is that of a frame register below its offset.
+    Address(u64),
+    /// This stack pointer of the caller is not above that of the function.
+    NotRising(u64),
+    /// The function's records: they cannot be read, a code of theirs is truncated, invalid or cannot be undone, or more than
+    /// 32 of them are chained.
+    Records(Error),
+}
+
+impl StepError {
+    /// The same without the address.
+    pub fn error(self) -> Error {
+        match self {
+            StepError::Missing(_) => Error::MISSING,
+            StepError::Address(_) => Error::BAD_ADDRESS,
+            StepError::NotRising(_) => Error::NOT_RISING,
+            StepError::Records(error) => error,
+        }
+    }
+}
+
+impl fmt::Display for StepError {
+    fn fmt(&self, f: &mut fmt::Formatter<'_>) -> fmt::Result {
+        match self {
+            StepError::Missing(address) | StepError::Address(address) | StepError::NotRising(address) => {
+                write!(f, "{}: {address:#x}", self.error())
+            }
+            StepError::Records(error) => write!(f, "{error}"),
+        }
+    }
+}
+
+impl core::error::Error for StepError {}
+
+/// The registers after a step, by the number that it returned.
+fn stepped(number: u32, frame: &sys::Frame) -> Result<Registers, StepError> {
+    let error = Error::with_number(number);
+    match error {
+        _ if number == sys::DONE => Ok(frame.registers),
+        Error::MISSING => Err(StepError::Missing(frame.address)),
+        Error::BAD_ADDRESS => Err(StepError::Address(frame.address)),
+        Error::NOT_RISING => Err(StepError::NotRising(frame.address)),
+        error => Err(StepError::Records(error)),
+    }
+}
+
+impl Registers {
+    /// The stack pointer.
+    pub fn rsp(&self) -> u64 {
+        self.general[4]
+    }
+
+    /// Sets the stack pointer.
+    pub fn set_rsp(&mut self, rsp: u64) {
+        self.general[4] = rsp;
+    }
+
+    /// An XMM register by its number, 0 to 15; 0 for any other.
+    pub fn xmm(&self, number: usize) -> u128 {
+        match self.xmm.chunks_exact(2).nth(number) {
+            Some([low, high]) => u128::from(*low) | u128::from(*high) << 64,
+            _ => 0,
+        }
+    }
+
+    /// Sets an XMM register by its number, 0 to 15. Any other is ignored.
+    pub fn set_xmm(&mut self, number: usize, value: u128) {
+        if let Some(halves) = self.xmm.chunks_exact_mut(2).nth(number) {
+            halves.copy_from_slice(&[value as u64, (value >> 64) as u64]);
+        }
+    }
+
+    /// The registers of the caller of a leaf function, one that no function of its image covers: the return address is at
+    /// rsp.
+    ///
+    /// # Errors
+    ///
+    /// [`StepError::Missing`] of the return address; [`StepError::Address`] where it is the last word below 2^64.
+    pub fn leaf(&self, stack: Stack<'_>) -> Result<Registers, StepError> {
+        let mut frame = sys::Frame { registers: *self, stack_start: stack.start, ..Default::default() };
+        // SAFETY: the pointer and the length are those of one slice, and the frame is lent for the call.
+        let number = unsafe { sys::pe_c_leaf(stack.bytes.as_ptr(), stack.bytes.len(), &mut frame) };
+        stepped(number, &frame)
+    }
+}
+
+impl Functions<'_, '_> {
+    /// The registers of a function's caller, from those inside the function at an RVA, in its prolog and epilogs too.
+    ///
+    /// `rva` is the instruction pointer less the address where the image is loaded. In the top frame, and in one that an
+    /// interrupt stopped, it is that of the instruction which is about to run: find the function by it, and pass in `code`
+    /// the bytes of the function from it on, as [`Image::code`] returns them. In every other frame it is that of a return
+    /// address: find the function by `rva - 1`, and pass no code. Without code epilogs are not recognized.
+    ///
+    /// # Errors
+    ///
+    /// In their order as `pe_c_step` of `pe.h` has them: [`StepError::Records`] of the records; then for each instruction
+    /// or code [`StepError::Records`], [`StepError::Address`], [`StepError::Missing`]; last [`StepError::NotRising`].
+    pub fn step(
+        &self,
+        function: Function,
+        rva: u32,
+        code: &[u8],
+        registers: &Registers,
+        stack: Stack<'_>,
+    ) -> Result<Registers, StepError> {
+        let registers = *registers;
+        let mut frame = sys::Frame { registers, stack_start: stack.start, address: 0, function, rva };
+        let number = self.image().step_frame(code, stack.bytes, &mut frame);
+        stepped(number, &frame)
+    }
+
+    /// Whether an interrupt entered the function: one of its records has `UWOP_PUSH_MACHFRAME`.
+    fn is_interrupted(&self, function: Function) -> bool {
+        self.plan(function)
+            .flatten()
+            .any(|record| record.codes().flatten().any(|code| matches!(code.operation, Operation::MachineFrame { .. })))
+    }
+}
+
+impl<'a> Image<'a> {
+    /// The bytes of the image from an RVA up to another. Empty where they are not all there.
+    pub fn code(&self, rva: u32, end: u32) -> &'a [u8] {
+        let part = || {
+            let offset = usize::try_from(self.offset(rva)?).ok()?;
+            let length = usize::try_from(end.checked_sub(rva)?).ok()?;
+            self.bytes().get(offset..offset.checked_add(length)?)
+        };
+        part().unwrap_or_default()
+    }
+}
+
+/// A module of a process: its image, and the address where it is loaded.
+#[derive(Clone, Copy)]
+pub struct Module<'m> {
+    /// The image, a file or as loaded.
+    pub image: &'m Image<'m>,
+    /// The address where it is loaded.
+    pub base: u64,
+}
+
+/// How a frame was found.
+#[derive(Clone, Copy, Debug, PartialEq, Eq)]
+#[non_exhaustive]
+pub enum Way {
+    /// It is the top frame.
+    Top,
+    /// By the unwind records of the frame below it.
+    Records,
+    /// The frame below it is one of a leaf function.
+    Leaf,
+    /// An interrupt stopped it: the frame below it has the frame that the processor pushed.
+    Interrupt,
+}
+
+/// A frame of a stack walk.
+#[derive(Clone, Copy, Debug, PartialEq, Eq)]
+pub struct Frame {
+    /// The registers in its function. In the frame of a call `rip` is the return address.
+    pub registers: Registers,
+    /// How they were found.
+    pub way: Way,
+}
+
+/// Why a stack walk is over.
+#[derive(Clone, Copy, Debug, PartialEq, Eq)]
+#[non_exhaustive]
+pub enum End {
+    /// No module has the instruction pointer of the last frame, or none of its functions has: only the top frame, and one
+    /// that an interrupt stopped, can be that of a leaf function.
+    NoFunction,
+    /// As many frames were returned as the caller wants.
+    Bound,
+    /// The caller of the last frame is not found.
+    Step(StepError),
+}
+
+/// A stack walk: the frames of a thread, from the top frame outwards, through all modules of a process.
+///
+/// `modules` returns the module that has an address, and `memory` a piece of memory that has the eight bytes at an address.
+/// A step reads one piece: that of the stack pointer, or if an address is missing there, the piece of that address alone.
+///
+/// The walk is over at a frame that is in no function of a module, at memory that is missing, where the stack pointer does
+/// not rise, at any other error, and after `most` frames. [`Frames::end`] says which. Only past an interrupt does the stack
+/// pointer not have to rise.
+///
+/// ```
+/// # #[path = "../tests/made/mod.rs"] mod made;
+/// # let bytes = made::with_functions();
+/// use pe_c::{End, Frames, Image, Mode, Module, Registers, Stack, StepError};
+///
+/// let image = Image::parse(&bytes, Mode::Permissive)?;
+/// let module = Module { image: &image, base: 0x1_8000_0000 };
+/// let mut registers = Registers { rip: module.base + 0x5000, ..Registers::default() };
+/// registers.set_rsp(0x2_0000);
+/// let stack = Stack { start: 0x2_0000, bytes: &[0; 8] }; // its last return address is 0
+/// let modules = |address| (address >= module.base).then_some(module);
+/// let mut frames = Frames::new(registers, 100, modules, |address| (address >= stack.start).then_some(stack));
+/// assert_eq!(frames.by_ref().count(), 2);
+/// assert_eq!(frames.end(), Some(End::NoFunction));
+/// # Ok::<(), pe_c::Error>(())
+/// ```
+#[derive(Clone, Debug)]
+pub struct Frames<M, S> {
+    modules: M,
+    memory: S,
+    last: Option<Frame>,
+    top: Registers,
+    left: usize,
+    end: Option<End>,
+}
+
+impl<'m, 's, M, S> Frames<M, S>
+where
+    M: FnMut(u64) -> Option<Module<'m>>,
+    S: FnMut(u64) -> Option<Stack<'s>>,
+{
+    /// A walk of at most `most` frames, from the registers of a thread.
+    pub fn new(registers: Registers, most: usize, modules: M, memory: S) -> Self {
+        Frames { modules, memory, last: None, top: registers, left: most, end: None }
+    }
+
+    /// Why the walk is over, or `None` before its end.
+    pub fn end(&self) -> Option<End> {
+        self.end
+    }
+
+    /// A step over the piece of memory at the stack pointer, and if it misses an address there over the piece of that.
+    fn over_memory(
+        &mut self,
+        rsp: u64,
+        step: impl Fn(Stack<'_>) -> Result<Registers, StepError>,
+    ) -> Result<Registers, StepError> {
+        let first = (self.memory)(rsp).unwrap_or(Stack { start: rsp, bytes: &[] });
+        match step(first) {
+            Err(StepError::Missing(address)) => match (self.memory)(address) {
+                Some(other) => step(other),
+                None => Err(StepError::Missing(address)),
+            },
+            found => found,
+        }
+    }
+
+    /// The frame of the caller of a frame, or why there is none.
+    fn caller(&mut self, frame: Frame) -> Result<Frame, End> {
+        let registers = frame.registers;
+        let is_return_address = !matches!(frame.way, Way::Top | Way::Interrupt);
+        let module = (self.modules)(registers.rip).ok_or(End::NoFunction)?;
+        let rva = u32::try_from(registers.rip.wrapping_sub(module.base)).map_err(|_| End::NoFunction)?;
+        let inside = rva.saturating_sub(u32::from(is_return_address));
+        let refused = |error| End::Step(StepError::Records(error));
+        let functions = module.image.functions().map_err(refused)?;
+        let found = match &functions {
+            Some(functions) => functions.find(inside).map_err(refused)?.map(|function| (functions, function)),
+            None => None,
+        };
+        let rsp = registers.rsp();
+        match found {
+            Some((functions, function)) => {
+                let code: &[u8] = if is_return_address { &[] } else { module.image.code(rva, function.end) };
+                let step = |stack: Stack<'_>| functions.step(function, rva, code, &registers, stack);
+                let registers = self.over_memory(rsp, step).map_err(End::Step)?;
+                let way = if functions.is_interrupted(function) { Way::Interrupt } else { Way::Records };
+                Ok(Frame { registers, way })
+            }
+            None if is_return_address => Err(End::NoFunction),
+            None => {
+                let registers = self.over_memory(rsp, |stack| registers.leaf(stack)).map_err(End::Step)?;
+                Ok(Frame { registers, way: Way::Leaf })
+            }
+        }
+    }
+}
+
+impl<'m, 's, M, S> Iterator for Frames<M, S>
+where
+    M: FnMut(u64) -> Option<Module<'m>>,
+    S: FnMut(u64) -> Option<Stack<'s>>,
+{
+    type Item = Frame;
+
+    fn next(&mut self) -> Option<Frame> {
+        if self.end.is_some() {
+            return None;
+        }
+        if self.left == 0 {
+            self.end = Some(End::Bound);
+            return None;
+        }
+        let next = match self.last {
+            None => Ok(Frame { registers: self.top, way: Way::Top }),
+            Some(frame) => self.caller(frame),
+        };
+        match next {
+            Ok(frame) => {
+                self.last = Some(frame);
+                self.left -= 1;
+                Some(frame)
+            }
+            Err(end) => {
+                self.end = Some(end);
+                None
+            }
+        }
+    }
+}
+
+impl<'m, 's, M, S> core::iter::FusedIterator for Frames<M, S>
+where
+    M: FnMut(u64) -> Option<Module<'m>>,
+    S: FnMut(u64) -> Option<Stack<'s>>,
+{
+}

@@ -1,0 +1,188 @@
+//! Steps and walks over a made image. The stacks are by hand, from what the prologs of its functions do.
+
+mod made;
+
+use pe_c::{sys, End, Error, Frames, Image, Mode, Module, Registers, Stack, StepError, Way};
+
+/// Where the image is loaded.
+const BASE: u64 = 0x1_8000_0000;
+
+/// The address of the return address of the innermost frame.
+const ENTRY: u64 = 0x2_0008;
+
+/// That of its caller's.
+const OUTER: u64 = ENTRY + 40;
+
+const RBX: usize = 3;
+
+const RBP: usize = 5;
+
+/// push rbp; lea rbp,[rsp+32]; sub rsp,32 in the function at 0x5000, which was called at the end of the part at 0x5010, which
+/// saved rbx at rbp+40 and is chained to it. That one's return address is 0.
+fn stack_bytes() -> Vec<u8> {
+    let words = [OUTER + 24, BASE + 0x5020, 1, 2, 3, 0x55, 0, 4, 5, 6, 7, 8, 9, 10, 0xBB];
+    words.iter().flat_map(|word: &u64| word.to_le_bytes()).collect()
+}
+
+/// The registers in the innermost frame, after its prolog.
+fn registers() -> Registers {
+    let mut registers = Registers { rip: BASE + 0x500C, ..Registers::default() };
+    registers.set_rsp(ENTRY - 40);
+    registers.general[RBP] = ENTRY + 24;
+    registers
+}
+
+/// All frames of a walk over the bytes of a stack from `ENTRY - 8` on, and why it ended.
+fn walk(registers: Registers, most: usize, bytes: &[u8]) -> (Vec<(u64, u64, Way)>, Option<End>) {
+    let file = made::with_functions();
+    let image = Image::parse(&file, Mode::Permissive).unwrap();
+    let module = |address: u64| address.checked_sub(BASE).map(|_| Module { image: &image, base: BASE });
+    let mut frames = Frames::new(registers, most, module, |_| Some(Stack { start: ENTRY - 8, bytes }));
+    let found = frames.by_ref().map(|it| (it.registers.rip, it.registers.rsp(), it.way)).collect();
+    assert_eq!(frames.next(), None);
+    (found, frames.end())
+}
+
+#[test]
+fn a_walk_comes_to_its_end() {
+    let bytes = stack_bytes();
+    let all =
+        [(BASE + 0x500C, ENTRY - 40, Way::Top), (BASE + 0x5020, ENTRY + 8, Way::Records), (0, OUTER + 8, Way::Records)];
+    assert_eq!(walk(registers(), 100, &bytes), (all.to_vec(), Some(End::NoFunction)));
+    assert_eq!(walk(registers(), 2, &bytes), (all[..2].to_vec(), Some(End::Bound)));
+    assert_eq!(walk(registers(), 0, &bytes), (Vec::new(), Some(End::Bound)));
+    // Without rbx of the outer frame, the last word, which is read first; and without the return address of the inner one.
+    for (length, count, missing) in [(119, 2, OUTER + 64), (48, 2, OUTER + 64), (8, 1, ENTRY)] {
+        let (found, end) = walk(registers(), 100, &bytes[..length]);
+        assert_eq!((&found[..], end), (&all[..count], Some(End::Step(StepError::Missing(missing)))));
+    }
+}
+
+#[test]
+fn a_leaf_function_is_the_top_frame_alone() {
+    let bytes = stack_bytes();
+    let mut registers = registers();
+    registers.rip = BASE + 0x6000;
+    registers.set_rsp(ENTRY);
+    let (found, end) = walk(registers, 100, &bytes);
+    assert_eq!(found[..2], [(BASE + 0x6000, ENTRY, Way::Top), (BASE + 0x5020, ENTRY + 8, Way::Leaf)]);
+    // Its rbp is that of the inner frame, whose return address comes again.
+    assert_eq!((found.len(), end), (2, Some(End::Step(StepError::NotRising(ENTRY + 8)))));
+    registers.set_rsp(ENTRY + 8);
+    assert_eq!(walk(registers, 100, &bytes).1, Some(End::NoFunction));
+}
+
+#[test]
+fn a_step_returns_the_callers_registers() {
+    let file = made::with_functions();
+    let image = Image::parse(&file, Mode::Permissive).unwrap();
+    let functions = image.functions().unwrap().unwrap();
+    let bytes = stack_bytes();
+    let stack = Stack { start: ENTRY - 8, bytes: &bytes };
+    let inner = functions.find(0x500C).unwrap().unwrap();
+    let caller = functions.step(inner, 0x500C, &[], &registers(), stack).unwrap();
+    assert_eq!((caller.rip, caller.rsp(), caller.general[RBP]), (BASE + 0x5020, ENTRY + 8, OUTER + 24));
+    let outer = functions.find(0x501F).unwrap().unwrap();
+    let last = functions.step(outer, 0x5020, &[], &caller, stack).unwrap();
+    assert_eq!((last.rip, last.rsp()), (0, OUTER + 8));
+    assert_eq!((last.general[RBX], last.general[RBP]), (0xBB, 0x55));
+    // In an epilog: add rsp,32; pop rbp; ret, from the last two of them on.
+    let mut leaving = registers();
+    leaving.set_rsp(ENTRY - 8);
+    leaving.general[RBP] = 0;
+    let found = functions.step(inner, 0x500E, &[0x5D, 0xC3], &leaving, stack);
+    assert_eq!(found.map(|it| (it.rip, it.rsp(), it.general[RBP])), Ok((BASE + 0x5020, ENTRY + 8, OUTER + 24)));
+}
+
+#[test]
+fn a_step_says_why_there_is_no_caller() {
+    let file = made::with_functions();
+    let image = Image::parse(&file, Mode::Permissive).unwrap();
+    let functions = image.functions().unwrap().unwrap();
+    let bytes = stack_bytes();
+    let stack = Stack { start: ENTRY - 8, bytes: &bytes };
+    let root = functions.get(0).unwrap();
+    let step = |function, registers: Registers| functions.step(function, 0x500C, &[], &registers, stack).unwrap_err();
+    // The last function is chained to itself.
+    assert_eq!(step(functions.get(3).unwrap(), registers()), StepError::Records(Error::LONG_CHAIN));
+    let mut low = registers();
+    low.general[RBP] = 31;
+    assert_eq!(step(root, low), StepError::Address(31));
+    let mut sinking = registers();
+    sinking.set_rsp(ENTRY + 8);
+    assert_eq!(step(root, sinking), StepError::NotRising(ENTRY + 8));
+    let mut elsewhere = registers();
+    elsewhere.general[RBP] = 0x1020;
+    let error = step(root, elsewhere);
+    assert_eq!((error, error.error()), (StepError::Missing(0x1000), Error::MISSING));
+    assert_eq!(error.to_string(), "memory is missing: 0x1000");
+    assert_eq!(registers().leaf(Stack { start: 0, bytes: &[] }), Err(StepError::Missing(ENTRY - 40)));
+}
+
+/// A step whose piece misses an address is made again over the piece of that address alone.
+#[test]
+fn a_walk_reads_the_piece_that_is_asked_for() {
+    let file = made::with_functions();
+    let image = Image::parse(&file, Mode::Permissive).unwrap();
+    let bytes = stack_bytes();
+    let module = |address: u64| address.checked_sub(BASE).map(|_| Module { image: &image, base: BASE });
+    let mut asked = Vec::new();
+    let memory = |address| {
+        asked.push(address);
+        (address >= ENTRY - 8).then_some(Stack { start: ENTRY - 8, bytes: &bytes })
+    };
+    assert_eq!(Frames::new(registers(), 3, module, memory).count(), 3);
+    assert_eq!(asked, [ENTRY - 40, ENTRY - 8, ENTRY + 8]);
+}
+
+#[test]
+fn code_is_that_of_the_image() {
+    let file = made::with_functions();
+    let image = Image::parse(&file, Mode::Permissive).unwrap();
+    let table = image.info().directories[made::EXCEPTIONS].virtual_address;
+    assert_eq!(image.code(table, table + 8), [0, 0x50, 0, 0, 0x10, 0x50, 0, 0]);
+    assert!(image.code(table, table).is_empty());
+    assert!(image.code(table + 1, table).is_empty());
+    assert!(image.code(table, u32::MAX).is_empty());
+    assert!(image.code(0x7000_0000, 0x7000_0001).is_empty());
+}
+
+/// Any numbers in a frame are legal.
+#[test]
+fn frames_that_lie() {
+    let file = made::with_functions();
+    let image = Image::parse(&file, Mode::Permissive).unwrap();
+    let (bytes, sections) = (image.bytes(), image.sections());
+    let numbers = [0, 1, 7, 8, 0x5000, u64::from(u32::MAX), 1 << 63, u64::MAX - 7, u64::MAX];
+    for number in numbers {
+        for start in numbers {
+            for length in [0, 1, 8, 64] {
+                let mut frame = sys::Frame { stack_start: start, rva: number as u32, ..Default::default() };
+                frame.registers = Registers { general: [number; 16], xmm: [number; 32], rip: number };
+                frame.function = sys::Function { begin: start as u32, end: number as u32, unwind: number as u32 };
+                let (stack, code) = (&bytes[..length], &bytes[length..2 * length]);
+                let before = frame;
+                // SAFETY: each pointer and length are those of one slice, and the frame is lent for the call.
+                let (step, leaf) = unsafe {
+                    let step = sys::pe_c_step(
+                        bytes.as_ptr(),
+                        bytes.len(),
+                        image.info(),
+                        sections.as_ptr(),
+                        sections.len(),
+                        code.as_ptr(),
+                        code.len(),
+                        stack.as_ptr(),
+                        stack.len(),
+                        &mut frame,
+                    );
+                    let kept = sys::Frame { registers: frame.registers, address: frame.address, ..before };
+                    assert_eq!(frame, kept);
+                    frame = before;
+                    (step, sys::pe_c_leaf(stack.as_ptr(), stack.len(), &mut frame))
+                };
+                assert!(step != sys::NOTHING && leaf != sys::NOTHING);
+            }
+        }
+    }
+}

@@ -1,0 +1,74 @@
+-- One step of a stack walk: the registers of a function's caller, by the function's records in an image.
+use Rattle.std.specs.Prelude.{◌≡◌, ℕ, ◌+◌, ◌*◌, ◌/◌, ◌%◌, ◌^◌, ◌==◌, if◌then◌else◌, List, slice_index, Option, Some, None, Result, Ok, Err}
+use Rattle.pe_core.specs.Refusals.{Refusal, kind_of}
+use Rattle.pe_core.specs.Rows.{each}
+use Rattle.pe_core.specs.declared.section_table.SectionTable.{SectionTable}
+use Rattle.pe_unwind.specs.ExceptionTable.{ExceptionView}
+use Rattle.pe_unwind.specs.Links.{links_of}
+use Rattle.pe_unwind.specs.UnwindRecord.{UnwindInfoView}
+use Rattle.pe_unwind.specs.declared.function_table.RuntimeFunction.{RuntimeFunction}
+use Rattle.pe_plan.specs.ShortPlans.{PlansShort}
+use Rattle.pe_frame.specs.Epilogs.{StepsWithCode}
+use Rattle.pe_frame.specs.Memory.{stack_word}
+use Rattle.pe_frame.specs.declared.error.FrameError.{FrameError}
+use Rattle.pe_frame.specs.declared.error.FrameError.TheVariants.{Codes, Memory, Address, Operation, Arm64Code, NotRising}
+use Rattle.pe_frame.specs.declared.registers.Registers.{Registers}
+use Rattle.pe_c.specs.HandsOut.{result_number}
+use Rattle.pe_c.specs.Modes.{options_of}
+use Rattle.pe_c.specs.Unwinding.{image_exceptions}
+use Rattle.pe_c.specs.declared.image.Image.{Image}
+use Rattle.pe_c.specs.declared.stack_frames.FrameRegisters.{FrameRegisters}
+use Rattle.pe_c.specs.declared.stack_frames.StackFrame.{StackFrame}
+
+-- ---- registers
+
+-- an XMM register of the halves: the low halves have even indices, the high ones odd indices
+abbrev pub whole_xmm : List ℕ → ℕ → ℕ
+whole_xmm halves i = slice_index halves (2 * i) + slice_index halves (2 * i + 1) * 2 ^ 64
+
+-- a half of the XMM registers
+abbrev pub half_xmm : List ℕ → ℕ → ℕ
+half_xmm xmm i = if i % 2 == 0 then slice_index xmm (i / 2) % 2 ^ 64 else slice_index xmm (i / 2) / 2 ^ 64
+
+-- the registers that a caller of the library passes
+abbrev pub registers_of : FrameRegisters → Registers
+registers_of g = record { general = g.general; xmm = each (whole_xmm g.xmm) 16; rip = g.rip }
+
+-- registers as such a caller gets them
+abbrev pub flat_registers : Registers → FrameRegisters
+flat_registers g = record { general = g.general; xmm = each (half_xmm g.xmm) 32; rip = g.rip }
+
+-- ---- steps
+
+-- the short plan of a function in the exception data of an image, or what refuses these
+abbrev pub PlansShortIn : Result ExceptionView Refusal → List SectionTable → ℕ → RuntimeFunction → Result (Option (List UnwindInfoView)) Refusal → Type 0
+PlansShortIn (Err refusal) sections mode f answer = answer ≡ Err refusal
+PlansShortIn (Ok v) sections mode f answer = PlansShort (links_of v sections (options_of mode)) v.content f answer
+
+-- The number that a step returns, and the frame after it: the registers of the caller; or an error's number, with the
+-- address that it speaks of. Nothing else of the frame changes.
+abbrev pub HandsOutCaller : ℕ → StackFrame → StackFrame → Result Registers FrameError → Type 0
+HandsOutCaller number old new (Ok u) = (number ≡ 0) × (new ≡ record old { registers = flat_registers u })
+HandsOutCaller number old new (Err (Codes e)) = (number ≡ result_number (kind_of e)) × (new ≡ old)
+HandsOutCaller number old new (Err (Memory a)) = (number ≡ 102) × (new ≡ record old { address = a })
+HandsOutCaller number old new (Err (Address a)) = (number ≡ 103) × (new ≡ record old { address = a })
+HandsOutCaller number old new (Err (Operation o)) = (number ≡ 104) × (new ≡ old)
+HandsOutCaller number old new (Err (Arm64Code c)) = (number ≡ 104) × (new ≡ old)
+HandsOutCaller number old new (Err (NotRising a)) = (number ≡ 105) × (new ≡ record old { address = a })
+
+-- the same by the records of the frame's function: a step of pe_frame with the code from the frame's RVA on, over one
+-- piece of memory
+abbrev pub HandsOutBy : List ℕ → List ℕ → ℕ → StackFrame → StackFrame → Result (Option (List UnwindInfoView)) Refusal → Type 0
+HandsOutBy code stack number old new (Err refusal) = (number ≡ result_number refusal) × (new ≡ old)
+HandsOutBy code stack number old new (Ok None) = (number ≡ 106) × (new ≡ old)
+HandsOutBy code stack number old new (Ok (Some plan)) =
+    (caller : Result Registers FrameError)
+    × StepsWithCode (stack_word stack old.stack_start) plan (old.function).begin_address old.rva code (registers_of old.registers) caller
+    × HandsOutCaller number old new caller
+
+-- what a call for a step returns, and the frame after it
+abbrev pub HandsOutStep : List ℕ → Image → List SectionTable → List ℕ → List ℕ → ℕ → StackFrame → StackFrame → Type 0
+HandsOutStep b image sections code stack number old new =
+    (plan : Result (Option (List UnwindInfoView)) Refusal)
+    × PlansShortIn (image_exceptions b image sections image.mode) sections image.mode old.function plan
+    × HandsOutBy code stack number old new plan

@@ -1,0 +1,214 @@
+//! One step of a stack walk on x64: the registers of a function's caller, from its own registers, its records in the image
+//! and the memory of its stack. A walk makes it again and again, from the innermost frame outwards.
+//! https://learn.microsoft.com/cpp/build/exception-handling-x64
+
+ghost use Rattle.std.specs.Prelude.{◌≡◌, ◌<◌};
+ghost use Rattle.std.specs.Option.{option_map};
+ghost use Rattle.pe_core.specs.Refusals.{answer_by};
+ghost use Rattle.pe_core.specs.Rows.{each};
+ghost use Rattle.pe_plan.specs.ShortPlans.{records_of};
+ghost use Rattle.pe_frame.specs.Memory.{stack_word};
+ghost use Rattle.pe_frame.specs.Undoing.{popped};
+ghost use Rattle.pe_c.specs.Unwinding.{image_exceptions};
+ghost use Rattle.pe_c.specs.StackFrames.{whole_xmm, half_xmm, registers_of, flat_registers, PlansShortIn, HandsOutCaller, HandsOutStep};
+
+use crate::image::{EXCEPTION_TABLE, Image, directory};
+use crate::results::{
+    BAD_ADDRESS, BAD_OPERATION, DONE, LONG_CHAIN, MISSING, NOT_RISING, number_of, options,
+};
+use pe_core::{Error, SectionTable};
+use pe_frame::{FrameError, Registers, Stack, leaf, step_with_code};
+use pe_plan::ShortPlan;
+use pe_unwind::{ExceptionData, RuntimeFunction};
+
+/// How many numbers a half of an XMM register has.
+const NUMBERS_OF_A_HALF: u128 = 0x1_0000_0000_0000_0000;
+
+/// The registers of a thread that unwinding restores.
+#[repr(C)]
+#[derive(Clone, Copy)]
+pub struct FrameRegisters {
+    /// The integer registers by their numbers in unwind data: rax, rcx, rdx, rbx, rsp, rbp, rsi, rdi, r8 to r15.
+    pub general: [u64; 16],
+    /// The XMM registers, xmm0 to xmm15, of each the low half and then the high half.
+    pub xmm: [u64; 32],
+    /// The instruction pointer.
+    pub rip: u64,
+}
+
+/// A frame of a stack walk, as a step takes it and leaves it.
+#[repr(C)]
+#[derive(Clone, Copy)]
+pub struct StackFrame {
+    /// The registers inside the function; after the step those of its caller.
+    pub registers: FrameRegisters,
+    /// The address of the first byte of the stack that is passed.
+    pub stack_start: u64,
+    /// The address that an error speaks of.
+    pub address: u64,
+    /// The function that lookup found.
+    pub function: RuntimeFunction,
+    /// The instruction pointer less the address where the image is loaded.
+    pub rva: u32,
+}
+
+/// The XMM registers of their halves.
+#[tactic(auto, using(std::proofs::lemmas::List::take_more_set, std::proofs::lemmas::List::take_all), unfolding(pe_core::specs::Rows::each))]
+fn whole_registers(halves: &[u64; 32]) -> [u128; 16]
+    ensures { result ≡ each (whole_xmm halves.now) 16 }
+{
+    let mut registers = [0; 16];
+    for i in 0..16 {
+        let (low, high) = (u128::from(halves[2 * i]), u128::from(halves[2 * i + 1]));
+        registers[i] = low + high * NUMBERS_OF_A_HALF;
+    }
+    registers
+}
+
+/// Half of an XMM register: the low half at an even index, the high one at an odd index.
+fn half(registers: &[u128; 16], index: usize) -> u64
+    requires { index < 32 }
+    ensures { result ≡ half_xmm registers.now index }
+{
+    let register = registers[index / 2];
+    if index % 2 == 0 {
+        (register % NUMBERS_OF_A_HALF) as u64
+    } else {
+        (register / NUMBERS_OF_A_HALF) as u64
+    }
+}
+
+/// The halves of the XMM registers.
+#[tactic(auto, using(std::proofs::lemmas::List::take_more_set, std::proofs::lemmas::List::take_all), unfolding(pe_core::specs::Rows::each))]
+fn half_registers(registers: &[u128; 16]) -> [u64; 32]
+    ensures { result ≡ each (half_xmm registers.now) 32 }
+{
+    let mut halves = [0; 32];
+    for i in 0..32 {
+        halves[i] = half(registers, i);
+    }
+    halves
+}
+
+/// The registers that a caller passes.
+fn registers_of(registers: &FrameRegisters) -> Registers
+    ensures { result ≡ registers_of registers.now }
+{
+    Registers {
+        general: registers.general,
+        xmm: whole_registers(&registers.xmm),
+        rip: registers.rip,
+    }
+}
+
+/// Registers as callers get them.
+fn flat_registers(registers: &Registers) -> FrameRegisters
+    ensures { result ≡ flat_registers registers.now }
+{
+    FrameRegisters {
+        general: registers.general,
+        xmm: half_registers(&registers.xmm),
+        rip: registers.rip,
+    }
+}
+
+/// The short plan of a function in an image.
+fn plan_in<'a>(
+    bytes: &'a [u8],
+    image: &Image,
+    sections: &[SectionTable],
+    function: RuntimeFunction,
+) -> Result<Option<ShortPlan<'a>>, Error>
+    ensures { PlansShortIn
+        (image_exceptions bytes.entry.now image.now sections.now image.now.mode) sections.now
+        image.now.mode function (answer_by (option_map records_of) result) }
+{
+    let opts = options(image.mode);
+    let table = directory(image, EXCEPTION_TABLE);
+    let alignment = image.file_alignment;
+    match ExceptionData::parse_with_opts(bytes, table, sections, alignment, &opts) {
+        Ok(exceptions) => ShortPlan::of_function(&exceptions, function, sections, &opts),
+        Err(error) => Err(error),
+    }
+}
+
+/// Writes the caller's registers to a frame, or the address that an error speaks of.
+fn hand_out_caller(caller: Result<Registers, FrameError>, frame: &mut StackFrame) -> u32
+    ensures { HandsOutCaller result frame.old frame.new caller }
+{
+    match caller {
+        Ok(registers) => {
+            frame.registers = flat_registers(&registers);
+            DONE
+        }
+        Err(FrameError::Codes(error)) => number_of(&error),
+        Err(FrameError::Memory(address)) => {
+            frame.address = address;
+            MISSING
+        }
+        Err(FrameError::Address(address)) => {
+            frame.address = address;
+            BAD_ADDRESS
+        }
+        Err(FrameError::Operation(_)) => BAD_OPERATION,
+        // No record of x64 has one.
+        Err(FrameError::Arm64Code(_)) => BAD_OPERATION,
+        Err(FrameError::NotRising(pointer)) => {
+            frame.address = pointer;
+            NOT_RISING
+        }
+    }
+}
+
+/// Finds the registers of a function's caller, from those inside the function, and writes them over those of `frame`. It is
+/// `step_with_code` of pe_frame by the records of the frame's function, which is the one that lookup found: by
+/// the RVA in the top frame and after an interrupt, by the RVA less one in every other. `code` has the function's bytes from
+/// the RVA to its end there, and is empty where the RVA is a return address. `stack` is memory from `stack_start` on.
+///
+/// Errors: those of `pe_c_function_table`; then for each record those of `pe_c_unwind_record`, and `LONG_CHAIN` where more
+/// than 32 are chained. Then those of `step_with_code`: `SHORT` or `UNWIND_CODE` of a code, `BAD_OPERATION`, `BAD_ADDRESS`,
+/// `MISSING` and `NOT_RISING`. Of these `BAD_ADDRESS`, `MISSING` and `NOT_RISING` set `address`; nothing else of the frame
+/// changes. With more memory the same call can be made again.
+#[unsafe(no_mangle)]
+pub extern "C" fn pe_c_step(
+    bytes: &[u8],
+    image: &Image,
+    sections: &[SectionTable],
+    code: &[u8],
+    stack: &[u8],
+    frame: &mut StackFrame,
+) -> u32
+    ensures { HandsOutStep
+        bytes.now image.now sections.now code.now stack.now result frame.old frame.new }
+{
+    let plan = match plan_in(bytes, image, sections, frame.function) {
+        Ok(Some(plan)) => plan,
+        Ok(None) => return LONG_CHAIN,
+        Err(error) => return number_of(&error),
+    };
+    let memory = Stack {
+        start: frame.stack_start,
+        bytes: stack,
+    };
+    let start = frame.function.begin_address;
+    let registers = registers_of(&frame.registers);
+    let caller = step_with_code(plan.records(), start, frame.rva, code, registers, &memory);
+    hand_out_caller(caller, frame)
+}
+
+/// Finds the registers of the caller of a leaf function, which no function of the table covers, and writes them over those
+/// of `frame`: it pops the return address. `stack` is memory from `stack_start` on.
+///
+/// Errors: `MISSING` if the return address is not there, `BAD_ADDRESS` if it is the last word below 2^64. Both set `address`.
+#[unsafe(no_mangle)]
+pub extern "C" fn pe_c_leaf(stack: &[u8], frame: &mut StackFrame) -> u32
+    ensures { HandsOutCaller result frame.old frame.new
+        (popped (stack_word stack.now frame.old.stack_start) (registers_of frame.old.registers)) }
+{
+    let memory = Stack {
+        start: frame.stack_start,
+        bytes: stack,
+    };
+    let caller = leaf(registers_of(&frame.registers), &memory);
+    hand_out_caller(caller, frame)
+}

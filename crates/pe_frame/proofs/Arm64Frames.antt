@@ -1,0 +1,55 @@
+-- Frames of a running ARM64 program are undone.
+use Rattle.std.proofs.Common.{◌≡◌, ℕ, ◌-◌, ◌≤◌, true, leb, List, drop, Option, Result, Ok, refl, ap, ◌∙◌, subst, arith}
+use Rattle.std.proofs.lemmas.Bool.Decides.{nat_tests}
+use Rattle.pe_unwind.specs.declared.arm64.codes.Arm64UnwindCode.{Arm64UnwindCode}
+use Rattle.pe_unwind.specs.Arm64Record.{Arm64InfoView}
+use Rattle.pe_frame.specs.declared.arm64.registers.Arm64Registers.{Arm64Registers}
+use Rattle.pe_frame.specs.declared.error.FrameError.{FrameError}
+use Rattle.pe_frame.specs.Undoing.{◌>>=◌}
+use Rattle.pe_frame.specs.Arm64Undoing.{link_register, put_pc, undone_codes, returned_arm64}
+use Rattle.pe_frame.specs.Arm64Steps.{prolog_length, ran_arm64, StepsArm64}
+use Rattle.pe_frame.specs.Arm64Machine.{run_arm64, points_frame, IsArm64Caller}
+use Rattle.pe_frame.specs.Arm64Frames.{Arm64Part, effects_at, IsArm64Frame}
+use Rattle.pe_frame.proofs.Arm64Streams.{are_the_codes}
+use Rattle.pe_frame.proofs.Arm64Effects.{undone-effects, operations-drop, prolog-drop}
+use Rattle.pe_frame.proofs.Arm64Runs.{holds, known, sinks}
+use Rattle.pe_frame.proofs.Arm64Reverted.{Reverts, keeps_le, reverts}
+
+returned_ok : (p : ℕ) (u : Arm64Registers) → p ≤ u.sp → returned_arm64 p u ≡ Ok (put_pc u (link_register u))
+returned_ok p u above =
+    let test : leb p u.sp ≡ true = grind (arith, nat_tests) in
+    rw test refl
+
+-- the effects that have run are undone
+entry_of : (p : Arm64Part) (place : ℕ) (m : ℕ → Option ℕ) (g : Arm64Registers) → IsArm64Frame p place m g → Reverts m (effects_at place p) p.entry g
+entry_of p place m g frame =
+    let es = effects_at place p in
+    let prolog = prolog-drop (prolog_length p.codes - place) p.operations p.entry frame.prolog in
+    let held = known m (run_arm64 es p.entry).memory es p.entry frame.body.memory (holds es p.entry prolog) in
+    reverts m es p.entry g prolog held frame.body.count frame.body.float_count frame.body.stack frame.body.link
+
+-- a step returns the registers of the caller
+pub arm64_caller : (m : ℕ → Option ℕ) (p : Arm64Part) (place : ℕ) (g : Arm64Registers) (x : Result Arm64Registers FrameError) →
+    IsArm64Frame p place m g → StepsArm64 m p.info place g x → (u : Arm64Registers) × (x ≡ Ok u) × IsArm64Caller (effects_at place p) p.entry g u
+arm64_caller m p place g x frame step =
+    let es = effects_at place p in
+    let e = entry_of p place m g frame in
+    let codes : step.0 ≡ Ok p.codes = are_the_codes p.info.codes p.codes step.0 frame.codes step.1 in
+    let undone : undone_codes m (ran_arm64 place p.codes) g ≡ Ok e.entry =
+    undone-effects m (ran_arm64 place p.codes) (drop (prolog_length p.codes - place) p.operations) g (operations-drop (prolog_length p.codes - place) p.codes p.operations frame.known) ∙ e.is in
+    let prolog = prolog-drop (prolog_length p.codes - place) p.operations p.entry frame.prolog in
+    let le = keeps_le (points_frame es) es (run_arm64 es p.entry) g frame.body.stack in
+    let low = sinks es p.entry prolog in
+    let back : returned_arm64 g.sp e.entry ≡ Ok (put_pc e.entry (link_register e.entry)) = returned_ok g.sp e.entry (omega (arith, le, low, e.stack)) in
+    let is : x ≡ Ok (put_pc e.entry (link_register e.entry)) =
+    step.2 ∙ (ap (λ (c : Result (List Arm64UnwindCode) FrameError). c >>= λ cs. undone_codes m (ran_arm64 place cs) g >>= returned_arm64 g.sp) codes
+    ∙ (ap (λ (u : Result Arm64Registers FrameError). u >>= returned_arm64 g.sp) undone ∙ back)) in (
+      put_pc e.entry (link_register e.entry),
+      is,
+      record { stack = e.stack; returns = e.link; link = e.link; registers = e.registers; floats = e.floats },
+    )
+
+-- the same of a record that is seen as that of the frame
+pub arm64_caller_in : (m : ℕ → Option ℕ) (i : Arm64InfoView) (p : Arm64Part) (place : ℕ) (g : Arm64Registers) (x : Result Arm64Registers FrameError) → i ≡ p.info →
+    IsArm64Frame p place m g → StepsArm64 m i place g x → (u : Arm64Registers) × (x ≡ Ok u) × IsArm64Caller (effects_at place p) p.entry g u
+arm64_caller_in m i p place g x is frame step = arm64_caller m p place g x frame (subst (λ (j : Arm64InfoView). StepsArm64 m j place g x) is step)

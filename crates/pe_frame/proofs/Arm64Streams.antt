@@ -1,0 +1,163 @@
+-- The codes of an ARM64 record, one after the other.
+use Rattle.std.proofs.Common.{◌≡◌, ℕ, zero, suc, ◌<◌, ◌≤◌, inl, inr, Bool, true, false, All, List, [], ◌∷◌, length, drop, Option, Some, Result, Ok, Err, refl, ap, sym, ◌∙◌, subst, arith}
+use Rattle.std.proofs.lemmas.Grind.{common_steps}
+use Rattle.std.proofs.lemmas.List.{length-drop, nil_from_length}
+use Rattle.std.proofs.lemmas.List.Elements.{All-drop}
+use Rattle.pe_core.specs.Refusals.{Arm64Cut}
+use Rattle.pe_core.specs.declared.error.Error.TheVariants.{Malformed}
+use Rattle.pe_core.specs.declared.error.Reason.TheVariants as reasons
+use Rattle.pe_unwind.specs.declared.arm64.codes.Arm64UnwindCode.{Arm64UnwindCode}
+use Rattle.pe_unwind.specs.declared.arm64.codes.Arm64UnwindCode.TheVariants.{End, Nop}
+use Rattle.pe_unwind.specs.Arm64Encoding.{encoding, StartsWithArm64Code, IsTruncatedArm64Code}
+use Rattle.pe_unwind.specs.Arm64Record.{Arm64InfoView}
+use Rattle.pe_unwind.proofs.Arm64OneCode.{starts_once, cut_starts_none}
+use Rattle.pe_unwind.proofs.Arm64Whole.{code_or_cut}
+use Rattle.pe_frame.specs.declared.arm64.registers.Arm64Registers.{Arm64Registers}
+use Rattle.pe_frame.specs.declared.error.FrameError.{FrameError}
+use Rattle.pe_frame.specs.declared.error.FrameError.TheVariants.{Codes, Memory, Address, Operation, Arm64Code, NotRising}
+use Rattle.pe_frame.specs.Undoing.{◌>>=◌}
+use Rattle.pe_frame.specs.Steps.{OfCodes, error_kind, by_kind}
+use Rattle.pe_frame.specs.Arm64Undoing.{undone_codes, returned_arm64}
+use Rattle.pe_frame.specs.Arm64Steps.{is_end, CodesThen, AreOver, AreTruncated, IsOfTruncated, HasArm64Codes, ran_arm64, StepsArm64}
+use Rattle.pe_frame.specs.Arm64Reading.{IsFirstCode, read_only}
+use Rattle.pe_frame.proofs.OneStep.{same_then}
+
+-- no bytes are a truncated code, and start with none
+no_bytes : IsTruncatedArm64Code []
+no_bytes = record { code = Nop; missing = 0xE3 ∷ []; legal = tt; some = omega arith; spelled = refl }
+
+starts_some : (bytes : List ℕ) (c : Arm64UnwindCode) → StartsWithArm64Code bytes c → 0 < length bytes
+starts_some [] c h = absurd (cut_starts_none [] no_bytes c h)
+starts_some (x ∷ bytes) c h = omega arith
+
+-- what is read first stands before what is left
+more_codes : (R : List ℕ → Type 0) (bytes : List ℕ) (c : Arm64UnwindCode) (n : ℕ) (cs : List Arm64UnwindCode) → IsFirstCode bytes (Ok (Some (c, n))) → CodesThen R (drop n bytes) cs → CodesThen R bytes (c ∷ cs)
+more_codes R bytes c n cs h rest = (h.0, h.1, subst (λ (k : ℕ). CodesThen R (drop k bytes) cs) h.2 rest)
+
+-- the codes after one, and it
+abbrev pub with_code : Arm64UnwindCode → Result (List Arm64UnwindCode) FrameError → Result (List Arm64UnwindCode) FrameError
+with_code c codes = codes >>= λ cs. Ok (c ∷ cs)
+
+pub has_more : (bytes : List ℕ) (c : Arm64UnwindCode) (n : ℕ) (more : Result (List Arm64UnwindCode) FrameError) → IsFirstCode bytes (Ok (Some (c, n))) → HasArm64Codes (drop n bytes) more → HasArm64Codes bytes (with_code c more)
+has_more bytes c n (Ok cs) h k = more_codes AreOver bytes c n cs h k
+has_more bytes c n (Err e) h k = (k.0, c ∷ k.1, more_codes AreTruncated bytes c n k.1 h k.2)
+
+-- the same as to whether one is truncated
+pub same_read : (c : Arm64UnwindCode) (more : Result (List Arm64UnwindCode) FrameError) → read_only (with_code c more) ≡ read_only more
+same_read c (Ok cs) = refl
+same_read c (Err e) = refl
+
+pub has_truncated : (bytes : List ℕ) (e : FrameError) → IsFirstCode bytes (Err e) → HasArm64Codes bytes (Err e)
+has_truncated bytes e h = (h.1, [], h.0)
+
+-- no code starts where the codes are over
+over_none : (bytes : List ℕ) (c : Arm64UnwindCode) → AreOver bytes → StartsWithArm64Code bytes c → is_end c ≡ false → ⊥
+over_none bytes c (inl empty) h not = omega (arith, starts_some bytes c h, ap (λ (b : List ℕ). length b) empty)
+over_none bytes c (inr ends) h not = let same : c ≡ End = starts_once bytes c End h ends in cc
+
+pub over_codes : (bytes : List ℕ) (cs : List Arm64UnwindCode) → AreOver bytes → CodesThen AreOver bytes cs → cs ≡ []
+over_codes bytes [] h k = refl
+over_codes bytes (c ∷ cs) h k = absurd (over_none bytes c h k.0 k.1)
+
+pub truncated_none : (bytes : List ℕ) (cs : List Arm64UnwindCode) → AreTruncated bytes → CodesThen AreOver bytes cs → ⊥
+truncated_none bytes [] h (inl empty) = omega (arith, h.0, ap (λ (b : List ℕ). length b) empty)
+truncated_none bytes [] h (inr ends) = h.1 End ends
+truncated_none bytes (c ∷ cs) h k = h.1 c k.0
+
+pub record HasNextCode (bytes : List ℕ) (c : Arm64UnwindCode) (n : ℕ) (codes : List Arm64UnwindCode) : Type 0 where
+  pub rest : List Arm64UnwindCode
+  pub is : codes ≡ c ∷ rest
+  pub are : CodesThen AreOver (drop n bytes) rest
+
+next_of : (bytes : List ℕ) (c d : Arm64UnwindCode) (n : ℕ) (codes : List Arm64UnwindCode) → d ≡ c → n ≡ length (encoding c) → CodesThen AreOver (drop (length (encoding d)) bytes) codes → HasNextCode bytes c n (d ∷ codes)
+next_of bytes c d n codes same size are = record {
+  rest = codes;
+  is = ap (λ (x : Arm64UnwindCode). x ∷ codes) same;
+  are = subst (λ (k : ℕ). CodesThen AreOver (drop k bytes) codes) (ap (λ (x : Arm64UnwindCode). length (encoding x)) same ∙ sym size) are;
+}
+
+-- the code that is read first is the first of the codes
+pub next_arm64 : (bytes : List ℕ) (c : Arm64UnwindCode) (n : ℕ) (codes : List Arm64UnwindCode) → IsFirstCode bytes (Ok (Some (c, n))) → CodesThen AreOver bytes codes → HasNextCode bytes c n codes
+next_arm64 bytes c n [] h k = absurd (over_none bytes c k h.0 h.1)
+next_arm64 bytes c n (d ∷ codes) h k = next_of bytes c d n codes (starts_once bytes d c k.0 h.0) h.2 k.2
+
+-- codes that are not truncated are all that there are
+pub is_codes : (bytes : List ℕ) (cs ds : List Arm64UnwindCode) → CodesThen AreOver bytes cs → CodesThen AreOver bytes ds → cs ≡ ds
+is_codes bytes [] ds h k = sym (over_codes bytes ds h k)
+is_codes bytes (c ∷ cs) [] h k = over_codes bytes (c ∷ cs) k h
+is_codes bytes (c ∷ cs) (d ∷ ds) h k =
+    let same : c ≡ d = starts_once bytes c d h.0 k.0 in
+    let left : CodesThen AreOver (drop (length (encoding d)) bytes) cs = subst (λ (x : Arm64UnwindCode). CodesThen AreOver (drop (length (encoding x)) bytes) cs) same h.2 in
+    ap (λ (x : Arm64UnwindCode). x ∷ cs) same ∙ ap (λ (xs : List Arm64UnwindCode). d ∷ xs) (is_codes (drop (length (encoding d)) bytes) cs ds left k.2)
+
+not_truncated : (bytes : List ℕ) (cs ds : List Arm64UnwindCode) → CodesThen AreOver bytes cs → CodesThen AreTruncated bytes ds → ⊥
+not_truncated bytes cs [] h k = truncated_none bytes cs k h
+not_truncated bytes [] (d ∷ ds) h k = over_none bytes d h k.0 k.1
+not_truncated bytes (c ∷ cs) (d ∷ ds) h k =
+    let same : c ≡ d = starts_once bytes c d h.0 k.0 in
+    let left : CodesThen AreOver (drop (length (encoding d)) bytes) cs = subst (λ (x : Arm64UnwindCode). CodesThen AreOver (drop (length (encoding x)) bytes) cs) same h.2 in
+    not_truncated (drop (length (encoding d)) bytes) cs ds left k.2
+
+pub are_the_codes : (bytes : List ℕ) (cs : List Arm64UnwindCode) (x : Result (List Arm64UnwindCode) FrameError) → CodesThen AreOver bytes cs → HasArm64Codes bytes x → x ≡ Ok cs
+are_the_codes bytes cs (Ok ds) h k = ap Ok (is_codes bytes ds cs k h)
+are_the_codes bytes cs (Err e) h k = absurd (not_truncated bytes cs k.1 h k.2)
+
+truncated_kind : (e : FrameError) → IsOfTruncated e → error_kind e ≡ OfCodes Arm64Cut
+truncated_kind (Codes e) h = ap OfCodes h
+truncated_kind (Memory a) h = absurd h
+truncated_kind (Address a) h = absurd h
+truncated_kind (Operation o) h = absurd h
+truncated_kind (Arm64Code c) h = absurd h
+truncated_kind (NotRising a) h = absurd h
+
+one_codes : (bytes : List ℕ) (x y : Result (List Arm64UnwindCode) FrameError) → HasArm64Codes bytes x → HasArm64Codes bytes y → by_kind x ≡ by_kind y
+one_codes bytes x (Ok cs) h k = ap by_kind (are_the_codes bytes cs x k h)
+one_codes bytes (Ok cs) (Err e) h k = absurd (not_truncated bytes cs k.1 h k.2)
+one_codes bytes (Err d) (Err e) h k = ap Err (truncated_kind d h.0 ∙ sym (truncated_kind e k.0))
+
+-- there is one step, up to the numbers in a refusal of codes
+pub one_arm64_step : (m : ℕ → Option ℕ) (i : Arm64InfoView) (place : ℕ) (g : Arm64Registers) (x y : Result Arm64Registers FrameError) → StepsArm64 m i place g x → StepsArm64 m i place g y → by_kind x ≡ by_kind y
+one_arm64_step m i place g x y h k =
+    rw h.2 (rw k.2 (same_then h.0 k.0 (λ cs. undone_codes m (ran_arm64 place cs) g >>= returned_arm64 g.sp) (one_codes i.codes h.0 k.0 h.1 k.1)))
+
+-- codes of bytes
+abbrev SomeCodes : List ℕ → Type 0
+SomeCodes bytes = (x : Result (List Arm64UnwindCode) FrameError) × HasArm64Codes bytes x
+
+with_first : (bytes : List ℕ) (c : Arm64UnwindCode) → StartsWithArm64Code bytes c → is_end c ≡ false → SomeCodes (drop (length (encoding c)) bytes) → SomeCodes bytes
+with_first bytes c h not (Ok cs, k) = (Ok (c ∷ cs), (h, not, k))
+with_first bytes c h not (Err e, k) = (Err e, (k.0, c ∷ k.1, (h, not, k.2)))
+
+ends : (c : Arm64UnwindCode) → is_end c ≡ true → c ≡ End
+ends c h = grind (arith, common_steps)
+
+first_or_end : (bytes : List ℕ) (c : Arm64UnwindCode) (b : Bool) → StartsWithArm64Code bytes c → is_end c ≡ b → SomeCodes (drop (length (encoding c)) bytes) → SomeCodes bytes
+first_or_end bytes c false h e rest = with_first bytes c h e rest
+first_or_end bytes c true h e rest = (Ok [], inr (subst (λ (x : Arm64UnwindCode). StartsWithArm64Code bytes x) (ends c e) h))
+
+size_by : (bytes : List ℕ) (c : Arm64UnwindCode) (e : List ℕ) → StartsWithArm64Code bytes c → encoding c ≡ e → 1 ≤ length e
+size_by bytes c [] h is = absurd (cut_starts_none [] no_bytes c (record { legal = h.legal; spelled = rw is refl }))
+size_by bytes c (x ∷ e) h is = omega arith
+
+has_size : (bytes : List ℕ) (c : Arm64UnwindCode) → StartsWithArm64Code bytes c → 1 ≤ length (encoding c)
+has_size bytes c h = size_by bytes c (encoding c) h refl
+
+codes_step : (bytes left : List ℕ) → bytes ≡ left → All (λ x. x < 256) bytes → ((n : ℕ) → 1 ≤ n → SomeCodes (drop n bytes)) → SomeCodes bytes
+codes_step bytes [] empty all more = (Ok [], inl empty)
+codes_step bytes (x ∷ left) is all more =
+    let some : 0 < length bytes = omega (arith, ap (λ (b : List ℕ). length b) is) in
+    elim (code_or_cut bytes some all) [
+      | inl code ↦ first_or_end bytes code.0 (is_end code.0) code.1 refl (more (length (encoding code.0)) (has_size bytes code.0 code.1))
+      | inr cut ↦ (Err (Codes (Malformed (reasons.Arm64Cut 0))), (refl, [], (some, cut_starts_none bytes cut)))
+    ]
+
+codes_of_left : (k : ℕ) (bytes : List ℕ) → length bytes ≤ k → All (λ x. x < 256) bytes → SomeCodes bytes
+codes_of_left zero bytes few all = (Ok [], inl (nil_from_length bytes (omega (arith, few))))
+codes_of_left (suc k) bytes few all =
+    codes_step bytes bytes refl all (λ n some. codes_of_left k (drop n bytes) (omega (arith, length-drop n bytes, few, some)) (All-drop (λ x. x < 256) n bytes all))
+
+-- each record of bytes has a step
+pub some_arm64_step : (m : ℕ → Option ℕ) (i : Arm64InfoView) (place : ℕ) (g : Arm64Registers) → All (λ x. x < 256) i.codes → (x : Result Arm64Registers FrameError) × StepsArm64 m i place g x
+some_arm64_step m i place g all =
+    let codes = codes_of_left (length i.codes) i.codes (omega arith) all in
+    (codes.0 >>= λ cs. undone_codes m (ran_arm64 place cs) g >>= returned_arm64 g.sp, (codes.0, codes.1, refl))

@@ -1,0 +1,226 @@
+//! What the instruction of each ARM64 unwind code did: the table of codes.
+
+ghost use Rattle.std.specs.Prelude.{◌≡◌, ◌-◌, ◌<◌, IfSome, if◌then◌else◌, Some, None};
+ghost use Rattle.pe_frame.specs.declared.arm64.operation.Arm64Register.TheVariants.{D};
+ghost use Rattle.pe_frame.specs.Arm64Operations.{register_after, is_register, save, save_pair, save_with_link, float_operation, save_operation, operation_of, is_save_next};
+
+use pe_unwind::Arm64UnwindCode;
+
+/// How many integer registers there are, and how many floating-point registers a function preserves.
+const INTEGER_REGISTERS: u8 = 31;
+
+const PRESERVED_FLOATS: u8 = 8;
+
+/// The number of the first floating-point register that a function preserves, d8.
+const FIRST_FLOAT: u8 = 8;
+
+/// A register that a prolog stores.
+#[derive(Clone, Copy)]
+pub(crate) enum Arm64Register {
+    /// x0 to x30.
+    X(u8),
+    /// d8 to d15, by 0 to 7.
+    D(u8),
+}
+
+/// What an instruction of a prolog did. Where it moved the stack pointer and stored registers, it moved first, and offsets
+/// count from there. All are in bytes.
+#[derive(Clone, Copy)]
+pub(crate) enum Arm64Operation {
+    /// Moved the stack pointer down.
+    Allocate(u32),
+    /// Moved the stack pointer down, and stored a register above it.
+    Save {
+        register: Arm64Register,
+        offset: u32,
+        moved: u32,
+    },
+    /// The same of a register and, eight bytes above it, the next one.
+    SavePair {
+        first: Arm64Register,
+        second: Arm64Register,
+        offset: u32,
+        moved: u32,
+    },
+    /// Stored a register, and the link register eight bytes above it.
+    SaveWithLink {
+        register: Arm64Register,
+        offset: u32,
+    },
+    /// Set x29 so far above the stack pointer.
+    SetFrame(u32),
+    /// Signed the link register.
+    Sign,
+    /// Nothing that is to be undone.
+    Nothing,
+}
+
+/// Whether there is a register of this number.
+fn is_register(register: Arm64Register) -> bool
+    ensures { result ≡ is_register register }
+{
+    match register {
+        Arm64Register::X(number) => number < INTEGER_REGISTERS,
+        Arm64Register::D(number) => number < PRESERVED_FLOATS,
+    }
+}
+
+/// The register so many after another, if there is one.
+pub(crate) fn register_after(register: Arm64Register, count: u64) -> Option<Arm64Register>
+    ensures value { result ≡ (if is_register (register_after count register)
+        then Some (register_after count register) else None) }
+    ensures near { IfSome result (λ _. count < 31) }
+{
+    match register {
+        Arm64Register::X(number) => {
+            let sum = u64::from(number).saturating_add(count);
+            if sum < u64::from(INTEGER_REGISTERS) {
+                Some(Arm64Register::X(sum as u8))
+            } else {
+                None
+            }
+        }
+        Arm64Register::D(number) => {
+            let sum = u64::from(number).saturating_add(count);
+            if sum < u64::from(PRESERVED_FLOATS) {
+                Some(Arm64Register::D(sum as u8))
+            } else {
+                None
+            }
+        }
+    }
+}
+
+/// A register was stored.
+fn save(register: Arm64Register, offset: u32, moved: u32) -> Option<Arm64Operation>
+    ensures { result ≡ save register offset moved }
+{
+    if is_register(register) {
+        Some(Arm64Operation::Save {
+            register,
+            offset,
+            moved,
+        })
+    } else {
+        None
+    }
+}
+
+/// A register and the next one were stored.
+fn save_pair(first: Arm64Register, offset: u32, moved: u32) -> Option<Arm64Operation>
+    ensures { result ≡ save_pair first offset moved }
+{
+    match register_after(first, 1) {
+        Some(second) => Some(Arm64Operation::SavePair {
+            first,
+            second,
+            offset,
+            moved,
+        }),
+        None => None,
+    }
+}
+
+/// A register and the link register were stored.
+fn save_with_link(register: Arm64Register, offset: u32) -> Option<Arm64Operation>
+    ensures { result ≡ save_with_link register offset }
+{
+    if is_register(register) {
+        Some(Arm64Operation::SaveWithLink { register, offset })
+    } else {
+        None
+    }
+}
+
+/// A floating-point register by its number in a code, which is 8 or more.
+fn float(number: u8) -> Arm64Register
+    ensures { result ≡ D (number - 8) }
+{
+    Arm64Register::D(number.saturating_sub(FIRST_FLOAT))
+}
+
+/// The codes that store floating-point registers.
+fn float_operation(code: Arm64UnwindCode) -> Option<Arm64Operation>
+    ensures { result ≡ float_operation code }
+{
+    match code {
+        Arm64UnwindCode::SaveFRegPair {
+            first_reg,
+            offset_bytes,
+        } => save_pair(float(first_reg), offset_bytes, 0),
+        Arm64UnwindCode::SaveFRegPairPreindexed {
+            first_reg,
+            offset_bytes,
+        } => save_pair(float(first_reg), 0, offset_bytes),
+        Arm64UnwindCode::SaveFReg { reg, offset_bytes } => save(float(reg), offset_bytes, 0),
+        Arm64UnwindCode::SaveFRegPreindexed { reg, offset_bytes } => {
+            save(float(reg), 0, offset_bytes)
+        }
+        _ => None,
+    }
+}
+
+/// The codes that store registers.
+fn save_operation(code: Arm64UnwindCode) -> Option<Arm64Operation>
+    ensures { result ≡ save_operation code }
+{
+    match code {
+        Arm64UnwindCode::SaveR19R20Preindexed { offset_bytes } => {
+            save_pair(Arm64Register::X(19), 0, offset_bytes)
+        }
+        Arm64UnwindCode::SaveFpLr { offset_bytes } => {
+            save_pair(Arm64Register::X(29), offset_bytes, 0)
+        }
+        Arm64UnwindCode::SaveFpLrPreindexed { offset_bytes } => {
+            save_pair(Arm64Register::X(29), 0, offset_bytes)
+        }
+        Arm64UnwindCode::SaveRegPair {
+            first_reg,
+            offset_bytes,
+        } => save_pair(Arm64Register::X(first_reg), offset_bytes, 0),
+        Arm64UnwindCode::SaveRegPairPreindexed {
+            first_reg,
+            offset_bytes,
+        } => save_pair(Arm64Register::X(first_reg), 0, offset_bytes),
+        Arm64UnwindCode::SaveReg { reg, offset_bytes } => {
+            save(Arm64Register::X(reg), offset_bytes, 0)
+        }
+        Arm64UnwindCode::SaveRegPreindexed { reg, offset_bytes } => {
+            save(Arm64Register::X(reg), 0, offset_bytes)
+        }
+        Arm64UnwindCode::SaveLrPair {
+            first_reg,
+            offset_bytes,
+        } => save_with_link(Arm64Register::X(first_reg), offset_bytes),
+        _ => float_operation(code),
+    }
+}
+
+/// What the instruction of a code did. `None` of `save_next`, which depends on the codes after it, of a code that is not
+/// undone, and of one for a register that there is not.
+pub(crate) fn operation_of(code: Arm64UnwindCode) -> Option<Arm64Operation>
+    ensures { result ≡ operation_of code }
+{
+    match code {
+        Arm64UnwindCode::AllocSmall { size_bytes }
+        | Arm64UnwindCode::AllocMedium { size_bytes }
+        | Arm64UnwindCode::AllocLarge { size_bytes } => Some(Arm64Operation::Allocate(size_bytes)),
+        Arm64UnwindCode::SetFp => Some(Arm64Operation::SetFrame(0)),
+        Arm64UnwindCode::AddFp { offset_bytes, .. } => Some(Arm64Operation::SetFrame(offset_bytes)),
+        Arm64UnwindCode::PacSignLr => Some(Arm64Operation::Sign),
+        Arm64UnwindCode::Nop | Arm64UnwindCode::End | Arm64UnwindCode::EndC => {
+            Some(Arm64Operation::Nothing)
+        }
+        _ => save_operation(code),
+    }
+}
+
+/// Whether a code is `save_next`.
+pub(crate) fn is_save_next(code: Arm64UnwindCode) -> bool
+    ensures { result ≡ is_save_next code }
+{
+    match code {
+        Arm64UnwindCode::SaveNext => true,
+        _ => false,
+    }
+}

@@ -1,0 +1,91 @@
+//! One step of a stack walk on ARM64.
+
+ghost use Rattle.std.specs.Prelude.{◌≡◌, ◌-◌, ◌/◌, Ok};
+ghost use Rattle.pe_unwind.specs.Arm64Record.{info_view};
+ghost use Rattle.pe_frame.specs.declared.arm64.registers.Arm64Registers.{Arm64Registers};
+ghost use Rattle.pe_frame.specs.Arm64Undoing.{returned_arm64, link_register, put_pc};
+ghost use Rattle.pe_frame.specs.Arm64Steps.{StepsArm64};
+ghost use Rattle.pe_frame.specs.Arm64Frames.{Arm64Part, IsArm64Frame, effects_at};
+ghost use Rattle.pe_frame.specs.Arm64Machine.{IsArm64Caller};
+
+use super::record::{after_codes, prolog_length, require_codes, undo_codes};
+use super::registers::{Arm64Registers, LINK_REGISTER};
+use crate::error::FrameError;
+use crate::memory::Memory;
+use pe_unwind::Arm64UnwindInfo;
+
+/// The bytes of an instruction.
+const SIZE_OF_INSTRUCTION: u32 = 4;
+
+/// The registers of the caller, from those at the function's entry, if its stack pointer is not below this one.
+fn leave(pointer: u64, entry: Arm64Registers) -> Result<Arm64Registers, FrameError>
+    ensures { result ≡ returned_arm64 pointer entry }
+{
+    if entry.sp < pointer {
+        return Err(FrameError::NotRising(entry.sp));
+    }
+    Ok(leaf_arm64(entry))
+}
+
+/// The registers of the caller, where so many instructions of the function are before the instruction pointer.
+fn caller<M: Memory>(
+    info: &Arm64UnwindInfo<'_>,
+    place: u32,
+    registers: Arm64Registers,
+    memory: &M,
+) -> Result<Arm64Registers, FrameError>
+    ensures { StepsArm64 (M.word memory.now) (info_view info.now) place registers result }
+{
+    let codes = info.code_bytes();
+    require_codes(codes)?;
+    let ran = after_codes(codes, prolog_length(codes).saturating_sub(place as usize));
+    let entry = undo_codes(ran, registers, memory)?;
+    leave(registers.sp, entry)
+}
+
+/// The registers of a function's caller, from those inside the function, by its unwind record.
+///
+/// `info` is the record of the function, `start` its `begin_address`, `rva` the instruction pointer less the image base. After
+/// the prolog all codes of the record are undone, inside of it those of the instructions before `rva`. The caller goes on at
+/// the link register; `pac_sign_lr` takes its signature off, down to the 48 bits of an address, of which bit 55 says what the
+/// others are. Epilogs are not recognized: in one of them the result is wrong.
+///
+/// **A walk.** In the top frame `rva` is the instruction that is about to run: look the function up by it. In each other frame
+/// it is a return address, which may lie after the end of the function if the call is its last instruction: look up by
+/// `rva - 4`, and pass `rva` to this call. Where no function covers the address, call [`leaf_arm64`], in the top frame alone.
+/// The walk ends where the caller's `pc` is 0 or lies in no image, or where a step is refused. A step may leave the stack
+/// pointer where it is, in the top frame, before the prolog has moved it. End the walk where it does so in any other frame: a
+/// function that calls has stored the link register.
+///
+/// Refused, in this order: `Codes` if one of the codes up to the first `end` is truncated; for each code in turn `Arm64Code`
+/// if it is not undone, then `Address` and `Memory` where they come up; last `NotRising` if the caller's stack pointer is
+/// below this one. These codes are not undone: frames of the operating system's own (`CustomStack`), `AllocZ`, `SaveZReg`,
+/// `SavePReg`, `SaveAnyReg`, reserved codes, those that save a register after x30 or d15, and `SaveNext` unless the first code
+/// after it that is another one saves a pair.
+pub fn step_arm64<M: Memory>(
+    info: &Arm64UnwindInfo<'_>,
+    start: u32,
+    rva: u32,
+    registers: Arm64Registers,
+    memory: &M,
+) -> Result<Arm64Registers, FrameError>
+    ensures exact { StepsArm64 (M.word memory.now)
+        (info_view info.now) ((rva - start) / 4) registers result }
+    ensures undoes { (p : Arm64Part) → info_view info.now ≡ p.info →
+        IsArm64Frame p ((rva - start) / 4) (M.word memory.now) registers →
+        (u : Arm64Registers) × (result ≡ Ok u)
+        × IsArm64Caller (effects_at ((rva - start) / 4) p) p.entry registers u }
+{
+    let offset = rva.saturating_sub(start);
+    caller(info, offset / SIZE_OF_INSTRUCTION, registers, memory)
+}
+
+/// The registers of the caller of a leaf function: one without an entry in the function table, which changes neither the stack
+/// pointer nor a register that a function preserves. The caller goes on at the link register.
+pub fn leaf_arm64(registers: Arm64Registers) -> Arm64Registers
+    ensures { result ≡ put_pc registers (link_register registers) }
+{
+    let mut caller = registers;
+    caller.pc = registers.general[LINK_REGISTER];
+    caller
+}

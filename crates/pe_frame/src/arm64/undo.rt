@@ -1,0 +1,195 @@
+//! Undoing one operation of a prolog on ARM64.
+
+ghost use Rattle.std.specs.Prelude.{◌≡◌, ℕ, Option, ◌+◌, ◌^◌, ◌<◌, ◌≤◌, [], ◌∷◌, IfSome, Some};
+ghost use Rattle.std.specs.Option.{option_and_then};
+ghost use Rattle.pe_unwind.specs.declared.arm64.codes.Arm64UnwindCode.TheVariants.{SaveNext};
+ghost use Rattle.pe_frame.specs.Arm64Operations.{Lower, Store, PointFrame, pair_after, operation_of, effects_of};
+ghost use Rattle.pe_frame.specs.Arm64Undoing.{stripped, put_saved, reverted, reverted_all, undone_as};
+ghost use Rattle.pe_frame.specs.Arm64Reading.{pair_registers};
+
+use super::operation::{Arm64Operation, Arm64Register, operation_of, register_after};
+use super::registers::{Arm64Registers, FRAME_POINTER, LINK_REGISTER};
+use crate::error::FrameError;
+use crate::memory::{Memory, SIZE_OF_WORD};
+use crate::undo::{above, number};
+use pe_unwind::Arm64UnwindCode;
+
+/// The weight of bit 55, which is set in addresses of the system; how many addresses the 48 bits below a signature have; and
+/// the bits above them.
+const SYSTEM_BIT: u64 = 0x80_0000_0000_0000;
+
+const ADDRESSES: u64 = 0x1_0000_0000_0000;
+
+const HIGH_BITS: u64 = 0xFFFF_0000_0000_0000;
+
+/// How many integer registers there are, and how many floating-point registers are preserved.
+const GENERAL: usize = 31;
+
+const FLOATS: usize = 8;
+
+/// The bytes of a pair of registers on the stack, and from how many pairs on none is left.
+const SIZE_OF_PAIR: u64 = 16;
+
+const PAIRS: usize = 16;
+
+/// An address without its signature.
+fn stripped(address: u64) -> u64
+    ensures { result ≡ stripped address }
+{
+    let low = address % ADDRESSES;
+    if address / SYSTEM_BIT % 2 == 1 {
+        low + HIGH_BITS
+    } else {
+        low
+    }
+}
+
+/// The registers with the stack pointer raised.
+fn raise(by: u32, registers: Arm64Registers) -> Result<Arm64Registers, FrameError>
+    ensures { (m : ℕ → Option ℕ) → result ≡ reverted_all m (Lower by ∷ []) registers }
+{
+    let mut registers = registers;
+    registers.sp = above(registers.sp, u64::from(by))?;
+    Ok(registers)
+}
+
+/// The registers with the stack pointer so far below x29.
+fn lower_to_frame(offset: u32, registers: Arm64Registers) -> Result<Arm64Registers, FrameError>
+    ensures { (m : ℕ → Option ℕ) → result ≡ reverted_all m (PointFrame offset ∷ []) registers }
+{
+    let frame = registers.general[FRAME_POINTER];
+    match frame.checked_sub(u64::from(offset)) {
+        Some(address) => {
+            let mut registers = registers;
+            registers.sp = address;
+            Ok(registers)
+        }
+        None => Err(FrameError::Address(frame)),
+    }
+}
+
+/// The registers with another value in one of them.
+fn put(register: Arm64Register, value: u64, registers: Arm64Registers) -> Arm64Registers
+    ensures { result ≡ put_saved registers register value }
+{
+    let mut registers = registers;
+    match register {
+        Arm64Register::X(number) => {
+            let index = usize::from(number);
+            if index < GENERAL {
+                registers.general[index] = value;
+            }
+        }
+        Arm64Register::D(number) => {
+            let index = usize::from(number);
+            if index < FLOATS {
+                registers.float[index] = value;
+            }
+        }
+    }
+    registers
+}
+
+/// The registers with one of them as it was stored, so many bytes above the stack pointer.
+fn load<M: Memory>(
+    register: Arm64Register,
+    offset: u64,
+    registers: Arm64Registers,
+    memory: &M,
+) -> Result<Arm64Registers, FrameError>
+    ensures { result ≡ reverted (M.word memory.now) (Store register offset) registers }
+{
+    let value = number(memory, above(registers.sp, offset)?)?;
+    Ok(put(register, value, registers))
+}
+
+/// The registers before two of them were stored, the second eight bytes above the first, after the stack pointer moved.
+fn undo_pair<M: Memory>(
+    pair: (Arm64Register, Arm64Register),
+    offset: u64,
+    moved: u32,
+    registers: Arm64Registers,
+    memory: &M,
+) -> Result<Arm64Registers, FrameError>
+    requires { offset < 2 ^ 40 }
+    ensures { result ≡ reverted_all (M.word memory.now)
+        (Store pair.0 offset ∷ Store pair.1 (offset + 8) ∷ Lower moved ∷ []) registers }
+{
+    let one = load(pair.0, offset, registers, memory)?;
+    let both = load(pair.1, offset + SIZE_OF_WORD, one, memory)?;
+    raise(moved, both)
+}
+
+/// The registers before an operation, from those after it.
+pub(crate) fn undo_operation<M: Memory>(
+    operation: Arm64Operation,
+    registers: Arm64Registers,
+    memory: &M,
+) -> Result<Arm64Registers, FrameError>
+    ensures { result ≡ reverted_all (M.word memory.now) (effects_of operation) registers }
+{
+    match operation {
+        Arm64Operation::Allocate(size) => raise(size, registers),
+        Arm64Operation::Save {
+            register,
+            offset,
+            moved,
+        } => {
+            let loaded = load(register, u64::from(offset), registers, memory)?;
+            raise(moved, loaded)
+        }
+        Arm64Operation::SavePair {
+            first,
+            second,
+            offset,
+            moved,
+        } => undo_pair((first, second), u64::from(offset), moved, registers, memory),
+        Arm64Operation::SaveWithLink { register, offset } => {
+            let pair = (register, Arm64Register::X(LINK_REGISTER as u8));
+            undo_pair(pair, u64::from(offset), 0, registers, memory)
+        }
+        Arm64Operation::SetFrame(offset) => lower_to_frame(offset, registers),
+        Arm64Operation::Sign => {
+            let mut registers = registers;
+            registers.general[LINK_REGISTER] = stripped(registers.general[LINK_REGISTER]);
+            Ok(registers)
+        }
+        Arm64Operation::Nothing => Ok(registers),
+    }
+}
+
+/// The registers of the n-th pair after the one that starts with a register.
+fn pair_registers(count: usize, first: Arm64Register) -> Option<(Arm64Register, Arm64Register)>
+    ensures value { result ≡ pair_registers count first }
+    ensures near { IfSome result (λ _. count < 16) }
+{
+    if PAIRS <= count {
+        return None;
+    }
+    let first = register_after(first, 2 * count as u64)?;
+    let second = register_after(first, 1)?;
+    Some((first, second))
+}
+
+/// The registers before the n-th `save_next` in a row, by the code after all of these.
+pub(crate) fn undo_save_next<M: Memory>(
+    count: usize,
+    code: Arm64UnwindCode,
+    registers: Arm64Registers,
+    memory: &M,
+) -> Result<Arm64Registers, FrameError>
+    ensures { result ≡ undone_as (M.word memory.now) SaveNext
+        (option_and_then (pair_after count) (operation_of code)) registers }
+{
+    let refused = FrameError::Arm64Code(Arm64UnwindCode::SaveNext);
+    let Some(Arm64Operation::SavePair { first, offset, .. }) = operation_of(code) else {
+        return Err(refused);
+    };
+    match pair_registers(count, first) {
+        Some(pair) => {
+            let above_first = u64::from(offset) + SIZE_OF_PAIR * count as u64;
+            undo_pair(pair, above_first, 0, registers, memory)
+        }
+        None => Err(refused),
+    }
+}
