@@ -20,8 +20,8 @@ use crate::core_image::Core;
 use crate::fields::{FirstFields, resource_data};
 use crate::layout::is_library;
 use pe_core::{
-    COFF_MACHINE_ARM64, COFF_MACHINE_X86_64, Export, ExportData, Header, Import, ImportData, ParseOptions, RelocationData, Result,
-    SectionTable,
+    COFF_MACHINE_ARM64, COFF_MACHINE_X86_64, Export, ExportData, Header, Import, ImportData,
+    ParseOptions, RelocationData, Result, SectionTable,
 };
 use pe_records::{CertificateDirectoryTable, DebugData};
 use pe_resource::ResourceData;

@@ -1,8 +1,6 @@
 //! What an unwinder undoes in the frame of a function.
 
-use pe_image::{
-    PE, ParseMode, ParseOptions, Register, Result, UnwindCode, UnwindInfo,
-};
+use pe_image::{PE, ParseMode, ParseOptions, Register, Result, UnwindCode, UnwindInfo};
 use std::alloc::Global;
 
 /// What an unwind record says of a frame.
