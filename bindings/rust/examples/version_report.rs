@@ -9,15 +9,20 @@ fn dotted(numbers: [u16; 4]) -> String {
     numbers.map(|number| number.to_string()).join(".")
 }
 
-/// The version of an image, or `None` without version information. A string that is missing is empty, and control
-/// characters of strings are escaped.
+/// A text of an image as it may be printed: control characters are escaped.
+fn shown(characters: impl Iterator<Item = char>) -> String {
+    let shown = |it: char| if it.is_control() { it.escape_default().to_string() } else { it.to_string() };
+    characters.map(shown).collect()
+}
+
+/// The version of an image, or `None` without version information. A string that is missing is empty.
 pub fn version_line(bytes: &[u8]) -> Result<Option<String>, Error> {
     let image = Image::parse(bytes, Mode::Permissive)?;
     let Some(fixed) = image.version()? else { return Ok(None) };
     let mut fields = vec![dotted(fixed.file_version()), dotted(fixed.product_version())];
     for name in [VersionName::ProductName, VersionName::CompanyName] {
-        let text = image.version_text(name)?.map_or(String::new(), |text| text.to_string_lossy());
-        fields.push(text.chars().flat_map(|it| if it.is_control() { it.escape_default().collect() } else { vec![it] }).collect());
+        let text = image.version_text(name)?;
+        fields.push(text.map_or(String::new(), |text| shown(text.characters())));
     }
     Ok(Some(fields.join("\t")))
 }

@@ -87,7 +87,8 @@ pub use imports::{Import, Imports, Libraries, Library};
 pub use signing::{Checksum, DigestRanges, Placement};
 pub use symbol_server::{Guid, SymbolPath};
 pub use sys::{
-    Arm64Function, Arm64Packed, Arm64Scope, DebugEntry, Directory, Function, ImageInfo, Registers, Scope, Section, VcFeatures,
+    Arm64Function, Arm64Packed, Arm64Scope, DebugEntry, Directory, Function, ImageInfo, Registers, Scope, Section,
+    VcFeatures,
 };
 pub use version::{FixedVersion, Text, VersionName};
 pub use x64::{Code, Codes, Functions, Handler, Offset, Operation, Plan, Register, Scopes, UnwindRecord};
