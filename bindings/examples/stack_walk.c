@@ -1,8 +1,9 @@
 #include "pe.h"
 
 /* The registers of the caller of an x64 frame, in place: by the image, which is loaded at `base` and has the frame's rip, and
- * a piece of the thread's stack from address frame->stack_start on. In the top frame `is_call` is 0. In every other it is 1:
- * its rip is a return address, so the call before it is looked up. PE_C_NOTHING where no function has made that call. */
+ * a piece of the thread's stack from address frame->stack_start on. `is_call` is 0 in the top frame, and in one that an
+ * interrupt stopped. In every other it is 1: its rip is a return address, so the call before it is looked up. PE_C_NOTHING
+ * where no function has made that call. */
 uint32_t caller_of(const uint8_t *bytes, size_t length, const pe_c_image_info *image, const pe_c_section *sections,
                    uint64_t base, const uint8_t *stack, size_t stack_length, uint32_t is_call, pe_c_frame *frame)
 {

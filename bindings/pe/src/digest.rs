@@ -31,7 +31,7 @@ fn digest_of(path: &Path, image: &Image<'_>) -> Result<Option<Digest>, Error> {
     }))
 }
 
-/// The digest as `sha256sum` shows one, or as JSON.
+/// The digest as `sha256sum` shows one, or as JSON. As text a refusal goes to standard error.
 pub fn report(path: &Path, image: &Image<'_>, is_json: bool) -> Report {
     let found: Part<Digest> = digest_of(path, image).into();
     let status = if found.refusal().is_some() { Status::Refused } else { Status::Done };
@@ -40,7 +40,10 @@ pub fn report(path: &Path, image: &Image<'_>, is_json: bool) -> Report {
         _ if is_json => crate::json(&found),
         Part::Present(digest) => format!("{}  {file}\n", digest.sha256_hex),
         Part::Absent => String::new(),
-        Part::Refused(refusal) => format!("{file}: {refusal}\n"),
+        Part::Refused(refusal) => {
+            eprintln!("pe: {file}: {refusal}");
+            String::new()
+        }
     };
     Report::of(text, status)
 }

@@ -182,13 +182,12 @@ fn version_of(version: &Version, page: &mut Page) {
     }
 }
 
-/// Where a symbol server has the PDB of an image, and the image: a line each.
+/// Where a symbol server has the PDB of an image, and the image: a line each. What is refused goes to standard error.
 pub fn keys(facts: &Facts, _: Style) -> String {
     let pdb = facts.debug.as_ref().and_then(|it| it.pdb.present()).and_then(|it| it.symbol_server_path.as_deref());
     let image = facts.headers.as_ref().and_then(|it| it.symbol_server_path.as_deref());
-    let mut text: String = pdb.into_iter().chain(image).map(|path| escaped(path) + "\n").collect();
     for (part, refusal) in facts.refusals() {
-        text += &format!("{}: {part}: {refusal}\n", escaped(&facts.file));
+        eprintln!("pe: {}: {part}: {refusal}", escaped(&facts.file));
     }
-    text
+    pdb.into_iter().chain(image).map(|path| escaped(path) + "\n").collect()
 }

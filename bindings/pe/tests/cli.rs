@@ -190,6 +190,9 @@ fn keys_are_paths_of_a_symbol_server() {
     let (out, _, status) = run(&["key", &folder.file("a.exe", &made::with_debug())]);
     // The image's own path has its time stamp and its size in memory, both of which are 0 here.
     assert_eq!((out.as_str(), status), ("a.pdb/497B72F6390A44FC878E5A2D63B6CC4B1/a.pdb\na.exe/000000000/a.exe\n", 0));
+    let (out, error, status) = run(&["key", &folder.file("b.exe", b"MZ")]);
+    assert_eq!((out.as_str(), status), ("", 1));
+    assert!(error.ends_with("b.exe: image: truncated (SHORT)\n"), "{error}");
 }
 
 #[test]

@@ -195,7 +195,7 @@ pub struct Frame {
 #[non_exhaustive]
 pub enum End {
     /// No module has the instruction pointer of the last frame, or none of its functions has: only the top frame, and one
-    /// that an interrupt stopped, can be that of a leaf function.
+    /// that an interrupt stopped, can be that of a leaf function, and only where the image has a byte of code.
     NoFunction,
     /// As many frames were returned as the caller wants.
     Bound,
@@ -291,7 +291,10 @@ where
                 let way = if functions.is_interrupted(function) { Way::Interrupt } else { Way::Records };
                 Ok(Frame { registers, way })
             }
-            None if is_return_address => Err(End::NoFunction),
+            // A module after which no other is loaded may be named for every address above it.
+            None if is_return_address || module.image.code(rva, rva.saturating_add(1)).is_empty() => {
+                Err(End::NoFunction)
+            }
             None => {
                 let registers = self.over_memory(rsp, |stack| registers.leaf(stack)).map_err(End::Step)?;
                 Ok(Frame { registers, way: Way::Leaf })

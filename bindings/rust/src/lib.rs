@@ -3,7 +3,8 @@
 //! attaches and detaches certificates.
 //!
 //! The library is proved to return what its definitions say, for every byte string; this crate is a thin safe layer over
-//! it, and is tested. Start with [`Image::parse`], or for a module in memory [`Image::parse_as`]; each part of an image is a method of [`Image`]:
+//! it, and is tested. Start with [`Image::parse`], or for a module in memory [`Image::parse_as`]; each part of an image is a
+//! method of [`Image`]:
 //!
 //! | part | methods | layout |
 //! |---|---|---|
@@ -26,7 +27,8 @@
 //! [.idata]: https://learn.microsoft.com/windows/win32/debug/pe-format#the-idata-section
 //! [version information]: https://learn.microsoft.com/windows/win32/menurc/vs-versioninfo
 //!
-//! - An `Image` borrows the bytes of the file or module. Names, bodies and texts are slices of these bytes: they outlive the `Image`.
+//! - An `Image` borrows the bytes of the file or module. Names, bodies and texts are slices of these bytes: they outlive the
+//!   `Image`.
 //! - A directory that is absent is `Ok(None)`; a damaged one is an [`Error`]. An error in one part does not affect another.
 //! - Every list is an iterator. After an `Err` item it returns `None`.
 //! - No bytes, registers or memory make a call panic or loop forever. Only [`Image::parse`], for the section headers,

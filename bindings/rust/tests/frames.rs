@@ -32,12 +32,22 @@ fn registers() -> Registers {
     registers
 }
 
+/// The image of the functions, in these bytes.
+fn image_of(file: &[u8]) -> Image<'_> {
+    Image::parse(file, Mode::Permissive).unwrap()
+}
+
+/// The bytes of a stack, from `ENTRY - 8` on.
+fn stack_of(bytes: &[u8]) -> Stack<'_> {
+    Stack { start: ENTRY - 8, bytes }
+}
+
 /// All frames of a walk over the bytes of a stack from `ENTRY - 8` on, and why it ended.
 fn walk(registers: Registers, most: usize, bytes: &[u8]) -> (Vec<(u64, u64, Way)>, Option<End>) {
     let file = made::with_functions();
-    let image = Image::parse(&file, Mode::Permissive).unwrap();
+    let image = image_of(&file);
     let module = |address: u64| address.checked_sub(BASE).map(|_| Module { image: &image, base: BASE });
-    let mut frames = Frames::new(registers, most, module, |_| Some(Stack { start: ENTRY - 8, bytes }));
+    let mut frames = Frames::new(registers, most, module, |_| Some(stack_of(bytes)));
     let found = frames.by_ref().map(|it| (it.registers.rip, it.registers.rsp(), it.way)).collect();
     assert_eq!(frames.next(), None);
     (found, frames.end())
@@ -62,23 +72,28 @@ fn a_walk_comes_to_its_end() {
 fn a_leaf_function_is_the_top_frame_alone() {
     let bytes = stack_bytes();
     let mut registers = registers();
-    registers.rip = BASE + 0x6000;
+    // In the section, and in no function.
+    registers.rip = BASE + 0x1100;
     registers.set_rsp(ENTRY);
     let (found, end) = walk(registers, 100, &bytes);
-    assert_eq!(found[..2], [(BASE + 0x6000, ENTRY, Way::Top), (BASE + 0x5020, ENTRY + 8, Way::Leaf)]);
+    assert_eq!(found[..2], [(BASE + 0x1100, ENTRY, Way::Top), (BASE + 0x5020, ENTRY + 8, Way::Leaf)]);
     // Its rbp is that of the inner frame, whose return address comes again.
     assert_eq!((found.len(), end), (2, Some(End::Step(StepError::NotRising(ENTRY + 8)))));
     registers.set_rsp(ENTRY + 8);
     assert_eq!(walk(registers, 100, &bytes).1, Some(End::NoFunction));
+    // The image has no byte there, though its module was named.
+    registers.rip = BASE + 0x6000;
+    registers.set_rsp(ENTRY);
+    assert_eq!(walk(registers, 100, &bytes), (vec![(BASE + 0x6000, ENTRY, Way::Top)], Some(End::NoFunction)));
 }
 
 #[test]
 fn a_step_returns_the_callers_registers() {
     let file = made::with_functions();
-    let image = Image::parse(&file, Mode::Permissive).unwrap();
+    let image = image_of(&file);
     let functions = image.functions().unwrap().unwrap();
     let bytes = stack_bytes();
-    let stack = Stack { start: ENTRY - 8, bytes: &bytes };
+    let stack = stack_of(&bytes);
     let inner = functions.find(0x500C).unwrap().unwrap();
     let caller = functions.step(inner, 0x500C, &[], &registers(), stack).unwrap();
     assert_eq!((caller.rip, caller.rsp(), caller.general[RBP]), (BASE + 0x5020, ENTRY + 8, OUTER + 24));
@@ -97,10 +112,10 @@ fn a_step_returns_the_callers_registers() {
 #[test]
 fn a_step_says_why_there_is_no_caller() {
     let file = made::with_functions();
-    let image = Image::parse(&file, Mode::Permissive).unwrap();
+    let image = image_of(&file);
     let functions = image.functions().unwrap().unwrap();
     let bytes = stack_bytes();
-    let stack = Stack { start: ENTRY - 8, bytes: &bytes };
+    let stack = stack_of(&bytes);
     let root = functions.get(0).unwrap();
     let step = |function, registers: Registers| functions.step(function, 0x500C, &[], &registers, stack).unwrap_err();
     // The last function is chained to itself.
@@ -123,13 +138,13 @@ fn a_step_says_why_there_is_no_caller() {
 #[test]
 fn a_walk_reads_the_piece_that_is_asked_for() {
     let file = made::with_functions();
-    let image = Image::parse(&file, Mode::Permissive).unwrap();
+    let image = image_of(&file);
     let bytes = stack_bytes();
     let module = |address: u64| address.checked_sub(BASE).map(|_| Module { image: &image, base: BASE });
     let mut asked = Vec::new();
     let memory = |address| {
         asked.push(address);
-        (address >= ENTRY - 8).then_some(Stack { start: ENTRY - 8, bytes: &bytes })
+        (address >= ENTRY - 8).then_some(stack_of(&bytes))
     };
     assert_eq!(Frames::new(registers(), 3, module, memory).count(), 3);
     assert_eq!(asked, [ENTRY - 40, ENTRY - 8, ENTRY + 8]);
@@ -138,7 +153,7 @@ fn a_walk_reads_the_piece_that_is_asked_for() {
 #[test]
 fn code_is_that_of_the_image() {
     let file = made::with_functions();
-    let image = Image::parse(&file, Mode::Permissive).unwrap();
+    let image = image_of(&file);
     let table = image.info().directories[made::EXCEPTIONS].virtual_address;
     assert_eq!(image.code(table, table + 8), [0, 0x50, 0, 0, 0x10, 0x50, 0, 0]);
     assert!(image.code(table, table).is_empty());
@@ -151,7 +166,7 @@ fn code_is_that_of_the_image() {
 #[test]
 fn frames_that_lie() {
     let file = made::with_functions();
-    let image = Image::parse(&file, Mode::Permissive).unwrap();
+    let image = image_of(&file);
     let (bytes, sections) = (image.bytes(), image.sections());
     let numbers = [0, 1, 7, 8, 0x5000, u64::from(u32::MAX), 1 << 63, u64::MAX - 7, u64::MAX];
     for number in numbers {

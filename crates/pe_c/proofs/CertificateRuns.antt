@@ -53,7 +53,7 @@ Returns b = ReturnsReported (StepsCertificates b) (ReportsCertificate b)
 refused_with : (b : List ℕ) (w : Range) (r : Refusal) → certificate_step b w ≡ (Err r, no_bytes) → Returns b w (Err r)
 refused_with b w r e = reports_refused (StepsCertificates b) (ReportsCertificate b) w no_bytes r (makes b w no_bytes (Err r) e) (none_is_over b)
 
--- the certificates behind the first are put behind it
+-- the certificates after the first are put after it
 in_front : (c : CertificateView) (rest : Result (List CertificateView) Refusal) → with_rest (c ∷ []) rest ≡ (rest >>= λ cs. Ok (c ∷ cs))
 in_front c (Ok cs) = refl
 in_front c (Err r) = refl
@@ -71,7 +71,7 @@ by_first : (b : List ℕ) (w : Range) (first : Result (CertificateView × ℕ) R
 by_first b w (Ok c) given e more = by_rest b w c.0 c.1 (listed b (walk_from w c.1)) given e (more c.0 c.1 given)
 by_first b w (Err r) given e more = refused_with b w r e
 
--- the walk behind a certificate is shorter, and lies in the bytes
+-- the walk after a certificate is shorter, and lies in the bytes
 further : (b : List ℕ) (w : Range) (next n : ℕ) (before : Bool) → nat_lt next (w.offset + w.length) ≡ before → w.offset < next → w.length ≤ suc n → w.offset + w.length ≤ length b →
     ((v : Range) → v.length ≤ n → v.offset + v.length ≤ length b → Returns b v (listed b v)) →
     Returns b (if before then record { offset = next; length = w.offset + w.length - next } else no_bytes) (listed b (if before then record { offset = next; length = w.offset + w.length - next } else no_bytes))

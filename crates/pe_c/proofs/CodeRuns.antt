@@ -52,7 +52,7 @@ is_over b w bytes e none answer v s =
 
 -- ---- all steps
 
--- the walk behind a step, whose stream goes on with these items
+-- the walk after a step, whose stream goes on with these items
 after_code : (b : List ℕ) (w v : CodeWalk) (bytes : List ℕ) (given : Option (Result UnwindCode Error)) → bytes_at b w.left ≡ Ok bytes → StepsOver bytes w given v → bytes_at b v.left ≡ Ok (left_of bytes w v)
 after_code b w v bytes given e s = left_after b w.left v.left bytes e s.shorter s.same_end
 

@@ -39,7 +39,7 @@ end_is_over entry_at width b r e answer next s = (s.0 ∙ rw e refl, s.1 ∙ rw 
 no_bytes_left : (width : ℕ) (b : List ℕ) → left_entry width b no_bytes ≡ Ok None
 no_bytes_left width b = at_end width b no_bytes (grind (arith, nat_tests)) refl
 
--- a refused step, behind which the walk is over
+-- a refused step, after which the walk is over
 refusal : {X : Type 0} (entry_at : List ℕ → ℕ → X) (width : ℕ) (b : List ℕ) (r : Range) → left_entry width b r ≡ Err Short → ReturnsItems (StepsEntries entry_at width b) r (Err Short ∷ [])
 refusal entry_at width b r e = (
   refl,

@@ -20,7 +20,7 @@ use Rattle.pe_c.specs.declared.exports.Exports.{Exports}
 
 -- ---- one step
 
--- a walk behind all entries is over
+-- a walk after all entries is over
 over_if : (offset : ℕ → Option ℕ) (b : List ℕ) (w v : Exports) (answer : Result (Option Export) Refusal) (test : Bool) → test ≡ true → StepsExportsIf test offset b w answer v → (answer ≡ Ok None) × (v ≡ w)
 over_if offset b w v answer true e s = s
 over_if offset b w v answer false e s = absurd cc
@@ -40,7 +40,7 @@ step_over offset b d w v answer h t s =
     subst (λ (r : Result ExportDataView Refusal). StepsOverExports offset b r w answer v) t
     (step_if offset b w v answer (nat_le (count_of w) w.next) (grind (arith, nat_tests)) s)
 
--- the walk behind one more entry
+-- the walk after one more entry
 abbrev one_further : Exports → Exports
 one_further w = record w { next = w.next + 1 }
 
@@ -80,7 +80,7 @@ further_if offset b d w v answer (Some y) test e h t none f a m =
     (subst (λ (r : Result ExportDataView Refusal). StepsOverExports offset b r (one_further w) answer v) (sym t)
     (Some y, (f.0, omega (arith, later), f.2, (λ k from end. f.3 k (omega arith) end), f.4, f.5), a, m))
 
--- the next entry has no export: a step does what it does behind it
+-- the next entry has no export: a step does what it does after it
 passes_by : (offset : ℕ → Option ℕ) (b : List ℕ) (d : ExportDataView) (w v : Exports) (answer : Result (Option Export) Refusal) → w.next < count_of w → tables_or_short b w ≡ Ok d →
     reported_entry offset b d w.next ≡ None → StepsExports offset b w answer v → StepsExports offset b (one_further w) answer v
 passes_by offset b d w v answer h t none s =

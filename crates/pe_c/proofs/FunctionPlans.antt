@@ -82,7 +82,7 @@ all_zip_more R [] (z ∷ ys) x y a r = absurd a
 all_zip_more R (z ∷ xs) [] x y a r = absurd a
 all_zip_more R (z ∷ xs) (w ∷ ys) x y a r = (a.0, all_zip_more R xs ys x y a.1 r)
 
--- a plan that stands at a function of the chain, behind the records that it told
+-- a plan that stands at a function of the chain, after the records that it told
 record Stands (t : Table) (b : List ℕ) (f : RuntimeFunction) (reported : List UnwindRecord) (p : Plan) : Type 0 where
   records : List UnwindInfoView
   reports : AllZip (ReportsUnwindRecord b) reported records
@@ -100,7 +100,7 @@ record Reported (t : Table) (b : List ℕ) (f : RuntimeFunction) (reported : Lis
 abbrev GoesOn : Table → List ℕ → RuntimeFunction → List UnwindRecord → Plan → Type 0
 GoesOn t b f reported p = Stands t b f reported p ⊎ ((p.is_over ≡ 1) × Reported t b f reported)
 
--- what a step answers behind told records, and where it leaves the plan
+-- what a step answers after told records, and where it leaves the plan
 abbrev Steps : Table → List ℕ → RuntimeFunction → List UnwindRecord → Result (Option UnwindRecord) Refusal → Plan → Type 0
 Steps t b f reported (Ok None) q = Reported t b f reported
 Steps t b f reported (Ok (Some r)) q = GoesOn t b f (reported ++ r ∷ []) q

@@ -121,7 +121,7 @@ step_last offset w b q rva h =
     let left : left_entry w b (record { offset = q; length = 0 }) ≡ Ok None = grind (arith, nat_tests) in
     ap (import_left offset w b (over q 0 rva)) left
 
--- the first import and those behind it
+-- the first import and those after it
 one : (offset : ℕ → Option ℕ) (w : ℕ) (b : List ℕ) (walk next : Imports) (r : Result ImportView Refusal) (x : Result Import Refusal) (rest : List (Result ImportView Refusal)) →
     Agrees b r x → import_step offset w b walk ≡ import_by w walk x → record { left = record { offset = walk.left.offset + w; length = walk.left.length - w }; rva = (walk.rva + w) % 2 ^ 64 } ≡ next →
     ReturnsReported (StepsImports offset w b) (ReportsImport b) next (all_or_refusal rest) → ReturnsReported (StepsImports offset w b) (ReportsImport b) walk (all_or_refusal (r ∷ rest))
@@ -170,7 +170,7 @@ run offset w b dll some (suc n) q rva inside small =
 
 -- ---- lists
 
--- rows of one width from a place on: the first, and those behind it
+-- rows of one width from a place on: the first, and those after it
 rows_front : {X : Type 0} (row : ℕ → X) (w q n : ℕ) → each (λ k. row (q + w * k)) (suc n) ≡ row q ∷ each (λ k. row (q + w + w * k)) n
 rows_front {X} row w q n =
     let first : q + w * 0 ≡ q = omega arith in

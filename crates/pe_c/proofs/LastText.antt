@@ -1,4 +1,4 @@
--- A number behind the last one with a text says nothing of its own.
+-- A number after the last one with a text says nothing of its own.
 use Rattle.std.proofs.Common.{◌≡◌, ℕ, ◌-◌, ◌≤◌, sym, arith}
 use Rattle.std.specs.Prelude.{codes}
 use Rattle.std.proofs.lemmas.List.{get_or_past}

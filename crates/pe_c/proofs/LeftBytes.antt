@@ -10,7 +10,7 @@ use Rattle.pe_c.specs.declared.ranges.Range.{Range}
 pub same_range : (r s : Range) → r.offset ≡ s.offset → r.length ≡ s.length → r ≡ s
 same_range r s offset size = ap (λ (p : ℕ). record { offset = p; length = r.length }) offset ∙ ap (λ (n : ℕ). record { offset = s.offset; length = n }) size
 
--- what is left behind n bytes of a range
+-- what is left after n bytes of a range
 pub rest_of_range : (b : List ℕ) (p n k : ℕ) → p + n ≤ length b → k ≤ n → range b (p + k) (n - k) ≡ drop k (range b p n)
 rest_of_range b p n k h i = same_lists _ _ (grind (arith, places)) (λ j d lt. grind (arith, places))
 
@@ -27,7 +27,7 @@ there b r bytes false h e = absurd (let same : ◌≡◌ {A = Result (List ℕ) 
 pub bytes_there : (b : List ℕ) (r : Range) → r.offset + r.length ≤ length b → bytes_at b r ≡ Ok (range b r.offset r.length)
 bytes_there b r h = let inside : holds b r.offset r.length ≡ true = grind (arith, nat_tests) in rw inside refl
 
--- behind a step a walk has left what the step says
+-- after a step a walk has left what the step says
 pub left_after : (b : List ℕ) (w v : Range) (bytes : List ℕ) → bytes_at b w ≡ Ok bytes → v.length ≤ w.length → v.offset + v.length ≡ w.offset + w.length → bytes_at b v ≡ Ok (drop (length bytes - v.length) bytes)
 left_after b w v bytes e shorter same =
     let in_b = there b w bytes (holds b w.offset w.length) refl e in

@@ -43,7 +43,7 @@ goes_once b image s mode u v w p q =
     let same : p.0 ≡ q.0 = same_inside p.0 q.0 (one_record b image s mode u (Ok p.0) (Ok q.0) p.1 q.1) in
     sym p.3 ∙ ap (λ (r : UnwindRecord). r.chained.unwind_info_address) same ∙ q.3
 
--- ---- where a plan stands behind k records
+-- ---- where a plan stands after k records
 
 record At (goes : ℕ → ℕ → Type 0) (u : ℕ) (p : Plan) (k : ℕ) : Type 0 where
   before : ℕ

@@ -24,7 +24,7 @@ taken left rest e g =
 part_of_range : (b : List ℕ) (p n m k : ℕ) → p + n ≤ length b → m + k ≤ n → slice_range b (p + m) (p + m + k) ≡ take k (drop m (slice_range b p (p + n)))
 part_of_range b p n m k h i = same_lists _ _ (grind (arith, places)) (λ j d lt. grind (arith, places))
 
--- the name of an entry stands behind its two numbers
+-- the name of an entry stands after its two numbers
 pub named : (b left : List ℕ) (w : Range) (answer : Option (Result POGOInfoEntry Error)) (rest : List ℕ) →
     holds b w.offset w.length ≡ true → left ≡ range b w.offset w.length → ReturnsPogoEntry left answer rest → IsNamed b w answer
 named b left w None rest inside is g = tt

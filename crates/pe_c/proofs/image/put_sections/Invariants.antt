@@ -3,7 +3,7 @@ use Rattle.pe_core.specs.Records.{section_table}
 use Rattle.pe_core.specs.Rows.{rows}
 use Rattle.pe_c.proofs.image.put_sections.Given as goal
 
--- the first i sections are read, and behind them is what was there
+-- the first i sections are read, and after them is what was there
 abbrev pub invariant-loop-i : goal.invariant-loop-i
 invariant-loop-i l = record {
   read : take l.i l.room ≡ rows (section_table l.bytes) 40 l.offset l.i;
