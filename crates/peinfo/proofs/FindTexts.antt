@@ -1,7 +1,7 @@
 -- What lookup finds.
 use Rattle.std.proofs.Common.{◌≡◌, ℕ, List, [], Option, None, Ok, refl}
 use Rattle.pe_core.specs.Options.{default_options}
-use Rattle.pe_image.specs.Image.{ImageView, IsImage}
+use Rattle.pe_image.specs.Image.{ImageView, IsImage, exceptions_on}
 use Rattle.pe_unwind.specs.FunctionTable.{Finds, StopsBetween, scan}
 use Rattle.pe_unwind.specs.declared.function_table.RuntimeFunction.{RuntimeFunction}
 use Rattle.peinfo.specs.Find.{IsFindText, functions_of, found_line}
@@ -15,5 +15,5 @@ pub nothing_found : (a : ℕ) → Finds [] a None
 unfolding scan
 nothing_found a = record { entry = tt; covers = tt; stops = nothing_stops a; scanned = λ _. refl }
 
-pub find_text : (b : List ℕ) (image : ImageView) (a : ℕ) (found : Option RuntimeFunction) (text : List ℕ) → IsImage b default_options (Ok image) → Finds (functions_of image.header.coff_header.machine image.exception_data) a found → text ≡ found_line found → IsFindText b a text
+pub find_text : (b : List ℕ) (image : ImageView) (a : ℕ) (found : Option RuntimeFunction) (text : List ℕ) → IsImage b default_options (Ok image) → Finds (functions_of (exceptions_on 0x8664 image)) a found → text ≡ found_line found → IsFindText b a text
 find_text b image a found text given finds shown = record { image = image; given = given; found = found; finds = finds; shown = shown }

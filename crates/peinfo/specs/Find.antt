@@ -1,19 +1,19 @@
 -- The line of `at`: the function that covers an RVA.
-use Rattle.std.specs.Prelude.{◌≡◌, ℕ, ◌==◌, List, [], Option, Some, None, Result, Ok, Err, IsOk, Vec, codes, if◌then◌else◌}
+use Rattle.std.specs.Prelude.{◌≡◌, ℕ, List, [], Option, Some, None, Result, Ok, Err, IsOk, Vec, codes}
 use Rattle.pe_core.specs.Options.{default_options}
 use Rattle.pe_core.specs.Refusals.{UnlessMemory, IfMemory, kind_of}
 use Rattle.pe_core.specs.declared.error.Error.{Error}
 use Rattle.pe_image.specs.Core.{sections_read}
-use Rattle.pe_image.specs.Image.{ImageView, IsImage}
+use Rattle.pe_image.specs.Image.{ImageView, IsImage, exceptions_on}
 use Rattle.pe_unwind.specs.ExceptionTable.{ExceptionView, table_of}
 use Rattle.pe_unwind.specs.FunctionTable.{functions, Finds}
 use Rattle.pe_unwind.specs.declared.function_table.RuntimeFunction.{RuntimeFunction}
 use Rattle.peinfo.specs.FunctionLines.{function_line}
 
--- the x64 functions of an image of this machine: none without exception data, and none for another machine
-abbrev pub functions_of : ℕ → Option ExceptionView → List RuntimeFunction
-functions_of machine None = []
-functions_of machine (Some exceptions) = if machine == 0x8664 then functions (table_of exceptions) else []
+-- the functions of x64 exception data: none without any
+abbrev pub functions_of : Option ExceptionView → List RuntimeFunction
+functions_of None = []
+functions_of (Some exceptions) = functions (table_of exceptions)
 
 -- the line of a function that is found, or `none`
 abbrev pub found_line : Option RuntimeFunction → List ℕ
@@ -25,7 +25,7 @@ pub record IsFindText (b : List ℕ) (address : ℕ) (text : List ℕ) : Type 0 
   pub image : ImageView
   pub given : IsImage b default_options (Ok image)
   pub found : Option RuntimeFunction
-  pub finds : Finds (functions_of image.header.coff_header.machine image.exception_data) address found
+  pub finds : Finds (functions_of (exceptions_on 0x8664 image)) address found
   pub shown : text ≡ found_line found
 
 -- the refusal of the image, or `Memory`: an allocation can fail only once the headers and the section headers are read

@@ -8,7 +8,7 @@ use Rattle.pe_core.specs.Refusals.{Refusal, UnlessMemory, IfMemory, kind_of}
 use Rattle.pe_core.specs.declared.error.Error.{Error}
 use Rattle.pe_core.specs.declared.section_table.SectionTable.{SectionTable}
 use Rattle.pe_image.specs.Core.{sections_read}
-use Rattle.pe_image.specs.Image.{ImageView, IsImage}
+use Rattle.pe_image.specs.Image.{ImageView, IsImage, exceptions_on}
 use Rattle.pe_plan.specs.Plans.{PlansFrom}
 use Rattle.pe_unwind.specs.ExceptionTable.{ExceptionView}
 use Rattle.pe_unwind.specs.FunctionTable.{Finds}
@@ -50,7 +50,7 @@ PlansRecords None sections found answer = answer ≡ Ok []
 pub record IsPlanned (b : List ℕ) (address : ℕ) (found : Option RuntimeFunction) (answer : Result (List UnwindInfoView) Refusal) : Type 0 where
   pub image : ImageView
   pub given : IsImage b default_options (Ok image)
-  pub finds : Finds (functions_of image.header.coff_header.machine image.exception_data) address found
+  pub finds : Finds (functions_of (exceptions_on 0x8664 image)) address found
   pub plan : PlansRecords image.exception_data image.sections found answer
 
 -- the line of that function, and those of its records

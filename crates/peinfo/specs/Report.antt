@@ -24,7 +24,7 @@ report_text image =
     image_line image.is_64 image.entry image.image_base
     ++ debug_lines image.debug_data
     ++ certificate_lines image.certificates
-    ++ function_lines image.header.coff_header.machine image.exception_data
+    ++ function_lines image
 
 -- the text of the image that is read from these bytes with these options
 pub record IsReport (b : List ℕ) (opts : ParseOptions) (text : List ℕ) : Type 0 where

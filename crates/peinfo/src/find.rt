@@ -1,6 +1,7 @@
 //! The command `at`: the line of the x64 function that covers an RVA, or `none`.
 
 ghost use Rattle.std.specs.Prelude.{◌≡◌, ◌++◌, OnOk};
+ghost use Rattle.std.specs.Option.{option_map};
 ghost use Rattle.pe_unwind.specs.FunctionTable.{Finds};
 ghost use Rattle.peinfo.specs.Engine.{Reports};
 ghost use Rattle.peinfo.specs.Find.{functions_of, found_line, IsFindText, IsFindRefusal, ReturnsFindText};
@@ -9,24 +10,20 @@ ghost use Rattle.peinfo.specs.Output.{writer_of, failures_of};
 use crate::counted_out::CountedOut;
 use crate::engine::{ReportError, write_text};
 use crate::functions;
-use pe_image::{COFF_MACHINE_X86_64, ExceptionData, PE, RuntimeFunction};
+use pe_image::{ExceptionData, PE, RuntimeFunction};
 use std::alloc::{AllocError, Allocator};
 use std::io;
 
 /// The function that covers the RVA, if x64 exception data has one.
-pub fn found_in(
-    machine: u16,
-    exceptions: &Option<ExceptionData>,
-    rva: u32,
-) -> Option<RuntimeFunction>
-    ensures { Finds (functions_of machine exceptions.now) rva result }
+pub fn found_in(exceptions: Option<&ExceptionData>, rva: u32) -> Option<RuntimeFunction>
+    ensures { Finds (functions_of (option_map (λ e. e.now) exceptions.entry)) rva result }
 {
     match exceptions {
-        Some(exceptions) if machine == COFF_MACHINE_X86_64 => match exceptions.find_function(rva) {
+        Some(exceptions) => match exceptions.find_function(rva) {
             Ok(found) => found,
             Err(_) => None,
         },
-        _ => None,
+        None => None,
     }
 }
 
@@ -53,8 +50,7 @@ fn text_of<A: Allocator + Copy + Drop>(
     ensures { ReturnsFindText bytes.now rva result }
 {
     let image = PE::parse(alloc, bytes)?;
-    let machine = image.header.coff_header.machine;
-    let found = found_in(machine, &image.exception_data, rva);
+    let found = found_in(image.x64_exceptions(), rva);
     let mut text = Vec::new(alloc);
     push_found(&mut text, found)?;
     Ok(text)

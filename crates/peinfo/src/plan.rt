@@ -106,8 +106,7 @@ fn text_of<A: Allocator + Copy + Drop>(
     ensures { ReturnsPlanText bytes.now rva result }
 {
     let image = PE::parse(alloc, bytes)?;
-    let machine = image.header.coff_header.machine;
-    let found = found_in(machine, &image.exception_data, rva);
+    let found = found_in(image.x64_exceptions(), rva);
     let records = records_of(alloc, &image.exception_data, &image.sections, found)?;
     let mut text = Vec::new(alloc);
     push_found(&mut text, found)?;

@@ -45,17 +45,16 @@ fn text_of_image<A: Allocator + Copy + Drop>(
 ) -> Result<Vec<u8, A>, AllocError>
     ensures { IfOk result (λ text. text.items ≡ report_text (image_view image.now)) }
 {
-    let machine = image.header.coff_header.machine;
     let lines = debug::line_count(&image.debug_data)
         .saturating_add(image.certificates.len())
-        .saturating_add(exceptions::line_count(machine, &image.exception_data))
+        .saturating_add(exceptions::line_count(image))
         .saturating_add(1);
     // One allocation for all lines.
     let mut text = Vec::with_capacity(alloc, lines.saturating_mul(LONGEST_LINE))?;
     push_image_line(&mut text, image.is_64, image.entry, image.image_base)?;
     debug::push_lines(&mut text, &image.debug_data)?;
     certificates::push_lines(&mut text, &image.certificates)?;
-    exceptions::push_lines(&mut text, machine, &image.exception_data)?;
+    exceptions::push_lines(&mut text, image)?;
     Ok(text)
 }
 
