@@ -171,21 +171,24 @@ before_end-past a o f is h = rw is (grind (arith, nat_tests))
 
 -- the entry to which the search comes, if the RVA is before its end
 decided : (fs : List RuntimeFunction) (a : ℕ) (last found : Option RuntimeFunction) → FindsStart (λ f. f.begin_address) fs a last → found ≡ if_before_end a last → StopsBetween fs a found × (IsSortedBy (λ f. f.begin_address) fs → found ≡ scan fs a)
-unfolding scan
+unfolding scan StopsBetween
 decided fs a last found finds is = ((last, finds.stops, is), λ o. is ∙ ap (if_before_end a) (finds.scanned o))
 
-pub finds_none : (fs : List RuntimeFunction) (a : ℕ) (last : Option RuntimeFunction) → FindsStart (λ f. f.begin_address) fs a last → last ≡ None → Finds fs a None
-finds_none fs a last finds is =
-    let both = decided fs a last None finds (sym (ap (if_before_end a) is)) in
+pub finds_none : (b : List ℕ) (a : ℕ) (last : Option RuntimeFunction) → FindsStart (λ f. f.begin_address) (whole_entries function_at 12 b) a last → last ≡ None → Finds (functions b) a None
+unfolding functions
+finds_none b a last finds is =
+    let both = decided (functions b) a last None finds (sym (ap (if_before_end a) is)) in
     record { entry = tt; covers = tt; stops = both.0; scanned = both.1 }
 
-pub finds_past : (fs : List RuntimeFunction) (a : ℕ) (last : Option RuntimeFunction) (f : RuntimeFunction) → FindsStart (λ f. f.begin_address) fs a last → last ≡ Some f → f.end_address ≤ a → Finds fs a None
-finds_past fs a last f finds is h =
-    let both = decided fs a last None finds (sym (before_end-past a last f is h)) in
+pub finds_past : (b : List ℕ) (a : ℕ) (last : Option RuntimeFunction) (f : RuntimeFunction) → FindsStart (λ f. f.begin_address) (whole_entries function_at 12 b) a last → last ≡ Some f → f.end_address ≤ a → Finds (functions b) a None
+unfolding functions
+finds_past b a last f finds is h =
+    let both = decided (functions b) a last None finds (sym (before_end-past a last f is h)) in
     record { entry = tt; covers = tt; stops = both.0; scanned = both.1 }
 
-pub finds_inside : (fs : List RuntimeFunction) (a : ℕ) (last : Option RuntimeFunction) (f : RuntimeFunction) → FindsStart (λ f. f.begin_address) fs a last → last ≡ Some f → a < f.end_address → Finds fs a (Some f)
-finds_inside fs a last f finds is h =
-    let both = decided fs a last (Some f) finds (sym (before_end-inside a last f is h)) in
-    let at_f : FindsStart (λ f. f.begin_address) fs a (Some f) = subst (FindsStart (λ f. f.begin_address) fs a) is finds in
+pub finds_inside : (b : List ℕ) (a : ℕ) (last : Option RuntimeFunction) (f : RuntimeFunction) → FindsStart (λ f. f.begin_address) (whole_entries function_at 12 b) a last → last ≡ Some f → a < f.end_address → Finds (functions b) a (Some f)
+unfolding functions
+finds_inside b a last f finds is h =
+    let both = decided (functions b) a last (Some f) finds (sym (before_end-inside a last f is h)) in
+    let at_f : FindsStart (λ f. f.begin_address) (functions b) a (Some f) = subst (FindsStart (λ f. f.begin_address) (functions b) a) is finds in
     record { entry = at_f.entry; covers = (at_f.starts, h); stops = both.0; scanned = both.1 }

@@ -53,7 +53,7 @@ scan fs a = if_before_end a (last_start (λ f. f.begin_address) fs a)
 -- where lookup stops, in any table: the entry before that position starts at or before the RVA, the entry after it starts
 -- after the RVA, and lookup finds the one before it, if the RVA is before its end. A table sorted by start RVA has one
 -- such position.
-abbrev pub StopsBetween : List RuntimeFunction → ℕ → Option RuntimeFunction → Type 0
+unfoldable pub StopsBetween : List RuntimeFunction → ℕ → Option RuntimeFunction → Type 0
 StopsBetween fs a found = (last : Option RuntimeFunction) × StopsAfter (λ f. f.begin_address) fs a last × (found ≡ if_before_end a last)
 
 -- what lookup finds: an entry that covers the RVA, or none; in a table sorted by start RVA, what a linear scan finds
