@@ -776,6 +776,15 @@ PE_C_SIZE(pe_c_arm64_code, 24);
 uint32_t pe_c_arm64_table(const uint8_t *bytes, size_t length, const pe_c_image_info *image,
                           const pe_c_section *sections, size_t count, pe_c_range *out) PE_C_RESULT(3, 6);
 
+/* Returns the function that covers an RVA, by binary search, or PE_C_NOTHING. In a table sorted by start RVA that is the
+ * last function that starts at or before the RVA, if it is long enough; in any other table it is some function that covers
+ * the RVA, or PE_C_NOTHING. The length is packed into the entry, or stands in the first word of its unwind record.
+ * Errors: PE_C_SHORT where the table is not inside the bytes; of that record PE_C_UNMAPPED, and PE_C_SHORT where its first
+ * word is truncated. */
+uint32_t pe_c_find_arm64_function(const uint8_t *bytes, size_t length, const pe_c_image_info *image,
+                                  const pe_c_section *sections, size_t count, const pe_c_range *table, uint32_t rva,
+                                  pe_c_arm64_function *out) PE_C_RESULT(3, 6, 8);
+
 /* Returns the function with an index, from 0.
  * Errors: PE_C_SHORT where the table is not inside the bytes; PE_C_FUNCTION_INDEX where it has no such entry. */
 uint32_t pe_c_arm64_function_at(const uint8_t *bytes, size_t length, const pe_c_range *table, uint64_t index,

@@ -398,6 +398,20 @@ impl<'i, 'a> Arm64Functions<'i, 'a> {
         (0..self.len()).map_while(move |index| functions.get(index))
     }
 
+    /// The function that covers an RVA, by binary search.
+    ///
+    /// In a table sorted by start RVA that is the last function that starts at or before the RVA, if it is long enough. In
+    /// any other table it is some function that covers the RVA, or `None`. The length is packed into the entry, or stands
+    /// in the first word of its unwind record.
+    ///
+    /// # Errors
+    ///
+    /// Of that record: [`Error::UNMAPPED`], and [`Error::SHORT`] where its first word is truncated. The table of
+    /// [`Image::arm64_functions`] lies inside the file.
+    pub fn find(&self, rva: u32) -> Result<Option<Arm64Function>, Error> {
+        self.image.look(sys::pe_c_find_arm64_function, &self.table, rva)
+    }
+
     /// The unwind data of a function.
     ///
     /// # Errors

@@ -316,8 +316,8 @@ type Call<T> = unsafe extern "C" fn(*const u8, usize, *const ImageInfo, *const S
 type CallWith<M, T> = unsafe extern "C" fn(*const u8, usize, *const ImageInfo, *const Section, usize, M, *mut T) -> u32;
 
 /// A call that takes an image, a record and a number.
-type Look<M, T> =
-    unsafe extern "C" fn(*const u8, usize, *const ImageInfo, *const Section, usize, *const M, u64, *mut T) -> u32;
+type Look<M, N, T> =
+    unsafe extern "C" fn(*const u8, usize, *const ImageInfo, *const Section, usize, *const M, N, *mut T) -> u32;
 
 // SAFETY of all calls here: they are the declarations of `sys`, which match the archive. Each pointer and length are
 // those of one borrow that outlives the call; what the call writes overlaps no other argument, and is initialised. The
@@ -452,12 +452,12 @@ impl<'a> Image<'a> {
     }
 
     /// Makes a call that takes a record and a number too.
-    pub(crate) fn look<M, T: Default>(&self, call: Look<M, T>, more: &M, index: u64) -> Result<Option<T>, Error> {
+    pub(crate) fn look<M, N, T: Default>(&self, call: Look<M, N, T>, more: &M, n: N) -> Result<Option<T>, Error> {
         let mut out = T::default();
         let (bytes, sections) = (self.bytes, &self.sections);
         let (first, count) = (sections.as_ptr(), sections.len());
         // SAFETY: as above, and `more` is lent for the call.
-        let number = unsafe { call(bytes.as_ptr(), bytes.len(), &self.info, first, count, more, index, &mut out) };
+        let number = unsafe { call(bytes.as_ptr(), bytes.len(), &self.info, first, count, more, n, &mut out) };
         returned(number, out)
     }
 

@@ -716,6 +716,8 @@ calls_of_an_image! {
     pe_c_step(code: *const u8, code_length: usize, stack: *const u8, stack_length: usize) -> Frame;
     /// Returns the range of the ARM64 function table.
     pe_c_arm64_table() -> Range;
+    /// Returns the ARM64 function that covers an RVA.
+    pe_c_find_arm64_function(table: *const Range, rva: u32) -> Arm64Function;
     /// Returns the unwind record of an ARM64 function, unless its unwind data is packed.
     pe_c_arm64_unwind_record(function: *const Arm64Function) -> Arm64Record;
     /// Returns the tables of the export directory, as a walk.

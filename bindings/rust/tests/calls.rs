@@ -496,6 +496,17 @@ fn arm64_functions_are_read() {
     assert!(image.functions().unwrap().is_none());
     let functions = image.arm64_functions().unwrap().unwrap();
     assert_eq!(functions.iter().map(|it| it.begin).collect::<Vec<_>>(), [0x5000, 0x5010]);
+    for (rva, begin) in [
+        (0x4FFF, None),
+        (0x5000, Some(0x5000)),
+        (0x500F, Some(0x5000)),
+        (0x5010, Some(0x5010)),
+        (0x504F, Some(0x5010)),
+        (0x5050, None),
+        (u32::MAX, None),
+    ] {
+        assert_eq!(functions.find(rva).unwrap().map(|it| it.begin), begin);
+    }
     let Arm64Unwinding::Packed(packed) = functions.unwinding(functions.get(0).unwrap()).unwrap() else {
         panic!("packed data")
     };

@@ -89,6 +89,8 @@ fn walk<W, T: Default + PartialEq + std::fmt::Debug>(
 fn ranges_that_lie_are_refused() {
     let bytes = with_functions();
     let (start, length) = (bytes.as_ptr(), bytes.len());
+    let image = Image::parse(&bytes, Mode::Strict).unwrap();
+    let (info, sections) = (image.info(), image.sections());
     for offset in lies(length as u64) {
         for size in lies(length as u64) {
             let range = sys::Range { offset, length: size };
@@ -100,6 +102,11 @@ fn ranges_that_lie_are_refused() {
                 assert_eq!(answer == 2, !there);
                 let answer = sys::pe_c_function_at(start, length, &range, 0, &mut function);
                 assert!(there || answer == 2);
+                let (first, count) = (sections.as_ptr(), sections.len());
+                let mut function = sys::Arm64Function::default();
+                let answer =
+                    sys::pe_c_find_arm64_function(start, length, info, first, count, &range, 0x5008, &mut function);
+                assert!(there || (answer == 2 && function == sys::Arm64Function::default()));
                 let mut out = sys::Range::default();
                 let answer = sys::pe_c_scope_table(start, length, &range, &mut out);
                 assert!(there || (answer == 2 && out == sys::Range::default()));

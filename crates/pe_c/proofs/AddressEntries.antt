@@ -1,16 +1,18 @@
 -- Exports by their index: the parts of an address table, and the entry that a named export has.
-use Rattle.std.proofs.Common.{◌≡◌, ℕ, ◌+◌, ◌*◌, Bool, true, false, List, length, Option, Some, None, Result, Ok, refl, ap, subst, ◌∙◌}
+use Rattle.std.proofs.Common.{◌≡◌, ℕ, ◌*◌, Bool, true, false, List, length, Option, Some, None, Result, Ok, refl, ap, subst, ◌∙◌}
 use Rattle.std.specs.Prelude.{◌==◌, if◌then◌else◌}
 use Rattle.std.specs.Option.{option_and_then, option_map}
 use Rattle.pe_core.specs.Bytes.{holds, le, record_at}
+use Rattle.pe_core.specs.ExportAddresses.{AddressesView, address_at, address_with, forwarder_text, lies_in}
 use Rattle.pe_core.specs.Exports.{ExportDataView, export_data_at, image_name, named_export, table_at, table_entry, text_at_address}
 use Rattle.pe_core.specs.Records.{export_directory}
 use Rattle.pe_core.specs.Refusals.{Refusal, ◌>>=◌}
 use Rattle.pe_core.specs.SectionMap.{mapped}
 use Rattle.pe_core.specs.Text.{text_at}
 use Rattle.pe_core.specs.declared.data_directories.DataDirectory.{DataDirectory}
+use Rattle.pe_core.specs.declared.export_addresses.ExportAddress.{ExportAddress}
 use Rattle.pe_core.specs.declared.export.ExportDirectoryTable.{ExportDirectoryTable}
-use Rattle.pe_c.specs.ExportAddresses.{address_table, exported_at, exported_with, forwarder_text, lies_in, or_no_bytes, text_range}
+use Rattle.pe_c.specs.ExportAddresses.{address_table, addresses_in, exported_with, exported_at, or_no_bytes, text_range}
 use Rattle.pe_c.specs.Exports.{export_reported, index_at, reported_entry}
 use Rattle.pe_c.specs.Parts.{IsPart}
 use Rattle.pe_c.specs.Ranges.{IsRange, bytes_at}
@@ -37,9 +39,8 @@ part_if : (offset : ℕ → Option ℕ) (b : List ℕ) (rva : ℕ) (there : Bool
 part_if offset b rva true = part_at b (offset rva)
 part_if offset b rva false = refl
 
-pub forwarders : (offset : ℕ → Option ℕ) (b : List ℕ) (d : DataDirectory) (ordinal rva : ℕ) →
-    IsPart b (exported_with offset b d ordinal rva).forwarder (forwarder_text offset b d rva)
-forwarders offset b d ordinal rva = part_if offset b rva (lies_in d rva)
+pub forwarders : (offset : ℕ → Option ℕ) (b : List ℕ) (t : AddressesView) (i rva : ℕ) → IsPart b (exported_with offset b (address_with t i rva)).forwarder (forwarder_text offset b t.directory rva)
+forwarders offset b t i rva = part_if offset b rva (lies_in t.directory rva)
 
 -- ---- the table
 
@@ -93,10 +94,14 @@ by_place : (f : ℕ → ℕ → Exported) (offset : ℕ → Option ℕ) (b : Lis
 by_place f offset b d i None x e = absurd cc
 by_place f offset b d i (Some p) x e = by_name f offset d p i (text_at b p) x e
 
+mapped_twice : (g : ExportAddress → Exported) (h : ℕ → ExportAddress) (o : Option ℕ) → option_map g (option_map h o) ≡ option_map (λ n. g (h n)) o
+mapped_twice g h None = refl
+mapped_twice g h (Some n) = refl
+
 pub entries : (offset : ℕ → Option ℕ) (b : List ℕ) (d : ExportDataView) (t : AddressTable) (i : ℕ) (x : Export) →
     bytes_at b t.addresses ≡ Ok d.addresses → reported_entry offset b d i ≡ Some x →
-    exported_at offset b t x.index ≡ Ok (Some (exported_with offset b t.directory (t.ordinal_base + x.index) x.rva))
+    exported_at offset b t x.index ≡ Ok (Some (exported_with offset b (address_with (addresses_in t d.addresses) x.index x.rva)))
 entries offset b d t i x there e =
-    let f : ℕ → ℕ → Exported = λ k r. exported_with offset b t.directory (t.ordinal_base + k) r in
-    ap (λ (r : Result (List ℕ) Refusal). r >>= λ table. Ok (option_map (exported_with offset b t.directory (t.ordinal_base + x.index)) (table_entry 4 table x.index))) there
-    ∙ ap (λ (o : Option Exported). Ok o) (by_place f offset b d i (offset (le d.names (4 * i) 4)) x e)
+    let f : ℕ → ℕ → Exported = λ k r. exported_with offset b (address_with (addresses_in t d.addresses) k r) in
+    ap (λ (r : Result (List ℕ) Refusal). r >>= λ table. Ok (option_map (exported_with offset b) (address_at (addresses_in t table) x.index))) there
+    ∙ ap (λ (o : Option Exported). Ok o) (mapped_twice (exported_with offset b) (address_with (addresses_in t d.addresses) x.index) (table_entry 4 d.addresses x.index) ∙ by_place f offset b d i (offset (le d.names (4 * i) 4)) x e)

@@ -2,10 +2,12 @@
 use Rattle.std.specs.Prelude.{◌≡◌, ℕ, ◌+◌, ◌*◌, ◌%◌, ◌<◌, ◌==◌, nat_le, List, [], ◌∷◌, length, Option, Some, None, Result, Ok, Err, if◌then◌else◌}
 use Rattle.pe_core.specs.Bytes.{le}
 use Rattle.pe_core.specs.Refusals.{Refusal, Arm64Stream, Arm64Cut, kind_of, outcome, ◌>>=◌}
+use Rattle.pe_core.specs.SectionMap.{map_view}
 use Rattle.pe_core.specs.declared.error.Error.{Error}
 use Rattle.pe_core.specs.declared.section_table.SectionTable.{SectionTable}
 use Rattle.pe_unwind.specs.Arm64Encoding.{bit, encoding, StartsWithArm64Code, StartsWithNoArm64Code}
-use Rattle.pe_unwind.specs.Arm64Functions.{is_packed, arm64_function_of}
+use Rattle.pe_unwind.specs.Arm64Functions.{is_packed, arm64_function_of, arm64_functions}
+use Rattle.pe_unwind.specs.Arm64Lookup.{FindsArm64, length_of_arm64}
 use Rattle.pe_unwind.specs.Arm64Record.{Arm64HandlerView, Arm64InfoView, info_at, scopes_offset}
 use Rattle.pe_unwind.specs.Arm64Tiling.{stream_at}
 use Rattle.pe_unwind.specs.Arm64Unwinding.{offset_of_function}
@@ -34,6 +36,20 @@ use Rattle.pe_c.specs.declared.ranges.Range.{Range}
 -- the entry of a table with this index
 abbrev pub arm64_function_in : List ℕ → Range → ℕ → Result Arm64RuntimeFunction Refusal
 arm64_function_in b table index = bytes_at b table >>= λ entries. arm64_function_of entries index
+
+-- the length of an entry's function, by the section map of the image, in the mode in which it is read
+abbrev pub arm64_length_in : List ℕ → Image → List SectionTable → Arm64RuntimeFunction → Result ℕ Refusal
+arm64_length_in b image sections = length_of_arm64 b (map_view (options_of image.mode) sections image.file_alignment)
+
+-- the result of a lookup of an RVA in these entries, or what refuses the table
+abbrev pub LocatesArm64In : (Arm64RuntimeFunction → Result ℕ Refusal) → Result (List ℕ) Refusal → ℕ → Result (Option Arm64RuntimeFunction) Refusal → Type 0
+LocatesArm64In length_of (Err refusal) a answer = answer ≡ Err refusal
+LocatesArm64In length_of (Ok entries) a answer = FindsArm64 length_of (arm64_functions entries) a answer
+
+-- what a call for a lookup returns
+abbrev pub HandsOutArm64Found : List ℕ → Image → List SectionTable → Range → ℕ → ℕ → Arm64RuntimeFunction → Arm64RuntimeFunction → Type 0
+HandsOutArm64Found b image sections table a number old new =
+    (answer : Result (Option Arm64RuntimeFunction) Refusal) × LocatesArm64In (arm64_length_in b image sections) (bytes_at b table) a answer × HandsOutIf number old new answer
 
 -- the fields of an entry's unwind data, read as packed
 abbrev pub packed_fields : Arm64RuntimeFunction → Arm64Packed

@@ -1,10 +1,12 @@
 -- The address table of an export directory: every export by its index, also those without a name.
-use Rattle.std.specs.Prelude.{ℕ, ◌+◌, ◌*◌, ◌==◌, ◌&&◌, Bool, true, false, List, length, nat_le, nat_lt, Option, Some, None, Result, Ok, if◌then◌else◌}
+use Rattle.std.specs.Prelude.{ℕ, ◌*◌, ◌==◌, Bool, true, false, List, [], length, Option, Some, None, Result, Ok, if◌then◌else◌}
 use Rattle.std.specs.Option.{option_and_then, option_map}
-use Rattle.pe_core.specs.Exports.{ExportDataView, export_data_at, table_entry, text_at_address}
+use Rattle.pe_core.specs.ExportAddresses.{AddressesView, address_at}
+use Rattle.pe_core.specs.Exports.{ExportDataView, export_data_at}
 use Rattle.pe_core.specs.Refusals.{Refusal, ◌>>=◌}
 use Rattle.pe_core.specs.Text.{text_at}
 use Rattle.pe_core.specs.declared.data_directories.DataDirectory.{DataDirectory}
+use Rattle.pe_core.specs.declared.export_addresses.ExportAddress.{ExportAddress}
 use Rattle.pe_core.specs.declared.section_table.SectionTable.{SectionTable}
 use Rattle.pe_c.specs.Exports.{export_table, one_if_some}
 use Rattle.pe_c.specs.Images.{export_directory, is_absent, map_of_image}
@@ -43,29 +45,24 @@ address_table_at b image sections =
     if is_absent (export_directory image) then Ok None
     else export_data_at (map_of_image image sections) b (export_directory image).virtual_address >>= λ d. Ok (Some (address_table (map_of_image image sections) b (export_directory image) d))
 
--- whether an RVA lies in a directory
-abbrev pub lies_in : DataDirectory → ℕ → Bool
-lies_in d rva = nat_le d.virtual_address rva && nat_lt rva (d.virtual_address + d.size)
-
--- the text of a forwarder, if the RVA is that of one and a text is there
-abbrev pub forwarder_text : (ℕ → Option ℕ) → List ℕ → DataDirectory → ℕ → Option (List ℕ)
-forwarder_text offset b d rva = if lies_in d rva then text_at_address offset b rva else None
-
 -- 1 or 0
 abbrev pub one_if : Bool → ℕ
 one_if true = 1
 one_if false = 0
 
--- the entry with this ordinal and RVA: a forwarder where the RVA lies in the export directory
-abbrev pub exported_with : (ℕ → Option ℕ) → List ℕ → DataDirectory → ℕ → ℕ → Exported
-exported_with offset b directory ordinal rva = record {
-  forwarder = or_no_bytes (if lies_in directory rva then text_range offset b rva else None);
-  ordinal = ordinal;
-  rva = rva;
-  is_forwarder = one_if (lies_in directory rva);
+-- the entry of an export: its numbers, and the range of a forwarder's text
+abbrev pub exported_with : (ℕ → Option ℕ) → List ℕ → ExportAddress → Exported
+exported_with offset b x = record {
+  forwarder = or_no_bytes (if x.is_forwarder then text_range offset b x.rva else None);
+  ordinal = x.ordinal;
+  rva = x.rva;
+  is_forwarder = one_if x.is_forwarder;
 }
 
--- the entry with an index, if the table has it: its ordinal is the base plus the index
+-- an address table whose bytes are these; it has no names
+abbrev pub addresses_in : AddressTable → List ℕ → AddressesView
+addresses_in t table = record { addresses = table; names = []; ordinals = []; directory = t.directory; ordinal_base = t.ordinal_base }
+
+-- the entry with an index, if the table has it
 abbrev pub exported_at : (ℕ → Option ℕ) → List ℕ → AddressTable → ℕ → Result (Option Exported) Refusal
-exported_at offset b t i =
-    bytes_at b t.addresses >>= λ table. Ok (option_map (exported_with offset b t.directory (t.ordinal_base + i)) (table_entry 4 table i))
+exported_at offset b t i = bytes_at b t.addresses >>= λ table. Ok (option_map (exported_with offset b) (address_at (addresses_in t table) i))

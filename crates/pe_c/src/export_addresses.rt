@@ -6,7 +6,7 @@
 ghost use Rattle.std.specs.Prelude.{◌≡◌};
 ghost use Rattle.pe_core.specs.Exports.{export_data_view};
 ghost use Rattle.pe_core.specs.Refusals.{answer_of};
-ghost use Rattle.pe_c.specs.ExportAddresses.{address_table, address_table_at, dll_name, exported_at, exported_with, lies_in, text_range};
+ghost use Rattle.pe_c.specs.ExportAddresses.{address_table, address_table_at, dll_name, exported_with, exported_at, text_range};
 ghost use Rattle.pe_c.specs.HandsOut.{HandsOutIf};
 ghost use Rattle.pe_c.specs.Images.{export_directory, map_of_image};
 
@@ -14,7 +14,9 @@ use crate::exports::export_table;
 use crate::image::{EXPORT_TABLE, Image, directory, is_absent, offset_of};
 use crate::ranges::{NO_BYTES, Range, slice_of};
 use crate::results::{hand_out_some, options};
-use pe_core::{DataDirectory, ExportData, Result, SectionTable, read_u32, text_at};
+use pe_core::{
+    DataDirectory, ExportAddress, ExportAddresses, ExportData, Result, SectionTable, text_at,
+};
 
 /// The address table of an export directory, and what it takes to read it.
 #[repr(C)]
@@ -121,37 +123,25 @@ pub extern "C" fn pe_c_export_addresses(
     hand_out_some(table_at(bytes, image, sections), out)
 }
 
-/// Whether an RVA lies in a directory.
-fn lies_in(directory: DataDirectory, rva: u32) -> bool
-    ensures { result ≡ lies_in directory rva }
-{
-    let end = u64::from(directory.virtual_address) + u64::from(directory.size);
-    directory.virtual_address <= rva && u64::from(rva) < end
-}
-
-/// The entry with an index and this RVA.
+/// The entry of an export, with the range of a forwarder's text.
 fn exported_with(
     bytes: &[u8],
     image: &Image,
     sections: &[SectionTable],
-    table: &AddressTable,
-    ordinal: u64,
-    rva: u32,
+    address: ExportAddress,
 ) -> Exported
-    ensures { result ≡ exported_with (map_of_image image.now sections.now) bytes.now
-        table.now.directory ordinal rva }
+    ensures { result ≡ exported_with (map_of_image image.now sections.now) bytes.now address }
 {
-    let is_forwarder = lies_in(table.directory, rva);
-    let forwarder = if is_forwarder {
-        text_range(bytes, rva, image, sections)
+    let forwarder = if address.is_forwarder {
+        text_range(bytes, address.rva, image, sections)
     } else {
         None
     };
     Exported {
         forwarder: forwarder.unwrap_or(NO_BYTES),
-        ordinal,
-        rva,
-        is_forwarder: u32::from(is_forwarder),
+        ordinal: address.ordinal,
+        rva: address.rva,
+        is_forwarder: u32::from(address.is_forwarder),
     }
 }
 
@@ -165,13 +155,17 @@ fn exported_at(
     ensures { answer_of result ≡ exported_at
         (map_of_image image.now sections.now) bytes.now table.now index }
 {
-    let addresses = slice_of(bytes, &table.addresses)?;
-    if addresses.len() as u64 / 4 <= index {
-        return Ok(None);
+    let addresses = ExportAddresses {
+        addresses: slice_of(bytes, &table.addresses)?,
+        names: &[],
+        ordinals: &[],
+        directory: table.directory,
+        ordinal_base: table.ordinal_base,
+    };
+    match addresses.at(index as usize) {
+        Some(address) => Ok(Some(exported_with(bytes, image, sections, address))),
+        None => Ok(None),
     }
-    let rva = read_u32(addresses, 4 * index as usize);
-    let ordinal = u64::from(table.ordinal_base) + index;
-    Ok(Some(exported_with(bytes, image, sections, table, ordinal, rva)))
 }
 
 /// Reads the entry with an index, from 0: `NOTHING` where the table has no such entry. Strict and permissive mode make no

@@ -5,7 +5,7 @@ ghost use Rattle.pe_c.specs.Arm64.{StepsArm64Codes, arm64_function_in, arm64_wal
 ghost use Rattle.pe_c.specs.Certificates.{StepsCertificates, ReportsCertificate, listed};
 ghost use Rattle.pe_c.specs.Debug.{key_of, pdb20_field, pogo_field, repro_field};
 ghost use Rattle.pe_c.specs.DebugWalks.{StepsPogoEntries, entries_reported};
-ghost use Rattle.pe_c.specs.ExportAddresses.{address_table, exported_at, exported_with, forwarder_text};
+ghost use Rattle.pe_c.specs.ExportAddresses.{address_table, addresses_in, exported_with, exported_at};
 ghost use Rattle.pe_c.specs.Exports.{StepsExports, count_of, tables_or_short, reported_entry, reported_from, walk_over, with_tables};
 ghost use Rattle.pe_c.specs.Images.{import_directory, map_of_image};
 ghost use Rattle.pe_c.specs.Imports.{StepsLibraries, libraries_at};
@@ -32,6 +32,7 @@ ghost use Rattle.pe_c.specs.declared.signing.Digest.{Digest};
 ghost use Rattle.pe_c.specs.declared.unwinding.CodeWalk.{CodeWalk};
 ghost use Rattle.pe_c.specs.declared.unwinding.UnwindRecord.{UnwindRecord};
 ghost use Rattle.pe_core.specs.Bytes.{AreBytes, holds};
+ghost use Rattle.pe_core.specs.ExportAddresses.{AddressesView, address_with, forwarder_text};
 ghost use Rattle.pe_core.specs.Exports.{ExportDataView, export_at, export_data_at, exports};
 ghost use Rattle.pe_core.specs.Header.{HeaderView};
 ghost use Rattle.pe_core.specs.Imports.{ImportRecordView, entry_size, import_data_at};
@@ -259,13 +260,13 @@ pub fn exports_by_index_are_those_by_name()
     ensures name { (offset : ℕ → Option ℕ) (b : List ℕ) (rva : ℕ) (directory : DataDirectory)
         (d : ExportDataView) → export_data_at offset b rva ≡ Ok d →
         IsPart b (address_table offset b directory d).name d.name }
-    ensures forwarders { (offset : ℕ → Option ℕ) (b : List ℕ) (directory : DataDirectory)
-        (ordinal rva : ℕ) → IsPart b (exported_with offset b directory ordinal rva).forwarder
-        (forwarder_text offset b directory rva) }
+    ensures forwarders { (offset : ℕ → Option ℕ) (b : List ℕ) (t : AddressesView) (i rva : ℕ) →
+        IsPart b (exported_with offset b (address_with t i rva)).forwarder
+        (forwarder_text offset b t.directory rva) }
     ensures named { (offset : ℕ → Option ℕ) (b : List ℕ) (d : ExportDataView) (t : AddressTable)
         (i : ℕ) (x : Export) → bytes_at b t.addresses ≡ Ok d.addresses →
         reported_entry offset b d i ≡ Some x → exported_at offset b t x.index ≡ Ok (Some
-        (exported_with offset b t.directory (t.ordinal_base + x.index) x.rva)) }
+        (exported_with offset b (address_with (addresses_in t d.addresses) x.index x.rva))) }
 {}
 
 /// A walk over the libraries of an image returns, one a step and in their order, the records of its import directory,

@@ -18,6 +18,7 @@ pub mod Splices
 pub mod PutNumbers
 pub mod EntryItems
 pub mod ExportLists
+pub mod AddressLists
 pub mod Pigeonhole
 pub mod Gathering
 pub mod ImportLists

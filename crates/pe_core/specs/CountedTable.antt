@@ -1,5 +1,5 @@
 -- A table that counts its reads. (This project's own.)
-use Rattle.std.specs.Prelude.{ℕ, ◌+◌, ◌-◌, ◌^◌, List, [], ◌∷◌, Option, Some, None, nat_lt, if◌then◌else◌}
+use Rattle.std.specs.Prelude.{ℕ, ◌+◌, ◌-◌, ◌^◌, List, Option, Some, None, nat_lt, if◌then◌else◌}
 use Rattle.pe_core.specs.Bytes.{le, holds}
 
 -- what is seen of a table: its bytes and its count
@@ -21,6 +21,6 @@ after_read t = record { content = t.content; count = one_more t.count }
 abbrev pub u32_of : List ℕ → ℕ → Option ℕ
 u32_of b p = if holds b p 4 then Some (le b p 4) else None
 
--- three u32s from offset p on, if they are all there
-abbrev pub triple_of : List ℕ → ℕ → Option (List ℕ)
-triple_of b p = if holds b p 12 then Some (le b p 4 ∷ le b (p + 4) 4 ∷ le b (p + 8) 4 ∷ []) else None
+-- the entry of n bytes at offset p, if it is there
+abbrev pub entry_of : {X : Type 0} → (List ℕ → ℕ → X) → ℕ → List ℕ → ℕ → Option X
+entry_of entry_at n b p = if holds b p n then Some (entry_at b p) else None

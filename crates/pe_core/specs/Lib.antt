@@ -21,6 +21,7 @@ pub mod SectionMap
 pub mod Gathered
 pub mod Exports
 pub mod ExportSteps
+pub mod ExportAddresses
 pub mod Imports
 pub mod ImportSteps
 pub mod SectionPieces

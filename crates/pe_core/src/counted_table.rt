@@ -1,13 +1,14 @@
-//! A table of `u32` fields that counts its reads. The lookup of functions in `pe_unwind` reads one, so its contract
-//! bounds how many entries it reads.
+//! A table that counts its reads. The lookup of functions in `pe_unwind` reads one, so its contract bounds how many
+//! entries it reads.
 
 ghost use Rattle.std.specs.Prelude.{◌≡◌, length};
-ghost use Rattle.pe_core.specs.CountedTable.{Counted, u32_of, triple_of, one_more, after_read};
+ghost use Rattle.pe_core.specs.CountedTable.{Counted, u32_of, entry_of, one_more, after_read};
 
 use crate::bytes::{read_u32, require_bytes};
+use crate::table_entries::TableEntry;
 use std::marker::Model;
 
-/// A table whose bytes are read by `u32_at` and `triple_at` alone, each of which counts. It can't be cloned, so its
+/// A table whose bytes are read by `u32_at` and `entry_at` alone, each of which counts. It can't be cloned, so its
 /// count includes every read.
 #[derive(Drop)]
 pub struct CountedTable<'a> {
@@ -62,20 +63,14 @@ impl<'a> CountedTable<'a> {
         }
     }
 
-    /// Three `u32`s, one after the other, at `offset` of the table, or `None` if they are truncated. Counts one
-    /// read in either case.
-    pub fn triple_at(&mut self, offset: usize) -> Option<[u32; 3]>
-        ensures value { result ≡ triple_of self.old.content offset }
+    /// The entry at `offset` of the table, or `None` if it is truncated. Counts one read in either case.
+    pub fn entry_at<E: TableEntry>(&mut self, offset: usize) -> Option<E>
+        ensures value { result ≡ entry_of E.entry_at E.SIZE self.old.content offset }
         ensures counts { self.new ≡ after_read self.old }
     {
         count_one(&mut self.reads);
-        let bytes = self.bytes;
-        match require_bytes(bytes, offset, 12) {
-            Ok(()) => Some([
-                read_u32(bytes, offset),
-                read_u32(bytes, offset + 4),
-                read_u32(bytes, offset + 8),
-            ]),
+        match require_bytes(self.bytes, offset, E::SIZE) {
+            Ok(()) => Some(E::at(self.bytes, offset)),
             Err(_) => None,
         }
     }

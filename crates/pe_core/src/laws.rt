@@ -4,10 +4,14 @@ pub mod constants;
 pub mod derives;
 pub mod symbols;
 
-ghost use Rattle.std.specs.Prelude.{◌≡◌, ℕ, ◌+◌, ◌<◌, ◌≤◌, ◌^◌, List, Ok, Option, Some, IsSome, length};
+ghost use Rattle.std.specs.Prelude.{◌≡◌, ℕ, ◌+◌, ◌/◌, ◌<◌, ◌≤◌, ◌^◌, List, Ok, Option, Some, IsSome, length};
+ghost use Rattle.pe_core.specs.declared.data_directories.DataDirectory.{DataDirectory};
+ghost use Rattle.pe_core.specs.declared.export_addresses.ExportAddress.{ExportAddress};
 ghost use Rattle.pe_core.specs.declared.options.ParseMode.{ParseMode};
 ghost use Rattle.pe_core.specs.Bytes.{AreBytes, range, le, bytes_of, put};
 ghost use Rattle.pe_core.specs.Chains.{after, NeverStops, FollowsKey, HasKeysBelow, KeyDecides};
+ghost use Rattle.pe_core.specs.ExportAddresses.{NameView, address_at, address_with, addresses_of, name_at};
+ghost use Rattle.pe_core.specs.Exports.{ExportDataView, ExportView, export_at};
 ghost use Rattle.pe_core.specs.Header.{OptionalHeaderView, HeaderView, optional_header_at, header_at};
 ghost use Rattle.pe_core.specs.Records.{dos_header, coff_header, standard_fields_32, standard_fields_64, windows_fields_32, windows_fields_64, data_directory, section_table, te_header};
 ghost use Rattle.pe_core.specs.Spelling.{spell_dos, spell_coff, spell_standard_fields_32, spell_standard_fields_64, spell_windows_fields_32, spell_windows_fields_64, spell_directory, spell_section, spell_te, spell_optional};
@@ -47,6 +51,24 @@ pub fn records_spell_their_bytes()
 pub fn optional_headers_spell_their_bytes()
     ensures { (b : List ℕ) (p : ℕ) (o : OptionalHeaderView) → AreBytes b →
         optional_header_at b p ≡ Ok o → range b p (length (spell_optional o)) ≡ spell_optional o }
+{}
+
+/// Each export that has a name is the one with the index to which its entry of the name table leads, and each name that
+/// leads to an export is that of an export. So the exports by name, which `Export::parse_with_opts` lists, are exports by
+/// index.
+#[tactic(auto, using(crate::proofs::AddressLists::by_name, crate::proofs::AddressLists::to_name))]
+pub fn exports_by_name_are_those_by_index()
+    ensures named { (offset : ℕ → Option ℕ) (b : List ℕ) (directory : DataDirectory)
+        (d : ExportDataView) (i : ℕ) (e : ExportView) → i < length d.names / 4 →
+        export_at offset b d i ≡ Some e → (k : ℕ) ×
+        (name_at offset b (addresses_of directory d) i ≡ Some (record { name = e.name; index = k }))
+        × (address_at (addresses_of directory d) k
+        ≡ Some (address_with (addresses_of directory d) k e.rva)) }
+    ensures leading { (offset : ℕ → Option ℕ) (b : List ℕ) (directory : DataDirectory)
+        (d : ExportDataView) (i : ℕ) (n : NameView) (x : ExportAddress) →
+        i < length d.names / 4 → name_at offset b (addresses_of directory d) i ≡ Some n →
+        address_at (addresses_of directory d) n.index ≡ Some x → export_at offset b d i
+        ≡ Some (record { name = n.name; rva = x.rva; offset = offset x.rva }) }
 {}
 
 /// Headers that strict mode accepts are those that permissive mode returns.

@@ -12,6 +12,7 @@ mod counted_table;
 mod data_directories;
 mod error;
 mod export;
+mod export_addresses;
 mod first_zero;
 mod header;
 mod import;
@@ -41,6 +42,9 @@ pub use counted_table::CountedTable;
 pub use data_directories::{DataDirectories, DataDirectory, MOST_DIRECTORIES};
 pub use error::{Error, Reason, Result};
 pub use export::{Export, ExportData, ExportDirectoryTable};
+pub use export_addresses::{
+    ExportAddress, ExportAddressIterator, ExportAddresses, ExportName, lies_in,
+};
 pub use header::{
     COFF_MACHINE_ARM64, COFF_MACHINE_X86_64, CoffHeader, DOS_MAGIC, DosHeader, Header,
     IMAGE_FILE_DLL, PE_MAGIC, SIZE_OF_DOS_HEADER, SIZE_OF_TE_HEADER, TE_MAGIC, TeHeader,

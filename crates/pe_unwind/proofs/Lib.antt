@@ -12,6 +12,7 @@ pub mod Streams
 pub mod OneChain
 pub mod SomeAnswer
 pub mod Arm64Entries
+pub mod Arm64Searches
 pub mod Arm64Lengths
 pub mod Arm64OneCode
 pub mod Arm64Whole

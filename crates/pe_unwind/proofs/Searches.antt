@@ -1,25 +1,23 @@
--- What the search by halves keeps.
+-- What the search by halves keeps, and what it finds.
 use Rattle.std.proofs.Common.{◌≡◌, ℕ, zero, suc, ◌+◌, ◌*◌, ◌/◌, ◌<◌, ◌≤◌, Bool, true, false, List, [], ◌∷◌, ◌++◌, length, get_or, take, drop, Option, Some, None, filter, refl, ap, sym, ◌∙◌, subst, ⊎_elim, ◌^◌, leb, arith, IfSome, Contains}
 use Rattle.std.specs.List.{last_or}
 use Rattle.std.specs.Int.Digits.{digits_of}
 use Rattle.std.proofs.lemmas.Int.Digits.{length-digits_of_step, length-digits_of-le, number_lt, number_digits_of, all_below_base_digits_of}
 use Rattle.std.proofs.lemmas.List.{take_more, take-append-drop}
+use Rattle.std.proofs.Math.Nat.{mul-add, mul-div-le, mul-le-mul_left, mul-one}
 use Rattle.std.proofs.Math.Seq.{take-nil}
-use Rattle.std.proofs.lemmas.List.Elements.{Contains-get_or}
 use Rattle.std.proofs.lemmas.Bool.{cases_lt}
 use Rattle.std.proofs.lemmas.Bool.Decides.{nat_tests}
 use Rattle.pe_core.proofs.EntryItems.{length-whole_entries, get_or-whole_entries}
 use Rattle.pe_core.specs.CountedTable.{one_more}
+use Rattle.pe_core.specs.Rows.{whole_entries}
 use Rattle.pe_unwind.specs.declared.function_table.RuntimeFunction.{RuntimeFunction}
-use Rattle.pe_unwind.specs.FunctionTable.{function_at, functions, NeverFalls, scan, if_before_end, digits, Finds, StartsAfter, StopsBetween}
+use Rattle.pe_unwind.specs.FunctionTable.{function_at, functions, scan, if_before_end, Finds, StopsBetween}
+use Rattle.pe_unwind.specs.Lookup.{FindsStart, IsSortedBy, StartsAfter, StopsAfter, digits}
 
 pub length_functions : (b : List ℕ) → length (functions b) ≡ length b / 12
 unfolding functions
 length_functions b = length-whole_entries function_at 12 b
-
-pub get_or-functions : (b : List ℕ) (i : ℕ) (d : RuntimeFunction) → i < length b / 12 → get_or (functions b) i d ≡ function_at b (12 * i)
-unfolding functions
-get_or-functions b i d h = get_or-whole_entries function_at 12 b i d h
 
 -- the first half passes, the rest does not: a filter keeps the first half
 pub filter_first : {X : Type 0} (p : X → Bool) (xs : List X) (i : ℕ) → ((k : ℕ) (d : X) → k < i → k < length xs → p (get_or xs k d) ≡ true) → ((k : ℕ) (d : X) → i ≤ k → k < length xs → p (get_or xs k d) ≡ false) → filter p xs ≡ take i xs
@@ -35,129 +33,24 @@ pub last_or-append : {X : Type 0} (o : Option X) (xs : List X) (x : X) → last_
 last_or-append o [] x = refl
 last_or-append o (y ∷ xs) x = last_or-append (Some y) xs x
 
+-- ---- the count of reads
+
 -- halving takes a digit
-pub digits-half : (n : ℕ) → 0 < n → digits n ≡ digits (n / 2) + 1
+digits-half : (n : ℕ) → 0 < n → digits n ≡ digits (n / 2) + 1
 unfolding digits
 digits-half n h = length-digits_of_step 2 n (omega arith) h
 
-pub lt-digits : (n : ℕ) → n < 2 ^ digits n
+lt-digits : (n : ℕ) → n < 2 ^ digits n
 unfolding digits
 lt-digits n = omega (arith, number_lt 2 (digits_of 2 n) (all_below_base_digits_of 2 n (omega arith)), number_digits_of 2 n (omega arith))
 
-pub digits-le : (m n : ℕ) → m ≤ n → digits m ≤ digits n
+digits-le : (m n : ℕ) → m ≤ n → digits m ≤ digits n
 unfolding digits
 digits-le m n h = length-digits_of-le 2 (digits n) m (omega arith) (omega (arith, lt-digits n))
-
-pub record SearchesAt (b : List ℕ) (a low high : ℕ) (found : Option RuntimeFunction) : Type 0 where
-  pub ordered : low ≤ high
-  pub within : high ≤ length b / 12
-  pub last : found ≡ last_or None (take low (functions b))
-  pub starts_before : IfSome found (λ f. f.begin_address ≤ a)
-  pub member : IfSome found (Contains (functions b))
-  pub next : high < length b / 12 → a < (function_at b (12 * high)).begin_address
-  pub below : NeverFalls (functions b) → (k : ℕ) → k < low → (function_at b (12 * k)).begin_address ≤ a
-  pub above : NeverFalls (functions b) → (k : ℕ) → high ≤ k → k < length b / 12 → a < (function_at b (12 * k)).begin_address
-
--- begins never fall, said of the bytes
-pub starts_before-le : (b : List ℕ) → NeverFalls (functions b) → (i j : ℕ) → i ≤ j → j < length b / 12 → (function_at b (12 * i)).begin_address ≤ (function_at b (12 * j)).begin_address
-starts_before-le b ordered i j h l =
-    let d : RuntimeFunction = function_at b 0 in
-    let at_i : (get_or (functions b) i d).begin_address ≡ (function_at b (12 * i)).begin_address = ap (λ (f : RuntimeFunction). f.begin_address) (get_or-functions b i d (omega arith)) in
-    let at_j : (get_or (functions b) j d).begin_address ≡ (function_at b (12 * j)).begin_address = ap (λ (f : RuntimeFunction). f.begin_address) (get_or-functions b j d l) in
-    ⊎_elim
-    (λ (lt : i < j). omega (arith, at_i, at_j, ordered i j d lt (omega (arith, length_functions b))))
-    (λ (ge : j ≤ i). let same : i ≡ j = omega arith in rw same (omega arith))
-    (cases_lt i j)
-
-pub starts : (b : List ℕ) (a : ℕ) → SearchesAt b a 0 (length b / 12) None
-starts b a = record {
-  ordered = omega arith;
-  within = omega arith;
-  last = refl;
-  starts_before = tt;
-  member = tt;
-  next = λ h. absurd (omega arith);
-  below = λ o k h. absurd (omega arith);
-  above = λ o k h l. absurd (omega arith);
-}
-
--- the middle begins at or before the address
-pub goes_up : (b : List ℕ) (a low high : ℕ) (found : Option RuntimeFunction) (m : ℕ) → SearchesAt b a low high found → low ≤ m → m < high → (function_at b (12 * m)).begin_address ≤ a → SearchesAt b a (m + 1) high (Some (function_at b (12 * m)))
-goes_up b a low high found m s from to passes =
-    let d : RuntimeFunction = function_at b 0 in
-    let inside : m < length b / 12 = omega (arith, s.within) in
-    let here : m < length (functions b) = omega (arith, length_functions b) in
-    let at : get_or (functions b) m d ≡ function_at b (12 * m) = get_or-functions b m d inside in
-    record {
-      ordered = omega arith;
-      within = s.within;
-      last = sym (ap (last_or None) (take_more (functions b) m d here) ∙ last_or-append None (take m (functions b)) (get_or (functions b) m d) ∙ ap (λ (f : RuntimeFunction). Some f) at);
-      starts_before = passes;
-      member = rw (← at) (Contains-get_or (functions b) m d here);
-      next = s.next;
-      below = λ o k h. omega (arith, passes, starts_before-le b o k m (omega arith) inside);
-      above = s.above;
-    }
-
--- the middle begins behind the address
-pub goes_down : (b : List ℕ) (a low high : ℕ) (found : Option RuntimeFunction) (m : ℕ) → SearchesAt b a low high found → low ≤ m → m < high → a < (function_at b (12 * m)).begin_address → SearchesAt b a low m found
-goes_down b a low high found m s from to after = record {
-  ordered = from;
-  within = omega (arith, s.within);
-  last = s.last;
-  starts_before = s.starts_before;
-  member = s.member;
-  next = λ h. after;
-  below = s.below;
-  above = λ o k h l. omega (arith, after, starts_before-le b o m k h l);
-}
-
-pub ends : (b : List ℕ) (a low high : ℕ) (found : Option RuntimeFunction) → SearchesAt b a low high found → high ≤ low → NeverFalls (functions b) → if_before_end a found ≡ scan (functions b) a
-unfolding scan
-ends b a low high found s over o =
-    let kept : filter (λ f. leb f.begin_address a) (functions b) ≡ take low (functions b) =
-    filter_first (λ f. leb f.begin_address a) (functions b) low
-    (λ k d h l. let below : (function_at b (12 * k)).begin_address ≤ a = s.below o k h in rw (get_or-functions b k d (omega (arith, length_functions b))) (grind (arith, nat_tests)))
-    (λ k d h l. let above : a < (function_at b (12 * k)).begin_address = s.above o k (omega (arith, s.ordered)) (omega (arith, length_functions b)) in rw (get_or-functions b k d (omega (arith, length_functions b))) (grind (arith, nat_tests))) in
-    ap (if_before_end a) (s.last ∙ ap (last_or None) (sym kept))
-
--- a list without its first i entries starts with its entry i
-starts_after : (a : ℕ) (fs : List RuntimeFunction) (i : ℕ) → ((d : RuntimeFunction) → i < length fs → a < (get_or fs i d).begin_address) → StartsAfter a (drop i fs)
-starts_after a [] zero h = tt
-starts_after a [] (suc i) h = tt
-starts_after a (f ∷ fs) zero h = h f (omega arith)
-starts_after a (f ∷ fs) (suc i) h = starts_after a fs i (λ d l. h d (omega arith))
-
--- where the search ends, it stands between two entries
-pub stops : (b : List ℕ) (a low high : ℕ) (found : Option RuntimeFunction) → SearchesAt b a low high found → high ≤ low → StopsBetween (functions b) a (if_before_end a found)
-unfolding StopsBetween
-stops b a low high found s over =
-    let all : List RuntimeFunction = functions b in
-    let same : low ≡ high = omega (arith, s.ordered) in
-    let starts : IfSome (last_or None (take low all)) (λ f. f.begin_address ≤ a) = subst (λ (o : Option RuntimeFunction). IfSome o (λ f. f.begin_address ≤ a)) s.last s.starts_before in
-    let passes : StartsAfter a (drop low all) = starts_after a all low (λ d l. let next : a < (function_at b (12 * low)).begin_address = rw same (s.next (omega (arith, length_functions b))) in rw (get_or-functions b low d (omega (arith, length_functions b))) next) in (
-      take low all,
-      drop low all,
-      sym (take-append-drop low all),
-      starts,
-      passes,
-      ap (if_before_end a) s.last,
-    )
 
 -- what is left after a halving has one digit less
 pub digits-halved : (n k : ℕ) → 0 < n → k ≤ n / 2 → digits k + 1 ≤ digits n
 digits-halved n k h l = omega (arith, digits-half n h, digits-le k (n / 2) l)
-
--- the function that was read, which begins at or before the address
-pub step_up : (b c : List ℕ) (a low high : ℕ) (found : Option RuntimeFunction) (m : ℕ) (f : RuntimeFunction) → SearchesAt b a low high found → c ≡ b → f ≡ function_at c (12 * m) → low ≤ m → m < high → f.begin_address ≤ a → SearchesAt b a (m + 1) high (Some f)
-step_up b c a low high found m f s same is from to passes =
-    let e : f ≡ function_at b (12 * m) = is ∙ ap (λ (x : List ℕ). function_at x (12 * m)) same in
-    rw e (goes_up b a low high found m s from to (rw e at passes))
-
-pub step_down : (b c : List ℕ) (a low high : ℕ) (found : Option RuntimeFunction) (m : ℕ) (f : RuntimeFunction) → SearchesAt b a low high found → c ≡ b → f ≡ function_at c (12 * m) → low ≤ m → m < high → a < f.begin_address → SearchesAt b a low m found
-step_down b c a low high found m f s same is from to after =
-    let e : f ≡ function_at b (12 * m) = is ∙ ap (λ (x : List ℕ). function_at x (12 * m)) same in
-    goes_down b a low high found m s from to (rw e at after)
 
 pub le-one_more : (n : ℕ) → n ≤ one_more n
 le-one_more n = grind (arith, nat_tests)
@@ -165,35 +58,137 @@ le-one_more n = grind (arith, nat_tests)
 pub one_more-le : (n : ℕ) → one_more n ≤ n + 1
 one_more-le n = grind (arith, nat_tests)
 
+-- ---- the search
+
+-- the entries before `low` are passed, the last of them is the one found, and those from `high` on start after the RVA, as
+-- far as the search has seen them; in a sorted table all of them do
+pub record SearchesAt {X : Type 0} (start : X → ℕ) (fs : List X) (a low high : ℕ) (found : Option X) : Type 0 where
+  pub ordered : low ≤ high
+  pub within : high ≤ length fs
+  pub last : found ≡ last_or None (take low fs)
+  pub starts_before : IfSome found (λ f. start f ≤ a)
+  pub member : IfSome found (Contains fs)
+  pub next : (d : X) → high < length fs → a < start (get_or fs high d)
+  pub below : IsSortedBy start fs → (k : ℕ) (d : X) → k < low → k < length fs → start (get_or fs k d) ≤ a
+  pub above : IsSortedBy start fs → (k : ℕ) (d : X) → high ≤ k → k < length fs → a < start (get_or fs k d)
+
+-- sorted, also of one entry
+pub start-le : {X : Type 0} (start : X → ℕ) (fs : List X) → IsSortedBy start fs → (i j : ℕ) (d : X) → i ≤ j → j < length fs → start (get_or fs i d) ≤ start (get_or fs j d)
+start-le start fs ordered i j d h l =
+    ⊎_elim
+    (λ (lt : i < j). ordered i j d lt l)
+    (λ (ge : j ≤ i). let same : i ≡ j = omega arith in rw same (omega arith))
+    (cases_lt i j)
+
+pub starts : {X : Type 0} (start : X → ℕ) (fs : List X) (a high : ℕ) → high ≡ length fs → SearchesAt start fs a 0 high None
+starts start fs a high all = record {
+  ordered = omega arith;
+  within = omega arith;
+  last = refl;
+  starts_before = tt;
+  member = tt;
+  next = λ d h. absurd (omega arith);
+  below = λ o k d h l. absurd (omega arith);
+  above = λ o k d h l. absurd (omega arith);
+}
+
+-- the middle starts at or before the RVA
+pub goes_up : {X : Type 0} (start : X → ℕ) (fs : List X) (a low high : ℕ) (found : Option X) (m : ℕ) (f : X) → SearchesAt start fs a low high found → low ≤ m → m < high → ((d : X) → get_or fs m d ≡ f) → start f ≤ a → SearchesAt start fs a (m + 1) high (Some f)
+goes_up {X} start fs a low high found m f s from to is passes =
+    let inside : m < length fs = omega (arith, s.within) in
+    record {
+      ordered = omega arith;
+      within = s.within;
+      last = sym (ap (last_or None) (take_more fs m f inside) ∙ last_or-append None (take m fs) (get_or fs m f) ∙ ap (λ (x : X). Some x) (is f));
+      starts_before = passes;
+      member = (m, inside, is f);
+      next = s.next;
+      below = λ o k d h l. omega (arith, passes, ap start (is d), start-le start fs o k m d (omega arith) inside);
+      above = s.above;
+    }
+
+-- the middle starts after the RVA
+pub goes_down : {X : Type 0} (start : X → ℕ) (fs : List X) (a low high : ℕ) (found : Option X) (m : ℕ) (f : X) → SearchesAt start fs a low high found → low ≤ m → m < high → ((d : X) → get_or fs m d ≡ f) → a < start f → SearchesAt start fs a low m found
+goes_down start fs a low high found m f s from to is after = record {
+  ordered = from;
+  within = omega (arith, s.within);
+  last = s.last;
+  starts_before = s.starts_before;
+  member = s.member;
+  next = λ d h. omega (arith, after, ap start (is d));
+  below = s.below;
+  above = λ o k d h l. omega (arith, after, ap start (is d), start-le start fs o m k d h l);
+}
+
+-- a list without its first i entries starts with its entry i
+starts_after : {X : Type 0} (start : X → ℕ) (a : ℕ) (fs : List X) (i : ℕ) → ((d : X) → i < length fs → a < start (get_or fs i d)) → StartsAfter start a (drop i fs)
+starts_after start a [] zero h = tt
+starts_after start a [] (suc i) h = tt
+starts_after start a (f ∷ fs) zero h = h f (omega arith)
+starts_after start a (f ∷ fs) (suc i) h = starts_after start a fs i (λ d l. h d (omega arith))
+
+-- the entries that start at or before the RVA are those before `low`
+kept : {X : Type 0} (start : X → ℕ) (fs : List X) (a low high : ℕ) (found : Option X) → SearchesAt start fs a low high found → high ≤ low → IsSortedBy start fs → filter (λ f. leb (start f) a) fs ≡ take low fs
+kept start fs a low high found s over o =
+    filter_first (λ f. leb (start f) a) fs low
+    (λ k d h l. let below : start (get_or fs k d) ≤ a = s.below o k d h l in grind (arith, nat_tests))
+    (λ k d h l. let above : a < start (get_or fs k d) = s.above o k d (omega (arith, s.ordered)) l in grind (arith, nat_tests))
+
+-- where the search ends, it stands between two entries
+pub ends : {X : Type 0} (start : X → ℕ) (fs : List X) (a low high : ℕ) (found : Option X) → SearchesAt start fs a low high found → high ≤ low → FindsStart start fs a found
+unfolding StopsAfter
+ends {X} start fs a low high found s over =
+    let same : high ≡ low = omega (arith, s.ordered) in
+    let starts : IfSome (last_or None (take low fs)) (λ f. start f ≤ a) = subst (λ (o : Option X). IfSome o (λ f. start f ≤ a)) s.last s.starts_before in
+    let after : StartsAfter start a (drop low fs) = starts_after start a fs low (subst (λ (i : ℕ). (d : X) → i < length fs → a < start (get_or fs i d)) same s.next) in
+    record {
+      entry = s.member;
+      starts = s.starts_before;
+      stops = (take low fs, drop low fs, sym (take-append-drop low fs), starts, after, s.last);
+      scanned = λ o. s.last ∙ ap (last_or None) (sym (kept start fs a low high found s over o));
+    }
+
+-- ---- in the bytes of a table
+
+-- the entry that was read is that of the table
+pub entry_is : {X : Type 0} (entry_at : List ℕ → ℕ → X) (w : ℕ) (b c : List ℕ) (m : ℕ) (f : X) → c ≡ b → f ≡ entry_at c (w * m) → m < length (whole_entries entry_at w b) → (d : X) → get_or (whole_entries entry_at w b) m d ≡ f
+entry_is entry_at w b c m f same is h d =
+    get_or-whole_entries entry_at w b m d (omega (arith, length-whole_entries entry_at w b)) ∙ sym (is ∙ ap (λ (x : List ℕ). entry_at x (w * m)) same)
+
+-- a whole entry ends in the table
+pub entry_ends : (n w m : ℕ) → m < n / w → w * m + w ≤ n
+entry_ends n w m h =
+    let more : w * (m + 1) ≤ w * (n / w) = mul-le-mul_left w (omega arith) in
+    omega (arith, more, mul-div-le n w, mul-add w m 1, mul-one w)
+
+-- ---- x64: the end of the entry decides
+
 pub before_end-inside : (a : ℕ) (o : Option RuntimeFunction) (f : RuntimeFunction) → o ≡ Some f → a < f.end_address → if_before_end a o ≡ Some f
 before_end-inside a o f is h = rw is (grind (arith, nat_tests))
 
-pub before_end-past : (a : ℕ) (o : Option RuntimeFunction) (f : RuntimeFunction) → o ≡ Some f → f.end_address ≤ a → if_before_end a o ≡ None
+before_end-past : (a : ℕ) (o : Option RuntimeFunction) (f : RuntimeFunction) → o ≡ Some f → f.end_address ≤ a → if_before_end a o ≡ None
 before_end-past a o f is h = rw is (grind (arith, nat_tests))
 
--- what the search answers where it ends
-pub finds_inside : (b : List ℕ) (a low high : ℕ) (found : Option RuntimeFunction) (f : RuntimeFunction) → SearchesAt b a low high found → high ≤ low → found ≡ Some f → a < f.end_address → Finds (functions b) a (Some f)
-finds_inside b a low high found f s over is h =
-    let at_f : SearchesAt b a low high (Some f) = subst (λ (o : Option RuntimeFunction). SearchesAt b a low high o) is s in
-    record {
-      entry = at_f.member;
-      covers = (at_f.starts_before, h);
-      stops = subst (λ (o : Option RuntimeFunction). StopsBetween (functions b) a o) (before_end-inside a found f is h) (stops b a low high found s over);
-      scanned = λ o. sym (before_end-inside a found f is h) ∙ ends b a low high found s over o;
-    }
+-- the entry to which the search comes, if the RVA is before its end
+decided : (fs : List RuntimeFunction) (a : ℕ) (last found : Option RuntimeFunction) → FindsStart (λ f. f.begin_address) fs a last → found ≡ if_before_end a last → StopsBetween fs a found × (IsSortedBy (λ f. f.begin_address) fs → found ≡ scan fs a)
+unfolding scan StopsBetween
+decided fs a last found finds is = ((last, finds.stops, is), λ o. is ∙ ap (if_before_end a) (finds.scanned o))
 
-pub finds_past : (b : List ℕ) (a low high : ℕ) (found : Option RuntimeFunction) (f : RuntimeFunction) → SearchesAt b a low high found → high ≤ low → found ≡ Some f → f.end_address ≤ a → Finds (functions b) a None
-finds_past b a low high found f s over is h = record {
-  entry = tt;
-  covers = tt;
-  stops = subst (λ (o : Option RuntimeFunction). StopsBetween (functions b) a o) (before_end-past a found f is h) (stops b a low high found s over);
-  scanned = λ o. sym (before_end-past a found f is h) ∙ ends b a low high found s over o;
-}
+pub finds_none : (b : List ℕ) (a : ℕ) (last : Option RuntimeFunction) → FindsStart (λ f. f.begin_address) (whole_entries function_at 12 b) a last → last ≡ None → Finds (functions b) a None
+unfolding functions
+finds_none b a last finds is =
+    let both = decided (functions b) a last None finds (sym (ap (if_before_end a) is)) in
+    record { entry = tt; covers = tt; stops = both.0; scanned = both.1 }
 
-pub finds_none : (b : List ℕ) (a low high : ℕ) (found : Option RuntimeFunction) → SearchesAt b a low high found → high ≤ low → found ≡ None → Finds (functions b) a None
-finds_none b a low high found s over is = record {
-  entry = tt;
-  covers = tt;
-  stops = subst (λ (o : Option RuntimeFunction). StopsBetween (functions b) a (if_before_end a o)) is (stops b a low high found s over);
-  scanned = λ o. ap (if_before_end a) (sym is) ∙ ends b a low high found s over o;
-}
+pub finds_past : (b : List ℕ) (a : ℕ) (last : Option RuntimeFunction) (f : RuntimeFunction) → FindsStart (λ f. f.begin_address) (whole_entries function_at 12 b) a last → last ≡ Some f → f.end_address ≤ a → Finds (functions b) a None
+unfolding functions
+finds_past b a last f finds is h =
+    let both = decided (functions b) a last None finds (sym (before_end-past a last f is h)) in
+    record { entry = tt; covers = tt; stops = both.0; scanned = both.1 }
+
+pub finds_inside : (b : List ℕ) (a : ℕ) (last : Option RuntimeFunction) (f : RuntimeFunction) → FindsStart (λ f. f.begin_address) (whole_entries function_at 12 b) a last → last ≡ Some f → a < f.end_address → Finds (functions b) a (Some f)
+unfolding functions
+finds_inside b a last f finds is h =
+    let both = decided (functions b) a last (Some f) finds (sym (before_end-inside a last f is h)) in
+    let at_f : FindsStart (λ f. f.begin_address) (functions b) a (Some f) = subst (FindsStart (λ f. f.begin_address) (functions b) a) is finds in
+    record { entry = at_f.entry; covers = (at_f.starts, h); stops = both.0; scanned = both.1 }

@@ -1,13 +1,13 @@
 -- The x64 function table, and what lookup finds in it. (x64 exception handling: function table.)
-use Rattle.std.specs.Prelude.{◌≡◌, ℕ, ◌+◌, ◌<◌, ◌≤◌, ⊤, List, [], ◌∷◌, ◌++◌, Option, Some, None, Result, Ok, Err, if◌then◌else◌, nat_le, nat_lt, filter, length, AllPairs, Contains, IfSome}
-use Rattle.std.specs.List.{last_or, AllAdjacentBelow}
-use Rattle.std.specs.Int.Digits.{digits_of}
+use Rattle.std.specs.Prelude.{◌≡◌, ℕ, ◌+◌, ◌<◌, ◌≤◌, List, Option, Some, None, Result, if◌then◌else◌, nat_lt, length, Contains, IfSome}
+use Rattle.std.specs.List.{AllAdjacentBelow}
 use Rattle.pe_core.specs.Bytes.{le}
 use Rattle.pe_core.specs.Refusals.{Refusal}
 use Rattle.pe_unwind.specs.declared.function_table.RuntimeFunction.{RuntimeFunction}
 use Rattle.pe_core.specs.EntriesLeft.{items_left}
 use Rattle.pe_core.specs.declared.table_entries.TableEntries.{TableEntries}
 use Rattle.pe_core.specs.Rows.{whole_entries, entry_items}
+use Rattle.pe_unwind.specs.Lookup.{IsSortedBy, StopsAfter, last_start}
 
 -- the entry of 12 bytes at offset p
 abbrev pub function_at : List ℕ → ℕ → RuntimeFunction
@@ -31,7 +31,7 @@ items_of_functions s = items_left function_at 12 s
 
 -- the table is sorted by start RVA
 abbrev pub NeverFalls : List RuntimeFunction → Type 0
-NeverFalls fs = AllPairs (λ e f. e.begin_address ≤ f.begin_address) fs
+NeverFalls fs = IsSortedBy (λ f. f.begin_address) fs
 
 -- no end passes the next start
 abbrev pub NoEndPassesNext : List RuntimeFunction → Type 0
@@ -48,22 +48,13 @@ if_before_end a (Some f) = if nat_lt a f.end_address then Some f else None
 
 -- the last entry that starts at or before the RVA, if the RVA is before its end
 unfoldable pub scan : List RuntimeFunction → ℕ → Option RuntimeFunction
-scan fs a = if_before_end a (last_or None (filter (λ f. nat_le f.begin_address a) fs))
-
--- the entries start with one that starts after the RVA, if there is one
-abbrev pub StartsAfter : ℕ → List RuntimeFunction → Type 0
-StartsAfter a [] = ⊤
-StartsAfter a (f ∷ fs) = a < f.begin_address
+scan fs a = if_before_end a (last_start (λ f. f.begin_address) fs a)
 
 -- where lookup stops, in any table: the entry before that position starts at or before the RVA, the entry after it starts
 -- after the RVA, and lookup finds the one before it, if the RVA is before its end. A table sorted by start RVA has one
 -- such position.
 unfoldable pub StopsBetween : List RuntimeFunction → ℕ → Option RuntimeFunction → Type 0
-StopsBetween fs a found =
-    (before : List RuntimeFunction) × (after : List RuntimeFunction) × (fs ≡ before ++ after)
-    × IfSome (last_or None before) (λ f. f.begin_address ≤ a)
-    × StartsAfter a after
-    × (found ≡ if_before_end a (last_or None before))
+StopsBetween fs a found = (last : Option RuntimeFunction) × StopsAfter (λ f. f.begin_address) fs a last × (found ≡ if_before_end a last)
 
 -- what lookup finds: an entry that covers the RVA, or none; in a table sorted by start RVA, what a linear scan finds
 pub record Finds (fs : List RuntimeFunction) (a : ℕ) (found : Option RuntimeFunction) : Type 0 where
@@ -71,7 +62,3 @@ pub record Finds (fs : List RuntimeFunction) (a : ℕ) (found : Option RuntimeFu
   pub covers : IfSome found (Covers a)
   pub stops : StopsBetween fs a found
   pub scanned : NeverFalls fs → found ≡ scan fs a
-
--- how many binary digits a number has; 0 has none
-unfoldable pub digits : ℕ → ℕ
-digits n = length (digits_of 2 n)

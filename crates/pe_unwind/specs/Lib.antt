@@ -1,4 +1,5 @@
 pub mod Registers
+pub mod Lookup
 pub mod FunctionTable
 pub mod ScopeTable
 pub mod UnwindCodes
@@ -13,6 +14,7 @@ pub mod Arm64Functions
 pub mod Arm64Words
 pub mod Arm64Record
 pub mod Arm64Unwinding
+pub mod Arm64Lookup
 pub mod Arm64Encoding
 pub mod Arm64CodeLengths
 pub mod Arm64Tiling

@@ -4,4 +4,5 @@
 pub mod codes;
 pub mod function;
 pub mod info;
+pub mod lookup;
 pub mod words;

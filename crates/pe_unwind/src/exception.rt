@@ -6,6 +6,7 @@ use crate::arm64::function::{
     Arm64RuntimeFunction, Arm64RuntimeFunctionIterator, SIZE_OF_ARM64_FUNCTION,
 };
 use crate::arm64::info::Arm64UnwindInfo;
+use crate::arm64::lookup::search_arm64;
 use crate::function_table::{RuntimeFunction, RuntimeFunctionIterator, SIZE_OF_FUNCTION, search};
 use crate::links::Links;
 use crate::unwind_info::UnwindInfo;
@@ -60,6 +61,7 @@ impl<'a> ExceptionData<'a> {
     ghost use Rattle.pe_core.specs.Offsets.{IsWithin};
     ghost use Rattle.pe_core.specs.Refusals.{Returns, FunctionCycle, answer_of, answer_by};
     ghost use Rattle.pe_unwind.specs.ExceptionTable.{exception_at, table_range, table_of, function_of};
+    ghost use Rattle.pe_unwind.specs.Arm64Lookup.{FindsArm64, length_of_arm64};
     ghost use Rattle.pe_unwind.specs.Arm64Functions.{arm64_functions, arm64_function_items, items_of_arm64_functions, arm64_function_of};
     ghost use Rattle.pe_unwind.specs.Arm64Record.{info_view};
     ghost use Rattle.pe_unwind.specs.Arm64Unwinding.{offset_of_function, info_of_function};
@@ -246,6 +248,25 @@ impl<'a> ExceptionData<'a> {
     {
         let mut table = self.table();
         Ok(search(&mut table, rva))
+    }
+
+    /// The ARM64 entry that covers the RVA, as `search_arm64` finds it.
+    ///
+    /// Errors, of the record of the entry at which lookup stops: `Unmapped` if its RVA is not mapped; `Short` if its
+    /// header is truncated.
+    pub fn find_function_arm64(
+        &self,
+        rva: u32,
+        sections: &[SectionTable],
+        opts: &ParseOptions,
+    ) -> Result<Option<Arm64RuntimeFunction>>
+        ensures { FindsArm64 (length_of_arm64 self.now.content
+            (map_view opts.now sections.now self.now.alignment))
+            (arm64_functions (table_of self.now)) rva (answer_of result) }
+    {
+        let sections = self.section_map(sections, opts);
+        let mut table = self.table();
+        search_arm64(&mut table, rva, self.bytes, &sections)
     }
 
     /// The section map of `sections` with these options and the file alignment of the image. Pass it to

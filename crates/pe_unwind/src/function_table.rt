@@ -2,14 +2,15 @@
 //! a part of one. A caller looks up the entry that covers an RVA. See
 //! [x64 exception handling](https://learn.microsoft.com/cpp/build/exception-handling-x64).
 
-ghost use Rattle.std.specs.Prelude.{◌≡◌, ◌+◌, ◌/◌, ◌<◌, ◌≤◌, length};
+ghost use Rattle.std.specs.Prelude.{◌≡◌, ◌+◌, ◌<◌, ◌≤◌, length};
 ghost use Rattle.std.proofs.Common.{arith};
-ghost use Rattle.pe_core.specs.CountedTable.{after_read};
 ghost use Rattle.pe_core.specs.Refusals.{Returns};
 ghost use Rattle.pe_unwind.specs.ExceptionTable.{function_of};
-ghost use Rattle.pe_unwind.specs.FunctionTable.{function_at, functions, Finds, digits};
+ghost use Rattle.pe_unwind.specs.FunctionTable.{function_at, functions, Finds};
+ghost use Rattle.pe_unwind.specs.Lookup.{digits};
 ghost use Rattle.pe_unwind.specs.EntriesAfter.{functions_after};
 
+use crate::lookup::{FunctionEntry, last_start};
 use pe_core::{CountedTable, Error, Reason, Result, TableEntries, TableEntry, read_u32};
 
 /// The size of an entry in bytes.
@@ -68,17 +69,11 @@ impl RuntimeFunction {
 /// The entries that are left of an x64 function table, 12 bytes each. A truncated last entry is one item, `Short`.
 pub type RuntimeFunctionIterator<'a> = TableEntries<'a, RuntimeFunction>;
 
-/// Reads the entry at an offset in the table where one is known to be. It counts as one read.
-fn next_function(table: &mut CountedTable, offset: usize) -> RuntimeFunction
-    requires { offset + 12 ≤ length table.old.content }
-    ensures value { result ≡ function_at table.old.content offset }
-    ensures counts { table.new ≡ after_read table.old }
-{
-    let [begin_address, end_address, unwind_info_address] = table.triple_at(offset).unwrap();
-    RuntimeFunction {
-        begin_address,
-        end_address,
-        unwind_info_address,
+impl FunctionEntry for RuntimeFunction {
+    ghost start_of = { λ f. f.begin_address };
+
+    fn start(&self) -> u32 {
+        self.begin_address
     }
 }
 
@@ -88,7 +83,7 @@ fn next_function(table: &mut CountedTable, offset: usize) -> RuntimeFunction
 /// It stops between two neighbouring entries, the first of which starts at or before the RVA and the second after it
 /// (either may be missing), and returns the first if the RVA is before its end. A table sorted by start RVA has one such
 /// position, so there it returns what a linear scan finds. In any other table which position it is depends on the search.
-#[tactic(auto, using(crate::proofs::Searches::length_functions))]
+#[tactic(auto, unfolding(crate::specs::FunctionTable::functions))]
 pub fn search(table: &mut CountedTable, rva: u32) -> Option<RuntimeFunction>
     ensures found { Finds (functions table.old.content) rva result }
     ensures kept { table.new.content ≡ table.old.content }
@@ -96,21 +91,8 @@ pub fn search(table: &mut CountedTable, rva: u32) -> Option<RuntimeFunction>
     ensures cost { table.new.count ≤ table.old.count + digits
         (length (functions table.old.content)) }
 {
-    let mut low = 0;
-    let mut high = table.len() / SIZE_OF_FUNCTION;
-    let mut found = None;
-    while low < high {
-        let middle = low + (high - low) / 2;
-        let function = next_function(table, SIZE_OF_FUNCTION * middle);
-        if function.begin_address <= rva {
-            low = middle + 1;
-            found = Some(function);
-        } else {
-            high = middle;
-        }
-    }
-    // The search goes by the starts alone; the end is tested once, of the entry that it found.
-    match found {
+    // The search goes by the starts alone; the end is tested once, of the entry to which it came.
+    match last_start::<RuntimeFunction>(table, rva) {
         Some(function) if rva < function.end_address => Some(function),
         _ => None,
     }

@@ -15,6 +15,7 @@ mod exception;
 mod function_table;
 pub mod laws;
 mod links;
+mod lookup;
 mod register;
 mod scope_table;
 mod unwind_code;
@@ -30,6 +31,7 @@ pub use arm64::function::{
     Arm64RuntimeFunctionIterator,
 };
 pub use arm64::info::{Arm64ExceptionHandler, Arm64UnwindInfo};
+pub use arm64::lookup::search_arm64;
 pub use arm64::words::{
     Arm64EpilogScope, Arm64EpilogScopeIterator, Arm64UnwindExtension, Arm64UnwindHeader,
 };

@@ -210,6 +210,9 @@ fn read_arm64_functions(image: &Image, seen: &mut Seen) {
     };
     assert_eq!(functions.get(functions.len()), None);
     for function in functions.iter().take(seen.most) {
+        if let Some(found) = seen.keep(functions.find(function.begin)) {
+            assert!(found.begin <= function.begin);
+        }
         let answer = functions.unwinding(function);
         let Some(Arm64Unwinding::Record(record)) = seen.item(answer) else {
             continue;

@@ -4,14 +4,15 @@
 ghost use Rattle.std.specs.Prelude.{◌≡◌};
 ghost use Rattle.pe_core.specs.Refusals.{answer_of};
 ghost use Rattle.pe_c.specs.HandsOut.{HandsOut, HandsOutIf};
-ghost use Rattle.pe_c.specs.Arm64.{arm64_function_in, packed_fields};
+ghost use Rattle.pe_c.specs.Arm64.{HandsOutArm64Found, LocatesArm64In, arm64_function_in, arm64_length_in, packed_fields};
+ghost use Rattle.pe_c.specs.Ranges.{bytes_at};
 ghost use Rattle.pe_c.specs.Unwinding.{exception_table_at};
 
 use crate::image::{EXCEPTION_TABLE, Image, directory, is_absent};
 use crate::ranges::{Range, range_of, slice_of};
 use crate::results::{DONE, hand_out, hand_out_some, options};
-use pe_core::{COFF_MACHINE_ARM64, Result, SectionTable};
-use pe_unwind::{Arm64RuntimeFunction, ExceptionData};
+use pe_core::{COFF_MACHINE_ARM64, CountedTable, Result, SectionMap, SectionTable};
+use pe_unwind::{Arm64RuntimeFunction, ExceptionData, search_arm64};
 
 /// Packed unwind data, as `pe_c_arm64_packed_fields` reads it from an entry of the function table.
 #[repr(C)]
@@ -68,6 +69,43 @@ pub extern "C" fn pe_c_arm64_table(
         (exception_table_at 0xAA64 8 bytes.now image.now sections.now image.now.mode) }
 {
     hand_out_some(table_of(bytes, image, sections), out)
+}
+
+fn find(
+    bytes: &[u8],
+    image: &Image,
+    sections: &[SectionTable],
+    table: &Range,
+    rva: u32,
+) -> Result<Option<Arm64RuntimeFunction>>
+    ensures { LocatesArm64In (arm64_length_in bytes.now image.now sections.now)
+        (bytes_at bytes.now table.now) rva (answer_of result) }
+{
+    let mut counted = CountedTable::new(slice_of(bytes, table)?);
+    let sections = SectionMap::new(sections, image.file_alignment, &options(image.mode));
+    search_arm64(&mut counted, rva, bytes, &sections)
+}
+
+/// Returns the function that covers an RVA, by one `search_arm64` of pe_unwind in the function table at this range:
+/// `NOTHING` where it finds none. Lookup goes by the starts alone, and then reads the length of one function, which is
+/// packed into its entry or stands in its unwind record. In a table sorted by start RVA it finds what a linear scan finds;
+/// in any other it finds some function that covers the RVA, or none.
+///
+/// Errors: `SHORT` where the range is not inside the bytes; of the record `UNMAPPED`, and `SHORT` where its first word is
+/// truncated.
+#[unsafe(no_mangle)]
+pub extern "C" fn pe_c_find_arm64_function(
+    bytes: &[u8],
+    image: &Image,
+    sections: &[SectionTable],
+    table: &Range,
+    rva: u32,
+    out: &mut Arm64RuntimeFunction,
+) -> u32
+    ensures { HandsOutArm64Found
+        bytes.now image.now sections.now table.now rva result out.old out.new }
+{
+    hand_out_some(find(bytes, image, sections, table, rva), out)
 }
 
 fn function_in(bytes: &[u8], table: &Range, index: u64) -> Result<Arm64RuntimeFunction>

@@ -21,6 +21,10 @@ ghost use Rattle.pe_core.specs.declared.strtab.Strtab.{Strtab};
 ghost use Rattle.pe_core.specs.declared.relocation.RelocationData.{RelocationData};
 ghost use Rattle.pe_core.specs.declared.import.ImportDirectoryEntry.{ImportDirectoryEntry};
 ghost use Rattle.pe_core.specs.declared.export.ExportDirectoryTable.{ExportDirectoryTable};
+ghost use Rattle.pe_core.specs.declared.export_addresses.ExportAddress.{ExportAddress};
+ghost use Rattle.pe_core.specs.declared.export_addresses.ExportAddressIterator.{ExportAddressIterator};
+ghost use Rattle.pe_core.specs.declared.export_addresses.ExportAddresses.{ExportAddresses};
+ghost use Rattle.pe_core.specs.declared.export_addresses.ExportName.{ExportName};
 ghost use Rattle.pe_core.specs.declared.header.Header.{Header};
 ghost use Rattle.pe_core.specs.declared.optional_header.OptionalHeader.{OptionalHeader};
 ghost use Rattle.pe_core.specs.Header.{optional_header_view, header_view};
@@ -30,6 +34,7 @@ use crate::byte_range::ByteRange;
 use crate::data_directories::{DataDirectories, DataDirectory};
 use crate::error::Reason;
 use crate::export::ExportDirectoryTable;
+use crate::export_addresses::{ExportAddress, ExportAddressIterator, ExportAddresses, ExportName};
 use crate::header::{CoffHeader, DosHeader, Header, TeHeader};
 use crate::import::ImportDirectoryEntry;
 use crate::optional_header::{OptionalHeader, StandardFields, WindowsFields};
@@ -52,6 +57,7 @@ pub fn equal_records_are_the_same()
     ensures symbol { IsEquality ⟦<Symbol as PartialEq>⟧.eq }
     ensures import_directory_entry { IsEquality ⟦<ImportDirectoryEntry as PartialEq>⟧.eq }
     ensures export_directory_table { IsEquality ⟦<ExportDirectoryTable as PartialEq>⟧.eq }
+    ensures export_address { IsEquality ⟦<ExportAddress as PartialEq>⟧.eq }
 {}
 
 /// Directories are equal exactly if the entries that they keep are.
@@ -131,5 +137,10 @@ pub fn clones_of_records_are_the_same()
     ensures relocation_data { Copies ⟦<RelocationData<'static> as Clone>⟧.is_clone }
     ensures import_directory_entry { Copies ⟦<ImportDirectoryEntry as Clone>⟧.is_clone }
     ensures export_directory_table { Copies ⟦<ExportDirectoryTable as Clone>⟧.is_clone }
+    ensures export_address { Copies ⟦<ExportAddress as Clone>⟧.is_clone }
+    ensures export_name { Copies ⟦<ExportName<'static> as Clone>⟧.is_clone }
+    ensures export_addresses { Copies ⟦<ExportAddresses<'static> as Clone>⟧.is_clone }
+    ensures export_address_iterator { Copies
+        ⟦<ExportAddressIterator<'static> as Clone>⟧.is_clone }
     ensures reason { Copies ⟦<Reason as Clone>⟧.is_clone }
 {}

@@ -1,16 +1,19 @@
-//! Laws of ARM64: unwind codes, their streams, and unwind records.
+//! Laws of ARM64: lookup, unwind codes, their streams, and unwind records.
 
-ghost use Rattle.std.specs.Prelude.{◌≡◌, ◌+◌, ◌-◌, ◌/◌, ◌<◌, ◌≤◌, ◌↔◌, ◌⊎◌, ℕ, All, List, length, drop, Result, Ok, IfSome, map};
+ghost use Rattle.std.specs.Prelude.{◌≡◌, ◌+◌, ◌-◌, ◌/◌, ◌<◌, ◌≤◌, ◌↔◌, ◌⊎◌, ℕ, All, Contains, List, length, drop, Option, Some, Result, Ok, IfSome, map};
 ghost use Rattle.std.specs.Iterator.{Drains};
 ghost use Rattle.pe_core.specs.Bytes.{AreBytes};
 ghost use Rattle.pe_core.specs.declared.error.Error.{Error};
 ghost use Rattle.pe_unwind.specs.declared.arm64.codes.Arm64UnwindCode.{Arm64UnwindCode};
 ghost use Rattle.pe_unwind.specs.declared.arm64.codes.Arm64UnwindCodeData.{Arm64UnwindCodeData};
 ghost use Rattle.pe_unwind.specs.declared.arm64.codes.Arm64UnwindCodeIterator.{Arm64UnwindCodeIterator};
+ghost use Rattle.pe_unwind.specs.declared.arm64.function.Arm64RuntimeFunction.{Arm64RuntimeFunction};
 ghost use Rattle.pe_unwind.specs.Arm64Encoding.{encoding, Legal, StartsWithArm64Code, StartsWithNoArm64Code, IsTruncatedArm64Code};
+ghost use Rattle.pe_unwind.specs.Arm64Lookup.{CoversArm64, FindsArm64, NoFunctionPassesNext};
 ghost use Rattle.pe_unwind.specs.Arm64Tiling.{Tiles, Joins, stream_offset};
 ghost use Rattle.pe_unwind.specs.Arm64Record.{Arm64InfoView, AreRecord, HasWords, info_at, record_size, size_at};
-ghost use Rattle.pe_core.specs.Refusals.{answer_of};
+ghost use Rattle.pe_core.specs.Refusals.{Refusal, answer_of};
+ghost use Rattle.pe_unwind.specs.Lookup.{IsSortedBy};
 ghost use Rattle.pe_unwind.specs.Offsets.{Arm64PartsStand};
 
 use crate::arm64::codes::Arm64UnwindCodeIterator;
@@ -19,6 +22,16 @@ use crate::arm64::function::{
     ARM64_PDATA_CR_UNCHAINED_SAVED_LR, ARM64_PDATA_PACKED_UNWIND_FRAGMENT,
     ARM64_PDATA_PACKED_UNWIND_FUNCTION, ARM64_PDATA_REF_TO_FULL_XDATA,
 };
+
+/// In a table that is sorted by start RVA and in which no function passes the start of the next, lookup finds an entry
+/// exactly if the entry covers the RVA: so it finds the one that does, and none without one.
+pub fn arm64_functions_found()
+    ensures { (length_of : Arm64RuntimeFunction → Result ℕ Refusal)
+        (fs : List Arm64RuntimeFunction) (a : ℕ) (answer : Result (Option Arm64RuntimeFunction) Refusal)
+        (f : Arm64RuntimeFunction) → IsSortedBy (λ e. e.begin_address) fs →
+        NoFunctionPassesNext length_of fs → FindsArm64 length_of fs a answer →
+        ((answer ≡ Ok (Some f)) ↔ (Contains fs f × CoversArm64 length_of a f)) }
+{}
 
 /// Legal ARM64 codes are equal exactly if their bytes are. Each has 1 to 5 bytes. Bytes start with at most one code.
 /// Nonempty bytes start with none exactly if they are a truncated code.
