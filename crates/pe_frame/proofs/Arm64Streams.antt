@@ -14,7 +14,7 @@ use Rattle.pe_unwind.proofs.Arm64OneCode.{starts_once, cut_starts_none}
 use Rattle.pe_unwind.proofs.Arm64Whole.{code_or_cut}
 use Rattle.pe_frame.specs.declared.arm64.registers.Arm64Registers.{Arm64Registers}
 use Rattle.pe_frame.specs.declared.error.FrameError.{FrameError}
-use Rattle.pe_frame.specs.declared.error.FrameError.TheVariants.{Codes, Memory, Address, Operation, Arm64Code, NotRising}
+use Rattle.pe_frame.specs.declared.error.FrameError.TheVariants.{Codes, Memory, Address, Operation, Arm64Code, Packed, NotRising}
 use Rattle.pe_frame.specs.Undoing.{◌>>=◌}
 use Rattle.pe_frame.specs.Steps.{OfCodes, error_kind, by_kind}
 use Rattle.pe_frame.specs.Arm64Undoing.{undone_codes, returned_arm64}
@@ -108,6 +108,7 @@ truncated_kind (Memory a) h = absurd h
 truncated_kind (Address a) h = absurd h
 truncated_kind (Operation o) h = absurd h
 truncated_kind (Arm64Code c) h = absurd h
+truncated_kind (Packed d) h = absurd h
 truncated_kind (NotRising a) h = absurd h
 
 one_codes : (bytes : List ℕ) (x y : Result (List Arm64UnwindCode) FrameError) → HasArm64Codes bytes x → HasArm64Codes bytes y → by_kind x ≡ by_kind y

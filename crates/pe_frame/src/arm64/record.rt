@@ -1,6 +1,6 @@
 //! Undoing the codes of an ARM64 unwind record.
 
-ghost use Rattle.std.specs.Prelude.{◌≡◌, List, [], ◌∷◌, drop, false};
+ghost use Rattle.std.specs.Prelude.{◌≡◌, All, List, [], ◌∷◌, drop, false};
 ghost use Rattle.pe_unwind.specs.declared.arm64.codes.Arm64UnwindCode.{Arm64UnwindCode};
 ghost use Rattle.pe_frame.specs.Arm64Operations.{is_save_next};
 ghost use Rattle.pe_frame.specs.Arm64Undoing.{undone_codes};
@@ -145,6 +145,25 @@ pub(crate) fn undo_codes<M: Memory>(
     }
     if nexts > 0 {
         return Err(FrameError::Arm64Code(Arm64UnwindCode::SaveNext));
+    }
+    Ok(current)
+}
+
+/// The registers before what the instructions of these codes did, none of which is `save_next`.
+pub(crate) fn undo_each<M: Memory>(
+    codes: &[Arm64UnwindCode],
+    registers: Arm64Registers,
+    memory: &M,
+) -> Result<Arm64Registers, FrameError>
+    requires { All (λ c. is_save_next c ≡ false) codes.now }
+    ensures { result ≡ undone_codes (M.word memory.now) codes.now registers }
+{
+    let mut current = registers;
+    for code in codes {
+        match undo_code(0, *code, current, memory) {
+            Ok(before) => current = before,
+            Err(error) => return Err(error),
+        }
     }
     Ok(current)
 }

@@ -1,18 +1,20 @@
 //! One step of a stack walk on ARM64.
 
-ghost use Rattle.std.specs.Prelude.{◌≡◌, ◌-◌, ◌/◌, Ok};
+ghost use Rattle.std.specs.Prelude.{◌≡◌, ◌-◌, ◌/◌, true, Ok};
 ghost use Rattle.pe_unwind.specs.Arm64Record.{info_view};
 ghost use Rattle.pe_frame.specs.declared.arm64.registers.Arm64Registers.{Arm64Registers};
 ghost use Rattle.pe_frame.specs.Arm64Undoing.{returned_arm64, link_register, put_pc};
-ghost use Rattle.pe_frame.specs.Arm64Steps.{StepsArm64};
+ghost use Rattle.pe_frame.specs.Arm64Steps.{CodesThen, AreOver, StepsArm64};
+ghost use Rattle.pe_frame.specs.Arm64Packed.{packed_codes, is_canonical, stepped_packed};
 ghost use Rattle.pe_frame.specs.Arm64Frames.{Arm64Part, IsArm64Frame, effects_at};
 ghost use Rattle.pe_frame.specs.Arm64Machine.{IsArm64Caller};
 
-use super::record::{after_codes, prolog_length, require_codes, undo_codes};
+use super::packed::{is_canonical, packed_codes, packed_length};
+use super::record::{after_codes, prolog_length, require_codes, undo_codes, undo_each};
 use super::registers::{Arm64Registers, LINK_REGISTER};
 use crate::error::FrameError;
 use crate::memory::Memory;
-use pe_unwind::Arm64UnwindInfo;
+use pe_unwind::{Arm64RuntimeFunction, Arm64UnwindInfo};
 
 /// The bytes of an instruction.
 const SIZE_OF_INSTRUCTION: u32 = 4;
@@ -71,13 +73,65 @@ pub fn step_arm64<M: Memory>(
 ) -> Result<Arm64Registers, FrameError>
     ensures exact { StepsArm64 (M.word memory.now)
         (info_view info.now) ((rva - start) / 4) registers result }
-    ensures undoes { (p : Arm64Part) → info_view info.now ≡ p.info →
+    ensures undoes { (p : Arm64Part) → CodesThen AreOver (info_view info.now).codes p.codes →
         IsArm64Frame p ((rva - start) / 4) (M.word memory.now) registers →
         (u : Arm64Registers) × (result ≡ Ok u)
         × IsArm64Caller (effects_at ((rva - start) / 4) p) p.entry registers u }
 {
     let offset = rva.saturating_sub(start);
     caller(info, offset / SIZE_OF_INSTRUCTION, registers, memory)
+}
+
+/// The registers of the caller, where so many instructions of a function with packed unwind data are before the instruction
+/// pointer.
+fn packed_caller<M: Memory>(
+    function: &Arm64RuntimeFunction,
+    place: u32,
+    registers: Arm64Registers,
+    memory: &M,
+) -> Result<Arm64Registers, FrameError>
+    ensures { result ≡ stepped_packed
+        (M.word memory.now) function.now.unwind_data place registers }
+{
+    if !is_canonical(function) {
+        return Err(FrameError::Packed(function.unwind_data));
+    }
+    let list = packed_codes(function);
+    let codes = list.as_slice();
+    let left = packed_length(function, codes.len()).saturating_sub(place as usize);
+    match undo_each(&codes[left..], registers, memory) {
+        Ok(entry) => leave(registers.sp, entry),
+        Err(error) => Err(error),
+    }
+}
+
+/// The registers of a function's caller, from those inside the function, by its packed unwind data: those of an entry of the
+/// function table whose `flag` is 1 or 2.
+///
+/// The data stand for a canonical prolog. It is undone as [`step_arm64`] does it by a record with the codes of this prolog: after
+/// it all of them, inside of it those of the instructions before `rva`. A fragment, whose `flag` is 2, has no prolog of its own.
+/// `rva` is the instruction pointer less the image base; how a walk looks functions up is said at `step_arm64`.
+///
+/// Refused, in this order: `Packed` if the data have no canonical prolog, that is, a `flag` of 0 or 3, more than ten integer
+/// registers, x19 alone with the link register, which no code saves first, or a frame smaller than what is saved in it; `Address`
+/// and `Memory` where they come up; last `NotRising` if the caller's stack pointer is below this one.
+pub fn step_arm64_packed<M: Memory>(
+    function: &Arm64RuntimeFunction,
+    rva: u32,
+    registers: Arm64Registers,
+    memory: &M,
+) -> Result<Arm64Registers, FrameError>
+    ensures exact { result ≡ stepped_packed (M.word memory.now) function.now.unwind_data
+        ((rva - function.now.begin_address) / 4) registers }
+    ensures undoes { (p : Arm64Part) → p.codes ≡ packed_codes function.now.unwind_data →
+        is_canonical function.now.unwind_data ≡ true →
+        IsArm64Frame p ((rva - function.now.begin_address) / 4) (M.word memory.now) registers →
+        (u : Arm64Registers) × (result ≡ Ok u)
+        × IsArm64Caller (effects_at ((rva - function.now.begin_address) / 4) p)
+            p.entry registers u }
+{
+    let offset = rva.saturating_sub(function.begin_address);
+    packed_caller(function, offset / SIZE_OF_INSTRUCTION, registers, memory)
 }
 
 /// The registers of the caller of a leaf function: one without an entry in the function table, which changes neither the stack

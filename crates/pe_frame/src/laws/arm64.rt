@@ -1,15 +1,16 @@
 //! Laws of steps on ARM64.
 
-ghost use Rattle.std.specs.Prelude.{◌≡◌, ℕ, ◌<◌, All, List, Option, Result, Ok};
+ghost use Rattle.std.specs.Prelude.{◌≡◌, ℕ, ◌<◌, All, true, List, Option, Result, Ok};
 ghost use Rattle.pe_core.specs.Traits.{IsEquality};
 ghost use Rattle.pe_unwind.specs.Arm64Record.{Arm64InfoView};
 ghost use Rattle.pe_frame.specs.declared.arm64.registers.Arm64Registers.{Arm64Registers};
 ghost use Rattle.pe_frame.specs.declared.error.FrameError.{FrameError};
 ghost use Rattle.pe_frame.specs.Steps.{by_kind};
-ghost use Rattle.pe_frame.specs.Arm64Steps.{StepsArm64};
+ghost use Rattle.pe_frame.specs.Arm64Steps.{CodesThen, AreOver, StepsArm64};
+ghost use Rattle.pe_frame.specs.Arm64Packed.{packed_codes, is_canonical, stepped_packed};
 ghost use Rattle.pe_frame.specs.Arm64Machine.{IsArm64Caller};
 ghost use Rattle.pe_frame.specs.Arm64Frames.{Arm64Part, effects_at, IsArm64Frame};
-ghost use Rattle.pe_frame.specs.Arm64Samples.{chained_part, signed_part, stopped, arm64_registers_of, all_known_arm64};
+ghost use Rattle.pe_frame.specs.Arm64Samples.{chained_part, chained_bytes, signed_part, signed_bytes, packed_part, packed_data, stopped, arm64_registers_of, all_known_arm64};
 
 use crate::arm64::Arm64Registers;
 
@@ -29,21 +30,35 @@ pub fn one_result_of_arm64_steps()
 /// known memory has to show what the prolog stored. The link register has to be stored, or as the prolog left it; what the
 /// body did to other registers and memory does not matter.
 pub fn arm64_prologs_are_undone()
-    ensures { (m : ℕ → Option ℕ) (p : Arm64Part) (place : ℕ)
+    ensures { (m : ℕ → Option ℕ) (i : Arm64InfoView) (p : Arm64Part) (place : ℕ)
         (g : Arm64Registers) (x : Result Arm64Registers FrameError) →
-        IsArm64Frame p place m g → StepsArm64 m p.info place g x →
+        CodesThen AreOver i.codes p.codes → IsArm64Frame p place m g → StepsArm64 m i place g x →
         (u : Arm64Registers) × (x ≡ Ok u) × IsArm64Caller (effects_at place p) p.entry g u }
 {}
 
-/// There are such frames: of a function with a frame chain, after its prolog and inside of it; and of one that signs its
-/// return address and stores three pairs of registers.
+/// A step by packed unwind data is one by a record that has the codes of their canonical prolog.
+pub fn packed_entries_are_their_codes()
+    ensures { (m : ℕ → Option ℕ) (d : ℕ) (i : Arm64InfoView) (place : ℕ)
+        (g : Arm64Registers) (x : Result Arm64Registers FrameError) →
+        is_canonical d ≡ true → CodesThen AreOver i.codes (packed_codes d) →
+        StepsArm64 m i place g x → stepped_packed m d place g ≡ x }
+{}
+
+/// There are such frames: of a function with a frame chain, after its prolog and inside of it; of one that signs its
+/// return address and stores three pairs of registers; and of one with packed unwind data.
 pub fn arm64_prologs_are_there()
+    ensures chained_codes { CodesThen AreOver chained_bytes chained_part.codes }
+    ensures signed_codes { CodesThen AreOver signed_bytes signed_part.codes }
+    ensures packed_codes { packed_part.codes ≡ packed_codes packed_data }
+    ensures canonical { is_canonical packed_data ≡ true }
     ensures chained { IsArm64Frame chained_part 5
         (all_known_arm64 (stopped 5 chained_part)) (arm64_registers_of (stopped 5 chained_part)) }
     ensures begun { IsArm64Frame chained_part 2
         (all_known_arm64 (stopped 2 chained_part)) (arm64_registers_of (stopped 2 chained_part)) }
     ensures signed { IsArm64Frame signed_part 4
         (all_known_arm64 (stopped 4 signed_part)) (arm64_registers_of (stopped 4 signed_part)) }
+    ensures packed { IsArm64Frame packed_part 3
+        (all_known_arm64 (stopped 3 packed_part)) (arm64_registers_of (stopped 3 packed_part)) }
 {}
 
 /// Two registers of a thread are equal if all of them are.
