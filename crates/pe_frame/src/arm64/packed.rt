@@ -323,8 +323,8 @@ pub(crate) fn is_canonical(function: &Arm64RuntimeFunction) -> bool
     } else {
         0
     };
-    let is_packed =
-        flag == ARM64_PDATA_PACKED_UNWIND_FUNCTION || flag == ARM64_PDATA_PACKED_UNWIND_FRAGMENT;
+    let is_packed = flag == ARM64_PDATA_PACKED_UNWIND_FUNCTION
+        || flag == ARM64_PDATA_PACKED_UNWIND_FRAGMENT;
     let is_unsaved = packed.integers == 1 && packed.cr == ARM64_PDATA_CR_UNCHAINED_SAVED_LR;
     is_packed
         && packed.integers <= MOST_INTEGERS

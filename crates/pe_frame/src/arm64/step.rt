@@ -128,7 +128,7 @@ pub fn step_arm64_packed<M: Memory>(
         IsArm64Frame p ((rva - function.now.begin_address) / 4) (M.word memory.now) registers →
         (u : Arm64Registers) × (result ≡ Ok u)
         × IsArm64Caller (effects_at ((rva - function.now.begin_address) / 4) p)
-            p.entry registers u }
+        p.entry registers u }
 {
     let offset = rva.saturating_sub(function.begin_address);
     packed_caller(function, offset / SIZE_OF_INSTRUCTION, registers, memory)
