@@ -7,11 +7,11 @@ use Rattle.pe_frame.specs.declared.arm64.registers.Arm64Registers.{Arm64Register
 use Rattle.pe_frame.specs.declared.error.FrameError.{FrameError}
 use Rattle.pe_frame.specs.Undoing.{◌>>=◌}
 use Rattle.pe_frame.specs.Arm64Undoing.{link_register, put_pc, undone_codes, returned_arm64}
-use Rattle.pe_frame.specs.Arm64Steps.{CodesThen, AreOver, prolog_length, ran_arm64, StepsArm64}
+use Rattle.pe_frame.specs.Arm64Steps.{prolog_length, ran_arm64, Leaves, StepsArm64}
 use Rattle.pe_frame.specs.Arm64Packed.{packed_codes, is_canonical, stepped_packed}
 use Rattle.pe_frame.specs.Arm64Machine.{run_arm64, points_frame, IsArm64Caller}
 use Rattle.pe_frame.specs.Arm64Frames.{Arm64Part, effects_at, IsArm64Frame}
-use Rattle.pe_frame.proofs.Arm64Streams.{are_the_codes}
+use Rattle.pe_frame.proofs.Arm64Streams.{step_by_codes}
 use Rattle.pe_frame.proofs.Arm64Effects.{undone-effects, operations-drop, prolog-drop}
 use Rattle.pe_frame.proofs.Arm64Packed.{canonical_step}
 use Rattle.pe_frame.proofs.Arm64Runs.{holds, known, sinks}
@@ -49,23 +49,17 @@ arm64_undone m p place g x frame step =
       record { stack = e.stack; returns = e.link; link = e.link; registers = e.registers; floats = e.floats },
     )
 
--- a step by a record with these codes undoes them
-step_by_codes : (m : ℕ → Option ℕ) (i : Arm64InfoView) (cs : List Arm64UnwindCode) (place : ℕ) (g : Arm64Registers) (x : Result Arm64Registers FrameError) → CodesThen AreOver i.codes cs →
-    StepsArm64 m i place g x → x ≡ (undone_codes m (ran_arm64 place cs) g >>= returned_arm64 g.sp)
-step_by_codes m i cs place g x are step =
-    step.2 ∙ ap (λ (c : Result (List Arm64UnwindCode) FrameError). c >>= λ ds. undone_codes m (ran_arm64 place ds) g >>= returned_arm64 g.sp) (are_the_codes i.codes cs step.0 are step.1)
-
 -- a step by a record returns the registers of the caller
-pub arm64_caller : (m : ℕ → Option ℕ) (i : Arm64InfoView) (p : Arm64Part) (place : ℕ) (g : Arm64Registers) (x : Result Arm64Registers FrameError) → CodesThen AreOver i.codes p.codes →
-    IsArm64Frame p place m g → StepsArm64 m i place g x → (u : Arm64Registers) × (x ≡ Ok u) × IsArm64Caller (effects_at place p) p.entry g u
-arm64_caller m i p place g x are frame step = arm64_undone m p place g x frame (step_by_codes m i p.codes place g x are step)
+pub arm64_caller : (m : ℕ → Option ℕ) (i : Arm64InfoView) (p : Arm64Part) (place stand : ℕ) (g : Arm64Registers) (x : Result Arm64Registers FrameError) → Leaves i place (Ok (ran_arm64 stand p.codes)) →
+    IsArm64Frame p stand m g → StepsArm64 m i place g x → (u : Arm64Registers) × (x ≡ Ok u) × IsArm64Caller (effects_at stand p) p.entry g u
+arm64_caller m i p place stand g x left frame step = arm64_undone m p stand g x frame (step_by_codes m i (ran_arm64 stand p.codes) place g x left step)
 
--- so does a step by packed unwind data, which is one by a record with their codes
+-- so does a step by packed unwind data, which is one by a record that leaves their codes
 pub packed_caller : (m : ℕ → Option ℕ) (d : ℕ) (p : Arm64Part) (place : ℕ) (g : Arm64Registers) (x : Result Arm64Registers FrameError) → p.codes ≡ packed_codes d → is_canonical d ≡ true →
     IsArm64Frame p place m g → x ≡ stepped_packed m d place g → (u : Arm64Registers) × (x ≡ Ok u) × IsArm64Caller (effects_at place p) p.entry g u
 packed_caller m d p place g x are canonical frame step =
     arm64_undone m p place g x frame (step ∙ (canonical_step m d place g canonical ∙ ap (λ (cs : List Arm64UnwindCode). undone_codes m (ran_arm64 place cs) g >>= returned_arm64 g.sp) (sym are)))
 
-pub packed_as_codes : (m : ℕ → Option ℕ) (d : ℕ) (i : Arm64InfoView) (place : ℕ) (g : Arm64Registers) (x : Result Arm64Registers FrameError) → is_canonical d ≡ true → CodesThen AreOver i.codes (packed_codes d) →
+pub packed_as_codes : (m : ℕ → Option ℕ) (d : ℕ) (i : Arm64InfoView) (place : ℕ) (g : Arm64Registers) (x : Result Arm64Registers FrameError) → is_canonical d ≡ true → Leaves i place (Ok (ran_arm64 place (packed_codes d))) →
     StepsArm64 m i place g x → stepped_packed m d place g ≡ x
-packed_as_codes m d i place g x canonical are step = canonical_step m d place g canonical ∙ sym (step_by_codes m i (packed_codes d) place g x are step)
+packed_as_codes m d i place g x canonical left step = canonical_step m d place g canonical ∙ sym (step_by_codes m i (ran_arm64 place (packed_codes d)) place g x left step)

@@ -5,6 +5,7 @@
 //! leaves its return address in a register, the link register x30, so that undoing a prolog leads to it without a pop.
 
 mod code_list;
+mod epilog;
 mod operation;
 mod packed;
 mod record;

@@ -40,13 +40,14 @@ fn is_end_c(code: Arm64UnwindCode) -> bool
     }
 }
 
-/// `Codes` if one of the codes up to the first `end` is truncated.
-pub(crate) fn require_codes(codes: &[u8]) -> Result<(), FrameError>
+/// `Codes` if one of the codes up to the first `end` is truncated. `index` is that of the first of them in the record's codes.
+pub(crate) fn require_codes(codes: &[u8], index: usize) -> Result<(), FrameError>
     ensures { ReadsCodes codes.now result }
 {
     let mut rest = codes;
     while !rest.is_empty() {
-        match first_code(rest, codes.len().saturating_sub(rest.len())) {
+        let offset = codes.len().saturating_sub(rest.len()).saturating_add(index);
+        match first_code(rest, offset) {
             Ok(Some((_, size))) => rest = &rest[size..],
             Ok(None) => return Ok(()),
             Err(error) => return Err(error),
