@@ -11,7 +11,7 @@ use Rattle.pe_plan.specs.ShortPlans.{PlansShort}
 use Rattle.pe_frame.specs.Epilogs.{StepsWithCode}
 use Rattle.pe_frame.specs.Memory.{stack_word}
 use Rattle.pe_frame.specs.declared.error.FrameError.{FrameError}
-use Rattle.pe_frame.specs.declared.error.FrameError.TheVariants.{Codes, Memory, Address, Operation, Arm64Code, NotRising}
+use Rattle.pe_frame.specs.declared.error.FrameError.TheVariants.{Codes, Memory, Address, Operation, Arm64Code, Packed, NotRising}
 use Rattle.pe_frame.specs.declared.registers.Registers.{Registers}
 use Rattle.pe_c.specs.HandsOut.{result_number}
 use Rattle.pe_c.specs.Modes.{options_of}
@@ -54,6 +54,7 @@ HandsOutCaller number old new (Err (Memory a)) = (number ≡ 102) × (new ≡ re
 HandsOutCaller number old new (Err (Address a)) = (number ≡ 103) × (new ≡ record old { address = a })
 HandsOutCaller number old new (Err (Operation o)) = (number ≡ 104) × (new ≡ old)
 HandsOutCaller number old new (Err (Arm64Code c)) = (number ≡ 104) × (new ≡ old)
+HandsOutCaller number old new (Err (Packed d)) = (number ≡ 104) × (new ≡ old)
 HandsOutCaller number old new (Err (NotRising a)) = (number ≡ 105) × (new ≡ record old { address = a })
 
 -- the same by the records of the frame's function: a step of pe_frame with the code from the frame's RVA on, over one

@@ -151,8 +151,8 @@ fn hand_out_caller(caller: Result<Registers, FrameError>, frame: &mut StackFrame
             BAD_ADDRESS
         }
         Err(FrameError::Operation(_)) => BAD_OPERATION,
-        // No record of x64 has one.
-        Err(FrameError::Arm64Code(_)) => BAD_OPERATION,
+        // No record of x64 has these.
+        Err(FrameError::Arm64Code(_)) | Err(FrameError::Packed(_)) => BAD_OPERATION,
         Err(FrameError::NotRising(pointer)) => {
             frame.address = pointer;
             NOT_RISING

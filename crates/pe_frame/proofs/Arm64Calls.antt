@@ -112,7 +112,7 @@ undoing_next m codes rest c k n current registers first is inv cs are =
     (next.rest, next.are, ap (λ (xs : List Arm64UnwindCode). undone_codes m xs current) (sym (ap (with_nexts n) stands ∙ nexts_more n (n + 1) next.rest refl)) ∙ i.2)
 
 -- the code that is read and the `save_next` before it are undone, and then the others
-undone_first : (m : ℕ → Option ℕ) (c : Arm64UnwindCode) (n : ℕ) (ds rest : List Arm64UnwindCode) (current : Arm64Registers) (r all : Result Arm64Registers FrameError) → ds ≡ c ∷ rest → is_save_next c ≡ false →
+pub undone_first : (m : ℕ → Option ℕ) (c : Arm64UnwindCode) (n : ℕ) (ds rest : List Arm64UnwindCode) (current : Arm64Registers) (r all : Result Arm64Registers FrameError) → ds ≡ c ∷ rest → is_save_next c ≡ false →
     r ≡ undone_codes m (with_nexts n (c ∷ [])) current → undone_codes m (with_nexts n ds) current ≡ all → (r >>= undone_codes m rest) ≡ all
 undone_first m c n ds rest current r all is not e h =
     ap (λ (x : Result Arm64Registers FrameError). x >>= undone_codes m rest) e

@@ -1,5 +1,5 @@
 -- Frames of a running ARM64 program are undone.
-use Rattle.std.proofs.Common.{◌≡◌, ℕ, ◌-◌, ◌≤◌, true, leb, List, drop, Option, Result, Ok, refl, ap, ◌∙◌, subst, arith}
+use Rattle.std.proofs.Common.{◌≡◌, ℕ, ◌-◌, ◌≤◌, true, leb, List, drop, Option, Result, Ok, refl, ap, sym, ◌∙◌, arith}
 use Rattle.std.proofs.lemmas.Bool.Decides.{nat_tests}
 use Rattle.pe_unwind.specs.declared.arm64.codes.Arm64UnwindCode.{Arm64UnwindCode}
 use Rattle.pe_unwind.specs.Arm64Record.{Arm64InfoView}
@@ -7,11 +7,13 @@ use Rattle.pe_frame.specs.declared.arm64.registers.Arm64Registers.{Arm64Register
 use Rattle.pe_frame.specs.declared.error.FrameError.{FrameError}
 use Rattle.pe_frame.specs.Undoing.{◌>>=◌}
 use Rattle.pe_frame.specs.Arm64Undoing.{link_register, put_pc, undone_codes, returned_arm64}
-use Rattle.pe_frame.specs.Arm64Steps.{prolog_length, ran_arm64, StepsArm64}
+use Rattle.pe_frame.specs.Arm64Steps.{prolog_length, ran_arm64, Leaves, StepsArm64}
+use Rattle.pe_frame.specs.Arm64Packed.{packed_codes, is_canonical, stepped_packed}
 use Rattle.pe_frame.specs.Arm64Machine.{run_arm64, points_frame, IsArm64Caller}
 use Rattle.pe_frame.specs.Arm64Frames.{Arm64Part, effects_at, IsArm64Frame}
-use Rattle.pe_frame.proofs.Arm64Streams.{are_the_codes}
+use Rattle.pe_frame.proofs.Arm64Streams.{step_by_codes}
 use Rattle.pe_frame.proofs.Arm64Effects.{undone-effects, operations-drop, prolog-drop}
+use Rattle.pe_frame.proofs.Arm64Packed.{canonical_step}
 use Rattle.pe_frame.proofs.Arm64Runs.{holds, known, sinks}
 use Rattle.pe_frame.proofs.Arm64Reverted.{Reverts, keeps_le, reverts}
 
@@ -28,13 +30,12 @@ entry_of p place m g frame =
     let held = known m (run_arm64 es p.entry).memory es p.entry frame.body.memory (holds es p.entry prolog) in
     reverts m es p.entry g prolog held frame.body.count frame.body.float_count frame.body.stack frame.body.link
 
--- a step returns the registers of the caller
-pub arm64_caller : (m : ℕ → Option ℕ) (p : Arm64Part) (place : ℕ) (g : Arm64Registers) (x : Result Arm64Registers FrameError) →
-    IsArm64Frame p place m g → StepsArm64 m p.info place g x → (u : Arm64Registers) × (x ≡ Ok u) × IsArm64Caller (effects_at place p) p.entry g u
-arm64_caller m p place g x frame step =
+-- undoing the codes of the instructions that have run gives the registers of the caller
+pub arm64_undone : (m : ℕ → Option ℕ) (p : Arm64Part) (place : ℕ) (g : Arm64Registers) (x : Result Arm64Registers FrameError) →
+    IsArm64Frame p place m g → x ≡ (undone_codes m (ran_arm64 place p.codes) g >>= returned_arm64 g.sp) → (u : Arm64Registers) × (x ≡ Ok u) × IsArm64Caller (effects_at place p) p.entry g u
+arm64_undone m p place g x frame step =
     let es = effects_at place p in
     let e = entry_of p place m g frame in
-    let codes : step.0 ≡ Ok p.codes = are_the_codes p.info.codes p.codes step.0 frame.codes step.1 in
     let undone : undone_codes m (ran_arm64 place p.codes) g ≡ Ok e.entry =
     undone-effects m (ran_arm64 place p.codes) (drop (prolog_length p.codes - place) p.operations) g (operations-drop (prolog_length p.codes - place) p.codes p.operations frame.known) ∙ e.is in
     let prolog = prolog-drop (prolog_length p.codes - place) p.operations p.entry frame.prolog in
@@ -42,14 +43,23 @@ arm64_caller m p place g x frame step =
     let low = sinks es p.entry prolog in
     let back : returned_arm64 g.sp e.entry ≡ Ok (put_pc e.entry (link_register e.entry)) = returned_ok g.sp e.entry (omega (arith, le, low, e.stack)) in
     let is : x ≡ Ok (put_pc e.entry (link_register e.entry)) =
-    step.2 ∙ (ap (λ (c : Result (List Arm64UnwindCode) FrameError). c >>= λ cs. undone_codes m (ran_arm64 place cs) g >>= returned_arm64 g.sp) codes
-    ∙ (ap (λ (u : Result Arm64Registers FrameError). u >>= returned_arm64 g.sp) undone ∙ back)) in (
+    step ∙ (ap (λ (u : Result Arm64Registers FrameError). u >>= returned_arm64 g.sp) undone ∙ back) in (
       put_pc e.entry (link_register e.entry),
       is,
       record { stack = e.stack; returns = e.link; link = e.link; registers = e.registers; floats = e.floats },
     )
 
--- the same of a record that is seen as that of the frame
-pub arm64_caller_in : (m : ℕ → Option ℕ) (i : Arm64InfoView) (p : Arm64Part) (place : ℕ) (g : Arm64Registers) (x : Result Arm64Registers FrameError) → i ≡ p.info →
-    IsArm64Frame p place m g → StepsArm64 m i place g x → (u : Arm64Registers) × (x ≡ Ok u) × IsArm64Caller (effects_at place p) p.entry g u
-arm64_caller_in m i p place g x is frame step = arm64_caller m p place g x frame (subst (λ (j : Arm64InfoView). StepsArm64 m j place g x) is step)
+-- a step by a record returns the registers of the caller
+pub arm64_caller : (m : ℕ → Option ℕ) (i : Arm64InfoView) (p : Arm64Part) (place stand : ℕ) (g : Arm64Registers) (x : Result Arm64Registers FrameError) → Leaves i place (Ok (ran_arm64 stand p.codes)) →
+    IsArm64Frame p stand m g → StepsArm64 m i place g x → (u : Arm64Registers) × (x ≡ Ok u) × IsArm64Caller (effects_at stand p) p.entry g u
+arm64_caller m i p place stand g x left frame step = arm64_undone m p stand g x frame (step_by_codes m i (ran_arm64 stand p.codes) place g x left step)
+
+-- so does a step by packed unwind data, which is one by a record that leaves their codes
+pub packed_caller : (m : ℕ → Option ℕ) (d : ℕ) (p : Arm64Part) (place : ℕ) (g : Arm64Registers) (x : Result Arm64Registers FrameError) → p.codes ≡ packed_codes d → is_canonical d ≡ true →
+    IsArm64Frame p place m g → x ≡ stepped_packed m d place g → (u : Arm64Registers) × (x ≡ Ok u) × IsArm64Caller (effects_at place p) p.entry g u
+packed_caller m d p place g x are canonical frame step =
+    arm64_undone m p place g x frame (step ∙ (canonical_step m d place g canonical ∙ ap (λ (cs : List Arm64UnwindCode). undone_codes m (ran_arm64 place cs) g >>= returned_arm64 g.sp) (sym are)))
+
+pub packed_as_codes : (m : ℕ → Option ℕ) (d : ℕ) (i : Arm64InfoView) (place : ℕ) (g : Arm64Registers) (x : Result Arm64Registers FrameError) → is_canonical d ≡ true → Leaves i place (Ok (ran_arm64 place (packed_codes d))) →
+    StepsArm64 m i place g x → stepped_packed m d place g ≡ x
+packed_as_codes m d i place g x canonical left step = canonical_step m d place g canonical ∙ sym (step_by_codes m i (ran_arm64 place (packed_codes d)) place g x left step)

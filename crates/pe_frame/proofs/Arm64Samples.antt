@@ -1,16 +1,17 @@
 -- The samples are frames of a running ARM64 program.
-use Rattle.std.proofs.Common.{ℕ, zero, suc, ◌^◌, ◌<◌, List, get_or, inl, inr, [], ◌∷◌, refl, rules}
+use Rattle.std.proofs.Common.{◌≡◌, ℕ, zero, suc, ◌^◌, ◌<◌, List, get_or, inl, inr, [], ◌∷◌, refl, rules}
 use Rattle.std.specs.List.{AllByRecursion}
 use Rattle.pe_frame.specs.Arm64Operations.{all_effects}
 use Rattle.pe_frame.specs.Arm64Steps.{CodesThen, AreOver}
+use Rattle.pe_frame.specs.Arm64Packed.{packed_codes}
 use Rattle.pe_frame.specs.Arm64Machine.{IsArm64Entered, IsArm64Prolog, IsArm64Body}
 use Rattle.pe_frame.specs.Arm64Frames.{effects_at, IsArm64Frame}
-use Rattle.pe_frame.specs.Arm64Samples.{sample_arm64_machine, chained_part, signed_part, stopped, arm64_registers_of, all_known_arm64}
+use Rattle.pe_frame.specs.Arm64Samples.{sample_arm64_machine, chained_part, chained_bytes, signed_part, signed_bytes, packed_part, packed_data, stopped, arm64_registers_of, all_known_arm64}
 
-chained_codes : CodesThen AreOver chained_part.info.codes chained_part.codes
+pub chained_codes : CodesThen AreOver chained_bytes chained_part.codes
 chained_codes = search rules
 
-signed_codes : CodesThen AreOver signed_part.info.codes signed_part.codes
+pub signed_codes : CodesThen AreOver signed_bytes signed_part.codes
 signed_codes = search rules
 
 small_at : (xs : List ℕ) (r : ℕ) → AllByRecursion (λ x. x < 2 ^ 64) xs → get_or xs r 0 < 2 ^ 64
@@ -44,10 +45,22 @@ signed_body : IsArm64Body (effects_at 4 signed_part) signed_part.entry (all_know
 signed_body = search rules
 
 pub chained : IsArm64Frame chained_part 5 (all_known_arm64 (stopped 5 chained_part)) (arm64_registers_of (stopped 5 chained_part))
-chained = record { codes = chained_codes; known = refl; prolog = chained_prolog; body = chained_body }
+chained = record { known = refl; prolog = chained_prolog; body = chained_body }
 
 pub begun : IsArm64Frame chained_part 2 (all_known_arm64 (stopped 2 chained_part)) (arm64_registers_of (stopped 2 chained_part))
-begun = record { codes = chained_codes; known = refl; prolog = chained_prolog; body = begun_body }
+begun = record { known = refl; prolog = chained_prolog; body = begun_body }
 
 pub signed : IsArm64Frame signed_part 4 (all_known_arm64 (stopped 4 signed_part)) (arm64_registers_of (stopped 4 signed_part))
-signed = record { codes = signed_codes; known = refl; prolog = signed_prolog; body = signed_body }
+signed = record { known = refl; prolog = signed_prolog; body = signed_body }
+
+pub packed_codes_are : packed_part.codes ≡ packed_codes packed_data
+packed_codes_are = search rules
+
+packed_prolog : IsArm64Prolog (all_effects packed_part.operations) packed_part.entry
+packed_prolog = (search rules, ((search rules, search rules, search rules, (inr (search rules), (inr (search rules), tt))), (search rules, ((search rules, search rules, search rules, (inl (search rules), tt)), ((search rules, search rules, search rules, tt), (search rules, entered))))))
+
+packed_body : IsArm64Body (effects_at 3 packed_part) packed_part.entry (all_known_arm64 (stopped 3 packed_part)) (arm64_registers_of (stopped 3 packed_part))
+packed_body = search rules
+
+pub packed : IsArm64Frame packed_part 3 (all_known_arm64 (stopped 3 packed_part)) (arm64_registers_of (stopped 3 packed_part))
+packed = record { known = refl; prolog = packed_prolog; body = packed_body }

@@ -1,5 +1,5 @@
 -- The codes of an ARM64 record, one after the other.
-use Rattle.std.proofs.Common.{◌≡◌, ℕ, zero, suc, ◌<◌, ◌≤◌, inl, inr, Bool, true, false, All, List, [], ◌∷◌, length, drop, Option, Some, Result, Ok, Err, refl, ap, sym, ◌∙◌, subst, arith}
+use Rattle.std.proofs.Common.{◌≡◌, ℕ, zero, suc, ◌<◌, ◌≤◌, inl, inr, Bool, true, false, All, List, [], ◌∷◌, length, drop, Option, Some, None, Result, Ok, Err, refl, ap, sym, ◌∙◌, subst, arith}
 use Rattle.std.proofs.lemmas.Grind.{common_steps}
 use Rattle.std.proofs.lemmas.List.{length-drop, nil_from_length}
 use Rattle.std.proofs.lemmas.List.Elements.{All-drop}
@@ -10,15 +10,17 @@ use Rattle.pe_unwind.specs.declared.arm64.codes.Arm64UnwindCode.{Arm64UnwindCode
 use Rattle.pe_unwind.specs.declared.arm64.codes.Arm64UnwindCode.TheVariants.{End, Nop}
 use Rattle.pe_unwind.specs.Arm64Encoding.{encoding, StartsWithArm64Code, IsTruncatedArm64Code}
 use Rattle.pe_unwind.specs.Arm64Record.{Arm64InfoView}
+use Rattle.pe_unwind.specs.Arm64Words.{bits}
 use Rattle.pe_unwind.proofs.Arm64OneCode.{starts_once, cut_starts_none}
 use Rattle.pe_unwind.proofs.Arm64Whole.{code_or_cut}
+use Rattle.pe_frame.specs.declared.arm64.epilog.Arm64Epilog.{Arm64Epilog}
 use Rattle.pe_frame.specs.declared.arm64.registers.Arm64Registers.{Arm64Registers}
 use Rattle.pe_frame.specs.declared.error.FrameError.{FrameError}
-use Rattle.pe_frame.specs.declared.error.FrameError.TheVariants.{Codes, Memory, Address, Operation, Arm64Code, NotRising}
+use Rattle.pe_frame.specs.declared.error.FrameError.TheVariants.{Codes, Memory, Address, Operation, Arm64Code, Packed, NotRising}
 use Rattle.pe_frame.specs.Undoing.{◌>>=◌}
-use Rattle.pe_frame.specs.Steps.{OfCodes, error_kind, by_kind}
+use Rattle.pe_frame.specs.Steps.{Then, OfCodes, error_kind, by_kind}
 use Rattle.pe_frame.specs.Arm64Undoing.{undone_codes, returned_arm64}
-use Rattle.pe_frame.specs.Arm64Steps.{is_end, CodesThen, AreOver, AreTruncated, IsOfTruncated, HasArm64Codes, ran_arm64, StepsArm64}
+use Rattle.pe_frame.specs.Arm64Steps.{is_end, CodesThen, AreOver, AreTruncated, IsOfTruncated, HasArm64Codes, prolog_length, ran_arm64, epilog_start, left_in_epilog, epilog_after, LeavesIn, Leaves, StepsArm64}
 use Rattle.pe_frame.specs.Arm64Reading.{IsFirstCode, read_only}
 use Rattle.pe_frame.proofs.OneStep.{same_then}
 
@@ -108,6 +110,7 @@ truncated_kind (Memory a) h = absurd h
 truncated_kind (Address a) h = absurd h
 truncated_kind (Operation o) h = absurd h
 truncated_kind (Arm64Code c) h = absurd h
+truncated_kind (Packed d) h = absurd h
 truncated_kind (NotRising a) h = absurd h
 
 one_codes : (bytes : List ℕ) (x y : Result (List Arm64UnwindCode) FrameError) → HasArm64Codes bytes x → HasArm64Codes bytes y → by_kind x ≡ by_kind y
@@ -115,10 +118,36 @@ one_codes bytes x (Ok cs) h k = ap by_kind (are_the_codes bytes cs x k h)
 one_codes bytes (Ok cs) (Err e) h k = absurd (not_truncated bytes cs k.1 h k.2)
 one_codes bytes (Err d) (Err e) h k = ap Err (truncated_kind d h.0 ∙ sym (truncated_kind e k.0))
 
+one_in : (i : Arm64InfoView) (place : ℕ) (cs : List Arm64UnwindCode) (e : Option Arm64Epilog) (x y : Result (List Arm64UnwindCode) FrameError) → LeavesIn i place cs e x → LeavesIn i place cs e y → by_kind x ≡ by_kind y
+one_in i place cs None x y h k = ap by_kind (h ∙ sym k)
+one_in i place cs (Some e) x y h k =
+    rw h.2 (rw k.2 (same_then h.0 k.0 (λ es. Ok (left_in_epilog place (epilog_start (bits i.header 0 18) e.start (prolog_length es)) es cs)) (one_codes (drop e.index i.codes) h.0 k.0 h.1 k.1)))
+
+one_by : (i : Arm64InfoView) (place : ℕ) (a b x y : Result (List Arm64UnwindCode) FrameError) → HasArm64Codes i.codes a → HasArm64Codes i.codes b →
+    Then a (λ cs. LeavesIn i place cs (epilog_after i place cs)) x → Then b (λ cs. LeavesIn i place cs (epilog_after i place cs)) y → by_kind x ≡ by_kind y
+one_by i place (Ok cs) (Ok ds) x y h k hx ky =
+    let same : cs ≡ ds = is_codes i.codes cs ds h k in
+    one_in i place ds (epilog_after i place ds) x y (subst (λ (es : List Arm64UnwindCode). LeavesIn i place es (epilog_after i place es) x) same hx) ky
+one_by i place (Ok cs) (Err e) x y h k hx ky = absurd (not_truncated i.codes cs k.1 h k.2)
+one_by i place (Err d) (Ok ds) x y h k hx ky = absurd (not_truncated i.codes ds h.1 k h.2)
+one_by i place (Err d) (Err e) x y h k hx ky = rw hx (rw ky (ap Err (truncated_kind d h.0 ∙ sym (truncated_kind e k.0))))
+
+pub one_left : (i : Arm64InfoView) (place : ℕ) (x y : Result (List Arm64UnwindCode) FrameError) → Leaves i place x → Leaves i place y → by_kind x ≡ by_kind y
+one_left i place x y h k = one_by i place h.0 k.0 x y h.1 k.1 h.2 k.2
+
 -- there is one step, up to the numbers in a refusal of codes
 pub one_arm64_step : (m : ℕ → Option ℕ) (i : Arm64InfoView) (place : ℕ) (g : Arm64Registers) (x y : Result Arm64Registers FrameError) → StepsArm64 m i place g x → StepsArm64 m i place g y → by_kind x ≡ by_kind y
-one_arm64_step m i place g x y h k =
-    rw h.2 (rw k.2 (same_then h.0 k.0 (λ cs. undone_codes m (ran_arm64 place cs) g >>= returned_arm64 g.sp) (one_codes i.codes h.0 k.0 h.1 k.1)))
+one_arm64_step m i place g x y h k = rw h.2 (rw k.2 (same_then h.0 k.0 (λ cs. undone_codes m cs g >>= returned_arm64 g.sp) (one_left i place h.0 k.0 h.1 k.1)))
+
+ok_by_kind : {A : Type 0} (x : Result A FrameError) (a : A) → by_kind x ≡ by_kind (Ok a) → x ≡ Ok a
+ok_by_kind (Ok b) a e = cc
+ok_by_kind (Err b) a e = cc
+
+-- a step by a record that leaves these codes undoes them
+pub step_by_codes : (m : ℕ → Option ℕ) (i : Arm64InfoView) (cs : List Arm64UnwindCode) (place : ℕ) (g : Arm64Registers) (x : Result Arm64Registers FrameError) → Leaves i place (Ok cs) →
+    StepsArm64 m i place g x → x ≡ (undone_codes m cs g >>= returned_arm64 g.sp)
+step_by_codes m i cs place g x left step =
+    step.2 ∙ ap (λ (c : Result (List Arm64UnwindCode) FrameError). c >>= λ ds. undone_codes m ds g >>= returned_arm64 g.sp) (ok_by_kind step.0 cs (one_left i place step.0 (Ok cs) step.1 left))
 
 -- codes of bytes
 abbrev SomeCodes : List ℕ → Type 0
@@ -156,8 +185,24 @@ codes_of_left zero bytes few all = (Ok [], inl (nil_from_length bytes (omega (ar
 codes_of_left (suc k) bytes few all =
     codes_step bytes bytes refl all (λ n some. codes_of_left k (drop n bytes) (omega (arith, length-drop n bytes, few, some)) (All-drop (λ x. x < 256) n bytes all))
 
+some_in : (i : Arm64InfoView) (place : ℕ) (cs : List Arm64UnwindCode) (e : Option Arm64Epilog) → All (λ x. x < 256) i.codes → (x : Result (List Arm64UnwindCode) FrameError) × LeavesIn i place cs e x
+some_in i place cs None all = (Ok (ran_arm64 place cs), refl)
+some_in i place cs (Some e) all =
+    let codes = codes_of_left (length (drop e.index i.codes)) (drop e.index i.codes) (omega arith) (All-drop (λ x. x < 256) e.index i.codes all) in
+    (codes.0 >>= λ es. Ok (left_in_epilog place (epilog_start (bits i.header 0 18) e.start (prolog_length es)) es cs), (codes.0, codes.1, refl))
+
+some_by : (i : Arm64InfoView) (place : ℕ) (a : Result (List Arm64UnwindCode) FrameError) → All (λ x. x < 256) i.codes → (x : Result (List Arm64UnwindCode) FrameError) × Then a (λ cs. LeavesIn i place cs (epilog_after i place cs)) x
+some_by i place (Ok cs) all = some_in i place cs (epilog_after i place cs) all
+some_by i place (Err e) all = (Err e, refl)
+
+some_left : (i : Arm64InfoView) (place : ℕ) → All (λ x. x < 256) i.codes → (x : Result (List Arm64UnwindCode) FrameError) × Leaves i place x
+some_left i place all =
+    let codes = codes_of_left (length i.codes) i.codes (omega arith) all in
+    let left = some_by i place codes.0 all in
+    (left.0, (codes.0, codes.1, left.1))
+
 -- each record of bytes has a step
 pub some_arm64_step : (m : ℕ → Option ℕ) (i : Arm64InfoView) (place : ℕ) (g : Arm64Registers) → All (λ x. x < 256) i.codes → (x : Result Arm64Registers FrameError) × StepsArm64 m i place g x
 some_arm64_step m i place g all =
-    let codes = codes_of_left (length i.codes) i.codes (omega arith) all in
-    (codes.0 >>= λ cs. undone_codes m (ran_arm64 place cs) g >>= returned_arm64 g.sp, (codes.0, codes.1, refl))
+    let left = some_left i place all in
+    (left.0 >>= λ cs. undone_codes m cs g >>= returned_arm64 g.sp, (left.0, left.1, refl))

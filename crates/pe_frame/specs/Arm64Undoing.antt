@@ -58,3 +58,7 @@ undone_codes m (c ∷ before) g = undone_as m c (operation_in before c) g >>= un
 -- the caller's registers at a function's entry: it returns to the link register. Its stack pointer is not below this one.
 abbrev pub returned_arm64 : ℕ → Arm64Registers → Result Arm64Registers FrameError
 returned_arm64 p u = if nat_le p u.sp then Ok (put_pc u (link_register u)) else Err (NotRising u.sp)
+
+-- the caller's registers, where the instructions of these codes are left to be undone
+abbrev pub caller_by : (ℕ → Option ℕ) → List Arm64UnwindCode → Arm64Registers → Result Arm64Registers FrameError
+caller_by m codes g = undone_codes m codes g >>= returned_arm64 g.sp

@@ -12,6 +12,8 @@ pub mod Arm64Operations
 pub mod Arm64Undoing
 pub mod Arm64Steps
 pub mod Arm64Reading
+pub mod Arm64Packed
+pub mod Arm64CodeLists
 pub mod Arm64Machine
 pub mod Arm64Frames
 pub mod Arm64Samples

@@ -22,6 +22,9 @@ pub enum FrameError {
     /// An ARM64 unwind code that no step undoes.
     #[error("unwind code cannot be undone: {0:?}")]
     Arm64Code(Arm64UnwindCode),
+    /// Packed unwind data of ARM64 that stand for no canonical prolog.
+    #[error("packed unwind data {0:#x} have no canonical prolog")]
+    Packed(u32),
     /// The stack pointer of the caller, which is not above that of the function; on ARM64 it is below that.
     #[error("stack pointer {0:#x} of the caller is not above that of the function")]
     NotRising(u64),

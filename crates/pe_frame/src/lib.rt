@@ -10,8 +10,8 @@
 //! caller of `step` looks up, and how a walk ends, is said there. In an epilog the codes do not hold any more:
 //! [`step_with_code`] knows one by its bytes.
 //!
-//! On ARM64 a walk is `ExceptionData::get_unwind_info_arm64` of pe_unwind and [`step_arm64`] in turn, or [`leaf_arm64`]. How
-//! ARM64 differs is said in `arm64`.
+//! On ARM64 a walk is `ExceptionData::get_unwind_info_arm64` of pe_unwind and [`step_arm64`] in turn, [`step_arm64_packed`]
+//! where that returns `None` of an entry, or [`leaf_arm64`]. How ARM64 differs is said in `arm64`.
 #![tactic(auto)]
 
 mod arm64;
@@ -24,7 +24,7 @@ mod record;
 mod registers;
 mod undo;
 
-pub use arm64::{Arm64Registers, leaf_arm64, step_arm64};
+pub use arm64::{Arm64Registers, leaf_arm64, step_arm64, step_arm64_packed};
 pub use error::FrameError;
 pub use frame::{leaf, step, step_with_code};
 pub use memory::{Memory, Stack};

@@ -1,6 +1,6 @@
 //! Undoing the codes of an ARM64 unwind record.
 
-ghost use Rattle.std.specs.Prelude.{◌≡◌, List, [], ◌∷◌, drop, false};
+ghost use Rattle.std.specs.Prelude.{◌≡◌, All, List, [], ◌∷◌, drop, false};
 ghost use Rattle.pe_unwind.specs.declared.arm64.codes.Arm64UnwindCode.{Arm64UnwindCode};
 ghost use Rattle.pe_frame.specs.Arm64Operations.{is_save_next};
 ghost use Rattle.pe_frame.specs.Arm64Undoing.{undone_codes};
@@ -40,13 +40,14 @@ fn is_end_c(code: Arm64UnwindCode) -> bool
     }
 }
 
-/// `Codes` if one of the codes up to the first `end` is truncated.
-pub(crate) fn require_codes(codes: &[u8]) -> Result<(), FrameError>
+/// `Codes` if one of the codes up to the first `end` is truncated. `index` is that of the first of them in the record's codes.
+pub(crate) fn require_codes(codes: &[u8], index: usize) -> Result<(), FrameError>
     ensures { ReadsCodes codes.now result }
 {
     let mut rest = codes;
     while !rest.is_empty() {
-        match first_code(rest, codes.len().saturating_sub(rest.len())) {
+        let offset = codes.len().saturating_sub(rest.len()).saturating_add(index);
+        match first_code(rest, offset) {
             Ok(Some((_, size))) => rest = &rest[size..],
             Ok(None) => return Ok(()),
             Err(error) => return Err(error),
@@ -145,6 +146,25 @@ pub(crate) fn undo_codes<M: Memory>(
     }
     if nexts > 0 {
         return Err(FrameError::Arm64Code(Arm64UnwindCode::SaveNext));
+    }
+    Ok(current)
+}
+
+/// The registers before what the instructions of these codes did, none of which is `save_next`.
+pub(crate) fn undo_each<M: Memory>(
+    codes: &[Arm64UnwindCode],
+    registers: Arm64Registers,
+    memory: &M,
+) -> Result<Arm64Registers, FrameError>
+    requires { All (λ c. is_save_next c ≡ false) codes.now }
+    ensures { result ≡ undone_codes (M.word memory.now) codes.now registers }
+{
+    let mut current = registers;
+    for code in codes {
+        match undo_code(0, *code, current, memory) {
+            Ok(before) => current = before,
+            Err(error) => return Err(error),
+        }
     }
     Ok(current)
 }

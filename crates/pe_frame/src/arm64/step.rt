@@ -1,21 +1,25 @@
 //! One step of a stack walk on ARM64.
 
-ghost use Rattle.std.specs.Prelude.{◌≡◌, ◌-◌, ◌/◌, Ok};
+ghost use Rattle.std.specs.Prelude.{◌≡◌, ℕ, ◌-◌, ◌/◌, true, List, Ok, Some};
 ghost use Rattle.pe_unwind.specs.Arm64Record.{info_view};
 ghost use Rattle.pe_frame.specs.declared.arm64.registers.Arm64Registers.{Arm64Registers};
-ghost use Rattle.pe_frame.specs.Arm64Undoing.{returned_arm64, link_register, put_pc};
-ghost use Rattle.pe_frame.specs.Arm64Steps.{StepsArm64};
+ghost use Rattle.pe_unwind.specs.declared.arm64.codes.Arm64UnwindCode.{Arm64UnwindCode};
+ghost use Rattle.pe_frame.specs.Arm64Undoing.{caller_by, returned_arm64, link_register, put_pc};
+ghost use Rattle.pe_frame.specs.Arm64Steps.{CodesThen, AreOver, ran_arm64, Leaves, StepsArm64};
+ghost use Rattle.pe_frame.specs.Arm64Reading.{StepsIn};
+ghost use Rattle.pe_frame.specs.Arm64Packed.{packed_codes, is_canonical, stepped_packed};
 ghost use Rattle.pe_frame.specs.Arm64Frames.{Arm64Part, IsArm64Frame, effects_at};
 ghost use Rattle.pe_frame.specs.Arm64Machine.{IsArm64Caller};
 
-use super::record::{after_codes, prolog_length, require_codes, undo_codes};
+use super::epilog::{
+    Arm64Epilog, SIZE_OF_INSTRUCTION, codes_from, epilog_after, epilog_start, is_in_epilog,
+};
+use super::packed::{is_canonical, packed_codes, packed_length};
+use super::record::{after_codes, prolog_length, require_codes, undo_codes, undo_each};
 use super::registers::{Arm64Registers, LINK_REGISTER};
 use crate::error::FrameError;
 use crate::memory::Memory;
-use pe_unwind::Arm64UnwindInfo;
-
-/// The bytes of an instruction.
-const SIZE_OF_INSTRUCTION: u32 = 4;
+use pe_unwind::{Arm64RuntimeFunction, Arm64UnwindInfo};
 
 /// The registers of the caller, from those at the function's entry, if its stack pointer is not below this one.
 fn leave(pointer: u64, entry: Arm64Registers) -> Result<Arm64Registers, FrameError>
@@ -25,6 +29,45 @@ fn leave(pointer: u64, entry: Arm64Registers) -> Result<Arm64Registers, FrameErr
         return Err(FrameError::NotRising(entry.sp));
     }
     Ok(leaf_arm64(entry))
+}
+
+/// The registers of the caller, where these codes are left to be undone. None of them is truncated.
+fn caller_by<M: Memory>(
+    codes: &[u8],
+    registers: Arm64Registers,
+    memory: &M,
+) -> Result<Arm64Registers, FrameError>
+    ensures { (cs : List Arm64UnwindCode) → CodesThen AreOver codes.now cs →
+        result ≡ caller_by (M.word memory.now) cs registers }
+{
+    match undo_codes(codes, registers, memory) {
+        Ok(entry) => leave(registers.sp, entry),
+        Err(error) => Err(error),
+    }
+}
+
+/// The registers of the caller after the prolog, if the instruction pointer may be in this epilog.
+fn caller_after<M: Memory>(
+    info: &Arm64UnwindInfo<'_>,
+    epilog: Arm64Epilog,
+    place: u32,
+    registers: Arm64Registers,
+    memory: &M,
+) -> Result<Arm64Registers, FrameError>
+    ensures { (cs : List Arm64UnwindCode) → CodesThen AreOver (info_view info.now).codes cs →
+        StepsIn (M.word memory.now) (info_view info.now) place cs (Some epilog) registers result }
+{
+    let codes = info.code_bytes();
+    let rest = codes_from(codes, epilog.index);
+    require_codes(rest, epilog.index as usize)?;
+    let length = prolog_length(rest);
+    let count = info.header.function_length() / SIZE_OF_INSTRUCTION;
+    let start = epilog_start(count, epilog.start, length);
+    if is_in_epilog(place as usize, start, length) {
+        let left = after_codes(rest, (place as usize).saturating_sub(start));
+        return caller_by(left, registers, memory);
+    }
+    caller_by(codes, registers, memory)
 }
 
 /// The registers of the caller, where so many instructions of the function are before the instruction pointer.
@@ -37,18 +80,24 @@ fn caller<M: Memory>(
     ensures { StepsArm64 (M.word memory.now) (info_view info.now) place registers result }
 {
     let codes = info.code_bytes();
-    require_codes(codes)?;
-    let ran = after_codes(codes, prolog_length(codes).saturating_sub(place as usize));
-    let entry = undo_codes(ran, registers, memory)?;
-    leave(registers.sp, entry)
+    require_codes(codes, 0)?;
+    let length = prolog_length(codes);
+    match epilog_after(info, place, length) {
+        Some(epilog) => caller_after(info, epilog, place, registers, memory),
+        None => {
+            let left = after_codes(codes, length.saturating_sub(place as usize));
+            caller_by(left, registers, memory)
+        }
+    }
 }
 
 /// The registers of a function's caller, from those inside the function, by its unwind record.
 ///
 /// `info` is the record of the function, `start` its `begin_address`, `rva` the instruction pointer less the image base. After
-/// the prolog all codes of the record are undone, inside of it those of the instructions before `rva`. The caller goes on at
-/// the link register; `pac_sign_lr` takes its signature off, down to the 48 bits of an address, of which bit 55 says what the
-/// others are. Epilogs are not recognized: in one of them the result is wrong.
+/// the prolog all codes of the record are undone, inside of it those of the instructions before `rva`. In an epilog that the
+/// record describes, and at its return, the codes of the epilog are undone whose instructions have not run: it is the last scope
+/// that starts at or before `rva`, or the only epilog, at the end of the function. The caller goes on at the link register;
+/// `pac_sign_lr` takes its signature off, down to the 48 bits of an address, of which bit 55 says what the others are.
 ///
 /// **A walk.** In the top frame `rva` is the instruction that is about to run: look the function up by it. In each other frame
 /// it is a return address, which may lie after the end of the function if the call is its last instruction: look up by
@@ -57,7 +106,8 @@ fn caller<M: Memory>(
 /// pointer where it is, in the top frame, before the prolog has moved it. End the walk where it does so in any other frame: a
 /// function that calls has stored the link register.
 ///
-/// Refused, in this order: `Codes` if one of the codes up to the first `end` is truncated; for each code in turn `Arm64Code`
+/// Refused, in this order: `Codes` if one of the codes up to the first `end` is truncated, or after the prolog one of those of the
+/// epilog; for each code in turn `Arm64Code`
 /// if it is not undone, then `Address` and `Memory` where they come up; last `NotRising` if the caller's stack pointer is
 /// below this one. These codes are not undone: frames of the operating system's own (`CustomStack`), `AllocZ`, `SaveZReg`,
 /// `SavePReg`, `SaveAnyReg`, reserved codes, those that save a register after x30 or d15, and `SaveNext` unless the first code
@@ -71,13 +121,66 @@ pub fn step_arm64<M: Memory>(
 ) -> Result<Arm64Registers, FrameError>
     ensures exact { StepsArm64 (M.word memory.now)
         (info_view info.now) ((rva - start) / 4) registers result }
-    ensures undoes { (p : Arm64Part) → info_view info.now ≡ p.info →
-        IsArm64Frame p ((rva - start) / 4) (M.word memory.now) registers →
+    ensures undoes { (p : Arm64Part) (stand : ℕ) →
+        Leaves (info_view info.now) ((rva - start) / 4) (Ok (ran_arm64 stand p.codes)) →
+        IsArm64Frame p stand (M.word memory.now) registers →
         (u : Arm64Registers) × (result ≡ Ok u)
-        × IsArm64Caller (effects_at ((rva - start) / 4) p) p.entry registers u }
+        × IsArm64Caller (effects_at stand p) p.entry registers u }
 {
     let offset = rva.saturating_sub(start);
     caller(info, offset / SIZE_OF_INSTRUCTION, registers, memory)
+}
+
+/// The registers of the caller, where so many instructions of a function with packed unwind data are before the instruction
+/// pointer.
+fn packed_caller<M: Memory>(
+    function: &Arm64RuntimeFunction,
+    place: u32,
+    registers: Arm64Registers,
+    memory: &M,
+) -> Result<Arm64Registers, FrameError>
+    ensures { result ≡ stepped_packed
+        (M.word memory.now) function.now.unwind_data place registers }
+{
+    if !is_canonical(function) {
+        return Err(FrameError::Packed(function.unwind_data));
+    }
+    let list = packed_codes(function);
+    let codes = list.as_slice();
+    let left = packed_length(function, codes.len()).saturating_sub(place as usize);
+    match undo_each(&codes[left..], registers, memory) {
+        Ok(entry) => leave(registers.sp, entry),
+        Err(error) => Err(error),
+    }
+}
+
+/// The registers of a function's caller, from those inside the function, by its packed unwind data: those of an entry of the
+/// function table whose `flag` is 1 or 2.
+///
+/// The data stand for a canonical prolog. It is undone as [`step_arm64`] does it by a record with the codes of this prolog: after
+/// it all of them, inside of it those of the instructions before `rva`. A fragment, whose `flag` is 2, has no prolog of its own.
+/// `rva` is the instruction pointer less the image base; how a walk looks functions up is said at `step_arm64`.
+///
+/// Refused, in this order: `Packed` if the data have no canonical prolog, that is, a `flag` of 0 or 3, more than ten integer
+/// registers, x19 alone with the link register, which no code saves first, or a frame smaller than what is saved in it; `Address`
+/// and `Memory` where they come up; last `NotRising` if the caller's stack pointer is below this one.
+pub fn step_arm64_packed<M: Memory>(
+    function: &Arm64RuntimeFunction,
+    rva: u32,
+    registers: Arm64Registers,
+    memory: &M,
+) -> Result<Arm64Registers, FrameError>
+    ensures exact { result ≡ stepped_packed (M.word memory.now) function.now.unwind_data
+        ((rva - function.now.begin_address) / 4) registers }
+    ensures undoes { (p : Arm64Part) → p.codes ≡ packed_codes function.now.unwind_data →
+        is_canonical function.now.unwind_data ≡ true →
+        IsArm64Frame p ((rva - function.now.begin_address) / 4) (M.word memory.now) registers →
+        (u : Arm64Registers) × (result ≡ Ok u)
+        × IsArm64Caller (effects_at ((rva - function.now.begin_address) / 4) p)
+        p.entry registers u }
+{
+    let offset = rva.saturating_sub(function.begin_address);
+    packed_caller(function, offset / SIZE_OF_INSTRUCTION, registers, memory)
 }
 
 /// The registers of the caller of a leaf function: one without an entry in the function table, which changes neither the stack

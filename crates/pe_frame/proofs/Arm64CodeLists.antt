@@ -1,0 +1,59 @@
+-- Lists of codes that grow, and codes of a prolog that are undone one by one.
+use Rattle.std.proofs.Common.{◌≡◌, ℕ, zero, suc, ◌+◌, ◌-◌, ◌<◌, ◌≤◌, List, [], ◌∷◌, ◌++◌, length, take, refl, ap, sym, ◌∙◌, append_assoc, append-nil, arith}
+use Rattle.std.proofs.lemmas.List.{take_at}
+use Rattle.pe_unwind.specs.declared.arm64.codes.Arm64UnwindCode.{Arm64UnwindCode}
+use Rattle.pe_frame.specs.declared.arm64.packed.PackedFrame.{PackedFrame}
+use Rattle.pe_frame.specs.Arm64CodeLists.{extended, Adds}
+use Rattle.pe_frame.specs.Arm64Packed.{integer_pair, integer_pairs, float_pair, float_pairs}
+
+pub take_again : {A : Type 0} (n : ℕ) (xs ys : List A) → take n (take n xs ++ ys) ≡ take n (xs ++ ys)
+take_again zero xs ys = refl
+take_again (suc n) [] ys = refl
+take_again {A = A} (suc n) (x ∷ xs) ys = ap (λ (l : List A). x ∷ l) (take_again n xs ys)
+
+-- so does a list that was extended once more
+pub adds_one : (old new codes : List Arm64UnwindCode) → new ≡ extended old codes → Adds old new codes
+adds_one old new codes e more =
+    ap (λ (l : List Arm64UnwindCode). extended l more) e
+    ∙ (take_again 24 (old ++ codes) more ∙ ap (λ (l : List Arm64UnwindCode). take 24 l) (append_assoc old codes more))
+
+pub adds_none : (old : List Arm64UnwindCode) → Adds old old []
+adds_none old more = refl
+
+pub adds_then : (old mid new xs ys : List Arm64UnwindCode) → Adds old mid xs → Adds mid new ys → Adds old new (xs ++ ys)
+adds_then old mid new xs ys first second more =
+    second more ∙ (first (ys ++ more) ∙ ap (λ (l : List Arm64UnwindCode). extended old l) (sym (append_assoc xs ys more)))
+
+-- a full list stays as it is
+pub full_adds : (old codes : List Arm64UnwindCode) → length old ≡ 24 → Adds old old codes
+full_adds old codes full more = take_at old more 24 full ∙ sym (take_at old (codes ++ more) 24 full)
+
+-- what is added before more codes is added to all of them
+pub adds_more : (old mid new : List Arm64UnwindCode) (c : Arm64UnwindCode) (rest : List Arm64UnwindCode) → Adds old mid (c ∷ []) → Adds mid new rest → Adds old new (c ∷ rest)
+adds_more old mid new c rest first second = adds_then old mid new (c ∷ []) rest first second
+
+-- one pair less is left of those that are added
+pub integers_more : (p : PackedFrame) (old new start all : List Arm64UnwindCode) (c : Arm64UnwindCode) (i j : ℕ) → i ≡ suc j → c ≡ integer_pair p j → Adds old new (c ∷ []) →
+    ((more : List Arm64UnwindCode) → extended old (integer_pairs p i ++ more) ≡ extended start (all ++ more)) → (more : List Arm64UnwindCode) → extended new (integer_pairs p j ++ more) ≡ extended start (all ++ more)
+integers_more p old new start all c i j e is adds inv more =
+    adds (integer_pairs p j ++ more)
+    ∙ (ap (λ (x : Arm64UnwindCode). extended old (x ∷ (integer_pairs p j ++ more))) is
+    ∙ (ap (λ (n : ℕ). extended old (integer_pairs p n ++ more)) (sym e) ∙ inv more))
+
+pub floats_more : (p : PackedFrame) (old new start all : List Arm64UnwindCode) (c : Arm64UnwindCode) (i j : ℕ) → i ≡ suc j → c ≡ float_pair p j → Adds old new (c ∷ []) →
+    ((more : List Arm64UnwindCode) → extended old (float_pairs p i ++ more) ≡ extended start (all ++ more)) → (more : List Arm64UnwindCode) → extended new (float_pairs p j ++ more) ≡ extended start (all ++ more)
+floats_more p old new start all c i j e is adds inv more =
+    adds (float_pairs p j ++ more)
+    ∙ (ap (λ (x : Arm64UnwindCode). extended old (x ∷ (float_pairs p j ++ more))) is
+    ∙ (ap (λ (n : ℕ). extended old (float_pairs p n ++ more)) (sym e) ∙ inv more))
+
+-- none is left
+pub integers_all : (p : PackedFrame) (old start all : List Arm64UnwindCode) (i : ℕ) → i ≤ 0 →
+    ((more : List Arm64UnwindCode) → extended old (integer_pairs p i ++ more) ≡ extended start (all ++ more)) → Adds start old all
+integers_all p old start all zero none inv = inv
+integers_all p old start all (suc i) none inv = absurd (omega (arith, none))
+
+pub floats_all : (p : PackedFrame) (old start all : List Arm64UnwindCode) (i : ℕ) → i ≤ 0 →
+    ((more : List Arm64UnwindCode) → extended old (float_pairs p i ++ more) ≡ extended start (all ++ more)) → Adds start old all
+floats_all p old start all zero none inv = inv
+floats_all p old start all (suc i) none inv = absurd (omega (arith, none))

@@ -1,0 +1,15 @@
+use Rattle.std.proofs.Common.{◌≡◌, ℕ, ◌+◌, ◌/◌, ◌≤◌, List, ◌++◌}
+use Rattle.pe_unwind.specs.declared.arm64.codes.Arm64UnwindCode.{Arm64UnwindCode}
+use Rattle.pe_frame.specs.Arm64CodeLists.{extended}
+use Rattle.pe_frame.specs.Arm64Packed.{float_pairs}
+use Rattle.pe_frame.proofs.arm64.packed.PackedFrame.push_float_pairs.Given as goal
+
+-- adding those that are left is adding all
+abbrev pub invariant-loop-index : goal.invariant-loop-index
+invariant-loop-index l = record {
+  added : (more : List Arm64UnwindCode) → extended l.codes (float_pairs l.self l.index ++ more) ≡ extended l.initial.codes (float_pairs l.self (l.self.floats / 2) ++ more);
+  few : l.index ≤ 4;
+}
+
+abbrev pub decreases-loop-index : goal.decreases-loop-index
+decreases-loop-index l = l.index
