@@ -1,0 +1,2 @@
+pub mod WholeWalks
+pub mod RelocationWalks

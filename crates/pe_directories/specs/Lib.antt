@@ -1,0 +1,3 @@
+pub mod DirectoryRefusals
+pub mod Walks
+pub mod BaseRelocations
