@@ -1,6 +1,6 @@
 -- Base relocations. (PE format: .reloc section, base relocation block, base relocation types. Which sizes of blocks are
 -- refused is this project's profile.)
-use Rattle.std.specs.Prelude.{ℕ, ◌+◌, ◌-◌, ◌/◌, ◌%◌, ◌==◌, ◌&&◌, List, [], ◌∷◌, length, Bool, Option, Some, None, nat_le, if◌then◌else◌}
+use Rattle.std.specs.Prelude.{ℕ, ◌+◌, ◌-◌, ◌/◌, ◌%◌, ◌==◌, ◌&&◌, List, [], ◌∷◌, length, drop, Bool, Option, Some, None, nat_le, if◌then◌else◌}
 use Rattle.std.specs.Option.{option_map}
 use Rattle.pe_core.specs.Bytes.{le, range, holds}
 use Rattle.pe_core.specs.Refusals.{Short, outcome}
@@ -28,13 +28,13 @@ is_block_size size = nat_le 8 size && size % 2 == 0
 unfoldable pub block_of : List ℕ → Block
 block_of b = record { page_rva = le b 0 4; entries = range b 8 (le b 4 4 - 8) }
 
--- the block that stands first in some bytes, with its size: two numbers of 4 bytes, the page and the size, and the entries
-unfoldable pub first_block : List ℕ → First Block
+-- the block that stands first in some bytes: two numbers of 4 bytes, its page and its size, and its entries
+unfoldable pub first_block : List ℕ → First Block (List ℕ)
 first_block b =
     if length b == 0 then None
     else Some (outcome (
       (holds b 0 8, Image Short) ∷ (is_block_size (le b 4 4), BlockSize) ∷ (holds b 0 (le b 4 4), BlockTruncated) ∷ []
-    ) (block_of b, le b 4 4))
+    ) (block_of b, drop (le b 4 4) b))
 
 -- the type of an entry, in its high 4 bits
 abbrev pub type_of : ℕ → ℕ
@@ -52,13 +52,13 @@ relocation_of page b = record {
   argument = if type_of (le b 0 2) == 4 then Some (le b 2 2) else None;
 }
 
--- the relocation that stands first in the entries of a page, with its size
-unfoldable pub first_relocation : ℕ → List ℕ → First BaseRelocation
+-- the relocation that stands first in the entries of a page
+unfoldable pub first_relocation : ℕ → List ℕ → First BaseRelocation (List ℕ)
 first_relocation page b =
     if length b == 0 then None
     else Some (outcome (
       (holds b 0 2, Image Short) ∷ (holds b 0 (relocation_size (type_of (le b 0 2))), NoArgument) ∷ []
-    ) (relocation_of page b, relocation_size (type_of (le b 0 2))))
+    ) (relocation_of page b, drop (relocation_size (type_of (le b 0 2))) b))
 
 -- the bytes that a walk has left, and the page that its relocations count from
 abbrev pub blocks_left : RelocationBlocks → Option (List ℕ)

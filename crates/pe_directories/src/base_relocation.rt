@@ -9,9 +9,9 @@
 //! not test it. A size below 8 or an odd one is refused, since the next block would start inside of this block's header
 //! or of an entry.
 
-ghost use Rattle.std.specs.Prelude.{◌≡◌, length, Some};
+ghost use Rattle.std.specs.Prelude.{◌≡◌, Some};
 ghost use Rattle.std.specs.Iterator.{at_most};
-ghost use Rattle.pe_directories.specs.Walks.{ReturnsFirst, EndsWithin, Steps, most_left};
+ghost use Rattle.pe_directories.specs.Walks.{ReturnsFirst, LeavesFewer, Steps, most_left};
 ghost use Rattle.pe_directories.specs.BaseRelocations.{block_view, first_block, blocks_left, first_relocation, relocations_left, page_of};
 
 use crate::error::{DirectoryError, Result};
@@ -64,12 +64,12 @@ impl<'a> RelocationBlock<'a> {
     }
 }
 
-/// The block at the start of the bytes, and its size. `None` if there are no bytes. Errors, in order: `Image` with
+/// The block at the start of the bytes, and the bytes after it. `None` if there are no bytes. Errors, in order: `Image` with
 /// `Short` if its header is truncated; `BlockSize`; `BlockTruncated`.
 #[tactic(auto, unfolding(crate::specs::BaseRelocations::first_block, crate::specs::BaseRelocations::block_of))]
-fn first_block(bytes: &[u8]) -> Option<Result<(RelocationBlock<'_>, usize)>>
-    ensures first { ReturnsFirst block_view (first_block bytes.now) result }
-    ensures ends { EndsWithin (length bytes.now) result }
+fn first_block(bytes: &[u8]) -> Option<Result<(RelocationBlock<'_>, &[u8])>>
+    ensures first { ReturnsFirst block_view (λ r. r.now) (first_block bytes.now) result }
+    ensures fewer { LeavesFewer (λ r. r.now) bytes.now result }
 {
     if bytes.is_empty() {
         return None;
@@ -92,7 +92,7 @@ fn first_block(bytes: &[u8]) -> Option<Result<(RelocationBlock<'_>, usize)>>
         page_rva: read_u32(bytes, 0),
         entries: &bytes[SIZE_OF_BLOCK_HEADER..end],
     };
-    Some(Ok((block, end)))
+    Some(Ok((block, &bytes[end..])))
 }
 
 /// The blocks of base relocations that are left. It is over after an error.
@@ -121,8 +121,8 @@ impl<'a> Iterator for RelocationBlocks<'a> {
         let bytes = self.left?;
         self.left = None;
         match first_block(bytes)? {
-            Ok((block, size)) => {
-                self.left = Some(bytes.split_at(size).1);
+            Ok((block, rest)) => {
+                self.left = Some(rest);
                 Some(Ok(block))
             }
             Err(error) => Some(Err(error)),
@@ -141,12 +141,13 @@ pub struct BaseRelocation {
     pub argument: Option<u16>,
 }
 
-/// The relocation at the start of the entries of a page, and its size. `None` if there are no bytes. Errors, in order:
+/// The relocation at the start of the entries of a page, and the bytes after it. `None` if there are no bytes. Errors, in order:
 /// `Image` with `Short` if there is one byte; `NoArgument`.
 #[tactic(auto, unfolding(crate::specs::BaseRelocations::first_relocation, crate::specs::BaseRelocations::relocation_of))]
-fn first_relocation(page_rva: u32, bytes: &[u8]) -> Option<Result<(BaseRelocation, usize)>>
-    ensures first { ReturnsFirst (λ r. r) (first_relocation page_rva bytes.now) result }
-    ensures ends { EndsWithin (length bytes.now) result }
+fn first_relocation(page_rva: u32, bytes: &[u8]) -> Option<Result<(BaseRelocation, &[u8])>>
+    ensures first { ReturnsFirst (λ x. x) (λ r. r.now)
+        (first_relocation page_rva bytes.now) result }
+    ensures fewer { LeavesFewer (λ r. r.now) bytes.now result }
 {
     if bytes.is_empty() {
         return None;
@@ -161,13 +162,13 @@ fn first_relocation(page_rva: u32, bytes: &[u8]) -> Option<Result<(BaseRelocatio
         argument: None,
     };
     if relocation.kind != IMAGE_REL_BASED_HIGHADJ {
-        return Some(Ok((relocation, SIZE_OF_ENTRY)));
+        return Some(Ok((relocation, &bytes[SIZE_OF_ENTRY..])));
     }
     if bytes.len() < 2 * SIZE_OF_ENTRY {
         return Some(Err(DirectoryError::NoArgument(relocation.rva)));
     }
     relocation.argument = Some(read_u16(bytes, SIZE_OF_ENTRY));
-    Some(Ok((relocation, 2 * SIZE_OF_ENTRY)))
+    Some(Ok((relocation, &bytes[2 * SIZE_OF_ENTRY..])))
 }
 
 /// The relocations of a block that are left. Those of type `IMAGE_REL_BASED_ABSOLUTE` are items too. It is over after
@@ -190,8 +191,8 @@ impl<'a> Iterator for BaseRelocations<'a> {
         let bytes = self.left?;
         self.left = None;
         match first_relocation(self.page_rva, bytes)? {
-            Ok((relocation, size)) => {
-                self.left = Some(bytes.split_at(size).1);
+            Ok((relocation, rest)) => {
+                self.left = Some(rest);
                 Some(Ok(relocation))
             }
             Err(error) => Some(Err(error)),
