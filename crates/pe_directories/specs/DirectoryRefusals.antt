@@ -10,6 +10,7 @@ pub data DirectoryRefusal : Type 0 where
   BlockSize : DirectoryRefusal
   BlockTruncated : DirectoryRefusal
   NoArgument : DirectoryRefusal
+  VaBelowBase : DirectoryRefusal
 
 -- the kind of an error
 abbrev pub directory_kind_of : DirectoryError → DirectoryRefusal
@@ -17,6 +18,7 @@ directory_kind_of (errors.Image error) = Image (kind_of error)
 directory_kind_of (errors.BlockSize size) = BlockSize
 directory_kind_of (errors.BlockTruncated size length) = BlockTruncated
 directory_kind_of (errors.NoArgument rva) = NoArgument
+directory_kind_of (errors.VaBelowBase va) = VaBelowBase
 
 -- the call returned the defined value, seen by view, or an error of the defined kind
 abbrev pub DirectoryReturns : {X Y : Type 0} → (X → Y) → Result X DirectoryError → Result Y DirectoryRefusal → Type 0

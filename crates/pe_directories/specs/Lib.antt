@@ -1,3 +1,5 @@
 pub mod DirectoryRefusals
 pub mod Walks
+pub mod ImageParts
 pub mod BaseRelocations
+pub mod Tls

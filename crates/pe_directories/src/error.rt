@@ -20,6 +20,9 @@ pub enum DirectoryError {
     /// The RVA of an `IMAGE_REL_BASED_HIGHADJ` at the end of its block, without the entry that is its argument.
     #[error("base relocation at RVA {0:#x} has no argument")]
     NoArgument(usize),
+    /// A virtual address below the image base, which has no RVA.
+    #[error("virtual address {0:#x} is below the image base")]
+    VaBelowBase(u64),
 }
 
 // So that `?` returns an error of pe_core as `Image`.

@@ -6,7 +6,9 @@
 
 mod base_relocation;
 mod error;
+mod image_bytes;
 pub mod laws;
+mod tls;
 
 pub use base_relocation::{
     BaseRelocation, BaseRelocations, IMAGE_REL_BASED_ABSOLUTE, IMAGE_REL_BASED_DIR64,
@@ -14,3 +16,5 @@ pub use base_relocation::{
     RelocationBlock, RelocationBlocks,
 };
 pub use error::DirectoryError;
+pub use image_bytes::ImageBytes;
+pub use tls::{TlsCallbacks, TlsDirectory};

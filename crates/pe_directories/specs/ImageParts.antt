@@ -1,0 +1,29 @@
+-- Parts of an image, by their RVAs and virtual addresses.
+use Rattle.std.specs.Prelude.{ℕ, ◌+◌, ◌-◌, List, [], ◌∷◌, drop, Bool, Result, Ok, Err, nat_le, if◌then◌else◌}
+use Rattle.pe_core.specs.Bytes.{le, record_at}
+use Rattle.pe_core.specs.Refusals.{outcome, ◌>>=◌}
+use Rattle.pe_core.specs.SectionMap.{section_map, mapped}
+use Rattle.pe_directories.specs.DirectoryRefusals.{DirectoryRefusal, VaBelowBase, of_image}
+use Rattle.pe_directories.specs.declared.image_bytes.ImageBytes.{ImageBytes}
+
+-- the offset of an RVA in the bytes
+abbrev pub offset_of_rva : ImageBytes → ℕ → Result ℕ DirectoryRefusal
+offset_of_rva i rva = of_image (mapped (section_map i.opts i.sections.now i.file_alignment rva))
+
+-- the offset of a record of this size at an RVA, all bytes of which are there
+abbrev pub record_of : ImageBytes → ℕ → ℕ → Result ℕ DirectoryRefusal
+record_of i rva size = offset_of_rva i rva >>= λ p. of_image (record_at i.bytes.now p size p)
+
+-- the offset of a virtual address, which less the image base is an RVA
+unfoldable pub offset_of_va : ImageBytes → ℕ → Result ℕ DirectoryRefusal
+offset_of_va i va =
+    if nat_le i.image_base va then offset_of_rva i (va - i.image_base)
+    else Err VaBelowBase
+
+-- the bytes from a virtual address on
+abbrev pub table_at_va : ImageBytes → ℕ → Result (List ℕ) DirectoryRefusal
+table_at_va i va = offset_of_va i va >>= λ p. Ok (drop p i.bytes.now)
+
+-- the size of a virtual address in bytes
+abbrev pub size_of_va : Bool → ℕ
+size_of_va is_64 = if is_64 then 8 else 4
