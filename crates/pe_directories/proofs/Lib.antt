@@ -1,2 +1,3 @@
 pub mod WholeWalks
 pub mod RelocationWalks
+pub mod Names

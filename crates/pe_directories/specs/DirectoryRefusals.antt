@@ -11,6 +11,8 @@ pub data DirectoryRefusal : Type 0 where
   BlockTruncated : DirectoryRefusal
   NoArgument : DirectoryRefusal
   VaBelowBase : DirectoryRefusal
+  ClrHeaderSize : DirectoryRefusal
+  StreamName : DirectoryRefusal
 
 -- the kind of an error
 abbrev pub directory_kind_of : DirectoryError → DirectoryRefusal
@@ -19,6 +21,8 @@ directory_kind_of (errors.BlockSize size) = BlockSize
 directory_kind_of (errors.BlockTruncated size length) = BlockTruncated
 directory_kind_of (errors.NoArgument rva) = NoArgument
 directory_kind_of (errors.VaBelowBase va) = VaBelowBase
+directory_kind_of (errors.ClrHeaderSize size) = ClrHeaderSize
+directory_kind_of errors.StreamName = StreamName
 
 -- the call returned the defined value, seen by view, or an error of the defined kind
 abbrev pub DirectoryReturns : {X Y : Type 0} → (X → Y) → Result X DirectoryError → Result Y DirectoryRefusal → Type 0

@@ -1,8 +1,9 @@
 -- Parts of an image, by their RVAs and virtual addresses.
 use Rattle.std.specs.Prelude.{ℕ, ◌+◌, ◌-◌, List, [], ◌∷◌, drop, Bool, Result, Ok, Err, nat_le, if◌then◌else◌}
-use Rattle.pe_core.specs.Bytes.{le, record_at}
+use Rattle.pe_core.specs.Bytes.{range, record_at}
 use Rattle.pe_core.specs.Refusals.{outcome, ◌>>=◌}
 use Rattle.pe_core.specs.SectionMap.{section_map, mapped}
+use Rattle.pe_core.specs.declared.data_directories.DataDirectory.{DataDirectory}
 use Rattle.pe_directories.specs.DirectoryRefusals.{DirectoryRefusal, VaBelowBase, of_image}
 use Rattle.pe_directories.specs.declared.image_bytes.ImageBytes.{ImageBytes}
 
@@ -27,3 +28,7 @@ table_at_va i va = offset_of_va i va >>= λ p. Ok (drop p i.bytes.now)
 -- the size of a virtual address in bytes
 abbrev pub size_of_va : Bool → ℕ
 size_of_va is_64 = if is_64 then 8 else 4
+
+-- the bytes of a directory: from its RVA on, as many as its size says
+abbrev pub table_of : ImageBytes → DataDirectory → Result (List ℕ) DirectoryRefusal
+table_of i d = record_of i d.virtual_address d.size >>= λ p. Ok (range i.bytes.now p d.size)

@@ -3,3 +3,5 @@ pub mod Walks
 pub mod ImageParts
 pub mod BaseRelocations
 pub mod Tls
+pub mod Clr
+pub mod LoadConfig

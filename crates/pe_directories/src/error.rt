@@ -23,6 +23,12 @@ pub enum DirectoryError {
     /// A virtual address below the image base, which has no RVA.
     #[error("virtual address {0:#x} is below the image base")]
     VaBelowBase(u64),
+    /// The size that a CLR header says it has, below 72 bytes.
+    #[error("CLR header of {0} bytes, smaller than 72")]
+    ClrHeaderSize(u32),
+    /// The name of a stream of CLR metadata does not end in the 32 bytes that it may have.
+    #[error("name of a metadata stream is not NUL-terminated in 32 bytes")]
+    StreamName,
 }
 
 // So that `?` returns an error of pe_core as `Image`.

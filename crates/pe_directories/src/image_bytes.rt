@@ -3,11 +3,12 @@
 
 ghost use Rattle.std.specs.Prelude.{◌≡◌};
 ghost use Rattle.pe_directories.specs.DirectoryRefusals.{DirectoryReturns};
-ghost use Rattle.pe_directories.specs.ImageParts.{offset_of_rva, offset_of_va, table_at_va, record_of, size_of_va};
+ghost use Rattle.pe_directories.specs.ImageParts.{offset_of_rva, offset_of_va, table_at_va, record_of, table_of, size_of_va};
 
 use crate::error::{DirectoryError, Result};
 use pe_core::{
-    Error, ParseOptions, Reason, SectionTable, find_offset, mapped_offset, require_bytes,
+    DataDirectory, Error, ParseOptions, Reason, SectionTable, find_offset, mapped_offset,
+    require_bytes,
 };
 
 /// An image: its bytes, and what its headers say of them.
@@ -48,6 +49,15 @@ impl<'a> ImageBytes<'a> {
         let offset = self.offset_of_rva(rva)?;
         require_bytes(self.bytes, offset, size)?;
         Ok(offset)
+    }
+
+    /// The bytes at the RVA of a directory, as many as its size says. Errors: those of `record_at`.
+    pub(crate) fn table(&self, directory: DataDirectory) -> Result<&'a [u8]>
+        ensures { DirectoryReturns (λ s. s.now) result (table_of self.now directory) }
+    {
+        let size = directory.size as usize;
+        let offset = self.record_at(directory.virtual_address, size)?;
+        Ok(&self.bytes[offset..offset + size])
     }
 
     /// The offset of a virtual address in the bytes, which may be past their end. Errors, in order: `VaBelowBase`; `Image`

@@ -5,9 +5,11 @@
 #![tactic(auto)]
 
 mod base_relocation;
+mod clr;
 mod error;
 mod image_bytes;
 pub mod laws;
+mod load_config;
 mod tls;
 
 pub use base_relocation::{
@@ -15,6 +17,8 @@ pub use base_relocation::{
     IMAGE_REL_BASED_HIGH, IMAGE_REL_BASED_HIGHADJ, IMAGE_REL_BASED_HIGHLOW, IMAGE_REL_BASED_LOW,
     RelocationBlock, RelocationBlocks,
 };
+pub use clr::{ClrHeader, ClrMetadata, ClrStream, ClrStreams};
 pub use error::DirectoryError;
 pub use image_bytes::ImageBytes;
+pub use load_config::LoadConfig;
 pub use tls::{TlsCallbacks, TlsDirectory};
