@@ -1,5 +1,5 @@
 -- After a block and after a relocation fewer bytes are left.
-use Rattle.std.proofs.Common.{◌≡◌, ℕ, ◌<◌, List, length, Some, Ok, length-drop, ap, arith}
+use Rattle.std.proofs.Common.{◌≡◌, ℕ, ◌<◌, List, length, Some, Ok, length-drop, arith}
 use Rattle.std.proofs.lemmas.Bool.Decides.{nat_tests}
 use Rattle.pe_directories.specs.BaseRelocations.{Block, first_block, first_relocation}
 use Rattle.pe_directories.specs.declared.base_relocation.BaseRelocation.{BaseRelocation}

@@ -1,5 +1,5 @@
 -- Whole walks, whatever they are over.
-use Rattle.std.proofs.Common.{◌≡◌, ℕ, zero, suc, ◌+◌, ◌<◌, List, [], ◌∷◌, map, Option, Some, None, Result, Ok, Err, refl, ap, sym, subst, arith}
+use Rattle.std.proofs.Common.{◌≡◌, ℕ, zero, suc, ◌+◌, ◌<◌, List, [], ◌∷◌, map, Option, Some, None, Result, Ok, Err, refl, ap, sym, ◌∙◌, subst, arith}
 use Rattle.std.specs.Iterator.{Yields}
 use Rattle.pe_directories.specs.DirectoryRefusals.{DirectoryRefusal, directory_answer, directory_kind_of}
 use Rattle.pe_directories.specs.Walks.{First, Items, ItemsLeft, HasOneList, Steps}
@@ -21,7 +21,7 @@ items_once {X} {S} first s (Ok x ∷ xs) (Ok y ∷ ys) h k =
     let left : h.0 ≡ k.0 = ap (λ (p : X × S). p.1) pair in
     let same : x ≡ y = ap (λ (p : X × S). p.0) pair in
     let rest : xs ≡ ys = items_once first h.0 xs ys h.2 (subst (λ (t : S). Items first t ys) (sym left) k.2) in
-    cc (same, rest)
+    ap (λ (z : X). Ok z ∷ xs) same ∙ ap (λ (zs : List (Result X DirectoryRefusal)). Ok y ∷ zs) rest
 items_once first s (Ok x ∷ xs) (Err e ∷ ys) h k = absurd (cc (h.1, k.0))
 items_once first s (Err e ∷ xs) [] h k = absurd (cc (h.0, k))
 items_once first s (Err e ∷ xs) (Ok y ∷ ys) h k = absurd (cc (h.0, k.1))

@@ -1,5 +1,5 @@
 -- The CLR header, the metadata root, and the streams of the metadata. (ECMA-335, II.25.3.3 and II.24.2.)
-use Rattle.std.specs.Prelude.{ℕ, ◌+◌, ◌-◌, ◌==◌, List, [], ◌∷◌, length, take, drop, position, Option, Some, None, Result, Ok, Err, nat_le, if◌then◌else◌}
+use Rattle.std.specs.Prelude.{ℕ, ◌+◌, ◌-◌, ◌==◌, List, [], ◌∷◌, take, drop, position, Option, Some, None, Result, Ok, Err, nat_le, if◌then◌else◌}
 use Rattle.std.specs.Option.{option_map}
 use Rattle.pe_core.specs.Bytes.{le, range, holds, record_at}
 use Rattle.pe_core.specs.Records.{data_directory}

@@ -1,7 +1,7 @@
 -- Parts of an image, by their RVAs and virtual addresses.
-use Rattle.std.specs.Prelude.{ℕ, ◌+◌, ◌-◌, List, [], ◌∷◌, drop, Bool, Result, Ok, Err, nat_le, if◌then◌else◌}
+use Rattle.std.specs.Prelude.{ℕ, ◌-◌, List, drop, Bool, Result, Ok, Err, nat_le, if◌then◌else◌}
 use Rattle.pe_core.specs.Bytes.{range, record_at}
-use Rattle.pe_core.specs.Refusals.{outcome, ◌>>=◌}
+use Rattle.pe_core.specs.Refusals.{◌>>=◌}
 use Rattle.pe_core.specs.SectionMap.{section_map, mapped}
 use Rattle.pe_core.specs.declared.data_directories.DataDirectory.{DataDirectory}
 use Rattle.pe_directories.specs.DirectoryRefusals.{DirectoryRefusal, VaBelowBase, of_image}

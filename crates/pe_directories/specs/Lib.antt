@@ -5,3 +5,4 @@ pub mod BaseRelocations
 pub mod Tls
 pub mod Clr
 pub mod LoadConfig
+pub mod Chosen

@@ -1,5 +1,5 @@
 -- The load configuration. (PE format: load configuration structure; winnt.h: IMAGE_LOAD_CONFIG_DIRECTORY32 and 64.)
-use Rattle.std.specs.Prelude.{ℕ, ◌+◌, List, [], ◌∷◌, Option, Some, None, Result, Ok, Err, if◌then◌else◌}
+use Rattle.std.specs.Prelude.{ℕ, List, Option, Some, None, Result, if◌then◌else◌}
 use Rattle.pe_core.specs.Bytes.{le, range, holds, record_at}
 use Rattle.pe_core.specs.Refusals.{◌>>=◌}
 use Rattle.pe_core.specs.declared.data_directories.DataDirectory.{DataDirectory}

@@ -4,18 +4,19 @@
 //! something to change. A block is the RVA of its page, its size in bytes, and entries of 2 bytes: the type in the high
 //! 4 bits, the offset in the page in the low 12.
 //!
-//! A caller gets the bytes by `RelocationData` of pe_core, walks through the blocks, and through the relocations of
-//! each. Microsoft's page asks for blocks at multiples of 4 bytes; that is not tested, as loaders and llvm-readobj do
+//! A caller walks through the blocks, and through the relocations of each. Microsoft's page asks for blocks at multiples of 4 bytes; that is not tested, as loaders and llvm-readobj do
 //! not test it. A size below 8 or an odd one is refused, since the next block would start inside of this block's header
 //! or of an entry.
 
 ghost use Rattle.std.specs.Prelude.{◌≡◌, Some};
 ghost use Rattle.std.specs.Iterator.{at_most};
+ghost use Rattle.pe_directories.specs.DirectoryRefusals.{DirectoryReturns};
 ghost use Rattle.pe_directories.specs.Walks.{ReturnsFirst, LeavesFewer, Steps, most_left};
-ghost use Rattle.pe_directories.specs.BaseRelocations.{block_view, first_block, blocks_left, first_relocation, relocations_left, page_of};
+ghost use Rattle.pe_directories.specs.BaseRelocations.{block_view, first_block, blocks_left, first_relocation, relocations_left, page_of, relocation_table};
 
 use crate::error::{DirectoryError, Result};
-use pe_core::{read_u16, read_u32, require_bytes};
+use crate::image_bytes::ImageBytes;
+use pe_core::{DataDirectory, read_u16, read_u32, require_bytes};
 
 /// No relocation: it fills up a block to a multiple of 4 bytes.
 pub const IMAGE_REL_BASED_ABSOLUTE: u8 = 0;
@@ -102,7 +103,15 @@ pub struct RelocationBlocks<'a> {
 }
 
 impl<'a> RelocationBlocks<'a> {
-    /// The blocks of these bytes, which are those of `RelocationData`.
+    /// The blocks at the RVA of `directory`, in as many bytes as its size says. Errors, in order: `Image` with `Unmapped`;
+    /// `Image` with `Short`.
+    pub fn parse(image: &ImageBytes<'a>, directory: DataDirectory) -> Result<RelocationBlocks<'a>>
+        ensures { DirectoryReturns blocks_left result (relocation_table image.now directory) }
+    {
+        Ok(RelocationBlocks::new(image.table(directory)?))
+    }
+
+    /// The blocks of these bytes, for instance those of `RelocationData` of pe_core.
     pub fn new(bytes: &'a [u8]) -> RelocationBlocks<'a>
         ensures { blocks_left result ≡ Some bytes.entry.now }
     {

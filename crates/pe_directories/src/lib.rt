@@ -6,6 +6,7 @@
 
 mod base_relocation;
 mod clr;
+mod directories;
 mod error;
 mod image_bytes;
 pub mod laws;
@@ -18,6 +19,7 @@ pub use base_relocation::{
     RelocationBlock, RelocationBlocks,
 };
 pub use clr::{ClrHeader, ClrMetadata, ClrStream, ClrStreams};
+pub use directories::{ChosenDirectories, Directories};
 pub use error::DirectoryError;
 pub use image_bytes::ImageBytes;
 pub use load_config::LoadConfig;
