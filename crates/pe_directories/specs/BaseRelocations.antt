@@ -36,7 +36,7 @@ unfoldable pub first_block : List ℕ → First Block (List ℕ)
 first_block b =
     if length b == 0 then None
     else Some (outcome (
-      (holds b 0 8, Image Short) ∷ (is_block_size (le b 4 4), BlockSize) ∷ (holds b 0 (le b 4 4), BlockTruncated) ∷ []
+    (holds b 0 8, Image Short) ∷ (is_block_size (le b 4 4), BlockSize) ∷ (holds b 0 (le b 4 4), BlockTruncated) ∷ []
     ) (block_of b, drop (le b 4 4) b))
 
 -- the type of an entry, in its high 4 bits
@@ -60,7 +60,7 @@ unfoldable pub first_relocation : ℕ → List ℕ → First BaseRelocation (Lis
 first_relocation page b =
     if length b == 0 then None
     else Some (outcome (
-      (holds b 0 2, Image Short) ∷ (holds b 0 (relocation_size (type_of (le b 0 2))), NoArgument) ∷ []
+    (holds b 0 2, Image Short) ∷ (holds b 0 (relocation_size (type_of (le b 0 2))), NoArgument) ∷ []
     ) (relocation_of page b, drop (relocation_size (type_of (le b 0 2))) b))
 
 -- the bytes that a walk has left, and the page that its relocations count from

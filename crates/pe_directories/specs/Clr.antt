@@ -79,7 +79,7 @@ metadata_at b n = record {
 unfoldable pub metadata_of : List ℕ → Result Metadata DirectoryRefusal
 metadata_of b =
     outcome (
-      (holds b 0 16, Image Short) ∷ (le b 0 4 == 0x424A5342, Image BadMagic) ∷ (holds b 16 (le b 12 4 + 4), Image Short) ∷ []
+    (holds b 0 16, Image Short) ∷ (le b 0 4 == 0x424A5342, Image BadMagic) ∷ (holds b 16 (le b 12 4 + 4), Image Short) ∷ []
     ) (metadata_at b (le b 12 4))
 
 -- the metadata root of a CLR header

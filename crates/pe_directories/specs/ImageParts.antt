@@ -1,11 +1,23 @@
 -- Parts of an image, by their RVAs and virtual addresses.
-use Rattle.std.specs.Prelude.{ℕ, ◌-◌, List, drop, Bool, Result, Ok, Err, nat_le, if◌then◌else◌}
+use Rattle.std.specs.Prelude.{◌≡◌, ◌==◌, ℕ, ◌-◌, List, drop, Bool, Result, Ok, Err, nat_le, if◌then◌else◌}
 use Rattle.pe_core.specs.Bytes.{range, record_at}
+use Rattle.pe_core.specs.Header.{OptionalHeaderView}
 use Rattle.pe_core.specs.Refusals.{◌>>=◌}
 use Rattle.pe_core.specs.SectionMap.{section_map, mapped}
 use Rattle.pe_core.specs.declared.data_directories.DataDirectory.{DataDirectory}
+use Rattle.pe_core.specs.declared.options.ParseOptions.{ParseOptions}
+use Rattle.pe_core.specs.declared.section_table.SectionTable.{SectionTable}
 use Rattle.pe_directories.specs.DirectoryRefusals.{DirectoryRefusal, VaBelowBase, of_image}
 use Rattle.pe_directories.specs.declared.image_bytes.ImageBytes.{ImageBytes}
+
+-- the image has these bytes and section headers, and what its optional header and the options say
+pub record IsImage (b : List ℕ) (h : OptionalHeaderView) (headers : List SectionTable) (o : ParseOptions) (i : ImageBytes) : Type 0 where
+  pub bytes : i.bytes.now ≡ b
+  pub sections : i.sections.now ≡ headers
+  pub alignment : i.file_alignment ≡ h.windows_fields.file_alignment
+  pub base : i.image_base ≡ h.windows_fields.image_base
+  pub width : i.is_64 ≡ (h.standard_fields.magic == 0x20B)
+  pub options : i.opts ≡ o
 
 -- the offset of an RVA in the bytes
 abbrev pub offset_of_rva : ImageBytes → ℕ → Result ℕ DirectoryRefusal

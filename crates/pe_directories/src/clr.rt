@@ -191,11 +191,7 @@ impl<'a> ClrMetadata<'a> {
         ensures { DirectoryReturns (λ s. s.now) result
             (stream_bytes (metadata_view self.now) (stream_view stream.now)) }
     {
-        Ok(slice_at(
-            self.bytes,
-            stream.offset as usize,
-            stream.size as usize,
-        )?)
+        Ok(slice_at(self.bytes, stream.offset as usize, stream.size as usize)?)
     }
 }
 

@@ -2,13 +2,14 @@
 //! Directories name parts of the image by RVAs, and by virtual addresses, which count from the image base.
 
 ghost use Rattle.std.specs.Prelude.{◌≡◌};
+ghost use Rattle.pe_core.specs.Header.{optional_header_view};
 ghost use Rattle.pe_directories.specs.DirectoryRefusals.{DirectoryReturns};
-ghost use Rattle.pe_directories.specs.ImageParts.{offset_of_rva, offset_of_va, table_at_va, record_of, table_of, size_of_va};
+ghost use Rattle.pe_directories.specs.ImageParts.{IsImage, offset_of_rva, offset_of_va, table_at_va, record_of, table_of, size_of_va};
 
 use crate::error::{DirectoryError, Result};
 use pe_core::{
-    DataDirectory, Error, ParseOptions, Reason, SectionTable, find_offset, mapped_offset,
-    require_bytes,
+    DataDirectory, Error, MAGIC_64, OptionalHeader, ParseOptions, Reason, SectionTable,
+    find_offset, mapped_offset, require_bytes,
 };
 
 /// An image: its bytes, and what its headers say of them.
@@ -29,16 +30,31 @@ pub struct ImageBytes<'a> {
 }
 
 impl<'a> ImageBytes<'a> {
+    /// An image with this optional header and these section headers. Its RVAs are mapped as `opts` says.
+    pub fn new(
+        bytes: &'a [u8],
+        optional_header: &OptionalHeader,
+        sections: &'a [SectionTable],
+        opts: &ParseOptions,
+    ) -> ImageBytes<'a>
+        ensures { IsImage bytes.entry.now
+            (optional_header_view optional_header.now) sections.entry.now opts.now result }
+    {
+        ImageBytes {
+            bytes,
+            sections,
+            file_alignment: optional_header.windows_fields.file_alignment,
+            image_base: optional_header.windows_fields.image_base,
+            is_64: optional_header.standard_fields.magic == MAGIC_64,
+            opts: *opts,
+        }
+    }
+
     /// The offset of an RVA in the bytes. Error: `Image` with `Unmapped`.
     pub(crate) fn offset_of_rva(&self, rva: u32) -> Result<usize>
         ensures { DirectoryReturns (λ p. p) result (offset_of_rva self.now rva) }
     {
-        Ok(mapped_offset(
-            rva,
-            self.sections,
-            self.file_alignment,
-            &self.opts,
-        )?)
+        Ok(mapped_offset(rva, self.sections, self.file_alignment, &self.opts)?)
     }
 
     /// The offset of a record of `size` bytes at an RVA, which are all there. Errors, in order: `Image` with `Unmapped`;
@@ -70,12 +86,7 @@ impl<'a> ImageBytes<'a> {
             return Err(DirectoryError::VaBelowBase(va));
         }
         let rva = va - self.image_base;
-        match find_offset(
-            rva as usize,
-            self.sections,
-            self.file_alignment,
-            &self.opts,
-        ) {
+        match find_offset(rva as usize, self.sections, self.file_alignment, &self.opts) {
             Some(offset) => Ok(offset),
             None => Err(DirectoryError::Image(Error::Malformed(Reason::Unmapped(rva)))),
         }

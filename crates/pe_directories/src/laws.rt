@@ -30,7 +30,7 @@ pub fn relocation_walks_return_the_list()
     ensures relocations { (s : BaseRelocations) (xs : List (Result BaseRelocation DirectoryError)) →
         Drains ⟦<BaseRelocations<'static> as Iterator>⟧.next_gives s xs →
         ItemsLeft (first_relocation (page_of s)) (relocations_left s)
-            (map (directory_answer (λ x. x)) xs) }
+        (map (directory_answer (λ x. x)) xs) }
     ensures relocation { (page : ℕ) → HasOneList (first_relocation page) }
 {}
 
@@ -40,7 +40,7 @@ pub fn callback_walks_return_the_list()
     ensures callbacks { (s : TlsCallbacks) (xs : List (Result ℕ DirectoryError)) →
         Drains ⟦<TlsCallbacks<'static> as Iterator>⟧.next_gives s xs →
         ItemsLeft (first_callback (callbacks_are_64 s)) (callbacks_left s)
-            (map (directory_answer (λ x. x)) xs) }
+        (map (directory_answer (λ x. x)) xs) }
     ensures list { (is_64 : Bool) → HasOneList (first_callback is_64) }
 {}
 
