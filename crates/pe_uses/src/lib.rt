@@ -2,6 +2,7 @@
 #![tactic(auto)]
 
 mod arm64;
+mod directories;
 mod frames;
 mod imports;
 mod resources;
@@ -13,6 +14,7 @@ mod versions;
 mod writing;
 
 pub use arm64::arm64_codes;
+pub use directories::first_tls_callback;
 pub use frames::{Frame, frame_at, frame_of};
 pub use imports::import_names;
 pub use resources::first_data_entry;

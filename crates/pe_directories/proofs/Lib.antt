@@ -1,0 +1,4 @@
+pub mod WholeWalks
+pub mod RelocationWalks
+pub mod Names
+pub mod OtherWalks

@@ -1,0 +1,44 @@
+//! Why a directory of an image is not read.
+
+ghost use Rattle.std.specs.Prelude.{◌≡◌};
+ghost use Rattle.pe_directories.specs.declared.error.DirectoryError.TheVariants.{Image};
+
+/// Why a directory, or an item of a walk through one, is not read.
+#[derive(Debug, Drop, thiserror::Error)]
+pub enum DirectoryError {
+    /// An error of pe_core: `Unmapped` if an RVA is not mapped, `Short` if a record is truncated, `BadMagic` with the
+    /// signature that CLR metadata have instead.
+    #[error("{0}")]
+    Image(pe_core::Error),
+    /// The size of a block of base relocations, which is below the 8 bytes of its header, or odd.
+    #[error("base relocation block of {0} bytes: the size is below 8 or odd")]
+    BlockSize(u32),
+    /// A block of base relocations that ends after the directory: its size, and how many bytes the directory has from
+    /// its start on.
+    #[error("base relocation block truncated: {size} bytes needed, {length} left")]
+    BlockTruncated { size: u32, length: usize },
+    /// The RVA of an `IMAGE_REL_BASED_HIGHADJ` at the end of its block, without the entry that is its argument.
+    #[error("base relocation at RVA {0:#x} has no argument")]
+    NoArgument(usize),
+    /// A virtual address below the image base, which has no RVA.
+    #[error("virtual address {0:#x} is below the image base")]
+    VaBelowBase(u64),
+    /// The size that a CLR header says it has, below 72 bytes.
+    #[error("CLR header of {0} bytes, smaller than 72")]
+    ClrHeaderSize(u32),
+    /// The name of a stream of CLR metadata does not end in the 32 bytes that it may have.
+    #[error("name of a metadata stream is not NUL-terminated in 32 bytes")]
+    StreamName,
+}
+
+// So that `?` returns an error of pe_core as `Image`.
+impl From<pe_core::Error> for DirectoryError {
+    ghost from_gives = { λ error e. e ≡ Image error };
+
+    fn from(error: pe_core::Error) -> DirectoryError {
+        DirectoryError::Image(error)
+    }
+}
+
+/// The result of a call that may fail with `DirectoryError`.
+pub type Result<T> = std::result::Result<T, DirectoryError>;

@@ -1,0 +1,114 @@
+//! What the readers of directories need of an image: its bytes, its section map, and how wide its virtual addresses are.
+//! Directories name parts of the image by RVAs, and by virtual addresses, which count from the image base.
+
+ghost use Rattle.std.specs.Prelude.{◌≡◌};
+ghost use Rattle.pe_core.specs.Header.{optional_header_view};
+ghost use Rattle.pe_directories.specs.DirectoryRefusals.{DirectoryReturns};
+ghost use Rattle.pe_directories.specs.ImageParts.{IsImage, offset_of_rva, offset_of_va, table_at_va, record_of, table_of, size_of_va};
+
+use crate::error::{DirectoryError, Result};
+use pe_core::{
+    DataDirectory, Error, MAGIC_64, OptionalHeader, ParseOptions, Reason, SectionTable,
+    find_offset, mapped_offset, require_bytes,
+};
+
+/// An image: its bytes, and what its headers say of them.
+#[derive(Clone, Copy, Debug)]
+pub struct ImageBytes<'a> {
+    /// The bytes of the whole file, or of the image as loaded, for which `opts` has `resolve_rva` off.
+    pub bytes: &'a [u8],
+    /// The section headers.
+    pub sections: &'a [SectionTable],
+    /// The file alignment in bytes, of the optional header.
+    pub file_alignment: u32,
+    /// The preferred base, of the optional header: a virtual address less it is an RVA.
+    pub image_base: u64,
+    /// PE32+: virtual addresses have 8 bytes, otherwise 4.
+    pub is_64: bool,
+    /// Whether RVAs are mapped.
+    pub opts: ParseOptions,
+}
+
+impl<'a> ImageBytes<'a> {
+    /// An image with this optional header and these section headers. Its RVAs are mapped as `opts` says.
+    pub fn new(
+        bytes: &'a [u8],
+        optional_header: &OptionalHeader,
+        sections: &'a [SectionTable],
+        opts: &ParseOptions,
+    ) -> ImageBytes<'a>
+        ensures { IsImage bytes.entry.now
+            (optional_header_view optional_header.now) sections.entry.now opts.now result }
+    {
+        ImageBytes {
+            bytes,
+            sections,
+            file_alignment: optional_header.windows_fields.file_alignment,
+            image_base: optional_header.windows_fields.image_base,
+            is_64: optional_header.standard_fields.magic == MAGIC_64,
+            opts: *opts,
+        }
+    }
+
+    /// The offset of an RVA in the bytes. Error: `Image` with `Unmapped`.
+    pub(crate) fn offset_of_rva(&self, rva: u32) -> Result<usize>
+        ensures { DirectoryReturns (λ p. p) result (offset_of_rva self.now rva) }
+    {
+        Ok(mapped_offset(rva, self.sections, self.file_alignment, &self.opts)?)
+    }
+
+    /// The offset of a record of `size` bytes at an RVA, which are all there. Errors, in order: `Image` with `Unmapped`;
+    /// `Image` with `Short`.
+    pub(crate) fn record_at(&self, rva: u32, size: usize) -> Result<usize>
+        ensures { DirectoryReturns (λ p. p) result (record_of self.now rva size) }
+    {
+        let offset = self.offset_of_rva(rva)?;
+        require_bytes(self.bytes, offset, size)?;
+        Ok(offset)
+    }
+
+    /// The bytes at the RVA of a directory, as many as its size says. Errors: those of `record_at`.
+    pub(crate) fn table(&self, directory: DataDirectory) -> Result<&'a [u8]>
+        ensures { DirectoryReturns (λ s. s.now) result (table_of self.now directory) }
+    {
+        let size = directory.size as usize;
+        let offset = self.record_at(directory.virtual_address, size)?;
+        Ok(&self.bytes[offset..offset + size])
+    }
+
+    /// The offset of a virtual address in the bytes, which may be past their end. Errors, in order: `VaBelowBase`; `Image`
+    /// with `Unmapped`.
+    #[tactic(auto, unfolding(crate::specs::ImageParts::offset_of_va))]
+    pub fn offset_of_va(&self, va: u64) -> Result<usize>
+        ensures { DirectoryReturns (λ p. p) result (offset_of_va self.now va) }
+    {
+        if va < self.image_base {
+            return Err(DirectoryError::VaBelowBase(va));
+        }
+        let rva = va - self.image_base;
+        match find_offset(rva as usize, self.sections, self.file_alignment, &self.opts) {
+            Some(offset) => Ok(offset),
+            None => Err(DirectoryError::Image(Error::Malformed(Reason::Unmapped(rva)))),
+        }
+    }
+
+    /// The bytes from a virtual address on, none past the end of the bytes. Errors: those of `offset_of_va`.
+    #[tactic(auto, using(std::proofs::lemmas::List::drop_all))]
+    pub(crate) fn table_at_va(&self, va: u64) -> Result<&'a [u8]>
+        ensures { DirectoryReturns (λ s. s.now) result (table_at_va self.now va) }
+    {
+        let offset = self.offset_of_va(va)?;
+        if offset <= self.bytes.len() {
+            Ok(&self.bytes[offset..])
+        } else {
+            Ok(&[])
+        }
+    }
+}
+
+/// The size of a virtual address in bytes.
+pub(crate) fn size_of_va(is_64: bool) -> usize
+    ensures { result ≡ size_of_va is_64 }
+{
+    if is_64 { 8 } else { 4 }
+}

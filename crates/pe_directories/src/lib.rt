@@ -1,0 +1,26 @@
+//! The directories of an image that `PE::parse` leaves as bytes, or does not read: base relocations.
+//! Layouts are those of Microsoft's [PE format](https://learn.microsoft.com/windows/win32/debug/pe-format).
+//!
+//! Every call is proved to return what its definition in `specs/` says, for every byte string.
+#![tactic(auto)]
+
+mod base_relocation;
+mod clr;
+mod directories;
+mod error;
+mod image_bytes;
+pub mod laws;
+mod load_config;
+mod tls;
+
+pub use base_relocation::{
+    BaseRelocation, BaseRelocations, IMAGE_REL_BASED_ABSOLUTE, IMAGE_REL_BASED_DIR64,
+    IMAGE_REL_BASED_HIGH, IMAGE_REL_BASED_HIGHADJ, IMAGE_REL_BASED_HIGHLOW, IMAGE_REL_BASED_LOW,
+    RelocationBlock, RelocationBlocks,
+};
+pub use clr::{ClrHeader, ClrMetadata, ClrStream, ClrStreams};
+pub use directories::{ChosenDirectories, Directories};
+pub use error::DirectoryError;
+pub use image_bytes::ImageBytes;
+pub use load_config::LoadConfig;
+pub use tls::{TlsCallbacks, TlsDirectory};
