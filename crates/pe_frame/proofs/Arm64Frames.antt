@@ -17,13 +17,13 @@ use Rattle.pe_frame.proofs.Arm64Packed.{canonical_step}
 use Rattle.pe_frame.proofs.Arm64Runs.{holds, known, sinks}
 use Rattle.pe_frame.proofs.Arm64Reverted.{Reverts, keeps_le, reverts}
 
-returned_ok : (p : ℕ) (u : Arm64Registers) → p ≤ u.sp → returned_arm64 p u ≡ Ok (put_pc u (link_register u))
+pub returned_ok : (p : ℕ) (u : Arm64Registers) → p ≤ u.sp → returned_arm64 p u ≡ Ok (put_pc u (link_register u))
 returned_ok p u above =
     let test : leb p u.sp ≡ true = grind (arith, nat_tests) in
     rw test refl
 
 -- the effects that have run are undone
-entry_of : (p : Arm64Part) (place : ℕ) (m : ℕ → Option ℕ) (g : Arm64Registers) → IsArm64Frame p place m g → Reverts m (effects_at place p) p.entry g
+pub entry_of : (p : Arm64Part) (place : ℕ) (m : ℕ → Option ℕ) (g : Arm64Registers) → IsArm64Frame p place m g → Reverts m (effects_at place p) p.entry g
 entry_of p place m g frame =
     let es = effects_at place p in
     let prolog = prolog-drop (prolog_length p.codes - place) p.operations p.entry frame.prolog in

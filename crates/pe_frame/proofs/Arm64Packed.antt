@@ -1,5 +1,5 @@
 -- The codes of canonical prologs: how many there are, and that each is undone alone.
-use Rattle.std.proofs.Common.{◌≡◌, ℕ, zero, suc, ◌+◌, ◌-◌, ◌*◌, ◌/◌, ◌%◌, ◌<◌, ◌≤◌, ◌==◌, ◌&&◌, ◌||◌, not, nat_le, nat_lt, Bool, true, false, if◌then◌else◌, All, List, [], ◌∷◌, ◌++◌, length, take, drop, Option, None, Result, refl, ap, sym, ◌∙◌, subst, arith, append-nil, length-append}
+use Rattle.std.proofs.Common.{◌≡◌, ℕ, zero, suc, ◌+◌, ◌-◌, ◌*◌, ◌/◌, ◌%◌, ◌<◌, ◌≤◌, ◌==◌, ◌&&◌, ◌||◌, not, nat_le, nat_lt, Bool, true, false, if◌then◌else◌, All, List, [], ◌∷◌, ◌++◌, length, take, drop, Option, None, refl, ap, sym, ◌∙◌, subst, arith, append-nil, length-append}
 use Rattle.std.proofs.lemmas.Bool.Decides.{nat_tests}
 use Rattle.std.proofs.lemmas.List.{take_all, take_rest}
 use Rattle.std.proofs.lemmas.List.Elements.{All-nil, All-cons, All-append, All-head, All-tail, All-same, All-take, All-drop}
@@ -8,13 +8,17 @@ use Rattle.pe_unwind.specs.declared.arm64.codes.Arm64UnwindCode.TheVariants.{All
 use Rattle.pe_unwind.specs.Arm64Words.{bits}
 use Rattle.pe_frame.specs.declared.arm64.packed.PackedFrame.{PackedFrame}
 use Rattle.pe_frame.specs.declared.arm64.registers.Arm64Registers.{Arm64Registers}
-use Rattle.pe_frame.specs.declared.error.FrameError.{FrameError}
 use Rattle.pe_frame.specs.Arm64Undoing.{caller_by}
 use Rattle.pe_frame.specs.Arm64Operations.{is_save_next}
 use Rattle.pe_frame.specs.Arm64Steps.{is_end_c, prolog_length, ran_arm64, epilog_start, left_in_epilog}
-use Rattle.pe_frame.specs.Arm64CodeLists.{extended, Adds, IsPlain}
+use Rattle.pe_frame.specs.Arm64CodeLists.{Adds}
 use Rattle.pe_frame.specs.Arm64Packed.{packed_frame, float_count, is_chained, sign_codes, integer_pair, integer_pairs, single_register, last_integers, float_pair, float_pairs, last_float, home_codes, allocation, local_codes, frame_codes, point_codes, freed_codes, saved_codes, canonical_codes, epilog_codes, packed_codes, packed_length, left_after, packed_left, is_canonical, stepped_packed}
 use Rattle.pe_frame.proofs.Arm64Places.{left_yes, left_no}
+
+-- a code that neither depends on others nor ends a prolog
+record IsPlain (c : Arm64UnwindCode) : Type 0 where
+  pub one : is_save_next c ≡ false
+  pub inside : is_end_c c ≡ false
 
 -- at most so many codes, each of which is undone alone and belongs to the prolog
 pub record Short (n : ℕ) (cs : List Arm64UnwindCode) : Type 0 where

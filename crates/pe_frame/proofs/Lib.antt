@@ -20,4 +20,5 @@ pub mod Arm64CodeLists
 pub mod Arm64Places
 pub mod Arm64Packed
 pub mod Arm64Frames
+pub mod Arm64Epilogs
 pub mod Arm64Samples
