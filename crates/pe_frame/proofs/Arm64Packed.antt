@@ -1,5 +1,5 @@
 -- The codes of canonical prologs: how many there are, and that each is undone alone.
-use Rattle.std.proofs.Common.{◌≡◌, ℕ, zero, suc, ◌+◌, ◌-◌, ◌*◌, ◌/◌, ◌%◌, ◌<◌, ◌≤◌, ◌==◌, ◌&&◌, ◌||◌, not, nat_le, nat_lt, Bool, true, false, if◌then◌else◌, All, List, [], ◌∷◌, ◌++◌, length, take, drop, Option, Result, refl, ap, sym, ◌∙◌, arith, append-nil, length-append}
+use Rattle.std.proofs.Common.{◌≡◌, ℕ, zero, suc, ◌+◌, ◌-◌, ◌*◌, ◌/◌, ◌%◌, ◌<◌, ◌≤◌, ◌==◌, ◌&&◌, ◌||◌, not, nat_le, nat_lt, Bool, true, false, if◌then◌else◌, All, List, [], ◌∷◌, ◌++◌, length, take, drop, Option, None, refl, ap, sym, ◌∙◌, subst, arith, append-nil, length-append}
 use Rattle.std.proofs.lemmas.Bool.Decides.{nat_tests}
 use Rattle.std.proofs.lemmas.List.{take_all, take_rest}
 use Rattle.std.proofs.lemmas.List.Elements.{All-nil, All-cons, All-append, All-head, All-tail, All-same, All-take, All-drop}
@@ -8,13 +8,17 @@ use Rattle.pe_unwind.specs.declared.arm64.codes.Arm64UnwindCode.TheVariants.{All
 use Rattle.pe_unwind.specs.Arm64Words.{bits}
 use Rattle.pe_frame.specs.declared.arm64.packed.PackedFrame.{PackedFrame}
 use Rattle.pe_frame.specs.declared.arm64.registers.Arm64Registers.{Arm64Registers}
-use Rattle.pe_frame.specs.declared.error.FrameError.{FrameError}
-use Rattle.pe_frame.specs.Undoing.{◌>>=◌}
-use Rattle.pe_frame.specs.Arm64Undoing.{undone_codes, returned_arm64}
+use Rattle.pe_frame.specs.Arm64Undoing.{caller_by}
 use Rattle.pe_frame.specs.Arm64Operations.{is_save_next}
-use Rattle.pe_frame.specs.Arm64Steps.{is_end_c, prolog_length, ran_arm64}
-use Rattle.pe_frame.specs.Arm64CodeLists.{extended, Adds, IsPlain}
-use Rattle.pe_frame.specs.Arm64Packed.{packed_frame, float_count, is_chained, sign_codes, integer_pair, integer_pairs, single_register, last_integers, float_pair, float_pairs, last_float, home_codes, allocation, local_codes, frame_codes, canonical_codes, packed_codes, packed_length, is_canonical, stepped_packed}
+use Rattle.pe_frame.specs.Arm64Steps.{is_end_c, prolog_length, ran_arm64, epilog_start, left_in_epilog}
+use Rattle.pe_frame.specs.Arm64CodeLists.{Adds}
+use Rattle.pe_frame.specs.Arm64Packed.{packed_frame, float_count, is_chained, sign_codes, integer_pair, integer_pairs, single_register, last_integers, float_pair, float_pairs, last_float, home_codes, allocation, local_codes, frame_codes, point_codes, freed_codes, saved_codes, canonical_codes, epilog_codes, packed_codes, packed_length, left_after, packed_left, is_canonical, stepped_packed}
+use Rattle.pe_frame.proofs.Arm64Places.{left_yes, left_no}
+
+-- a code that neither depends on others nor ends a prolog
+record IsPlain (c : Arm64UnwindCode) : Type 0 where
+  pub one : is_save_next c ≡ false
+  pub inside : is_end_c c ≡ false
 
 -- at most so many codes, each of which is undone alone and belongs to the prolog
 pub record Short (n : ℕ) (cs : List Arm64UnwindCode) : Type 0 where
@@ -116,22 +120,38 @@ local_short n =
     (short_if 2 (nat_le n 4080) one two (short_more 1 2 one (omega arith) (short_one (allocation n) (allocation_plain n)))
     (short_cons 1 (allocation (n - 4080)) (AllocMedium 4080 ∷ []) (allocation_plain (n - 4080)) (short_one (AllocMedium 4080) (plain (AllocMedium 4080) refl refl))))
 
-frame_short : (p : PackedFrame) → Short 4 (frame_codes p)
+frame_short : (p : PackedFrame) → Short 3 (frame_codes p)
 frame_short p =
     let one = SaveFpLrPreindexed p.local_size ∷ [] in
     let more = SaveFpLr 0 ∷ local_codes p.local_size in
-    let chain = if nat_le p.local_size 512 then one else more in
-    short_if 4 (is_chained p) (SetFp ∷ chain) (local_codes p.local_size)
-    (short_cons 3 SetFp chain (plain SetFp refl refl)
+    short_if 3 (is_chained p) (if nat_le p.local_size 512 then one else more) (local_codes p.local_size)
     (short_if 3 (nat_le p.local_size 512) one more (short_more 1 3 one (omega arith) (short_one (SaveFpLrPreindexed p.local_size) (plain (SaveFpLrPreindexed p.local_size) refl refl)))
-    (short_cons 2 (SaveFpLr 0) (local_codes p.local_size) (plain (SaveFpLr 0) refl refl) (local_short p.local_size))))
-    (short_more 2 4 (local_codes p.local_size) (omega arith) (local_short p.local_size))
+    (short_cons 2 (SaveFpLr 0) (local_codes p.local_size) (plain (SaveFpLr 0) refl refl) (local_short p.local_size)))
+    (short_more 2 3 (local_codes p.local_size) (omega arith) (local_short p.local_size))
 
-pub canonical_short : (p : PackedFrame) → p.integers ≤ 11 → p.floats ≤ 9 → Short 20 (canonical_codes p)
+point_short : (p : PackedFrame) → Short 1 (point_codes p)
+point_short p = short_if 1 (is_chained p) (SetFp ∷ []) [] (short_one SetFp (plain SetFp refl refl)) (short_nil 1)
+
+freed_short : (p : PackedFrame) → Short 1 (freed_codes p)
+freed_short p =
+    short_if 1 (p.homes && p.integer_size + p.floats == 0) (AllocSmall p.saved_size ∷ []) [] (short_one (AllocSmall p.saved_size) (plain (AllocSmall p.saved_size) refl refl)) (short_nil 1)
+
+saved_short : (p : PackedFrame) → p.integers ≤ 11 → p.floats ≤ 9 → Short 12 (saved_codes p)
+saved_short p integers floats =
+    short_more (1 + (p.floats / 2 + (1 + (p.integers / 2 + 1)))) 12 (saved_codes p) (omega (arith, integers, floats))
+    (short_append 1 _ _ _ (last_float_short p (p.floats / 2)) (short_append (p.floats / 2) _ _ _ (floats_short p (p.floats / 2))
+    (short_append 1 _ _ _ (last_integers_short p (p.integers / 2)) (short_append (p.integers / 2) 1 _ _ (integers_short p (p.integers / 2)) (sign_short p)))))
+
+canonical_short : (p : PackedFrame) → p.integers ≤ 11 → p.floats ≤ 9 → Short 20 (canonical_codes p)
 canonical_short p integers floats =
-    short_more (4 + (4 + (1 + (p.floats / 2 + (1 + (p.integers / 2 + 1)))))) 20 (canonical_codes p) (omega (arith, integers, floats))
-    (short_append 4 _ _ _ (frame_short p) (short_append 4 _ _ _ (home_short p) (short_append 1 _ _ _ (last_float_short p (p.floats / 2)) (short_append (p.floats / 2) _ _ _ (floats_short p (p.floats / 2))
-    (short_append 1 _ _ _ (last_integers_short p (p.integers / 2)) (short_append (p.integers / 2) 1 _ _ (integers_short p (p.integers / 2)) (sign_short p)))))))
+    short_append 1 19 (point_codes p) (frame_codes p ++ (home_codes p ++ saved_codes p)) (point_short p)
+    (short_append 3 16 (frame_codes p) (home_codes p ++ saved_codes p) (frame_short p)
+    (short_append 4 12 (home_codes p) (saved_codes p) (home_short p) (saved_short p integers floats)))
+
+epilog_short : (p : PackedFrame) → p.integers ≤ 11 → p.floats ≤ 9 → Short 16 (epilog_codes p)
+epilog_short p integers floats =
+    short_append 3 13 (frame_codes p) (freed_codes p ++ saved_codes p) (frame_short p)
+    (short_append 1 12 (freed_codes p) (saved_codes p) (freed_short p) (saved_short p integers floats))
 
 -- the parts of a test
 both : (a b : Bool) → (a && b) ≡ true → (a ≡ true) × (b ≡ true)
@@ -191,26 +211,104 @@ length_if false cs h = prolog-length cs h.inside
 prolog_is : (d : ℕ) → is_canonical d ≡ true → prolog_length (packed_codes d) ≡ packed_length d (length (packed_codes d))
 prolog_is d e = length_if (bits d 0 2 == 2) (canonical_codes (packed_frame d)) (codes_short d e)
 
--- a step undoes them
-pub canonical_step : (m : ℕ → Option ℕ) (d place : ℕ) (g : Arm64Registers) → is_canonical d ≡ true → stepped_packed m d place g ≡ (undone_codes m (ran_arm64 place (packed_codes d)) g >>= returned_arm64 g.sp)
+-- the same of the codes of the epilog
+pub epilog_alone : (d : ℕ) → is_canonical d ≡ true → Short 16 (epilog_codes (packed_frame d))
+epilog_alone d e = epilog_short (packed_frame d) (omega (arith, few_integers d e)) (omega (arith, few_floats d))
+
+pub epilog_whole : (d : ℕ) (xs : List Arm64UnwindCode) → is_canonical d ≡ true → length xs ≤ 24 → Adds [] xs (epilog_codes (packed_frame d)) → xs ≡ epilog_codes (packed_frame d)
+epilog_whole d xs e few adds =
+    let es = epilog_codes (packed_frame d) in
+    let most : length es ≤ 24 = omega (arith, (epilog_alone d e).few) in
+    sym (ap (take 24) (append-nil xs) ∙ take_all 24 xs few) ∙ (adds [] ∙ (ap (take 24) (append-nil es) ∙ take_all 24 es most))
+
+pub epilog_is : (d : ℕ) (xs : List Arm64UnwindCode) → is_canonical d ≡ true → xs ≡ epilog_codes (packed_frame d) → length xs ≡ prolog_length (epilog_codes (packed_frame d))
+epilog_is d xs e whole = ap (λ (ys : List Arm64UnwindCode). length ys) whole ∙ sym (prolog-length (epilog_codes (packed_frame d)) (epilog_alone d e).inside)
+
+-- a step undoes what is left
+pub canonical_step : (m : ℕ → Option ℕ) (d place : ℕ) (g : Arm64Registers) → is_canonical d ≡ true → stepped_packed m d place g ≡ caller_by m (packed_left d place) g
 canonical_step m d place g canonical = rw canonical refl
 
-ran_are : (d place s : ℕ) → is_canonical d ≡ true → s ≡ packed_length d (length (packed_codes d)) - place → drop s (packed_codes d) ≡ ran_arm64 place (packed_codes d)
-ran_are d place s canonical is =
-    let first : s ≡ prolog_length (packed_codes d) - place = is ∙ ap (λ (n : ℕ). n - place) (sym (prolog_is d canonical)) in
-    ap (λ (n : ℕ). drop n (packed_codes d)) first
+-- what is left before the end of the prolog, or in a fragment
+pub left_before : (d place n s : ℕ) (xs : List Arm64UnwindCode) → is_canonical d ≡ true → xs ≡ packed_codes d → n ≡ packed_length d (length xs) → s ≡ n - place → (bits d 0 2 == 2 || nat_lt place n) ≡ true →
+    take (length xs - s) (drop s xs) ≡ packed_left d place
+left_before d place n s xs canonical whole count is test =
+    let number : n ≡ prolog_length (packed_codes d) = count ∙ (ap (λ (ys : List Arm64UnwindCode). packed_length d (length ys)) whole ∙ sym (prolog_is d canonical)) in
+    let inside : (bits d 0 2 == 2 || nat_lt place (prolog_length (packed_codes d))) ≡ true = subst (λ (k : ℕ). (bits d 0 2 == 2 || nat_lt place k) ≡ true) number test in
+    let codes : take (length xs - s) (drop s xs) ≡ ran_arm64 place (packed_codes d) =
+    take_rest xs s ∙ (ap (drop s) whole ∙ ap (λ (k : ℕ). drop k (packed_codes d)) (is ∙ ap (λ (k : ℕ). k - place) number)) in
+    codes ∙ rw inside refl
 
-pub packed_result : (m : ℕ → Option ℕ) (d place n s : ℕ) (g : Arm64Registers) (xs : List Arm64UnwindCode) (r : Result Arm64Registers FrameError) → is_canonical d ≡ true → xs ≡ packed_codes d → n ≡ packed_length d (length xs) → s ≡ n - place →
-    r ≡ undone_codes m (take (length xs - s) (drop s xs)) g → (r >>= returned_arm64 g.sp) ≡ stepped_packed m d place g
-packed_result m d place n s g xs r canonical whole count is undone =
-    let number : s ≡ packed_length d (length (packed_codes d)) - place =
-    is ∙ ap (λ (k : ℕ). k - place) (count ∙ ap (λ (ys : List Arm64UnwindCode). packed_length d (length ys)) whole) in
-    let codes : take (length xs - s) (drop s xs) ≡ ran_arm64 place (packed_codes d) = take_rest xs s ∙ (ap (drop s) whole ∙ ran_are d place s canonical number) in
-    ap (λ (x : Result Arm64Registers FrameError). x >>= returned_arm64 g.sp) (undone ∙ ap (λ (cs : List Arm64UnwindCode). undone_codes m cs g) codes)
-    ∙ sym (canonical_step m d place g canonical)
+-- what is left after it
+pub left_later : (d place n : ℕ) (xs : List Arm64UnwindCode) → is_canonical d ≡ true → xs ≡ packed_codes d → n ≡ packed_length d (length xs) → (bits d 0 2 == 2 || nat_lt place n) ≡ false → left_after d place xs ≡ packed_left d place
+left_later d place n xs canonical whole count test =
+    let number : n ≡ prolog_length (packed_codes d) = count ∙ (ap (λ (ys : List Arm64UnwindCode). packed_length d (length ys)) whole ∙ sym (prolog_is d canonical)) in
+    let outside : (bits d 0 2 == 2 || nat_lt place (prolog_length (packed_codes d))) ≡ false = subst (λ (k : ℕ). (bits d 0 2 == 2 || nat_lt place k) ≡ false) number test in
+    ap (left_after d place) whole ∙ rw outside refl
 
 -- each code that is left is undone alone
-pub rest_alone : (d s : ℕ) (xs : List Arm64UnwindCode) → is_canonical d ≡ true → xs ≡ packed_codes d → All (λ c. is_save_next c ≡ false) (take (length xs - s) (drop s xs))
-rest_alone d s xs canonical whole =
-    let all : All (λ c. is_save_next c ≡ false) xs = All-same (λ c. is_save_next c ≡ false) xs (packed_codes d) whole (packed_alone d canonical) in
+pub rest_alone : (s : ℕ) (xs ys : List Arm64UnwindCode) → xs ≡ ys → All (λ c. is_save_next c ≡ false) ys → All (λ c. is_save_next c ≡ false) (take (length xs - s) (drop s xs))
+rest_alone s xs ys whole alone =
+    let all : All (λ c. is_save_next c ≡ false) xs = All-same (λ c. is_save_next c ≡ false) xs ys whole alone in
     All-take (λ c. is_save_next c ≡ false) (length xs - s) (drop s xs) (All-drop (λ c. is_save_next c ≡ false) s xs all)
+
+pub whole_alone : (d : ℕ) (xs : List Arm64UnwindCode) → is_canonical d ≡ true → xs ≡ packed_codes d → All (λ c. is_save_next c ≡ false) xs
+whole_alone d xs canonical whole = All-same (λ c. is_save_next c ≡ false) xs (packed_codes d) whole (packed_alone d canonical)
+
+-- where the epilog starts
+starts : (d count start : ℕ) (xs : List Arm64UnwindCode) → is_canonical d ≡ true → xs ≡ epilog_codes (packed_frame d) → count ≡ bits d 2 11 → start ≡ epilog_start count None (length xs) →
+    start ≡ epilog_start (bits d 2 11) None (prolog_length (epilog_codes (packed_frame d)))
+starts d count start xs canonical whole count_is is =
+    is ∙ (ap (λ (k : ℕ). epilog_start k None (length xs)) count_is ∙ ap (λ (k : ℕ). epilog_start (bits d 2 11) None k) (epilog_is d xs canonical whole))
+
+-- what is left in it, and outside of it
+pub after_yes : (d place count start s : ℕ) (xs codes : List Arm64UnwindCode) → is_canonical d ≡ true → xs ≡ epilog_codes (packed_frame d) → count ≡ bits d 2 11 → start ≡ epilog_start count None (length xs) → s ≡ place - start →
+    (nat_le start place && nat_le (place - start) (length xs)) ≡ true → take (length xs - s) (drop s xs) ≡ left_after d place codes
+after_yes d place count start s xs codes canonical whole count_is start_is is test =
+    let es = epilog_codes (packed_frame d) in
+    let left : drop s xs ≡ drop (place - start) es = ap (drop s) whole ∙ ap (λ (k : ℕ). drop k es) is in
+    take_rest xs s
+    ∙ (left ∙ (sym (left_yes place start (length xs) es codes (epilog_is d xs canonical whole) test) ∙ ap (λ (k : ℕ). left_in_epilog place k es codes) (starts d count start xs canonical whole count_is start_is)))
+
+pub after_no : (d place count start : ℕ) (xs codes : List Arm64UnwindCode) → is_canonical d ≡ true → xs ≡ epilog_codes (packed_frame d) → count ≡ bits d 2 11 → start ≡ epilog_start count None (length xs) →
+    (nat_le start place && nat_le (place - start) (length xs)) ≡ false → codes ≡ left_after d place codes
+after_no d place count start xs codes canonical whole count_is start_is test =
+    let es = epilog_codes (packed_frame d) in
+    sym (left_no place start (length xs) es codes (epilog_is d xs canonical whole) test) ∙ ap (λ (k : ℕ). left_in_epilog place k es codes) (starts d count start xs canonical whole count_is start_is)
+
+pub not_true : (b : Bool) → true ≡ not b → b ≡ false
+not_true true e = cc
+not_true false e = refl
+
+pub not_false : (b : Bool) → false ≡ not b → b ≡ true
+not_false true e = refl
+not_false false e = cc
+
+or_right : (a b : Bool) → b ≡ true → (a || b) ≡ true
+or_right true b e = refl
+or_right false b e = e
+
+or_none : (a b : Bool) → a ≡ false → b ≡ false → (a || b) ≡ false
+or_none true b h k = h
+or_none false b h k = k
+
+-- what is left in a prolog, and in the epilog of a function
+pub left_prolog : (d place : ℕ) → place < prolog_length (packed_codes d) → packed_left d place ≡ ran_arm64 place (packed_codes d)
+left_prolog d place early =
+    let test : nat_lt place (prolog_length (packed_codes d)) ≡ true = grind (arith, nat_tests) in
+    let inside : (bits d 0 2 == 2 || nat_lt place (prolog_length (packed_codes d))) ≡ true = or_right (bits d 0 2 == 2) (nat_lt place (prolog_length (packed_codes d))) test in
+    rw inside refl
+
+pub left_epilog : (d place run : ℕ) → bits d 0 2 ≡ 1 → prolog_length (packed_codes d) ≤ place → place ≡ epilog_start (bits d 2 11) None (prolog_length (epilog_codes (packed_frame d))) + run → run ≤ prolog_length (epilog_codes (packed_frame d)) →
+    packed_left d place ≡ ran_arm64 (prolog_length (epilog_codes (packed_frame d)) - run) (epilog_codes (packed_frame d))
+left_epilog d place run flag late is few =
+    let es = epilog_codes (packed_frame d) in
+    let start = epilog_start (bits d 2 11) None (prolog_length es) in
+    let whole : (bits d 0 2 == 2) ≡ false = ap (λ (k : ℕ). k == 2) flag in
+    let test : nat_lt place (prolog_length (packed_codes d)) ≡ false = grind (arith, nat_tests) in
+    let outside : (bits d 0 2 == 2 || nat_lt place (prolog_length (packed_codes d))) ≡ false = or_none (bits d 0 2 == 2) (nat_lt place (prolog_length (packed_codes d))) whole test in
+    let first : nat_le start place ≡ true = grind (arith, nat_tests) in
+    let second : nat_le (place - start) (prolog_length es) ≡ true = grind (arith, nat_tests) in
+    let both : (nat_le start place && nat_le (place - start) (prolog_length es)) ≡ true = rw first second in
+    let left : left_after d place (packed_codes d) ≡ drop (place - start) es = left_yes place start (prolog_length es) es (packed_codes d) refl both in
+    let number : place - start ≡ prolog_length es - (prolog_length es - run) = omega (arith, is, few) in
+    (rw outside refl) ∙ (left ∙ ap (λ (k : ℕ). drop k es) number)

@@ -27,13 +27,13 @@ pub record Reverts (m : ℕ → Option ℕ) (es : List Arm64Effect) (s : Arm64Ma
 then_all : (m : ℕ → Option ℕ) (e : Arm64Effect) (before : List Arm64Effect) (g v u : Arm64Registers) → reverted m e g ≡ Ok v → reverted_all m before v ≡ Ok u → reverted_all m (e ∷ before) g ≡ Ok u
 then_all m e before g v u is rest = rw is rest
 
-lowered_ok : (m : ℕ → Option ℕ) (n : ℕ) (g : Arm64Registers) → g.sp + n < 2 ^ 64 → reverted m (Lower n) g ≡ Ok (put_sp g (g.sp + n))
+pub lowered_ok : (m : ℕ → Option ℕ) (n : ℕ) (g : Arm64Registers) → g.sp + n < 2 ^ 64 → reverted m (Lower n) g ≡ Ok (put_sp g (g.sp + n))
 lowered_ok m n g room = rw (above_ok g.sp n room) refl
 
-stored_ok : (m : ℕ → Option ℕ) (r : Arm64Register) (o v : ℕ) (g : Arm64Registers) → g.sp + o < 2 ^ 64 → m (g.sp + o) ≡ Some v → reverted m (Store r o) g ≡ Ok (put_saved g r v)
+pub stored_ok : (m : ℕ → Option ℕ) (r : Arm64Register) (o v : ℕ) (g : Arm64Registers) → g.sp + o < 2 ^ 64 → m (g.sp + o) ≡ Some v → reverted m (Store r o) g ≡ Ok (put_saved g r v)
 stored_ok m r o v g room word = rw (above_ok g.sp o room) (rw (number_ok m (g.sp + o) v word) refl)
 
-framed_ok : (m : ℕ → Option ℕ) (n t : ℕ) (g : Arm64Registers) → frame_pointer g ≡ t + n → reverted m (PointFrame n) g ≡ Ok (put_sp g t)
+pub framed_ok : (m : ℕ → Option ℕ) (n t : ℕ) (g : Arm64Registers) → frame_pointer g ≡ t + n → reverted m (PointFrame n) g ≡ Ok (put_sp g t)
 framed_ok m n t g is =
     let test : ltb (t + n) n ≡ false = grind (arith, nat_tests) in
     let back : t + n - n ≡ t = omega arith in
@@ -44,20 +44,20 @@ pub keeps_le : (b : Bool) (es : List Arm64Effect) (t : Arm64Machine) (g : Arm64R
 keeps_le false es t g k = omega (arith, k)
 keeps_le true es t g k = k.0
 
-keeps_at_store : (b : Bool) (r : Arm64Register) (o : ℕ) (before : List Arm64Effect) (t : Arm64Machine) (g : Arm64Registers) → KeepsPlace b (Store r o ∷ before) t g → g.sp ≡ t.sp
+pub keeps_at_store : (b : Bool) (r : Arm64Register) (o : ℕ) (before : List Arm64Effect) (t : Arm64Machine) (g : Arm64Registers) → KeepsPlace b (Store r o ∷ before) t g → g.sp ≡ t.sp
 keeps_at_store false r o before t g k = k
 keeps_at_store true r o before t g k = k.1 tt
 
-keeps_exact : (b : Bool) (es : List Arm64Effect) (t : Arm64Machine) (g : Arm64Registers) → b ≡ false → g.sp ≡ t.sp → KeepsPlace b es t g
+pub keeps_exact : (b : Bool) (es : List Arm64Effect) (t : Arm64Machine) (g : Arm64Registers) → b ≡ false → g.sp ≡ t.sp → KeepsPlace b es t g
 keeps_exact false es t g e at = at
 keeps_exact true es t g e at = cc
 
-keeps_lowered : (b : Bool) (n : ℕ) (before : List Arm64Effect) (t : Arm64Machine) (g : Arm64Registers) → n ≤ t.sp → KeepsPlace b (Lower n ∷ before) (caused (Lower n) t) g → KeepsPlace b before t (put_sp g (g.sp + n))
+pub keeps_lowered : (b : Bool) (n : ℕ) (before : List Arm64Effect) (t : Arm64Machine) (g : Arm64Registers) → n ≤ t.sp → KeepsPlace b (Lower n ∷ before) (caused (Lower n) t) g → KeepsPlace b before t (put_sp g (g.sp + n))
 keeps_lowered false n before t g small k = let e : g.sp ≡ t.sp - n = k in omega arith
 keeps_lowered true n before t g small k =
     (let le : g.sp ≤ t.sp - n = k.0 in omega arith, λ late. let e : g.sp ≡ t.sp - n = k.1 late in omega arith, k.2)
 
-keeps_stored : (b : Bool) (r : Arm64Register) (o v : ℕ) (before : List Arm64Effect) (t : Arm64Machine) (g : Arm64Registers) → LeavesFrame b r → KeepsPlace b (Store r o ∷ before) (caused (Store r o) t) g → KeepsPlace b before t (put_saved g r v)
+pub keeps_stored : (b : Bool) (r : Arm64Register) (o v : ℕ) (before : List Arm64Effect) (t : Arm64Machine) (g : Arm64Registers) → LeavesFrame b r → KeepsPlace b (Store r o ∷ before) (caused (Store r o) t) g → KeepsPlace b before t (put_saved g r v)
 keeps_stored false (X q) o v before t g other k = k
 keeps_stored false (D q) o v before t g other k = k
 keeps_stored true (X q) o v before t g other k =
@@ -65,7 +65,7 @@ keeps_stored true (X q) o v before t g other k =
     (k.0, λ _. k.1 tt, get_or-set_other g.general q 29 v 0 apart ∙ k.2)
 keeps_stored true (D q) o v before t g other k = (k.0, λ _. k.1 tt, k.2)
 
-keeps_signed : (b : Bool) (v : ℕ) (before : List Arm64Effect) (t : Arm64Machine) (g : Arm64Registers) → KeepsPlace b (SignLink ∷ before) (caused SignLink t) g → KeepsPlace b before t (put_saved g (X 30) v)
+pub keeps_signed : (b : Bool) (v : ℕ) (before : List Arm64Effect) (t : Arm64Machine) (g : Arm64Registers) → KeepsPlace b (SignLink ∷ before) (caused SignLink t) g → KeepsPlace b before t (put_saved g (X 30) v)
 keeps_signed false v before t g k = k
 keeps_signed true v before t g k =
     (k.0, k.1, get_or-set_other g.general 30 29 v 0 (omega arith) ∙ (k.2 ∙ get_or-set_other t.general 30 29 _ 0 (omega arith)))

@@ -17,7 +17,8 @@ pub mod Arm64Calls
 pub mod Arm64Runs
 pub mod Arm64Reverted
 pub mod Arm64CodeLists
-pub mod Arm64Packed
 pub mod Arm64Places
+pub mod Arm64Packed
 pub mod Arm64Frames
+pub mod Arm64Epilogs
 pub mod Arm64Samples

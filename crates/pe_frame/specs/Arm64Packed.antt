@@ -1,6 +1,6 @@
 -- Packed unwind data of ARM64: the canonical prolog that an entry stands for, as the unwind codes of its instructions.
 -- (ARM64 exception handling: packed unwind data, whose names stand in parentheses.)
-use Rattle.std.specs.Prelude.{◌≡◌, ℕ, zero, suc, ◌+◌, ◌-◌, ◌*◌, ◌/◌, ◌%◌, ◌==◌, ◌&&◌, ◌||◌, nat_le, nat_lt, Bool, not, if◌then◌else◌, List, [], ◌∷◌, ◌++◌, Option, Result, Err}
+use Rattle.std.specs.Prelude.{ℕ, zero, suc, ◌+◌, ◌-◌, ◌*◌, ◌/◌, ◌%◌, ◌==◌, ◌&&◌, ◌||◌, nat_le, nat_lt, Bool, not, if◌then◌else◌, List, [], ◌∷◌, ◌++◌, Option, None, Result, Err}
 use Rattle.pe_unwind.specs.declared.arm64.codes.Arm64UnwindCode.{Arm64UnwindCode}
 use Rattle.pe_unwind.specs.declared.arm64.codes.Arm64UnwindCode.TheVariants.{AllocSmall, SaveFpLr, SaveFpLrPreindexed, AllocMedium, SaveRegPair, SaveRegPairPreindexed, SaveReg, SaveRegPreindexed, SaveLrPair, SaveFRegPair, SaveFRegPairPreindexed, SaveFReg, SetFp, Nop, EndC, PacSignLr}
 use Rattle.pe_unwind.specs.Arm64Words.{bits}
@@ -8,9 +8,8 @@ use Rattle.pe_frame.specs.declared.arm64.packed.PackedFrame.{PackedFrame}
 use Rattle.pe_frame.specs.declared.arm64.registers.Arm64Registers.{Arm64Registers}
 use Rattle.pe_frame.specs.declared.error.FrameError.{FrameError}
 use Rattle.pe_frame.specs.declared.error.FrameError.TheVariants.{Packed}
-use Rattle.pe_frame.specs.Undoing.{◌>>=◌}
-use Rattle.pe_frame.specs.Arm64Undoing.{undone_codes, returned_arm64}
-use Rattle.pe_frame.specs.Arm64Steps.{ran_arm64}
+use Rattle.pe_frame.specs.Arm64Undoing.{caller_by}
+use Rattle.pe_frame.specs.Arm64Steps.{prolog_length, ran_arm64, epilog_start, left_in_epilog}
 
 -- how many floating-point registers are saved, by RegF
 abbrev pub float_count : ℕ → ℕ
@@ -97,14 +96,30 @@ local_codes n =
 
 abbrev pub frame_codes : PackedFrame → List Arm64UnwindCode
 frame_codes p =
-    if is_chained p then SetFp ∷ (if nat_le p.local_size 512 then SaveFpLrPreindexed p.local_size ∷ [] else SaveFpLr 0 ∷ local_codes p.local_size)
+    if is_chained p then (if nat_le p.local_size 512 then SaveFpLrPreindexed p.local_size ∷ [] else SaveFpLr 0 ∷ local_codes p.local_size)
     else local_codes p.local_size
+
+-- then x29 is set
+abbrev pub point_codes : PackedFrame → List Arm64UnwindCode
+point_codes p = if is_chained p then SetFp ∷ [] else []
+
+-- all steps up to the third
+abbrev pub saved_codes : PackedFrame → List Arm64UnwindCode
+saved_codes p =
+    last_float p (p.floats / 2) ++ (float_pairs p (p.floats / 2)
+    ++ (last_integers p (p.integers / 2) ++ (integer_pairs p (p.integers / 2) ++ sign_codes p)))
 
 -- all of them
 abbrev pub canonical_codes : PackedFrame → List Arm64UnwindCode
-canonical_codes p =
-    frame_codes p ++ (home_codes p ++ (last_float p (p.floats / 2) ++ (float_pairs p (p.floats / 2)
-    ++ (last_integers p (p.integers / 2) ++ (integer_pairs p (p.integers / 2) ++ sign_codes p)))))
+canonical_codes p = point_codes p ++ (frame_codes p ++ (home_codes p ++ saved_codes p))
+
+-- The canonical epilog ends the function. It has no instruction for x29, which has set the stack pointer, nor for x0 to x7; where
+-- no other register is saved, it frees their bytes.
+abbrev pub freed_codes : PackedFrame → List Arm64UnwindCode
+freed_codes p = if p.homes && p.integer_size + p.floats == 0 then AllocSmall p.saved_size ∷ [] else []
+
+abbrev pub epilog_codes : PackedFrame → List Arm64UnwindCode
+epilog_codes p = frame_codes p ++ (freed_codes p ++ saved_codes p)
 
 -- A fragment (flag 2) has no prolog of its own: the codes are those of another part.
 abbrev pub packed_codes : ℕ → List Arm64UnwindCode
@@ -123,7 +138,19 @@ is_canonical d =
     (bits d 0 2 == 1 || bits d 0 2 == 2) && nat_le p.integers 10 && not (p.integers == 1 && p.cr == 1)
     && nat_le (p.saved_size + (if is_chained p then 16 else 0)) (16 * bits d 23 9)
 
+-- the codes that are left to be undone after a prolog with these codes
+abbrev pub left_after : ℕ → ℕ → List Arm64UnwindCode → List Arm64UnwindCode
+left_after d place codes =
+    let es = epilog_codes (packed_frame d) in
+    left_in_epilog place (epilog_start (bits d 2 11) None (prolog_length es)) es codes
+
+-- the same at a place: a fragment has no epilog of its own either
+abbrev pub packed_left : ℕ → ℕ → List Arm64UnwindCode
+packed_left d place =
+    if bits d 0 2 == 2 || nat_lt place (prolog_length (packed_codes d)) then ran_arm64 place (packed_codes d)
+    else left_after d place (packed_codes d)
+
 -- what a step returns, by packed unwind data and how many instructions before the instruction pointer the function has
 abbrev pub stepped_packed : (ℕ → Option ℕ) → ℕ → ℕ → Arm64Registers → Result Arm64Registers FrameError
 stepped_packed m d place g =
-    if is_canonical d then undone_codes m (ran_arm64 place (packed_codes d)) g >>= returned_arm64 g.sp else Err (Packed d)
+    if is_canonical d then caller_by m (packed_left d place) g else Err (Packed d)

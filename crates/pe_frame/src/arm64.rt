@@ -2,7 +2,8 @@
 //!
 //! Each unwind code stands for one instruction of a prolog, of four bytes, and the codes of a record stand the last
 //! instruction first. [Microsoft's page](https://learn.microsoft.com/cpp/build/arm64-exception-handling) has the codes. A call
-//! leaves its return address in a register, the link register x30, so that undoing a prolog leads to it without a pop.
+//! leaves its return address in a register, the link register x30, so that undoing a prolog leads to it without a pop. An epilog
+//! undoes the prolog, and has codes of its own, or the same ones.
 
 mod code_list;
 mod epilog;

@@ -5,9 +5,10 @@
 //! page](https://learn.microsoft.com/cpp/build/arm64-exception-handling#packed-unwind-data) has the table of canonical prologs,
 //! with the unwind code of each instruction. Its names stand in parentheses here.
 
-ghost use Rattle.std.specs.Prelude.{◌≡◌, ◌≤◌, ◌<◌, ◌+◌, ◌*◌, ◌/◌, [], ◌∷◌};
+ghost use Rattle.std.specs.Prelude.{◌≡◌, ◌≤◌, ◌<◌, ◌+◌, ◌*◌, ◌/◌, ◌==◌, ◌||◌, nat_lt, not, [], ◌∷◌};
+ghost use Rattle.pe_unwind.specs.Arm64Words.{bits};
 ghost use Rattle.pe_frame.specs.Arm64CodeLists.{Adds};
-ghost use Rattle.pe_frame.specs.Arm64Packed.{float_count, packed_frame, is_chained, sign_codes, integer_pair, integer_pairs, single_register, last_integers, float_pair, float_pairs, last_float, home_codes, allocation, local_codes, frame_codes, canonical_codes, packed_codes, packed_length, is_canonical};
+ghost use Rattle.pe_frame.specs.Arm64Packed.{float_count, packed_frame, is_chained, sign_codes, integer_pair, integer_pairs, single_register, last_integers, float_pair, float_pairs, last_float, home_codes, allocation, local_codes, frame_codes, point_codes, freed_codes, saved_codes, canonical_codes, epilog_codes, packed_codes, packed_length, is_canonical};
 
 use super::code_list::CodeList;
 use super::registers::LINK_REGISTER;
@@ -265,16 +266,13 @@ impl PackedFrame {
         });
     }
 
-    /// Adds the codes of the rest of the frame, with its frame chain.
+    /// Adds the codes of the rest of the frame, in which x29 and the link register are saved if it is chained.
     fn push_frame(&self, codes: &mut CodeList)
         ensures { Adds codes.old codes.new (frame_codes self.now) }
     {
         if !self.is_chained() {
             self.push_locals(codes);
-            return;
-        }
-        codes.push(Arm64UnwindCode::SetFp);
-        if self.local_size <= MOST_PREINDEXED {
+        } else if self.local_size <= MOST_PREINDEXED {
             codes.push(Arm64UnwindCode::SaveFpLrPreindexed {
                 offset_bytes: self.local_size,
             });
@@ -284,20 +282,65 @@ impl PackedFrame {
         }
     }
 
-    /// Adds the codes of the canonical prolog.
-    fn push_codes(&self, codes: &mut CodeList)
+    /// Adds the code of the frame chain.
+    fn push_point(&self, codes: &mut CodeList)
+        ensures { Adds codes.old codes.new (point_codes self.now) }
+    {
+        if self.is_chained() {
+            codes.push(Arm64UnwindCode::SetFp);
+        }
+    }
+
+    /// Adds the code that frees the bytes of x0 to x7, where no other register is saved.
+    fn push_freed(&self, codes: &mut CodeList)
+        requires few { self.now.floats ≤ 8 }
+        requires small { self.now.integer_size ≤ 128 }
+        ensures { Adds codes.old codes.new (freed_codes self.now) }
+    {
+        if self.homes && self.integer_size + self.floats == 0 {
+            codes.push(Arm64UnwindCode::AllocSmall {
+                size_bytes: self.saved_size,
+            });
+        }
+    }
+
+    /// Adds the codes of all registers that are saved below the rest of the frame.
+    fn push_saved(&self, codes: &mut CodeList)
         requires integers { self.now.integers ≤ 15 }
         requires few { self.now.floats ≤ 8 }
         requires small { self.now.integer_size ≤ 128 }
-        ensures { Adds codes.old codes.new (canonical_codes self.now) }
+        ensures { Adds codes.old codes.new (saved_codes self.now) }
     {
-        self.push_frame(codes);
-        self.push_homes(codes);
         self.push_last_float(codes);
         self.push_float_pairs(codes);
         self.push_last_integers(codes);
         self.push_integer_pairs(codes);
         self.push_signature(codes);
+    }
+
+    /// Adds the codes of the canonical prolog.
+    fn push_prolog(&self, codes: &mut CodeList)
+        requires integers { self.now.integers ≤ 15 }
+        requires few { self.now.floats ≤ 8 }
+        requires small { self.now.integer_size ≤ 128 }
+        ensures { Adds codes.old codes.new (canonical_codes self.now) }
+    {
+        self.push_point(codes);
+        self.push_frame(codes);
+        self.push_homes(codes);
+        self.push_saved(codes);
+    }
+
+    /// Adds the codes of the canonical epilog.
+    fn push_epilog(&self, codes: &mut CodeList)
+        requires integers { self.now.integers ≤ 15 }
+        requires few { self.now.floats ≤ 8 }
+        requires small { self.now.integer_size ≤ 128 }
+        ensures { Adds codes.old codes.new (epilog_codes self.now) }
+    {
+        self.push_frame(codes);
+        self.push_freed(codes);
+        self.push_saved(codes);
     }
 }
 
@@ -340,7 +383,16 @@ pub(crate) fn packed_codes(function: &Arm64RuntimeFunction) -> CodeList
     if function.flag() == ARM64_PDATA_PACKED_UNWIND_FRAGMENT {
         codes.push(Arm64UnwindCode::EndC);
     }
-    packed_frame(function).push_codes(&mut codes);
+    packed_frame(function).push_prolog(&mut codes);
+    codes
+}
+
+/// The unwind codes of the canonical epilog.
+pub(crate) fn epilog_codes(function: &Arm64RuntimeFunction) -> CodeList
+    ensures { Adds [] result (epilog_codes (packed_frame function.now.unwind_data)) }
+{
+    let mut codes = CodeList::new();
+    packed_frame(function).push_epilog(&mut codes);
     codes
 }
 
@@ -354,4 +406,11 @@ pub(crate) fn packed_length(function: &Arm64RuntimeFunction, count: usize) -> us
     } else {
         count
     }
+}
+
+/// Whether a place of a function is after its prolog, which has so many instructions. A fragment has neither prolog nor epilog.
+pub(crate) fn has_ended(function: &Arm64RuntimeFunction, length: usize, place: u32) -> bool
+    ensures { result ≡ not (bits function.now.unwind_data 0 2 == 2 || nat_lt place length) }
+{
+    function.flag() != ARM64_PDATA_PACKED_UNWIND_FRAGMENT && length <= place as usize
 }

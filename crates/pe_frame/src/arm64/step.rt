@@ -1,25 +1,26 @@
 //! One step of a stack walk on ARM64.
 
-ghost use Rattle.std.specs.Prelude.{◌≡◌, ℕ, ◌-◌, ◌/◌, true, List, Ok, Some};
+ghost use Rattle.std.specs.Prelude.{◌≡◌, ℕ, ◌-◌, ◌/◌, true, false, All, List, Ok, Some};
 ghost use Rattle.pe_unwind.specs.Arm64Record.{info_view};
 ghost use Rattle.pe_frame.specs.declared.arm64.registers.Arm64Registers.{Arm64Registers};
 ghost use Rattle.pe_unwind.specs.declared.arm64.codes.Arm64UnwindCode.{Arm64UnwindCode};
+ghost use Rattle.pe_frame.specs.Arm64Operations.{is_save_next};
 ghost use Rattle.pe_frame.specs.Arm64Undoing.{caller_by, returned_arm64, link_register, put_pc};
 ghost use Rattle.pe_frame.specs.Arm64Steps.{CodesThen, AreOver, ran_arm64, Leaves, StepsArm64};
 ghost use Rattle.pe_frame.specs.Arm64Reading.{StepsIn};
-ghost use Rattle.pe_frame.specs.Arm64Packed.{packed_codes, is_canonical, stepped_packed};
+ghost use Rattle.pe_frame.specs.Arm64Packed.{packed_left, left_after, is_canonical, stepped_packed};
 ghost use Rattle.pe_frame.specs.Arm64Frames.{Arm64Part, IsArm64Frame, effects_at};
 ghost use Rattle.pe_frame.specs.Arm64Machine.{IsArm64Caller};
 
 use super::epilog::{
     Arm64Epilog, SIZE_OF_INSTRUCTION, codes_from, epilog_after, epilog_start, is_in_epilog,
 };
-use super::packed::{is_canonical, packed_codes, packed_length};
+use super::packed::{epilog_codes, has_ended, is_canonical, packed_codes, packed_length};
 use super::record::{after_codes, prolog_length, require_codes, undo_codes, undo_each};
 use super::registers::{Arm64Registers, LINK_REGISTER};
 use crate::error::FrameError;
 use crate::memory::Memory;
-use pe_unwind::{Arm64RuntimeFunction, Arm64UnwindInfo};
+use pe_unwind::{Arm64RuntimeFunction, Arm64UnwindCode, Arm64UnwindInfo};
 
 /// The registers of the caller, from those at the function's entry, if its stack pointer is not below this one.
 fn leave(pointer: u64, entry: Arm64Registers) -> Result<Arm64Registers, FrameError>
@@ -131,6 +132,45 @@ pub fn step_arm64<M: Memory>(
     caller(info, offset / SIZE_OF_INSTRUCTION, registers, memory)
 }
 
+/// The registers of the caller, where these codes are left to be undone, none of which is `save_next`.
+fn caller_by_list<M: Memory>(
+    codes: &[Arm64UnwindCode],
+    registers: Arm64Registers,
+    memory: &M,
+) -> Result<Arm64Registers, FrameError>
+    requires { All (λ c. is_save_next c ≡ false) codes.now }
+    ensures { result ≡ caller_by (M.word memory.now) codes.now registers }
+{
+    match undo_each(codes, registers, memory) {
+        Ok(entry) => leave(registers.sp, entry),
+        Err(error) => Err(error),
+    }
+}
+
+/// The registers of the caller after the prolog of a function with packed unwind data, whose codes these are.
+fn packed_caller_after<M: Memory>(
+    function: &Arm64RuntimeFunction,
+    codes: &[Arm64UnwindCode],
+    place: u32,
+    registers: Arm64Registers,
+    memory: &M,
+) -> Result<Arm64Registers, FrameError>
+    requires canonical { is_canonical function.now.unwind_data ≡ true }
+    requires alone { All (λ c. is_save_next c ≡ false) codes.now }
+    ensures { result ≡ caller_by (M.word memory.now)
+        (left_after function.now.unwind_data place codes.now) registers }
+{
+    let list = epilog_codes(function);
+    let of_epilog = list.as_slice();
+    let count = function.function_length() / SIZE_OF_INSTRUCTION;
+    let start = epilog_start(count, None, of_epilog.len());
+    if is_in_epilog(place as usize, start, of_epilog.len()) {
+        let left = &of_epilog[(place as usize).saturating_sub(start)..];
+        return caller_by_list(left, registers, memory);
+    }
+    caller_by_list(codes, registers, memory)
+}
+
 /// The registers of the caller, where so many instructions of a function with packed unwind data are before the instruction
 /// pointer.
 fn packed_caller<M: Memory>(
@@ -147,18 +187,20 @@ fn packed_caller<M: Memory>(
     }
     let list = packed_codes(function);
     let codes = list.as_slice();
-    let left = packed_length(function, codes.len()).saturating_sub(place as usize);
-    match undo_each(&codes[left..], registers, memory) {
-        Ok(entry) => leave(registers.sp, entry),
-        Err(error) => Err(error),
+    let length = packed_length(function, codes.len());
+    if has_ended(function, length, place) {
+        return packed_caller_after(function, codes, place, registers, memory);
     }
+    let left = length.saturating_sub(place as usize);
+    caller_by_list(&codes[left..], registers, memory)
 }
 
 /// The registers of a function's caller, from those inside the function, by its packed unwind data: those of an entry of the
 /// function table whose `flag` is 1 or 2.
 ///
-/// The data stand for a canonical prolog. It is undone as [`step_arm64`] does it by a record with the codes of this prolog: after
-/// it all of them, inside of it those of the instructions before `rva`. A fragment, whose `flag` is 2, has no prolog of its own.
+/// The data stand for a canonical prolog, and the same backwards at the end of the function. They are undone as [`step_arm64`]
+/// does it by a record with the codes of these: after the prolog all of its codes, inside of it those of the instructions before
+/// `rva`, in the epilog those of its instructions that have not run. A fragment, whose `flag` is 2, has neither of its own.
 /// `rva` is the instruction pointer less the image base; how a walk looks functions up is said at `step_arm64`.
 ///
 /// Refused, in this order: `Packed` if the data have no canonical prolog, that is, a `flag` of 0 or 3, more than ten integer
@@ -172,12 +214,13 @@ pub fn step_arm64_packed<M: Memory>(
 ) -> Result<Arm64Registers, FrameError>
     ensures exact { result ≡ stepped_packed (M.word memory.now) function.now.unwind_data
         ((rva - function.now.begin_address) / 4) registers }
-    ensures undoes { (p : Arm64Part) → p.codes ≡ packed_codes function.now.unwind_data →
+    ensures undoes { (p : Arm64Part) (stand : ℕ) →
+        packed_left function.now.unwind_data ((rva - function.now.begin_address) / 4)
+        ≡ ran_arm64 stand p.codes →
         is_canonical function.now.unwind_data ≡ true →
-        IsArm64Frame p ((rva - function.now.begin_address) / 4) (M.word memory.now) registers →
+        IsArm64Frame p stand (M.word memory.now) registers →
         (u : Arm64Registers) × (result ≡ Ok u)
-        × IsArm64Caller (effects_at ((rva - function.now.begin_address) / 4) p)
-        p.entry registers u }
+        × IsArm64Caller (effects_at stand p) p.entry registers u }
 {
     let offset = rva.saturating_sub(function.begin_address);
     packed_caller(function, offset / SIZE_OF_INSTRUCTION, registers, memory)

@@ -1,6 +1,6 @@
 //! Laws of steps on ARM64.
 
-ghost use Rattle.std.specs.Prelude.{◌≡◌, ℕ, ◌+◌, ◌-◌, ◌<◌, ◌≤◌, ◌⊎◌, All, true, List, drop, Option, Some, None, Result, Ok};
+ghost use Rattle.std.specs.Prelude.{◌≡◌, ℕ, ◌+◌, ◌-◌, ◌<◌, ◌≤◌, ◌⊎◌, All, true, List, take, drop, Option, Some, None, Result, Ok};
 ghost use Rattle.pe_core.specs.Traits.{IsEquality};
 ghost use Rattle.pe_unwind.specs.Arm64Record.{Arm64InfoView};
 ghost use Rattle.pe_unwind.specs.Arm64Words.{bits};
@@ -10,7 +10,9 @@ ghost use Rattle.pe_frame.specs.declared.arm64.registers.Arm64Registers.{Arm64Re
 ghost use Rattle.pe_frame.specs.declared.error.FrameError.{FrameError};
 ghost use Rattle.pe_frame.specs.Steps.{by_kind};
 ghost use Rattle.pe_frame.specs.Arm64Steps.{CodesThen, AreOver, prolog_length, ran_arm64, epilog_at, epilog_start, Leaves, StepsArm64};
-ghost use Rattle.pe_frame.specs.Arm64Packed.{packed_codes, is_canonical, stepped_packed};
+ghost use Rattle.pe_frame.specs.Arm64Packed.{packed_frame, packed_codes, epilog_codes, packed_left, is_canonical, stepped_packed};
+ghost use Rattle.pe_frame.specs.Arm64Operations.{all_effects};
+ghost use Rattle.pe_frame.specs.Arm64Undoing.{reverted_all};
 ghost use Rattle.pe_frame.specs.Arm64Machine.{IsArm64Caller};
 ghost use Rattle.pe_frame.specs.Arm64Frames.{Arm64Part, effects_at, IsArm64Frame};
 ghost use Rattle.pe_frame.specs.Arm64Samples.{chained_part, chained_bytes, signed_part, signed_bytes, packed_part, packed_data, stopped, arm64_registers_of, all_known_arm64};
@@ -41,6 +43,19 @@ pub fn arm64_prologs_are_undone()
         (u : Arm64Registers) × (x ≡ Ok u) × IsArm64Caller (effects_at stand p) p.entry g u }
 {}
 
+/// From each instruction of an epilog a step returns the caller that it returns from the epilog's start: there the whole prolog
+/// stands, and the body may have changed registers and memory. `run` instructions of the epilog have restored what they say.
+pub fn arm64_epilogs_return_to_the_caller()
+    ensures { (m : ℕ → Option ℕ) (i : Arm64InfoView) (p : Arm64Part) (place run : ℕ)
+        (g now : Arm64Registers) (x : Result Arm64Registers FrameError) →
+        Leaves i place (Ok (drop run p.codes)) →
+        IsArm64Frame p (prolog_length p.codes) m g →
+        reverted_all m (all_effects (take run p.operations)) g ≡ Ok now →
+        StepsArm64 m i place now x →
+        (u : Arm64Registers) × (x ≡ Ok u)
+        × IsArm64Caller (effects_at (prolog_length p.codes) p) p.entry g u }
+{}
+
 /// What a record leaves to be undone: in the prolog the codes of the instructions that have run, in an epilog and at its return
 /// those of the epilog that have not, and else all codes of the prolog.
 pub fn arm64_places_leave_their_codes()
@@ -66,11 +81,26 @@ pub fn arm64_places_leave_their_codes()
         Leaves i place (Ok (ran_arm64 place cs)) }
 {}
 
-/// A step by packed unwind data is one by a record that has the codes of their canonical prolog.
+/// What packed unwind data leave to be undone: in the prolog the codes of the instructions that have run, in the epilog of a
+/// function and at its return those of the epilog that have not.
+pub fn packed_places_leave_their_codes()
+    ensures prolog { (d place : ℕ) → place < prolog_length (packed_codes d) →
+        packed_left d place ≡ ran_arm64 place (packed_codes d) }
+    ensures epilog { (d place run : ℕ) →
+        bits d 0 2 ≡ 1 → prolog_length (packed_codes d) ≤ place →
+        place ≡ epilog_start (bits d 2 11) None
+        (prolog_length (epilog_codes (packed_frame d))) + run →
+        run ≤ prolog_length (epilog_codes (packed_frame d)) →
+        packed_left d place ≡ ran_arm64
+        (prolog_length (epilog_codes (packed_frame d)) - run)
+        (epilog_codes (packed_frame d)) }
+{}
+
+/// A step by packed unwind data is one by a record that leaves the codes of their canonical prolog or epilog.
 pub fn packed_entries_are_their_codes()
     ensures { (m : ℕ → Option ℕ) (d : ℕ) (i : Arm64InfoView) (place : ℕ)
         (g : Arm64Registers) (x : Result Arm64Registers FrameError) →
-        is_canonical d ≡ true → Leaves i place (Ok (ran_arm64 place (packed_codes d))) →
+        is_canonical d ≡ true → Leaves i place (Ok (packed_left d place)) →
         StepsArm64 m i place g x → stepped_packed m d place g ≡ x }
 {}
 

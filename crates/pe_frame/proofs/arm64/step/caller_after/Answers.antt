@@ -1,7 +1,6 @@
 use Rattle.std.proofs.Common.{◌≡◌, ◌-◌, ◌∙◌, ℕ, List, drop, ap, sym, subst, arith}
 use Rattle.pe_unwind.specs.declared.arm64.codes.Arm64UnwindCode.{Arm64UnwindCode}
 use Rattle.pe_unwind.specs.Arm64Record.{info_view}
-use Rattle.pe_unwind.specs.Arm64Words.{bits}
 use Rattle.pe_frame.specs.Arm64Undoing.{caller_by}
 use Rattle.pe_frame.specs.Arm64Steps.{CodesThen, AreOver}
 use Rattle.pe_frame.proofs.Arm64Places.{read_codes, left_yes, left_no, step_in}

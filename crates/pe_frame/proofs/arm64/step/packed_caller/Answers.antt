@@ -1,40 +1,54 @@
-use Rattle.std.proofs.Common.{◌≡◌, ◌≤◌, ℕ, [], List, length, Result, Ok, Err, sym, ap, ◌∙◌, true, subst}
+use Rattle.std.proofs.Common.{◌≡◌, ◌≤◌, ◌||◌, ◌==◌, nat_lt, ℕ, [], List, length, true, sym, ap, ◌∙◌, subst}
 use Rattle.pe_unwind.specs.declared.arm64.codes.Arm64UnwindCode.{Arm64UnwindCode}
-use Rattle.pe_frame.specs.declared.arm64.registers.Arm64Registers.{Arm64Registers}
-use Rattle.pe_frame.specs.declared.error.FrameError.{FrameError}
-use Rattle.pe_frame.specs.Undoing.{◌>>=◌}
-use Rattle.pe_frame.specs.Arm64Undoing.{returned_arm64}
+use Rattle.pe_unwind.specs.Arm64Words.{bits}
+use Rattle.pe_frame.specs.Arm64Undoing.{caller_by}
 use Rattle.pe_frame.specs.Arm64CodeLists.{Adds}
-use Rattle.pe_frame.specs.Arm64Packed.{packed_codes, packed_length, is_canonical}
-use Rattle.pe_frame.proofs.Arm64Packed.{packed_whole, packed_result, rest_alone}
+use Rattle.pe_frame.specs.Arm64Packed.{packed_codes, is_canonical}
+use Rattle.pe_frame.proofs.Arm64Packed.{packed_whole, packed_alone, whole_alone, rest_alone, left_before, left_later, canonical_step, not_true, not_false}
 use Rattle.pe_frame.proofs.arm64.step.packed_caller.Goals as goal
 
 -- the slice has all codes
 whole : (d : ℕ) (xs list : List Arm64UnwindCode) → is_canonical d ≡ true → length xs ≤ 24 → xs ≡ list → Adds [] list (packed_codes d) → xs ≡ packed_codes d
 whole d xs list canonical few is adds = packed_whole d xs canonical few (subst (λ (ys : List Arm64UnwindCode). Adds [] ys (packed_codes d)) (sym is) adds)
 
-pub undo_each-requires : goal.undo_each-requires
-undo_each-requires g c =
+pub packed_caller_after-requires : goal.packed_caller_after-requires
+packed_caller_after-requires g c =
     let d = (c.args.function.now).unwind_data in
     let canonical : is_canonical d ≡ true = sym c.if-not-is_canonical.ensures in
-    rest_alone d c.saturating_sub-left.result c.as_slice-codes.result.now canonical
-    (whole d c.as_slice-codes.result.now c.packed_codes-list.result canonical c.as_slice-codes.ensures.few c.as_slice-codes.ensures.value c.packed_codes-list.ensures)
+    record {
+      canonical = canonical;
+      alone = whole_alone d c.as_slice-codes.result.now canonical
+          (whole d c.as_slice-codes.result.now c.packed_codes-list.result canonical c.as_slice-codes.ensures.few c.as_slice-codes.ensures.value c.packed_codes-list.ensures);
+    }
 
-pub returns-in-Ok : goal.returns-in-Ok
-returns-in-Ok g c =
+pub returns-then-has_ended : goal.returns-then-has_ended
+returns-then-has_ended g c =
     let d = (c.args.function.now).unwind_data in
     let canonical : is_canonical d ≡ true = sym c.if-not-is_canonical.ensures in
-    c.leave.ensures
-    ∙ (ap (λ (x : Result Arm64Registers FrameError). x >>= returned_arm64 c.args.registers.sp) (sym c.in-Ok.is)
-    ∙ packed_result (g.M.Memory.word c.args.memory.now) d c.args.place c.packed_length.result c.saturating_sub-left.result c.args.registers c.as_slice-codes.result.now c.undo_each.result canonical
+    let m = g.M.Memory.word c.args.memory.now in
+    c.packed_caller_after.ensures
+    ∙ (ap (λ (cs : List Arm64UnwindCode). caller_by m cs c.args.registers)
+    (left_later d c.args.place c.packed_length-length.result c.as_slice-codes.result.now canonical
     (whole d c.as_slice-codes.result.now c.packed_codes-list.result canonical c.as_slice-codes.ensures.few c.as_slice-codes.ensures.value c.packed_codes-list.ensures)
-    c.packed_length.ensures.value c.saturating_sub-left.ensures c.undo_each.ensures)
+    c.packed_length-length.ensures.value (not_true (bits d 0 2 == 2 || nat_lt c.args.place c.packed_length-length.result) c.if-has_ended.ensures))
+    ∙ sym (canonical_step m d c.args.place c.args.registers canonical))
 
-pub returns-in-Err : goal.returns-in-Err
-returns-in-Err g c =
+pub caller_by_list-requires : goal.caller_by_list-requires
+caller_by_list-requires g c =
     let d = (c.args.function.now).unwind_data in
     let canonical : is_canonical d ≡ true = sym c.if-not-is_canonical.ensures in
-    ap (λ (x : Result Arm64Registers FrameError). x >>= returned_arm64 c.args.registers.sp) (sym c.in-Err.is)
-    ∙ packed_result (g.M.Memory.word c.args.memory.now) d c.args.place c.packed_length.result c.saturating_sub-left.result c.args.registers c.as_slice-codes.result.now c.undo_each.result canonical
+    rest_alone c.saturating_sub-left.result c.as_slice-codes.result.now (packed_codes d)
     (whole d c.as_slice-codes.result.now c.packed_codes-list.result canonical c.as_slice-codes.ensures.few c.as_slice-codes.ensures.value c.packed_codes-list.ensures)
-    c.packed_length.ensures.value c.saturating_sub-left.ensures c.undo_each.ensures
+    (packed_alone d canonical)
+
+pub returns : goal.returns
+returns g c =
+    let d = (c.args.function.now).unwind_data in
+    let canonical : is_canonical d ≡ true = sym c.if-not-is_canonical.ensures in
+    let m = g.M.Memory.word c.args.memory.now in
+    c.caller_by_list.ensures
+    ∙ (ap (λ (cs : List Arm64UnwindCode). caller_by m cs c.args.registers)
+    (left_before d c.args.place c.packed_length-length.result c.saturating_sub-left.result c.as_slice-codes.result.now canonical
+    (whole d c.as_slice-codes.result.now c.packed_codes-list.result canonical c.as_slice-codes.ensures.few c.as_slice-codes.ensures.value c.packed_codes-list.ensures)
+    c.packed_length-length.ensures.value c.saturating_sub-left.ensures (not_false (bits d 0 2 == 2 || nat_lt c.args.place c.packed_length-length.result) c.if-has_ended.ensures))
+    ∙ sym (canonical_step m d c.args.place c.args.registers canonical))

@@ -4,6 +4,6 @@ use Rattle.pe_frame.proofs.Arm64Frames.{packed_caller}
 use Rattle.pe_frame.proofs.arm64.step.step_arm64_packed.Goals as goal
 
 pub returns-clause-undoes : goal.returns-clause-undoes
-returns-clause-undoes g c p are canonical frame =
-    packed_caller (g.M.Memory.word c.args.memory.now) (c.args.function.now).unwind_data p _ c.args.registers c.packed_caller.result are canonical frame
+returns-clause-undoes g c p stand left canonical frame =
+    packed_caller (g.M.Memory.word c.args.memory.now) (c.args.function.now).unwind_data p _ stand c.args.registers c.packed_caller.result left canonical frame
     (subst (λ (n : ℕ). c.packed_caller.result ≡ stepped_packed (g.M.Memory.word c.args.memory.now) (c.args.function.now).unwind_data (n / 4) c.args.registers) c.saturating_sub-offset.ensures c.packed_caller.ensures)

@@ -1,4 +1,4 @@
-use Rattle.std.proofs.Common.{◌≡◌, ℕ, ◌+◌, ◌/◌, ◌≤◌, List, ◌++◌}
+use Rattle.std.proofs.Common.{◌≡◌, ◌/◌, ◌≤◌, List, ◌++◌}
 use Rattle.pe_unwind.specs.declared.arm64.codes.Arm64UnwindCode.{Arm64UnwindCode}
 use Rattle.pe_frame.specs.Arm64CodeLists.{extended}
 use Rattle.pe_frame.specs.Arm64Packed.{integer_pairs}
