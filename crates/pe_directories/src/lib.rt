@@ -6,12 +6,14 @@
 
 mod base_relocation;
 mod clr;
+mod delay_import;
 mod directories;
 mod error;
 mod image_bytes;
 pub mod laws;
 mod load_config;
 mod tls;
+mod va_table;
 
 pub use base_relocation::{
     BaseRelocation, BaseRelocations, IMAGE_REL_BASED_ABSOLUTE, IMAGE_REL_BASED_DIR64,
@@ -19,8 +21,10 @@ pub use base_relocation::{
     RelocationBlock, RelocationBlocks,
 };
 pub use clr::{ClrHeader, ClrMetadata, ClrStream, ClrStreams};
+pub use delay_import::{DelayImport, DelayImports, DelayedFunction};
 pub use directories::{ChosenDirectories, Directories};
 pub use error::DirectoryError;
 pub use image_bytes::ImageBytes;
 pub use load_config::LoadConfig;
-pub use tls::{TlsCallbacks, TlsDirectory};
+pub use tls::TlsDirectory;
+pub use va_table::VaTable;
