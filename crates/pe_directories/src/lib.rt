@@ -1,4 +1,9 @@
-//! The directories of an image that `PE::parse` leaves as bytes, or does not read: base relocations.
+//! The directories of an image that `PE::parse` of pe_image leaves as bytes, or does not read: base relocations, TLS, the load
+//! configuration, delay imports, the CLR header.
+//!
+//! A caller makes an `ImageBytes` of the headers, and reads directories one by one, or those that it chooses by
+//! `Directories::parse`. No call allocates: what an entry leads to is read by a walk, or a call of its own.
+//!
 //! Layouts are those of Microsoft's [PE format](https://learn.microsoft.com/windows/win32/debug/pe-format).
 //!
 //! Every call is proved to return what its definition in `specs/` says, for every byte string.
