@@ -1,15 +1,33 @@
--- After a callback fewer bytes are left, and after a stream fewer streams.
-use Rattle.std.proofs.Common.{◌≡◌, ℕ, ◌-◌, ◌<◌, ◌==◌, if◌then◌else◌, Bool, true, false, List, length, Some, None, Result, Ok, Err, length-drop, refl, ap, sym, arith}
+-- After a number or a delay import fewer bytes are left, and after a stream fewer streams.
+use Rattle.std.proofs.Common.{◌≡◌, ℕ, ◌-◌, ◌<◌, ◌≤◌, ◌==◌, if◌then◌else◌, Bool, true, false, List, [], ◌∷◌, length, drop, Some, None, Result, Ok, Err, length-drop, refl, ap, sym, arith}
 use Rattle.std.proofs.lemmas.Bool.Decides.{nat_tests}
-use Rattle.pe_core.specs.Refusals.{◌>>=◌}
+use Rattle.pe_core.specs.Bytes.{holds}
+use Rattle.pe_core.specs.Refusals.{Short, outcome, ◌>>=◌}
 use Rattle.pe_directories.specs.Clr.{Stream, stream_of, first_stream}
-use Rattle.pe_directories.specs.DirectoryRefusals.{DirectoryRefusal}
-use Rattle.pe_directories.specs.Tls.{first_callback}
+use Rattle.pe_directories.specs.DelayImports.{first_delay_import, delay_imports_end, delay_import_at}
+use Rattle.pe_directories.specs.declared.delay_import.DelayImport.{DelayImport}
+use Rattle.pe_directories.specs.DirectoryRefusals.{DirectoryRefusal, Image}
+use Rattle.pe_directories.specs.VaTables.{first_va}
 
-pub callback_shrinks : (is_64 : Bool) (b : List ℕ) (x : ℕ) (t : List ℕ) → first_callback is_64 b ≡ Some (Ok (x, t)) → length t < length b
-unfolding first_callback
-callback_shrinks true b x t h = grind (arith, nat_tests, length-drop, h)
-callback_shrinks false b x t h = grind (arith, nat_tests, length-drop, h)
+pub va_shrinks : (is_64 : Bool) (b : List ℕ) (x : ℕ) (t : List ℕ) → first_va is_64 b ≡ Some (Ok (x, t)) → length t < length b
+unfolding first_va
+va_shrinks true b x t h = grind (arith, nat_tests, length-drop, h)
+va_shrinks false b x t h = grind (arith, nat_tests, length-drop, h)
+
+shorter : (b : List ℕ) (n : ℕ) (t : List ℕ) → 0 < n → n ≤ length b → drop n b ≡ t → length t < length b
+shorter b n t some room e = omega (arith, ap length e, length-drop n b)
+
+fewer_by : (b : List ℕ) (n : ℕ) (ends there : Bool) (v x : DelayImport) (t : List ℕ) → 0 < n → holds b 0 n ≡ there → (if ends then None else Some (outcome {Y = DelayImport × List ℕ} ((there, Image Short) ∷ []) (v, drop n b))) ≡ Some (Ok (x, t)) → length t < length b
+fewer_by b n true there v x t some e h = absurd (cc (h))
+fewer_by b n false false v x t some e h = absurd (cc (h))
+fewer_by b n false true v x t some e h =
+    let room : n ≤ length b = grind (arith, nat_tests, e) in
+    let pair : (v, drop n b) ≡ (x, t) = cc (h) in
+    shorter b n t some room (ap (λ (p : DelayImport × List ℕ). p.1) pair)
+
+pub delay_import_shrinks : (b : List ℕ) (x : DelayImport) (t : List ℕ) → first_delay_import b ≡ Some (Ok (x, t)) → length t < length b
+unfolding first_delay_import
+delay_import_shrinks b x t h = fewer_by b 32 (delay_imports_end b) (holds b 0 32) (delay_import_at b) x t (omega arith) refl h
 
 abbrev pub count_of : ℕ × List ℕ → ℕ
 count_of s = s.0

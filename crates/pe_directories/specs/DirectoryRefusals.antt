@@ -13,6 +13,7 @@ pub data DirectoryRefusal : Type 0 where
   VaBelowBase : DirectoryRefusal
   ClrHeaderSize : DirectoryRefusal
   StreamName : DirectoryRefusal
+  DelayImportName : DirectoryRefusal
 
 -- the kind of an error
 abbrev pub directory_kind_of : DirectoryError → DirectoryRefusal
@@ -23,6 +24,7 @@ directory_kind_of (errors.NoArgument rva) = NoArgument
 directory_kind_of (errors.VaBelowBase va) = VaBelowBase
 directory_kind_of (errors.ClrHeaderSize size) = ClrHeaderSize
 directory_kind_of errors.StreamName = StreamName
+directory_kind_of (errors.DelayImportName address) = DelayImportName
 
 -- the call returned the defined value, seen by view, or an error of the defined kind
 abbrev pub DirectoryReturns : {X Y : Type 0} → (X → Y) → Result X DirectoryError → Result Y DirectoryRefusal → Type 0

@@ -2,7 +2,9 @@ pub mod DirectoryRefusals
 pub mod Walks
 pub mod ImageParts
 pub mod BaseRelocations
+pub mod VaTables
 pub mod Tls
+pub mod DelayImports
 pub mod Clr
 pub mod LoadConfig
 pub mod Chosen

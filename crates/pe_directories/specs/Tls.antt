@@ -1,15 +1,12 @@
 -- The TLS directory, and its callbacks. (PE format: .tls section.)
-use Rattle.std.specs.Prelude.{ℕ, ◌+◌, ◌-◌, ◌/◌, ◌%◌, ◌^◌, ◌==◌, ◌||◌, List, drop, Bool, Option, Some, None, Result, Ok, Err, if◌then◌else◌}
-use Rattle.std.specs.Option.{option_map}
-use Rattle.pe_core.specs.Bytes.{le, holds}
-use Rattle.pe_core.specs.Refusals.{Short, ◌>>=◌}
+use Rattle.std.specs.Prelude.{ℕ, ◌+◌, ◌-◌, ◌/◌, ◌%◌, ◌^◌, ◌==◌, ◌||◌, List, Option, Some, None, Result, Ok, if◌then◌else◌}
+use Rattle.pe_core.specs.Bytes.{le}
+use Rattle.pe_core.specs.Refusals.{◌>>=◌}
 use Rattle.pe_core.specs.declared.data_directories.DataDirectory.{DataDirectory}
-use Rattle.pe_directories.specs.DirectoryRefusals.{DirectoryRefusal, Image}
-use Rattle.pe_directories.specs.ImageParts.{record_of, table_at_va, size_of_va}
-use Rattle.pe_directories.specs.Walks.{First}
+use Rattle.pe_directories.specs.DirectoryRefusals.{DirectoryRefusal}
+use Rattle.pe_directories.specs.ImageParts.{record_of, table_at_va}
 use Rattle.pe_directories.specs.declared.image_bytes.ImageBytes.{ImageBytes}
 use Rattle.pe_directories.specs.declared.tls.TlsDirectory.{TlsDirectory}
-use Rattle.pe_directories.specs.declared.tls.TlsCallbacks.{TlsCallbacks}
 
 -- the TLS directory of PE32, 24 bytes
 unfoldable pub tls_32 : List ℕ → ℕ → TlsDirectory
@@ -45,23 +42,8 @@ alignment_of characteristics =
     let n : ℕ = characteristics / 2 ^ 20 % 16 in
     if n == 0 || n == 15 then None else Some (2 ^ (n - 1))
 
--- the callback that stands first in a table of virtual addresses, which ends with a zero
-unfoldable pub first_callback : Bool → List ℕ → First ℕ (List ℕ)
-first_callback is_64 b =
-    if holds b 0 (size_of_va is_64)
-    then (if le b 0 (size_of_va is_64) == 0 then None
-    else Some (Ok (le b 0 (size_of_va is_64), drop (size_of_va is_64) b)))
-    else Some (Err (Image Short))
-
 -- the table of callbacks of a TLS directory; without an address there is none
 unfoldable pub callback_table : ImageBytes → TlsDirectory → Result (Option (List ℕ)) DirectoryRefusal
 callback_table i t =
     if t.address_of_callbacks == 0 then Ok None
     else (table_at_va i t.address_of_callbacks >>= λ table. Ok (Some table))
-
--- the bytes that a walk has left, and whether its addresses are of 8 bytes
-abbrev pub callbacks_left : TlsCallbacks → Option (List ℕ)
-callbacks_left s = option_map (λ b. b.now) s.left
-
-abbrev pub callbacks_are_64 : TlsCallbacks → Bool
-callbacks_are_64 s = s.is_64

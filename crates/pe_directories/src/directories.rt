@@ -6,11 +6,13 @@ ghost use Rattle.pe_core.specs.Directories.{kept_rows, present};
 ghost use Rattle.pe_directories.specs.BaseRelocations.{blocks_left, relocation_table};
 ghost use Rattle.pe_directories.specs.Chosen.{AreDirectories, FieldIs, of_directory};
 ghost use Rattle.pe_directories.specs.Clr.{clr_header};
+ghost use Rattle.pe_directories.specs.DelayImports.{delay_imports_left, delay_import_table};
 ghost use Rattle.pe_directories.specs.LoadConfig.{load_config};
 ghost use Rattle.pe_directories.specs.Tls.{tls_directory};
 
 use crate::base_relocation::RelocationBlocks;
 use crate::clr::ClrHeader;
+use crate::delay_import::DelayImports;
 use crate::error::Result;
 use crate::image_bytes::ImageBytes;
 use crate::load_config::LoadConfig;
@@ -26,6 +28,8 @@ pub struct ChosenDirectories {
     pub tls: bool,
     /// The load configuration, directory 10.
     pub load_config: bool,
+    /// Delay imports, directory 13.
+    pub delay_imports: bool,
     /// The CLR header, directory 14.
     pub clr_header: bool,
 }
@@ -37,6 +41,7 @@ impl ChosenDirectories {
           base_relocations = true;
           tls = true;
           load_config = true;
+          delay_imports = true;
           clr_header = true;
         } }
     {
@@ -44,6 +49,7 @@ impl ChosenDirectories {
             base_relocations: true,
             tls: true,
             load_config: true,
+            delay_imports: true,
             clr_header: true,
         }
     }
@@ -59,6 +65,8 @@ pub struct Directories<'a> {
     pub tls: Option<Result<TlsDirectory>>,
     /// The load configuration.
     pub load_config: Option<Result<LoadConfig>>,
+    /// Delay imports: the error of the directory alone, not those of its entries.
+    pub delay_imports: Option<Result<DelayImports<'a>>>,
     /// The CLR header.
     pub clr_header: Option<Result<ClrHeader>>,
 }
@@ -76,6 +84,7 @@ impl<'a> Directories<'a> {
             base_relocations: base_relocations(image, entries, chosen),
             tls: tls(image, entries, chosen),
             load_config: load_config(image, entries, chosen),
+            delay_imports: delay_imports(image, entries, chosen),
             clr_header: clr_header(image, entries, chosen),
         }
     }
@@ -127,6 +136,22 @@ fn load_config(
     }
     let directory = entries.get_load_config_table()?;
     Some(LoadConfig::parse(image, directory))
+}
+
+/// The delay imports, if they are chosen and present.
+fn delay_imports<'a>(
+    image: &ImageBytes<'a>,
+    entries: &DataDirectories,
+    chosen: ChosenDirectories,
+) -> Option<Result<DelayImports<'a>>>
+    ensures { FieldIs delay_imports_left result (of_directory chosen.delay_imports
+        (present (kept_rows entries.now) 13) (delay_import_table image.now)) }
+{
+    if !chosen.delay_imports {
+        return None;
+    }
+    let directory = entries.get_delay_import_descriptor()?;
+    Some(DelayImports::parse(image, directory))
 }
 
 /// The CLR header, if it is chosen and present.

@@ -29,6 +29,9 @@ pub enum DirectoryError {
     /// The name of a stream of CLR metadata does not end in the 32 bytes that it may have.
     #[error("name of a metadata stream is not NUL-terminated in 32 bytes")]
     StreamName,
+    /// The offset of the name of a delay-loaded DLL or function, which is not NUL-terminated or not UTF-8.
+    #[error("name of a delay import at offset {0:#x} is not NUL-terminated or not UTF-8")]
+    DelayImportName(usize),
 }
 
 // So that `?` returns an error of pe_core as `Image`.

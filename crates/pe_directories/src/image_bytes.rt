@@ -1,7 +1,7 @@
 //! What the readers of directories need of an image: its bytes, its section map, and how wide its virtual addresses are.
 //! Directories name parts of the image by RVAs, and by virtual addresses, which count from the image base.
 
-ghost use Rattle.std.specs.Prelude.{◌≡◌};
+ghost use Rattle.std.specs.Prelude.{◌≡◌, drop};
 ghost use Rattle.pe_core.specs.Header.{optional_header_view};
 ghost use Rattle.pe_directories.specs.DirectoryRefusals.{DirectoryReturns};
 ghost use Rattle.pe_directories.specs.ImageParts.{IsImage, offset_of_rva, offset_of_va, table_at_va, record_of, table_of, size_of_va};
@@ -92,17 +92,24 @@ impl<'a> ImageBytes<'a> {
         }
     }
 
-    /// The bytes from a virtual address on, none past the end of the bytes. Errors: those of `offset_of_va`.
+    /// The bytes from an offset on, none past their end.
     #[tactic(auto, using(std::proofs::lemmas::List::drop_all))]
+    pub(crate) fn from_offset(&self, offset: usize) -> &'a [u8]
+        ensures { result.now ≡ drop offset self.now.bytes.now }
+    {
+        if offset <= self.bytes.len() {
+            &self.bytes[offset..]
+        } else {
+            &[]
+        }
+    }
+
+    /// The bytes from a virtual address on, none past their end. Errors: those of `offset_of_va`.
     pub(crate) fn table_at_va(&self, va: u64) -> Result<&'a [u8]>
         ensures { DirectoryReturns (λ s. s.now) result (table_at_va self.now va) }
     {
         let offset = self.offset_of_va(va)?;
-        if offset <= self.bytes.len() {
-            Ok(&self.bytes[offset..])
-        } else {
-            Ok(&[])
-        }
+        Ok(self.from_offset(offset))
     }
 }
 

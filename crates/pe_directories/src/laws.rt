@@ -6,19 +6,23 @@ ghost use Rattle.pe_directories.specs.DirectoryRefusals.{directory_answer};
 ghost use Rattle.pe_directories.specs.Walks.{HasOneList, ItemsLeft};
 ghost use Rattle.pe_directories.specs.BaseRelocations.{block_view, first_block, blocks_left, first_relocation, relocations_left, page_of};
 ghost use Rattle.pe_directories.specs.Clr.{stream_view, first_stream, streams_left};
-ghost use Rattle.pe_directories.specs.Tls.{first_callback, callbacks_left, callbacks_are_64};
+ghost use Rattle.pe_directories.specs.DelayImports.{first_delay_import, delay_imports_left};
+ghost use Rattle.pe_directories.specs.VaTables.{first_va, vas_left, vas_are_64};
 ghost use Rattle.pe_directories.specs.declared.base_relocation.RelocationBlock.{RelocationBlock};
 ghost use Rattle.pe_directories.specs.declared.base_relocation.RelocationBlocks.{RelocationBlocks};
 ghost use Rattle.pe_directories.specs.declared.base_relocation.BaseRelocation.{BaseRelocation};
 ghost use Rattle.pe_directories.specs.declared.base_relocation.BaseRelocations.{BaseRelocations};
 ghost use Rattle.pe_directories.specs.declared.clr.ClrStream.{ClrStream};
 ghost use Rattle.pe_directories.specs.declared.clr.ClrStreams.{ClrStreams};
-ghost use Rattle.pe_directories.specs.declared.tls.TlsCallbacks.{TlsCallbacks};
+ghost use Rattle.pe_directories.specs.declared.delay_import.DelayImport.{DelayImport};
+ghost use Rattle.pe_directories.specs.declared.delay_import.DelayImports.{DelayImports};
+ghost use Rattle.pe_directories.specs.declared.va_table.VaTable.{VaTable};
 ghost use Rattle.pe_directories.specs.declared.error.DirectoryError.{DirectoryError};
 
 use crate::base_relocation::{BaseRelocations, RelocationBlocks};
 use crate::clr::ClrStreams;
-use crate::tls::TlsCallbacks;
+use crate::delay_import::DelayImports;
+use crate::va_table::VaTable;
 
 /// The items of a walk through base relocations are the blocks of its bytes, and the relocations of a block's entries.
 /// Every byte string has one list of either.
@@ -34,14 +38,14 @@ pub fn relocation_walks_return_the_list()
     ensures relocation { (page : ℕ) → HasOneList (first_relocation page) }
 {}
 
-/// The items of a walk through TLS callbacks are the virtual addresses of its bytes up to the first zero. Every byte string
-/// has one list of them.
-pub fn callback_walks_return_the_list()
-    ensures callbacks { (s : TlsCallbacks) (xs : List (Result ℕ DirectoryError)) →
-        Drains ⟦<TlsCallbacks<'static> as Iterator>⟧.next_gives s xs →
-        ItemsLeft (first_callback (callbacks_are_64 s)) (callbacks_left s)
+/// The items of a walk through TLS callbacks, or through what is imported of a DLL, are the numbers of its bytes up to the
+/// first zero. Every byte string has one list of them.
+pub fn va_tables_return_the_list()
+    ensures numbers { (s : VaTable) (xs : List (Result ℕ DirectoryError)) →
+        Drains ⟦<VaTable<'static> as Iterator>⟧.next_gives s xs →
+        ItemsLeft (first_va (vas_are_64 s)) (vas_left s)
         (map (directory_answer (λ x. x)) xs) }
-    ensures list { (is_64 : Bool) → HasOneList (first_callback is_64) }
+    ensures list { (is_64 : Bool) → HasOneList (first_va is_64) }
 {}
 
 /// The items of a walk through metadata streams are those of its headers, as many as are counted. Every byte string has one
@@ -51,4 +55,13 @@ pub fn stream_walks_return_the_list()
         Drains ⟦<ClrStreams<'static> as Iterator>⟧.next_gives s xs →
         ItemsLeft first_stream (streams_left s) (map (directory_answer stream_view) xs) }
     ensures list { HasOneList first_stream }
+{}
+
+/// The items of a walk through delay imports are the entries of its bytes up to one without a name. Every byte string has one
+/// list of them.
+pub fn delay_import_walks_return_the_list()
+    ensures entries { (s : DelayImports) (xs : List (Result DelayImport DirectoryError)) →
+        Drains ⟦<DelayImports<'static> as Iterator>⟧.next_gives s xs →
+        ItemsLeft first_delay_import (delay_imports_left s) (map (directory_answer (λ x. x)) xs) }
+    ensures list { HasOneList first_delay_import }
 {}

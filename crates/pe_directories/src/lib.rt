@@ -1,4 +1,9 @@
-//! The directories of an image that `PE::parse` leaves as bytes, or does not read: base relocations.
+//! The directories of an image that `PE::parse` of pe_image leaves as bytes, or does not read: base relocations, TLS, the load
+//! configuration, delay imports, the CLR header.
+//!
+//! A caller makes an `ImageBytes` of the headers, and reads directories one by one, or those that it chooses by
+//! `Directories::parse`. No call allocates: what an entry leads to is read by a walk, or a call of its own.
+//!
 //! Layouts are those of Microsoft's [PE format](https://learn.microsoft.com/windows/win32/debug/pe-format).
 //!
 //! Every call is proved to return what its definition in `specs/` says, for every byte string.
@@ -6,12 +11,14 @@
 
 mod base_relocation;
 mod clr;
+mod delay_import;
 mod directories;
 mod error;
 mod image_bytes;
 pub mod laws;
 mod load_config;
 mod tls;
+mod va_table;
 
 pub use base_relocation::{
     BaseRelocation, BaseRelocations, IMAGE_REL_BASED_ABSOLUTE, IMAGE_REL_BASED_DIR64,
@@ -19,8 +26,10 @@ pub use base_relocation::{
     RelocationBlock, RelocationBlocks,
 };
 pub use clr::{ClrHeader, ClrMetadata, ClrStream, ClrStreams};
+pub use delay_import::{DelayImport, DelayImports, DelayedFunction};
 pub use directories::{ChosenDirectories, Directories};
 pub use error::DirectoryError;
 pub use image_bytes::ImageBytes;
 pub use load_config::LoadConfig;
-pub use tls::{TlsCallbacks, TlsDirectory};
+pub use tls::TlsDirectory;
+pub use va_table::VaTable;

@@ -4,14 +4,14 @@
 //! addresses in it are virtual addresses. A debugger or a scanner walks through the callbacks.
 
 ghost use Rattle.std.specs.Prelude.{◌≡◌, ◌+◌, ◌≤◌, length, IfOk};
-ghost use Rattle.std.specs.Iterator.{at_most};
 ghost use Rattle.pe_directories.specs.DirectoryRefusals.{DirectoryReturns};
-ghost use Rattle.pe_directories.specs.Walks.{ReturnsFirst, LeavesFewer, Steps, most_left};
-ghost use Rattle.pe_directories.specs.Tls.{tls_32, tls_64, tls_directory, alignment_of, first_callback, callback_table, callbacks_left, callbacks_are_64};
+ghost use Rattle.pe_directories.specs.Tls.{tls_32, tls_64, tls_directory, alignment_of, callback_table};
+ghost use Rattle.pe_directories.specs.VaTables.{vas_left, vas_are_64};
 
-use crate::error::{DirectoryError, Result};
-use crate::image_bytes::{ImageBytes, size_of_va};
-use pe_core::{DataDirectory, read_u32, read_u64, require_bytes};
+use crate::error::Result;
+use crate::image_bytes::ImageBytes;
+use crate::va_table::VaTable;
+use pe_core::{DataDirectory, read_u32, read_u64};
 
 /// The size of a TLS directory of PE32 in bytes.
 const SIZE_OF_TLS_32: usize = 24;
@@ -96,71 +96,15 @@ impl TlsDirectory {
         }
     }
 
-    /// The callbacks. Errors, in order: `VaBelowBase` if their address is below the image base; `Image` with `Unmapped`.
+    /// The callbacks, virtual addresses. Errors, in order: `VaBelowBase` if their address is below the image base; `Image` with `Unmapped`.
     #[tactic(auto, unfolding(crate::specs::Tls::callback_table))]
-    pub fn callbacks<'a>(&self, image: &ImageBytes<'a>) -> Result<TlsCallbacks<'a>>
-        ensures left { DirectoryReturns callbacks_left result (callback_table image.now self.now) }
-        ensures width { IfOk result (λ s. callbacks_are_64 s ≡ image.now.is_64) }
+    pub fn callbacks<'a>(&self, image: &ImageBytes<'a>) -> Result<VaTable<'a>>
+        ensures left { DirectoryReturns vas_left result (callback_table image.now self.now) }
+        ensures width { IfOk result (λ s. vas_are_64 s ≡ image.now.is_64) }
     {
-        let left = if self.address_of_callbacks == 0 {
-            None
-        } else {
-            Some(image.table_at_va(self.address_of_callbacks)?)
-        };
-        Ok(TlsCallbacks {
-            is_64: image.is_64,
-            left,
-        })
-    }
-}
-
-/// The callback at the start of a table, and the bytes after it. `None` if it is zero. Error: `Image` with `Short`.
-#[tactic(auto, unfolding(crate::specs::Tls::first_callback))]
-fn first_callback(is_64: bool, bytes: &[u8]) -> Option<Result<(u64, &[u8])>>
-    ensures first { ReturnsFirst (λ x. x) (λ r. r.now) (first_callback is_64 bytes.now) result }
-    ensures fewer { LeavesFewer (λ r. r.now) bytes.now result }
-{
-    let size = size_of_va(is_64);
-    if let Err(error) = require_bytes(bytes, 0, size) {
-        return Some(Err(DirectoryError::Image(error)));
-    }
-    let va = if is_64 {
-        read_u64(bytes, 0)
-    } else {
-        u64::from(read_u32(bytes, 0))
-    };
-    if va == 0 {
-        return None;
-    }
-    Some(Ok((va, &bytes[size..])))
-}
-
-/// The callbacks that are left: virtual addresses up to the first zero. A table that ends with the bytes instead has one
-/// more item, the error `Image` with `Short`. It is over after an error.
-#[derive(Clone, Copy, Debug)]
-pub struct TlsCallbacks<'a> {
-    is_64: bool,
-    left: Option<&'a [u8]>,
-}
-
-impl<'a> Iterator for TlsCallbacks<'a> {
-    type Item = Result<u64>;
-
-    ghost next_gives = { λ s r t. Steps (λ x. x)
-        (first_callback (callbacks_are_64 s)) (callbacks_left s) r (callbacks_left t)
-        × (callbacks_are_64 t ≡ callbacks_are_64 s) };
-
-    ghost remaining = { λ s. at_most (most_left (callbacks_left s)) };
-
-    fn next(&mut self) -> Option<Result<u64>> {
-        let bytes = self.left?;
-        self.left = None;
-        match first_callback(self.is_64, bytes)? {
-            Ok((va, rest)) => {
-                self.left = Some(rest);
-                Some(Ok(va))
-            }
-            Err(error) => Some(Err(error)),
+        if self.address_of_callbacks == 0 {
+            return Ok(VaTable::over(image.is_64));
         }
+        Ok(VaTable::new(image.table_at_va(self.address_of_callbacks)?, image.is_64))
     }
 }

@@ -1,0 +1,199 @@
+//! Delay imports, directory 13
+//! ([layout](https://learn.microsoft.com/windows/win32/debug/pe-format#delay-load-import-tables-image-only)): DLLs that are
+//! loaded when one of their functions is called first. An entry of 32 bytes for each DLL leads to its name, and to a table of
+//! what is imported of it, which is a lookup table as that of the import directory.
+//!
+//! A caller walks through the entries, through the table of each, and reads what a number of the table imports. Linkers before
+//! Visual C++ 7 wrote virtual addresses instead of RVAs, and left bit 0 of the attributes clear.
+
+ghost use Rattle.std.specs.Prelude.{◌≡◌, ◌+◌, ◌≤◌, length, IfOk};
+ghost use Rattle.std.specs.Iterator.{at_most};
+ghost use Rattle.pe_directories.specs.DelayImports.{delay_import_at, first_delay_import, delay_import_table, delay_imports_left, offset_in_entry, delay_name, delay_dll, lookup_table, function_view, hint_and_name, imported_by};
+ghost use Rattle.pe_directories.specs.DirectoryRefusals.{DirectoryReturns};
+ghost use Rattle.pe_directories.specs.VaTables.{vas_left, vas_are_64};
+ghost use Rattle.pe_directories.specs.Walks.{ReturnsFirst, LeavesFewer, Steps, most_left};
+
+use crate::error::{DirectoryError, Result};
+use crate::image_bytes::ImageBytes;
+use crate::va_table::VaTable;
+use pe_core::{DataDirectory, read_u32, require_bytes, text_at, u16_at};
+
+/// The size of an entry in bytes.
+const SIZE_OF_ENTRY: usize = 32;
+
+/// An entry of the delay import directory (`IMAGE_DELAYLOAD_DESCRIPTOR`), 32 bytes: a DLL. Its addresses are RVAs if bit 0 of
+/// the attributes is set, otherwise virtual addresses.
+#[derive(Clone, Copy, Debug, PartialEq)]
+pub struct DelayImport {
+    /// Flags, of which bit 0 is defined.
+    pub attributes: u32,
+    /// Where the name of the DLL is.
+    pub name: u32,
+    /// Where the handle of the DLL is written when it is loaded.
+    pub module_handle: u32,
+    /// Where the addresses of the functions are written.
+    pub import_address_table: u32,
+    /// Where the table of what is imported is.
+    pub import_name_table: u32,
+    /// Where the addresses are if the DLL has the time stamp. 0 if there are none.
+    pub bound_import_address_table: u32,
+    /// Where a copy of the address table is, to unload the DLL. 0 if there is none.
+    pub unload_information_table: u32,
+    /// The time stamp of the DLL to which the image is bound. 0 if it is not bound.
+    pub time_date_stamp: u32,
+}
+
+/// What is imported of a DLL.
+#[derive(Clone, Copy, Debug, PartialEq)]
+pub enum DelayedFunction<'a> {
+    /// By its ordinal.
+    Ordinal(u16),
+    /// By its name; the hint is where the name may be in the export name table of the DLL.
+    Name { hint: u16, name: &'a str },
+}
+
+/// The name at an offset. Error: `DelayImportName`.
+#[tactic(auto, unfolding(crate::specs::DelayImports::delay_name))]
+fn name_at<'a>(image: &ImageBytes<'a>, offset: usize) -> Result<&'a str>
+    ensures { DirectoryReturns (λ s. s.now) result (delay_name image.now offset) }
+{
+    match text_at(image.bytes, offset) {
+        Some(name) => Ok(name),
+        None => Err(DirectoryError::DelayImportName(offset)),
+    }
+}
+
+/// The hint at an offset, and the name after it. Errors, in order: `Image` with `Short`; `DelayImportName`.
+#[tactic(auto, unfolding(crate::specs::DelayImports::hint_and_name))]
+fn hint_and_name<'a>(image: &ImageBytes<'a>, offset: usize) -> Result<DelayedFunction<'a>>
+    ensures { DirectoryReturns function_view result (hint_and_name image.now offset) }
+{
+    let hint = u16_at(image.bytes, offset)?;
+    let name = name_at(image, offset + 2)?;
+    Ok(DelayedFunction::Name { hint, name })
+}
+
+impl DelayImport {
+    /// The entry at the start of the bytes, whose 32 bytes the caller knows to be there.
+    #[tactic(auto, unfolding(crate::specs::DelayImports::delay_import_at))]
+    fn at(bytes: &[u8]) -> DelayImport
+        requires { 32 ≤ length bytes.now }
+        ensures { result ≡ delay_import_at bytes.now }
+    {
+        DelayImport {
+            attributes: read_u32(bytes, 0),
+            name: read_u32(bytes, 4),
+            module_handle: read_u32(bytes, 8),
+            import_address_table: read_u32(bytes, 12),
+            import_name_table: read_u32(bytes, 16),
+            bound_import_address_table: read_u32(bytes, 20),
+            unload_information_table: read_u32(bytes, 24),
+            time_date_stamp: read_u32(bytes, 28),
+        }
+    }
+
+    /// The offset of an address of the entry in the bytes. Errors, in order: `VaBelowBase` of a virtual address; `Image` with
+    /// `Unmapped`.
+    #[tactic(auto, unfolding(crate::specs::DelayImports::offset_in_entry))]
+    fn offset_of(&self, image: &ImageBytes<'_>, address: u32) -> Result<usize>
+        ensures { DirectoryReturns (λ p. p) result (offset_in_entry image.now self.now address) }
+    {
+        if self.attributes % 2 == 1 {
+            image.offset_of_rva(address)
+        } else {
+            image.offset_of_va(u64::from(address))
+        }
+    }
+
+    /// The name of the DLL. Errors, in order: `VaBelowBase`, `Image` with `Unmapped`, `DelayImportName`.
+    pub fn dll<'a>(&self, image: &ImageBytes<'a>) -> Result<&'a str>
+        ensures { DirectoryReturns (λ s. s.now) result (delay_dll image.now self.now) }
+    {
+        let offset = self.offset_of(image, self.name)?;
+        name_at(image, offset)
+    }
+
+    /// The table of what is imported of the DLL: numbers for `imported`. Errors, in order: `VaBelowBase`, `Image` with
+    /// `Unmapped`.
+    pub fn lookups<'a>(&self, image: &ImageBytes<'a>) -> Result<VaTable<'a>>
+        ensures left { DirectoryReturns vas_left result (lookup_table image.now self.now) }
+        ensures width { IfOk result (λ s. vas_are_64 s ≡ image.now.is_64) }
+    {
+        let offset = self.offset_of(image, self.import_name_table)?;
+        Ok(VaTable::new(image.from_offset(offset), image.is_64))
+    }
+
+    /// What a number of `lookups` imports. Errors, in order: `VaBelowBase`, `Image` with `Unmapped`, `Image` with `Short`,
+    /// `DelayImportName`.
+    #[tactic(auto, unfolding(crate::specs::DelayImports::imported_by))]
+    pub fn imported<'a>(&self, image: &ImageBytes<'a>, lookup: u64) -> Result<DelayedFunction<'a>>
+        ensures { DirectoryReturns function_view result
+            (imported_by image.now self.now lookup) }
+    {
+        let ordinals: u64 = if image.is_64 { 1 << 63 } else { 1 << 31 };
+        if lookup >= ordinals {
+            return Ok(DelayedFunction::Ordinal((lookup % (1 << 16)) as u16));
+        }
+        let offset = self.offset_of(image, (lookup % (1 << 31)) as u32)?;
+        hint_and_name(image, offset)
+    }
+}
+
+/// The entry at the start of the bytes, and the bytes after it. `None` if there are no bytes, or if the entry has no name.
+/// Error: `Image` with `Short`.
+#[tactic(auto, unfolding(crate::specs::DelayImports::first_delay_import))]
+fn first_delay_import(bytes: &[u8]) -> Option<Result<(DelayImport, &[u8])>>
+    ensures first { ReturnsFirst (λ x. x) (λ r. r.now) (first_delay_import bytes.now) result }
+    ensures fewer { LeavesFewer (λ r. r.now) bytes.now result }
+{
+    if bytes.is_empty() {
+        return None;
+    }
+    if let Err(error) = require_bytes(bytes, 0, SIZE_OF_ENTRY) {
+        return Some(Err(DirectoryError::Image(error)));
+    }
+    if read_u32(bytes, 4) == 0 {
+        return None;
+    }
+    Some(Ok((DelayImport::at(bytes), bytes.split_at(SIZE_OF_ENTRY).1)))
+}
+
+/// The entries of the delay import directory that are left: those before one without a name. It is over after an error.
+#[derive(Clone, Copy, Debug)]
+pub struct DelayImports<'a> {
+    left: Option<&'a [u8]>,
+}
+
+impl<'a> DelayImports<'a> {
+    /// The entries at the RVA of `directory`, in as many bytes as its size says. Errors, in order: `Image` with `Unmapped`;
+    /// `Image` with `Short`.
+    pub fn parse(image: &ImageBytes<'a>, directory: DataDirectory) -> Result<DelayImports<'a>>
+        ensures { DirectoryReturns
+            delay_imports_left result (delay_import_table image.now directory) }
+    {
+        Ok(DelayImports {
+            left: Some(image.table(directory)?),
+        })
+    }
+}
+
+impl<'a> Iterator for DelayImports<'a> {
+    type Item = Result<DelayImport>;
+
+    ghost next_gives = { λ s r t.
+        Steps (λ x. x) first_delay_import (delay_imports_left s) r (delay_imports_left t) };
+
+    ghost remaining = { λ s. at_most (most_left (delay_imports_left s)) };
+
+    fn next(&mut self) -> Option<Result<DelayImport>> {
+        let bytes = self.left?;
+        self.left = None;
+        match first_delay_import(bytes)? {
+            Ok((entry, rest)) => {
+                self.left = Some(rest);
+                Some(Ok(entry))
+            }
+            Err(error) => Some(Err(error)),
+        }
+    }
+}
