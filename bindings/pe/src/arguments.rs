@@ -15,6 +15,7 @@ Examples:
   pe key program.exe                    where a symbol server has its PDB and itself
   pe digest program.exe                 what its signature signs, as SHA-256
   pe extract program.exe manifest -     its manifest, on standard output
+  pe report program.exe program.html    a page to look at: a map of the file, tables to search
 
 Exit status: 0 done; 1 an image, or a part that was asked for, is refused; 2 misused arguments; 3 an error of a file.";
 
@@ -106,6 +107,14 @@ pub enum Command {
         file: PathBuf,
         #[arg(value_enum)]
         part: ExtractedPart,
+        #[arg(value_name = "OUT")]
+        to: PathBuf,
+        #[command(flatten)]
+        reading: Reading,
+    },
+    /// Write an image as one page of HTML to a file, which must not exist, or to standard output (-).
+    Report {
+        file: PathBuf,
         #[arg(value_name = "OUT")]
         to: PathBuf,
         #[command(flatten)]

@@ -6,10 +6,12 @@ mod digest;
 mod escape;
 mod facts;
 mod files;
+mod html;
 mod names;
 mod page;
 mod show;
 mod summary;
+mod tables;
 mod unwind;
 
 use arguments::{Arguments, Command, Reading};
@@ -72,6 +74,9 @@ fn run(arguments: &Arguments, out: &mut dyn Write) -> io::Result<Status> {
         Command::Extract { file, part, to, reading } => files::each(slice::from_ref(file), false, out, |_, bytes| {
             with_image(bytes, reading, |image| part.write_to(image, to))
         }),
+        Command::Report { file, to, reading } => {
+            files::each(slice::from_ref(file), false, out, |path, bytes| html::write_to(path, bytes, reading, to))
+        }
     }
 }
 
