@@ -7,6 +7,7 @@ mod escape;
 mod facts;
 mod files;
 mod html;
+mod man;
 mod names;
 mod page;
 mod show;
@@ -15,7 +16,7 @@ mod tables;
 mod unwind;
 
 use arguments::{Arguments, Command, Reading};
-use clap::Parser;
+use clap::{CommandFactory, Parser};
 use facts::{Facts, Refusal, Topic};
 use files::Report;
 use page::Style;
@@ -74,6 +75,11 @@ fn run(arguments: &Arguments, out: &mut dyn Write) -> io::Result<Status> {
         Command::Extract { file, part, to, reading } => files::each(slice::from_ref(file), false, out, |_, bytes| {
             with_image(bytes, reading, |image| part.write_to(image, to))
         }),
+        Command::Completions { shell } => {
+            clap_complete::generate(*shell, &mut Arguments::command(), "pe", out);
+            Ok(Status::Done)
+        }
+        Command::Man => out.write_all(man::page().as_bytes()).map(|()| Status::Done),
         Command::Report { file, to, reading } => {
             files::each(slice::from_ref(file), false, out, |path, bytes| html::write_to(path, bytes, reading, to))
         }
