@@ -10,15 +10,15 @@ use sha2::{Digest as _, Sha256};
 use std::path::Path;
 
 #[derive(Debug, Serialize)]
-struct Digest {
+pub struct Digest {
     file: String,
-    sha256_hex: String,
+    pub sha256_hex: String,
     /// What the header says, and what it has to say.
     checksum: u32,
-    right_checksum: u32,
+    pub right_checksum: u32,
 }
 
-fn digest_of(path: &Path, image: &Image<'_>) -> Result<Option<Digest>, Error> {
+pub fn digest_of(path: &Path, image: &Image<'_>) -> Result<Option<Digest>, Error> {
     let covered = image.digest_ranges()?;
     let mut hash = Sha256::new();
     covered.slices().for_each(|slice| hash.update(slice));

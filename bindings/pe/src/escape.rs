@@ -15,15 +15,20 @@ fn is_plain(character: char) -> bool {
             | '\u{2060}'..='\u{206f}' | '\u{feff}' | '\u{fff9}'..='\u{fffb}' | '\u{e0000}'..='\u{e007f}')
 }
 
+/// Writes a character, or its escape.
+pub fn write_escaped(character: char, to: &mut impl Write) -> fmt::Result {
+    match character {
+        it if is_plain(it) => to.write_char(it),
+        it if it.is_ascii() => write!(to, "\\x{:02x}", it as u32),
+        it => write!(to, "\\u{{{:x}}}", it as u32),
+    }
+}
+
 impl fmt::Display for Escaped<'_> {
     fn fmt(&self, f: &mut fmt::Formatter<'_>) -> fmt::Result {
         for chunk in self.0.utf8_chunks() {
             for character in chunk.valid().chars() {
-                match character {
-                    it if is_plain(it) => f.write_char(it)?,
-                    it if it.is_ascii() => write!(f, "\\x{:02x}", it as u32)?,
-                    it => write!(f, "\\u{{{:x}}}", it as u32)?,
-                }
+                write_escaped(character, f)?;
             }
             for byte in chunk.invalid() {
                 write!(f, "\\x{byte:02x}")?;

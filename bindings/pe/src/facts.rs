@@ -3,11 +3,13 @@
 
 pub mod certificates;
 pub mod debug;
+pub mod entropy;
 pub mod exports;
 pub mod extracted;
 pub mod functions;
 pub mod headers;
 pub mod imports;
+pub mod regions;
 pub mod sections;
 pub mod version;
 

@@ -6,7 +6,7 @@ use crate::Status;
 use indicatif::{ProgressBar, ProgressStyle};
 use pe_c::{Error, Image, Mode};
 use rayon::prelude::*;
-use std::fs::{self, File};
+use std::fs::{self, File, OpenOptions};
 use std::io::{self, IsTerminal, Read, Write};
 use std::path::{Path, PathBuf};
 
@@ -28,6 +28,26 @@ impl Report {
     pub fn of(text: impl Into<Vec<u8>>, status: Status) -> Report {
         Report { text: text.into(), status, is_image: true }
     }
+}
+
+/// What a command made, written to a file, which must not exist, or for `-` to standard output.
+pub fn deliver(bytes: &[u8], to: &Path, status: Status) -> Report {
+    if to == Path::new("-") {
+        return Report::of(bytes, status);
+    }
+    match write_new(to, bytes) {
+        Ok(()) => Report::of("", status),
+        Err(error) => {
+            eprintln!("pe: {}: {error}", crate::escape::escaped(&to.to_string_lossy()));
+            Report::of("", Status::FileError)
+        }
+    }
+}
+
+/// Writes a file that must not exist, and removes what was begun of it if that fails.
+fn write_new(path: &Path, bytes: &[u8]) -> io::Result<()> {
+    let mut file = OpenOptions::new().write(true).create_new(true).open(path)?;
+    file.write_all(bytes).inspect_err(|_| drop(fs::remove_file(path)))
 }
 
 /// A file, and whether it is one of those below a folder.

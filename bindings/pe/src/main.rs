@@ -6,14 +6,17 @@ mod digest;
 mod escape;
 mod facts;
 mod files;
+mod html;
+mod man;
 mod names;
 mod page;
 mod show;
 mod summary;
+mod tables;
 mod unwind;
 
 use arguments::{Arguments, Command, Reading};
-use clap::Parser;
+use clap::{CommandFactory, Parser};
 use facts::{Facts, Refusal, Topic};
 use files::Report;
 use page::Style;
@@ -72,6 +75,14 @@ fn run(arguments: &Arguments, out: &mut dyn Write) -> io::Result<Status> {
         Command::Extract { file, part, to, reading } => files::each(slice::from_ref(file), false, out, |_, bytes| {
             with_image(bytes, reading, |image| part.write_to(image, to))
         }),
+        Command::Completions { shell } => {
+            clap_complete::generate(*shell, &mut Arguments::command(), "pe", out);
+            Ok(Status::Done)
+        }
+        Command::Man => out.write_all(man::page().as_bytes()).map(|()| Status::Done),
+        Command::Report { file, to, reading } => {
+            files::each(slice::from_ref(file), false, out, |path, bytes| html::write_to(path, bytes, reading, to))
+        }
     }
 }
 

@@ -1,5 +1,6 @@
 //! The text of a page: headings, rows and tables, with colours where standard output is a terminal.
 
+use crate::tables::Table;
 use std::fmt::{self, Display, Write};
 use std::io::{self, IsTerminal};
 
@@ -73,11 +74,13 @@ impl Page {
     }
 
     /// Rows of cells in columns as wide as the widest cell; the last column is as wide as its text.
-    pub fn table(&mut self, head: &[&str], rows: &[Vec<String>]) {
+    pub fn table(&mut self, table: &Table) {
+        let head = |column: usize| table.columns[column].head;
         let width = |column: usize| {
-            rows.iter().map(|row| row[column].chars().count()).chain([head[column].chars().count()]).max().unwrap_or(0)
+            let cells = table.rows.iter().map(|row| row[column].chars().count());
+            cells.chain([head(column).chars().count()]).max().unwrap_or(0)
         };
-        let widths: Vec<usize> = (0..head.len()).map(width).collect();
+        let widths: Vec<usize> = (0..table.columns.len()).map(width).collect();
         let lay = |cells: &mut dyn Iterator<Item = &str>| {
             let mut line = String::new();
             for (cell, width) in cells.zip(&widths) {
@@ -85,9 +88,9 @@ impl Page {
             }
             line.trim_end().to_string()
         };
-        let head = self.style.between("36", &lay(&mut head.iter().copied()));
+        let head = self.style.between("36", &lay(&mut (0..table.columns.len()).map(head)));
         self.line(format_args!("{head}"));
-        for row in rows {
+        for row in &table.rows {
             let line = lay(&mut row.iter().map(String::as_str));
             self.line(format_args!("{line}"));
         }

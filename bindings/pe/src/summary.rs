@@ -31,9 +31,14 @@ pub fn text(facts: &Facts, style: Style) -> String {
 fn heading_of(facts: &Facts) -> String {
     let file = escaped(&facts.file);
     let Some(headers) = &facts.headers else { return format!("{file}: refused") };
+    format!("{file}: {}", kind_of(headers))
+}
+
+/// What kind of image it is.
+pub fn kind_of(headers: &Headers) -> String {
     let kind = if headers.is_dll { "DLL" } else { "program" };
     let format = headers.format.unwrap_or("image without an optional header,");
-    format!("{file}: {format} {kind} for {}, {}", headers.machine, headers.subsystem)
+    format!("{format} {kind} for {}, {}", headers.machine, headers.subsystem)
 }
 
 fn headers_of(headers: &Headers, page: &mut Page) {

@@ -3,48 +3,12 @@
 #[path = "../../rust/tests/made/mod.rs"]
 mod made;
 
+mod running;
+
+use running::{json_of, run, Folder};
 use serde_json::{json, Value};
 use std::fs;
-use std::path::PathBuf;
 use std::process::Command;
-
-/// A folder for one test, which goes away with it.
-struct Folder(PathBuf);
-
-impl Folder {
-    fn new(test: &str) -> Folder {
-        let path = std::env::temp_dir().join(format!("pe-{test}-{}", std::process::id()));
-        fs::create_dir_all(&path).unwrap();
-        Folder(path)
-    }
-
-    fn file(&self, name: &str, bytes: &[u8]) -> String {
-        let path = self.0.join(name);
-        fs::write(&path, bytes).unwrap();
-        path.to_str().unwrap().to_string()
-    }
-}
-
-impl Drop for Folder {
-    fn drop(&mut self) {
-        let _ = fs::remove_dir_all(&self.0);
-    }
-}
-
-/// Standard output, standard error and the status of a run.
-fn run(arguments: &[&str]) -> (String, String, i32) {
-    let ran = Command::new(env!("CARGO_BIN_EXE_pe")).args(arguments).output().unwrap();
-    let text = |bytes: Vec<u8>| String::from_utf8(bytes).unwrap();
-    (text(ran.stdout), text(ran.stderr), ran.status.code().unwrap())
-}
-
-/// The JSON of an image, whose parts are all accepted.
-fn json_of(test: &str, bytes: &[u8]) -> Value {
-    let folder = Folder::new(test);
-    let (out, _, status) = run(&["--json", &folder.file("a.exe", bytes)]);
-    assert_eq!(status, 0);
-    serde_json::from_str(&out).unwrap()
-}
 
 #[test]
 fn headers_and_sections() {
@@ -355,4 +319,38 @@ fn parts_are_extracted_to_new_files() {
     assert_eq!(run(&["extract", &file, "manifest", to]).2, 3, "the file exists");
     assert_eq!(run(&["extract", &file, "manifest", "-"]).0.as_bytes(), made::MANIFEST);
     assert_eq!(run(&["extract", &file, "certificate", "-"]).2, 1);
+}
+
+#[test]
+fn shells_complete_the_commands() {
+    for (shell, start) in [("bash", "_pe() {"), ("zsh", "#compdef pe"), ("fish", "complete -c pe ")] {
+        let (out, _, status) = run(&["completions", shell]);
+        assert_eq!((out.starts_with(start), status), (true, 0), "{shell}");
+        assert!(out.contains("unwind") && out.contains("recursive"), "{shell}");
+    }
+    let folder = Folder::new("completions");
+    let script = folder.file("pe.bash", run(&["completions", "bash"]).0.as_bytes());
+    let asks = format!(". '{script}'; COMP_WORDS=(pe unw); COMP_CWORD=1; _pe pe unw pe; echo ${{COMPREPLY[@]}}");
+    let ran = Command::new("bash").args(["-c", &asks]).output().unwrap();
+    assert_eq!((ran.stdout.as_slice(), ran.stderr.as_slice()), (b"unwind\n".as_slice(), b"".as_slice()));
+    assert_eq!(run(&["completions", "none"]).2, 2);
+}
+
+#[test]
+fn the_man_page_has_each_command() {
+    let (page, _, status) = run(&["man"]);
+    assert_eq!(status, 0);
+    for command in ["show", "unwind", "key", "digest", "extract", "report", "completions", "man"] {
+        assert!(page.contains(&format!(".SS \"pe {command}")), "{command}");
+    }
+    assert!(page.contains(".TP\n\\fB\\-r\\fR, \\fB\\-\\-recursive\\fR\nTake each FILE"));
+    let folder = Folder::new("man");
+    let file = folder.file("pe.1", page.as_bytes());
+    match Command::new("groff").args(["-man", "-Tutf8", "-ww", &file]).output() {
+        Ok(ran) => {
+            assert_eq!(String::from_utf8(ran.stderr).unwrap(), "");
+            assert!(String::from_utf8(ran.stdout).unwrap().contains("misused"));
+        }
+        Err(_) => eprintln!("Debian's package groff-base is missing: the man page is not laid out"),
+    }
 }

@@ -1,12 +1,10 @@
 //! Parts of an image whose bytes are written to a file.
 
 use super::Refusal;
-use crate::files::Report;
+use crate::files::{self, Report};
 use crate::Status;
 use clap::ValueEnum;
 use pe_c::{Error, Image};
-use std::fs::OpenOptions;
-use std::io::{self, Write};
 use std::path::Path;
 
 #[derive(Clone, Copy, Debug, PartialEq, Eq, ValueEnum)]
@@ -39,14 +37,7 @@ impl ExtractedPart {
     /// Writes the part. The text is for standard output.
     pub fn write_to(self, image: &Image<'_>, to: &Path) -> Report {
         match self.bytes_of(image) {
-            Ok(Some(bytes)) if to == Path::new("-") => Report::of(bytes, Status::Done),
-            Ok(Some(bytes)) => match write_new(to, bytes) {
-                Ok(()) => Report::of("", Status::Done),
-                Err(error) => {
-                    eprintln!("pe: {}: {error}", to.display());
-                    Report::of("", Status::FileError)
-                }
-            },
+            Ok(Some(bytes)) => files::deliver(bytes, to, Status::Done),
             Ok(None) => {
                 eprintln!("pe: the image has no such part");
                 Report::of("", Status::Refused)
@@ -57,10 +48,4 @@ impl ExtractedPart {
             }
         }
     }
-}
-
-/// Writes a file that must not exist, and removes what was begun of it if that fails.
-fn write_new(path: &Path, bytes: &[u8]) -> io::Result<()> {
-    let mut file = OpenOptions::new().write(true).create_new(true).open(path)?;
-    file.write_all(bytes).inspect_err(|_| drop(std::fs::remove_file(path)))
 }

@@ -1,0 +1,234 @@
+//! `pe report`: an image as one page of HTML, for looking rather than reading: a map of the file, warnings, and tables that
+//! a text field filters. The page stands alone. Its Content-Security-Policy allows one script and one style sheet, by their
+//! hashes, and nothing else: no request leaves it, and no name of an image can be markup (`markup`).
+
+mod map;
+mod markup;
+
+use crate::escape::escaped;
+use crate::facts::regions::{self, Region};
+use crate::facts::{Facts, Part, Topic};
+use crate::files::{self, Report};
+use crate::summary::kind_of;
+use crate::tables::{self, Row, Table};
+use crate::{digest, Reading, Status};
+use markup::Html;
+use pe_c::Image;
+use sha2::{Digest as _, Sha256};
+use std::path::Path;
+
+const STYLE: &str = include_str!("html/style.css");
+const SCRIPT: &str = include_str!("html/script.js");
+
+/// How many rows of a table are on the page: a browser takes more only slowly.
+const ROWS: usize = 20_000;
+/// How many rows a table has that is open at first.
+const OPEN_ROWS: usize = 40;
+/// How many warnings are listed.
+const WARNINGS: usize = 100;
+
+/// Writes the page of a file. One of a file that is no image says why.
+pub fn write_to(path: &Path, bytes: &[u8], reading: &Reading, to: &Path) -> Report {
+    let (facts, page) = match Image::parse_as(bytes, reading.mode(), reading.layout()) {
+        Ok(image) => {
+            let facts = Facts::of(path, &image, &[Topic::All]);
+            let page = page_of(&facts, Some(&image));
+            (facts, page)
+        }
+        Err(error) => {
+            let facts = Facts::refused(path, bytes.len(), error);
+            let page = page_of(&facts, None);
+            (facts, page)
+        }
+    };
+    let status = if facts.is_refused() { Status::Refused } else { Status::Done };
+    files::deliver(page.as_bytes(), to, status)
+}
+
+fn page_of(facts: &Facts, image: Option<&Image<'_>>) -> String {
+    let mut html = Html::new();
+    let name = Path::new(&facts.file).file_name().map(|it| it.to_string_lossy()).unwrap_or_default();
+    head(&name, &mut html);
+    html.markup("<header><h1>").text(&name).markup("</h1><p>");
+    match &facts.headers {
+        Some(headers) => html.text(kind_of(headers)),
+        None => html.text("refused: no image"),
+    };
+    html.markup(" · ").text(grouped(facts.file_size as u64)).markup(" bytes</p><p class=path>");
+    html.text(escaped(&facts.file)).markup("</p></header>");
+    warnings(facts, &mut html);
+    if let Some(image) = image {
+        filter(&mut html);
+        html.markup("<main>");
+        let regions = regions::of(image, facts);
+        map::of(&regions, image, &mut html);
+        parts(facts, &regions, image, &mut html);
+        html.markup("</main>");
+    }
+    html.markup("<footer>Each number comes from a call of a proved library; signatures are not verified. ");
+    html.markup("<code>pe ").text(env!("CARGO_PKG_VERSION")).markup("</code></footer><script>");
+    html.markup(SCRIPT).markup("</script></body></html>\n");
+    html.into_text()
+}
+
+/// The source of a script or a style sheet that a policy allows: the Base64 of its SHA-256.
+fn allowed(content: &str) -> String {
+    const DIGITS: &[u8; 64] = b"ABCDEFGHIJKLMNOPQRSTUVWXYZabcdefghijklmnopqrstuvwxyz0123456789+/";
+    let mut text = String::from("'sha256-");
+    for three in Sha256::digest(content).chunks(3) {
+        let number = three.iter().fold(0, |number, byte| number << 8 | u32::from(*byte)) << (8 * (3 - three.len()));
+        for index in 0..4 {
+            let digit = DIGITS[(number >> (18 - 6 * index)) as usize & 63];
+            text.push(if index <= three.len() { char::from(digit) } else { '=' });
+        }
+    }
+    text + "'"
+}
+
+fn head(name: &str, html: &mut Html) {
+    html.markup("<!doctype html>\n<html lang=en><head><meta charset=utf-8>");
+    html.markup("<meta http-equiv=Content-Security-Policy content=\"default-src 'none'; style-src ");
+    // A hash has no character that an attribute escapes, but for the quotes around it.
+    html.text(allowed(STYLE)).markup("; script-src ").text(allowed(SCRIPT));
+    html.markup("; base-uri 'none'; form-action 'none'\"><meta name=viewport content=\"width=device-width\">");
+    html.markup("<meta name=color-scheme content=\"light dark\"><meta name=referrer content=no-referrer><title>");
+    html.text(name).markup(": pe</title><style>").markup(STYLE).markup("</style></head><body>");
+}
+
+/// What is refused comes first, each with its reason.
+fn warnings(facts: &Facts, html: &mut Html) {
+    let refusals = facts.refusals();
+    if refusals.is_empty() {
+        html.markup("<p class=accepted>Nothing is refused.</p>");
+        return;
+    }
+    html.markup("<section class=warnings aria-labelledby=warnings><h2 id=warnings>");
+    html.text(refusals.len()).markup(" refused</h2><ul>");
+    for (part, refusal) in refusals.iter().take(WARNINGS) {
+        html.markup("<li><b>").text(part).markup("</b> ").text(&refusal.text).markup(" <code>");
+        html.text(refusal.name).markup("</code></li>");
+    }
+    html.markup("</ul>");
+    if refusals.len() > WARNINGS {
+        html.markup("<p>The first ").text(WARNINGS).markup(" are listed.</p>");
+    }
+    html.markup("</section>");
+}
+
+fn filter(html: &mut Html) {
+    html.markup("<div class=bar role=search><input type=search id=filter autocomplete=off spellcheck=false ");
+    html.markup("aria-label=\"Filter the rows of all tables\" placeholder=\"Filter all tables ( / )\">");
+    html.markup("<output id=found for=filter></output></div>");
+}
+
+/// All tables of the page.
+fn parts(facts: &Facts, regions: &[Region], image: &Image<'_>, html: &mut Html) {
+    table("regions", "Regions of the file", &map::table(regions), html);
+    if let Some(headers) = &facts.headers {
+        let rows = tables::headers(headers).into_iter().chain(digest_of(facts, image)).collect();
+        list("headers", "Headers", rows, html);
+        table("directories", "Directories", &tables::directories(headers), html);
+    }
+    if let Some(sections) = &facts.sections {
+        table("sections", "Sections", &tables::sections(sections), html);
+    }
+    if let Some(imports) = facts.imports.as_ref().and_then(Part::present) {
+        table("imports", "Imports", &tables::imports(imports), html);
+    }
+    if let Some(exports) = facts.exports.as_ref().and_then(Part::present) {
+        list("export", "Export directory", tables::export_directory(exports), html);
+        table("exports", "Exports", &tables::exports(exports), html);
+    }
+    if let Some(debug) = &facts.debug {
+        list("records", "Debug records", tables::debug_records(debug), html);
+        if let Some(entries) = debug.entries.present() {
+            table("debug", "Debug data", &tables::debug(entries), html);
+        }
+        if let Some(pogo) = debug.pogo.present() {
+            table("pogo", "Parts of sections, by POGO", &tables::pogo_parts(pogo), html);
+        }
+    }
+    if let Some(certificates) = &facts.certificates {
+        table("certificates", "Certificates, not verified", &tables::certificates(certificates), html);
+    }
+    if let Some(version) = &facts.version {
+        list("versions", "Version", tables::versions(version), html);
+        table("strings", "Version strings", &tables::version_strings(version), html);
+    }
+    if let Some(functions) = facts.functions.as_ref().and_then(Part::present) {
+        table("functions", "Functions", &tables::functions(functions), html);
+    }
+}
+
+/// The checksum that the file should have, and its Authenticode digest.
+fn digest_of(facts: &Facts, image: &Image<'_>) -> Vec<Row> {
+    match digest::digest_of(Path::new(&facts.file), image) {
+        Ok(Some(digest)) => vec![
+            ("right checksum", format!("{:#010x}", digest.right_checksum)),
+            ("Authenticode", format!("SHA-256 {}", digest.sha256_hex)),
+        ],
+        _ => Vec::new(),
+    }
+}
+
+fn list(id: &'static str, title: &'static str, rows: Vec<Row>, html: &mut Html) {
+    if rows.is_empty() {
+        return;
+    }
+    html.markup("<section class=list aria-labelledby=").markup(id).markup("><h2 id=").markup(id).markup(">");
+    html.markup(title).markup("</h2><dl>");
+    for (label, value) in rows {
+        html.markup("<dt>").text(label).markup("</dt><dd>").text(value).markup("</dd>");
+    }
+    html.markup("</dl></section>");
+}
+
+fn table(id: &'static str, title: &'static str, table: &Table, html: &mut Html) {
+    if table.rows.is_empty() {
+        return;
+    }
+    let is_open = if table.rows.len() <= OPEN_ROWS { " open" } else { "" };
+    html.markup("<details id=").markup(id).markup(is_open).markup("><summary><h2>").markup(title);
+    html.markup("</h2> <span class=count>").text(table.rows.len()).markup("</span></summary>");
+    if table.rows.len() > ROWS {
+        html.markup("<p>The first ").text(ROWS).markup(" rows are here: <code>pe show</code> has all.</p>");
+    }
+    html.markup("<div class=scroll role=region tabindex=0 aria-label=\"").markup(title).markup("\"><table><thead><tr>");
+    for column in &table.columns {
+        html.markup(if column.is_number { "<th scope=col class=n>" } else { "<th scope=col>" });
+        html.markup(column.head).markup("</th>");
+    }
+    html.markup("</tr></thead><tbody>");
+    for (index, row) in table.rows.iter().take(ROWS).enumerate() {
+        html.markup("<tr id=").markup(id).markup("-").text(index).markup(">");
+        for (column, cell) in table.columns.iter().zip(row) {
+            html.markup(if column.is_number { "<td class=n>" } else { "<td>" }).text(cell).markup("</td>");
+        }
+        html.markup("</tr>");
+    }
+    html.markup("</tbody></table></div></details>");
+}
+
+/// A number with a comma between groups of three digits.
+fn grouped(number: u64) -> String {
+    let digits = number.to_string();
+    let groups: Vec<&str> =
+        digits.as_bytes().rchunks(3).rev().map(|it| std::str::from_utf8(it).unwrap_or_default()).collect();
+    groups.join(",")
+}
+
+#[cfg(test)]
+mod tests {
+    use super::*;
+
+    #[test]
+    fn hashes_are_those_of_the_policy() {
+        // printf abc | openssl dgst -sha256 -binary | base64
+        assert_eq!(allowed("abc"), "'sha256-ungWv48Bz+pBQUDeXa4iI7ADYaOWF3qctBD/YfIAFa0='");
+    }
+
+    #[test]
+    fn digits_are_grouped() {
+        assert_eq!((grouped(0), grouped(999), grouped(1_234_567)), ("0".into(), "999".into(), "1,234,567".into()));
+    }
+}

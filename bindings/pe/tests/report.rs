@@ -1,0 +1,248 @@
+//! The page of `pe report`: by its text, and in Chromium where that is installed.
+
+#[path = "../../rust/tests/made/mod.rs"]
+mod made;
+mod running;
+
+use running::{run, Folder};
+use serde_json::Value;
+use std::fs;
+use std::process::{Command, Stdio};
+
+/// Elements that have no end.
+const VOID: [&str; 2] = ["meta", "input"];
+/// All elements of a page.
+const ELEMENTS: &str =
+    "html head meta title style body header h1 h2 p section ul li b code div input output main details \
+                        summary span table thead tbody tr th td dl dt dd svg text rect path a footer script";
+
+/// The page of a file, and the status of the run.
+fn page_of(folder: &Folder, file: &str) -> (String, i32) {
+    let to = folder.0.join("page.html");
+    let _ = fs::remove_file(&to);
+    let (out, _, status) = run(&["report", file, to.to_str().unwrap()]);
+    assert_eq!(out, "");
+    (fs::read_to_string(to).unwrap(), status)
+}
+
+/// The markup of a page, without what stands in its style sheet and its script.
+fn markup_of(page: &str) -> String {
+    let cut = |text: &str, start: &str, end: &str| {
+        let (before, rest) = text.split_once(start).unwrap();
+        let (_, after) = rest.split_once(end).unwrap();
+        format!("{before}{start}{end}{after}")
+    };
+    cut(&cut(page, "<style>", "</style>"), "<script>", "</script>")
+}
+
+/// Fails unless each tag is one of the page's own elements, and each element ends before the one around it.
+fn assert_well_formed(page: &str) {
+    let markup = markup_of(page);
+    let mut open = Vec::new();
+    for tag in markup.strip_prefix("<!doctype html>\n").unwrap().split('<').skip(1) {
+        let (tag, text) = tag.split_once('>').unwrap_or_else(|| panic!("no end of <{tag}"));
+        assert!(!text.contains('>'), "{text}");
+        let name = tag.trim_start_matches('/').split(' ').next().unwrap();
+        assert!(ELEMENTS.split_whitespace().any(|it| it == name), "<{tag}>");
+        if tag.starts_with('/') {
+            assert_eq!(open.pop(), Some(name), "<{tag}>");
+        } else if !VOID.contains(&name) {
+            open.push(name);
+        }
+    }
+    assert!(open.is_empty(), "{open:?}");
+    assert_eq!(markup.matches("<script").count(), 1);
+    assert!(page.chars().all(|it| it == '\n' || !it.is_control()));
+}
+
+/// The tables of a page, and how many rows the JSON says that each has.
+fn tables_of(all: &Value) -> Vec<(&'static str, usize)> {
+    let count = |list: &Value| list.as_array().map_or(0, Vec::len);
+    let libraries = all["imports"]["entries"].as_array().cloned().unwrap_or_default();
+    vec![
+        ("directories", count(&all["headers"]["directories"])),
+        ("sections", count(&all["sections"])),
+        ("imports", libraries.iter().map(|it| count(&it["imports"]["entries"])).sum()),
+        ("exports", count(&all["exports"]["entries"])),
+        ("debug", count(&all["debug"]["entries"]["entries"])),
+        ("pogo", count(&all["debug"]["pogo"]["parts"]["entries"])),
+        ("certificates", count(&all["certificates"]["entries"])),
+        ("strings", all["version"]["strings"].as_object().map_or(0, |it| it.len())),
+        ("functions", count(&all["functions"]["entries"])),
+    ]
+}
+
+fn json_of(file: &str) -> Value {
+    serde_json::from_str(&run(&["--json", file]).0).unwrap()
+}
+
+/// An image with markup as the names of its section, its exports and its file.
+fn hostile(folder: &Folder) -> String {
+    let mut bytes = made::with_exports();
+    let mut put = |old: &[u8], new: &[u8]| {
+        let at = bytes.windows(old.len()).position(|it| it == old).unwrap();
+        bytes[at..at + new.len()].copy_from_slice(new);
+    };
+    put(b".rdata\0\0", b"<b>\xff\x1b\"'&");
+    put(b"made.dll\0", b"</title>\0");
+    put(b"second\0", b"<i>&\"'\0");
+    put(b"NTDLL.RtlFree", b"<script>\n&-->");
+    folder.file("<img src=x onerror='document.title=1'>\".exe", &bytes)
+}
+
+#[test]
+fn names_are_no_markup() {
+    let folder = Folder::new("report-hostile");
+    let (page, status) = page_of(&folder, &hostile(&folder));
+    assert_eq!(status, 0);
+    assert_well_formed(&page);
+    assert!(page.contains("<title>&lt;img src=x onerror=&#39;document.title=1&#39;&gt;&quot;.exe: pe</title>"));
+    assert!(page.contains("<td>&lt;b&gt;\\xff\\x1b&quot;&#39;&amp;</td>"));
+    assert!(page.contains("<dt>name</dt><dd>&lt;/title&gt;</dd>"));
+    assert!(page.contains("<td>&lt;i&gt;&amp;&quot;&#39;</td>"));
+    assert!(page.contains("<td>to &lt;script&gt;\\x0a&amp;--&gt;</td>"));
+}
+
+#[test]
+fn pages_stand_alone() {
+    let folder = Folder::new("report-alone");
+    let (page, _) = page_of(&folder, &folder.file("a.exe", &made::with_imports()));
+    for part in ["http:", "https:", "src=", "url(", "@import", "style=", "innerHTML", "eval("] {
+        assert!(!page.contains(part), "{part}");
+    }
+    assert!(page.contains("content=\"default-src 'none'; style-src &#39;sha256-"));
+}
+
+#[test]
+fn tables_have_the_rows_of_the_json() {
+    let folder = Folder::new("report-rows");
+    for (name, bytes) in made::all() {
+        let file = folder.file(name, &bytes);
+        let (page, all) = (page_of(&folder, &file).0, json_of(&file));
+        assert_well_formed(&page);
+        for (table, count) in tables_of(&all) {
+            assert_eq!(page.matches(&format!("<tr id={table}-")).count(), count, "{name} {table}");
+        }
+    }
+}
+
+#[test]
+fn maps_show_what_covers_the_file() {
+    let folder = Folder::new("report-map");
+    let mut bytes = made::with_certificates();
+    bytes.extend_from_slice(b"more");
+    let (page, _) = page_of(&folder, &folder.file("a.exe", &bytes));
+    // The section headers end at 0x170, and the section is at 0x400, of 0x200 bytes; certificates of 24 bytes follow.
+    let row = |index: usize, cells: &[&str]| {
+        let start = format!("<tr id=regions-{index}><td>{}</td><td>{}</td>", cells[0], cells[1]);
+        let numbers: String = cells[2..].iter().map(|it| format!("<td class=n>{it}</td>")).collect();
+        assert!(page.contains(&(start + &numbers)), "{cells:?}");
+    };
+    row(0, &["headers", "", "0x0", "0x170", "368"]);
+    row(1, &["section, read-only", ".rdata", "0x400", "0x600", "512"]);
+    row(2, &["certificates", "", "0x600", "0x618", "24"]);
+    row(3, &["gap", "", "0x170", "0x400", "656"]);
+    row(4, &["trailing data", "", "0x618", "0x61c", "4"]);
+    assert_eq!(page.matches("<a href=\"#regions-").count(), 5);
+}
+
+#[test]
+fn what_is_refused_comes_first() {
+    let folder = Folder::new("report-refused");
+    let (page, status) = page_of(&folder, &folder.file("a.exe", &made::with_refused_import()));
+    let (before, after) = page.split_once("<h2 id=warnings>1 refused</h2>").unwrap();
+    assert!(!before.contains("<main>") && after.contains("<main>"));
+    assert!(after
+        .starts_with("<ul><li><b>imports</b> import name not NUL-terminated or not UTF-8 <code>IMPORT_NAME</code>"));
+    assert_eq!(status, 1);
+    let (page, status) = page_of(&folder, &folder.file("b.exe", b"MZ"));
+    assert_well_formed(&page);
+    assert!(page.contains("<li><b>image</b> truncated <code>SHORT</code></li>"));
+    assert_eq!(status, 1);
+}
+
+#[test]
+fn pages_are_new_files() {
+    let folder = Folder::new("report-new");
+    let file = folder.file("a.exe", made::SMALL);
+    let page = page_of(&folder, &file).0;
+    let to = folder.0.join("page.html");
+    let (_, error, status) = run(&["report", &file, to.to_str().unwrap()]);
+    assert_eq!((error.contains("page.html: "), status), (true, 3));
+    assert_eq!(run(&["report", &file, "-"]).0, page);
+}
+
+#[test]
+fn damaged_images_have_pages() {
+    let folder = Folder::new("report-damaged");
+    let mut state = 1u64;
+    let mut next = move || {
+        state = state.wrapping_mul(6_364_136_223_846_793_005).wrapping_add(1);
+        (state >> 33) as usize
+    };
+    for (name, bytes) in made::all() {
+        for number in 0..20 {
+            let mut damaged = bytes.clone();
+            for _ in 0..1 + next() % 8 {
+                let at = next() % damaged.len();
+                damaged[at] = [0, 1, b'<', b'"', 0x80, 0xFF][next() % 6];
+            }
+            damaged.truncate(if number % 4 == 0 { next() % damaged.len() } else { damaged.len() });
+            let (page, status) = page_of(&folder, &folder.file(name, &damaged));
+            assert_well_formed(&page);
+            assert!(status < 2, "{name} {number}");
+        }
+    }
+}
+
+/// The document that Chromium makes of a page once its script has run, or `None` without Chromium.
+fn document_of(folder: &Folder, page: &str, query: &str) -> Option<String> {
+    if Command::new("chromium").arg("--version").stdout(Stdio::null()).stderr(Stdio::null()).status().is_err() {
+        eprintln!("Debian's package chromium is missing: the page is not tried in a browser");
+        return None;
+    }
+    let file = folder.file("shown.html", page.as_bytes());
+    let profile = format!("--user-data-dir={}", folder.0.join("profile").display());
+    let ran = Command::new("timeout")
+        .args(["60", "chromium", "--headless", "--no-sandbox", "--disable-gpu", "--dump-dom", &profile])
+        .arg(format!("file://{file}?q={query}"))
+        .output()
+        .unwrap();
+    assert!(ran.status.success(), "{}", String::from_utf8_lossy(&ran.stderr));
+    Some(String::from_utf8(ran.stdout).unwrap())
+}
+
+#[test]
+fn a_browser_shows_the_rows_of_the_json_and_filters_them() {
+    let folder = Folder::new("report-browser");
+    for (name, bytes) in made::all().into_iter().filter(|it| ["debug", "exports", "resources"].contains(&it.0)) {
+        let file = folder.file(name, &bytes);
+        let Some(document) = document_of(&folder, &page_of(&folder, &file).0, "") else { return };
+        for (table, count) in tables_of(&json_of(&file)) {
+            assert_eq!(document.matches(&format!("<tr id=\"{table}-")).count(), count, "{name} {table}");
+        }
+    }
+    let page = page_of(&folder, &folder.file("a.exe", &made::with_imports())).0;
+    let Some(document) = document_of(&folder, &page, "kernel32+sleep") else { return };
+    assert!(document.contains("<tr id=\"imports-0\"><td>KERNEL32.dll</td><td>Sleep</td>"), "{document}");
+    assert_eq!(document.matches("<tr id=\"imports-").count(), 3);
+    assert_eq!(document.matches("hidden=\"\"><td>").count(), document.matches("<tr id=").count() - 1);
+    assert!(document.contains("<span class=\"count\">1 of 3</span>"));
+    assert!(document.contains(">1 row</output>"));
+}
+
+#[test]
+fn a_browser_runs_nothing_of_an_image() {
+    let folder = Folder::new("report-script");
+    let page = page_of(&folder, &hostile(&folder)).0;
+    let Some(document) = document_of(&folder, &page, "<script>") else { return };
+    assert_eq!((document.matches("<script").count(), document.matches("<img").count()), (1, 0));
+    assert!(document.contains("<title>&lt;img src=x onerror='document.title=1'&gt;\".exe: pe</title>"));
+    // The script ran, so the policy has its hash: the forwarder has the text that was asked for.
+    assert!(document.contains("<tr id=\"exports-0\" hidden=\"\">"));
+    assert!(document.contains("<tr id=\"exports-2\">"));
+    // A script that the policy does not name does not run.
+    let other = page.replace("</body>", "<script>document.title = 1</script></body>");
+    let document = document_of(&folder, &other, "").unwrap();
+    assert!(!document.contains("<title>1</title>"));
+}
