@@ -3,12 +3,13 @@ use Rattle.std.proofs.Common.{◌≡◌, ℕ, List, [], Option, None, Ok, refl}
 use Rattle.pe_core.specs.Options.{default_options}
 use Rattle.pe_image.specs.Image.{ImageView, IsImage, exceptions_on}
 use Rattle.pe_unwind.specs.FunctionTable.{Finds, StopsBetween, scan}
+use Rattle.pe_unwind.specs.Lookup.{StopsAfter}
 use Rattle.pe_unwind.specs.declared.function_table.RuntimeFunction.{RuntimeFunction}
 use Rattle.peinfo.specs.Find.{IsFindText, functions_of, found_line}
 
 pub nothing_stops : (a : ℕ) → StopsBetween [] a None
-unfolding StopsBetween
-nothing_stops a = ([], [], refl, tt, tt, refl)
+unfolding StopsBetween StopsAfter
+nothing_stops a = (None, ([], [], refl, tt, tt, refl), refl)
 
 -- nothing is found among no functions
 pub nothing_found : (a : ℕ) → Finds [] a None
