@@ -4,9 +4,9 @@
 //! something to change. A block is the RVA of its page, its size in bytes, and entries of 2 bytes: the type in the high
 //! 4 bits, the offset in the page in the low 12.
 //!
-//! A caller walks through the blocks, and through the relocations of each. Microsoft's page asks for blocks at multiples of 4 bytes; that is not tested, as loaders and llvm-readobj do
-//! not test it. A size below 8 or an odd one is refused, since the next block would start inside of this block's header
-//! or of an entry.
+//! A caller walks through the blocks, and through the relocations of each. Microsoft's page asks for blocks at multiples of
+//! 4 bytes; that is not tested, and llvm-readobj does not test it either. A size below 8 or an odd one is refused, since
+//! the next block would start inside of this block's header or of an entry.
 
 ghost use Rattle.std.specs.Prelude.{◌≡◌, Some};
 ghost use Rattle.std.specs.Iterator.{at_most};
@@ -150,8 +150,8 @@ pub struct BaseRelocation {
     pub argument: Option<u16>,
 }
 
-/// The relocation at the start of the entries of a page, and the bytes after it. `None` if there are no bytes. Errors, in order:
-/// `Image` with `Short` if there is one byte; `NoArgument`.
+/// The relocation at the start of the entries of a page, and the bytes after it. `None` if there are no bytes. Errors, in
+/// order: `Image` with `Short` if there is one byte; `NoArgument`.
 #[tactic(auto, unfolding(crate::specs::BaseRelocations::first_relocation, crate::specs::BaseRelocations::relocation_of))]
 fn first_relocation(page_rva: u32, bytes: &[u8]) -> Option<Result<(BaseRelocation, &[u8])>>
     ensures first { ReturnsFirst (λ x. x) (λ r. r.now)

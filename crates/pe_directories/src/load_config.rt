@@ -1,7 +1,8 @@
 //! The load configuration, directory 10
 //! ([layout](https://learn.microsoft.com/windows/win32/debug/pe-format#the-load-configuration-structure-image-only)): what
 //! guards an image against attacks. Versions of Windows have added fields at its end, so its first field says how many
-//! bytes it has, and a field after these is absent. Of the directory's size Microsoft's page says that loaders ignore it.
+//! bytes it has, and a field after these is absent. The directory's size is not used: by Microsoft's page it is a check of
+//! the version, and 64 in x86 images for Windows XP, whatever the structure has.
 //!
 //! A scanner reads whether an image has a security cookie, safe exception handlers (x86) and guards of control flow. The
 //! tables themselves are at virtual addresses: `ImageBytes::offset_of_va` leads there.

@@ -84,7 +84,7 @@ impl TlsDirectory {
         }
     }
 
-    /// The alignment of the data in bytes. `None` if the directory states none, or 15, which stands for none.
+    /// The alignment of the data in bytes. `None` if the directory states none, or 15, which has no meaning.
     pub fn alignment(&self) -> Option<u32>
         ensures { result ≡ alignment_of self.now.characteristics }
     {
@@ -96,7 +96,8 @@ impl TlsDirectory {
         }
     }
 
-    /// The callbacks, virtual addresses. Errors, in order: `VaBelowBase` if their address is below the image base; `Image` with `Unmapped`.
+    /// The callbacks, virtual addresses. Errors, in order: `VaBelowBase` if the address of their table is below the image
+    /// base; `Image` with `Unmapped`.
     #[tactic(auto, unfolding(crate::specs::Tls::callback_table))]
     pub fn callbacks<'a>(&self, image: &ImageBytes<'a>) -> Result<VaTable<'a>>
         ensures left { DirectoryReturns vas_left result (callback_table image.now self.now) }
