@@ -83,7 +83,7 @@ pub struct Region {
     pub missing: u64,
 }
 
-/// The map of an image whose headers and sections are among the facts: by kinds, and each kind's in the order of the headers.
+/// The map of an image whose headers and sections are among the facts: what covers the file, what is left, what lies in it.
 pub fn of(image: &Image<'_>, facts: &Facts) -> Vec<Region> {
     let Some(headers) = &facts.headers else { return Vec::new() };
     let mut map = Map { length: facts.file_size as u64, regions: Vec::new() };
