@@ -43,6 +43,7 @@ fn class_of(kind: Kind) -> &'static str {
     match kind {
         Kind::Headers => "headers",
         Kind::Code => "code",
+        Kind::WritableCode => "writable-code",
         Kind::Writable => "writable",
         Kind::ReadOnly => "readonly",
         Kind::Certificates => "certificates",
