@@ -6,6 +6,7 @@ mod map;
 mod markup;
 
 use crate::escape::escaped;
+use crate::facts::debug::Debug;
 use crate::facts::regions::{self, Region};
 use crate::facts::{Facts, Part, Topic};
 use crate::files::{self, Report};
@@ -140,13 +141,7 @@ fn parts(facts: &Facts, regions: &[Region], image: &Image<'_>, html: &mut Html) 
         table("exports", "Exports", &tables::exports(exports), html);
     }
     if let Some(debug) = &facts.debug {
-        list("records", "Debug records", tables::debug_records(debug), html);
-        if let Some(entries) = debug.entries.present() {
-            table("debug", "Debug data", &tables::debug(entries), html);
-        }
-        if let Some(pogo) = debug.pogo.present() {
-            table("pogo", "Parts of sections, by POGO", &tables::pogo_parts(pogo), html);
-        }
+        debug_data(debug, html);
     }
     if let Some(certificates) = &facts.certificates {
         table("certificates", "Certificates, not verified", &tables::certificates(certificates), html);
@@ -157,6 +152,16 @@ fn parts(facts: &Facts, regions: &[Region], image: &Image<'_>, html: &mut Html) 
     }
     if let Some(functions) = facts.functions.as_ref().and_then(Part::present) {
         table("functions", "Functions", &tables::functions(functions), html);
+    }
+}
+
+fn debug_data(debug: &Debug, html: &mut Html) {
+    list("records", "Debug records", tables::debug_records(debug), html);
+    if let Some(entries) = debug.entries.present() {
+        table("debug", "Debug data", &tables::debug(entries), html);
+    }
+    if let Some(pogo) = debug.pogo.present() {
+        table("pogo", "Parts of sections, by POGO", &tables::pogo_parts(pogo), html);
     }
 }
 
@@ -191,7 +196,7 @@ fn table(id: &'static str, title: &'static str, table: &Table, html: &mut Html) 
     html.markup("<details id=").markup(id).markup(is_open).markup("><summary><h2>").markup(title);
     html.markup("</h2> <span class=count>").text(table.rows.len()).markup("</span></summary>");
     if table.rows.len() > ROWS {
-        html.markup("<p>The first ").text(ROWS).markup(" rows are here: <code>pe show</code> has all.</p>");
+        html.markup("<p>Only the first ").text(ROWS).markup(" rows are on this page.</p>");
     }
     html.markup("<div class=scroll role=region tabindex=0 aria-label=\"").markup(title).markup("\"><table><thead><tr>");
     for column in &table.columns {

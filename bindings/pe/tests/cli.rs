@@ -9,6 +9,7 @@ use running::{json_of, run, Folder};
 use serde_json::{json, Value};
 use std::fs;
 use std::process::Command;
+use std::time::Instant;
 
 #[test]
 fn headers_and_sections() {
@@ -268,6 +269,26 @@ fn folders_are_read_in_order_and_other_files_skipped() {
     let name = |it: &Value| it["file"].as_str().unwrap().rsplit('/').next().unwrap().to_string();
     let wanted: Vec<String> = (0..200).map(|number| format!("{number:03}.exe")).collect();
     assert_eq!(files.iter().map(name).collect::<Vec<_>>(), wanted);
+}
+
+#[test]
+fn many_sections_over_the_whole_file_cost_little() {
+    // 50,000 section headers of 40 bytes from 0x148 on, each of the whole file: 100 GB, were each read by itself.
+    let mut bytes = made::Made::new(made::X64).image();
+    bytes.truncate(0x148);
+    bytes[0x46..0x48].copy_from_slice(&50_000u16.to_le_bytes());
+    let size = 0x148 + 40 * 50_000u32;
+    for _ in 0..50_000 {
+        bytes.extend_from_slice(b".many\0\0\0");
+        bytes.extend([size, 0x1000, size, 0, 0, 0, 0, 0x4000_0000].iter().flat_map(|it| it.to_le_bytes()));
+    }
+    let folder = Folder::new("many");
+    let file = folder.file("a.exe", &bytes);
+    let start = Instant::now();
+    for arguments in [["show", &file, "sections"].as_slice(), &["report", &file, "-"]] {
+        assert_eq!(run(arguments).2, 0);
+    }
+    assert!(start.elapsed().as_secs() < 30, "{:?}", start.elapsed());
 }
 
 /// Numbers that are the same in each run (xorshift).

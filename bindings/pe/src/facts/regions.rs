@@ -16,6 +16,8 @@ pub enum Kind {
     Headers,
     /// A section that may be executed.
     Code,
+    /// A section that may be written and executed, as packers have.
+    WritableCode,
     /// A section that may be written.
     Writable,
     /// Any other section.
@@ -30,9 +32,10 @@ pub enum Kind {
 }
 
 impl Kind {
-    pub const ALL: [Kind; 9] = [
+    pub const ALL: [Kind; 10] = [
         Kind::Headers,
         Kind::Code,
+        Kind::WritableCode,
         Kind::Writable,
         Kind::ReadOnly,
         Kind::Certificates,
@@ -46,6 +49,7 @@ impl Kind {
         match self {
             Kind::Headers => "headers",
             Kind::Code => "section, executable",
+            Kind::WritableCode => "section, writable and executable",
             Kind::Writable => "section, writable",
             Kind::ReadOnly => "section, read-only",
             Kind::Certificates => "certificates",
@@ -63,10 +67,11 @@ impl Kind {
 
     /// By the permissions of a section, such as `r-x`.
     fn of_section(permissions: &str) -> Kind {
-        match permissions {
-            it if it.contains('x') => Kind::Code,
-            it if it.contains('w') => Kind::Writable,
-            _ => Kind::ReadOnly,
+        match (permissions.contains('w'), permissions.contains('x')) {
+            (true, true) => Kind::WritableCode,
+            (false, true) => Kind::Code,
+            (true, false) => Kind::Writable,
+            (false, false) => Kind::ReadOnly,
         }
     }
 }
@@ -83,7 +88,7 @@ pub struct Region {
     pub missing: u64,
 }
 
-/// The map of an image whose headers and sections are among the facts: by kinds, and each kind's in the order of the headers.
+/// The map of an image whose headers and sections are among the facts: what covers the file, what is left, what lies in it.
 pub fn of(image: &Image<'_>, facts: &Facts) -> Vec<Region> {
     let Some(headers) = &facts.headers else { return Vec::new() };
     let mut map = Map { length: facts.file_size as u64, regions: Vec::new() };
@@ -176,6 +181,13 @@ mod tests {
         let found: Vec<_> = map.regions.iter().map(|it| (it.kind, it.range.clone())).collect();
         assert_eq!(found[5..], [(Kind::Gap, 10..20), (Kind::Trailing, 60..100)]);
         assert_eq!(found.len(), 7);
+    }
+
+    #[test]
+    fn sections_are_what_they_permit() {
+        let kinds = ["r--", "rw-", "r-x", "rwx", "--x", "---"].map(Kind::of_section);
+        let wanted = [Kind::ReadOnly, Kind::Writable, Kind::Code, Kind::WritableCode, Kind::Code, Kind::ReadOnly];
+        assert_eq!(kinds, wanted);
     }
 
     #[test]

@@ -43,6 +43,7 @@ fn class_of(kind: Kind) -> &'static str {
     match kind {
         Kind::Headers => "headers",
         Kind::Code => "code",
+        Kind::WritableCode => "writable-code",
         Kind::Writable => "writable",
         Kind::ReadOnly => "readonly",
         Kind::Certificates => "certificates",
@@ -98,7 +99,9 @@ fn lane(regions: &[Region], is_cover: bool, length: u64, html: &mut Html) {
         html.markup(class_of(region.kind)).markup("></rect>");
         if is_cover && width >= NAMED {
             let name = if region.name.is_empty() { region.kind.name() } else { &region.name };
-            html.markup("<text x=5 y=20>").text(name).markup("</text>");
+            // A gap has the colour of the page.
+            html.markup(if region.kind == Kind::Gap { "<text x=5 y=20 class=on-gap>" } else { "<text x=5 y=20>" });
+            html.text(name).markup("</text>");
         }
         html.markup("</svg></a>");
     }
@@ -128,7 +131,8 @@ fn entropy(image: &Image<'_>, html: &mut Html) {
         // Writing to a string does not fail.
         let _ = write!(path, "V{:.2}H{}", 8.0 - bits, step + 1);
     }
-    html.markup("<text x=0 y=104 class=lane>entropy, 0 to 8 bits a byte</text><svg y=110 width=\"100%\" height=40 viewBox=\"0 0 ");
+    html.markup("<text x=0 y=104 class=lane>entropy, 0 to 8 bits a byte</text>");
+    html.markup("<svg y=110 width=\"100%\" height=40 viewBox=\"0 0 ");
     html.text(steps).markup(" 8\" preserveAspectRatio=none class=entropy><rect width=\"100%\" height=\"100%\"></rect>");
     html.markup("<path d=\"").text(path).markup("V8Z\"></path></svg>");
 }
