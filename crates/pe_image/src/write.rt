@@ -112,9 +112,10 @@ impl<'a, A: Allocator + Copy + Drop> PE<'a, A> {
     /// is so long.
     fn whole_ends(&self, optional: &OptionalHeader) -> Result<(usize, usize)>
         requires { IsTrue (all_in_source (source_of self.now) self.now.sections.items) }
-        ensures { Returns result (possible (greatest_end (own_whole self.now optional.now))
-            (greatest_end (own_whole self.now optional.now),
-             max (length (source_of self.now)) (own_end self.now optional.now))) }
+        ensures { Returns result (possible (greatest_end (own_whole self.now optional.now)) (
+          greatest_end (own_whole self.now optional.now),
+          max (length (source_of self.now)) (own_end self.now optional.now),
+        )) }
     {
         let (needed, end) = self.ends(optional, None)?;
         let length = self.bytes.len();

@@ -68,7 +68,10 @@ impl<'a> SectionWriter<'a> {
             (section_pieces self.now.source.now self.now.unit offset section.now)) }
         ensures header { OnOk result (offset + 40 ≤ longest) }
     {
-        let padded = piece_end(raw_end(section), lacking(section.size_of_raw_data, self.unit))?;
+        let padded = piece_end(
+            raw_end(section),
+            lacking(section.size_of_raw_data, self.unit),
+        )?;
         let header = piece_end(offset, SIZE_OF_SECTION_HEADER)?;
         Ok(padded.max(header))
     }
@@ -80,10 +83,11 @@ impl<'a> SectionWriter<'a> {
         requires inside { IsTrue (all_in_source self.now.source.now self.now.sections.now) }
         ensures { Returns result (possible
             (greatest_end (all_section_pieces
-                self.now.source.now self.now.unit start self.now.sections.now))
-            (greatest_end (all_section_pieces
-                self.now.source.now self.now.unit start self.now.sections.now),
-             start + 40 * length self.now.sections.now)) }
+            self.now.source.now self.now.unit start self.now.sections.now)) (
+              greatest_end (all_section_pieces
+                  self.now.source.now self.now.unit start self.now.sections.now),
+              start + 40 * length self.now.sections.now,
+            )) }
     {
         let mut end = 0;
         let mut offset = start;
