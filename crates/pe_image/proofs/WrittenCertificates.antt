@@ -1,5 +1,5 @@
 -- Certificates as pieces.
-use Rattle.std.proofs.Common.{◌≡◌, ℕ, ◌+◌, ◌≤◌, ◌<◌, ◌&&◌, Bool, true, false, cond, Ok, Err, List, ◌++◌, length, get_or, drop, map, ap, sym, ◌∙◌, arith}
+use Rattle.std.proofs.Common.{◌≡◌, ℕ, ◌+◌, ◌≤◌, ◌<◌, ◌&&◌, Bool, true, false, cond, Err, List, ◌++◌, length, get_or, drop, map, ap, sym, ◌∙◌, arith}
 use Rattle.std.specs.Prelude.{nat_le}
 use Rattle.std.proofs.lemmas.Bool.Decides.{nat_tests}
 use Rattle.std.proofs.lemmas.List.{length-append}
@@ -13,7 +13,6 @@ use Rattle.pe_image.specs.Overlay.{all_fit}
 use Rattle.pe_image.specs.Pieces.{certificate_pieces, in_a_row}
 use Rattle.pe_image.specs.WritingSteps.{put_in_turn}
 use Rattle.pe_image.proofs.Rows.{Goes, goes_fits, goes_next, goes_last, rest_of_seen, no_rest_of_seen, unfit_if}
-use Rattle.pe_image.proofs.Steps.{value_if}
 
 -- three ends of which the last is the greatest
 last_end : (k l m n : ℕ) → k ≤ m → l ≤ m → (nat_le k n && (nat_le l n && (nat_le m n && true))) ≡ nat_le m n
@@ -43,9 +42,6 @@ put_in_three b new p c h e =
     let fits : holds b p (length (written_certificate c)) ≡ true = ap (holds b p) (length_written c) ∙ there in
     let room : p ≤ length b = grind (arith, nat_tests) in
     put_by (holds b p (length (written_certificate c))) b (splice b p (written_certificate c)) new fits e ∙ sym (put_at_once b p c room)
-
-pub end_is : (b : List ℕ) (p end : ℕ) (c : CertificateView) → written_end b p c ≡ Ok end → end ≡ p + written_length c
-end_is b p end c h = value_if (holds b p (written_length c)) (p + written_length c) end h
 
 pub never_refused : (b : List ℕ) (p : ℕ) (c : CertificateView) (r : Refusal) → all_fit (length b) (certificate_pieces p c) ≡ true → written_end b p c ≡ Err r → p ≡ p + written_length c
 never_refused b p c r h e =
