@@ -11,6 +11,7 @@ pub mod SectionsFirst
 pub mod ExceptionFields
 pub mod Overlays
 pub mod Rows
+pub mod Ends
 pub mod WrittenCertificates
 pub mod Laid
 pub mod Clashes

@@ -27,24 +27,6 @@ list_all-append p (x ∷ xs) ys = rw (list_all-append p xs ys) (and_assoc (p x) 
 pub all_fit_append : (n : ℕ) (xs ys : List Piece) → all_fit n (xs ++ ys) ≡ (all_fit n xs && all_fit n ys)
 all_fit_append n xs ys = list_all-append (fits n) xs ys
 
--- what is left to be tested decides, and the row ends where the rest of it does
-pub record Left {X : Type 0} (f : ℕ → X → List Piece) (w : X → ℕ) (n start : ℕ) (xs : List X) (offset : ℕ) (rest : List X) : Type 0 where
-  pub fit : all_fit n (in_a_row f w offset rest) ≡ all_fit n (in_a_row f w start xs)
-  pub ends : row_end w offset rest ≡ row_end w start xs
-
-pub left_first : {X : Type 0} (f : ℕ → X → List Piece) (w : X → ℕ) (n start : ℕ) (xs : List X) → Left f w n start xs start xs
-left_first f w n start xs = record { fit = refl; ends = refl }
-
-pub left_next : {X : Type 0} (f : ℕ → X → List Piece) (w : X → ℕ) (n start : ℕ) (xs : List X) (offset : ℕ) (x : X) (rest : List X) → Left f w n start xs offset (x ∷ rest) → all_fit n (f offset x) ≡ true → Left f w n start xs (offset + w x) rest
-left_next f w n start xs offset x rest l h = record {
-  fit = ap (λ t. t && all_fit n (in_a_row f w (offset + w x) rest)) (sym h) ∙ (sym (all_fit_append n (f offset x) (in_a_row f w (offset + w x) rest)) ∙ l.fit);
-  ends = l.ends;
-}
-
-pub left_refused : {X : Type 0} (f : ℕ → X → List Piece) (w : X → ℕ) (n start : ℕ) (xs : List X) (offset : ℕ) (x : X) (rest : List X) → Left f w n start xs offset (x ∷ rest) → all_fit n (f offset x) ≡ false → all_fit n (in_a_row f w start xs) ≡ false
-left_refused f w n start xs offset x rest l h =
-    sym l.fit ∙ (all_fit_append n (f offset x) (in_a_row f w (offset + w x) rest) ∙ ap (λ t. t && all_fit n (in_a_row f w (offset + w x) rest)) h)
-
 -- what is still to be put leaves the same bytes, and all of it fits
 pub record Goes {X : Type 0} (f : ℕ → X → List Piece) (w : X → ℕ) (b : List ℕ) (start : ℕ) (xs : List X) (now : List ℕ) (offset : ℕ) (rest : List X) : Type 0 where
   pub same : put_in_turn now (in_a_row f w offset rest) ≡ put_in_turn b (in_a_row f w start xs)

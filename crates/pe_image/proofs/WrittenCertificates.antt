@@ -1,19 +1,18 @@
 -- Certificates as pieces.
-use Rattle.std.proofs.Common.{◌≡◌, ℕ, ◌+◌, ◌≤◌, ◌<◌, ◌&&◌, Bool, true, false, cond, Ok, Err, List, [], ◌∷◌, ◌++◌, length, get_or, drop, map, ap, sym, ◌∙◌, arith}
+use Rattle.std.proofs.Common.{◌≡◌, ℕ, ◌+◌, ◌≤◌, ◌<◌, ◌&&◌, Bool, true, false, cond, Err, List, ◌++◌, length, get_or, drop, map, ap, sym, ◌∙◌, arith}
 use Rattle.std.specs.Prelude.{nat_le}
 use Rattle.std.proofs.lemmas.Bool.Decides.{nat_tests}
 use Rattle.std.proofs.lemmas.List.{length-append}
 use Rattle.pe_core.specs.Bytes.{holds, put, splice}
-use Rattle.pe_core.specs.Refusals.{Refusal, WriteFit, outcome}
+use Rattle.pe_core.specs.Refusals.{Refusal}
 use Rattle.pe_records.specs.Certificates.{CertificateView, certificate_view}
 use Rattle.pe_records.specs.declared.certificate_table.AttributeCertificate.{AttributeCertificate}
 use Rattle.pe_records.specs.CertificateWriting.{padding, spell_certificate, written_certificate, written_end, written_length}
 use Rattle.pe_records.proofs.CertificatePieces.{length-spell, length_written, three_pieces}
 use Rattle.pe_image.specs.Overlay.{all_fit}
-use Rattle.pe_image.specs.Pieces.{certificate_pieces, in_a_row, row_end}
+use Rattle.pe_image.specs.Pieces.{certificate_pieces, in_a_row}
 use Rattle.pe_image.specs.WritingSteps.{put_in_turn}
-use Rattle.pe_image.proofs.Rows.{Left, left_next, left_refused, Goes, goes_fits, goes_next, goes_last, rest_of_seen, no_rest_of_seen, fits_if, unfit_if, refused_if}
-use Rattle.pe_image.proofs.Steps.{accepted_if, value_if}
+use Rattle.pe_image.proofs.Rows.{Goes, goes_fits, goes_next, goes_last, rest_of_seen, no_rest_of_seen, unfit_if}
 
 -- three ends of which the last is the greatest
 last_end : (k l m n : ℕ) → k ≤ m → l ≤ m → (nat_le k n && (nat_le l n && (nat_le m n && true))) ≡ nat_le m n
@@ -44,38 +43,11 @@ put_in_three b new p c h e =
     let room : p ≤ length b = grind (arith, nat_tests) in
     put_by (holds b p (length (written_certificate c))) b (splice b p (written_certificate c)) new fits e ∙ sym (put_at_once b p c room)
 
-pub end_is : (b : List ℕ) (p end : ℕ) (c : CertificateView) → written_end b p c ≡ Ok end → end ≡ p + written_length c
-end_is b p end c h = value_if (holds b p (written_length c)) (p + written_length c) end h
-
 pub never_refused : (b : List ℕ) (p : ℕ) (c : CertificateView) (r : Refusal) → all_fit (length b) (certificate_pieces p c) ≡ true → written_end b p c ≡ Err r → p ≡ p + written_length c
 never_refused b p c r h e =
     let no : holds b p (written_length c) ≡ false = unfit_if (holds b p (written_length c)) (p + written_length c) r e in
     let yes : holds b p (written_length c) ≡ true = sym (fit_is b p c) ∙ h in
     absurd cc
-
--- ---- the test, certificate by certificate
-
-abbrev pub LeftCertificates : List ℕ → ℕ → List AttributeCertificate → ℕ → ℕ → Type 0
-LeftCertificates b start cs offset i = Left certificate_pieces written_length (length b) start (map certificate_view cs) offset (drop i (map certificate_view cs))
-
-pub certificate_left : (b : List ℕ) (start : ℕ) (cs : List AttributeCertificate) (offset end i : ℕ) (d : AttributeCertificate) → i < length cs → LeftCertificates b start cs offset i → written_end b offset (certificate_view (get_or cs i d)) ≡ Ok end → LeftCertificates b start cs end (i + 1)
-certificate_left b start cs offset end i d h l e =
-    let c : CertificateView = certificate_view (get_or cs i d) in
-    let fit : all_fit (length b) (certificate_pieces offset c) ≡ true = fit_is b offset c ∙ fits_if (holds b offset (written_length c)) (offset + written_length c) end e in
-    let same : end ≡ offset + written_length c = end_is b offset end c e in
-    rw same (left_next certificate_pieces written_length (length b) start (map certificate_view cs) offset c (drop (i + 1) (map certificate_view cs)) (rw (rest_of_seen certificate_view cs i d h) at l) fit)
-
-pub certificate_refused : (b : List ℕ) (start : ℕ) (cs : List AttributeCertificate) (offset i end : ℕ) (d : AttributeCertificate) (r : Refusal) → i < length cs → LeftCertificates b start cs offset i → written_end b offset (certificate_view (get_or cs i d)) ≡ Err r → outcome ((all_fit (length b) (in_a_row certificate_pieces written_length start (map certificate_view cs)), WriteFit) ∷ []) end ≡ Err r
-certificate_refused b start cs offset i end d r h l e =
-    let c : CertificateView = certificate_view (get_or cs i d) in
-    let t : Bool = holds b offset (written_length c) in
-    let unfit : all_fit (length b) (certificate_pieces offset c) ≡ false = fit_is b offset c ∙ unfit_if t (offset + written_length c) r e in
-    refused_if t _ (offset + written_length c) end r e (left_refused certificate_pieces written_length (length b) start (map certificate_view cs) offset c (drop (i + 1) (map certificate_view cs)) (rw (rest_of_seen certificate_view cs i d h) at l) unfit)
-
-pub certificates_accepted : (b : List ℕ) (start : ℕ) (cs : List AttributeCertificate) (offset i : ℕ) → length cs ≤ i → LeftCertificates b start cs offset i → outcome ((all_fit (length b) (in_a_row certificate_pieces written_length start (map certificate_view cs)), WriteFit) ∷ []) (row_end written_length start (map certificate_view cs)) ≡ Ok offset
-certificates_accepted b start cs offset i h l =
-    let last : Left certificate_pieces written_length (length b) start (map certificate_view cs) offset [] = rw (no_rest_of_seen certificate_view cs i h) at l in
-    accepted_if _ _ offset last.fit last.ends
 
 -- ---- the writing, certificate by certificate
 

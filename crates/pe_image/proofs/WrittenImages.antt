@@ -1,11 +1,10 @@
 -- All pieces of an image.
-use Rattle.std.proofs.Common.{◌≡◌, ℕ, ◌<◌, ◌&&◌, Bool, true, false, Err, List, [], ◌∷◌, ◌++◌, refl, ap, sym, ◌∙◌, arith}
+use Rattle.std.proofs.Common.{◌≡◌, ℕ, ◌<◌, ◌&&◌, true, List, ◌++◌, ap, sym, ◌∙◌, arith}
 use Rattle.std.specs.Prelude.{Option}
 use Rattle.std.specs.Int.{is_power_of_two}
 use Rattle.std.proofs.lemmas.Bool.{eqb-true}
 use Rattle.std.proofs.lemmas.Nat.{ones_le_self}
 use Rattle.pe_core.specs.Header.{HeaderView, OptionalHeaderView}
-use Rattle.pe_core.specs.Refusals.{Refusal, WriteFit, outcome}
 use Rattle.pe_core.specs.Sections.{sections_offset}
 use Rattle.pe_core.specs.declared.data_directories.DataDirectory.{DataDirectory}
 use Rattle.pe_core.specs.declared.section_table.SectionTable.{SectionTable}
@@ -15,7 +14,7 @@ use Rattle.pe_image.specs.Pieces.{all_certificate_pieces, all_section_pieces, he
 use Rattle.pe_image.specs.Writing.{certificate_directory, padded_pieces}
 use Rattle.pe_image.specs.WritingSteps.{put_in_turn}
 use Rattle.pe_image.proofs.Overlays.{put_append}
-use Rattle.pe_image.proofs.Rows.{all_fit_append, and_left, and_right, refused_if, unfit_if}
+use Rattle.pe_image.proofs.Rows.{all_fit_append, and_left, and_right}
 
 pub positive : (n : ℕ) → is_power_of_two n ≡ true → 0 < n
 positive n e = omega (arith, ones_le_self n, eqb-true _ _ e)
@@ -59,18 +58,3 @@ put_image old one two three u b h o sections cs given d source unit offset ss is
     let a = put_append (header_pieces h o ++ section_part u b h sections) (all_certificate_pieces (certificate_directory o) cs) old in
     let c = put_append (header_pieces h o) (section_part u b h sections) old in
     cc
-
-and_false : (a : Bool) → (a && false) ≡ false
-and_false true = refl
-and_false false = refl
-
--- where the certificates don't fit, the image doesn't
-pub certificates_refused : {Y Z : Type 0} (n : ℕ) (u : Option ℕ) (b : List ℕ) (h : HeaderView) (o : OptionalHeaderView) (sections : List SectionTable) (cs given : List CertificateView) (d : Option DataDirectory) (x : Y) (z : Z) (r : Refusal) → d ≡ certificate_directory o → given ≡ cs → outcome ((all_fit n (all_certificate_pieces d given), WriteFit) ∷ []) x ≡ Err r → outcome ((all_fit n (padded_pieces u b h o sections cs), WriteFit) ∷ []) z ≡ Err r
-unfolding padded_pieces
-certificates_refused n u b h o sections cs given d x z r e k f =
-    let before : List Piece = header_pieces h o ++ section_part u b h sections in
-    let unfit : all_fit n (all_certificate_pieces d given) ≡ false = unfit_if (all_fit n (all_certificate_pieces d given)) x r f in
-    let last : all_fit n (all_certificate_pieces (certificate_directory o) cs) ≡ false = rw (e, k) at unfit in
-    let all : all_fit n (before ++ all_certificate_pieces (certificate_directory o) cs) ≡ false =
-    all_fit_append n before (all_certificate_pieces (certificate_directory o) cs) ∙ (ap (λ t. all_fit n before && t) last ∙ and_false (all_fit n before)) in
-    refused_if (all_fit n (all_certificate_pieces d given)) (all_fit n (before ++ all_certificate_pieces (certificate_directory o) cs)) x z r f all

@@ -1,20 +1,18 @@
 -- Sections as pieces.
-use Rattle.std.proofs.Common.{◌≡◌, ℕ, zero, suc, ◌+◌, ◌*◌, ◌≤◌, ◌<◌, ◌&&◌, Bool, true, Ok, Err, List, [], ◌∷◌, length, get_or, drop, replicate, ◌∙◌, arith}
+use Rattle.std.proofs.Common.{◌≡◌, ℕ, zero, suc, ◌+◌, ◌≤◌, ◌<◌, ◌&&◌, true, List, [], ◌∷◌, length, get_or, drop, replicate, ◌∙◌, arith}
 use Rattle.std.specs.Prelude.{Option, nat_le}
 use Rattle.std.proofs.lemmas.List.{drop_all, length-replicate}
 use Rattle.std.proofs.lemmas.List.Edits.{length-between}
 use Rattle.std.proofs.lemmas.Bool.Decides.{nat_tests}
 use Rattle.pe_core.specs.Bytes.{holds, range}
-use Rattle.pe_core.specs.Refusals.{Refusal, WriteFit, outcome}
 use Rattle.pe_core.specs.Sections.{raw_end}
 use Rattle.pe_core.specs.declared.section_table.SectionTable.{SectionTable}
 use Rattle.pe_image.specs.Overlay.{all_fit}
-use Rattle.pe_image.specs.Pieces.{all_section_pieces, header_width, lacking, row_end, section_pieces}
+use Rattle.pe_image.specs.Pieces.{all_section_pieces, header_width, lacking, section_pieces}
 use Rattle.pe_image.specs.Writing.{all_in_source}
 use Rattle.pe_image.specs.WritingSteps.{put_in_turn}
 use Rattle.pe_image.proofs.Laid.{length_section}
-use Rattle.pe_image.proofs.Rows.{Left, left_next, left_refused, Goes, goes_fits, goes_next, goes_last, and_left, and_right, fits_if, unfit_if, refused_if, rest_at}
-use Rattle.pe_image.proofs.Steps.{accepted_if, value_if}
+use Rattle.pe_image.proofs.Rows.{Goes, goes_fits, goes_next, goes_last, and_left, and_right, rest_at}
 
 -- the pieces of a section fit exactly if its data, its header and its zeros do
 pub section_fit : (n : ℕ) (b : List ℕ) (unit : Option ℕ) (offset : ℕ) (s : SectionTable) → length s.name ≡ 8 → holds b s.pointer_to_raw_data s.size_of_raw_data ≡ true → all_fit n (section_pieces b unit offset s) ≡ (nat_le (raw_end s) n && (nat_le (offset + 40) n && nat_le (raw_end s + lacking s.size_of_raw_data unit) n))
@@ -33,34 +31,6 @@ pub inside_at : (b : List ℕ) (sections : List SectionTable) (i : ℕ) (d : Sec
 inside_at b [] i d h l = absurd (omega arith)
 inside_at b (s ∷ sections) zero d h l = and_left _ _ h
 inside_at b (s ∷ sections) (suc i) d h l = inside_at b sections i d (and_right _ _ h) (omega arith)
-
--- the headers end 40 bytes behind each other
-pub headers_end : (p : ℕ) (sections : List SectionTable) → row_end header_width p sections ≡ p + 40 * length sections
-headers_end p [] = omega arith
-headers_end p (s ∷ sections) = headers_end (p + 40) sections ∙ omega arith
-
--- ---- the test, section by section
-
-abbrev pub LeftSections : ℕ → List ℕ → Option ℕ → ℕ → List SectionTable → ℕ → ℕ → Type 0
-LeftSections n b unit start sections offset i = Left (section_pieces b unit) header_width n start sections offset (drop i sections)
-
-pub section_left : (n : ℕ) (b : List ℕ) (unit : Option ℕ) (start : ℕ) (sections : List SectionTable) (offset end i : ℕ) (d : SectionTable) → i < length sections → LeftSections n b unit start sections offset i → outcome ((all_fit n (section_pieces b unit offset (get_or sections i d)), WriteFit) ∷ []) (offset + 40) ≡ Ok end → LeftSections n b unit start sections end (i + 1)
-section_left n b unit start sections offset end i d h l e =
-    let s : SectionTable = get_or sections i d in
-    let t : Bool = all_fit n (section_pieces b unit offset s) in
-    let same : end ≡ offset + 40 = value_if t (offset + 40) end e in
-    rw same (left_next (section_pieces b unit) header_width n start sections offset s (drop (i + 1) sections) (rw (rest_at sections i d h) at l) (fits_if t (offset + 40) end e))
-
-pub section_refused : (n : ℕ) (b : List ℕ) (unit : Option ℕ) (start : ℕ) (sections : List SectionTable) (offset i end : ℕ) (d : SectionTable) (r : Refusal) → i < length sections → LeftSections n b unit start sections offset i → outcome ((all_fit n (section_pieces b unit offset (get_or sections i d)), WriteFit) ∷ []) (offset + 40) ≡ Err r → outcome ((all_fit n (all_section_pieces b unit start sections), WriteFit) ∷ []) end ≡ Err r
-section_refused n b unit start sections offset i end d r h l e =
-    let s : SectionTable = get_or sections i d in
-    let t : Bool = all_fit n (section_pieces b unit offset s) in
-    refused_if t _ (offset + 40) end r e (left_refused (section_pieces b unit) header_width n start sections offset s (drop (i + 1) sections) (rw (rest_at sections i d h) at l) (unfit_if t (offset + 40) r e))
-
-pub sections_accepted : (n : ℕ) (b : List ℕ) (unit : Option ℕ) (start : ℕ) (sections : List SectionTable) (offset i : ℕ) → length sections ≤ i → LeftSections n b unit start sections offset i → outcome ((all_fit n (all_section_pieces b unit start sections), WriteFit) ∷ []) (start + 40 * length sections) ≡ Ok offset
-sections_accepted n b unit start sections offset i h l =
-    let last : Left (section_pieces b unit) header_width n start sections offset [] = rw (drop_all i sections h) at l in
-    accepted_if _ _ offset last.fit (last.ends ∙ headers_end start sections)
 
 -- ---- the writing, section by section
 

@@ -1,5 +1,5 @@
 -- Bytes that are written over others, piece by piece. A byte is that of the last piece that covers its offset.
-use Rattle.std.specs.Prelude.{◌≡◌, ℕ, ◌+◌, ◌-◌, ◌&&◌, Bool, List, length, filter, replicate, Option, Some, None, Result, Ok, Err, nat_le, nat_lt, slice_index}
+use Rattle.std.specs.Prelude.{◌≡◌, ℕ, ◌+◌, ◌-◌, ◌&&◌, ◌^◌, max, Bool, List, [], ◌∷◌, length, filter, replicate, Option, Some, None, Result, Ok, Err, nat_le, nat_lt, slice_index}
 use Rattle.std.specs.List.{last_or, list_all}
 use Rattle.pe_core.specs.Rows.{each}
 use Rattle.pe_core.specs.declared.error.Error.{Error}
@@ -41,6 +41,15 @@ fits n x = nat_le (x.offset + length x.content) n
 -- every piece fits into n bytes
 abbrev pub all_fit : ℕ → List Piece → Bool
 all_fit n pieces = list_all (fits n) pieces
+
+-- the greatest end of a piece; 0 without a piece
+abbrev pub greatest_end : List Piece → ℕ
+greatest_end [] = 0
+greatest_end (x ∷ after) = max (x.offset + length x.content) (greatest_end after)
+
+-- the greatest length of a buffer in bytes
+abbrev pub longest : ℕ
+longest = 2 ^ 63 - 1
 
 -- all bytes of the piece are zeros
 abbrev pub IsOfZeros : Piece → Type 0

@@ -15,7 +15,7 @@ use Rattle.pe_core.specs.declared.section_table.SectionTable.{SectionTable}
 use Rattle.pe_records.specs.Certificates.{CertificateView}
 use Rattle.pe_image.specs.Image.{ImageView}
 use Rattle.pe_image.specs.Layout.{directory}
-use Rattle.pe_image.specs.Overlay.{Piece, all_fit, overlay, piece}
+use Rattle.pe_image.specs.Overlay.{Piece, all_fit, greatest_end, longest, overlay, piece}
 use Rattle.pe_image.specs.Pieces.{all_certificate_pieces, all_section_pieces, certificates_end, header_pieces}
 
 -- the number returned and the bytes left are the defined ones; a refusal is the defined one, and changes nothing
@@ -167,3 +167,28 @@ whole_by (Some o) b h sections cs old =
 -- the file b with the image over the old bytes
 abbrev pub whole_written : List ℕ → ImageView → List ℕ → Result (ℕ × List ℕ) Refusal
 whole_written b x old = whole_by x.header.optional_header b x.header x.sections x.certificates old
+
+-- ---- how long a buffer has to be
+
+-- how many bytes an image with an optional header needs: its pieces have to fit, and the tests are those of the longest
+-- buffer; refused without an optional header
+abbrev pub image_length_by : Option OptionalHeaderView → List ℕ → HeaderView → List SectionTable → List CertificateView → Result ℕ Refusal
+image_length_by None b h sections cs = Err NoOptionalHeader
+image_length_by (Some o) b h sections cs =
+    let pieces = image_pieces b h o sections cs in
+    outcome (image_tests b h o sections longest pieces) (greatest_end pieces)
+
+-- how many bytes a buffer needs for the image; the data of its sections is taken from b
+abbrev pub image_length : List ℕ → ImageView → Result ℕ Refusal
+image_length b x = image_length_by x.header.optional_header b x.header x.sections x.certificates
+
+-- how many bytes the file with the pieces of an image needs; refused without an optional header
+abbrev pub whole_length_by : Option OptionalHeaderView → List ℕ → HeaderView → List SectionTable → List CertificateView → Result ℕ Refusal
+whole_length_by None b h sections cs = Err NoOptionalHeader
+whole_length_by (Some o) b h sections cs =
+    let pieces = whole_pieces b h o sections cs in
+    outcome (section_tests b sections longest pieces) (greatest_end pieces)
+
+-- how many bytes a buffer needs for the file b with the image
+abbrev pub whole_length : List ℕ → ImageView → Result ℕ Refusal
+whole_length b x = whole_length_by x.header.optional_header b x.header x.sections x.certificates

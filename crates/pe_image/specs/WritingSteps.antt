@@ -1,22 +1,31 @@
 -- The steps of the writers. Only private contracts cite them, and the law that writing pieces in turn leaves their
 -- overlay.
-use Rattle.std.specs.Prelude.{ℕ, ◌||◌, ◌&&◌, Bool, true, false, List, [], ◌∷◌, map, nat_le, Option, Some}
+use Rattle.std.specs.Prelude.{ℕ, ◌||◌, ◌&&◌, ◌==◌, Bool, true, false, List, [], ◌∷◌, map, nat_le, Option, Some, Result}
+use Rattle.std.specs.Int.{is_power_of_two}
 use Rattle.pe_core.specs.Bytes.{splice}
 use Rattle.pe_core.specs.Header.{header_view, optional_header_view}
-use Rattle.pe_core.specs.Refusals.{Refusal}
+use Rattle.pe_core.specs.Refusals.{Refusal, WriteAlignment, WriteFit, WriteOverlap, WriteSection, WriteSymbols, outcome}
 use Rattle.pe_core.specs.Sections.{raw_end}
 use Rattle.pe_core.specs.declared.optional_header.OptionalHeader.{OptionalHeader}
 use Rattle.pe_core.specs.declared.section_table.SectionTable.{SectionTable}
 use Rattle.pe_records.specs.Certificates.{certificate_view}
 use Rattle.pe_image.specs.Image.{source_of}
-use Rattle.pe_image.specs.Overlay.{Piece}
-use Rattle.pe_image.specs.Writing.{image_end, image_tests, padded_pieces, same_section, whole_pieces}
+use Rattle.pe_image.specs.Overlay.{Piece, greatest_end, longest}
+use Rattle.pe_image.specs.Writing.{all_in_source, clash_free, image_end, image_tests, padded_pieces, same_section, whole_pieces}
 use Rattle.pe_image.specs.declared.pe.PE.{PE}
 
 -- the bytes after the pieces are written one after the other
 unfoldable pub put_in_turn : List ℕ → List Piece → List ℕ
 put_in_turn b [] = b
 put_in_turn b (x ∷ xs) = put_in_turn (splice b x.offset x.content) xs
+
+-- a value where a buffer may have n bytes, else `WriteFit`
+abbrev pub possible : {X : Type 0} → ℕ → X → Result X Refusal
+possible n value = outcome ((nat_le n longest, WriteFit) ∷ []) value
+
+-- the greatest end of the pieces, or `WriteFit` if no buffer is so long
+abbrev pub all_end : List Piece → Result ℕ Refusal
+all_end pieces = possible (greatest_end pieces) (greatest_end pieces)
 
 -- the section equals the next one, or ends at or before its start in the file
 abbrev pub rises_to : SectionTable → List SectionTable → Bool
@@ -67,3 +76,12 @@ abbrev pub own_tests : {Z : Type 0} → PE Z → OptionalHeader → ℕ → List
 own_tests x o n =
     image_tests (source_of x) (header_view x.header) (optional_header_view o) x.sections.items n
     (own_pieces x o (Some o.windows_fields.file_alignment))
+
+-- the tests of these but for the last, whether they fit
+abbrev pub field_tests : {Z : Type 0} → PE Z → OptionalHeader → List (Bool × Refusal)
+field_tests x o =
+    (is_power_of_two o.windows_fields.file_alignment, WriteAlignment)
+    ∷ (x.header.coff_header.pointer_to_symbol_table == 0, WriteSymbols)
+    ∷ (clash_free x.sections.items, WriteOverlap)
+    ∷ (all_in_source (source_of x) x.sections.items, WriteSection)
+    ∷ []

@@ -1,11 +1,11 @@
 //! Laws over the definitions of this crate. Each law is the contract of a function that does nothing. A caller's proof
 //! cites a law by calling the function.
 
-ghost use Rattle.std.specs.Prelude.{◌≡◌, ◌≢◌, ◌↔◌, ◌+◌, ◌/◌, ◌%◌, ◌<◌, ◌≤◌, ◌⊎◌, ℕ, List, [], Ok, Err, Option, Result, None, Some, length, slice_index, true, unwrap_or};
+ghost use Rattle.std.specs.Prelude.{◌≡◌, ◌≢◌, ◌↔◌, ◌+◌, ◌/◌, ◌%◌, ◌<◌, ◌≤◌, ◌⊎◌, ℕ, List, [], Ok, Err, Option, Result, None, Some, is_ok, length, slice_index, true, unwrap_or};
 ghost use Rattle.pe_core.specs.Bytes.{AreBytes, range};
 ghost use Rattle.pe_core.specs.Header.{OptionalHeaderView};
 ghost use Rattle.pe_core.specs.Imports.{ImportRecordView};
-ghost use Rattle.pe_core.specs.Refusals.{Refusal};
+ghost use Rattle.pe_core.specs.Refusals.{Refusal, WriteFit};
 ghost use Rattle.pe_core.specs.Sections.{SharesRawByte};
 ghost use Rattle.pe_core.specs.declared.section_table.SectionTable.{SectionTable};
 ghost use Rattle.pe_core.specs.declared.data_directories.DataDirectory.{DataDirectory};
@@ -22,9 +22,9 @@ ghost use Rattle.pe_image.specs.Layout.{alignment};
 ghost use Rattle.pe_image.specs.Fields.{Field, given_value};
 ghost use Rattle.pe_image.specs.Headline.{AreDerived, IsPermissive};
 ghost use Rattle.pe_image.specs.Image.{HasLibraries, ImageView, core_part, AreResourcesOf, IsImage, certificates_of, debug_of, exceptions_of, image_view, libraries_of, relocations_of};
-ghost use Rattle.pe_image.specs.Overlay.{EndsInZeros, LeavesOverlay, Piece, all_fit, overlay};
+ghost use Rattle.pe_image.specs.Overlay.{EndsInZeros, LeavesOverlay, Piece, all_fit, longest, overlay};
 ghost use Rattle.pe_image.specs.Pieces.{all_certificate_pieces, all_section_pieces};
-ghost use Rattle.pe_image.specs.Writing.{AreAligned, ReturnsWritten, certificate_directory, certificates_written, clash, image_pieces, image_written, padded_pieces, sections_written, whole_written};
+ghost use Rattle.pe_image.specs.Writing.{AreAligned, ReturnsWritten, certificate_directory, certificates_written, clash, image_length, image_pieces, image_written, padded_pieces, sections_written, whole_length, whole_written};
 ghost use Rattle.pe_image.specs.WritingSteps.{put_in_turn};
 ghost use Rattle.pe_image.specs.declared.pe.PE.{PE};
 
@@ -158,6 +158,24 @@ pub fn exception_data_are_of_the_bytes()
 pub fn pieces_in_turn_are_their_overlay()
     ensures { (b : List ℕ) (pieces : List Piece) →
         all_fit (length b) pieces ≡ true → put_in_turn b pieces ≡ overlay b pieces }
+{}
+
+/// What `written_len` and `whole_len` return is how many bytes a buffer needs. One of this length or more is written, and a
+/// shorter one is refused by `WriteFit`. Without such a length every buffer is refused, whatever its length, and by the
+/// same error.
+pub fn buffers_of_the_length_are_written()
+    ensures image { (b old : List ℕ) (x : ImageView) (n : ℕ) → image_length b x ≡ Ok n →
+        n ≤ length old → is_ok (image_written b x old) ≡ true }
+    ensures image_short { (b old : List ℕ) (x : ImageView) (n : ℕ) → image_length b x ≡ Ok n →
+        length old < n → image_written b x old ≡ Err WriteFit }
+    ensures image_refused { (b old : List ℕ) (x : ImageView) (e : Refusal) →
+        image_length b x ≡ Err e → length old ≤ longest → image_written b x old ≡ Err e }
+    ensures whole { (b old : List ℕ) (x : ImageView) (n : ℕ) → whole_length b x ≡ Ok n →
+        n ≤ length old → is_ok (whole_written b x old) ≡ true }
+    ensures whole_short { (b old : List ℕ) (x : ImageView) (n : ℕ) → whole_length b x ≡ Ok n →
+        length old < n → whole_written b x old ≡ Err WriteFit }
+    ensures whole_refused { (b old : List ℕ) (x : ImageView) (e : Refusal) →
+        whole_length b x ≡ Err e → length old ≤ longest → whole_written b x old ≡ Err e }
 {}
 
 /// Two sections clash exactly if they are not equal and share a byte of the file.

@@ -6,6 +6,7 @@
 //! leaves the buffer as it was.
 
 mod certificates;
+mod ends;
 mod headers;
 mod overlaps;
 mod records;
@@ -15,14 +16,14 @@ ghost use Rattle.std.specs.Prelude.{◌≡◌, [], ◌∷◌, IsTrue, OnOk, Some
 ghost use Rattle.pe_core.specs.Header.{header_view, optional_header_view};
 ghost use Rattle.pe_core.specs.Refusals.{Returns, WriteFit, outcome};
 ghost use Rattle.pe_records.specs.Certificates.{certificate_view};
-ghost use Rattle.pe_image.specs.Overlay.{all_fit};
-ghost use Rattle.pe_image.specs.WritingSteps.{own_end, own_pieces, own_tests, own_whole, put_in_turn};
+ghost use Rattle.pe_image.specs.Overlay.{all_fit, greatest_end};
+ghost use Rattle.pe_image.specs.WritingSteps.{field_tests, own_end, own_pieces, own_tests, own_whole, possible, put_in_turn};
 ghost use Rattle.pe_image.specs.Image.{image_view, source_of};
-ghost use Rattle.pe_image.specs.Writing.{Moves, ReturnsWritten, all_in_source, certificates_written, image_by, image_written, is_unit, section_tests, sections_written, whole_by, whole_written};
+ghost use Rattle.pe_image.specs.Writing.{Moves, ReturnsWritten, all_in_source, certificates_written, image_by, image_length, image_length_by, image_written, is_unit, section_tests, sections_written, whole_by, whole_length, whole_length_by, whole_written};
 
 use crate::pe::PE;
-use crate::write::certificates::{require_table, set_table, write_table};
-use crate::write::headers::{require_headers, set_headers};
+use crate::write::certificates::{certificates_end, set_table, write_table};
+use crate::write::headers::{headers_end, set_headers};
 use crate::write::overlaps::last_raw_end;
 use crate::write::sections::SectionWriter;
 use pe_core::{Error, OptionalHeader, Reason, Result, require_room, set_slice};
@@ -90,8 +91,39 @@ impl<'a, A: Allocator + Copy + Drop> PE<'a, A> {
         }
     }
 
+    /// The greatest end of all pieces, and what `write_into` returns. `WriteFit` if no buffer is so long.
+    #[tactic(auto, using(crate::proofs::Ends::image_reach))]
+    fn ends(&self, optional: &OptionalHeader, unit: Option<usize>) -> Result<(usize, usize)>
+        requires unit { IsTrue (is_unit unit) }
+        requires inside { IsTrue (all_in_source (source_of self.now) self.now.sections.items) }
+        ensures { Returns result (possible (greatest_end (own_pieces self.now optional.now unit))
+            (greatest_end (own_pieces self.now optional.now unit), own_end self.now optional.now)) }
+    {
+        let headers = headers_end(&self.header, optional)?;
+        let table = self.header.sections_offset();
+        let (sections, _) = self.section_writer(unit).ends(table)?;
+        let directory = optional.data_directories.get_certificate_table();
+        let certificates = certificates_end(directory, &self.certificates)?;
+        let end = table.max(last_raw_end(&self.sections)).max(certificates);
+        Ok((headers.max(sections).max(certificates), end))
+    }
+
+    /// The greatest end of the file and of all pieces over it, and what `write_whole` returns. `WriteFit` if no buffer
+    /// is so long.
+    fn whole_ends(&self, optional: &OptionalHeader) -> Result<(usize, usize)>
+        requires { IsTrue (all_in_source (source_of self.now) self.now.sections.items) }
+        ensures { Returns result (possible (greatest_end (own_whole self.now optional.now)) (
+          greatest_end (own_whole self.now optional.now),
+          max (length (source_of self.now)) (own_end self.now optional.now),
+        )) }
+    {
+        let (needed, end) = self.ends(optional, None)?;
+        let length = self.bytes.len();
+        Ok((length.max(needed), length.max(end)))
+    }
+
     /// Returns what `write_into` returns, or `WriteFit` if the pieces don't all fit.
-    #[tactic(auto, using(crate::proofs::Rows::all_fit_append), unfolding(crate::specs::Writing::padded_pieces))]
+    #[tactic(auto, using(crate::proofs::Ends::fit_by_end))]
     fn require_pieces(
         &self,
         buffer: &[u8],
@@ -104,16 +136,46 @@ impl<'a, A: Allocator + Copy + Drop> PE<'a, A> {
             ((all_fit (length buffer.now) (own_pieces self.now optional.now unit), WriteFit) ∷ [])
             (own_end self.now optional.now)) }
     {
-        require_headers(buffer, &self.header, optional)?;
-        let table = self.header.sections_offset();
-        self.section_writer(unit).require(buffer, table)?;
-        let directory = optional.data_directories.get_certificate_table();
-        let end = require_table(buffer, directory, &self.certificates)?;
-        Ok(table.max(last_raw_end(&self.sections)).max(end))
+        let (needed, end) = self.ends(optional, unit)?;
+        require_room(buffer, 0, needed)?;
+        Ok(end)
+    }
+
+    /// Returns what `write_whole` returns, or `WriteFit` if the file or a piece doesn't fit.
+    #[tactic(auto, using(crate::proofs::Ends::fit_by_end))]
+    fn require_whole_pieces(&self, buffer: &[u8], optional: &OptionalHeader) -> Result<usize>
+        requires { IsTrue (all_in_source (source_of self.now) self.now.sections.items) }
+        ensures { Returns result (outcome
+            ((all_fit (length buffer.now) (own_whole self.now optional.now), WriteFit) ∷ [])
+            (max (length (source_of self.now)) (own_end self.now optional.now))) }
+    {
+        let (needed, end) = self.whole_ends(optional)?;
+        require_room(buffer, 0, needed)?;
+        Ok(end)
+    }
+
+    /// Tests for the errors of `write_into` that neither the first nor the length of the buffer decides, in their order.
+    #[tactic(auto, using(crate::proofs::WrittenImages::positive))]
+    fn require_fields(&self, optional: &OptionalHeader) -> Result<()>
+        ensures returned { Returns result (outcome (field_tests self.now optional.now) tt) }
+        ensures unit { OnOk result
+            (IsTrue (is_unit (Some optional.now.windows_fields.file_alignment))) }
+        ensures inside { OnOk result
+            (IsTrue (all_in_source (source_of self.now) self.now.sections.items)) }
+    {
+        let alignment = optional.windows_fields.file_alignment as usize;
+        if !alignment.is_power_of_two() {
+            return Err(Error::Malformed(Reason::WriteAlignment(alignment)));
+        }
+        let symbols = self.header.coff_header.pointer_to_symbol_table;
+        if symbols != 0 {
+            return Err(Error::Malformed(Reason::WriteSymbols(symbols)));
+        }
+        self.section_writer(None).require_data()
     }
 
     /// Tests for all errors of `write_into` but the first, in their order. Returns what `write_into` returns.
-    #[tactic(auto, using(crate::proofs::WrittenImages::positive), unfolding(crate::specs::Writing::image_tests))]
+    #[tactic(auto, unfolding(crate::specs::Writing::image_tests))]
     fn require_image(&self, buffer: &[u8], optional: &OptionalHeader) -> Result<usize>
         ensures returned { Returns result (outcome
             (own_tests self.now optional.now (length buffer.now)) (own_end self.now optional.now)) }
@@ -124,15 +186,8 @@ impl<'a, A: Allocator + Copy + Drop> PE<'a, A> {
         ensures fit { OnOk result (IsTrue (all_fit (length buffer.now)
             (own_pieces self.now optional.now (Some optional.now.windows_fields.file_alignment)))) }
     {
+        self.require_fields(optional)?;
         let alignment = optional.windows_fields.file_alignment as usize;
-        if !alignment.is_power_of_two() {
-            return Err(Error::Malformed(Reason::WriteAlignment(alignment)));
-        }
-        let symbols = self.header.coff_header.pointer_to_symbol_table;
-        if symbols != 0 {
-            return Err(Error::Malformed(Reason::WriteSymbols(symbols)));
-        }
-        self.section_writer(None).require_data()?;
         self.require_pieces(buffer, optional, Some(alignment))
     }
 
@@ -147,9 +202,34 @@ impl<'a, A: Allocator + Copy + Drop> PE<'a, A> {
             (IsTrue (all_fit (length buffer.now) (own_whole self.now optional.now))) }
     {
         self.section_writer(None).require_data()?;
-        require_room(buffer, 0, self.bytes.len())?;
-        let end = self.require_pieces(buffer, optional, None)?;
-        Ok(self.bytes.len().max(end))
+        self.require_whole_pieces(buffer, optional)
+    }
+
+    /// How many bytes `write_into` needs with this optional header.
+    #[tactic(auto, using(crate::proofs::Ends::fit_by_end), unfolding(crate::specs::Writing::image_tests))]
+    fn written_len_with(&self, optional: &OptionalHeader) -> Result<usize>
+        ensures { Returns result
+            (image_length_by (Some (optional_header_view optional.now)) (source_of self.now)
+            (header_view self.now.header) self.now.sections.items
+            (map certificate_view self.now.certificates.items)) }
+    {
+        self.require_fields(optional)?;
+        let alignment = optional.windows_fields.file_alignment as usize;
+        let (needed, _) = self.ends(optional, Some(alignment))?;
+        Ok(needed)
+    }
+
+    /// How many bytes `write_whole` needs with this optional header.
+    #[tactic(auto, using(crate::proofs::Ends::fit_by_end))]
+    fn whole_len_with(&self, optional: &OptionalHeader) -> Result<usize>
+        ensures { Returns result
+            (whole_length_by (Some (optional_header_view optional.now)) (source_of self.now)
+            (header_view self.now.header) self.now.sections.items
+            (map certificate_view self.now.certificates.items)) }
+    {
+        self.section_writer(None).require_data()?;
+        let (needed, _) = self.whole_ends(optional)?;
+        Ok(needed)
     }
 
     /// Writes all pieces. The caller has checked that they fit.
@@ -250,6 +330,37 @@ impl<'a, A: Allocator + Copy + Drop> PE<'a, A> {
         match &self.header.optional_header {
             None => Err(Error::Malformed(Reason::NoOptionalHeader)),
             Some(optional) => self.write_with(buffer, optional),
+        }
+    }
+
+    /// How many bytes a buffer needs for `write_into`: the greatest end of the pieces. A buffer of this length or more is
+    /// written; a shorter one is refused by `WriteFit` (law `buffers_of_the_length_are_written`). It may be greater than
+    /// what `write_into` returns, which counts no zeros after a section, and smaller than the file that was read, whose
+    /// other bytes `write_into` doesn't write.
+    ///
+    /// Errors: those of `write_into`, in the same order, and `WriteFit` only if no buffer is long enough, since its
+    /// length is at most 2^63 - 1 bytes.
+    pub fn written_len(&self) -> Result<usize>
+        ensures { Returns result (image_length (source_of self.now) (image_view self.now)) }
+    {
+        match &self.header.optional_header {
+            None => Err(Error::Malformed(Reason::NoOptionalHeader)),
+            Some(optional) => self.written_len_with(optional),
+        }
+    }
+
+    /// How many bytes a buffer needs for `write_whole`: the length of the file, or the greatest end of a piece if that is
+    /// greater. A buffer of this length or more is written; a shorter one is refused by `WriteFit` (law
+    /// `buffers_of_the_length_are_written`).
+    ///
+    /// Errors: those of `write_whole`, in the same order, and `WriteFit` only if no buffer is long enough, since its
+    /// length is at most 2^63 - 1 bytes.
+    pub fn whole_len(&self) -> Result<usize>
+        ensures { Returns result (whole_length (source_of self.now) (image_view self.now)) }
+    {
+        match &self.header.optional_header {
+            None => Err(Error::Malformed(Reason::NoOptionalHeader)),
+            Some(optional) => self.whole_len_with(optional),
         }
     }
 }

@@ -5,48 +5,38 @@
 ghost use Rattle.std.specs.Prelude.{◌≡◌, ◌+◌, [], ◌∷◌, IsTrue, length, map};
 ghost use Rattle.pe_core.specs.Refusals.{Returns, WriteFit, outcome};
 ghost use Rattle.pe_records.specs.Certificates.{certificate_view};
-ghost use Rattle.pe_records.specs.CertificateWriting.{written_end, written_length};
+ghost use Rattle.pe_records.specs.CertificateWriting.{written_length};
 ghost use Rattle.pe_image.specs.Overlay.{all_fit};
 ghost use Rattle.pe_image.specs.Pieces.{all_certificate_pieces, certificate_pieces, certificates_end, in_a_row, row_end};
 ghost use Rattle.pe_image.specs.Writing.{ReturnsWritten, certificates_over};
-ghost use Rattle.pe_image.specs.WritingSteps.{put_in_turn};
+ghost use Rattle.pe_image.specs.WritingSteps.{possible, put_in_turn};
 
+use crate::write::ends::piece_end;
 use pe_core::{DataDirectory, Result, require_room, rounded_up};
 use pe_records::AttributeCertificate;
 
 /// The alignment of certificates in bytes: a written one is padded to a multiple of it.
 const UNIT: usize = 8;
 
-/// The offset after a certificate that is written at `offset`, or `WriteFit` if it doesn't fit.
-fn require_certificate(
-    buffer: &[u8],
-    offset: usize,
-    certificate: &AttributeCertificate<'_>,
-) -> Result<usize>
-    ensures { Returns result (written_end buffer.now offset (certificate_view certificate.now)) }
+/// The offset after a certificate that is written at `offset`. `WriteFit` if no buffer is so long.
+fn certificate_end(offset: usize, certificate: &AttributeCertificate<'_>) -> Result<usize>
+    ensures { Returns result (possible
+        (offset + written_length (certificate_view certificate.now))
+        (offset + written_length (certificate_view certificate.now))) }
 {
-    let size = rounded_up(8 + certificate.certificate.len(), UNIT);
-    require_room(buffer, offset, size)?;
-    Ok(offset + size)
+    piece_end(offset, rounded_up(8 + certificate.certificate.len(), UNIT))
 }
 
-/// The offset after certificates that are written one after the other from `start` on, or `WriteFit` if they don't all
-/// fit.
-fn require_certificates(
-    buffer: &[u8],
-    start: usize,
-    certificates: &[AttributeCertificate<'_>],
-) -> Result<usize>
-    ensures { Returns result (outcome ((
-      all_fit (length buffer.now) (in_a_row certificate_pieces
-          written_length start (map certificate_view certificates.now)),
-      WriteFit,
-    ) ∷ [])
+/// The offset after certificates that are written one after the other from `start` on. `WriteFit` if no buffer is so
+/// long.
+fn row_end(start: u32, certificates: &[AttributeCertificate<'_>]) -> Result<usize>
+    ensures { Returns result (possible
+        (row_end written_length start (map certificate_view certificates.now))
         (row_end written_length start (map certificate_view certificates.now))) }
 {
-    let mut offset = start;
+    let mut offset = start as usize;
     for i in 0..certificates.len() {
-        offset = require_certificate(buffer, offset, &certificates[i])?;
+        offset = certificate_end(offset, &certificates[i])?;
     }
     Ok(offset)
 }
@@ -85,8 +75,26 @@ fn set_certificates(buffer: &mut [u8], start: usize, certificates: &[AttributeCe
 }
 
 /// The end of the certificates that are written from the offset of the directory on, 0 if none is written. `WriteFit`
+/// if no buffer is so long.
+pub fn certificates_end(
+    directory: Option<DataDirectory>,
+    certificates: &[AttributeCertificate<'_>],
+) -> Result<usize>
+    ensures { Returns result (possible
+        (certificates_end directory (map certificate_view certificates.now))
+        (certificates_end directory (map certificate_view certificates.now))) }
+{
+    match directory {
+        None => Ok(0),
+        Some(_) if certificates.is_empty() => Ok(0),
+        Some(directory) => row_end(directory.virtual_address, certificates),
+    }
+}
+
+/// The end of the certificates that are written from the offset of the directory on, 0 if none is written. `WriteFit`
 /// if they don't all fit.
-pub fn require_table(
+#[tactic(auto, using(crate::proofs::Ends::fit_by_end, crate::proofs::Ends::certificates_reach))]
+fn require_table(
     buffer: &[u8],
     directory: Option<DataDirectory>,
     certificates: &[AttributeCertificate<'_>],
@@ -98,13 +106,9 @@ pub fn require_table(
     ) ∷ [])
         (certificates_end directory (map certificate_view certificates.now))) }
 {
-    match directory {
-        None => Ok(0),
-        Some(_) if certificates.is_empty() => Ok(0),
-        Some(directory) => {
-            require_certificates(buffer, directory.virtual_address as usize, certificates)
-        }
-    }
+    let end = certificates_end(directory, certificates)?;
+    require_room(buffer, 0, end)?;
+    Ok(end)
 }
 
 /// Writes the certificates from the offset of the directory on, none without a directory. The caller has checked that

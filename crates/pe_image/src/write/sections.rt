@@ -2,14 +2,15 @@
 //! the data up to the file alignment. Layout:
 //! <https://learn.microsoft.com/windows/win32/debug/pe-format#section-table-section-headers>.
 
-ghost use Rattle.std.specs.Prelude.{◌≡◌, ◌+◌, ◌*◌, [], ◌∷◌, IsTrue, OnOk, length};
+ghost use Rattle.std.specs.Prelude.{◌≡◌, ◌+◌, ◌*◌, ◌≤◌, [], ◌∷◌, IsTrue, OnOk, length};
 ghost use Rattle.pe_core.specs.Bytes.{holds};
 ghost use Rattle.pe_core.specs.Refusals.{Returns, WriteAlignment, WriteFit, WriteOverlap, WriteSection, outcome};
-ghost use Rattle.pe_image.specs.Overlay.{all_fit};
+ghost use Rattle.pe_image.specs.Overlay.{all_fit, greatest_end, longest};
 ghost use Rattle.pe_image.specs.Pieces.{all_section_pieces, header_width, in_a_row, lacking, section_pieces};
 ghost use Rattle.pe_image.specs.Writing.{ReturnsWritten, all_in_source, clash_free, is_unit, section_tests, sections_written};
-ghost use Rattle.pe_image.specs.WritingSteps.{put_in_turn};
+ghost use Rattle.pe_image.specs.WritingSteps.{all_end, possible, put_in_turn};
 
+use crate::write::ends::piece_end;
 use crate::write::overlaps::{first_clash, first_outside, raw_end};
 use crate::write::records::set_section;
 use pe_core::{Error, Reason, Result, SectionTable, require_room, set_slice, set_zeros};
@@ -56,30 +57,51 @@ impl<'a> SectionWriter<'a> {
         }
     }
 
-    /// The offset after the header of the section, which is written at `offset`. `WriteFit` if the pieces of the section
-    /// don't all fit.
-    #[tactic(auto, using(crate::proofs::WrittenSections::section_fit))]
-    fn require_section(&self, buffer: &[u8], offset: usize, section: &SectionTable) -> Result<usize>
+    /// The greatest end of the pieces of the section, whose header is written at `offset`. `WriteFit` if no buffer is so
+    /// long.
+    #[tactic(auto, using(crate::proofs::Ends::section_reach))]
+    fn section_end(&self, offset: usize, section: &SectionTable) -> Result<usize>
         requires unit { IsTrue (is_unit self.now.unit) }
         requires inside { IsTrue (holds
             self.now.source.now section.now.pointer_to_raw_data section.now.size_of_raw_data) }
-        ensures { Returns result (outcome ((
-          all_fit (length buffer.now) (section_pieces
-              self.now.source.now self.now.unit offset section.now),
-          WriteFit,
-        ) ∷ []) (offset + 40)) }
+        ensures end { Returns result (all_end
+            (section_pieces self.now.source.now self.now.unit offset section.now)) }
+        ensures header { OnOk result (offset + 40 ≤ longest) }
     {
-        let start = section.pointer_to_raw_data as usize;
-        require_room(buffer, start, section.size_of_raw_data as usize)?;
-        require_room(buffer, offset, SIZE_OF_SECTION_HEADER)?;
-        let zeros = lacking(section.size_of_raw_data, self.unit);
-        require_room(buffer, raw_end(section), zeros)?;
-        Ok(offset + SIZE_OF_SECTION_HEADER)
+        let padded = piece_end(
+            raw_end(section),
+            lacking(section.size_of_raw_data, self.unit),
+        )?;
+        let header = piece_end(offset, SIZE_OF_SECTION_HEADER)?;
+        Ok(padded.max(header))
+    }
+
+    /// The greatest end of the pieces of the sections, whose headers are written from `start` on, and the offset after
+    /// these headers. `WriteFit` if no buffer is so long.
+    pub fn ends(&self, start: usize) -> Result<(usize, usize)>
+        requires unit { IsTrue (is_unit self.now.unit) }
+        requires inside { IsTrue (all_in_source self.now.source.now self.now.sections.now) }
+        ensures { Returns result (possible
+            (greatest_end (all_section_pieces
+            self.now.source.now self.now.unit start self.now.sections.now)) (
+              greatest_end (all_section_pieces
+                  self.now.source.now self.now.unit start self.now.sections.now),
+              start + 40 * length self.now.sections.now,
+            )) }
+    {
+        let mut end = 0;
+        let mut offset = start;
+        for i in 0..self.sections.len() {
+            end = end.max(self.section_end(offset, &self.sections[i])?);
+            offset += SIZE_OF_SECTION_HEADER;
+        }
+        Ok((end, offset))
     }
 
     /// The offset after the section headers, which are written from `start` on. `WriteFit` if the pieces of the
     /// sections don't all fit.
-    pub fn require(&self, buffer: &[u8], start: usize) -> Result<usize>
+    #[tactic(auto, using(crate::proofs::Ends::fit_by_end))]
+    fn require(&self, buffer: &[u8], start: usize) -> Result<usize>
         requires unit { IsTrue (is_unit self.now.unit) }
         requires inside { IsTrue (all_in_source self.now.source.now self.now.sections.now) }
         ensures { Returns result (outcome ((
@@ -89,10 +111,8 @@ impl<'a> SectionWriter<'a> {
         ) ∷ [])
             (start + 40 * length self.now.sections.now)) }
     {
-        let mut offset = start;
-        for i in 0..self.sections.len() {
-            offset = self.require_section(buffer, offset, &self.sections[i])?;
-        }
+        let (end, offset) = self.ends(start)?;
+        require_room(buffer, 0, end)?;
         Ok(offset)
     }
 

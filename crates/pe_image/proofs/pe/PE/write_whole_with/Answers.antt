@@ -1,5 +1,5 @@
-use Rattle.std.proofs.Common.{ℕ, Bool, List, ◌∙◌, ◌∷◌, length, map, refl}
-use Rattle.std.specs.Prelude.{Option, None, max}
+use Rattle.std.proofs.Common.{ℕ, Bool, List, ◌∙◌, length, map, refl}
+use Rattle.std.specs.Prelude.{max}
 use Rattle.std.proofs.lemmas.Result.{err_from_is_err_and}
 use Rattle.pe_core.specs.Header.{HeaderView, OptionalHeaderView, header_view, optional_header_view}
 use Rattle.pe_core.specs.Refusals.{Refusal, kind_of}
