@@ -1,8 +1,9 @@
--- After a number or a delay import fewer bytes are left, and after a stream fewer streams.
+-- After a number, a delay import or a bound import fewer bytes are left, and after a stream fewer streams.
 use Rattle.std.proofs.Common.{◌≡◌, ℕ, ◌-◌, ◌<◌, ◌≤◌, ◌==◌, if◌then◌else◌, Bool, true, false, List, [], ◌∷◌, length, drop, Some, None, Result, Ok, Err, length-drop, refl, ap, sym, arith}
 use Rattle.std.proofs.lemmas.Bool.Decides.{nat_tests}
 use Rattle.pe_core.specs.Bytes.{holds}
 use Rattle.pe_core.specs.Refusals.{Short, outcome, ◌>>=◌}
+use Rattle.pe_directories.specs.BoundImports.{Bound, bound_at, bound_imports_end, bound_size, first_bound_import, bound_of}
 use Rattle.pe_directories.specs.Clr.{Stream, stream_of, first_stream}
 use Rattle.pe_directories.specs.DelayImports.{first_delay_import, delay_imports_end, delay_import_at}
 use Rattle.pe_directories.specs.declared.delay_import.DelayImport.{DelayImport}
@@ -28,6 +29,19 @@ fewer_by b n false true v x t some e h =
 pub delay_import_shrinks : (b : List ℕ) (x : DelayImport) (t : List ℕ) → first_delay_import b ≡ Some (Ok (x, t)) → length t < length b
 unfolding first_delay_import
 delay_import_shrinks b x t h = fewer_by b 32 (delay_imports_end b) (holds b 0 32) (delay_import_at b) x t (omega arith) refl h
+
+bound_fewer : (b : List ℕ) (n : ℕ) (ends there : Bool) (head : Bool) (v x : Bound) (t : List ℕ) → 0 < n → holds b 0 n ≡ there → (if ends then None else Some (outcome {Y = Bound × List ℕ} ((head, Image Short) ∷ (there, Image Short) ∷ []) (v, drop n b))) ≡ Some (Ok (x, t)) → length t < length b
+bound_fewer b n true there head v x t some e h = absurd (cc (h))
+bound_fewer b n false there false v x t some e h = absurd (cc (h))
+bound_fewer b n false false true v x t some e h = absurd (cc (h))
+bound_fewer b n false true true v x t some e h =
+    let room : n ≤ length b = grind (arith, nat_tests, e) in
+    let pair : (v, drop n b) ≡ (x, t) = cc (h) in
+    shorter b n t some room (ap (λ (p : Bound × List ℕ). p.1) pair)
+
+pub bound_import_shrinks : (b : List ℕ) (x : Bound) (t : List ℕ) → first_bound_import b ≡ Some (Ok (x, t)) → length t < length b
+unfolding first_bound_import bound_of
+bound_import_shrinks b x t h = bound_fewer b (bound_size b) (bound_imports_end b) (holds b 0 (bound_size b)) (holds b 0 8) (bound_at b) x t (omega arith) refl h
 
 abbrev pub count_of : ℕ × List ℕ → ℕ
 count_of s = s.0

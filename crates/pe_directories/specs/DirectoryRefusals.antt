@@ -14,6 +14,7 @@ pub data DirectoryRefusal : Type 0 where
   ClrHeaderSize : DirectoryRefusal
   StreamName : DirectoryRefusal
   DelayImportName : DirectoryRefusal
+  BoundImportName : DirectoryRefusal
 
 -- the kind of an error
 abbrev pub directory_kind_of : DirectoryError → DirectoryRefusal
@@ -25,6 +26,7 @@ directory_kind_of (errors.VaBelowBase va) = VaBelowBase
 directory_kind_of (errors.ClrHeaderSize size) = ClrHeaderSize
 directory_kind_of errors.StreamName = StreamName
 directory_kind_of (errors.DelayImportName address) = DelayImportName
+directory_kind_of (errors.BoundImportName offset) = BoundImportName
 
 -- the call returned the defined value, seen by view, or an error of the defined kind
 abbrev pub DirectoryReturns : {X Y : Type 0} → (X → Y) → Result X DirectoryError → Result Y DirectoryRefusal → Type 0

@@ -1,10 +1,14 @@
 pub mod DirectoryRefusals
+pub mod ForwardersAfter
 pub mod Walks
 pub mod ImageParts
 pub mod BaseRelocations
+pub mod BoundImports
 pub mod VaTables
 pub mod Tls
 pub mod DelayImports
 pub mod Clr
 pub mod LoadConfig
 pub mod Chosen
+pub mod RichHeader
+pub mod SectionNames

@@ -32,6 +32,10 @@ pub enum DirectoryError {
     /// The offset of the name of a delay-loaded DLL or function, which is not NUL-terminated or not UTF-8.
     #[error("name of a delay import at offset {0:#x} is not NUL-terminated or not UTF-8")]
     DelayImportName(usize),
+    /// The offset of the name of a bound DLL, from the start of the directory, which is not NUL-terminated in the
+    /// directory or not UTF-8.
+    #[error("name of a bound import at offset {0:#x} is not NUL-terminated or not UTF-8")]
+    BoundImportName(u16),
 }
 
 // So that `?` returns an error of pe_core as `Image`.

@@ -5,6 +5,7 @@ ghost use Rattle.std.specs.Iterator.{Drains};
 ghost use Rattle.pe_directories.specs.DirectoryRefusals.{directory_answer};
 ghost use Rattle.pe_directories.specs.Walks.{HasOneList, ItemsLeft};
 ghost use Rattle.pe_directories.specs.BaseRelocations.{block_view, first_block, blocks_left, first_relocation, relocations_left, page_of};
+ghost use Rattle.pe_directories.specs.BoundImports.{bound_view, first_bound_import, bound_imports_left};
 ghost use Rattle.pe_directories.specs.Clr.{stream_view, first_stream, streams_left};
 ghost use Rattle.pe_directories.specs.DelayImports.{first_delay_import, delay_imports_left};
 ghost use Rattle.pe_directories.specs.VaTables.{first_va, vas_left, vas_are_64};
@@ -12,6 +13,8 @@ ghost use Rattle.pe_directories.specs.declared.base_relocation.RelocationBlock.{
 ghost use Rattle.pe_directories.specs.declared.base_relocation.RelocationBlocks.{RelocationBlocks};
 ghost use Rattle.pe_directories.specs.declared.base_relocation.BaseRelocation.{BaseRelocation};
 ghost use Rattle.pe_directories.specs.declared.base_relocation.BaseRelocations.{BaseRelocations};
+ghost use Rattle.pe_directories.specs.declared.bound_import.BoundImport.{BoundImport};
+ghost use Rattle.pe_directories.specs.declared.bound_import.BoundImports.{BoundImports};
 ghost use Rattle.pe_directories.specs.declared.clr.ClrStream.{ClrStream};
 ghost use Rattle.pe_directories.specs.declared.clr.ClrStreams.{ClrStreams};
 ghost use Rattle.pe_directories.specs.declared.delay_import.DelayImport.{DelayImport};
@@ -20,6 +23,7 @@ ghost use Rattle.pe_directories.specs.declared.va_table.VaTable.{VaTable};
 ghost use Rattle.pe_directories.specs.declared.error.DirectoryError.{DirectoryError};
 
 use crate::base_relocation::{BaseRelocations, RelocationBlocks};
+use crate::bound_import::BoundImports;
 use crate::clr::ClrStreams;
 use crate::delay_import::DelayImports;
 use crate::va_table::VaTable;
@@ -64,4 +68,13 @@ pub fn delay_import_walks_return_the_list()
         Drains ⟦<DelayImports<'static> as Iterator>⟧.next_gives s xs →
         ItemsLeft first_delay_import (delay_imports_left s) (map (directory_answer (λ x. x)) xs) }
     ensures list { HasOneList first_delay_import }
+{}
+
+/// The items of a walk through bound imports are the entries of its bytes up to one without a name. Every byte string has one
+/// list of them.
+pub fn bound_import_walks_return_the_list()
+    ensures imports { (s : BoundImports) (xs : List (Result BoundImport DirectoryError)) →
+        Drains ⟦<BoundImports<'static> as Iterator>⟧.next_gives s xs →
+        ItemsLeft first_bound_import (bound_imports_left s) (map (directory_answer bound_view) xs) }
+    ensures list { HasOneList first_bound_import }
 {}

@@ -10,6 +10,7 @@
 #![tactic(auto)]
 
 mod base_relocation;
+mod bound_import;
 mod clr;
 mod delay_import;
 mod directories;
@@ -17,6 +18,8 @@ mod error;
 mod image_bytes;
 pub mod laws;
 mod load_config;
+mod rich_header;
+mod section_name;
 mod tls;
 mod va_table;
 
@@ -25,11 +28,16 @@ pub use base_relocation::{
     IMAGE_REL_BASED_HIGH, IMAGE_REL_BASED_HIGHADJ, IMAGE_REL_BASED_HIGHLOW, IMAGE_REL_BASED_LOW,
     RelocationBlock, RelocationBlocks,
 };
+pub use bound_import::{
+    BoundForwarder, BoundForwarders, BoundImport, BoundImportDirectory, BoundImports,
+};
 pub use clr::{ClrHeader, ClrMetadata, ClrStream, ClrStreams};
 pub use delay_import::{DelayImport, DelayImports, DelayedFunction};
 pub use directories::{ChosenDirectories, Directories};
 pub use error::DirectoryError;
 pub use image_bytes::ImageBytes;
 pub use load_config::LoadConfig;
+pub use rich_header::{RichEntry, RichHeader};
+pub use section_name::long_section_name;
 pub use tls::TlsDirectory;
 pub use va_table::VaTable;

@@ -1,0 +1,78 @@
+//! Names of sections that are longer than the 8 bytes of their header: a slash and the decimal offset of a string in the COFF
+//! string table, as `/4`, or two slashes and the offset in base 64, which LLVM writes above 9,999,999. Objects have such
+//! names, and images of mingw-w64 for their debug sections. See the
+//! [section table](https://learn.microsoft.com/windows/win32/debug/pe-format#section-table-section-headers).
+
+ghost use Rattle.std.specs.Prelude.{◌≡◌, ◌<◌};
+ghost use Rattle.std.specs.Option.{option_map};
+ghost use Rattle.pe_directories.specs.SectionNames.{digit_of, with_digit, number_after, offset_in_name, long_section_name};
+
+use pe_core::{SectionTable, Strtab};
+
+/// The value of a digit, in base 64 or decimal.
+#[tactic(auto, unfolding(crate::specs::SectionNames::digit_of))]
+fn digit_of(is_base_64: bool, digit: u8) -> Option<u8>
+    ensures { result ≡ digit_of is_base_64 digit }
+{
+    match digit {
+        b'A'..=b'Z' if is_base_64 => Some(digit - b'A'),
+        b'a'..=b'z' if is_base_64 => Some(digit - b'a' + 26),
+        b'0'..=b'9' if is_base_64 => Some(digit - b'0' + 52),
+        b'+' if is_base_64 => Some(62),
+        b'/' if is_base_64 => Some(63),
+        b'0'..=b'9' => Some(digit - b'0'),
+        _ => None,
+    }
+}
+
+/// The number with one more digit. `None` if it has more than 32 bits.
+#[tactic(auto, unfolding(crate::specs::SectionNames::with_digit))]
+fn with_digit(is_base_64: bool, number: u32, digit: u8) -> Option<u32>
+    ensures { result ≡ with_digit is_base_64 number digit }
+{
+    let base: u64 = if is_base_64 { 64 } else { 10 };
+    let number = base * u64::from(number) + u64::from(digit);
+    if number < 1 << 32 {
+        Some(number as u32)
+    } else {
+        None
+    }
+}
+
+/// The number that these digits write.
+#[tactic(auto, unfolding(crate::specs::SectionNames::number_after))]
+fn number_of(is_base_64: bool, digits: &[u8]) -> Option<u32>
+    ensures { result ≡ number_after is_base_64 0 digits.now }
+{
+    let mut number = 0;
+    let mut left = digits;
+    while let Some((first, rest)) = left.split_first() {
+        let digit = digit_of(is_base_64, *first)?;
+        number = with_digit(is_base_64, number, digit)?;
+        left = rest;
+    }
+    Some(number)
+}
+
+/// The offset in the string table that a name leads to.
+#[tactic(auto, unfolding(crate::specs::SectionNames::offset_in_name))]
+fn offset_in_name(name: &[u8]) -> Option<u32>
+    ensures { result ≡ offset_in_name name.now }
+{
+    match name {
+        [b'/', b'/', digits @ ..] => number_of(true, digits),
+        [b'/', digits @ ..] => number_of(false, digits),
+        _ => None,
+    }
+}
+
+/// The string of `strings`, the string table of the object or image, that the name of a section leads to. `None` if the name
+/// is none that leads there, as `.text`, or if there is no string at its offset.
+#[tactic(auto, unfolding(crate::specs::SectionNames::long_section_name))]
+pub fn long_section_name<'a>(section: &SectionTable, strings: &Strtab<'a>) -> Option<&'a str>
+    ensures { option_map (λ s. s.now) result
+        ≡ long_section_name section.now strings.now.bytes.now }
+{
+    let offset = offset_in_name(section.name()?.as_bytes())?;
+    strings.string_at(offset as usize)
+}
