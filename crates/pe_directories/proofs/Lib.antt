@@ -2,5 +2,4 @@ pub mod WholeWalks
 pub mod RelocationWalks
 pub mod Names
 pub mod OtherWalks
-pub mod Sums
 pub mod Words

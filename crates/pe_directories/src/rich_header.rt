@@ -163,7 +163,7 @@ impl<'a> RichHeader<'a> {
     }
 
     /// The offset of the header, and what all bytes before it add to the checksum.
-    #[tactic(auto, using(crate::proofs::Sums::fold_each), unfolding(pe_core::specs::Rows::each, crate::specs::RichHeader::stub_sum))]
+    #[tactic(auto, unfolding(pe_core::specs::Rows::each, crate::specs::RichHeader::stub_sum))]
     fn stub_sum(&self) -> u32
         ensures { result ≡ stub_sum self.now.before.now }
     {
@@ -176,7 +176,7 @@ impl<'a> RichHeader<'a> {
 
     /// The checksum that the linker takes as the key: the offset of the header, plus each byte before it, rotated left by its
     /// offset, but for the PE pointer, plus the first word of each entry, rotated left by its count.
-    #[tactic(auto, using(crate::proofs::Sums::fold_each), unfolding(pe_core::specs::Rows::each, crate::specs::RichHeader::rich_checksum))]
+    #[tactic(auto, unfolding(pe_core::specs::Rows::each, crate::specs::RichHeader::rich_checksum))]
     pub fn checksum(&self) -> u32
         ensures { result ≡ rich_checksum (rich_view self.now) }
     {

@@ -1,9 +1,0 @@
--- Sums of words, one more at a time.
-use Rattle.std.proofs.Common.{◌≡◌, ℕ, suc, [], ◌∷◌}
-use Rattle.std.specs.List.{fold}
-use Rattle.std.proofs.lemmas.List.Sums.{fold-append}
-use Rattle.pe_core.specs.Rows.{each}
-
-pub fold_each : {X B : Type 0} (f : B → X → B) (a : B) (g : ℕ → X) (n : ℕ) → fold f a (each g (suc n)) ≡ f (fold f a (each g n)) (g n)
-unfolding each
-fold_each f a g n = fold-append f a (each g n) (g n ∷ [])
