@@ -6,13 +6,12 @@ use Rattle.pe_core.specs.Bytes.{le, range, holds}
 use Rattle.pe_core.specs.Refusals.{Short, outcome, ◌>>=◌}
 use Rattle.pe_core.specs.declared.data_directories.DataDirectory.{DataDirectory}
 use Rattle.pe_directories.specs.DirectoryRefusals.{DirectoryRefusal, Image, BlockSize, BlockTruncated, NoArgument}
-use Rattle.pe_directories.specs.ImageParts.{table_of}
+use Rattle.pe_directories.specs.ImageParts.{ImageView, table_of}
 use Rattle.pe_directories.specs.Walks.{First}
 use Rattle.pe_directories.specs.declared.base_relocation.RelocationBlock.{RelocationBlock}
 use Rattle.pe_directories.specs.declared.base_relocation.RelocationBlocks.{RelocationBlocks}
 use Rattle.pe_directories.specs.declared.base_relocation.BaseRelocation.{BaseRelocation}
 use Rattle.pe_directories.specs.declared.base_relocation.BaseRelocations.{BaseRelocations}
-use Rattle.pe_directories.specs.declared.image_bytes.ImageBytes.{ImageBytes}
 
 -- what callers see of a block: the RVA of its page, and the bytes of its entries
 pub record Block : Type 0 where
@@ -74,5 +73,5 @@ abbrev pub page_of : BaseRelocations → ℕ
 page_of s = s.page_rva
 
 -- the blocks of a directory: as many bytes as its size says
-abbrev pub relocation_table : ImageBytes → DataDirectory → Result (Option (List ℕ)) DirectoryRefusal
+abbrev pub relocation_table : ImageView → DataDirectory → Result (Option (List ℕ)) DirectoryRefusal
 relocation_table i d = table_of i d >>= λ table. Ok (Some table)

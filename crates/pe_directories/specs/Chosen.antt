@@ -6,13 +6,13 @@ use Rattle.pe_core.specs.declared.data_directories.DataDirectory.{DataDirectory}
 use Rattle.pe_directories.specs.BaseRelocations.{blocks_left, relocation_table}
 use Rattle.pe_directories.specs.Clr.{clr_header}
 use Rattle.pe_directories.specs.DelayImports.{delay_imports_left, delay_import_table}
+use Rattle.pe_directories.specs.ImageParts.{ImageView}
 use Rattle.pe_directories.specs.DirectoryRefusals.{DirectoryRefusal, directory_answer}
 use Rattle.pe_directories.specs.LoadConfig.{load_config}
 use Rattle.pe_directories.specs.Tls.{tls_directory}
 use Rattle.pe_directories.specs.declared.directories.Directories.{Directories}
 use Rattle.pe_directories.specs.declared.directories.ChosenDirectories.{ChosenDirectories}
 use Rattle.pe_directories.specs.declared.error.DirectoryError.{DirectoryError}
-use Rattle.pe_directories.specs.declared.image_bytes.ImageBytes.{ImageBytes}
 
 -- a directory by its own definition, if it is chosen and present
 abbrev pub of_directory : {X : Type 0} → Bool → Option DataDirectory → (DataDirectory → Result X DirectoryRefusal) → Option (Result X DirectoryRefusal)
@@ -23,7 +23,7 @@ abbrev pub FieldIs : {X Y : Type 0} → (X → Y) → Option (Result X Directory
 FieldIs view field defined = option_map (directory_answer view) field ≡ defined
 
 -- each field is that of its own directory, whatever the others are
-pub record AreDirectories (i : ImageBytes) (rows : List DataDirectory) (chosen : ChosenDirectories) (d : Directories) : Type 0 where
+pub record AreDirectories (i : ImageView) (rows : List DataDirectory) (chosen : ChosenDirectories) (d : Directories) : Type 0 where
   pub base_relocations : FieldIs blocks_left d.base_relocations (of_directory chosen.base_relocations (present rows 5) (relocation_table i))
   pub tls : FieldIs (λ t. t) d.tls (of_directory chosen.tls (present rows 9) (tls_directory i))
   pub load_config : FieldIs (λ l. l) d.load_config (of_directory chosen.load_config (present rows 10) (load_config i))

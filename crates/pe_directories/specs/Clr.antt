@@ -7,13 +7,12 @@ use Rattle.pe_core.specs.Refusals.{Short, BadMagic, outcome, ◌>>=◌}
 use Rattle.pe_core.specs.SectionMap.{rounded_up}
 use Rattle.pe_core.specs.declared.data_directories.DataDirectory.{DataDirectory}
 use Rattle.pe_directories.specs.DirectoryRefusals.{DirectoryRefusal, Image, ClrHeaderSize, StreamName, of_image}
-use Rattle.pe_directories.specs.ImageParts.{record_of, table_of}
+use Rattle.pe_directories.specs.ImageParts.{ImageView, record_of, table_of}
 use Rattle.pe_directories.specs.Walks.{First}
 use Rattle.pe_directories.specs.declared.clr.ClrHeader.{ClrHeader}
 use Rattle.pe_directories.specs.declared.clr.ClrMetadata.{ClrMetadata}
 use Rattle.pe_directories.specs.declared.clr.ClrStream.{ClrStream}
 use Rattle.pe_directories.specs.declared.clr.ClrStreams.{ClrStreams}
-use Rattle.pe_directories.specs.declared.image_bytes.ImageBytes.{ImageBytes}
 
 -- ---- the header
 
@@ -35,9 +34,9 @@ clr_header_at b p = record {
 }
 
 -- the CLR header of an image; one that says that it has fewer than 72 bytes is refused
-unfoldable pub clr_header : ImageBytes → DataDirectory → Result ClrHeader DirectoryRefusal
+unfoldable pub clr_header : ImageView → DataDirectory → Result ClrHeader DirectoryRefusal
 clr_header i d =
-    record_of i d.virtual_address 72 >>= λ p. outcome ((nat_le 72 (le i.bytes.now p 4), ClrHeaderSize) ∷ []) (clr_header_at i.bytes.now p)
+    record_of i d.virtual_address 72 >>= λ p. outcome ((nat_le 72 (le i.bytes p 4), ClrHeaderSize) ∷ []) (clr_header_at i.bytes p)
 
 -- ---- the metadata root
 
@@ -83,7 +82,7 @@ metadata_of b =
     ) (metadata_at b (le b 12 4))
 
 -- the metadata root of a CLR header
-abbrev pub clr_metadata : ImageBytes → ClrHeader → Result Metadata DirectoryRefusal
+abbrev pub clr_metadata : ImageView → ClrHeader → Result Metadata DirectoryRefusal
 clr_metadata i h = table_of i h.metadata >>= metadata_of
 
 -- ---- the streams

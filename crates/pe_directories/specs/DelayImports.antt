@@ -6,13 +6,12 @@ use Rattle.pe_core.specs.Refusals.{Short, outcome, ◌>>=◌}
 use Rattle.pe_core.specs.Text.{text_at}
 use Rattle.pe_core.specs.declared.data_directories.DataDirectory.{DataDirectory}
 use Rattle.pe_directories.specs.DirectoryRefusals.{DirectoryRefusal, Image, DelayImportName, of_image}
-use Rattle.pe_directories.specs.ImageParts.{offset_of_rva, offset_of_va, table_of}
+use Rattle.pe_directories.specs.ImageParts.{ImageView, offset_of_rva, offset_of_va, table_of}
 use Rattle.pe_directories.specs.Walks.{First}
 use Rattle.pe_directories.specs.declared.delay_import.DelayImport.{DelayImport}
 use Rattle.pe_directories.specs.declared.delay_import.DelayImports.{DelayImports}
 use Rattle.pe_directories.specs.declared.delay_import.DelayedFunction.{DelayedFunction}
 use Rattle.pe_directories.specs.declared.delay_import.DelayedFunction.TheVariants as functions
-use Rattle.pe_directories.specs.declared.image_bytes.ImageBytes.{ImageBytes}
 
 -- an entry of the directory, 32 bytes
 unfoldable pub delay_import_at : List ℕ → DelayImport
@@ -38,7 +37,7 @@ first_delay_import b =
     else Some (outcome ((holds b 0 32, Image Short) ∷ []) (delay_import_at b, drop 32 b))
 
 -- the directory: as many bytes as its size says
-abbrev pub delay_import_table : ImageBytes → DataDirectory → Result (Option (List ℕ)) DirectoryRefusal
+abbrev pub delay_import_table : ImageView → DataDirectory → Result (Option (List ℕ)) DirectoryRefusal
 delay_import_table i d = table_of i d >>= λ table. Ok (Some table)
 
 -- the bytes that a walk has left
@@ -46,7 +45,7 @@ abbrev pub delay_imports_left : DelayImports → Option (List ℕ)
 delay_imports_left s = option_map (λ b. b.now) s.left
 
 -- the offset of an address in an entry: an RVA, or a virtual address if bit 0 of the attributes is clear
-unfoldable pub offset_in_entry : ImageBytes → DelayImport → ℕ → Result ℕ DirectoryRefusal
+unfoldable pub offset_in_entry : ImageView → DelayImport → ℕ → Result ℕ DirectoryRefusal
 offset_in_entry i e address =
     if e.attributes % 2 == 1 then offset_of_rva i address
     else offset_of_va i address
@@ -56,16 +55,16 @@ abbrev pub name_or_refusal : Option (List ℕ) → Result (List ℕ) DirectoryRe
 name_or_refusal None = Err DelayImportName
 name_or_refusal (Some name) = Ok name
 
-unfoldable pub delay_name : ImageBytes → ℕ → Result (List ℕ) DirectoryRefusal
-delay_name i p = name_or_refusal (text_at i.bytes.now p)
+unfoldable pub delay_name : ImageView → ℕ → Result (List ℕ) DirectoryRefusal
+delay_name i p = name_or_refusal (text_at i.bytes p)
 
 -- the name of the DLL
-abbrev pub delay_dll : ImageBytes → DelayImport → Result (List ℕ) DirectoryRefusal
+abbrev pub delay_dll : ImageView → DelayImport → Result (List ℕ) DirectoryRefusal
 delay_dll i e = offset_in_entry i e e.name >>= delay_name i
 
 -- the table of what is imported of the DLL
-abbrev pub lookup_table : ImageBytes → DelayImport → Result (Option (List ℕ)) DirectoryRefusal
-lookup_table i e = offset_in_entry i e e.import_name_table >>= λ p. Ok (Some (drop p i.bytes.now))
+abbrev pub lookup_table : ImageView → DelayImport → Result (Option (List ℕ)) DirectoryRefusal
+lookup_table i e = offset_in_entry i e e.import_name_table >>= λ p. Ok (Some (drop p i.bytes))
 
 -- what is imported, as callers see it
 pub data Function : Type 0 where
@@ -81,12 +80,12 @@ abbrev pub ordinal_flag : Bool → ℕ
 ordinal_flag is_64 = if is_64 then 2 ^ 63 else 2 ^ 31
 
 -- a hint of 2 bytes and the name after it
-unfoldable pub hint_and_name : ImageBytes → ℕ → Result Function DirectoryRefusal
+unfoldable pub hint_and_name : ImageView → ℕ → Result Function DirectoryRefusal
 hint_and_name i p =
-    of_image (record_at i.bytes.now p 2 (le i.bytes.now p 2)) >>= λ hint. delay_name i (p + 2) >>= λ name. Ok (Name hint name)
+    of_image (record_at i.bytes p 2 (le i.bytes p 2)) >>= λ hint. delay_name i (p + 2) >>= λ name. Ok (Name hint name)
 
 -- what a number of the table imports: an ordinal in the low 16 bits, or a hint and a name at the address in the low 31
-unfoldable pub imported_by : ImageBytes → DelayImport → ℕ → Result Function DirectoryRefusal
+unfoldable pub imported_by : ImageView → DelayImport → ℕ → Result Function DirectoryRefusal
 imported_by i e number =
     if nat_le (ordinal_flag i.is_64) number then Ok (Ordinal (number % 2 ^ 16))
     else (offset_in_entry i e (number % 2 ^ 31) >>= hint_and_name i)

@@ -4,8 +4,7 @@ use Rattle.pe_core.specs.Bytes.{le, range, holds, record_at}
 use Rattle.pe_core.specs.Refusals.{◌>>=◌}
 use Rattle.pe_core.specs.declared.data_directories.DataDirectory.{DataDirectory}
 use Rattle.pe_directories.specs.DirectoryRefusals.{DirectoryRefusal, of_image}
-use Rattle.pe_directories.specs.ImageParts.{record_of}
-use Rattle.pe_directories.specs.declared.image_bytes.ImageBytes.{ImageBytes}
+use Rattle.pe_directories.specs.ImageParts.{ImageView, record_of}
 use Rattle.pe_directories.specs.declared.load_config.LoadConfig.{LoadConfig}
 
 -- the field of n bytes at offset p of a load configuration with these bytes, if it has that field
@@ -49,11 +48,11 @@ load_config_64 size c = record {
 }
 
 -- the load configuration in these bytes, by the width of virtual addresses
-abbrev pub load_config_of : ImageBytes → ℕ → List ℕ → LoadConfig
+abbrev pub load_config_of : ImageView → ℕ → List ℕ → LoadConfig
 load_config_of i size c = if i.is_64 then load_config_64 size c else load_config_32 size c
 
 -- the load configuration of an image: its first 4 bytes say how many it has
-unfoldable pub load_config : ImageBytes → DataDirectory → Result LoadConfig DirectoryRefusal
+unfoldable pub load_config : ImageView → DataDirectory → Result LoadConfig DirectoryRefusal
 load_config i d =
-    let b : List ℕ = i.bytes.now in
+    let b : List ℕ = i.bytes in
     record_of i d.virtual_address 4 >>= λ p. of_image (record_at b p (le b p 4) (load_config_of i (le b p 4) (range b p (le b p 4))))

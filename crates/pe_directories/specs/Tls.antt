@@ -4,8 +4,7 @@ use Rattle.pe_core.specs.Bytes.{le}
 use Rattle.pe_core.specs.Refusals.{◌>>=◌}
 use Rattle.pe_core.specs.declared.data_directories.DataDirectory.{DataDirectory}
 use Rattle.pe_directories.specs.DirectoryRefusals.{DirectoryRefusal}
-use Rattle.pe_directories.specs.ImageParts.{record_of, table_at_va}
-use Rattle.pe_directories.specs.declared.image_bytes.ImageBytes.{ImageBytes}
+use Rattle.pe_directories.specs.ImageParts.{ImageView, record_of, table_at_va}
 use Rattle.pe_directories.specs.declared.tls.TlsDirectory.{TlsDirectory}
 
 -- the TLS directory of PE32, 24 bytes
@@ -31,10 +30,10 @@ tls_64 b p = record {
 }
 
 -- the TLS directory of an image
-unfoldable pub tls_directory : ImageBytes → DataDirectory → Result TlsDirectory DirectoryRefusal
+unfoldable pub tls_directory : ImageView → DataDirectory → Result TlsDirectory DirectoryRefusal
 tls_directory i d =
-    if i.is_64 then (record_of i d.virtual_address 40 >>= λ p. Ok (tls_64 i.bytes.now p))
-    else (record_of i d.virtual_address 24 >>= λ p. Ok (tls_32 i.bytes.now p))
+    if i.is_64 then (record_of i d.virtual_address 40 >>= λ p. Ok (tls_64 i.bytes p))
+    else (record_of i d.virtual_address 24 >>= λ p. Ok (tls_32 i.bytes p))
 
 -- the alignment of the data in bytes, from bits 20 to 23 of the characteristics: 1 to 14 stand for 1 to 8192
 abbrev pub alignment_of : ℕ → Option ℕ
@@ -43,7 +42,7 @@ alignment_of characteristics =
     if n == 0 || n == 15 then None else Some (2 ^ (n - 1))
 
 -- the table of callbacks of a TLS directory; without an address there is none
-unfoldable pub callback_table : ImageBytes → TlsDirectory → Result (Option (List ℕ)) DirectoryRefusal
+unfoldable pub callback_table : ImageView → TlsDirectory → Result (Option (List ℕ)) DirectoryRefusal
 callback_table i t =
     if t.address_of_callbacks == 0 then Ok None
     else (table_at_va i t.address_of_callbacks >>= λ table. Ok (Some table))

@@ -13,6 +13,7 @@ ghost use Rattle.pe_core.specs.Text.{text_at};
 ghost use Rattle.pe_directories.specs.DirectoryRefusals.{DirectoryReturns};
 ghost use Rattle.pe_directories.specs.Walks.{Steps};
 ghost use Rattle.pe_directories.specs.Clr.{clr_header_at, clr_header, metadata_view, metadata_of, clr_metadata, stream_view, name_field, name_length, stream_of, first_stream, streams_left, most_streams, stream_bytes};
+ghost use Rattle.pe_directories.specs.ImageParts.{image_view};
 
 use crate::error::{DirectoryError, Result};
 use crate::image_bytes::ImageBytes;
@@ -103,7 +104,7 @@ impl ClrHeader {
     /// with `Unmapped`; `Image` with `Short`; `ClrHeaderSize` if the header says that it has fewer than 72 bytes.
     #[tactic(auto, unfolding(crate::specs::Clr::clr_header))]
     pub fn parse(image: &ImageBytes<'_>, directory: DataDirectory) -> Result<ClrHeader>
-        ensures { DirectoryReturns (λ h. h) result (clr_header image.now directory) }
+        ensures { DirectoryReturns (λ h. h) result (clr_header (image_view image.now) directory) }
     {
         let offset = image.record_at(directory.virtual_address, SIZE_OF_CLR_HEADER)?;
         let size = read_u32(image.bytes, offset);
@@ -117,7 +118,7 @@ impl ClrHeader {
     /// truncated, or do not hold the first 16 bytes of the root; `Image` with `BadMagic` if they do not start with `BSJB`;
     /// `Image` with `Short` if they do not hold the root.
     pub fn metadata<'a>(&self, image: &ImageBytes<'a>) -> Result<ClrMetadata<'a>>
-        ensures { DirectoryReturns metadata_view result (clr_metadata image.now self.now) }
+        ensures { DirectoryReturns metadata_view result (clr_metadata (image_view image.now) self.now) }
     {
         ClrMetadata::parse(image.table(self.metadata)?)
     }

@@ -10,6 +10,7 @@ ghost use Rattle.std.specs.Prelude.{◌≡◌, ◌+◌, ◌≤◌, length, IfOk}
 ghost use Rattle.std.specs.Iterator.{at_most};
 ghost use Rattle.pe_directories.specs.DelayImports.{delay_import_at, first_delay_import, delay_import_table, delay_imports_left, offset_in_entry, delay_name, delay_dll, lookup_table, function_view, hint_and_name, imported_by};
 ghost use Rattle.pe_directories.specs.DirectoryRefusals.{DirectoryReturns};
+ghost use Rattle.pe_directories.specs.ImageParts.{image_view};
 ghost use Rattle.pe_directories.specs.VaTables.{vas_left, vas_are_64};
 ghost use Rattle.pe_directories.specs.Walks.{ReturnsFirst, LeavesFewer, Steps, most_left};
 
@@ -55,7 +56,7 @@ pub enum DelayedFunction<'a> {
 /// The name at an offset. Error: `DelayImportName`.
 #[tactic(auto, unfolding(crate::specs::DelayImports::delay_name))]
 fn name_at<'a>(image: &ImageBytes<'a>, offset: usize) -> Result<&'a str>
-    ensures { DirectoryReturns (λ s. s.now) result (delay_name image.now offset) }
+    ensures { DirectoryReturns (λ s. s.now) result (delay_name (image_view image.now) offset) }
 {
     match text_at(image.bytes, offset) {
         Some(name) => Ok(name),
@@ -66,7 +67,7 @@ fn name_at<'a>(image: &ImageBytes<'a>, offset: usize) -> Result<&'a str>
 /// The hint at an offset, and the name after it. Errors, in order: `Image` with `Short`; `DelayImportName`.
 #[tactic(auto, unfolding(crate::specs::DelayImports::hint_and_name))]
 fn hint_and_name<'a>(image: &ImageBytes<'a>, offset: usize) -> Result<DelayedFunction<'a>>
-    ensures { DirectoryReturns function_view result (hint_and_name image.now offset) }
+    ensures { DirectoryReturns function_view result (hint_and_name (image_view image.now) offset) }
 {
     let hint = u16_at(image.bytes, offset)?;
     let name = name_at(image, offset + 2)?;
@@ -96,7 +97,7 @@ impl DelayImport {
     /// `Unmapped`.
     #[tactic(auto, unfolding(crate::specs::DelayImports::offset_in_entry))]
     fn offset_of(&self, image: &ImageBytes<'_>, address: u32) -> Result<usize>
-        ensures { DirectoryReturns (λ p. p) result (offset_in_entry image.now self.now address) }
+        ensures { DirectoryReturns (λ p. p) result (offset_in_entry (image_view image.now) self.now address) }
     {
         if self.attributes % 2 == 1 {
             image.offset_of_rva(address)
@@ -107,7 +108,7 @@ impl DelayImport {
 
     /// The name of the DLL. Errors, in order: `VaBelowBase`, `Image` with `Unmapped`, `DelayImportName`.
     pub fn dll<'a>(&self, image: &ImageBytes<'a>) -> Result<&'a str>
-        ensures { DirectoryReturns (λ s. s.now) result (delay_dll image.now self.now) }
+        ensures { DirectoryReturns (λ s. s.now) result (delay_dll (image_view image.now) self.now) }
     {
         let offset = self.offset_of(image, self.name)?;
         name_at(image, offset)
@@ -116,7 +117,7 @@ impl DelayImport {
     /// The table of what is imported of the DLL: numbers for `imported`. Errors, in order: `VaBelowBase`, `Image` with
     /// `Unmapped`.
     pub fn lookups<'a>(&self, image: &ImageBytes<'a>) -> Result<VaTable<'a>>
-        ensures left { DirectoryReturns vas_left result (lookup_table image.now self.now) }
+        ensures left { DirectoryReturns vas_left result (lookup_table (image_view image.now) self.now) }
         ensures width { IfOk result (λ s. vas_are_64 s ≡ image.now.is_64) }
     {
         let offset = self.offset_of(image, self.import_name_table)?;
@@ -128,7 +129,7 @@ impl DelayImport {
     #[tactic(auto, unfolding(crate::specs::DelayImports::imported_by))]
     pub fn imported<'a>(&self, image: &ImageBytes<'a>, lookup: u64) -> Result<DelayedFunction<'a>>
         ensures { DirectoryReturns function_view result
-            (imported_by image.now self.now lookup) }
+            (imported_by (image_view image.now) self.now lookup) }
     {
         let ordinals: u64 = if image.is_64 { 1 << 63 } else { 1 << 31 };
         if lookup >= ordinals {
@@ -169,7 +170,7 @@ impl<'a> DelayImports<'a> {
     /// `Image` with `Short`.
     pub fn parse(image: &ImageBytes<'a>, directory: DataDirectory) -> Result<DelayImports<'a>>
         ensures { DirectoryReturns
-            delay_imports_left result (delay_import_table image.now directory) }
+            delay_imports_left result (delay_import_table (image_view image.now) directory) }
     {
         Ok(DelayImports {
             left: Some(image.table(directory)?),

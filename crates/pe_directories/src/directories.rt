@@ -7,6 +7,7 @@ ghost use Rattle.pe_directories.specs.BaseRelocations.{blocks_left, relocation_t
 ghost use Rattle.pe_directories.specs.Chosen.{AreDirectories, FieldIs, of_directory};
 ghost use Rattle.pe_directories.specs.Clr.{clr_header};
 ghost use Rattle.pe_directories.specs.DelayImports.{delay_imports_left, delay_import_table};
+ghost use Rattle.pe_directories.specs.ImageParts.{image_view};
 ghost use Rattle.pe_directories.specs.LoadConfig.{load_config};
 ghost use Rattle.pe_directories.specs.Tls.{tls_directory};
 
@@ -78,7 +79,7 @@ impl<'a> Directories<'a> {
         entries: &DataDirectories,
         chosen: ChosenDirectories,
     ) -> Directories<'a>
-        ensures { AreDirectories image.now (kept_rows entries.now) chosen result }
+        ensures { AreDirectories (image_view image.now) (kept_rows entries.now) chosen result }
     {
         Directories {
             base_relocations: base_relocations(image, entries, chosen),
@@ -97,7 +98,7 @@ fn base_relocations<'a>(
     chosen: ChosenDirectories,
 ) -> Option<Result<RelocationBlocks<'a>>>
     ensures { FieldIs blocks_left result (of_directory chosen.base_relocations
-        (present (kept_rows entries.now) 5) (relocation_table image.now)) }
+        (present (kept_rows entries.now) 5) (relocation_table (image_view image.now))) }
 {
     if !chosen.base_relocations {
         return None;
@@ -113,7 +114,7 @@ fn tls(
     chosen: ChosenDirectories,
 ) -> Option<Result<TlsDirectory>>
     ensures { FieldIs (λ t. t) result (of_directory chosen.tls
-        (present (kept_rows entries.now) 9) (tls_directory image.now)) }
+        (present (kept_rows entries.now) 9) (tls_directory (image_view image.now))) }
 {
     if !chosen.tls {
         return None;
@@ -129,7 +130,7 @@ fn load_config(
     chosen: ChosenDirectories,
 ) -> Option<Result<LoadConfig>>
     ensures { FieldIs (λ l. l) result (of_directory chosen.load_config
-        (present (kept_rows entries.now) 10) (load_config image.now)) }
+        (present (kept_rows entries.now) 10) (load_config (image_view image.now))) }
 {
     if !chosen.load_config {
         return None;
@@ -145,7 +146,7 @@ fn delay_imports<'a>(
     chosen: ChosenDirectories,
 ) -> Option<Result<DelayImports<'a>>>
     ensures { FieldIs delay_imports_left result (of_directory chosen.delay_imports
-        (present (kept_rows entries.now) 13) (delay_import_table image.now)) }
+        (present (kept_rows entries.now) 13) (delay_import_table (image_view image.now))) }
 {
     if !chosen.delay_imports {
         return None;
@@ -161,7 +162,7 @@ fn clr_header(
     chosen: ChosenDirectories,
 ) -> Option<Result<ClrHeader>>
     ensures { FieldIs (λ h. h) result (of_directory chosen.clr_header
-        (present (kept_rows entries.now) 14) (clr_header image.now)) }
+        (present (kept_rows entries.now) 14) (clr_header (image_view image.now))) }
 {
     if !chosen.clr_header {
         return None;

@@ -4,7 +4,7 @@
 ghost use Rattle.std.specs.Prelude.{◌≡◌, drop};
 ghost use Rattle.pe_core.specs.Header.{optional_header_view};
 ghost use Rattle.pe_directories.specs.DirectoryRefusals.{DirectoryReturns};
-ghost use Rattle.pe_directories.specs.ImageParts.{IsImage, offset_of_rva, offset_of_va, table_at_va, record_of, table_of, size_of_va};
+ghost use Rattle.pe_directories.specs.ImageParts.{image_view, image_with, offset_of_rva, offset_of_va, table_at_va, record_of, table_of, size_of_va};
 
 use crate::error::{DirectoryError, Result};
 use pe_core::{
@@ -37,8 +37,8 @@ impl<'a> ImageBytes<'a> {
         sections: &'a [SectionTable],
         opts: &ParseOptions,
     ) -> ImageBytes<'a>
-        ensures { IsImage bytes.entry.now
-            (optional_header_view optional_header.now) sections.entry.now opts.now result }
+        ensures { image_view result ≡ image_with bytes.entry.now
+            (optional_header_view optional_header.now) sections.entry.now opts.now }
     {
         ImageBytes {
             bytes,
@@ -52,7 +52,7 @@ impl<'a> ImageBytes<'a> {
 
     /// The offset of an RVA in the bytes. Error: `Image` with `Unmapped`.
     pub(crate) fn offset_of_rva(&self, rva: u32) -> Result<usize>
-        ensures { DirectoryReturns (λ p. p) result (offset_of_rva self.now rva) }
+        ensures { DirectoryReturns (λ p. p) result (offset_of_rva (image_view self.now) rva) }
     {
         Ok(mapped_offset(rva, self.sections, self.file_alignment, &self.opts)?)
     }
@@ -60,7 +60,7 @@ impl<'a> ImageBytes<'a> {
     /// The offset of a record of `size` bytes at an RVA, which are all there. Errors, in order: `Image` with `Unmapped`;
     /// `Image` with `Short`.
     pub(crate) fn record_at(&self, rva: u32, size: usize) -> Result<usize>
-        ensures { DirectoryReturns (λ p. p) result (record_of self.now rva size) }
+        ensures { DirectoryReturns (λ p. p) result (record_of (image_view self.now) rva size) }
     {
         let offset = self.offset_of_rva(rva)?;
         require_bytes(self.bytes, offset, size)?;
@@ -69,7 +69,7 @@ impl<'a> ImageBytes<'a> {
 
     /// The bytes at the RVA of a directory, as many as its size says. Errors: those of `record_at`.
     pub(crate) fn table(&self, directory: DataDirectory) -> Result<&'a [u8]>
-        ensures { DirectoryReturns (λ s. s.now) result (table_of self.now directory) }
+        ensures { DirectoryReturns (λ s. s.now) result (table_of (image_view self.now) directory) }
     {
         let size = directory.size as usize;
         let offset = self.record_at(directory.virtual_address, size)?;
@@ -80,7 +80,7 @@ impl<'a> ImageBytes<'a> {
     /// with `Unmapped`.
     #[tactic(auto, unfolding(crate::specs::ImageParts::offset_of_va))]
     pub fn offset_of_va(&self, va: u64) -> Result<usize>
-        ensures { DirectoryReturns (λ p. p) result (offset_of_va self.now va) }
+        ensures { DirectoryReturns (λ p. p) result (offset_of_va (image_view self.now) va) }
     {
         if va < self.image_base {
             return Err(DirectoryError::VaBelowBase(va));
@@ -106,7 +106,7 @@ impl<'a> ImageBytes<'a> {
 
     /// The bytes from a virtual address on, none past their end. Errors: those of `offset_of_va`.
     pub(crate) fn table_at_va(&self, va: u64) -> Result<&'a [u8]>
-        ensures { DirectoryReturns (λ s. s.now) result (table_at_va self.now va) }
+        ensures { DirectoryReturns (λ s. s.now) result (table_at_va (image_view self.now) va) }
     {
         let offset = self.offset_of_va(va)?;
         Ok(self.from_offset(offset))

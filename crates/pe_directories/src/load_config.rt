@@ -9,6 +9,7 @@
 
 ghost use Rattle.std.specs.Prelude.{◌≡◌};
 ghost use Rattle.pe_directories.specs.DirectoryRefusals.{DirectoryReturns};
+ghost use Rattle.pe_directories.specs.ImageParts.{image_view};
 ghost use Rattle.pe_directories.specs.LoadConfig.{field, load_config_32, load_config_64, load_config};
 
 use crate::error::Result;
@@ -124,7 +125,7 @@ impl LoadConfig {
     /// `Unmapped`; `Image` with `Short`.
     #[tactic(auto, unfolding(crate::specs::LoadConfig::load_config))]
     pub fn parse(image: &ImageBytes<'_>, directory: DataDirectory) -> Result<LoadConfig>
-        ensures { DirectoryReturns (λ l. l) result (load_config image.now directory) }
+        ensures { DirectoryReturns (λ l. l) result (load_config (image_view image.now) directory) }
     {
         let offset = image.record_at(directory.virtual_address, 4)?;
         let size = read_u32(image.bytes, offset);

@@ -5,6 +5,7 @@
 
 ghost use Rattle.std.specs.Prelude.{◌≡◌, ◌+◌, ◌≤◌, length, IfOk};
 ghost use Rattle.pe_directories.specs.DirectoryRefusals.{DirectoryReturns};
+ghost use Rattle.pe_directories.specs.ImageParts.{image_view};
 ghost use Rattle.pe_directories.specs.Tls.{tls_32, tls_64, tls_directory, alignment_of, callback_table};
 ghost use Rattle.pe_directories.specs.VaTables.{vas_left, vas_are_64};
 
@@ -73,7 +74,7 @@ impl TlsDirectory {
     /// with `Unmapped`; `Image` with `Short`.
     #[tactic(auto, unfolding(crate::specs::Tls::tls_directory))]
     pub fn parse(image: &ImageBytes<'_>, directory: DataDirectory) -> Result<TlsDirectory>
-        ensures { DirectoryReturns (λ t. t) result (tls_directory image.now directory) }
+        ensures { DirectoryReturns (λ t. t) result (tls_directory (image_view image.now) directory) }
     {
         if image.is_64 {
             let offset = image.record_at(directory.virtual_address, SIZE_OF_TLS_64)?;
@@ -100,7 +101,7 @@ impl TlsDirectory {
     /// base; `Image` with `Unmapped`.
     #[tactic(auto, unfolding(crate::specs::Tls::callback_table))]
     pub fn callbacks<'a>(&self, image: &ImageBytes<'a>) -> Result<VaTable<'a>>
-        ensures left { DirectoryReturns vas_left result (callback_table image.now self.now) }
+        ensures left { DirectoryReturns vas_left result (callback_table (image_view image.now) self.now) }
         ensures width { IfOk result (λ s. vas_are_64 s ≡ image.now.is_64) }
     {
         if self.address_of_callbacks == 0 {
