@@ -4,6 +4,7 @@ use Rattle.pe_core.specs.Bytes.{range, record_at}
 use Rattle.pe_core.specs.Header.{OptionalHeaderView}
 use Rattle.pe_core.specs.Refusals.{◌>>=◌}
 use Rattle.pe_core.specs.SectionMap.{section_map, mapped}
+use Rattle.pe_core.specs.declared.byte_range.ByteRange.{ByteRange}
 use Rattle.pe_core.specs.declared.data_directories.DataDirectory.{DataDirectory}
 use Rattle.pe_core.specs.declared.options.ParseOptions.{ParseOptions}
 use Rattle.pe_core.specs.declared.section_table.SectionTable.{SectionTable}
@@ -64,6 +65,10 @@ table_at_va i va = offset_of_va i va >>= λ p. Ok (drop p i.bytes)
 abbrev pub size_of_va : Bool → ℕ
 size_of_va is_64 = if is_64 then 8 else 4
 
--- the bytes of a directory: from its RVA on, as many as its size says
+-- the range of a directory: from its RVA on, as many bytes as its size says
+abbrev pub range_of : ImageView → DataDirectory → Result ByteRange DirectoryRefusal
+range_of i d = record_of i d.virtual_address d.size >>= λ p. Ok (record { offset = p; length = d.size })
+
+-- the bytes of a directory
 abbrev pub table_of : ImageView → DataDirectory → Result (List ℕ) DirectoryRefusal
 table_of i d = record_of i d.virtual_address d.size >>= λ p. Ok (range i.bytes p d.size)

@@ -37,6 +37,11 @@ Steps view first (Some s) None left = (first s ≡ None) × (left ≡ None)
 Steps {X} {S} view first (Some s) (Some (Ok y)) left = (rest : S) × (first s ≡ Some (Ok (view y, rest))) × (left ≡ Some rest)
 Steps view first (Some s) (Some (Err e)) left = (first s ≡ Some (Err (directory_kind_of e))) × (left ≡ None)
 
+-- the bytes that a walk has left, none if it is over
+abbrev pub rest_of : Option (List ℕ) → List ℕ
+rest_of None = []
+rest_of (Some b) = b
+
 -- fewer bytes are left after an item than before it
 abbrev pub LeavesFewer : {Y R E : Type 0} → (R → List ℕ) → List ℕ → Option (Result (Y × R) E) → Type 0
 LeavesFewer rest b None = Unit {0}

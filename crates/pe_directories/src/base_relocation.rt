@@ -11,7 +11,7 @@
 ghost use Rattle.std.specs.Prelude.{◌≡◌, Some};
 ghost use Rattle.std.specs.Iterator.{at_most};
 ghost use Rattle.pe_directories.specs.DirectoryRefusals.{DirectoryReturns};
-ghost use Rattle.pe_directories.specs.Walks.{ReturnsFirst, LeavesFewer, Steps, most_left};
+ghost use Rattle.pe_directories.specs.Walks.{ReturnsFirst, LeavesFewer, Steps, most_left, rest_of};
 ghost use Rattle.pe_directories.specs.BaseRelocations.{block_view, first_block, blocks_left, first_relocation, relocations_left, page_of, relocation_table};
 ghost use Rattle.pe_directories.specs.ImageParts.{image_view};
 
@@ -118,6 +118,13 @@ impl<'a> RelocationBlocks<'a> {
     {
         RelocationBlocks { left: Some(bytes) }
     }
+
+    /// The bytes that are left: those of the next item are at their start. Empty if the walk is over.
+    pub fn rest(&self) -> &'a [u8]
+        ensures { result.now ≡ rest_of (blocks_left self.now) }
+    {
+        self.left.unwrap_or_default()
+    }
 }
 
 impl<'a> Iterator for RelocationBlocks<'a> {
@@ -187,6 +194,15 @@ fn first_relocation(page_rva: u32, bytes: &[u8]) -> Option<Result<(BaseRelocatio
 pub struct BaseRelocations<'a> {
     page_rva: u32,
     left: Option<&'a [u8]>,
+}
+
+impl<'a> BaseRelocations<'a> {
+    /// The bytes that are left: those of the next item are at their start. Empty if the walk is over.
+    pub fn rest(&self) -> &'a [u8]
+        ensures { result.now ≡ rest_of (relocations_left self.now) }
+    {
+        self.left.unwrap_or_default()
+    }
 }
 
 impl<'a> Iterator for BaseRelocations<'a> {

@@ -12,7 +12,7 @@ ghost use Rattle.pe_directories.specs.DelayImports.{delay_import_at, first_delay
 ghost use Rattle.pe_directories.specs.DirectoryRefusals.{DirectoryReturns};
 ghost use Rattle.pe_directories.specs.ImageParts.{image_view};
 ghost use Rattle.pe_directories.specs.VaTables.{vas_left, vas_are_64};
-ghost use Rattle.pe_directories.specs.Walks.{ReturnsFirst, LeavesFewer, Steps, most_left};
+ghost use Rattle.pe_directories.specs.Walks.{ReturnsFirst, LeavesFewer, Steps, most_left, rest_of};
 
 use crate::error::{DirectoryError, Result};
 use crate::image_bytes::ImageBytes;
@@ -24,6 +24,7 @@ const SIZE_OF_ENTRY: usize = 32;
 
 /// An entry of the delay import directory (`IMAGE_DELAYLOAD_DESCRIPTOR`), 32 bytes: a DLL. Its addresses are RVAs if bit 0 of
 /// the attributes is set, otherwise virtual addresses.
+#[repr(C)]
 #[derive(Clone, Copy, Debug, PartialEq)]
 pub struct DelayImport {
     /// Flags, of which bit 0 is defined.
@@ -175,6 +176,20 @@ impl<'a> DelayImports<'a> {
         Ok(DelayImports {
             left: Some(image.table(directory)?),
         })
+    }
+
+    /// The entries of these bytes.
+    pub fn new(bytes: &'a [u8]) -> DelayImports<'a>
+        ensures { delay_imports_left result ≡ Some bytes.entry.now }
+    {
+        DelayImports { left: Some(bytes) }
+    }
+
+    /// The bytes that are left: those of the next item are at their start. Empty if the walk is over.
+    pub fn rest(&self) -> &'a [u8]
+        ensures { result.now ≡ rest_of (delay_imports_left self.now) }
+    {
+        self.left.unwrap_or_default()
     }
 }
 

@@ -1,14 +1,14 @@
 //! What the readers of directories need of an image: its bytes, its section map, and how wide its virtual addresses are.
 //! Directories name parts of the image by RVAs, and by virtual addresses, which count from the image base.
 
-ghost use Rattle.std.specs.Prelude.{◌≡◌, drop};
+ghost use Rattle.std.specs.Prelude.{◌≡◌, ◌+◌, ◌≤◌, drop, length, IfOk};
 ghost use Rattle.pe_core.specs.Header.{optional_header_view};
 ghost use Rattle.pe_directories.specs.DirectoryRefusals.{DirectoryReturns};
-ghost use Rattle.pe_directories.specs.ImageParts.{image_view, image_with, offset_of_rva, offset_of_va, table_at_va, record_of, table_of, size_of_va};
+ghost use Rattle.pe_directories.specs.ImageParts.{image_view, image_with, offset_of_rva, offset_of_va, table_at_va, range_of, record_of, table_of, size_of_va};
 
 use crate::error::{DirectoryError, Result};
 use pe_core::{
-    DataDirectory, Error, MAGIC_64, OptionalHeader, ParseOptions, Reason, SectionTable,
+    ByteRange, DataDirectory, Error, MAGIC_64, OptionalHeader, ParseOptions, Reason, SectionTable,
     find_offset, mapped_offset, require_bytes,
 };
 
@@ -67,13 +67,26 @@ impl<'a> ImageBytes<'a> {
         Ok(offset)
     }
 
+    /// The range of a directory in the bytes: as many as its size says from its RVA on. Errors, in order: `Image` with
+    /// `Unmapped`; `Image` with `Short`.
+    pub fn range_of(&self, directory: DataDirectory) -> Result<ByteRange>
+        ensures range { DirectoryReturns (λ r. r) result (range_of (image_view self.now) directory) }
+        ensures inside { IfOk result (λ r. r.offset + r.length ≤ length self.now.bytes.now) }
+    {
+        let size = directory.size as usize;
+        let offset = self.record_at(directory.virtual_address, size)?;
+        Ok(ByteRange {
+            offset,
+            length: size,
+        })
+    }
+
     /// The bytes at the RVA of a directory, as many as its size says. Errors: those of `record_at`.
     pub(crate) fn table(&self, directory: DataDirectory) -> Result<&'a [u8]>
         ensures { DirectoryReturns (λ s. s.now) result (table_of (image_view self.now) directory) }
     {
-        let size = directory.size as usize;
-        let offset = self.record_at(directory.virtual_address, size)?;
-        Ok(&self.bytes[offset..offset + size])
+        let range = self.range_of(directory)?;
+        Ok(&self.bytes[range.offset..range.offset + range.length])
     }
 
     /// The offset of a virtual address in the bytes, which may be past their end. Errors, in order: `VaBelowBase`; `Image`

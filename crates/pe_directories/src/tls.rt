@@ -21,6 +21,7 @@ const SIZE_OF_TLS_32: usize = 24;
 const SIZE_OF_TLS_64: usize = 40;
 
 /// The TLS directory (`IMAGE_TLS_DIRECTORY32`, `IMAGE_TLS_DIRECTORY64`). Addresses are virtual addresses.
+#[repr(C)]
 #[derive(Clone, Copy, Debug, PartialEq)]
 pub struct TlsDirectory {
     /// Where the data starts of which each thread gets a copy.

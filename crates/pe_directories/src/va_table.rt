@@ -3,7 +3,7 @@
 
 ghost use Rattle.std.specs.Prelude.{◌≡◌, Some, None};
 ghost use Rattle.std.specs.Iterator.{at_most};
-ghost use Rattle.pe_directories.specs.Walks.{ReturnsFirst, LeavesFewer, Steps, most_left};
+ghost use Rattle.pe_directories.specs.Walks.{ReturnsFirst, LeavesFewer, Steps, most_left, rest_of};
 ghost use Rattle.pe_directories.specs.VaTables.{first_va, vas_left, vas_are_64};
 
 use crate::error::{DirectoryError, Result};
@@ -40,8 +40,8 @@ pub struct VaTable<'a> {
 }
 
 impl<'a> VaTable<'a> {
-    /// The table at the start of these bytes.
-    pub(crate) fn new(bytes: &'a [u8], is_64: bool) -> VaTable<'a>
+    /// The table at the start of these bytes, with numbers of 8 bytes if `is_64`, otherwise of 4.
+    pub fn new(bytes: &'a [u8], is_64: bool) -> VaTable<'a>
         ensures left { vas_left result ≡ Some bytes.entry.now }
         ensures width { vas_are_64 result ≡ is_64 }
     {
@@ -57,6 +57,13 @@ impl<'a> VaTable<'a> {
         ensures width { vas_are_64 result ≡ is_64 }
     {
         VaTable { is_64, left: None }
+    }
+
+    /// The bytes that are left: those of the next item are at their start. Empty if the walk is over.
+    pub fn rest(&self) -> &'a [u8]
+        ensures { result.now ≡ rest_of (vas_left self.now) }
+    {
+        self.left.unwrap_or_default()
     }
 }
 
