@@ -138,6 +138,14 @@ enum {
     PE_C_SIGN_SECTION = 204,        /* section data ends after the start of the certificates or the end of the file */
     PE_C_SIGN_TABLE_OFFSET = 205,   /* certificate table is not aligned to 8 bytes */
     PE_C_SIGN_TOO_LARGE = 206,      /* image with the certificate has 2^32 bytes or more */
+    PE_C_DIRECTORY_BLOCK_SIZE = 301, /* base relocation block size below 8 or odd */
+    PE_C_DIRECTORY_BLOCK_TRUNCATED = 302, /* base relocation block truncated */
+    PE_C_DIRECTORY_NO_ARGUMENT = 303, /* base relocation has no argument */
+    PE_C_DIRECTORY_VA_BELOW_BASE = 304, /* virtual address below the image base */
+    PE_C_DIRECTORY_CLR_HEADER_SIZE = 305, /* CLR header smaller than 72 bytes */
+    PE_C_DIRECTORY_STREAM_NAME = 306, /* name of a metadata stream not NUL-terminated */
+    PE_C_DIRECTORY_DELAY_IMPORT_NAME = 307, /* name of a delay import not NUL-terminated or not UTF-8 */
+    PE_C_DIRECTORY_BOUND_IMPORT_NAME = 308, /* name of a bound import not NUL-terminated or not UTF-8 */
 };
 
 /* Modes. PE_C_MAPPED is added to one of the others, or stands for PE_C_STRICT | PE_C_MAPPED. */
@@ -1016,6 +1024,78 @@ uint32_t pe_c_version_text(const uint8_t *bytes, size_t length, const pe_c_image
 /* Returns the range of the manifest, an XML text. */
 uint32_t pe_c_manifest(const uint8_t *bytes, size_t length, const pe_c_image_info *image,
                        const pe_c_section *sections, size_t count, pe_c_range *out) PE_C_RESULT(3, 6);
+
+/* ---- thread-local storage
+ *
+ * The TLS directory has the data that each thread gets a copy of, and leads to the callbacks: functions that run when a
+ * thread starts and ends, for the first thread before the entry point. All its addresses are virtual addresses.
+ * https://learn.microsoft.com/windows/win32/debug/pe-format#the-tls-section */
+
+/* IMAGE_TLS_DIRECTORY. */
+typedef struct {
+    uint64_t start_address_of_raw_data; /* where the data starts of which each thread gets a copy */
+    uint64_t end_address_of_raw_data;   /* where this data ends */
+    uint64_t address_of_index;          /* where the loader writes the number of the slot that leads to a copy */
+    uint64_t address_of_callbacks;      /* where the table of callbacks is; 0 where there are none */
+    uint32_t size_of_zero_fill;         /* how many zeros follow the data in a copy, in bytes */
+    uint32_t characteristics;           /* bits 20 to 23: the alignment, 1 to 14 for 1 to 8192 bytes */
+} pe_c_tls_directory;
+
+PE_C_SIZE(pe_c_tls_directory, 40);
+
+/* Returns the TLS directory. PE_C_NOTHING where the directory is absent.
+ * Errors: PE_C_UNMAPPED, PE_C_SHORT. */
+uint32_t pe_c_tls(const uint8_t *bytes, size_t length, const pe_c_image_info *image, const pe_c_section *sections,
+                  size_t count, pe_c_tls_directory *out) PE_C_RESULT(3, 6);
+
+/* Returns the callbacks of a TLS directory as a walk. PE_C_NOTHING where it has no table of them.
+ * Errors: PE_C_DIRECTORY_VA_BELOW_BASE, PE_C_UNMAPPED. */
+uint32_t pe_c_tls_callbacks(const uint8_t *bytes, size_t length, const pe_c_image_info *image,
+                            const pe_c_section *sections, size_t count, const pe_c_tls_directory *tls, pe_c_range *out)
+    PE_C_RESULT(3, 6, 7);
+
+/* Returns the next callback, a virtual address.
+ * Error: PE_C_SHORT where the bytes end before the table does. */
+uint32_t pe_c_next_tls_callback(const uint8_t *bytes, size_t length, const pe_c_image_info *image, pe_c_range *walk,
+                                uint64_t *out) PE_C_RESULT(3, 4, 5);
+
+/* ---- base relocations
+ *
+ * What to change in an image that is not at its preferred base, in blocks of one page each.
+ * https://learn.microsoft.com/windows/win32/debug/pe-format#the-reloc-section-image-only */
+
+/* IMAGE_BASE_RELOCATION. */
+typedef struct {
+    pe_c_range entries;             /* 2 bytes each; a walk through the relocations of the block */
+    uint32_t page_rva;              /* RVA of the page that they count from */
+    uint32_t spare;                 /* 0 */
+} pe_c_relocation_block;
+
+PE_C_SIZE(pe_c_relocation_block, 24);
+
+typedef struct {
+    uint64_t rva;                   /* RVA of what to change; in a hostile block it may pass 32 bits */
+    uint32_t kind;                  /* IMAGE_REL_BASED_ of winnt.h, below 16 */
+    uint32_t argument;              /* low 16 bits of the number that IMAGE_REL_BASED_HIGHADJ (4) changes; else 0 */
+} pe_c_relocation;
+
+PE_C_SIZE(pe_c_relocation, 16);
+
+/* Returns the blocks of the base relocations as a walk. PE_C_NOTHING where the directory is absent.
+ * Errors: PE_C_UNMAPPED, PE_C_SHORT. */
+uint32_t pe_c_relocation_blocks(const uint8_t *bytes, size_t length, const pe_c_image_info *image,
+                                const pe_c_section *sections, size_t count, pe_c_range *out) PE_C_RESULT(3, 6);
+
+/* Returns the next block.
+ * Errors: PE_C_SHORT of the header; PE_C_DIRECTORY_BLOCK_SIZE; PE_C_DIRECTORY_BLOCK_TRUNCATED. */
+uint32_t pe_c_next_relocation_block(const uint8_t *bytes, size_t length, pe_c_range *walk, pe_c_relocation_block *out)
+    PE_C_RESULT(3, 4);
+
+/* Returns the next relocation of a block. `page_rva` is that of the block, and the walk starts as its entries. Those of kind
+ * IMAGE_REL_BASED_ABSOLUTE (0), which fill up a block, are returned too.
+ * Errors: PE_C_SHORT of the entry; PE_C_DIRECTORY_NO_ARGUMENT. */
+uint32_t pe_c_next_relocation(const uint8_t *bytes, size_t length, uint32_t page_rva, pe_c_range *walk, pe_c_relocation *out)
+    PE_C_RESULT(4, 5);
 
 #ifdef __cplusplus
 }

@@ -262,6 +262,19 @@ fn read_by_lies(bytes: &[u8], random: &mut Random, seen: &mut Seen) {
     walk_of_image!(pe_c_next_library(libraries), Library);
     walk_of_image!(pe_c_next_library(sys::Libraries { next: range.offset, ..libraries }), Library);
     walk_of_image!(pe_c_next_import(sys::Imports { left: range, rva: index }), Import);
+    let tls = call_of_image!(pe_c_tls(), TlsDirectory);
+    call_of_image!(pe_c_tls_callbacks(&sys::TlsDirectory { address_of_callbacks: random.edge(number), ..tls }), Range);
+    call_of_image!(pe_c_relocation_blocks(), Range);
+    walk!(pe_c_next_relocation_block(range), RelocationBlock);
+    let (mut callbacks, mut entries) = (range, range);
+    for _ in 0..MOST {
+        let (mut va, mut relocation) = (0, sys::Relocation::default());
+        // SAFETY: as above.
+        unsafe {
+            sys::pe_c_next_tls_callback(start, length, &image, &mut callbacks, &mut va);
+            sys::pe_c_next_relocation(start, length, few, &mut entries, &mut relocation);
+        }
+    }
     let saved = if few & 8 == 0 { directory.virtual_address } else { few };
     let plan = sys::Plan {
         unwind: directory.virtual_address,

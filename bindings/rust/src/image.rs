@@ -153,6 +153,22 @@ errors! {
     SIGN_TABLE_OFFSET = 205;
     /// Image with the certificate has 2^32 bytes or more.
     SIGN_TOO_LARGE = 206;
+    /// Base relocation block size below 8 or odd.
+    DIRECTORY_BLOCK_SIZE = 301;
+    /// Base relocation block truncated.
+    DIRECTORY_BLOCK_TRUNCATED = 302;
+    /// Base relocation has no argument.
+    DIRECTORY_NO_ARGUMENT = 303;
+    /// Virtual address below the image base.
+    DIRECTORY_VA_BELOW_BASE = 304;
+    /// CLR header smaller than 72 bytes.
+    DIRECTORY_CLR_HEADER_SIZE = 305;
+    /// Name of a metadata stream not NUL-terminated.
+    DIRECTORY_STREAM_NAME = 306;
+    /// Name of a delay import not NUL-terminated or not UTF-8.
+    DIRECTORY_DELAY_IMPORT_NAME = 307;
+    /// Name of a bound import not NUL-terminated or not UTF-8.
+    DIRECTORY_BOUND_IMPORT_NAME = 308;
     // Of steps of a stack walk, which pe_core does not make.
     /// Eight bytes of memory are missing: [`StepError::Missing`](crate::StepError::Missing).
     MISSING = 102;

@@ -1,5 +1,5 @@
 //! Reads PE images (Windows .exe and .dll files) by a proved library: headers, debug data, certificates, x64 and ARM64
-//! unwind data, exports, imports, version information and the manifest. For signing tools it says what a digest covers, and
+//! unwind data, exports, imports, TLS callbacks, base relocations, version information and the manifest. For signing tools it says what a digest covers, and
 //! attaches and detaches certificates.
 //!
 //! The library is proved to return what its definitions say, for every byte string; this crate is a thin safe layer over
@@ -15,6 +15,8 @@
 //! | unwind data | [`functions`](Image::functions), [`arm64_functions`](Image::arm64_functions) | [x64], [ARM64] |
 //! | a stack walk | [`Frames`]; one step of it [`Functions::step`], [`Registers::leaf`] | [x64] |
 //! | exports, imports | [`exports`](Image::exports), [`export_addresses`](Image::export_addresses), [`libraries`](Image::libraries) | [.edata], [.idata] |
+//! | thread-local storage | [`tls`](Image::tls), [`tls_callbacks`](Image::tls_callbacks) | [.tls] |
+//! | base relocations | [`relocation_blocks`](Image::relocation_blocks) | [.reloc] |
 //! | resources | [`version`](Image::version), [`version_text`](Image::version_text), [`manifest`](Image::manifest) | [version information] |
 //!
 //! [PE Format]: https://learn.microsoft.com/windows/win32/debug/pe-format
@@ -25,6 +27,8 @@
 //! [ARM64]: https://learn.microsoft.com/cpp/build/arm64-exception-handling
 //! [.edata]: https://learn.microsoft.com/windows/win32/debug/pe-format#the-edata-section-image-only
 //! [.idata]: https://learn.microsoft.com/windows/win32/debug/pe-format#the-idata-section
+//! [.tls]: https://learn.microsoft.com/windows/win32/debug/pe-format#the-tls-section
+//! [.reloc]: https://learn.microsoft.com/windows/win32/debug/pe-format#the-reloc-section-image-only
 //! [version information]: https://learn.microsoft.com/windows/win32/menurc/vs-versioninfo
 //!
 //! - An `Image` borrows the bytes of the file or module. Names, bodies and texts are slices of these bytes: they outlive the
@@ -69,9 +73,11 @@ mod exports;
 mod frames;
 mod image;
 mod imports;
+mod relocations;
 mod signing;
 mod symbol_server;
 pub mod sys;
+mod tls;
 mod version;
 mod walk;
 mod x64;
@@ -86,11 +92,13 @@ pub use exports::{AddressTable, Export, Exported, Exports};
 pub use frames::{End, Frame, Frames, Module, Stack, StepError, Way};
 pub use image::{DirectoryIndex, Error, Image, Layout, Mode};
 pub use imports::{Import, Imports, Libraries, Library};
+pub use relocations::{Relocation, RelocationBlock, RelocationBlocks, Relocations};
 pub use signing::{Checksum, DigestRanges, Placement};
 pub use symbol_server::{Guid, SymbolPath};
 pub use sys::{
     Arm64Function, Arm64Packed, Arm64Scope, DebugEntry, Directory, Function, ImageInfo, Registers, Scope, Section,
     VcFeatures,
 };
+pub use tls::{Tls, TlsCallbacks};
 pub use version::{FixedVersion, Text, VersionName};
 pub use x64::{Code, Codes, Functions, Handler, Offset, Operation, Plan, Register, Scopes, UnwindRecord};

@@ -592,6 +592,43 @@ impl Range {
     }
 }
 
+record!(
+/// The TLS directory, `IMAGE_TLS_DIRECTORY`. See [`Tls`](crate::Tls).
+TlsDirectory, 40 {
+    /// Where the data starts of which each thread gets a copy: a virtual address, as all addresses here.
+    start_address_of_raw_data: u64,
+    /// Where this data ends.
+    end_address_of_raw_data: u64,
+    /// Where the loader writes the number of the slot that leads to a copy.
+    address_of_index: u64,
+    /// Where the table of callbacks is; 0 where there are none.
+    address_of_callbacks: u64,
+    /// How many zeros follow the data in a copy, in bytes.
+    size_of_zero_fill: u32,
+    /// Bits 20 to 23: the alignment, 1 to 14 for 1 to 8192 bytes.
+    characteristics: u32,
+});
+record!(
+/// A block of base relocations. See [`RelocationBlock`](crate::RelocationBlock).
+RelocationBlock, 24 {
+    /// 2 bytes each; a walk through the relocations of the block.
+    entries: Range,
+    /// RVA of the page that they count from.
+    page_rva: u32,
+    /// 0.
+    spare: u32,
+});
+record!(
+/// A base relocation. See [`Relocation`](crate::Relocation).
+Relocation, 16 {
+    /// RVA of what to change; in a hostile block it may pass 32 bits.
+    rva: u64,
+    /// `IMAGE_REL_BASED_*` of winnt.h, below 16.
+    kind: u32,
+    /// Low 16 bits of the number that `IMAGE_REL_BASED_HIGHADJ` (4) changes; else 0.
+    argument: u32,
+});
+
 /// Declares calls that take an image first, after their names more parameters, and then `out`.
 macro_rules! calls_of_an_image {
     ($($(#[$doc:meta])* $name:ident($($more:ident: $type:ty),*) -> $out:ty;)*) => {
@@ -689,6 +726,12 @@ calls_of_bytes! {
     pe_c_arm64_codes(codes: *const Range, start: u64) -> Arm64Walk;
     /// Returns the next ARM64 unwind code.
     pe_c_next_arm64_code(walk: *mut Arm64Walk) -> Arm64Code;
+    /// Returns the next TLS callback, a virtual address.
+    pe_c_next_tls_callback(image: *const ImageInfo, walk: *mut Range) -> u64;
+    /// Returns the next block of base relocations.
+    pe_c_next_relocation_block(walk: *mut Range) -> RelocationBlock;
+    /// Returns the next relocation of a block.
+    pe_c_next_relocation(page_rva: u32, walk: *mut Range) -> Relocation;
 }
 
 calls_of_an_image! {
@@ -740,4 +783,10 @@ calls_of_an_image! {
     pe_c_version_text(name: u32) -> Range;
     /// Returns the range of the manifest.
     pe_c_manifest() -> Range;
+    /// Returns the TLS directory.
+    pe_c_tls() -> TlsDirectory;
+    /// Returns the callbacks of a TLS directory, as a walk.
+    pe_c_tls_callbacks(tls: *const TlsDirectory) -> Range;
+    /// Returns the blocks of the base relocations, as a walk.
+    pe_c_relocation_blocks() -> Range;
 }

@@ -7,7 +7,7 @@ use facts::{as_loaded, facts};
 use made::*;
 use pe_c::{
     Arm64Operation, Arm64Unwinding, DirectoryIndex, Error, Handler, Image, Layout, Mode, Offset, Operation, Placement,
-    Register, Repro, SymbolKey, VersionName,
+    Register, Relocation, Repro, SymbolKey, VersionName,
 };
 
 fn strict(bytes: &[u8]) -> Image<'_> {
@@ -143,7 +143,7 @@ fn images_are_refused_by_number() {
 #[test]
 fn answers_have_texts() {
     let mut texts = Vec::new();
-    for number in (0..=40).chain([100, 101, 102, u32::MAX]).chain(201..=207) {
+    for number in (0..=40).chain([100, 101, 102, u32::MAX]).chain(201..=207).chain(301..=309) {
         let mut room = [0; 128];
         // SAFETY: the pointer and the length are those of one array.
         let length = unsafe { pe_c::sys::pe_c_text(number, room.as_mut_ptr(), room.len()) };
@@ -152,12 +152,12 @@ fn answers_have_texts() {
     }
     assert_eq!(Error::SHORT.to_string(), texts[2]);
     assert!(texts[2].contains("truncated"), "{}", texts[2]);
-    // those of 1 to 37, of 100 and 101, and of 201 to 206 differ from each other and from that of all others
-    let mut known: Vec<_> = texts[1..38].iter().chain(&texts[41..43]).chain(&texts[45..52]).collect();
+    // those of 1 to 37, of 100 and 101, of 201 to 206 and of 301 to 308 differ from each other and from that of all others
+    let mut known: Vec<_> = texts[1..38].iter().chain(&texts[41..43]).chain(&texts[45..60]).collect();
     known.sort();
     known.dedup();
-    assert_eq!(known.len(), 46);
-    assert_eq!(texts[51], texts[44]);
+    assert_eq!(known.len(), 54);
+    assert_eq!((&texts[51], &texts[60]), (&texts[44], &texts[44]));
 }
 
 #[test]
@@ -717,4 +717,91 @@ fn what_is_given_outlives_the_image() {
         strict(bytes).symbol_key().unwrap().unwrap().name()
     }
     assert_eq!(name(&with_debug()), b"a.pdb");
+}
+
+/// The base of the made images is 0x1_8000_0000.
+#[test]
+fn tls_callbacks_are_read() {
+    let bytes = with_tls();
+    let image = strict(&bytes);
+    let tls = image.tls().unwrap().unwrap();
+    assert_eq!((tls.start_address_of_raw_data, tls.end_address_of_raw_data), (0x1_8000_1040, 0x1_8000_1048));
+    assert_eq!((tls.address_of_index, tls.address_of_callbacks), (0x1_8000_1050, 0x1_8000_1000));
+    assert_eq!((tls.size_of_zero_fill, tls.characteristics), (12, 0x0030_0000));
+    let callbacks: Vec<_> = image.tls_callbacks().unwrap().unwrap().collect();
+    assert_eq!(callbacks, [Ok(0x1_8000_2000), Ok(0x1_8000_2010)]);
+    let memory = as_loaded(&bytes);
+    let module = Image::parse_as(&memory, Mode::Strict, Layout::Mapped).unwrap();
+    assert_eq!(module.tls_callbacks().unwrap().unwrap().collect::<Vec<_>>(), callbacks);
+    assert!(strict(&with_debug()).tls().unwrap().is_none());
+    assert!(strict(&with_debug()).tls_callbacks().unwrap().is_none());
+}
+
+#[test]
+fn damaged_tls_is_refused() {
+    let change = |at: usize, value: u64| {
+        let mut bytes = with_tls();
+        bytes[at..at + 8].copy_from_slice(&value.to_le_bytes());
+        bytes
+    };
+    // the address of the callbacks is the fourth field of the directory, which follows their table of 24 bytes
+    let place = OFFSET as usize + 24 + 24;
+    let bytes = change(place, 0);
+    assert!(strict(&bytes).tls_callbacks().unwrap().is_none());
+    let bytes = change(place, 0x1_7FFF_FFFF);
+    assert_eq!(strict(&bytes).tls_callbacks().unwrap_err(), Error::DIRECTORY_VA_BELOW_BASE);
+    assert_eq!(Error::DIRECTORY_VA_BELOW_BASE.number(), 304);
+    let bytes = change(place, 0x1_8090_0000);
+    assert_eq!(strict(&bytes).tls_callbacks().unwrap_err(), Error::UNMAPPED);
+    // a table without an end: its last number, and then the bytes, are no zero
+    let mut bytes = with_tls();
+    bytes.truncate(OFFSET as usize + 0x48);
+    bytes[OFFSET as usize..].fill(1);
+    let image = Image::parse(&bytes, Mode::Strict).unwrap();
+    assert!(image.tls().is_ok());
+    let mut fourth = bytes.clone();
+    fourth[place..place + 8].copy_from_slice(&0x1_8000_1000u64.to_le_bytes());
+    let image = Image::parse(&fourth, Mode::Strict).unwrap();
+    let callbacks: Vec<_> = image.tls_callbacks().unwrap().unwrap().collect();
+    assert_eq!((callbacks.len(), callbacks.last()), (10, Some(&Err(Error::SHORT))));
+}
+
+#[test]
+fn base_relocations_are_read() {
+    let bytes = with_relocations();
+    let image = strict(&bytes);
+    let blocks: Vec<_> = image.relocation_blocks().unwrap().unwrap().map(Result::unwrap).collect();
+    assert_eq!(blocks.iter().map(|it| it.page_rva).collect::<Vec<_>>(), [0x1000, 0x5000]);
+    let of = |index: usize| -> Vec<_> { blocks[index].relocations().map(Result::unwrap).collect() };
+    let one = |rva, kind, argument| Relocation { rva, kind, argument };
+    assert_eq!(of(0), [one(0x1008, 10, None), one(0x1FFF, 3, None)]);
+    assert_eq!(of(1), [one(0x5010, 4, Some(0x8765)), one(0x5000, 0, None), one(0x5000, 0, None)]);
+    assert!(strict(&with_debug()).relocation_blocks().unwrap().is_none());
+}
+
+#[test]
+fn damaged_base_relocations_are_refused() {
+    let place = OFFSET as usize;
+    let found = |at: usize, value: u8| {
+        let mut bytes = with_relocations();
+        bytes[place + at] = value;
+        let image = strict(&bytes);
+        let mut blocks = image.relocation_blocks().unwrap().unwrap();
+        let items: Vec<_> = blocks.by_ref().map(|it| it.map(|it| it.page_rva)).collect();
+        assert!(blocks.next().is_none());
+        items
+    };
+    assert_eq!(found(4, 7), [Err(Error::DIRECTORY_BLOCK_SIZE)]);
+    assert_eq!(found(16, 15), [Ok(0x1000), Err(Error::DIRECTORY_BLOCK_SIZE)]);
+    assert_eq!(found(16, 18), [Ok(0x1000), Err(Error::DIRECTORY_BLOCK_TRUNCATED)]);
+    assert_eq!(found(4, 22), [Ok(0x1000), Err(Error::SHORT)]);
+    // the last entry of the second block is a HIGHADJ
+    let mut bytes = with_relocations();
+    bytes[place + 24..place + 28].copy_from_slice(&[0x00, 0x00, 0x10, 0x40]);
+    let image = strict(&bytes);
+    let block = image.relocation_blocks().unwrap().unwrap().nth(1).unwrap().unwrap();
+    let relocations: Vec<_> = block.relocations().collect();
+    assert_eq!(relocations.len(), 3);
+    assert_eq!(relocations[2], Err(Error::DIRECTORY_NO_ARGUMENT));
+    assert_eq!(Error::DIRECTORY_NO_ARGUMENT.number(), 303);
 }

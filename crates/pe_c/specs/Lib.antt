@@ -18,3 +18,4 @@ pub mod Texts
 pub mod Unwinding
 pub mod Versions
 pub mod Walks
+pub mod Directories

@@ -79,7 +79,25 @@ sign_texts =
 unfoldable pub sign_text : ℕ → List ℕ
 sign_text n = slice_index_or sign_texts n (codes "unknown result")
 
+-- the texts of the refusals of directories, in the order of their numbers
+abbrev pub directory_texts : List (List ℕ)
+directory_texts =
+    codes "base relocation block size below 8 or odd" ∷
+    codes "base relocation block truncated" ∷
+    codes "base relocation has no argument" ∷
+    codes "virtual address below the image base" ∷
+    codes "CLR header smaller than 72 bytes" ∷
+    codes "name of a metadata stream not NUL-terminated" ∷
+    codes "name of a delay import not NUL-terminated or not UTF-8" ∷
+    codes "name of a bound import not NUL-terminated or not UTF-8" ∷
+    []
+
+-- the text of a refusal of a directory, by its number from 301 on
+unfoldable pub directory_text : ℕ → List ℕ
+directory_text n = slice_index_or directory_texts n (codes "unknown result")
+
 -- the text of the number of a result
 unfoldable pub result_text : ℕ → List ℕ
 result_text n =
-    if nat_lt n 100 then refusal_text n else (if nat_lt n 201 then other_text n else sign_text (n - 201))
+    if nat_lt n 100 then refusal_text n
+    else (if nat_lt n 201 then other_text n else (if nat_lt n 301 then sign_text (n - 201) else directory_text (n - 301)))

@@ -75,7 +75,11 @@ pub const RESOURCE_TABLE: usize = 2;
 
 pub const EXCEPTION_TABLE: usize = 3;
 
+pub const RELOCATION_TABLE: usize = 5;
+
 pub const DEBUG_TABLE: usize = 6;
+
+pub const TLS_TABLE: usize = 9;
 
 /// Bytes from the PE signature to the optional header.
 const SIZE_BEFORE_OPTIONAL_HEADER: u64 = 24;

@@ -12,9 +12,11 @@
 #![tactic(auto)]
 
 mod arm64;
+mod base_relocations;
 mod certificates;
 mod debug;
 mod debug_walks;
+mod directories;
 mod export_addresses;
 mod exports;
 mod image;
@@ -26,6 +28,7 @@ mod results;
 mod signing;
 mod stack_frames;
 mod texts;
+mod tls;
 mod unwinding;
 mod version;
 mod walks;

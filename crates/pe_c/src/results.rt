@@ -1,14 +1,17 @@
 //! The results of calls as numbers: 0, the number of an error of pe_core, one from 100 on, which this crate alone has, or that
-//! of an error of signing, from 201 on. Callers may store them: the numbers stay the same from version to version.
+//! of an error of signing, from 201 on, or of a directory, from 301 on. Callers may store them: the numbers stay the same from version to version.
 
 ghost use Rattle.std.specs.Prelude.{◌≡◌};
 ghost use Rattle.pe_core.specs.Refusals.{kind_of, kind_of_reason, answer_of};
+ghost use Rattle.pe_c.specs.Directories.{DirectoryHandsOut, directory_number};
 ghost use Rattle.pe_c.specs.HandsOut.{result_number, HandsOut, HandsOutIf};
 ghost use Rattle.pe_c.specs.Modes.{options_of};
 ghost use Rattle.pe_c.specs.Signing.{SignHandsOut, sign_number};
+ghost use Rattle.pe_directories.specs.DirectoryRefusals.{directory_answer, directory_kind_of};
 ghost use Rattle.pe_sign.specs.SignRefusals.{sign_answer_of, sign_kind_of};
 
 use pe_core::{Error, ParseMode, ParseOptions, Reason, Result};
+use pe_directories::DirectoryError;
 use pe_sign::SignError;
 
 /// The call succeeded.
@@ -115,6 +118,23 @@ pub fn number_of_signing(error: &SignError) -> u32
     }
 }
 
+/// The number of an error of a directory. It stays the same from version to version. `tools/make_errors` writes the arms.
+pub fn number_of_directory(error: &DirectoryError) -> u32
+    ensures { result ≡ directory_number (directory_kind_of error.now) }
+{
+    match error {
+        DirectoryError::Image(error) => number_of(error),
+        DirectoryError::BlockSize(_) => 301,
+        DirectoryError::BlockTruncated { .. } => 302,
+        DirectoryError::NoArgument(_) => 303,
+        DirectoryError::VaBelowBase(_) => 304,
+        DirectoryError::ClrHeaderSize(_) => 305,
+        DirectoryError::StreamName => 306,
+        DirectoryError::DelayImportName(_) => 307,
+        DirectoryError::BoundImportName(_) => 308,
+    }
+}
+
 /// The options of a mode: bit 0 is permissive mode, bit 1 an image as loaded, whose RVAs are its offsets.
 pub fn options(mode: u32) -> ParseOptions
     ensures { result ≡ options_of mode }
@@ -168,5 +188,22 @@ pub fn hand_out_signed<T: Copy>(given: std::result::Result<T, SignError>, out: &
             DONE
         }
         Err(error) => number_of_signing(&error),
+    }
+}
+
+/// The same of what may be absent, by an error of a directory.
+pub fn hand_out_found<T: Copy>(
+    given: std::result::Result<Option<T>, DirectoryError>,
+    out: &mut T,
+) -> u32
+    ensures { DirectoryHandsOut result out.old out.new (directory_answer (λ x. x) given) }
+{
+    match given {
+        Ok(Some(value)) => {
+            *out = value;
+            DONE
+        }
+        Ok(None) => NOTHING,
+        Err(error) => number_of_directory(&error),
     }
 }

@@ -1,12 +1,15 @@
 //! The texts of the results of calls, for a caller's messages.
 
 ghost use Rattle.std.specs.Prelude.{◌≡◌, ◌≤◌, length, take, drop, ◌++◌};
-ghost use Rattle.pe_c.specs.Texts.{refusal_text, other_text, result_text, sign_text};
+ghost use Rattle.pe_c.specs.Texts.{refusal_text, other_text, result_text, sign_text, directory_text};
 
 use crate::results::{BAD_ADDRESS, BAD_OPERATION, LONG_CHAIN, MISSING, NOT_RISING, NOTHING, ROOM};
 
 /// The number of the first error of signing.
 const SIGNING: u32 = 201;
+
+/// The number of the first error of the directories that pe_directories reads.
+const DIRECTORIES: u32 = 301;
 
 /// The text of 0 or of the number of an error. `tools/make_errors` writes the arms.
 #[tactic(auto, unfolding(crate::specs::Texts::refusal_text))]
@@ -90,6 +93,24 @@ fn sign_text(number: u32) -> &'static str
     }
 }
 
+/// The text of an error of a directory, by its number from `DIRECTORIES` on. `tools/make_errors` writes the arms.
+#[tactic(auto, unfolding(crate::specs::Texts::directory_text))]
+fn directory_text(number: u32) -> &'static str
+    ensures { result.now ≡ directory_text number }
+{
+    match number {
+        0 => "base relocation block size below 8 or odd",
+        1 => "base relocation block truncated",
+        2 => "base relocation has no argument",
+        3 => "virtual address below the image base",
+        4 => "CLR header smaller than 72 bytes",
+        5 => "name of a metadata stream not NUL-terminated",
+        6 => "name of a delay import not NUL-terminated or not UTF-8",
+        7 => "name of a bound import not NUL-terminated or not UTF-8",
+        _ => "unknown result",
+    }
+}
+
 /// The text of the number of a result.
 #[tactic(auto, unfolding(crate::specs::Texts::result_text))]
 fn text_of(number: u32) -> &'static str
@@ -99,8 +120,10 @@ fn text_of(number: u32) -> &'static str
         refusal_text(number)
     } else if number < SIGNING {
         other_text(number)
-    } else {
+    } else if number < DIRECTORIES {
         sign_text(number - SIGNING)
+    } else {
+        directory_text(number - DIRECTORIES)
     }
 }
 

@@ -1,0 +1,93 @@
+//! Base relocations: what to change in an image that is not at its preferred base, in blocks of one page each. See
+//! <https://learn.microsoft.com/windows/win32/debug/pe-format#the-reloc-section-image-only>.
+
+use crate::image::{returned, Error, Image};
+use crate::sys;
+use crate::walk::{items, Walk};
+use core::iter::FusedIterator;
+
+/// A block of base relocations.
+#[derive(Clone, Copy, Debug)]
+pub struct RelocationBlock<'a> {
+    /// RVA of the page that its relocations count from.
+    pub page_rva: u32,
+    bytes: &'a [u8],
+    entries: sys::Range,
+}
+
+/// A base relocation.
+#[derive(Clone, Copy, Debug, PartialEq, Eq)]
+pub struct Relocation {
+    /// RVA of what to change; in a hostile block it may pass 32 bits.
+    pub rva: u64,
+    /// `IMAGE_REL_BASED_*` of winnt.h, below 16. 0 fills up a block and changes nothing.
+    pub kind: u8,
+    /// The low 16 bits of the number that `IMAGE_REL_BASED_HIGHADJ`, 4, changes.
+    pub argument: Option<u16>,
+}
+
+/// `IMAGE_REL_BASED_HIGHADJ`, the kind that has an argument.
+const HIGHADJ: u32 = 4;
+
+fn block_of(found: sys::RelocationBlock, bytes: &[u8]) -> Result<RelocationBlock<'_>, Error> {
+    Ok(RelocationBlock { page_rva: found.page_rva, bytes, entries: found.entries })
+}
+
+items! {
+    /// The blocks of an image's base relocations.
+    ///
+    /// An item is an error, and the last one: [`Error::SHORT`] of the header; [`Error::DIRECTORY_BLOCK_SIZE`];
+    /// [`Error::DIRECTORY_BLOCK_TRUNCATED`].
+    RelocationBlocks<'a>(sys::Range): RelocationBlock<'a>, sys::pe_c_next_relocation_block, block_of
+}
+
+/// The relocations of a block.
+///
+/// An item is an error, and the last one: [`Error::SHORT`] of the entry; [`Error::DIRECTORY_NO_ARGUMENT`].
+#[derive(Clone, Debug)]
+pub struct Relocations<'a> {
+    bytes: &'a [u8],
+    page_rva: u32,
+    /// `None` where the walk is over.
+    walk: Option<sys::Range>,
+}
+
+impl<'a> RelocationBlock<'a> {
+    /// The relocations, also those of kind 0.
+    pub fn relocations(&self) -> Relocations<'a> {
+        Relocations { bytes: self.bytes, page_rva: self.page_rva, walk: Some(self.entries) }
+    }
+}
+
+impl Iterator for Relocations<'_> {
+    type Item = Result<Relocation, Error>;
+
+    fn next(&mut self) -> Option<Self::Item> {
+        let mut walk = self.walk.take()?;
+        let (bytes, mut out) = (self.bytes, sys::Relocation::default());
+        // SAFETY: the pointer and the length are those of one slice; the records are lent for the call.
+        let number = unsafe {
+            sys::pe_c_next_relocation(bytes.as_ptr(), bytes.len(), self.page_rva, &mut walk, &mut out)
+        };
+        let item = returned(number, out).transpose()?;
+        self.walk = item.is_ok().then_some(walk);
+        Some(item.map(|found| Relocation {
+            rva: found.rva,
+            kind: found.kind as u8,
+            argument: (found.kind == HIGHADJ).then_some(found.argument as u16),
+        }))
+    }
+}
+
+impl FusedIterator for Relocations<'_> {}
+
+impl<'a> Image<'a> {
+    /// The blocks of the base relocations. `None` where the directory is absent.
+    ///
+    /// # Errors
+    ///
+    /// [`Error::UNMAPPED`], [`Error::SHORT`].
+    pub fn relocation_blocks(&self) -> Result<Option<RelocationBlocks<'a>>, Error> {
+        Ok(self.ask(sys::pe_c_relocation_blocks)?.map(|walk| RelocationBlocks(Walk::new(self.bytes(), walk))))
+    }
+}

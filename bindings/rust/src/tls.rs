@@ -1,0 +1,81 @@
+//! Thread-local storage: the data that each thread gets a copy of, and the callbacks, functions that run when a thread starts
+//! and ends, for the first thread before the entry point. See
+//! <https://learn.microsoft.com/windows/win32/debug/pe-format#the-tls-section>. A scanner lists the callbacks.
+
+use crate::image::{returned, Error, Image};
+use crate::sys;
+use core::iter::FusedIterator;
+
+/// The TLS directory, `IMAGE_TLS_DIRECTORY`. Addresses are virtual addresses.
+#[derive(Clone, Copy, Debug, PartialEq, Eq)]
+pub struct Tls {
+    /// Where the data starts of which each thread gets a copy.
+    pub start_address_of_raw_data: u64,
+    /// Where this data ends.
+    pub end_address_of_raw_data: u64,
+    /// Where the loader writes the number of the slot that leads to a copy.
+    pub address_of_index: u64,
+    /// Where the table of callbacks is; 0 where there are none.
+    pub address_of_callbacks: u64,
+    /// How many zeros follow the data in a copy, in bytes.
+    pub size_of_zero_fill: u32,
+    /// Bits 20 to 23: the alignment, 1 to 14 for 1 to 8192 bytes.
+    pub characteristics: u32,
+}
+
+/// The callbacks of an image, virtual addresses, in the order of the table.
+///
+/// An item is an error, and the last one: [`Error::SHORT`] where the bytes end before the table does.
+#[derive(Clone, Debug)]
+pub struct TlsCallbacks<'i, 'a> {
+    image: &'i Image<'a>,
+    /// `None` where the walk is over.
+    walk: Option<sys::Range>,
+}
+
+impl Iterator for TlsCallbacks<'_, '_> {
+    type Item = Result<u64, Error>;
+
+    fn next(&mut self) -> Option<Self::Item> {
+        let mut walk = self.walk.take()?;
+        let (bytes, mut out) = (self.image.bytes(), 0);
+        // SAFETY: the pointer and the length are those of one slice; the records are lent for the call.
+        let number = unsafe {
+            sys::pe_c_next_tls_callback(bytes.as_ptr(), bytes.len(), self.image.info(), &mut walk, &mut out)
+        };
+        let item = returned(number, out).transpose()?;
+        self.walk = item.is_ok().then_some(walk);
+        Some(item)
+    }
+}
+
+impl FusedIterator for TlsCallbacks<'_, '_> {}
+
+impl<'a> Image<'a> {
+    /// The TLS directory. `None` where the directory is absent.
+    ///
+    /// # Errors
+    ///
+    /// [`Error::UNMAPPED`], [`Error::SHORT`].
+    pub fn tls(&self) -> Result<Option<Tls>, Error> {
+        Ok(self.ask(sys::pe_c_tls)?.map(|found| Tls {
+            start_address_of_raw_data: found.start_address_of_raw_data,
+            end_address_of_raw_data: found.end_address_of_raw_data,
+            address_of_index: found.address_of_index,
+            address_of_callbacks: found.address_of_callbacks,
+            size_of_zero_fill: found.size_of_zero_fill,
+            characteristics: found.characteristics,
+        }))
+    }
+
+    /// The callbacks of the TLS directory. `None` where the directory is absent or has no table of them.
+    ///
+    /// # Errors
+    ///
+    /// Those of [`Image::tls`]; [`Error::DIRECTORY_VA_BELOW_BASE`] and [`Error::UNMAPPED`] of the table's address.
+    pub fn tls_callbacks(&self) -> Result<Option<TlsCallbacks<'_, 'a>>, Error> {
+        let Some(found) = self.ask(sys::pe_c_tls)? else { return Ok(None) };
+        let walk = self.ask_of(sys::pe_c_tls_callbacks, &found)?;
+        Ok(walk.map(|walk| TlsCallbacks { image: self, walk: Some(walk) }))
+    }
+}

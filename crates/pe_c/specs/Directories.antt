@@ -1,0 +1,119 @@
+-- What calls return of the directories that pe_directories reads.
+use Rattle.std.specs.Prelude.{◌≡◌, ℕ, ◌+◌, ◌-◌, ◌==◌, ◌&&◌, List, length, Option, Some, None, Result, Ok, Err, if◌then◌else◌}
+use Rattle.pe_core.specs.declared.data_directories.DataDirectory.{DataDirectory}
+use Rattle.pe_core.specs.declared.section_table.SectionTable.{SectionTable}
+use Rattle.pe_core.specs.Refusals.{◌>>=◌}
+use Rattle.pe_directories.specs.BaseRelocations.{Block}
+use Rattle.pe_directories.specs.DirectoryRefusals.{DirectoryRefusal, Image, BlockSize, BlockTruncated, NoArgument, VaBelowBase, ClrHeaderSize, StreamName, DelayImportName, BoundImportName, of_image}
+use Rattle.pe_directories.specs.ImageParts.{ImageView, offset_of_va, range_of}
+use Rattle.pe_directories.specs.Tls.{tls_directory}
+use Rattle.pe_directories.specs.VaTables.{first_va}
+use Rattle.pe_directories.specs.Walks.{First}
+use Rattle.pe_directories.specs.declared.base_relocation.BaseRelocation.{BaseRelocation}
+use Rattle.pe_directories.specs.declared.tls.TlsDirectory.{TlsDirectory}
+use Rattle.pe_c.specs.HandsOut.{result_number}
+use Rattle.pe_c.specs.Images.{directory, is_absent}
+use Rattle.pe_c.specs.Modes.{options_of}
+use Rattle.pe_c.specs.Ranges.{bytes_at, no_bytes, range_of as reported}
+use Rattle.pe_c.specs.declared.base_relocations.Relocation.{Relocation}
+use Rattle.pe_c.specs.declared.base_relocations.RelocationBlock.{RelocationBlock}
+use Rattle.pe_c.specs.declared.image.Image as images
+use Rattle.pe_c.specs.declared.ranges.Range.{Range}
+
+-- the number of a refusal of a directory, written by tools/make_errors
+abbrev pub directory_number : DirectoryRefusal → ℕ
+directory_number (Image refusal) = result_number refusal
+directory_number BlockSize = 301
+directory_number BlockTruncated = 302
+directory_number NoArgument = 303
+directory_number VaBelowBase = 304
+directory_number ClrHeaderSize = 305
+directory_number StreamName = 306
+directory_number DelayImportName = 307
+directory_number BoundImportName = 308
+
+-- 0 and the value; 100 where there is none; else the number of the refusal. `out` is unchanged without a value
+abbrev pub DirectoryHandsOut : {Y : Type 0} → ℕ → Y → Y → Result (Option Y) DirectoryRefusal → Type 0
+DirectoryHandsOut number old new (Ok (Some value)) = (number ≡ 0) × (new ≡ value)
+DirectoryHandsOut number old new (Ok None) = (number ≡ 100) × (new ≡ old)
+DirectoryHandsOut number old new (Err refusal) = (number ≡ directory_number refusal) × (new ≡ old)
+
+-- the image as pe_directories takes it, in the mode in which it is read
+abbrev pub image_parts : List ℕ → images.Image → List SectionTable → ImageView
+image_parts b image sections = record {
+  bytes = b;
+  sections = sections;
+  file_alignment = image.file_alignment;
+  image_base = image.base;
+  is_64 = image.width == 64;
+  opts = options_of image.mode;
+}
+
+-- what a directory is read as, if it is not absent
+abbrev pub if_present : {Y : Type 0} → DataDirectory → Result Y DirectoryRefusal → Result (Option Y) DirectoryRefusal
+if_present d value = if is_absent d then Ok None else (value >>= λ y. Ok (Some y))
+
+-- the bytes of the directory with this index as a range, if it is not absent: a walk through its entries
+abbrev pub table_at : ℕ → List ℕ → images.Image → List SectionTable → Result (Option Range) DirectoryRefusal
+table_at i b image sections =
+    if_present (directory image i) (range_of (image_parts b image sections) (directory image i) >>= λ r. Ok (reported r))
+
+-- ---- walks by what stands first in what is left
+
+-- what stands first in the bytes of a range, or why the range has no bytes
+abbrev pub first_of : {X : Type 0} → (List ℕ → First X (List ℕ)) → Result (List ℕ) DirectoryRefusal → First X (List ℕ)
+first_of first (Ok left) = first left
+first_of first (Err refusal) = Some (Err refusal)
+
+abbrev pub first_in : {X : Type 0} → (List ℕ → First X (List ℕ)) → List ℕ → Range → First X (List ℕ)
+first_in first b r = first_of first (of_image (bytes_at b r))
+
+-- what a step returns: the item as callers get it
+abbrev pub step_of : {X Y : Type 0} → (X → Y) → First X (List ℕ) → Result (Option Y) DirectoryRefusal
+step_of report None = Ok None
+step_of report (Some (Ok x)) = Ok (Some (report x.0))
+step_of report (Some (Err refusal)) = Err refusal
+
+-- the last n bytes of a range
+abbrev pub range_left : Range → ℕ → Range
+range_left r n = record { offset = r.offset + (r.length - n); length = n }
+
+-- the walk after a step: what is left, which stays where no item stands first, and is nothing after a refusal
+abbrev pub left_after : {X : Type 0} → Range → First X (List ℕ) → Range
+left_after r None = r
+left_after r (Some (Ok x)) = range_left r (length x.1)
+left_after r (Some (Err refusal)) = no_bytes
+
+-- ---- TLS
+
+-- the TLS directory of an image, if it has one
+abbrev pub tls_at : List ℕ → images.Image → List SectionTable → Result (Option TlsDirectory) DirectoryRefusal
+tls_at b image sections = if_present (directory image 9) (tls_directory (image_parts b image sections) (directory image 9))
+
+-- the callbacks of a TLS directory, if it has a table of them: from its first number to the end of the bytes
+abbrev pub callbacks_at : List ℕ → images.Image → List SectionTable → TlsDirectory → Result (Option Range) DirectoryRefusal
+callbacks_at b image sections tls =
+    if tls.address_of_callbacks == 0 then Ok None
+    else (offset_of_va (image_parts b image sections) tls.address_of_callbacks >>= λ p. Ok (Some (record { offset = p; length = length b - p })))
+
+-- the number that stands first in a table of virtual addresses; the range without bytes at offset 0 is that of a walk that is
+-- over, another one without bytes that of a table which is truncated
+abbrev pub first_va_in : images.Image → List ℕ → Range → First ℕ (List ℕ)
+first_va_in image b r = if r.offset == 0 && r.length == 0 then None else first_in (first_va (image.width == 64)) b r
+
+-- ---- base relocations
+
+-- a block of a walk as callers get it: its entries follow its two numbers
+abbrev pub block_reported : Range → Block → RelocationBlock
+block_reported r x = record {
+  entries = record { offset = r.offset + 8; length = length x.entries };
+  page_rva = x.page_rva;
+  spare = 0;
+}
+
+abbrev pub argument_or_0 : Option ℕ → ℕ
+argument_or_0 None = 0
+argument_or_0 (Some n) = n
+
+abbrev pub relocation_reported : BaseRelocation → Relocation
+relocation_reported x = record { rva = x.rva; kind = x.kind; argument = argument_or_0 x.argument }

@@ -1,0 +1,116 @@
+//! Thread-local storage: the TLS directory, and its callbacks, which run before the entry point.
+//! https://learn.microsoft.com/windows/win32/debug/pe-format#the-tls-section
+
+ghost use Rattle.std.specs.Prelude.{◌≡◌};
+ghost use Rattle.pe_directories.specs.DirectoryRefusals.{directory_answer};
+ghost use Rattle.pe_c.specs.Directories.{DirectoryHandsOut, callbacks_at, first_va_in, left_after, step_of, tls_at};
+
+use crate::directories::{Result, image_bytes, range_left};
+use crate::image::{Image, TLS_TABLE, directory, is_absent};
+use crate::ranges::{NO_BYTES, Range, slice_of};
+use crate::results::hand_out_found;
+use pe_core::SectionTable;
+use pe_directories::{TlsDirectory, VaTable};
+
+fn tls_at(bytes: &[u8], image: &Image, sections: &[SectionTable]) -> Result<Option<TlsDirectory>>
+    ensures { directory_answer (λ t. t) result ≡ tls_at bytes.now image.now sections.now }
+{
+    let directory = directory(image, TLS_TABLE);
+    if is_absent(directory) {
+        return Ok(None);
+    }
+    let tls = TlsDirectory::parse(&image_bytes(bytes, image, sections), directory)?;
+    Ok(Some(tls))
+}
+
+/// Returns the TLS directory of an image: `NOTHING` where it is absent. Strict and permissive mode make no difference.
+///
+/// Errors: `UNMAPPED`, `SHORT`.
+#[unsafe(no_mangle)]
+pub extern "C" fn pe_c_tls(
+    bytes: &[u8],
+    image: &Image,
+    sections: &[SectionTable],
+    out: &mut TlsDirectory,
+) -> u32
+    ensures { DirectoryHandsOut result out.old out.new (tls_at bytes.now image.now sections.now) }
+{
+    hand_out_found(tls_at(bytes, image, sections), out)
+}
+
+fn callbacks_at(
+    bytes: &[u8],
+    image: &Image,
+    sections: &[SectionTable],
+    tls: &TlsDirectory,
+) -> Result<Option<Range>>
+    ensures { directory_answer (λ r. r) result
+        ≡ callbacks_at bytes.now image.now sections.now tls.now }
+{
+    if tls.address_of_callbacks == 0 {
+        return Ok(None);
+    }
+    let image = image_bytes(bytes, image, sections);
+    let offset = image.offset_of_va(tls.address_of_callbacks)?;
+    Ok(Some(Range {
+        offset: offset as u64,
+        length: bytes.len().saturating_sub(offset) as u64,
+    }))
+}
+
+/// Returns a walk through the callbacks of a TLS directory, the range from the first to the end of the bytes: `NOTHING` where
+/// the directory has no table of them.
+///
+/// Errors: `DIRECTORY_VA_BELOW_BASE`, `UNMAPPED`.
+#[unsafe(no_mangle)]
+pub extern "C" fn pe_c_tls_callbacks(
+    bytes: &[u8],
+    image: &Image,
+    sections: &[SectionTable],
+    tls: &TlsDirectory,
+    out: &mut Range,
+) -> u32
+    ensures { DirectoryHandsOut result out.old out.new
+        (callbacks_at bytes.now image.now sections.now tls.now) }
+{
+    hand_out_found(callbacks_at(bytes, image, sections, tls), out)
+}
+
+/// The next callback of a walk. It is over after an error.
+fn next_callback(bytes: &[u8], image: &Image, walk: &mut Range) -> Result<Option<u64>>
+    ensures callback { directory_answer (λ x. x) result
+        ≡ step_of (λ x. x) (first_va_in image.now bytes.now walk.old) }
+    ensures walk { walk.new ≡ left_after walk.old (first_va_in image.now bytes.now walk.old) }
+{
+    let range = *walk;
+    if range.offset == 0 && range.length == 0 {
+        return Ok(None);
+    }
+    *walk = NO_BYTES;
+    let mut table = VaTable::new(slice_of(bytes, &range)?, image.width == 64);
+    let Some(callback) = table.next() else {
+        *walk = range;
+        return Ok(None);
+    };
+    let callback = callback?;
+    *walk = range_left(range, table.rest());
+    Ok(Some(callback))
+}
+
+/// Steps through callbacks: returns the next one, a virtual address, and moves `walk` past it. `NOTHING` where the table ends:
+/// then `walk` stays.
+///
+/// Error: `SHORT` where the bytes end before the table does, or where `walk` is not inside the bytes: then the walk is over.
+#[unsafe(no_mangle)]
+pub extern "C" fn pe_c_next_tls_callback(
+    bytes: &[u8],
+    image: &Image,
+    walk: &mut Range,
+    out: &mut u64,
+) -> u32
+    ensures callback { DirectoryHandsOut result out.old out.new
+        (step_of (λ x. x) (first_va_in image.now bytes.now walk.old)) }
+    ensures walk { walk.new ≡ left_after walk.old (first_va_in image.now bytes.now walk.old) }
+{
+    hand_out_found(next_callback(bytes, image, walk), out)
+}
