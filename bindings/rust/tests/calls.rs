@@ -730,7 +730,7 @@ fn tls_callbacks_are_read() {
     assert_eq!((tls.size_of_zero_fill, tls.characteristics), (12, 0x0030_0000));
     let callbacks: Vec<_> = image.tls_callbacks().unwrap().unwrap().collect();
     assert_eq!(callbacks, [Ok(0x1_8000_2000), Ok(0x1_8000_2010)]);
-    let memory = as_loaded(&bytes);
+    let memory = as_loaded(&image);
     let module = Image::parse_as(&memory, Mode::Strict, Layout::Mapped).unwrap();
     assert_eq!(module.tls_callbacks().unwrap().unwrap().collect::<Vec<_>>(), callbacks);
     assert!(strict(&with_debug()).tls().unwrap().is_none());

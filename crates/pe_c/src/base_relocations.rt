@@ -7,7 +7,7 @@ ghost use Rattle.pe_directories.specs.DirectoryRefusals.{directory_answer};
 ghost use Rattle.pe_c.specs.Directories.{DirectoryHandsOut, block_reported, first_in, left_after, relocation_reported, step_of, table_at};
 
 use crate::directories::{Result, range_left, table_at};
-use crate::image::{Image, RELOCATION_TABLE};
+use crate::image::{Image, BASE_RELOCATION_TABLE};
 use crate::ranges::{NO_BYTES, Range, slice_of};
 use crate::results::hand_out_found;
 use pe_core::SectionTable;
@@ -51,7 +51,7 @@ pub extern "C" fn pe_c_relocation_blocks(
     ensures { DirectoryHandsOut result out.old out.new
         (table_at 5 bytes.now image.now sections.now) }
 {
-    hand_out_found(table_at(RELOCATION_TABLE, bytes, image, sections), out)
+    hand_out_found(table_at(BASE_RELOCATION_TABLE, bytes, image, sections), out)
 }
 
 /// The next block of a walk. It is over after an error.

@@ -75,7 +75,7 @@ pub const RESOURCE_TABLE: usize = 2;
 
 pub const EXCEPTION_TABLE: usize = 3;
 
-pub const RELOCATION_TABLE: usize = 5;
+pub const BASE_RELOCATION_TABLE: usize = 5;
 
 pub const DEBUG_TABLE: usize = 6;
 
