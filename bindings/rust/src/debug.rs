@@ -70,7 +70,10 @@ impl fmt::Display for SymbolKey<'_> {
     }
 }
 
-/// A CodeView record of PDB 2.0 ("NB10").
+/// A CodeView record of PDB 2.0 ("NB10"): a symbol server files the PDB under its name, time stamp and age.
+///
+/// `Display` writes the key as symbol servers do: the time stamp's 8 digits, then the age, in upper-case hexadecimal.
+/// [`path`](Self::path) is the whole path there, and has an example.
 #[derive(Clone, Copy, Debug, PartialEq, Eq)]
 pub struct Pdb20<'a> {
     /// 0 where the symbols are in a file of their own.
@@ -87,6 +90,12 @@ impl<'a> Pdb20<'a> {
     /// The PDB file's name, up to the first zero.
     pub fn name(&self) -> &'a [u8] {
         up_to_zero(self.name_bytes)
+    }
+}
+
+impl fmt::Display for Pdb20<'_> {
+    fn fmt(&self, f: &mut fmt::Formatter<'_>) -> fmt::Result {
+        write!(f, "{:08X}{:X}", self.signature, self.age)
     }
 }
 

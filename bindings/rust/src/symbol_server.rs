@@ -1,9 +1,10 @@
 //! Where a symbol server has an image and its PDB. The path is the file's name, an identifier and the name again: of a
-//! PDB the GUID and the age of the image's CodeView record, of an image its time stamp and its size in memory. See
+//! PDB the GUID and the age of the image's CodeView record, of one before PDB 7.0 the time stamp and the age, of an image
+//! its time stamp and its size in memory. See
 //! [Microsoft's page](https://learn.microsoft.com/windows/win32/debug/using-symsrv). A symbolizer joins it to the server's
 //! URL, or to the folder of its own store.
 
-use crate::debug::SymbolKey;
+use crate::debug::{Pdb20, SymbolKey};
 use crate::sys::ImageInfo;
 use core::fmt;
 
@@ -48,6 +49,7 @@ impl fmt::Display for Guid {
 #[derive(Clone, Copy, Debug, PartialEq, Eq, Hash)]
 enum Identifier {
     Pdb { guid: Guid, age: u32 },
+    Pdb20 { signature: u32, age: u32 },
     Image { time_date_stamp: u32, size_of_image: u32 },
 }
 
@@ -77,6 +79,7 @@ impl fmt::Display for SymbolPath<'_> {
                 guid.write(f, "")?;
                 write!(f, "{age:X}")?;
             }
+            Identifier::Pdb20 { signature, age } => write!(f, "{signature:08X}{age:X}")?,
             Identifier::Image { time_date_stamp, size_of_image } => {
                 write!(f, "{time_date_stamp:08X}{size_of_image:x}")?;
             }
@@ -114,6 +117,30 @@ impl<'a> SymbolKey<'a> {
     pub fn path(&self) -> Option<SymbolPath<'a>> {
         let name = file_name(core::str::from_utf8(self.name()).ok()?)?;
         Some(SymbolPath { name, identifier: Identifier::Pdb { guid: self.guid, age: self.age } })
+    }
+}
+
+impl<'a> Pdb20<'a> {
+    /// The path of the PDB: its name, its time stamp as eight digits with the age, without leading zeros, both in upper-case
+    /// hexadecimal, and the name again.
+    ///
+    /// Of a name that is a path it is the last component. `None` where that is no name, as for [`SymbolKey::path`].
+    ///
+    /// ```
+    /// # #[path = "../tests/made/mod.rs"] mod made;
+    /// # let bytes = made::with_old_debug();
+    /// use pe_c::{Image, Mode};
+    ///
+    /// let image = Image::parse(&bytes, Mode::Permissive)?;
+    /// let record = image.pdb20()?.expect("the image has a record of PDB 2.0");
+    /// assert_eq!((record.name(), record.signature, record.age), (b"b.pdb".as_slice(), 0x3333, 7));
+    /// let path = record.path().expect("the name is that of a file");
+    /// assert_eq!(path.to_string(), "b.pdb/000033337/b.pdb");
+    /// # Ok::<(), pe_c::Error>(())
+    /// ```
+    pub fn path(&self) -> Option<SymbolPath<'a>> {
+        let name = file_name(core::str::from_utf8(self.name()).ok()?)?;
+        Some(SymbolPath { name, identifier: Identifier::Pdb20 { signature: self.signature, age: self.age } })
     }
 }
 

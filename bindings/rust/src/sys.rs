@@ -668,6 +668,22 @@ extern "C" {
         -> u32;
     /// Starts the plan of a function, by its unwind RVA.
     pub fn pe_c_plan_from(unwind: u32, out: *mut Plan) -> u32;
+    /// Finds the registers of an x64 function's caller, and writes them over those of the frame.
+    pub fn pe_c_step(
+        bytes: *const u8,
+        length: usize,
+        image: *const ImageInfo,
+        sections: *const Section,
+        count: usize,
+        code: *const u8,
+        code_length: usize,
+        stack: *const u8,
+        stack_length: usize,
+        frame: *mut Frame,
+    ) -> u32;
+    /// Finds the registers of the caller of a leaf function, by the bytes of its stack, and writes them over those of the
+    /// frame.
+    pub fn pe_c_leaf(stack: *const u8, stack_length: usize, frame: *mut Frame) -> u32;
     /// Writes the file with a certificate to the start of an array, and returns its length.
     pub fn pe_c_attach(
         bytes: *const u8,
@@ -715,9 +731,6 @@ calls_of_bytes! {
     pe_c_scope_table(handler_data: *const Range) -> Range;
     /// Returns the next entry of a scope table.
     pe_c_next_scope(walk: *mut Range) -> Scope;
-    /// Finds the registers of the caller of a leaf function, by the bytes of its stack, and writes them over those of the
-    /// frame.
-    pe_c_leaf() -> Frame;
     /// Returns the ARM64 function with an index.
     pe_c_arm64_function_at(table: *const Range, index: u64) -> Arm64Function;
     /// Returns the next epilog scope of an ARM64 unwind record.
@@ -755,8 +768,6 @@ calls_of_an_image! {
     pe_c_unwind_record(unwind: u32) -> Record;
     /// Returns the next record of a plan.
     pe_c_next_record(plan: *mut Plan) -> Record;
-    /// Finds the registers of an x64 function's caller, and writes them over those of the frame.
-    pe_c_step(code: *const u8, code_length: usize, stack: *const u8, stack_length: usize) -> Frame;
     /// Returns the range of the ARM64 function table.
     pe_c_arm64_table() -> Range;
     /// Returns the ARM64 function that covers an RVA.

@@ -2,7 +2,7 @@
 //! (github.com/dotnet/symstore, docs/specs/SSQP_Key_Conventions.md), which write them in lower case.
 
 use pe_c::sys::ImageInfo;
-use pe_c::SymbolKey;
+use pe_c::{Pdb20, SymbolKey};
 
 /// A CodeView record with the sample's GUID and age and this name.
 fn record(age: u32, name: &[u8]) -> Vec<u8> {
@@ -42,6 +42,22 @@ fn numbers_of_other_widths() {
     assert_eq!(image(0xAB, 0x1F_E000).symbol_path("a").unwrap().to_string(), "a/000000AB1fe000/a");
     assert_eq!(image(0, 0).symbol_path("a").unwrap().to_string(), "a/000000000/a");
     assert_eq!(ImageInfo { width: 0, ..image(1, 0x1000) }.symbol_path("a"), None);
+}
+
+/// Before PDB 7.0 the identifier is that of Microsoft's symbol server, `%08X` of the time stamp and `%X` of the age. The
+/// stamps are of 1 January 1997 and of 1970.
+#[test]
+fn keys_before_pdb_7() {
+    let record = |signature, age, name_bytes| Pdb20 { offset: 0, signature, age, name_bytes };
+    let text = |it: Pdb20| it.path().map(|it| it.to_string());
+    let first = record(0x32C9_A900, 0x1F, b"C:\\nt\\kernel32.PDB\0\0".as_slice());
+    assert_eq!(text(first).unwrap(), "kernel32.PDB/32C9A9001F/kernel32.PDB");
+    assert_eq!((first.to_string().as_str(), first.path().unwrap().name()), ("32C9A9001F", "kernel32.PDB"));
+    assert_eq!(text(record(0xAB, 0, b"a\0")).unwrap(), "a/000000AB0/a");
+    assert_eq!(text(record(0, u32::MAX, b"a")).unwrap(), "a/00000000FFFFFFFF/a");
+    for name in [b"..\0".as_slice(), b"a\xFF\0", b"a*\0", b"\0a", b""] {
+        assert_eq!(text(record(1, 1, name)), None, "{name:?}");
+    }
 }
 
 #[test]
