@@ -14,6 +14,7 @@
 //! | signing | [`digest_ranges`](Image::digest_ranges), [`checksum`](Image::checksum), [`attach`](Image::attach), [`detach`](Image::detach) | [image hash] |
 //! | unwind data | [`functions`](Image::functions), [`arm64_functions`](Image::arm64_functions) | [x64], [ARM64] |
 //! | a stack walk | [`Frames`]; one step of it [`Functions::step`], [`Registers::leaf`] | [x64] |
+//! | | one step of it [`Arm64Functions::step`], [`Arm64Registers::leaf`] | [ARM64] |
 //! | exports, imports | [`exports`](Image::exports), [`export_addresses`](Image::export_addresses), [`libraries`](Image::libraries) | [.edata], [.idata] |
 //! | resources | [`version`](Image::version), [`version_text`](Image::version_text), [`manifest`](Image::manifest) | [version information] |
 //!
@@ -89,8 +90,8 @@ pub use imports::{Import, Imports, Libraries, Library};
 pub use signing::{Checksum, DigestRanges, Placement};
 pub use symbol_server::{Guid, SymbolPath};
 pub use sys::{
-    Arm64Function, Arm64Packed, Arm64Scope, DebugEntry, Directory, Function, ImageInfo, Registers, Scope, Section,
-    VcFeatures,
+    Arm64Function, Arm64Packed, Arm64Registers, Arm64Scope, DebugEntry, Directory, Function, ImageInfo, Registers,
+    Scope, Section, VcFeatures,
 };
 pub use version::{FixedVersion, Text, VersionName};
 pub use x64::{Code, Codes, Functions, Handler, Offset, Operation, Plan, Register, Scopes, UnwindRecord};
