@@ -13,7 +13,7 @@
  * No call allocates, keeps state, prints, calls back, or needs initialisation. Any thread may call at any time.
  *
  * Results. A call returns PE_C_DONE and fills `out`, or returns another number and leaves `out` unchanged, but for the
- * address in a pe_c_frame. The comment of a call lists its errors in the order in which they are tested. PE_C_NOTHING means
+ * address in a frame. The comment of a call lists its errors in the order in which they are tested. PE_C_NOTHING means
  * that there is nothing of the kind; it is no error.
  *
  * Units. An `offset` is a number of bytes from the start of `bytes`: in a file a file offset, in an image as loaded an
@@ -127,7 +127,7 @@ enum {
     PE_C_WRITE_FIT = 37,            /* write does not fit the buffer */
     PE_C_NOTHING = 100,             /* there is nothing of the kind, or the walk is over */
     PE_C_ROOM = 101,                /* the array is too small */
-    PE_C_MISSING = 102,             /* eight bytes of memory are missing, at pe_c_frame.address */
+    PE_C_MISSING = 102,             /* eight bytes of memory are missing, at the frame's address */
     PE_C_BAD_ADDRESS = 103,         /* address and the offset of an unwind code do not fit 64 bits */
     PE_C_BAD_OPERATION = 104,       /* unwind operation cannot be undone */
     PE_C_NOT_RISING = 105,          /* stack pointer of the caller is not above that of the function */
@@ -677,6 +677,9 @@ uint32_t pe_c_leaf(const uint8_t *stack, size_t stack_length, pe_c_frame *frame)
  * The exception directory of an ARM64 image is a table of functions too. The unwind data of a function is packed into its
  * entry if the prolog and epilog are canonical, else it is a record with a byte stream of codes: those of the prolog, and
  * those of each epilog, which a scope locates. The length of a function is in its unwind data.
+ *
+ * For the registers of the caller: pe_c_arm64_table, pe_c_find_arm64_function, then pe_c_step_arm64, or pe_c_leaf_arm64
+ * where it returned PE_C_NOTHING.
  * https://learn.microsoft.com/cpp/build/arm64-exception-handling */
 
 /* An entry of the function table. */
@@ -771,12 +774,33 @@ typedef struct {
     uint32_t flags;                 /* of PE_C_ARM64_SAVE_ANY_REG; else 0 */
 } pe_c_arm64_code;
 
+/* The registers of a thread that unwinding restores. */
+typedef struct {
+    uint64_t general[31];           /* x0 .. x30: the frame pointer is general[29], the link register general[30] */
+    uint64_t floats[8];             /* d8 .. d15, the low halves of v8 .. v15 */
+    uint64_t sp;
+    uint64_t pc;
+} pe_c_arm64_registers;
+
+/* A frame of a stack walk. A caller sets all fields but `address`.
+ * A step changes `registers`, or after an error `address`. */
+typedef struct {
+    pe_c_arm64_registers registers; /* inside the function; after a step those of its caller */
+    uint64_t stack_start;           /* address of the first byte of the stack that is passed */
+    uint64_t address;               /* the one that PE_C_MISSING, _BAD_ADDRESS or _NOT_RISING speaks of */
+    pe_c_arm64_function function;   /* the one that pe_c_find_arm64_function returned */
+    uint32_t rva;                   /* pc less the address where the image is loaded */
+    uint32_t spare;                 /* 0 */
+} pe_c_arm64_frame;
+
 PE_C_SIZE(pe_c_arm64_function, 8);
 PE_C_SIZE(pe_c_arm64_packed, 32);
 PE_C_SIZE(pe_c_arm64_record, 72);
 PE_C_SIZE(pe_c_arm64_scope, 16);
 PE_C_SIZE(pe_c_arm64_walk, 24);
 PE_C_SIZE(pe_c_arm64_code, 24);
+PE_C_SIZE(pe_c_arm64_registers, 328);
+PE_C_SIZE(pe_c_arm64_frame, 360);
 
 /* Returns the range of the function table, entries of 8 bytes. PE_C_NOTHING without one, or for a machine other than
  * ARM64.
@@ -826,6 +850,30 @@ uint32_t pe_c_arm64_codes(const uint8_t *bytes, size_t length, const pe_c_range 
  * multiple of 4 or is above 4,294,967,292, as in no walk of pe_c_arm64_codes; PE_C_ARM64_CUT for a truncated code. */
 uint32_t pe_c_next_arm64_code(const uint8_t *bytes, size_t length, pe_c_arm64_walk *walk, pe_c_arm64_code *out)
     PE_C_RESULT(3, 4);
+
+/* Finds the registers of a function's caller, from those inside the function, and writes them over those of the frame. It
+ * undoes the codes of frame->function, which are those of its unwind record or what its packed unwind data stand for: after
+ * the prolog all of them, inside of it and in an epilog those that are left. It takes a signature off the link register.
+ *
+ * The stack is one piece of memory: `stack_length` bytes that start at the address frame->stack_start. After PE_C_MISSING
+ * a caller reads a piece that has the eight bytes at frame->address, and makes the same call again.
+ *
+ * In the top frame frame->rva is that of the instruction which is about to run: look the function up by it. In every other
+ * frame it is that of a return address, which may lie at the end of the function: look the function up by frame->rva - 4.
+ * Where no function covers the address, call pe_c_leaf_arm64, in the top frame alone. A step may leave the stack pointer
+ * where it is, before a prolog has moved it: end a walk where one does so in any other frame.
+ *
+ * Errors: those of pe_c_arm64_table, without PE_C_NOTHING; of the record PE_C_UNMAPPED, PE_C_SHORT, PE_C_ARM64_VERSION; then
+ * PE_C_ARM64_CUT of a code up to the first PE_C_ARM64_END, in an epilog of its codes too. Or PE_C_BAD_OPERATION where packed
+ * unwind data have no canonical prolog. For each code PE_C_BAD_OPERATION, PE_C_BAD_ADDRESS, PE_C_MISSING. Last
+ * PE_C_NOT_RISING where the caller's stack pointer is below that of the function. */
+uint32_t pe_c_step_arm64(const uint8_t *bytes, size_t length, const pe_c_image_info *image, const pe_c_section *sections,
+                         size_t count, const uint8_t *stack, size_t stack_length, pe_c_arm64_frame *frame)
+    PE_C_RESULT(3, 8);
+
+/* Finds the registers of the caller of a leaf function, one that no function of the table covers, and writes them over those
+ * of the frame: the caller goes on at the link register. It always returns PE_C_DONE. */
+uint32_t pe_c_leaf_arm64(pe_c_arm64_frame *frame) PE_C_NOT_NULL(1);
 
 /* ---- exports
  *

@@ -301,6 +301,24 @@ fn read_by_lies(bytes: &[u8], random: &mut Random, seen: &mut Seen) {
         let leaf = sys::pe_c_leaf(start, length, &mut frame);
         seen.refusals += u64::from(step != 0) + u64::from(leaf != 0);
     }
+    let mut frame = sys::Arm64Frame {
+        registers: sys::Arm64Registers {
+            general: [random.edge(number); 31],
+            floats: [index; 8],
+            sp: index,
+            pc: few.into(),
+        },
+        stack_start: random.edge(number),
+        function: sys::Arm64Function { begin: few % 64, unwind: directory.virtual_address },
+        rva: few % 96,
+        ..sys::Arm64Frame::default()
+    };
+    // SAFETY: as above.
+    unsafe {
+        let step = sys::pe_c_step_arm64(start, length, &image, first, count, start, length, &mut frame);
+        let leaf = sys::pe_c_leaf_arm64(&mut frame);
+        seen.refusals += u64::from(step != 0) + u64::from(leaf != 0);
+    }
 }
 
 /// The arguments: the seconds, the seed, and the files.

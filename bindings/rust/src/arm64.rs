@@ -374,6 +374,11 @@ pub struct Arm64Functions<'i, 'a> {
 }
 
 impl<'i, 'a> Arm64Functions<'i, 'a> {
+    /// The image of the functions.
+    pub(crate) fn image(&self) -> &'i Image<'a> {
+        self.image
+    }
+
     /// The number of functions.
     pub fn len(&self) -> u64 {
         self.table.length / 8

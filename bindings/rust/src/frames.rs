@@ -1,13 +1,15 @@
-//! Stack walks on x64. A step finds the registers of a function's caller: in the table of functions it looks up the one that
+//! Stack walks on x64, and steps of them on ARM64. A step finds the registers of a function's caller: in the table of functions it looks up the one that
 //! the instruction pointer is in, and undoes what that function's prolog did. A walk makes step after step, through all
-//! modules, from the innermost frame outwards. See
-//! [Microsoft's page](https://learn.microsoft.com/cpp/build/exception-handling-x64).
+//! modules, from the innermost frame outwards. See Microsoft's pages on
+//! [x64](https://learn.microsoft.com/cpp/build/exception-handling-x64) and
+//! [ARM64](https://learn.microsoft.com/cpp/build/arm64-exception-handling).
 //!
 //! A return address may be the end of its function, if the call before it is the last instruction, so a walk looks up the
 //! byte before it. The top frame alone, and one that an interrupt stopped, can be in an epilog, which its code tells.
 
+use crate::arm64::Arm64Functions;
 use crate::image::{Error, Image};
-use crate::sys::{self, Function, Registers};
+use crate::sys::{self, Arm64Function, Arm64Registers, Function, Registers};
 use crate::x64::{Functions, Operation};
 use core::fmt;
 
@@ -28,10 +30,10 @@ pub enum StepError {
     Missing(u64),
     /// This address and the offset of an unwind code do not fit 64 bits, or it is that of a frame register below its offset.
     Address(u64),
-    /// This stack pointer of the caller is not above that of the function.
+    /// This stack pointer of the caller is not above that of the function; on ARM64 it is below that.
     NotRising(u64),
-    /// The function's records: they cannot be read, a code of theirs is truncated, invalid or cannot be undone, or more than
-    /// 32 of them are chained.
+    /// The function's records: they cannot be read, a code of theirs is truncated, invalid or cannot be undone, more than
+    /// 32 of them are chained, or packed unwind data have no canonical prolog.
     Records(Error),
 }
 
@@ -60,14 +62,14 @@ impl fmt::Display for StepError {
 
 impl core::error::Error for StepError {}
 
-/// The registers after a step, by the number that it returned.
-fn stepped(number: u32, frame: &sys::Frame) -> Result<Registers, StepError> {
+/// The registers after a step, by the number that it returned, or its error with the address that it speaks of.
+fn stepped<R>(number: u32, registers: R, address: u64) -> Result<R, StepError> {
     let error = Error::with_number(number);
     match error {
-        _ if number == sys::DONE => Ok(frame.registers),
-        Error::MISSING => Err(StepError::Missing(frame.address)),
-        Error::BAD_ADDRESS => Err(StepError::Address(frame.address)),
-        Error::NOT_RISING => Err(StepError::NotRising(frame.address)),
+        _ if number == sys::DONE => Ok(registers),
+        Error::MISSING => Err(StepError::Missing(address)),
+        Error::BAD_ADDRESS => Err(StepError::Address(address)),
+        Error::NOT_RISING => Err(StepError::NotRising(address)),
         error => Err(StepError::Records(error)),
     }
 }
@@ -108,7 +110,7 @@ impl Registers {
         let mut frame = sys::Frame { registers: *self, stack_start: stack.start, ..Default::default() };
         // SAFETY: the pointer and the length are those of one slice, and the frame is lent for the call.
         let number = unsafe { sys::pe_c_leaf(stack.bytes.as_ptr(), stack.bytes.len(), &mut frame) };
-        stepped(number, &frame)
+        stepped(number, frame.registers, frame.address)
     }
 }
 
@@ -135,7 +137,7 @@ impl Functions<'_, '_> {
         let registers = *registers;
         let mut frame = sys::Frame { registers, stack_start: stack.start, address: 0, function, rva };
         let number = self.image().step_frame(code, stack.bytes, &mut frame);
-        stepped(number, &frame)
+        stepped(number, frame.registers, frame.address)
     }
 
     /// Whether an interrupt entered the function: one of its records has `UWOP_PUSH_MACHFRAME`.
@@ -143,6 +145,72 @@ impl Functions<'_, '_> {
         self.plan(function)
             .flatten()
             .any(|record| record.codes().flatten().any(|code| matches!(code.operation, Operation::MachineFrame { .. })))
+    }
+}
+
+impl Arm64Registers {
+    /// The link register, x30, in which a call leaves its return address.
+    pub fn lr(&self) -> u64 {
+        self.general[30]
+    }
+
+    /// Sets the link register.
+    pub fn set_lr(&mut self, lr: u64) {
+        self.general[30] = lr;
+    }
+
+    /// The registers of the caller of a leaf function, one that no function of its image covers: it goes on at the link
+    /// register. Only the top frame can be one of a leaf function.
+    pub fn leaf(&self) -> Arm64Registers {
+        let mut frame = sys::Arm64Frame { registers: *self, ..Default::default() };
+        // SAFETY: the frame is lent for the call, which always succeeds.
+        let _ = unsafe { sys::pe_c_leaf_arm64(&mut frame) };
+        frame.registers
+    }
+}
+
+impl Arm64Functions<'_, '_> {
+    /// The registers of a function's caller, from those inside the function at an RVA, in its prolog and epilogs too.
+    ///
+    /// `rva` is the instruction pointer less the address where the image is loaded. In the top frame it is that of the
+    /// instruction which is about to run: find the function by it. In every other frame it is that of a return address: find
+    /// the function by `rva - 4`. Where no function covers the address, call [`Arm64Registers::leaf`] in the top frame alone.
+    /// A signature is taken off the return address.
+    ///
+    /// A step may leave the stack pointer where it is, before a prolog has moved it. End a walk where one does so in any
+    /// frame but the top one: a function that calls has stored the link register.
+    ///
+    /// ```
+    /// # #[path = "../tests/made/mod.rs"] mod made;
+    /// # let bytes = made::with_arm64_functions();
+    /// use pe_c::{Arm64Registers, Image, Mode, Stack};
+    ///
+    /// let image = Image::parse(&bytes, Mode::Permissive)?;
+    /// let functions = image.arm64_functions()?.expect("an ARM64 image with exception data");
+    /// // before the first instruction
+    /// let function = functions.find(0x5010)?.expect("a function");
+    /// let mut registers = Arm64Registers { sp: 0x2_0000, ..Arm64Registers::default() };
+    /// registers.set_lr(0x1_8000_1234);
+    /// let caller = functions.step(function, 0x5010, &registers, Stack { start: 0, bytes: &[] });
+    /// assert_eq!(caller.map(|it| (it.pc, it.sp)), Ok((0x1_8000_1234, 0x2_0000)));
+    /// # Ok::<(), pe_c::Error>(())
+    /// ```
+    ///
+    /// # Errors
+    ///
+    /// In their order as `pe_c_step_arm64` of `pe.h` has them: [`StepError::Records`] of the unwind data; then for each code
+    /// [`StepError::Records`], [`StepError::Address`], [`StepError::Missing`]; last [`StepError::NotRising`].
+    pub fn step(
+        &self,
+        function: Arm64Function,
+        rva: u32,
+        registers: &Arm64Registers,
+        stack: Stack<'_>,
+    ) -> Result<Arm64Registers, StepError> {
+        let registers = *registers;
+        let mut frame = sys::Arm64Frame { registers, stack_start: stack.start, function, rva, ..Default::default() };
+        let number = self.image().step_arm64_frame(stack.bytes, &mut frame);
+        stepped(number, frame.registers, frame.address)
     }
 }
 

@@ -500,6 +500,17 @@ impl<'a> Image<'a> {
         }
     }
 
+    /// Makes a step of a stack walk on ARM64, and returns its number.
+    pub(crate) fn step_arm64_frame(&self, stack: &[u8], frame: &mut sys::Arm64Frame) -> u32 {
+        let (bytes, sections) = (self.bytes, &self.sections);
+        let (first, count) = (sections.as_ptr(), sections.len());
+        let (stack, stack_length) = (stack.as_ptr(), stack.len());
+        // SAFETY: as above; the further slice and the frame are lent for the call.
+        unsafe {
+            sys::pe_c_step_arm64(bytes.as_ptr(), bytes.len(), &self.info, first, count, stack, stack_length, frame)
+        }
+    }
+
     /// Makes a call that moves a walk.
     pub(crate) fn step<W, T: Default>(&self, call: CallWith<*mut W, T>, walk: &mut W) -> Result<Option<T>, Error> {
         self.call_with(call, walk)

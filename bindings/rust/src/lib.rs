@@ -14,6 +14,7 @@
 //! | signing | [`digest_ranges`](Image::digest_ranges), [`checksum`](Image::checksum), [`attach`](Image::attach), [`detach`](Image::detach) | [image hash] |
 //! | unwind data | [`functions`](Image::functions), [`arm64_functions`](Image::arm64_functions) | [x64], [ARM64] |
 //! | a stack walk | [`Frames`]; one step of it [`Functions::step`], [`Registers::leaf`] | [x64] |
+//! | | one step of it [`Arm64Functions::step`], [`Arm64Registers::leaf`] | [ARM64] |
 //! | exports, imports | [`exports`](Image::exports), [`export_addresses`](Image::export_addresses), [`libraries`](Image::libraries) | [.edata], [.idata] |
 //! | thread-local storage | [`tls`](Image::tls), [`tls_callbacks`](Image::tls_callbacks) | [.tls] |
 //! | base relocations | [`relocation_blocks`](Image::relocation_blocks) | [.reloc] |
@@ -96,8 +97,8 @@ pub use relocations::{Relocation, RelocationBlock, RelocationBlocks, Relocations
 pub use signing::{Checksum, DigestRanges, Placement};
 pub use symbol_server::{Guid, SymbolPath};
 pub use sys::{
-    Arm64Function, Arm64Packed, Arm64Scope, DebugEntry, Directory, Function, ImageInfo, Registers, Scope, Section,
-    VcFeatures,
+    Arm64Function, Arm64Packed, Arm64Registers, Arm64Scope, DebugEntry, Directory, Function, ImageInfo, Registers,
+    Scope, Section, VcFeatures,
 };
 pub use tls::{Tls, TlsCallbacks};
 pub use version::{FixedVersion, Text, VersionName};

@@ -437,6 +437,34 @@ Arm64Code, 24 {
     flags: u32,
 });
 record!(
+/// The registers of a thread on ARM64 that unwinding restores.
+Arm64Registers, 328 {
+    /// x0 to x30: the frame pointer is the one at 29, the link register that at 30.
+    general: [u64; 31],
+    /// d8 to d15, the low halves of v8 to v15.
+    floats: [u64; 8],
+    /// The stack pointer.
+    sp: u64,
+    /// The instruction pointer.
+    pc: u64,
+});
+record!(
+/// A frame of a stack walk on ARM64, as [`pe_c_step_arm64`] takes it and leaves it.
+Arm64Frame, 360 {
+    /// Inside the function; after a step those of its caller.
+    registers: Arm64Registers,
+    /// Address of the first byte of the stack that is passed.
+    stack_start: u64,
+    /// The address that an error speaks of.
+    address: u64,
+    /// The function that lookup found; [`pe_c_leaf_arm64`] does not read it.
+    function: Arm64Function,
+    /// `pc` less the address where the image is loaded; [`pe_c_leaf_arm64`] does not read it.
+    rva: u32,
+    /// 0.
+    spare: u32,
+});
+record!(
 /// A walk over exports.
 Exports, 56 {
     /// RVAs of names, 4 bytes each.
@@ -698,6 +726,8 @@ extern "C" {
     ) -> u32;
     /// Returns the fields of packed unwind data.
     pub fn pe_c_arm64_packed_fields(function: *const Arm64Function, out: *mut Arm64Packed) -> u32;
+    /// Finds the registers of the caller of an ARM64 leaf function, and writes them over those of the frame.
+    pub fn pe_c_leaf_arm64(frame: *mut Arm64Frame) -> u32;
 }
 
 calls_of_bytes! {
@@ -774,6 +804,8 @@ calls_of_an_image! {
     pe_c_find_arm64_function(table: *const Range, rva: u32) -> Arm64Function;
     /// Returns the unwind record of an ARM64 function, unless its unwind data is packed.
     pe_c_arm64_unwind_record(function: *const Arm64Function) -> Arm64Record;
+    /// Finds the registers of an ARM64 function's caller, and writes them over those of the frame.
+    pe_c_step_arm64(stack: *const u8, stack_length: usize) -> Arm64Frame;
     /// Returns the tables of the export directory, as a walk.
     pe_c_export_tables() -> Exports;
     /// Returns the next export.

@@ -2,7 +2,7 @@
 
 mod made;
 
-use pe_c::{sys, End, Error, Frames, Image, Mode, Module, Registers, Stack, StepError, Way};
+use pe_c::{sys, Arm64Registers, End, Error, Frames, Image, Mode, Module, Registers, Stack, StepError, Way};
 
 /// Where the image is loaded.
 const BASE: u64 = 0x1_8000_0000;
@@ -197,6 +197,115 @@ fn frames_that_lie() {
                     (step, sys::pe_c_leaf(stack.as_ptr(), stack.len(), &mut frame))
                 };
                 assert!(step != sys::NOTHING && leaf != sys::NOTHING);
+            }
+        }
+    }
+}
+
+/// An ARM64 image of three functions and one whose packed unwind data have no canonical prolog. The first has the packed data
+/// of which llvm-readobj prints `str x19,[sp,#-16]!`; the records of the others are those that clang makes of
+/// `stp x29,x30,[sp,#-256]!; stp d8,d9,[sp,#224]; stp x19,x20,[sp,#240]; mov x29,sp; sub sp,sp,#512`, and of
+/// `str x19,[sp,#-32]!; str x30,[sp,#16]; sub sp,sp,#1024`, with three instructions, and the same backwards and `ret`.
+fn arm64_bytes() -> Vec<u8> {
+    let mut made = made::Made::new(made::ARM64);
+    let table = made.next();
+    made.content.resize(32, 0);
+    let chained =
+        made.put(&[0x0B, 0x00, 0xA0, 0x18, 0xC0, 0x20, 0xE1, 0xC8, 0x1E, 0xD8, 0x1C, 0x9F, 0xE4, 0xE3, 0xE3, 0xE3]);
+    let last = made.put(&[0x0A, 0x00, 0x20, 0x10, 0xC0, 0x40, 0xD2, 0xC2, 0xD4, 0x03, 0xE4, 0xE3]);
+    let entries = [0x5000, 0x0081_0101, 0x5100, chained, 0x5200, last, 0x5300, 0x0080_0043];
+    let entries: Vec<u8> = entries.iter().flat_map(|word: &u32| word.to_le_bytes()).collect();
+    made.content[..32].copy_from_slice(&entries);
+    made.directory(made::EXCEPTIONS, table, 32);
+    made.image()
+}
+
+/// The registers of the caller: each has a number of its own.
+fn arm64_caller() -> Arm64Registers {
+    let mut registers = Arm64Registers { sp: ENTRY, pc: BASE + 0x1234, ..Arm64Registers::default() };
+    registers.general.iter_mut().zip(0xAAAA_0000..).for_each(|(value, number)| *value = number);
+    registers.floats.iter_mut().zip(0xBBBB_0000..).for_each(|(value, number)| *value = number);
+    registers.set_lr(BASE + 0x1234);
+    registers
+}
+
+/// The bytes of words.
+fn bytes_of(words: &[u64]) -> Vec<u8> {
+    words.iter().flat_map(|word| word.to_le_bytes()).collect()
+}
+
+#[test]
+fn an_arm64_step_returns_the_callers_registers() {
+    let file = arm64_bytes();
+    let image = image_of(&file);
+    let functions = image.arm64_functions().unwrap().unwrap();
+    let caller = arm64_caller();
+    let step = |rva: u32, registers: &Arm64Registers, start: u64, words: &[u64]| {
+        let function = functions.find(rva).unwrap().unwrap();
+        functions.step(function, rva, registers, Stack { start, bytes: &bytes_of(words) })
+    };
+    // Before a prolog, where no memory is read, and after that of the packed one, in a body.
+    assert_eq!(step(0x5000, &Arm64Registers { pc: 1, ..caller }, 0, &[]), Ok(caller));
+    let mut inside = Arm64Registers { sp: ENTRY - 16, pc: 1, ..caller };
+    inside.general[19] = 7;
+    assert_eq!(step(0x5004, &inside, ENTRY - 16, &[caller.general[19]]), Ok(caller));
+    // After the prolog of the second function, whose body moved the stack pointer down.
+    let mut words = [0; 32];
+    words[..2].copy_from_slice(&[caller.general[29], caller.lr()]);
+    words[28..30].copy_from_slice(&caller.floats[..2]);
+    words[30..].copy_from_slice(&caller.general[19..21]);
+    let mut inside = Arm64Registers { sp: ENTRY - 1024, pc: 1, ..caller };
+    inside.general[19..21].fill(7);
+    inside.general[29] = ENTRY - 256;
+    inside.set_lr(8);
+    inside.floats[..2].fill(9);
+    assert_eq!(step(0x5114, &inside, ENTRY - 256, &words), Ok(caller));
+    assert_eq!(step(0x5114, &inside, ENTRY - 256, &words[..31]), Err(StepError::Missing(ENTRY - 8)));
+    // In the epilog of the third one, before its last two instructions.
+    let mut leaving = Arm64Registers { sp: ENTRY - 32, pc: 1, ..caller };
+    leaving.general[19] = 7;
+    assert_eq!(step(0x5220, &leaving, ENTRY - 32, &[caller.general[19]]), Ok(caller));
+    // A leaf function.
+    assert_eq!(Arm64Registers { pc: 1, ..caller }.leaf(), caller);
+}
+
+#[test]
+fn an_arm64_step_says_why_there_is_no_caller() {
+    let file = arm64_bytes();
+    let image = image_of(&file);
+    let functions = image.arm64_functions().unwrap().unwrap();
+    let caller = arm64_caller();
+    let step = |index: u64, rva: u32, registers: &Arm64Registers| {
+        functions.step(functions.get(index).unwrap(), rva, registers, Stack { start: 0, bytes: &[] }).unwrap_err()
+    };
+    assert_eq!(step(3, 0x5304, &caller), StepError::Records(Error::BAD_OPERATION));
+    assert_eq!(step(0, 0x5004, &caller), StepError::Missing(ENTRY));
+    let high = Arm64Registers { sp: u64::MAX - 15, ..caller };
+    assert_eq!(step(2, 0x520C, &high), StepError::Address(u64::MAX - 15));
+    let elsewhere = sys::Arm64Function { begin: 0x5000, unwind: 0x7000_0000 };
+    let stack = Stack { start: 0, bytes: &[] };
+    assert_eq!(functions.step(elsewhere, 0x5000, &caller, stack), Err(StepError::Records(Error::UNMAPPED)));
+}
+
+/// Any numbers in a frame on ARM64 are legal.
+#[test]
+fn arm64_frames_that_lie() {
+    let file = arm64_bytes();
+    let image = image_of(&file);
+    let functions = image.arm64_functions().unwrap().unwrap();
+    let mut given: Vec<sys::Arm64Function> = functions.iter().collect();
+    let numbers = [0, 1, 7, 8, 0x5000, 0x5100, u64::from(u32::MAX), 1 << 63, u64::MAX - 7, u64::MAX];
+    given.extend(numbers.map(|number| sys::Arm64Function { begin: number as u32, unwind: number as u32 }));
+    for function in given {
+        for number in numbers {
+            let registers = Arm64Registers { general: [number; 31], floats: [number; 8], sp: number, pc: number };
+            for start in numbers {
+                for length in [0, 8, 64, 512] {
+                    let stack = Stack { start, bytes: &image.bytes()[..length] };
+                    if let Ok(caller) = functions.step(function, number as u32, &registers, stack) {
+                        assert!(caller.sp >= number && caller.pc == caller.lr());
+                    }
+                }
             }
         }
     }

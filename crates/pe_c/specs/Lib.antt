@@ -1,5 +1,6 @@
 pub mod HandsOut
 pub mod Arm64
+pub mod Arm64Frames
 pub mod Certificates
 pub mod Debug
 pub mod DebugWalks

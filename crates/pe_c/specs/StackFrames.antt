@@ -45,17 +45,36 @@ abbrev pub PlansShortIn : Result ExceptionView Refusal → List SectionTable →
 PlansShortIn (Err refusal) sections mode f answer = answer ≡ Err refusal
 PlansShortIn (Ok v) sections mode f answer = PlansShort (links_of v sections (options_of mode)) v.content f answer
 
+-- the number of an error of a step
+abbrev pub error_number : FrameError → ℕ
+error_number (Codes e) = result_number (kind_of e)
+error_number (Memory a) = 102
+error_number (Address a) = 103
+error_number (Operation o) = 104
+error_number (Arm64Code c) = 104
+error_number (Packed d) = 104
+error_number (NotRising a) = 105
+
+-- the address that an error of a step speaks of
+abbrev pub error_address : FrameError → Option ℕ
+error_address (Codes e) = None
+error_address (Memory a) = Some a
+error_address (Address a) = Some a
+error_address (Operation o) = None
+error_address (Arm64Code c) = None
+error_address (Packed d) = None
+error_address (NotRising a) = Some a
+
+-- a frame with the address that an error speaks of, if it speaks of one
+abbrev pub at_address : StackFrame → Option ℕ → StackFrame
+at_address frame None = frame
+at_address frame (Some a) = record frame { address = a }
+
 -- The number that a step returns, and the frame after it: the registers of the caller; or an error's number, with the
 -- address that it speaks of. Nothing else of the frame changes.
 abbrev pub HandsOutCaller : ℕ → StackFrame → StackFrame → Result Registers FrameError → Type 0
 HandsOutCaller number old new (Ok u) = (number ≡ 0) × (new ≡ record old { registers = flat_registers u })
-HandsOutCaller number old new (Err (Codes e)) = (number ≡ result_number (kind_of e)) × (new ≡ old)
-HandsOutCaller number old new (Err (Memory a)) = (number ≡ 102) × (new ≡ record old { address = a })
-HandsOutCaller number old new (Err (Address a)) = (number ≡ 103) × (new ≡ record old { address = a })
-HandsOutCaller number old new (Err (Operation o)) = (number ≡ 104) × (new ≡ old)
-HandsOutCaller number old new (Err (Arm64Code c)) = (number ≡ 104) × (new ≡ old)
-HandsOutCaller number old new (Err (Packed d)) = (number ≡ 104) × (new ≡ old)
-HandsOutCaller number old new (Err (NotRising a)) = (number ≡ 105) × (new ≡ record old { address = a })
+HandsOutCaller number old new (Err e) = (number ≡ error_number e) × (new ≡ at_address old (error_address e))
 
 -- the same by the records of the frame's function: a step of pe_frame with the code from the frame's RVA on, over one
 -- piece of memory

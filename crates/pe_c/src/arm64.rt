@@ -4,5 +4,6 @@
 //! https://learn.microsoft.com/cpp/build/arm64-exception-handling
 
 pub mod codes;
+pub mod frames;
 pub mod functions;
 pub mod records;

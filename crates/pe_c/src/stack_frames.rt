@@ -10,7 +10,7 @@ ghost use Rattle.pe_plan.specs.ShortPlans.{records_of};
 ghost use Rattle.pe_frame.specs.Memory.{stack_word};
 ghost use Rattle.pe_frame.specs.Undoing.{popped};
 ghost use Rattle.pe_c.specs.Unwinding.{image_exceptions};
-ghost use Rattle.pe_c.specs.StackFrames.{whole_xmm, half_xmm, registers_of, flat_registers, PlansShortIn, HandsOutCaller, HandsOutStep};
+ghost use Rattle.pe_c.specs.StackFrames.{whole_xmm, half_xmm, registers_of, flat_registers, error_number, error_address, PlansShortIn, HandsOutCaller, HandsOutStep};
 
 use crate::image::{EXCEPTION_TABLE, Image, directory};
 use crate::results::{
@@ -132,6 +132,21 @@ fn plan_in<'a>(
     }
 }
 
+/// The number of an error of a step, and the address that it speaks of.
+pub fn reported(error: &FrameError) -> (u32, Option<u64>)
+    ensures { result ≡ (error_number error.now, error_address error.now) }
+{
+    match error {
+        FrameError::Codes(error) => (number_of(error), None),
+        FrameError::Memory(address) => (MISSING, Some(*address)),
+        FrameError::Address(address) => (BAD_ADDRESS, Some(*address)),
+        FrameError::Operation(_) => (BAD_OPERATION, None),
+        FrameError::Arm64Code(_) => (BAD_OPERATION, None),
+        FrameError::Packed(_) => (BAD_OPERATION, None),
+        FrameError::NotRising(pointer) => (NOT_RISING, Some(*pointer)),
+    }
+}
+
 /// Writes the caller's registers to a frame, or the address that an error speaks of.
 fn hand_out_caller(caller: Result<Registers, FrameError>, frame: &mut StackFrame) -> u32
     ensures { HandsOutCaller result frame.old frame.new caller }
@@ -141,21 +156,12 @@ fn hand_out_caller(caller: Result<Registers, FrameError>, frame: &mut StackFrame
             frame.registers = flat_registers(&registers);
             DONE
         }
-        Err(FrameError::Codes(error)) => number_of(&error),
-        Err(FrameError::Memory(address)) => {
-            frame.address = address;
-            MISSING
-        }
-        Err(FrameError::Address(address)) => {
-            frame.address = address;
-            BAD_ADDRESS
-        }
-        Err(FrameError::Operation(_)) => BAD_OPERATION,
-        // No record of x64 has these.
-        Err(FrameError::Arm64Code(_)) | Err(FrameError::Packed(_)) => BAD_OPERATION,
-        Err(FrameError::NotRising(pointer)) => {
-            frame.address = pointer;
-            NOT_RISING
+        Err(error) => {
+            let (number, address) = reported(&error);
+            if let Some(address) = address {
+                frame.address = address;
+            }
+            number
         }
     }
 }

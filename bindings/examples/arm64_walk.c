@@ -1,0 +1,65 @@
+#include "pe.h"
+
+/* The registers of the caller of an ARM64 frame, in place: by the image, which is loaded at `base` and has the frame's pc,
+ * and a piece of the thread's stack from address frame->stack_start on. `is_call` is 0 in the top frame. In every other it
+ * is 1: its pc is a return address, so the call before it is looked up. PE_C_NOTHING where no function has made that call,
+ * and PE_C_NOT_RISING where a function that called has left the stack pointer where it is. */
+uint32_t arm64_caller_of(const uint8_t *bytes, size_t length, const pe_c_image_info *image, const pe_c_section *sections,
+                         uint64_t base, const uint8_t *stack, size_t stack_length, uint32_t is_call,
+                         pe_c_arm64_frame *frame)
+{
+    size_t count = image->number_of_sections;
+    uint64_t sp = frame->registers.sp;
+    pe_c_range table = PE_C_EMPTY;
+    frame->rva = (uint32_t)(frame->registers.pc - base);
+    uint32_t result = pe_c_arm64_table(bytes, length, image, sections, count, &table);
+    if (result == PE_C_DONE)
+        result = pe_c_find_arm64_function(bytes, length, image, sections, count, &table, frame->rva - 4 * is_call,
+                                          &frame->function);
+    if (result == PE_C_NOTHING && !is_call)
+        return pe_c_leaf_arm64(frame);
+    if (result == PE_C_DONE)
+        result = pe_c_step_arm64(bytes, length, image, sections, count, stack, stack_length, frame);
+    return result == PE_C_DONE && is_call && frame->registers.sp == sp ? PE_C_NOT_RISING : result;
+}
+
+#include <inttypes.h>
+#include <stdio.h>
+#include <stdlib.h>
+
+static uint8_t bytes[1 << 20];
+static uint8_t stack[1 << 12];
+static pe_c_section sections[96];
+
+/* The frames of a thread in one image. Its stack starts at address 20000 with the words that are named:
+ *     arm64_walk FILE BASE PC LR WORD.. */
+int main(int argc, char **argv)
+{
+    FILE *file = argc > 4 ? fopen(argv[1], "rb") : NULL;
+    if (file == NULL)
+        return 2;
+    size_t length = fread(bytes, 1, sizeof bytes, file), stack_length = 0;
+    fclose(file);
+    uint64_t base = strtoull(argv[2], NULL, 16);
+    for (int i = 5; i < argc && stack_length < sizeof stack; i++, stack_length += 8)
+        for (int j = 0; j < 8; j++)
+            stack[stack_length + j] = (uint8_t)(strtoull(argv[i], NULL, 16) >> 8 * j);
+
+    pe_c_image_info image = PE_C_EMPTY;
+    uint32_t result = pe_c_image(bytes, length, PE_C_PERMISSIVE, &image);
+    if (result == PE_C_DONE)
+        result = pe_c_sections(bytes, length, &image, sections, 96);
+    pe_c_arm64_frame frame = PE_C_EMPTY;
+    frame.registers.pc = strtoull(argv[3], NULL, 16);
+    frame.registers.general[30] = strtoull(argv[4], NULL, 16);
+    frame.registers.sp = frame.stack_start = 0x20000;
+    for (uint32_t depth = 0; result == PE_C_DONE && depth < 1000; depth++) {
+        printf("%" PRIx64 " %" PRIx64 "\n", frame.registers.pc, frame.registers.sp);
+        if (frame.registers.pc - base > UINT32_MAX)
+            return 0;
+        result = arm64_caller_of(bytes, length, &image, sections, base, stack, stack_length, depth > 0, &frame);
+    }
+    if (result == PE_C_MISSING)
+        printf("memory is missing at %" PRIx64 "\n", frame.address);
+    return result == PE_C_DONE || result == PE_C_NOTHING || result == PE_C_MISSING ? 0 : 1;
+}

@@ -1,0 +1,83 @@
+-- One step of a stack walk on ARM64: the registers of a function's caller, by the function's unwind data in an image.
+use Rattle.std.specs.Prelude.{◌≡◌, ℕ, ◌-◌, ◌/◌, List, Option, Some, None, Result, Ok, Err}
+use Rattle.pe_core.specs.Refusals.{Refusal, ◌>>=◌}
+use Rattle.pe_core.specs.declared.section_table.SectionTable.{SectionTable}
+use Rattle.pe_unwind.specs.Arm64Record.{Arm64InfoView}
+use Rattle.pe_unwind.specs.Arm64Unwinding.{info_of_function}
+use Rattle.pe_unwind.specs.ExceptionTable.{exception_at}
+use Rattle.pe_unwind.specs.declared.arm64.function.Arm64RuntimeFunction.{Arm64RuntimeFunction}
+use Rattle.pe_frame.specs.Arm64Packed.{stepped_packed}
+use Rattle.pe_frame.specs.Arm64Steps.{StepsArm64}
+use Rattle.pe_frame.specs.Arm64Undoing.{put_pc, link_register}
+use Rattle.pe_frame.specs.Memory.{stack_word}
+use Rattle.pe_frame.specs.declared.arm64.registers.Arm64Registers.{Arm64Registers}
+use Rattle.pe_frame.specs.declared.error.FrameError.{FrameError}
+use Rattle.pe_c.specs.HandsOut.{result_number}
+use Rattle.pe_c.specs.Images.{exception_directory}
+use Rattle.pe_c.specs.Modes.{options_of}
+use Rattle.pe_c.specs.StackFrames.{error_number, error_address}
+use Rattle.pe_c.specs.declared.arm64.frames.Arm64FrameRegisters.{Arm64FrameRegisters}
+use Rattle.pe_c.specs.declared.arm64.frames.Arm64StackFrame.{Arm64StackFrame}
+use Rattle.pe_c.specs.declared.image.Image.{Image}
+
+-- ---- unwind data
+
+-- an item that may be absent, or what refuses it
+abbrev pub if_present : {X : Type 0} → Option (Result X Refusal) → Result (Option X) Refusal
+if_present None = Ok None
+if_present (Some item) = item >>= λ x. Ok (Some x)
+
+-- the unwind record of a function in an image, none where its unwind data are packed; or what refuses the table or it
+abbrev pub arm64_info_of : List ℕ → Image → List SectionTable → ℕ → Arm64RuntimeFunction → Result (Option Arm64InfoView) Refusal
+arm64_info_of b image sections mode f =
+    exception_at 8 b (exception_directory image) sections image.file_alignment (options_of mode)
+    >>= λ v. if_present (info_of_function v sections (options_of mode) f)
+
+-- ---- registers
+
+-- the registers that a caller of the library passes
+abbrev pub arm64_registers_of : Arm64FrameRegisters → Arm64Registers
+arm64_registers_of g = record { general = g.general; float = g.floats; sp = g.sp; pc = g.pc }
+
+-- registers as such a caller gets them
+abbrev pub flat_arm64_registers : Arm64Registers → Arm64FrameRegisters
+flat_arm64_registers g = record { general = g.general; floats = g.float; sp = g.sp; pc = g.pc }
+
+-- ---- steps
+
+-- a frame with the address that an error speaks of, if it speaks of one
+abbrev pub at_arm64_address : Arm64StackFrame → Option ℕ → Arm64StackFrame
+at_arm64_address frame None = frame
+at_arm64_address frame (Some a) = record frame { address = a }
+
+-- The number that a step returns, and the frame after it: the registers of the caller; or an error's number, with the
+-- address that it speaks of. Nothing else of the frame changes.
+abbrev pub HandsOutArm64Caller : ℕ → Arm64StackFrame → Arm64StackFrame → Result Arm64Registers FrameError → Type 0
+HandsOutArm64Caller number old new (Ok u) = (number ≡ 0) × (new ≡ record old { registers = flat_arm64_registers u })
+HandsOutArm64Caller number old new (Err e) = (number ≡ error_number e) × (new ≡ at_arm64_address old (error_address e))
+
+-- how many instructions before the frame's RVA its function has
+abbrev pub place_of : Arm64StackFrame → ℕ
+place_of frame = (frame.rva - (frame.function).begin_address) / 4
+
+-- the same by the unwind data of the frame's function: a step of pe_frame over one piece of memory
+abbrev pub HandsOutArm64By : List ℕ → ℕ → Arm64StackFrame → Arm64StackFrame → Result (Option Arm64InfoView) Refusal → Type 0
+HandsOutArm64By stack number old new (Err refusal) = (number ≡ result_number refusal) × (new ≡ old)
+HandsOutArm64By stack number old new (Ok None) =
+    HandsOutArm64Caller number old new
+    (stepped_packed (stack_word stack old.stack_start) (old.function).unwind_data (place_of old) (arm64_registers_of old.registers))
+HandsOutArm64By stack number old new (Ok (Some info)) =
+    (caller : Result Arm64Registers FrameError)
+    × StepsArm64 (stack_word stack old.stack_start) info (place_of old) (arm64_registers_of old.registers) caller
+    × HandsOutArm64Caller number old new caller
+
+-- what a call for a step returns, and the frame after it
+abbrev pub HandsOutArm64Step : List ℕ → Image → List SectionTable → List ℕ → ℕ → Arm64StackFrame → Arm64StackFrame → Type 0
+HandsOutArm64Step b image sections stack number old new =
+    HandsOutArm64By stack number old new (arm64_info_of b image sections image.mode old.function)
+
+-- a frame after a leaf function has returned: its caller goes on at the link register
+abbrev pub left_arm64 : Arm64StackFrame → Arm64StackFrame
+left_arm64 frame =
+    let g = arm64_registers_of frame.registers in
+    record frame { registers = flat_arm64_registers (put_pc g (link_register g)) }

@@ -1,0 +1,162 @@
+//! One step of a stack walk on ARM64: the registers of a function's caller, from its own registers, its unwind data in the
+//! image and the memory of its stack.
+//! https://learn.microsoft.com/cpp/build/arm64-exception-handling
+
+ghost use Rattle.std.specs.Prelude.{◌≡◌};
+ghost use Rattle.std.specs.Option.{option_map};
+ghost use Rattle.pe_core.specs.Refusals.{answer_by};
+ghost use Rattle.pe_unwind.specs.Arm64Record.{info_view};
+ghost use Rattle.pe_c.specs.Arm64Frames.{arm64_registers_of, flat_arm64_registers, arm64_info_of, HandsOutArm64Caller, HandsOutArm64Step, left_arm64};
+
+use crate::image::{EXCEPTION_TABLE, Image, directory};
+use crate::results::{DONE, number_of, options};
+use crate::stack_frames::reported;
+use pe_core::{Error, SectionTable};
+use pe_frame::{Arm64Registers, FrameError, Stack, leaf_arm64, step_arm64, step_arm64_packed};
+use pe_unwind::{Arm64RuntimeFunction, Arm64UnwindInfo, ExceptionData};
+
+/// The registers of a thread that unwinding restores.
+#[repr(C)]
+#[derive(Clone, Copy)]
+pub struct Arm64FrameRegisters {
+    /// The integer registers, x0 to x30: x29 is the frame pointer, x30 the link register.
+    pub general: [u64; 31],
+    /// The floating-point registers d8 to d15, which are the low halves of v8 to v15.
+    pub floats: [u64; 8],
+    /// The stack pointer.
+    pub sp: u64,
+    /// The instruction pointer.
+    pub pc: u64,
+}
+
+/// A frame of a stack walk on ARM64, as a step takes it and leaves it.
+#[repr(C)]
+#[derive(Clone, Copy)]
+pub struct Arm64StackFrame {
+    /// The registers inside the function; after the step those of its caller.
+    pub registers: Arm64FrameRegisters,
+    /// The address of the first byte of the stack that is passed.
+    pub stack_start: u64,
+    /// The address that an error speaks of.
+    pub address: u64,
+    /// The function that lookup found.
+    pub function: Arm64RuntimeFunction,
+    /// The instruction pointer less the address where the image is loaded.
+    pub rva: u32,
+    /// 0.
+    pub spare: u32,
+}
+
+/// The registers that a caller passes.
+fn registers_of(registers: &Arm64FrameRegisters) -> Arm64Registers
+    ensures { result ≡ arm64_registers_of registers.now }
+{
+    Arm64Registers {
+        general: registers.general,
+        float: registers.floats,
+        sp: registers.sp,
+        pc: registers.pc,
+    }
+}
+
+/// Registers as callers get them.
+fn flat_registers(registers: &Arm64Registers) -> Arm64FrameRegisters
+    ensures { result ≡ flat_arm64_registers registers.now }
+{
+    Arm64FrameRegisters {
+        general: registers.general,
+        floats: registers.float,
+        sp: registers.sp,
+        pc: registers.pc,
+    }
+}
+
+/// The unwind record of a function in an image, if its unwind data are not packed.
+fn info_of<'a>(
+    bytes: &'a [u8],
+    image: &Image,
+    sections: &[SectionTable],
+    function: Arm64RuntimeFunction,
+) -> Result<Option<Arm64UnwindInfo<'a>>, Error>
+    ensures { answer_by (option_map info_view) result
+        ≡ arm64_info_of bytes.entry.now image.now sections.now image.now.mode function }
+{
+    let opts = options(image.mode);
+    let alignment = image.file_alignment;
+    let table = directory(image, EXCEPTION_TABLE);
+    let exceptions = ExceptionData::parse_arm64_with_opts(
+        bytes, table, sections, alignment, &opts,
+    )?;
+    match exceptions.get_unwind_info_arm64_with_opts(function, sections, &opts) {
+        None => Ok(None),
+        Some(Ok(info)) => Ok(Some(info)),
+        Some(Err(error)) => Err(error),
+    }
+}
+
+/// Writes the caller's registers to a frame, or the address that an error speaks of.
+fn hand_out_caller(caller: Result<Arm64Registers, FrameError>, frame: &mut Arm64StackFrame) -> u32
+    ensures { HandsOutArm64Caller result frame.old frame.new caller }
+{
+    match caller {
+        Ok(registers) => {
+            frame.registers = flat_registers(&registers);
+            DONE
+        }
+        Err(error) => {
+            let (number, address) = reported(&error);
+            if let Some(address) = address {
+                frame.address = address;
+            }
+            number
+        }
+    }
+}
+
+/// Finds the registers of a function's caller, from those inside the function, and writes them over those of `frame`. It is
+/// `step_arm64` of pe_frame by the unwind record of the frame's function, or `step_arm64_packed` where its unwind data are
+/// packed. The function is the one that lookup found: by the RVA in the top frame and after an interrupt, by the RVA less
+/// four in every other. `stack` is memory from `stack_start` on.
+///
+/// Errors: those of `pe_c_arm64_table`, then those of `pe_c_arm64_unwind_record`. Then `ARM64_CUT` of a code,
+/// `BAD_OPERATION`, `BAD_ADDRESS`, `MISSING` and `NOT_RISING`. Of these `BAD_ADDRESS`, `MISSING` and `NOT_RISING` set
+/// `address`; nothing else of the frame changes. With more memory the same call can be made again.
+#[unsafe(no_mangle)]
+pub extern "C" fn pe_c_step_arm64(
+    bytes: &[u8],
+    image: &Image,
+    sections: &[SectionTable],
+    stack: &[u8],
+    frame: &mut Arm64StackFrame,
+) -> u32
+    ensures { HandsOutArm64Step
+        bytes.now image.now sections.now stack.now result frame.old frame.new }
+{
+    let function = frame.function;
+    let info = match info_of(bytes, image, sections, function) {
+        Ok(info) => info,
+        Err(error) => return number_of(&error),
+    };
+    let memory = Stack {
+        start: frame.stack_start,
+        bytes: stack,
+    };
+    let (start, rva) = (function.begin_address, frame.rva);
+    let registers = registers_of(&frame.registers);
+    let caller = match info {
+        Some(info) => step_arm64(&info, start, rva, registers, &memory),
+        None => step_arm64_packed(&function, rva, registers, &memory),
+    };
+    hand_out_caller(caller, frame)
+}
+
+/// Finds the registers of the caller of a leaf function, which no function of the table covers, and writes them over those
+/// of `frame`: the caller goes on at the link register. Always returns `DONE`.
+#[unsafe(no_mangle)]
+pub extern "C" fn pe_c_leaf_arm64(frame: &mut Arm64StackFrame) -> u32
+    ensures done { result ≡ 0 }
+    ensures caller { frame.new ≡ left_arm64 frame.old }
+{
+    frame.registers = flat_registers(&leaf_arm64(registers_of(&frame.registers)));
+    DONE
+}
