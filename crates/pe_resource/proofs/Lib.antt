@@ -13,3 +13,4 @@ pub mod OneAnswer
 pub mod SomeResource
 pub mod ContentRanges
 pub mod ResourceModes
+pub mod LeafWalks

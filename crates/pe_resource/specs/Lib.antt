@@ -5,3 +5,4 @@ pub mod VersionStrings
 pub mod VersionFields
 pub mod Contents
 pub mod Resources
+pub mod Leaves

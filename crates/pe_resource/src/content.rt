@@ -17,7 +17,7 @@ use pe_core::{
 };
 
 /// The size of a data entry in bytes.
-const SIZE_OF_DATA_ENTRY: usize = 16;
+pub(crate) const SIZE_OF_DATA_ENTRY: usize = 16;
 
 /// A data entry, 16 bytes: where the content of a resource is. No call returns one: `ResourceData::content_range` reads
 /// it and returns the file range. The type is for callers that walk the directories themselves: its fields are the four
@@ -37,7 +37,7 @@ pub struct ResourceDataEntry {
 impl ResourceDataEntry {
     /// Reads the data entry at `offset`. The caller has checked that its 16 bytes are there.
     #[tactic(auto, unfolding(crate::specs::Contents::data_entry_at))]
-    fn at(bytes: &[u8], offset: usize) -> ResourceDataEntry
+    pub(crate) fn at(bytes: &[u8], offset: usize) -> ResourceDataEntry
         requires { offset + 16 ≤ length bytes.now }
         ensures { result ≡ data_entry_at bytes.now offset }
     {

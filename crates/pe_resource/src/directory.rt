@@ -138,6 +138,13 @@ impl<'a> ResourceEntryIterator<'a> {
         ResourceEntryIterator { bytes }
     }
 
+    /// The bytes of the entries that are left.
+    pub(crate) fn table(self) -> &'a [u8]
+        ensures { entries result.now ≡ entries_left self.entry }
+    {
+        self.bytes
+    }
+
     /// Returns the first entry with this id among the entries that are left, or `None`. Never returns an error.
     pub fn find_by_id(&self, id: u16) -> Result<Option<ResourceEntry>>
         ensures { answer_of result ≡ Ok (with_id id (entries_left self.now)) }

@@ -14,9 +14,11 @@ mod content;
 mod directory;
 mod entry;
 pub mod laws;
+mod leaves;
 mod manifest;
 mod resource;
 mod string;
+mod tree_error;
 mod version;
 
 pub use constants::{
@@ -38,8 +40,10 @@ pub use constants::{
 pub use content::ResourceDataEntry;
 pub use directory::{ImageResourceDirectory, ResourceEntryIterator};
 pub use entry::ResourceEntry;
+pub use leaves::{ResourceLeaf, ResourceLeaves};
 pub use manifest::ManifestData;
 pub use pe_core::ByteRange;
 pub use resource::ResourceData;
 pub use string::{ResourceString, ResourceStringIterator};
+pub use tree_error::ResourceTreeError;
 pub use version::{StringFileInfo, VersionField, VersionInfo, VersionName, VsFixedFileInfo};

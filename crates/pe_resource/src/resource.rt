@@ -9,11 +9,13 @@ ghost use Rattle.pe_core.specs.Offsets.{IsWithin};
 ghost use Rattle.pe_core.specs.Refusals.{ReturnsAs, Memory, answer_of, answer_by};
 ghost use Rattle.pe_resource.specs.Contents.{map_of};
 ghost use Rattle.pe_resource.specs.Directories.{count};
+ghost use Rattle.pe_resource.specs.Leaves.{walk_view, resource_tree};
 ghost use Rattle.pe_resource.specs.ResourceEntries.{entries, entries_left};
 ghost use Rattle.pe_resource.specs.Resources.{resource_view, first_entries_in, first_directory_view, first_directory, AreResources, IsResource, IsResourceRange};
 
 use crate::content::{content_range, file_range};
 use crate::directory::{ImageResourceDirectory, ResourceEntryIterator, SIZE_OF_DIRECTORY};
+use crate::leaves::ResourceLeaves;
 use crate::manifest::ManifestData;
 use crate::version::VersionInfo;
 use pe_core::{
@@ -205,6 +207,25 @@ impl<'a> ResourceData<'a> {
                 let it = first.entries();
                 content_range(bytes, first.bytes, it, id, sections, file_alignment, opts)
             }
+        }
+    }
+
+    /// Returns a walk over all leaves of the resource tree, in the order of the entries of its directories. `bytes` is the
+    /// whole file. In permissive mode it has no items if the data is shorter than a directory. Errors: those of
+    /// `parse_with_opts` for the first directory, its data and its entries, in this order.
+    pub fn leaves(
+        bytes: &'a [u8],
+        data_directory: DataDirectory,
+        sections: &[SectionTable],
+        file_alignment: u32,
+        opts: &ParseOptions,
+    ) -> Result<ResourceLeaves<'a>>
+        ensures { ReturnsAs walk_view result (resource_tree
+            opts.now bytes.entry.now data_directory sections.now file_alignment) }
+    {
+        match FirstDirectory::parse(bytes, data_directory, sections, file_alignment, opts)? {
+            None => Ok(ResourceLeaves::empty()),
+            Some(first) => Ok(ResourceLeaves::of_table(first.bytes, first.table)),
         }
     }
 

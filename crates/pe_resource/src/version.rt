@@ -470,9 +470,12 @@ fn fixed_info_in(data: &[u8], value: Option<ByteRange>) -> Result<Option<VsFixed
 }
 
 impl<'a> VersionInfo<'a> {
-    /// Reads the version information in `data`.
+    /// Reads the version information in `data`, the content of a resource with the id `RT_VERSION`.
+    ///
+    /// Errors, in order: those of the first string that cannot be read, `Short` or `ResourceString`; `Short` if the value of
+    /// `VS_VERSION_INFO` has fewer than 52 bytes. Their offsets count from the start of `data`.
     #[tactic(auto, using(crate::proofs::ValueRanges::range_of_value), unfolding(crate::specs::VersionStrings::value_ranges, crate::specs::VersionFields::fixed_info_of, crate::specs::VersionFields::version_in))]
-    fn of_strings(data: &'a [u8]) -> Result<VersionInfo<'a>>
+    pub fn of_strings(data: &'a [u8]) -> Result<VersionInfo<'a>>
         ensures { ReturnsAs version_view result (version_in data.entry.now) }
     {
         let ranges = value_ranges::<13>(data, &KEYS)?;
@@ -496,7 +499,7 @@ impl<'a> VersionInfo<'a> {
     }
 
     /// Reads the version information in the content of a resource, if there is one.
-    fn of_content(content: Option<&'a [u8]>) -> Result<Option<VersionInfo<'a>>>
+    pub(crate) fn of_content(content: Option<&'a [u8]>) -> Result<Option<VersionInfo<'a>>>
         ensures { ReturnsAs (option_map version_view) result
             (version_of_content (option_map (λ s. s.now) content.entry)) }
     {

@@ -9,6 +9,8 @@ ghost use Rattle.pe_resource.specs.declared.entry.ResourceEntry.{ResourceEntry};
 ghost use Rattle.pe_resource.specs.declared.version.VsFixedFileInfo.{VsFixedFileInfo};
 ghost use Rattle.pe_resource.specs.declared.version.VersionField.{VersionField};
 ghost use Rattle.pe_resource.specs.declared.directory.ResourceEntryIterator.{ResourceEntryIterator};
+ghost use Rattle.pe_resource.specs.declared.leaves.ResourceLeaf.{ResourceLeaf};
+ghost use Rattle.pe_resource.specs.declared.leaves.ResourceLeaves.{ResourceLeaves};
 ghost use Rattle.pe_resource.specs.declared.manifest.ManifestData.{ManifestData};
 ghost use Rattle.pe_resource.specs.declared.resource.ResourceData.{ResourceData};
 ghost use Rattle.pe_resource.specs.declared.string.ResourceString.{ResourceString};
@@ -22,6 +24,7 @@ ghost use Rattle.std.specs.Prelude.{[]};
 use crate::content::ResourceDataEntry;
 use crate::directory::{ImageResourceDirectory, ResourceEntryIterator};
 use crate::entry::ResourceEntry;
+use crate::leaves::{ResourceLeaf, ResourceLeaves};
 use crate::manifest::ManifestData;
 use crate::resource::ResourceData;
 use crate::string::{ResourceString, ResourceStringIterator};
@@ -35,6 +38,8 @@ pub fn equal_records_have_equal_fields()
         IsTrue (⟦<ResourceDataEntry as PartialEq>⟧.eq x y) ↔ (x ≡ y) }
     ensures resource_entry { (x y : ResourceEntry) →
         IsTrue (⟦<ResourceEntry as PartialEq>⟧.eq x y) ↔ (x ≡ y) }
+    ensures resource_leaf { (x y : ResourceLeaf) →
+        IsTrue (⟦<ResourceLeaf as PartialEq>⟧.eq x y) ↔ (x ≡ y) }
     ensures vs_fixed_file_info { (x y : VsFixedFileInfo) →
         IsTrue (⟦<VsFixedFileInfo as PartialEq>⟧.eq x y) ↔ (x ≡ y) }
     ensures version_field { (x y : VersionField) →
@@ -105,6 +110,9 @@ pub fn clones_are_their_originals()
         ⟦<ManifestData<'static> as Clone>⟧.is_clone x y → y ≡ x }
     ensures resource_data { (x y : ResourceData) →
         ⟦<ResourceData<'static> as Clone>⟧.is_clone x y → y ≡ x }
+    ensures resource_leaf { (x y : ResourceLeaf) → ⟦<ResourceLeaf as Clone>⟧.is_clone x y → y ≡ x }
+    ensures resource_leaves { (x y : ResourceLeaves) →
+        ⟦<ResourceLeaves<'static> as Clone>⟧.is_clone x y → y ≡ x }
     ensures resource_string { (x y : ResourceString) →
         ⟦<ResourceString<'static> as Clone>⟧.is_clone x y → y ≡ x }
     ensures resource_string_iterator { (x y : ResourceStringIterator) →

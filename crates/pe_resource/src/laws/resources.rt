@@ -14,11 +14,15 @@ ghost use Rattle.pe_core.specs.declared.options.ParseOptions.{ParseOptions};
 ghost use Rattle.pe_core.specs.declared.section_table.SectionTable.{SectionTable};
 ghost use Rattle.pe_resource.specs.declared.directory.ResourceEntryIterator.{ResourceEntryIterator};
 ghost use Rattle.pe_resource.specs.declared.entry.ResourceEntry.{ResourceEntry};
+ghost use Rattle.pe_resource.specs.declared.leaves.ResourceLeaf.{ResourceLeaf};
+ghost use Rattle.pe_resource.specs.declared.leaves.ResourceLeaves.{ResourceLeaves};
 ghost use Rattle.pe_resource.specs.declared.string.ResourceString.{ResourceString};
 ghost use Rattle.pe_resource.specs.declared.string.ResourceStringIterator.{ResourceStringIterator};
+ghost use Rattle.pe_resource.specs.declared.tree_error.ResourceTreeError.{ResourceTreeError};
 ghost use Rattle.pe_resource.specs.declared.version.VersionField.{VersionField};
 ghost use Rattle.pe_resource.specs.declared.version.VersionName.{VersionName};
 ghost use Rattle.pe_resource.specs.Contents.{IsThere, inner};
+ghost use Rattle.pe_resource.specs.Leaves.{tree_answer, leaves_left};
 ghost use Rattle.pe_resource.specs.ResourceEntries.{entry_of_number, number_of, resource_items_left};
 ghost use Rattle.pe_resource.specs.ResourceWalk.{Walks};
 ghost use Rattle.pe_resource.specs.Resources.{ResourceView, IsResource, IsResourceRange, IsManifestIn, IsVersionIn};
@@ -26,6 +30,7 @@ ghost use Rattle.pe_resource.specs.VersionFields.{version_of_halves, high_half, 
 ghost use Rattle.pe_resource.specs.VersionStrings.{VersionString, Strings, strings, rest_of, item_of};
 
 use crate::directory::ResourceEntryIterator;
+use crate::leaves::ResourceLeaves;
 use crate::string::ResourceStringIterator;
 use crate::version::VersionField;
 
@@ -66,6 +71,16 @@ pub fn entry_iterators_give_the_entries()
     ensures none { (s t u : ResourceEntryIterator) (r : Option (Result ResourceEntry Error)) →
         ⟦<ResourceEntryIterator<'static> as Iterator>⟧.next_gives s None t →
         ⟦<ResourceEntryIterator<'static> as Iterator>⟧.next_gives t r u → r ≡ None }
+{}
+
+/// A walk over the leaves of a resource tree returns the leaves that it has left, and is over after `None`.
+pub fn leaf_walks_give_the_leaves()
+    ensures items { (s : ResourceLeaves) (xs : List (Result ResourceLeaf ResourceTreeError)) →
+        Drains ⟦<ResourceLeaves<'static> as Iterator>⟧.next_gives s xs →
+        map tree_answer xs ≡ leaves_left s }
+    ensures none { (s t u : ResourceLeaves) (r : Option (Result ResourceLeaf ResourceTreeError)) →
+        ⟦<ResourceLeaves<'static> as Iterator>⟧.next_gives s None t →
+        ⟦<ResourceLeaves<'static> as Iterator>⟧.next_gives t r u → r ≡ None }
 {}
 
 /// An iterator over strings returns the strings of its bytes. There is only one list of strings of given bytes, the one

@@ -1,0 +1,28 @@
+-- The leaves that a walk has left, by what it takes next: a language, a name, a type.
+use Rattle.std.proofs.Common.{◌≡◌, ℕ, List, [], ◌∷◌, ◌++◌, map, Result, refl, ap}
+use Rattle.std.specs.List.{flat_map}
+use Rattle.std.proofs.lemmas.List.{append_assoc}
+use Rattle.pe_resource.specs.declared.entry.ResourceEntry.{ResourceEntry}
+use Rattle.pe_resource.specs.declared.leaves.ResourceLeaf.{ResourceLeaf}
+use Rattle.pe_resource.specs.Leaves.{TreeRefusal, leaf_of, leaves_of_name, leaves_of_type, tree_leaves, leaves_from}
+
+abbrev Item : Type 0
+Item = Result ResourceLeaf TreeRefusal
+
+pub no_leaf : (b : List ℕ) (t n : ResourceEntry) (ls ns ts : List ResourceEntry) → ls ≡ [] → ns ≡ [] → ts ≡ [] → leaves_from b t n ls ns ts ≡ []
+no_leaf b t n ls ns ts l m k = rw l (rw m (rw k refl))
+
+pub next_language : (b : List ℕ) (t n e : ResourceEntry) (ls more ns ts : List ResourceEntry) → ls ≡ e ∷ more → leaves_from b t n ls ns ts ≡ leaf_of b t n e ∷ leaves_from b t n more ns ts
+next_language b t n e ls more ns ts l = rw l refl
+
+pub next_name : (b : List ℕ) (t n e : ResourceEntry) (x : Result ResourceLeaf TreeRefusal) (ls more ns names ts : List ResourceEntry) → ls ≡ [] → ns ≡ e ∷ names → leaves_of_name b t e ≡ x ∷ map (leaf_of b t e) more → leaves_from b t n ls ns ts ≡ x ∷ leaves_from b t e more names ts
+next_name b t n e x ls more ns names ts l m k =
+    let mine : List Item = map (leaf_of b t e) more in
+    let others : List Item = flat_map (leaves_of_name b t) names in
+    rw l (rw m (rw k (ap (λ (xs : List Item). x ∷ xs) (append_assoc mine others (tree_leaves b ts)))))
+
+pub next_type : (b : List ℕ) (t n e f : ResourceEntry) (x : Result ResourceLeaf TreeRefusal) (ls more ns names ts types : List ResourceEntry) → ls ≡ [] → ns ≡ [] → ts ≡ e ∷ types → leaves_of_type b e ≡ x ∷ (map (leaf_of b e f) more ++ flat_map (leaves_of_name b e) names) → leaves_from b t n ls ns ts ≡ x ∷ leaves_from b e f more names types
+next_type b t n e f x ls more ns names ts types l m k h =
+    let mine : List Item = map (leaf_of b e f) more in
+    let others : List Item = flat_map (leaves_of_name b e) names in
+    rw l (rw m (rw k (rw h (ap (λ (xs : List Item). x ∷ xs) (append_assoc mine others (tree_leaves b types))))))
