@@ -249,3 +249,28 @@ fn each_image_has_its_text() {
     sorted.sort();
     assert_eq!(found, sorted);
 }
+
+/// The lines of a picture of a terminal without their spaces, which are positions there.
+fn lines_of_picture(name: &str) -> Vec<String> {
+    let path = PathBuf::from(env!("CARGO_MANIFEST_DIR")).join("../../docs/pictures").join(name);
+    let svg = fs::read_to_string(path).unwrap();
+    let lines = svg.lines().filter(|line| line.starts_with("<text class=\"pe-r"));
+    let text_of =
+        |line: &str| line.split('<').filter_map(|it| Some(it.split_once('>')?.1.replace("&#160;", ""))).collect();
+    lines.map(text_of).collect()
+}
+
+#[test]
+fn pictures_show_what_the_golden_texts_say() {
+    let pictures = [
+        ("summary.svg", "x86_dll", "$ pe x86_dll.bin\n"),
+        ("unwind.svg", "functions", "$ pe unwind functions.bin 5012\n"),
+    ];
+    for (picture, name, command) in pictures {
+        let golden = fs::read_to_string(path_of(name)).unwrap();
+        let session = &golden[golden.find(command).unwrap()..];
+        let end = session[1..].find("\n$ ").map_or(session.len(), |it| it + 1);
+        let wanted: Vec<String> = session[..end].lines().map(|line| line.replace(' ', "")).collect();
+        assert_eq!(lines_of_picture(picture), wanted, "{picture}: run tools/make_pictures");
+    }
+}
