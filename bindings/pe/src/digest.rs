@@ -1,7 +1,7 @@
 //! The Authenticode digest of an image: SHA-256 over what the library says that a signature covers.
 
 use crate::escape::escaped;
-use crate::facts::{hex_of, Part};
+use crate::facts::{hex_of, Refusal};
 use crate::files::Report;
 use crate::Status;
 use pe_c::{Error, Image};
@@ -18,32 +18,38 @@ pub struct Digest {
     pub right_checksum: u32,
 }
 
-pub fn digest_of(path: &Path, image: &Image<'_>) -> Result<Option<Digest>, Error> {
+/// What is said of a file that is refused, or whose headers have no room for a signature.
+#[derive(Serialize)]
+struct Refused<'a> {
+    file: &'a str,
+    error: Refusal,
+}
+
+pub fn digest_of(path: &Path, image: &Image<'_>) -> Result<Digest, Error> {
     let covered = image.digest_ranges()?;
     let mut hash = Sha256::new();
     covered.slices().for_each(|slice| hash.update(slice));
     hash.update(vec![0; covered.zeros()]);
-    Ok(Some(Digest {
+    Ok(Digest {
         file: path.to_string_lossy().into_owned(),
         sha256_hex: hex_of(&hash.finalize()),
         checksum: image.info().checksum,
         right_checksum: image.checksum()?.value,
-    }))
+    })
 }
 
 /// The digest as `sha256sum` shows one, or as JSON. As text a refusal goes to standard error.
-pub fn report(path: &Path, image: &Image<'_>, is_json: bool) -> Report {
-    let found: Part<Digest> = digest_of(path, image).into();
-    let status = if found.refusal().is_some() { Status::Refused } else { Status::Done };
-    let file = escaped(&path.to_string_lossy());
-    let text = match &found {
-        _ if is_json => crate::json(&found),
-        Part::Present(digest) => format!("{}  {file}\n", digest.sha256_hex),
-        Part::Absent => String::new(),
-        Part::Refused(refusal) => {
-            eprintln!("pe: {file}: {refusal}");
-            String::new()
+pub fn report(path: &Path, image: Result<Image<'_>, Error>, is_json: bool) -> Report {
+    let file = path.to_string_lossy();
+    match image.and_then(|image| digest_of(path, &image)) {
+        Ok(digest) if is_json => Report::of(crate::json(&digest), Status::Done),
+        Ok(digest) => Report::of(format!("{}  {}\n", digest.sha256_hex, escaped(&file)), Status::Done),
+        Err(error) if is_json => {
+            Report::of(crate::json(&Refused { file: &file, error: error.into() }), Status::Refused)
         }
-    };
-    Report::of(text, status)
+        Err(error) => {
+            eprintln!("pe: {}: {}", escaped(&file), Refusal::from(error));
+            Report::of("", Status::Refused)
+        }
+    }
 }

@@ -168,11 +168,11 @@ fn debug_data(debug: &Debug, html: &mut Html) {
 /// The checksum that the file should have, and its Authenticode digest.
 fn digest_of(facts: &Facts, image: &Image<'_>) -> Vec<Row> {
     match digest::digest_of(Path::new(&facts.file), image) {
-        Ok(Some(digest)) => vec![
+        Ok(digest) => vec![
             ("right checksum", format!("{:#010x}", digest.right_checksum)),
             ("Authenticode", format!("SHA-256 {}", digest.sha256_hex)),
         ],
-        _ => Vec::new(),
+        Err(_) => Vec::new(),
     }
 }
 

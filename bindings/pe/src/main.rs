@@ -17,7 +17,7 @@ mod unwind;
 
 use arguments::{Arguments, Command, Reading};
 use clap::{CommandFactory, Parser};
-use facts::{Facts, Refusal, Topic};
+use facts::{Facts, Topic};
 use files::Report;
 use page::Style;
 use pe_c::{Error, Image};
@@ -66,15 +66,15 @@ fn run(arguments: &Arguments, out: &mut dyn Write) -> io::Result<Status> {
         Command::Key { files, reading } => files::each(files, false, out, |path, bytes| {
             report(path, bytes, reading, &[Topic::Headers, Topic::Debug], show::keys)
         }),
-        Command::Digest { files, reading } => files::each(files, false, out, |path, bytes| {
-            with_image(bytes, reading, |image| digest::report(path, image, reading.json))
-        }),
+        Command::Digest { files, reading } => {
+            files::each(files, false, out, |path, bytes| digest::report(path, parsed(bytes, reading), reading.json))
+        }
         Command::Unwind { file, rva, reading } => files::each(slice::from_ref(file), false, out, |_, bytes| {
-            with_image(bytes, reading, |image| unwind::report(image, *rva, reading.json))
+            unwind::report(parsed(bytes, reading), *rva, reading.json)
         }),
-        Command::Extract { file, part, to, reading } => files::each(slice::from_ref(file), false, out, |_, bytes| {
-            with_image(bytes, reading, |image| part.write_to(image, to))
-        }),
+        Command::Extract { file, part, to, reading } => {
+            files::each(slice::from_ref(file), false, out, |_, bytes| part.write_to(parsed(bytes, reading), to))
+        }
         Command::Completions { shell } => {
             clap_complete::generate(*shell, &mut Arguments::command(), "pe", out);
             Ok(Status::Done)
@@ -88,7 +88,7 @@ fn run(arguments: &Arguments, out: &mut dyn Write) -> io::Result<Status> {
 
 /// What is said of an image, as text or JSON. It is refused where one of its parts is.
 fn report(path: &Path, bytes: &[u8], reading: &Reading, topics: &[Topic], text: show::Writer) -> Report {
-    let (facts, is_image) = match Image::parse_as(bytes, reading.mode(), reading.layout()) {
+    let (facts, is_image) = match parsed(bytes, reading) {
         Ok(image) => (Facts::of(path, &image, topics), true),
         Err(error) => (Facts::refused(path, bytes.len(), error), error != Error::BAD_MAGIC && error != Error::SHORT),
     };
@@ -102,13 +102,7 @@ fn json(facts: &impl Serialize) -> String {
     serde_json::to_string(facts).unwrap_or_else(|error| format!("{{\"error\":\"{error}\"}}")) + "\n"
 }
 
-/// What a command makes of the image in these bytes, or why they are refused.
-fn with_image(bytes: &[u8], reading: &Reading, of: impl FnOnce(&Image<'_>) -> Report) -> Report {
-    match Image::parse_as(bytes, reading.mode(), reading.layout()) {
-        Ok(image) => of(&image),
-        Err(error) => {
-            eprintln!("pe: {}", Refusal::from(error));
-            Report::of("", Status::Refused)
-        }
-    }
+/// The image in these bytes, or why they are refused.
+fn parsed<'a>(bytes: &'a [u8], reading: &Reading) -> Result<Image<'a>, Error> {
+    Image::parse_as(bytes, reading.mode(), reading.layout())
 }

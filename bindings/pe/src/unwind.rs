@@ -153,16 +153,19 @@ impl Unwinding {
     }
 }
 
-/// The text or the JSON of how the function at an RVA is unwound.
-pub fn report(image: &Image<'_>, rva: u32, is_json: bool) -> Report {
-    let found = image.functions().and_then(|it| it.map(|functions| unwinding_of(&functions, rva)).transpose());
+/// The text or the JSON of how the function at an RVA is unwound. As text a refusal goes to standard error.
+pub fn report(image: Result<Image<'_>, Error>, rva: u32, is_json: bool) -> Report {
+    let found = image.and_then(|image| image.functions()?.map(|functions| unwinding_of(&functions, rva)).transpose());
     let found: Part<Unwinding> = found.into();
     let is_refused = found.refusal().is_some() || found.present().is_some_and(Unwinding::is_refused);
     let text = match &found {
         _ if is_json => crate::json(&found),
         Part::Present(unwinding) => text_of(unwinding),
         Part::Absent => "the image has no functions of x64\n".to_string(),
-        Part::Refused(refusal) => format!("{refusal}\n"),
+        Part::Refused(refusal) => {
+            eprintln!("pe: {refusal}");
+            String::new()
+        }
     };
     Report::of(text, if is_refused { Status::Refused } else { Status::Done })
 }

@@ -257,6 +257,23 @@ fn statuses() {
 }
 
 #[test]
+fn each_file_has_a_line_of_json() {
+    let folder = Folder::new("refused");
+    let (image, short) = (folder.file("a.exe", made::SMALL), folder.file("b.exe", b"MZ"));
+    let error = json!({"number": 2, "name": "SHORT", "text": "truncated"});
+    let (out, _, status) = run(&["digest", "--json", &short, &image]);
+    let lines: Vec<Value> = out.lines().map(|line| serde_json::from_str(line).unwrap()).collect();
+    assert_eq!((lines.len(), &lines[0], status), (2, &json!({"file": short, "error": error}), 1));
+    assert_eq!(lines[1]["file"], image);
+    let (out, error_text, status) = run(&["digest", &short]);
+    assert_eq!((out.as_str(), error_text.ends_with("b.exe: truncated (SHORT)\n"), status), ("", true, 1));
+    let (out, _, status) = run(&["unwind", "--json", &short, "0"]);
+    assert_eq!((serde_json::from_str::<Value>(&out).unwrap(), status), (json!({"error": error}), 1));
+    let (out, error_text, status) = run(&["unwind", &short, "0"]);
+    assert_eq!((out.as_str(), error_text.as_str(), status), ("", "pe: truncated (SHORT)\n", 1));
+}
+
+#[test]
 fn folders_are_read_in_order_and_other_files_skipped() {
     let folder = Folder::new("folders");
     for number in 0..200 {

@@ -35,8 +35,8 @@ impl ExtractedPart {
     }
 
     /// Writes the part. The text is for standard output.
-    pub fn write_to(self, image: &Image<'_>, to: &Path) -> Report {
-        match self.bytes_of(image) {
+    pub fn write_to(self, image: Result<Image<'_>, Error>, to: &Path) -> Report {
+        match image.and_then(|image| self.bytes_of(&image)) {
             Ok(Some(bytes)) => files::deliver(bytes, to, Status::Done),
             Ok(None) => {
                 eprintln!("pe: the image has no such part");

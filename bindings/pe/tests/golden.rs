@@ -1,0 +1,276 @@
+//! What the program says of eleven small images and of a file that is none, byte for byte: a session for each, in
+//! `golden/NAME.txt`. `UPDATE_GOLDEN=1 cargo test --test golden` writes the sessions anew; what has changed in them has to
+//! be read then, as `golden/README.md` says.
+
+#[path = "../../rust/tests/made/mod.rs"]
+mod made;
+
+mod running;
+
+use running::Folder;
+use std::fs;
+use std::path::PathBuf;
+use std::process::Command;
+
+/// Of each image the part that is shown by itself, and the RVAs that are asked for.
+const ASKED: &[(&str, &str, &[&str])] = &[
+    ("small", "functions", &["1025"]),
+    ("debug", "debug", &["1000"]),
+    ("old_debug", "debug", &["1000"]),
+    ("certificates", "certificates", &["1000"]),
+    ("functions", "functions", &["5012", "5032", "4fff"]),
+    ("arm64_functions", "functions", &["5000"]),
+    ("exports", "exports", &["1000"]),
+    ("imports", "imports", &["1000"]),
+    ("refused_import", "imports", &["1000"]),
+    ("resources", "version", &["1000"]),
+    ("x86_dll", "sections", &["1004"]),
+    ("short", "headers", &["1000"]),
+];
+
+/// Values that follow from how each image is made, as they stand in its session: lines, ends of lines, and fields of JSON.
+const MADE: &[(&str, &[&str])] = &[
+    (
+        "small",
+        &[
+            "small.bin: PE32+ program for x64, unknown subsystem\n",
+            "  entry point   0x1000, image base 0x140000000\n",
+            "  functions     2 with unwind data\n",
+            "  0x1000  0x1010  0x1020\n  0x1020  0x1040  0x1001\n",
+            "  PKCS #7 signed data  0x0200    9\n",
+            "  Repro  0x0  0x0          0\n",
+            "function 0x1020 to 0x1040\n",
+            "    after   4 bytes  UWOP_ALLOC          allocate 40 bytes of stack\n",
+            "    after   1 bytes  UWOP_PUSH_NONVOL    push rbp\n",
+            "\"repro\":{\"hash_hex\":null}",
+            "\"file_size\":1040,",
+        ],
+    ),
+    (
+        "debug",
+        &[
+            "  PDB           a.pdb\n  GUID          {497B72F6-390A-44FC-878E-5A2D63B6CC4B}, age 1\n",
+            "  symbol key    497B72F6390A44FC878E5A2D63B6CC4B1\n",
+            "  Repro         68617368\n",
+            "\nParts of sections (LTCG)\n",
+            "  .text$mn  0x1000  16\n  .bss      0x2000  8\n",
+            "\na.pdb/497B72F6390A44FC878E5A2D63B6CC4B1/a.pdb\ndebug.bin/000000000/debug.bin\n",
+            "\"vc_features\":{\"before_vc_11\":1,\"c_and_cpp\":2,\"gs\":3,\"sdl\":4,\"guard_n\":5}",
+            "\"extended_dll_characteristics\":65",
+            "\"type\":{\"number\":2,\"name\":\"CodeView\"},\"size\":30,\"rva\":4096,\"file_offset\":1024,",
+            "\"time_date_stamp\":1593835520}",
+        ],
+    ),
+    (
+        "old_debug",
+        &[
+            "  built         reproducibly\n",
+            "  PDB 2.0       b.pdb, 000033337\n",
+            "  Repro         the time stamps are a hash\n",
+            "\"pdb20\":{\"name\":\"b.pdb\",\"time_date_stamp\":13107,\"age\":7}",
+            "\"time_date_stamp\":287454020}",
+        ],
+    ),
+    (
+        "certificates",
+        &[
+            "  certificate   PKCS #7 signed data, 9 bytes, not verified\n",
+            "  certificate   X.509, 8 bytes, not verified\n",
+            "  PKCS #7 signed data  0x0200    9\n  X.509                0x0100    8\n",
+            "  certificate  offset 0x600  24\n",
+            "\"directories\":[{\"index\":4,\"name\":\"certificate\",\"file_offset\":1536,\"size\":24}]",
+        ],
+    ),
+    (
+        "functions",
+        &[
+            "  0x5000  0x5010  0x1030\n",
+            "  0x5020  0x5028  0x1001\n",
+            "function 0x5010 to 0x5020\n  record of version 1, a prolog of 5 bytes\n",
+            "    after   5 bytes  UWOP_SAVE_NONVOL    save rbx at [rbp - 0 + 40]\n",
+            "    after   8 bytes  UWOP_ALLOC          allocate 32 bytes of stack\n",
+            "    after   4 bytes  UWOP_SET_FPREG      set rbp to rsp + 32\n",
+            "    after   1 bytes  UWOP_PUSH_NONVOL    push rbp\n    exception handler at 0x1100\n",
+            "\"handler_kind\":\"exception\",\"handler_rva\":4352",
+            "covers 0x4fff: if code is there, it is a leaf function\n",
+            "\"error\":{\"number\":22,\"name\":\"FUNCTION_CYCLE\",",
+        ],
+    ),
+    (
+        "arm64_functions",
+        &[
+            ": PE32+ program for ARM64, unknown subsystem\n",
+            "the image has no functions of x64\n",
+            "{\"start_rva\":20496,\"end_rva\":null,\"unwind\":4112}",
+        ],
+    ),
+    (
+        "exports",
+        &[
+            "  exports       3, 1 of them forwarders\n",
+            "\nExports of made.dll\n",
+            "  5        0x1004   second\n  6        0x90000  first\n  8        0x1060           to NTDLL.RtlFree\n",
+            "\"ordinal_base\":5",
+        ],
+    ),
+    (
+        "imports",
+        &[
+            "  imports       KERNEL32.dll 2, a.dll 1\n",
+            "\nImports from KERNEL32.dll\n  Sleep\n  #17\n\nImports from a.dll\n  f\n",
+            "{\"name\":\"Sleep\",\"hint\":42,\"slot_rva\":32768},{\"name\":null,\"ordinal\":17,\"slot_rva\":32776}",
+        ],
+    ),
+    (
+        "refused_import",
+        &["  warning       imports: import name not NUL-terminated or not UTF-8 (IMPORT_NAME)\n", "\nstatus 1\n"],
+    ),
+    (
+        "resources",
+        &[
+            "  product       made\n  company       Größe & Söhne \u{1F600}\n",
+            "  version       3.11.3150.1013, of the product 1.2.3.4\n  manifest      11 bytes\n",
+            "\"CompanyName\":\"Größe & Söhne \u{1F600}\",\"ProductName\":\"made\"",
+            "\"manifest\":{\"size\":11}",
+        ],
+    ),
+    (
+        "x86_dll",
+        &[
+            "x86_dll.bin: PE32 DLL for x86, Windows GUI\n  built         2020-09-13 12:26:40 UTC by its time stamp\n",
+            "  entry point   0x1004, image base 0x10000000\n  in memory     12288 bytes\n",
+            "  sizes         image 12288, headers 1024\n  alignment     sections 4096, file 512\n",
+            "  checksum      0x0000111d\n  flags         EXECUTABLE_IMAGE, 32BIT_MACHINE, DLL\n",
+            "  DLL flags     DYNAMIC_BASE, NX_COMPAT\n",
+            "  export     RVA 0x2000  80\n  import     RVA 0x2060  40\n",
+            "  .text  r-x  0x1000  16     0x400        512          0.08\n",
+            "  .data  rw-  0x2000  512    0x600        512          ",
+            "\nImports from USER32.dll\n  MessageBoxA\n  #5\n",
+            "  1        0x1004  DllMain\n",
+            "\nx86_dll.bin/5F5E10003000/x86_dll.bin\n",
+            "\"checksum\":4381,\"right_checksum\":4381}",
+            "\"hint\":7,\"slot_rva\":8352},{\"name\":null,\"ordinal\":5,\"slot_rva\":8356}",
+            "\"flags\":3221225536",
+        ],
+    ),
+    (
+        "short",
+        &[
+            "short.bin: refused\n  warning       image: truncated (SHORT)\nstatus 1\n",
+            "pe: short.bin: truncated (SHORT)\nstatus 1\n",
+            "\"file_size\":2,\"error\":{\"number\":2,\"name\":\"SHORT\",\"text\":\"truncated\"}}\nstatus 1\n",
+        ],
+    ),
+];
+
+fn path_of(name: &str) -> PathBuf {
+    PathBuf::from(env!("CARGO_MANIFEST_DIR")).join("tests/golden").join(format!("{name}.txt"))
+}
+
+/// Whether the sessions are written anew: then the other tests wait for the next run.
+fn is_update() -> bool {
+    std::env::var_os("UPDATE_GOLDEN").is_some_and(|it| it == "1")
+}
+
+/// A command as it is typed in the folder of the images, what it prints, and its status where that is not 0.
+fn step_of(folder: &Folder, words: &[&str]) -> String {
+    let ran = Command::new(env!("CARGO_BIN_EXE_pe")).args(words).current_dir(&folder.0).output().unwrap();
+    let text = |bytes: Vec<u8>| String::from_utf8(bytes).unwrap();
+    let status = match ran.status.code().unwrap() {
+        0 => String::new(),
+        other => format!("status {other}\n"),
+    };
+    format!("$ pe {}\n{}{}{status}", words.join(" "), text(ran.stdout), text(ran.stderr))
+}
+
+/// All commands for an image: each as text, then each as JSON.
+fn session_of(folder: &Folder, name: &str, part: &str, rvas: &[&str]) -> String {
+    let file = format!("{name}.bin");
+    let mut commands = vec![vec![file.as_str()], vec!["show", &file, "all"], vec!["show", &file, part]];
+    commands.extend(rvas.iter().map(|rva| vec!["unwind", &file, rva]));
+    commands.extend([vec!["key", &file], vec!["digest", &file]]);
+    let as_json: Vec<Vec<&str>> = commands.iter().map(|words| [words.as_slice(), &["--json"]].concat()).collect();
+    commands.iter().chain(&as_json).map(|words| step_of(folder, words)).collect()
+}
+
+/// The images of the tests, and a file that is none.
+fn files() -> Vec<(&'static str, Vec<u8>)> {
+    made::all().into_iter().chain([("short", b"MZ".to_vec())]).collect()
+}
+
+#[test]
+fn the_program_says_what_the_golden_texts_say() {
+    let folder = Folder::new("golden");
+    let mut unlike = Vec::new();
+    for (name, bytes) in files() {
+        folder.file(&format!("{name}.bin"), &bytes);
+        let (_, part, rvas) = ASKED.iter().find(|it| it.0 == name).unwrap();
+        let said = session_of(&folder, name, part, rvas);
+        if is_update() {
+            fs::write(path_of(name), &said).unwrap();
+            continue;
+        }
+        let golden = fs::read_to_string(path_of(name)).unwrap_or_default();
+        if said != golden {
+            let lines = said.lines().zip(golden.lines()).enumerate();
+            let at = lines.filter(|(_, (one, other))| one != other).map(|it| it.0).next();
+            unlike.push(format!("{name}.txt, line {:?}", at.map(|it| it + 1)));
+        }
+    }
+    assert!(unlike.is_empty(), "{unlike:?}: read tests/golden/README.md");
+}
+
+#[test]
+fn golden_texts_have_what_the_images_are_made_of() {
+    if is_update() {
+        return;
+    }
+    for (name, values) in MADE {
+        let golden = fs::read_to_string(path_of(name)).unwrap();
+        for value in *values {
+            assert!(golden.contains(value), "{name}.txt lacks {value:?}");
+        }
+    }
+}
+
+#[test]
+fn each_image_has_its_text() {
+    if is_update() {
+        return;
+    }
+    let wanted: Vec<&str> = files().iter().map(|it| it.0).collect();
+    assert_eq!(wanted, ASKED.iter().map(|it| it.0).collect::<Vec<_>>());
+    assert_eq!(wanted, MADE.iter().map(|it| it.0).collect::<Vec<_>>());
+    let entries = fs::read_dir(path_of("").parent().unwrap()).unwrap().map(|it| it.unwrap().file_name());
+    let mut found: Vec<String> =
+        entries.filter_map(|it| Some(it.to_str()?.strip_suffix(".txt")?.to_string())).collect();
+    let mut sorted: Vec<String> = wanted.iter().map(|it| it.to_string()).collect();
+    found.sort();
+    sorted.sort();
+    assert_eq!(found, sorted);
+}
+
+/// The lines of a picture of a terminal without their spaces, which are positions there.
+fn lines_of_picture(name: &str) -> Vec<String> {
+    let path = PathBuf::from(env!("CARGO_MANIFEST_DIR")).join("../../docs/pictures").join(name);
+    let svg = fs::read_to_string(path).unwrap();
+    let lines = svg.lines().filter(|line| line.starts_with("<text class=\"pe-r"));
+    let text_of =
+        |line: &str| line.split('<').filter_map(|it| Some(it.split_once('>')?.1.replace("&#160;", ""))).collect();
+    lines.map(text_of).collect()
+}
+
+#[test]
+fn pictures_show_what_the_golden_texts_say() {
+    let pictures = [
+        ("summary.svg", "x86_dll", "$ pe x86_dll.bin\n"),
+        ("unwind.svg", "functions", "$ pe unwind functions.bin 5012\n"),
+    ];
+    for (picture, name, command) in pictures {
+        let golden = fs::read_to_string(path_of(name)).unwrap();
+        let session = &golden[golden.find(command).unwrap()..];
+        let end = session[1..].find("\n$ ").map_or(session.len(), |it| it + 1);
+        let wanted: Vec<String> = session[..end].lines().map(|line| line.replace(' ', "")).collect();
+        assert_eq!(lines_of_picture(picture), wanted, "{picture}: run tools/make_pictures");
+    }
+}
