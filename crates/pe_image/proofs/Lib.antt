@@ -15,6 +15,7 @@ pub mod Ends
 pub mod WrittenCertificates
 pub mod Laid
 pub mod Clashes
+pub mod Covered
 pub mod WrittenSections
 pub mod WrittenHeaders
 pub mod WrittenImages

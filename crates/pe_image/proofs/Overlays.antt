@@ -29,7 +29,7 @@ pub byte_after_cons : (x : Piece) (xs : List Piece) (q old : ℕ) → byte_after
 unfolding byte_after
 byte_after_cons x xs q old = covered_first (has_byte q x) x (filter (has_byte q) xs) q old
 
-length-put : (xs : List Piece) (b : List ℕ) → all_fit (length b) xs ≡ true → length (put_in_turn b xs) ≡ length b
+pub length-put : (xs : List Piece) (b : List ℕ) → all_fit (length b) xs ≡ true → length (put_in_turn b xs) ≡ length b
 unfolding put_in_turn
 length-put [] b h = refl
 length-put (x ∷ xs) b h =
@@ -37,7 +37,7 @@ length-put (x ∷ xs) b h =
     let rest : all_fit (length (splice b x.offset x.content)) xs ≡ true = rw l (grind (arith, nat_tests)) in
     length-put xs (splice b x.offset x.content) rest ∙ l
 
-get_or-put : (xs : List Piece) (b : List ℕ) (q : ℕ) → all_fit (length b) xs ≡ true → get_or (put_in_turn b xs) q 0 ≡ byte_after xs q (get_or b q 0)
+pub get_or-put : (xs : List Piece) (b : List ℕ) (q : ℕ) → all_fit (length b) xs ≡ true → get_or (put_in_turn b xs) q 0 ≡ byte_after xs q (get_or b q 0)
 unfolding put_in_turn
 get_or-put [] b q h = unfold byte_after in refl
 get_or-put (x ∷ xs) b q h =

@@ -1,16 +1,18 @@
 -- Sections as pieces.
-use Rattle.std.proofs.Common.{◌≡◌, ℕ, zero, suc, ◌+◌, ◌≤◌, ◌<◌, ◌&&◌, true, List, [], ◌∷◌, length, get_or, drop, replicate, ◌∙◌, arith}
+use Rattle.std.proofs.Common.{◌≡◌, ℕ, zero, suc, ◌+◌, ◌-◌, ◌≤◌, ◌<◌, ◌&&◌, true, List, [], ◌∷◌, length, get_or, take, drop, replicate, refl, ap, length-drop, ◌∙◌, arith}
 use Rattle.std.specs.Prelude.{Option, nat_le}
-use Rattle.std.proofs.lemmas.List.{drop_all, length-replicate}
+use Rattle.std.proofs.lemmas.List.{drop_all, length-replicate, take_all}
 use Rattle.std.proofs.lemmas.List.Edits.{length-between}
 use Rattle.std.proofs.lemmas.Bool.Decides.{nat_tests}
-use Rattle.pe_core.specs.Bytes.{holds, range}
+use Rattle.pe_core.specs.Bytes.{holds, range, splice}
 use Rattle.pe_core.specs.Sections.{raw_end}
+use Rattle.pe_core.specs.Spelling.{spell_section}
 use Rattle.pe_core.specs.declared.section_table.SectionTable.{SectionTable}
 use Rattle.pe_image.specs.Overlay.{all_fit}
 use Rattle.pe_image.specs.Pieces.{all_section_pieces, header_width, lacking, section_pieces}
 use Rattle.pe_image.specs.Writing.{all_in_source}
-use Rattle.pe_image.specs.WritingSteps.{put_in_turn}
+use Rattle.pe_image.specs.WritingSteps.{covered, parts_outside, put_in_turn, section_parts}
+use Rattle.pe_image.proofs.Covered.{later_sections}
 use Rattle.pe_image.proofs.Laid.{length_section}
 use Rattle.pe_image.proofs.Rows.{Goes, goes_fits, goes_next, goes_last, and_left, and_right, rest_at}
 
@@ -32,6 +34,11 @@ inside_at b [] i d h l = absurd (omega arith)
 inside_at b (s ∷ sections) zero d h l = and_left _ _ h
 inside_at b (s ∷ sections) (suc i) d h l = inside_at b sections i d (and_right _ _ h) (omega arith)
 
+all_inside : (b : List ℕ) (i : ℕ) (sections : List SectionTable) → all_in_source b sections ≡ true → all_in_source b (drop i sections) ≡ true
+all_inside b zero sections h = h
+all_inside b (suc i) [] h = h
+all_inside b (suc i) (s ∷ sections) h = all_inside b i sections (and_right _ _ h)
+
 -- ---- the writing, section by section
 
 abbrev pub GoesSections : List ℕ → List ℕ → Option ℕ → ℕ → List SectionTable → List ℕ → ℕ → ℕ → Type 0
@@ -41,9 +48,21 @@ pub next_fits : (old b : List ℕ) (unit : Option ℕ) (start : ℕ) (sections :
 next_fits old b unit start sections now offset i d h l g =
     rw l (goes_fits (section_pieces b unit) header_width old start sections now offset (get_or sections i d) (drop (i + 1) sections) (rw (rest_at sections i d h) at g))
 
-pub next_goes : (old b : List ℕ) (unit : Option ℕ) (start : ℕ) (sections : List SectionTable) (now next : List ℕ) (offset i : ℕ) (d : SectionTable) → i < length sections → GoesSections old b unit start sections now offset i → next ≡ put_in_turn now (section_pieces b unit offset (get_or sections i d)) → GoesSections old b unit start sections next (offset + 40) (i + 1)
-next_goes old b unit start sections now next offset i d h g e =
-    goes_next (section_pieces b unit) header_width old start sections now next offset (get_or sections i d) (drop (i + 1) sections) (rw (rest_at sections i d h) at g) e
+pub next_goes : (old b : List ℕ) (unit : Option ℕ) (start : ℕ) (sections : List SectionTable) (now next : List ℕ) (offset i : ℕ) (d : SectionTable) (c : ℕ × ℕ) → i < length sections → length now ≡ length old → all_in_source b sections ≡ true → GoesSections old b unit start sections now offset i → c ≡ covered unit (get_or sections i d) (take (length sections - (i + 1)) (drop (i + 1) sections)) → next ≡ put_in_turn now (section_parts c b unit offset (get_or sections i d)) → GoesSections old b unit start sections next (offset + 40) (i + 1)
+next_goes old b unit start sections now next offset i d c h l inside g k e =
+    let s : SectionTable = get_or sections i d in
+    let after : List SectionTable = drop (i + 1) sections in
+    let count : length after ≡ length sections - (i + 1) = length-drop (i + 1) sections in
+    let all : take (length sections - (i + 1)) after ≡ after = take_all (length sections - (i + 1)) after (omega arith) in
+    let range_is : c ≡ covered unit s after = k ∙ ap (covered unit s) all in
+    let here : Goes (section_pieces b unit) header_width old start sections now offset (s ∷ after) = rw (rest_at sections i d h) at g in
+    let whole : Goes (section_pieces b unit) header_width old start sections (put_in_turn now (section_pieces b unit offset s)) (offset + 40) after = goes_next (section_pieces b unit) header_width old start sections now (put_in_turn now (section_pieces b unit offset s)) offset s after here refl in
+    let first : all_fit (length now) (section_pieces b unit offset s) ≡ true = rw l (goes_fits (section_pieces b unit) header_width old start sections now offset s after here) in
+    record {
+      same = rw (e, range_is) (later_sections now b unit offset s after (all_inside b (i + 1) sections inside) first (rw l whole.fit) ∙ whole.same);
+      fit = whole.fit;
+      ends = whole.ends;
+    }
 
 pub all_gone : (old b : List ℕ) (unit : Option ℕ) (start : ℕ) (sections : List SectionTable) (now : List ℕ) (offset i : ℕ) → length sections ≤ i → GoesSections old b unit start sections now offset i → now ≡ put_in_turn old (all_section_pieces b unit start sections)
 all_gone old b unit start sections now offset i h g =
@@ -56,3 +75,10 @@ offset_fits n b unit offset s h = grind (arith, nat_tests)
 pub offset_inside : (old b : List ℕ) (unit : Option ℕ) (start : ℕ) (sections : List SectionTable) (now : List ℕ) (offset i : ℕ) (d : SectionTable) → i < length sections → length now ≡ length old → GoesSections old b unit start sections now offset i → offset ≤ length now
 offset_inside old b unit start sections now offset i d h l g =
     offset_fits (length now) b unit offset (get_or sections i d) (next_fits old b unit start sections now offset i d h l g)
+
+-- ---- parts of a section
+
+-- the parts of the data, the header and the parts of the zeros, one after the other
+pub parts_in_turn : (c : ℕ × ℕ) (b : List ℕ) (unit : Option ℕ) (offset : ℕ) (s : SectionTable) (old one two three : List ℕ) → one ≡ put_in_turn old (parts_outside c s.pointer_to_raw_data (range b s.pointer_to_raw_data s.size_of_raw_data)) → two ≡ splice one offset (spell_section s) → three ≡ put_in_turn two (parts_outside c (raw_end s) (replicate (lacking s.size_of_raw_data unit) 0)) → three ≡ put_in_turn old (section_parts c b unit offset s)
+unfolding section_parts put_in_turn
+parts_in_turn c b unit offset s old one two three e f g = rw (g, f, e) refl

@@ -1,16 +1,18 @@
 -- The steps of the writers. Only private contracts cite them, and the law that writing pieces in turn leaves their
 -- overlay.
-use Rattle.std.specs.Prelude.{ℕ, ◌||◌, ◌&&◌, ◌==◌, Bool, true, false, List, [], ◌∷◌, map, nat_le, Option, Some, Result}
+use Rattle.std.specs.Prelude.{ℕ, ◌+◌, ◌-◌, ◌^◌, ◌||◌, ◌&&◌, ◌==◌, min, max, Bool, true, false, List, [], ◌∷◌, ◌++◌, length, take, drop, replicate, map, nat_le, Option, Some, Result, if◌then◌else◌}
 use Rattle.std.specs.Int.{is_power_of_two}
-use Rattle.pe_core.specs.Bytes.{splice}
+use Rattle.pe_core.specs.Bytes.{range, splice}
 use Rattle.pe_core.specs.Header.{header_view, optional_header_view}
 use Rattle.pe_core.specs.Refusals.{Refusal, WriteAlignment, WriteFit, WriteOverlap, WriteSection, WriteSymbols, outcome}
 use Rattle.pe_core.specs.Sections.{raw_end}
+use Rattle.pe_core.specs.Spelling.{spell_section}
 use Rattle.pe_core.specs.declared.optional_header.OptionalHeader.{OptionalHeader}
 use Rattle.pe_core.specs.declared.section_table.SectionTable.{SectionTable}
 use Rattle.pe_records.specs.Certificates.{certificate_view}
 use Rattle.pe_image.specs.Image.{source_of}
-use Rattle.pe_image.specs.Overlay.{Piece, greatest_end, longest}
+use Rattle.pe_image.specs.Overlay.{Piece, greatest_end, longest, piece}
+use Rattle.pe_image.specs.Pieces.{lacking}
 use Rattle.pe_image.specs.Writing.{all_in_source, clash_free, image_end, image_tests, padded_pieces, same_section, whole_pieces}
 use Rattle.pe_image.specs.declared.pe.PE.{PE}
 
@@ -51,6 +53,39 @@ falls (s ∷ after) = falls_to s after && falls after
 abbrev pub is_next : SectionTable → List SectionTable → Bool
 is_next s [] = false
 is_next s (t ∷ after) = same_section s t
+
+-- ---- sections that later ones are written over
+
+-- the range of the data of the first section that has some, and of the zeros after them: its start and its end, which is
+-- that of a `usize` at most; an empty one without such a section
+abbrev pub next_range : Option ℕ → List SectionTable → ℕ × ℕ
+next_range unit [] = (0, 0)
+next_range unit (s ∷ after) =
+    if s.size_of_raw_data == 0
+    then next_range unit after
+    else (s.pointer_to_raw_data, min (raw_end s + lacking s.size_of_raw_data unit) (2 ^ 64 - 1))
+
+-- what of a section need not be written, as later ones cover it: the range of the next one with data; nothing of a section
+-- without data
+abbrev pub covered : Option ℕ → SectionTable → List SectionTable → ℕ × ℕ
+covered unit s after = if s.size_of_raw_data == 0 then (0, 0) else next_range unit after
+
+-- of n bytes at offset p, how many lie before a range, and after how many what lies after the range starts
+abbrev pub outside : ℕ × ℕ → ℕ → ℕ → ℕ × ℕ
+outside (start, end) p n = (min (start - p) n, max (min (start - p) n) (min (end - p) n))
+
+-- the two pieces of the bytes s at offset p that lie outside the range
+abbrev pub parts_outside : ℕ × ℕ → ℕ → List ℕ → List Piece
+parts_outside covered p s =
+    let (before, after) = outside covered p (length s) in
+    piece p (take before s) ∷ piece (p + after) (drop after s) ∷ []
+
+-- the pieces of a section outside the range, and its header whole
+unfoldable pub section_parts : ℕ × ℕ → List ℕ → Option ℕ → ℕ → SectionTable → List Piece
+section_parts covered b unit offset s =
+    parts_outside covered s.pointer_to_raw_data (range b s.pointer_to_raw_data s.size_of_raw_data)
+    ++ piece offset (spell_section s)
+    ∷ parts_outside covered (raw_end s) (replicate (lacking s.size_of_raw_data unit) 0)
 
 -- ---- of an image as its fields are now, with one optional header
 

@@ -8,6 +8,7 @@
 mod certificates;
 mod ends;
 mod headers;
+mod outside;
 mod overlaps;
 mod records;
 mod sections;

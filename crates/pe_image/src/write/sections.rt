@@ -8,12 +8,13 @@ ghost use Rattle.pe_core.specs.Refusals.{Returns, WriteAlignment, WriteFit, Writ
 ghost use Rattle.pe_image.specs.Overlay.{all_fit, greatest_end, longest};
 ghost use Rattle.pe_image.specs.Pieces.{all_section_pieces, header_width, in_a_row, lacking, section_pieces};
 ghost use Rattle.pe_image.specs.Writing.{ReturnsWritten, all_in_source, clash_free, is_unit, section_tests, sections_written};
-ghost use Rattle.pe_image.specs.WritingSteps.{all_end, possible, put_in_turn};
+ghost use Rattle.pe_image.specs.WritingSteps.{all_end, covered, next_range, possible, put_in_turn, section_parts};
 
 use crate::write::ends::piece_end;
+use crate::write::outside::{set_slice_outside, set_zeros_outside};
 use crate::write::overlaps::{first_clash, first_outside, raw_end};
 use crate::write::records::set_section;
-use pe_core::{Error, Reason, Result, SectionTable, require_room, set_slice, set_zeros};
+use pe_core::{Error, Reason, Result, SectionTable, require_room};
 
 /// The size of a section header in bytes.
 const SIZE_OF_SECTION_HEADER: usize = 40;
@@ -116,25 +117,66 @@ impl<'a> SectionWriter<'a> {
         Ok(offset)
     }
 
-    /// Writes a section, with its header at `offset`. The caller has checked that it fits.
-    #[tactic(auto, using(crate::proofs::WrittenSections::section_fit), unfolding(crate::specs::Pieces::section_pieces, crate::specs::WritingSteps::put_in_turn))]
-    fn set_section(&self, buffer: &mut [u8], offset: usize, section: &SectionTable)
+    /// The range of the data of the first section in `after` that has some, and of the zeros after them. Empty without
+    /// such a section.
+    fn next_range(&self, after: &[SectionTable]) -> (usize, usize)
+        requires { IsTrue (is_unit self.now.unit) }
+        ensures { result ≡ next_range self.now.unit after.now }
+    {
+        for i in 0..after.len() {
+            let section = &after[i];
+            if section.size_of_raw_data != 0 {
+                let padding = lacking(section.size_of_raw_data, self.unit);
+                // The sum never overflows where the sections fit, so saturating changes nothing.
+                let end = raw_end(section).saturating_add(padding);
+                return (section.pointer_to_raw_data as usize, end);
+            }
+        }
+        (0, 0)
+    }
+
+    /// The range that later sections cover, so that nothing of the section is to be written there. A section without data
+    /// has nothing to write, so it looks for none.
+    fn covered(&self, section: &SectionTable, after: &[SectionTable]) -> (usize, usize)
+        requires { IsTrue (is_unit self.now.unit) }
+        ensures { result ≡ covered self.now.unit section.now after.now }
+    {
+        if section.size_of_raw_data == 0 {
+            (0, 0)
+        } else {
+            self.next_range(after)
+        }
+    }
+
+    /// Writes a section, with its header at `offset`, but for what of its data and zeros lies in the range `covered`. The
+    /// caller has checked that it fits.
+    #[tactic(auto, using(crate::proofs::WrittenSections::section_fit, crate::proofs::WrittenSections::parts_in_turn), unfolding(crate::specs::Pieces::section_pieces))]
+    fn set_section(
+        &self,
+        buffer: &mut [u8],
+        covered: (usize, usize),
+        offset: usize,
+        section: &SectionTable,
+    )
         requires unit { IsTrue (is_unit self.now.unit) }
         requires inside { IsTrue (holds
             self.now.source.now section.now.pointer_to_raw_data section.now.size_of_raw_data) }
         requires fit { IsTrue (all_fit (length buffer.old)
             (section_pieces self.now.source.now self.now.unit offset section.now)) }
         ensures { buffer.new ≡ put_in_turn buffer.old
-            (section_pieces self.now.source.now self.now.unit offset section.now) }
+            (section_parts covered self.now.source.now self.now.unit offset section.now) }
     {
         let start = section.pointer_to_raw_data as usize;
         let end = raw_end(section);
-        set_slice(buffer, start, &self.source[start..end]);
+        set_slice_outside(buffer, covered, start, &self.source[start..end]);
         set_section(buffer, offset, section);
-        set_zeros(buffer, end, lacking(section.size_of_raw_data, self.unit));
+        let zeros = lacking(section.size_of_raw_data, self.unit);
+        set_zeros_outside(buffer, covered, end, zeros);
     }
 
-    /// Writes the sections, with their headers from `start` on. The caller has checked that they fit.
+    /// Writes the sections, with their headers from `start` on. The caller has checked that they fit. What the next
+    /// section with data covers is not written: so of sections that are equal, or rise or fall in the file, each byte of
+    /// the buffer is written a few times at most, however many sections cover it.
     pub fn set(&self, buffer: &mut [u8], start: usize)
         requires unit { IsTrue (is_unit self.now.unit) }
         requires inside { IsTrue (all_in_source self.now.source.now self.now.sections.now) }
@@ -145,7 +187,9 @@ impl<'a> SectionWriter<'a> {
     {
         let mut offset = start;
         for i in 0..self.sections.len() {
-            self.set_section(buffer, offset, &self.sections[i]);
+            let section = &self.sections[i];
+            let covered = self.covered(section, &self.sections[i + 1..]);
+            self.set_section(buffer, covered, offset, section);
             offset += SIZE_OF_SECTION_HEADER;
         }
     }

@@ -9,7 +9,7 @@ overflow_add-offset c =
 
 pub loop-i-preserved : goal.loop-i-preserved
 loop-i-preserved c =
-    next_goes c.args.buffer.now c.args.self.now.source.now c.args.self.now.unit c.args.start c.args.self.now.sections.now c.loop-i.buffer _ c.loop-i.offset c.loop-i.i no_section (omega arith) c.loop-i.invariant c.set_section.ensures
+    next_goes c.args.buffer.now c.args.self.now.source.now c.args.self.now.unit c.args.start c.args.self.now.sections.now c.loop-i.buffer _ c.loop-i.offset c.loop-i.i no_section c.covered-covered.result (omega arith) (omega (arith, c.loop-i.auto.buffer)) c.requires.inside c.loop-i.invariant c.covered-covered.ensures c.set_section.ensures
 
 pub returns : goal.returns
 returns c =
