@@ -709,6 +709,17 @@ extern "C" {
         stack_length: usize,
         frame: *mut Frame,
     ) -> u32;
+    /// Finds the registers of an ARM64 function's caller, and writes them over those of the frame.
+    pub fn pe_c_step_arm64(
+        bytes: *const u8,
+        length: usize,
+        image: *const ImageInfo,
+        sections: *const Section,
+        count: usize,
+        stack: *const u8,
+        stack_length: usize,
+        frame: *mut Arm64Frame,
+    ) -> u32;
     /// Finds the registers of the caller of a leaf function, by the bytes of its stack, and writes them over those of the
     /// frame.
     pub fn pe_c_leaf(stack: *const u8, stack_length: usize, frame: *mut Frame) -> u32;
@@ -804,8 +815,6 @@ calls_of_an_image! {
     pe_c_find_arm64_function(table: *const Range, rva: u32) -> Arm64Function;
     /// Returns the unwind record of an ARM64 function, unless its unwind data is packed.
     pe_c_arm64_unwind_record(function: *const Arm64Function) -> Arm64Record;
-    /// Finds the registers of an ARM64 function's caller, and writes them over those of the frame.
-    pe_c_step_arm64(stack: *const u8, stack_length: usize) -> Arm64Frame;
     /// Returns the tables of the export directory, as a walk.
     pe_c_export_tables() -> Exports;
     /// Returns the next export.
