@@ -619,6 +619,13 @@ uint32_t pe_c_unwind_record(const uint8_t *bytes, size_t length, const pe_c_imag
                             const pe_c_section *sections, size_t count, uint32_t unwind,
                             pe_c_record *out) PE_C_RESULT(3, 7);
 
+/* Returns the unwind record at an RVA. An even unwind RVA of a function is that of its record, so where pe_c_function_table
+ * returned a table, this is the record that pe_c_unwind_record returns, in less time: the exception directory and its table
+ * are not read again. An odd unwind RVA is a link, which only pe_c_unwind_record follows.
+ * Errors: PE_C_UNMAPPED; PE_C_SHORT, PE_C_UNWIND_VERSION of the record. */
+uint32_t pe_c_unwind_record_at(const uint8_t *bytes, size_t length, const pe_c_image_info *image,
+                               const pe_c_section *sections, size_t count, uint32_t rva, pe_c_record *out) PE_C_RESULT(3, 7);
+
 /* Returns the next code of a record, in the order in which they are undone: the last instruction of the prolog first.
  * Errors: PE_C_SHORT where the walk is not inside the bytes, or a code is truncated; PE_C_UNWIND_CODE for an invalid
  * code. */

@@ -228,6 +228,7 @@ fn read_by_lies(bytes: &[u8], random: &mut Random, seen: &mut Seen) {
     call_of_image!(pe_c_function_table(), Range);
     call_of_image!(pe_c_arm64_table(), Range);
     call_of_image!(pe_c_unwind_record(directory.virtual_address ^ (few & 1)), Record);
+    call_of_image!(pe_c_unwind_record_at(directory.virtual_address ^ (few & 1)), Record);
     call_of_image!(pe_c_find_arm64_function(&range, few), Arm64Function);
     call_of_image!(
         pe_c_arm64_unwind_record(&sys::Arm64Function { begin: few, unwind: directory.virtual_address & !3 }),

@@ -807,6 +807,8 @@ calls_of_an_image! {
     pe_c_function_table() -> Range;
     /// Returns the x64 unwind record of an unwind RVA.
     pe_c_unwind_record(unwind: u32) -> Record;
+    /// Returns the x64 unwind record at an RVA, without links.
+    pe_c_unwind_record_at(rva: u32) -> Record;
     /// Returns the next record of a plan.
     pe_c_next_record(plan: *mut Plan) -> Record;
     /// Returns the range of the ARM64 function table.

@@ -284,7 +284,9 @@ impl<'i, 'a> Functions<'i, 'a> {
     ///
     /// The table was checked by [`Image::functions`]: its errors come there.
     pub fn record(&self, function: Function) -> Result<UnwindRecord<'a>, Error> {
-        let raw = self.image.ask_with(sys::pe_c_unwind_record, function.unwind)?.ok_or(Error::UNMAPPED)?;
+        // An even unwind RVA is no link, so the table need not be read again.
+        let call = if function.unwind % 2 == 0 { sys::pe_c_unwind_record_at } else { sys::pe_c_unwind_record };
+        let raw = self.image.ask_with(call, function.unwind)?.ok_or(Error::UNMAPPED)?;
         Ok(UnwindRecord { raw, bytes: self.image.bytes() })
     }
 

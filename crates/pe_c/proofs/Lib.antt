@@ -5,6 +5,7 @@ pub mod CertificateRuns
 pub mod CodeRuns
 pub mod DigestParts
 pub mod EntryRuns
+pub mod EvenRecords
 pub mod ExportParts
 pub mod ExportRuns
 pub mod FunctionPlans

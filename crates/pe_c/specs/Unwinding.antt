@@ -2,6 +2,7 @@
 use Rattle.std.specs.Prelude.{◌≡◌, ℕ, ◌+◌, ◌-◌, ◌==◌, ◌≤◌, length, drop, List, [], ◌∷◌, Option, Some, None, Result, Ok, Err, if◌then◌else◌}
 use Rattle.std.specs.Option.{option_map}
 use Rattle.pe_core.specs.Refusals.{Refusal, kind_of, outcome, ◌>>=◌}
+use Rattle.pe_core.specs.SectionMap.{mapped}
 use Rattle.pe_core.specs.declared.error.Error.{Error}
 use Rattle.pe_core.specs.declared.section_table.SectionTable.{SectionTable}
 use Rattle.pe_unwind.specs.CodeStream.{CodeStream, ReturnsCode}
@@ -18,7 +19,7 @@ use Rattle.pe_unwind.specs.declared.unwind_code.StackFrameOffset.TheVariants.{RS
 use Rattle.pe_unwind.specs.declared.unwind_code.UnwindCode.{UnwindCode}
 use Rattle.pe_unwind.specs.declared.unwind_code.UnwindOperation.{UnwindOperation}
 use Rattle.pe_unwind.specs.declared.unwind_code.UnwindOperation.TheVariants.{PushNonVolatile, Alloc, SetFPRegister, SaveNonVolatile, SaveXMM, Epilog, SaveXMM128, PushMachineFrame, Noop}
-use Rattle.pe_c.specs.Images.{exception_directory, is_absent}
+use Rattle.pe_c.specs.Images.{exception_directory, is_absent, map_of_image}
 use Rattle.pe_c.specs.HandsOut.{HandsOut, HandsOutIf}
 use Rattle.pe_c.specs.Modes.{options_of}
 use Rattle.pe_c.specs.Ranges.{no_bytes, range_of, last_range, bytes_at}
@@ -131,6 +132,10 @@ FollowsToRecord b image sections mode address answer =
 abbrev pub HandsOutRecord : List ℕ → Image → List SectionTable → ℕ → ℕ → ℕ → UnwindRecord → UnwindRecord → Type 0
 HandsOutRecord b image sections mode address number old new =
     (answer : Result UnwindRecord Refusal) × FollowsToRecord b image sections mode address answer × HandsOut number old new answer
+
+-- the record at an RVA, without links: the record at its offset, or what refuses it
+abbrev pub record_at_rva : List ℕ → Image → List SectionTable → ℕ → Result UnwindRecord Refusal
+record_at_rva b image sections rva = mapped (map_of_image image sections rva) >>= flat_record_at b
 
 -- ---- unwind codes
 

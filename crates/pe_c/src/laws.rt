@@ -15,7 +15,7 @@ ghost use Rattle.pe_c.specs.Plans.{HandsOutAfter, ReturnsInTurn, ReportsUnwindRe
 ghost use Rattle.pe_c.specs.Ranges.{IsRange, bytes_at};
 ghost use Rattle.pe_c.specs.Runs.{ReturnsItems};
 ghost use Rattle.pe_c.specs.Signing.{CoversDigest, digest_at, headers_of};
-ghost use Rattle.pe_c.specs.Unwinding.{StepsCodes, image_exceptions, flat_item, flat_record, function_in, code_stream_at};
+ghost use Rattle.pe_c.specs.Unwinding.{FollowsToRecord, StepsCodes, image_exceptions, record_at_rva, flat_item, flat_record, function_in, code_stream_at};
 ghost use Rattle.pe_c.specs.Versions.{ReportsFixed, ReportsManifest, ReportsValue};
 ghost use Rattle.pe_c.specs.Walks.{StepsEntries, walk_items, indexed};
 ghost use Rattle.pe_c.specs.declared.arm64.codes.Arm64CodeWalk.{Arm64CodeWalk};
@@ -60,7 +60,7 @@ ghost use Rattle.pe_unwind.specs.declared.function_table.RuntimeFunction.{Runtim
 ghost use Rattle.pe_unwind.specs.declared.unwind_code.UnwindCode.{UnwindCode};
 ghost use Rattle.std.specs.List.{AllZip};
 ghost use Rattle.std.specs.Option.{option_map};
-ghost use Rattle.std.specs.Prelude.{◌≡◌, ℕ, ◌+◌, List, Option, Ok, Err, IfSome, ◌⊎◌, ◌*◌, ◌==◌, ◌^◌, ◌<◌, ◌≤◌, length, Some, Result, true, false, [], ◌∷◌, ◌++◌, ◌≢◌, map};
+ghost use Rattle.std.specs.Prelude.{◌≡◌, ℕ, ◌+◌, List, Option, Ok, Err, IfSome, ◌⊎◌, ◌*◌, ◌%◌, ◌==◌, ◌^◌, ◌<◌, ◌≤◌, length, Some, Result, true, false, [], ◌∷◌, ◌++◌, ◌≢◌, map};
 
 /// The ranges of an unwind record lie in the bytes, and are its codes and its handler's data.
 pub fn ranges_of_records()
@@ -114,6 +114,15 @@ pub fn plans_are_those_of_functions()
 {
     pe_unwind::laws::x64::one_record_of_addresses();
 }
+
+/// Where the function table can be read, the record of an even unwind RVA is the record at that RVA.
+pub fn even_addresses_are_those_of_records()
+    ensures { (b : List ℕ) (image : Image) (sections : List SectionTable) (unwind : ℕ)
+        (v : ExceptionView) (answer : Result UnwindRecord Refusal) →
+        image_exceptions b image sections image.mode ≡ Ok v → unwind % 2 ≡ 0 →
+        FollowsToRecord b image sections image.mode unwind answer →
+        answer ≡ record_at_rva b image sections unwind }
+{}
 
 /// A plan that `pe_c_plan_from` starts returns at most three times as many records as there are RVAs: so it comes to
 /// the root, or to an error.

@@ -10,14 +10,14 @@ ghost use Rattle.pe_unwind.specs.ScopeTable.{scope_at};
 ghost use Rattle.pe_unwind.specs.UnwindRecord.{unwind_view};
 ghost use Rattle.pe_c.specs.HandsOut.{HandsOut, HandsOutIf};
 ghost use Rattle.pe_c.specs.Ranges.{bytes_at};
-ghost use Rattle.pe_c.specs.Unwinding.{exception_table_at, LocatesIn, HandsOutFound, function_in, is_some_number, or_no_function, handler_kind, handler_address, handler_range, flat_record, flat_record_at, FindsOffset, FollowsToRecord, HandsOutRecord, from_frame, bytes_from, saving, plain, flat, StepsOver, WalksIn, HandsOutCode, scopes_at};
+ghost use Rattle.pe_c.specs.Unwinding.{exception_table_at, LocatesIn, HandsOutFound, function_in, is_some_number, or_no_function, handler_kind, handler_address, handler_range, flat_record, flat_record_at, FindsOffset, FollowsToRecord, HandsOutRecord, record_at_rva, from_frame, bytes_from, saving, plain, flat, StepsOver, WalksIn, HandsOutCode, scopes_at};
 ghost use Rattle.pe_c.specs.Walks.{next_of, walk_of};
 
 use crate::image::{EXCEPTION_TABLE, Image, directory, is_absent};
 use crate::ranges::{NO_BYTES, Range, last_range, range_of, slice_of};
 use crate::results::{DONE, NOTHING, hand_out, hand_out_some, number_of, options};
 use crate::walks::next_entry;
-use pe_core::{COFF_MACHINE_X86_64, CountedTable, Result, SectionTable};
+use pe_core::{COFF_MACHINE_X86_64, CountedTable, Result, SectionTable, mapped_offset};
 use pe_unwind::{
     ExceptionData, Register, RuntimeFunction, ScopeTableEntry, StackFrameOffset, UnwindCode,
     UnwindCodeIterator, UnwindHandler, UnwindInfo, UnwindOperation, scope_table_size, search,
@@ -296,6 +296,37 @@ pub extern "C" fn pe_c_unwind_record(
         bytes.now image.now sections.now image.now.mode unwind result out.old out.new }
 {
     hand_out(read_record(bytes, image, sections, unwind), out)
+}
+
+fn record_at_rva(
+    bytes: &[u8],
+    image: &Image,
+    sections: &[SectionTable],
+    rva: u32,
+) -> Result<UnwindRecord>
+    ensures { answer_of result ≡ record_at_rva bytes.now image.now sections.now rva }
+{
+    let opts = options(image.mode);
+    let offset = mapped_offset(rva, sections, image.file_alignment, &opts)?;
+    record_at(bytes, offset)
+}
+
+/// Reads the unwind record at an RVA. An even unwind RVA of a function is that of its record, so where the function table
+/// could be read, the result is that of `pe_c_unwind_record`: neither the exception directory nor the table is read again.
+///
+/// Errors: `UNMAPPED` of the RVA; `SHORT`, `UNWIND_VERSION` of the record.
+#[unsafe(no_mangle)]
+pub extern "C" fn pe_c_unwind_record_at(
+    bytes: &[u8],
+    image: &Image,
+    sections: &[SectionTable],
+    rva: u32,
+    out: &mut UnwindRecord,
+) -> u32
+    ensures { HandsOut result out.old out.new
+        (record_at_rva bytes.now image.now sections.now rva) }
+{
+    hand_out(record_at_rva(bytes, image, sections, rva), out)
 }
 
 /// Whether an offset counts from the frame register, and the offset in bytes.
