@@ -19,9 +19,8 @@ use pe_core::{
 /// The size of a data entry in bytes.
 pub(crate) const SIZE_OF_DATA_ENTRY: usize = 16;
 
-/// A data entry, 16 bytes: where the content of a resource is. No call returns one: `ResourceData::content_range` reads
-/// it and returns the file range. The type is for callers that walk the directories themselves: its fields are the four
-/// numbers at `offset_to_data` of a leaf.
+/// A data entry, 16 bytes: where the content of a resource is. Each `ResourceLeaf` has one. Its fields are the four numbers
+/// at `offset_to_data` of the entry of a language. `ResourceData::content_range` reads one and returns the file range.
 #[derive(Clone, Copy, Debug, Default, PartialEq)]
 pub struct ResourceDataEntry {
     /// The RVA of the content, in spite of the name.

@@ -1,6 +1,7 @@
 //! Reads the resources of Windows executables: the tree of resource directories, version information and the manifest.
 //! By convention the tree has three levels, for type, name and language. `ResourceData::parse` reads the version
 //! information and the manifest, and `ResourceData::content_range` finds the content of any other resource with an id.
+//! `ResourceData::leaves` walks over all resources, in every language.
 //!
 //! Layout: <https://learn.microsoft.com/windows/win32/debug/pe-format#the-rsrc-section>. That of version information is
 //! this project's profile of <https://learn.microsoft.com/windows/win32/menurc/vs-versioninfo>.
