@@ -24,11 +24,11 @@ or_false : (a b : Bool) → a ≡ false → (a || b) ≡ b
 or_false true b h = absurd cc
 or_false false b h = refl
 
-or_right : (a b : Bool) → b ≡ true → (a || b) ≡ true
+pub or_right : (a b : Bool) → b ≡ true → (a || b) ≡ true
 or_right true b h = refl
 or_right false b h = h
 
-both : (a b : Bool) → a ≡ true → b ≡ true → (a && b) ≡ true
+pub both : (a b : Bool) → a ≡ true → b ≡ true → (a && b) ≡ true
 both true b h k = k
 both false b h k = absurd cc
 
@@ -55,7 +55,7 @@ same s t e = (sections_equal s t).0 (regroup (bytes_eq s.name t.name) (s.virtual
 same_itself : (s : SectionTable) → same_section s s ≡ true
 same_itself s = sym (regroup (bytes_eq s.name s.name) (s.virtual_size == s.virtual_size) (s.virtual_address == s.virtual_address) (s.size_of_raw_data == s.size_of_raw_data) (s.pointer_to_raw_data == s.pointer_to_raw_data) (s.pointer_to_relocations == s.pointer_to_relocations) (s.pointer_to_linenumbers == s.pointer_to_linenumbers) (s.number_of_relocations == s.number_of_relocations) (s.number_of_linenumbers == s.number_of_linenumbers) (s.characteristics == s.characteristics)) ∙ (sections_equal s s).1 refl
 
-by_cases : {P : Type 0} (b : Bool) → (b ≡ true → P) → (b ≡ false → P) → P
+pub by_cases : {P : Type 0} (b : Bool) → (b ≡ true → P) → (b ≡ false → P) → P
 by_cases true f g = f refl
 by_cases false f g = g refl
 

@@ -13,12 +13,9 @@ use Rattle.pe_image.specs.Overlay.{Piece, all_fit, byte_after, has_byte, piece}
 use Rattle.pe_image.specs.Pieces.{all_section_pieces, lacking, section_pieces}
 use Rattle.pe_image.specs.Writing.{all_in_source}
 use Rattle.pe_image.specs.WritingSteps.{covered, next_range, parts_outside, put_in_turn, section_parts}
+use Rattle.pe_image.proofs.Clashes.{both, by_cases, or_right}
 use Rattle.pe_image.proofs.Overlays.{byte_after_cons, get_or-put, length-put}
 use Rattle.pe_image.proofs.Rows.{and_left, and_right, all_fit_append}
-
-pub by_cases : {P : Type 0} (b : Bool) → (b ≡ true → P) → (b ≡ false → P) → P
-by_cases true f g = f refl
-by_cases false f g = g refl
 
 -- ---- the byte before pieces that cover it does not matter
 
@@ -26,10 +23,6 @@ by_cases false f g = g refl
 abbrev has_piece : ℕ → List Piece → Bool
 has_piece q [] = false
 has_piece q (x ∷ xs) = has_byte q x || has_piece q xs
-
-or_true : (a b : Bool) → b ≡ true → (a || b) ≡ true
-or_true true b h = refl
-or_true false b h = h
 
 first : (t u : Bool) (v a b : ℕ) (r : ℕ → ℕ) → (t || u) ≡ true → (u ≡ true → r a ≡ r b) → r (cond t v a) ≡ r (cond t v b)
 first true u v a b r h f = refl
@@ -44,7 +37,7 @@ any_byte (x ∷ xs) q a b h =
 
 has_piece_right : (xs ys : List Piece) (q : ℕ) → has_piece q ys ≡ true → has_piece q (xs ++ ys) ≡ true
 has_piece_right [] ys q h = h
-has_piece_right (x ∷ xs) ys q h = or_true (has_byte q x) (has_piece q (xs ++ ys)) (has_piece_right xs ys q h)
+has_piece_right (x ∷ xs) ys q h = or_right (has_byte q x) (has_piece q (xs ++ ys)) (has_piece_right xs ys q h)
 
 -- ---- bytes after some pieces and others
 
@@ -98,10 +91,6 @@ byte_of_section c b unit offset s q old h =
 parts_fit : (n : ℕ) (c : ℕ × ℕ) (p : ℕ) (s : List ℕ) → p + length s ≤ n → all_fit n (parts_outside c p s) ≡ true
 parts_fit n (start, end) p s h =
     rw (length-take (min (start - p) (length s)) s, length-drop (max (min (start - p) (length s)) (min (end - p) (length s))) s) (grind (arith, nat_tests))
-
-both : (a b : Bool) → a ≡ true → b ≡ true → (a && b) ≡ true
-both true b h k = k
-both false b h k = absurd cc
 
 section_parts_fit : (n : ℕ) (c : ℕ × ℕ) (b : List ℕ) (unit : Option ℕ) (offset : ℕ) (s : SectionTable) → all_fit n (section_pieces b unit offset s) ≡ true → all_fit n (section_parts c b unit offset s) ≡ true
 unfolding section_parts section_pieces

@@ -56,8 +56,8 @@ is_next s (t ∷ after) = same_section s t
 
 -- ---- sections that later ones are written over
 
--- the range of the data of the first section that has some, and of the zeros after them: its start and its end, which is
--- that of a `usize` at most; an empty one without such a section
+-- the range of the first section with data: of its data and the zeros after them, its start and its end, at most that of a
+-- `usize`; an empty range without such a section
 abbrev pub next_range : Option ℕ → List SectionTable → ℕ × ℕ
 next_range unit [] = (0, 0)
 next_range unit (s ∷ after) =
@@ -65,12 +65,12 @@ next_range unit (s ∷ after) =
     then next_range unit after
     else (s.pointer_to_raw_data, min (raw_end s + lacking s.size_of_raw_data unit) (2 ^ 64 - 1))
 
--- what of a section need not be written, as later ones cover it: the range of the next one with data; nothing of a section
--- without data
+-- where a section need not be written, as the next one with data is written there: that one's range; an empty range for a
+-- section without data
 abbrev pub covered : Option ℕ → SectionTable → List SectionTable → ℕ × ℕ
 covered unit s after = if s.size_of_raw_data == 0 then (0, 0) else next_range unit after
 
--- of n bytes at offset p, how many lie before a range, and after how many what lies after the range starts
+-- of n bytes at offset p: how many lie before the range, and how many before the part that lies after it
 abbrev pub outside : ℕ × ℕ → ℕ → ℕ → ℕ × ℕ
 outside (start, end) p n = (min (start - p) n, max (min (start - p) n) (min (end - p) n))
 
@@ -80,7 +80,7 @@ parts_outside covered p s =
     let (before, after) = outside covered p (length s) in
     piece p (take before s) ∷ piece (p + after) (drop after s) ∷ []
 
--- the pieces of a section outside the range, and its header whole
+-- the pieces of a section, of its data and zeros only the parts outside the range
 unfoldable pub section_parts : ℕ × ℕ → List ℕ → Option ℕ → ℕ → SectionTable → List Piece
 section_parts covered b unit offset s =
     parts_outside covered s.pointer_to_raw_data (range b s.pointer_to_raw_data s.size_of_raw_data)

@@ -175,8 +175,8 @@ impl<'a> SectionWriter<'a> {
     }
 
     /// Writes the sections, with their headers from `start` on. The caller has checked that they fit. What the next
-    /// section with data covers is not written: so of sections that are equal, or rise or fall in the file, each byte of
-    /// the buffer is written a few times at most, however many sections cover it.
+    /// section with data covers is not written: so of sections that are equal, or rise or fall in the file, no byte is
+    /// written twice as data or zeros, however many sections cover it.
     pub fn set(&self, buffer: &mut [u8], start: usize)
         requires unit { IsTrue (is_unit self.now.unit) }
         requires inside { IsTrue (all_in_source self.now.source.now self.now.sections.now) }
