@@ -20,7 +20,9 @@ uint32_t arm64_caller_of(const uint8_t *bytes, size_t length, const pe_c_image_i
         return pe_c_leaf_arm64(frame);
     if (result == PE_C_DONE)
         result = pe_c_step_arm64(bytes, length, image, sections, count, stack, stack_length, frame);
-    return result == PE_C_DONE && is_call && frame->registers.sp == sp ? PE_C_NOT_RISING : result;
+    if (result == PE_C_DONE && is_call && frame->registers.sp == sp)
+        return PE_C_NOT_RISING;
+    return result;
 }
 
 #include <inttypes.h>

@@ -12,7 +12,7 @@ use Rattle.pe_frame.specs.Arm64Undoing.{caller_by}
 use Rattle.pe_frame.specs.Arm64Operations.{is_save_next}
 use Rattle.pe_frame.specs.Arm64Steps.{is_end_c, prolog_length, ran_arm64, epilog_start, left_in_epilog}
 use Rattle.pe_frame.specs.Arm64CodeLists.{Adds}
-use Rattle.pe_frame.specs.Arm64Packed.{packed_frame, float_count, is_chained, sign_codes, integer_pair, integer_pairs, single_register, last_integers, float_pair, float_pairs, last_float, home_codes, allocation, local_codes, frame_codes, point_codes, freed_codes, saved_codes, canonical_codes, epilog_codes, packed_codes, packed_length, left_after, packed_left, is_canonical, stepped_packed}
+use Rattle.pe_frame.specs.Arm64Packed.{packed_frame, float_count, is_chained, sign_codes, integer_pair, integer_pairs, single_register, last_integers, alone_codes, float_pair, float_pairs, last_float, home_codes, allocation, local_codes, frame_codes, point_codes, freed_codes, saved_codes, canonical_codes, epilog_codes, packed_codes, packed_length, left_after, packed_left, is_canonical, stepped_packed}
 use Rattle.pe_frame.proofs.Arm64Places.{left_yes, left_no}
 
 -- a code that neither depends on others nor ends a prolog
@@ -136,22 +136,26 @@ freed_short : (p : PackedFrame) → Short 1 (freed_codes p)
 freed_short p =
     short_if 1 (p.homes && p.integer_size + p.floats == 0) (AllocSmall p.saved_size ∷ []) [] (short_one (AllocSmall p.saved_size) (plain (AllocSmall p.saved_size) refl refl)) (short_nil 1)
 
-saved_short : (p : PackedFrame) → p.integers ≤ 11 → p.floats ≤ 9 → Short 12 (saved_codes p)
+alone_short : (p : PackedFrame) → Short 1 (alone_codes p)
+alone_short p =
+    short_if 1 (p.integers == 1 && p.cr == 1) (AllocSmall p.saved_size ∷ []) [] (short_one (AllocSmall p.saved_size) (plain (AllocSmall p.saved_size) refl refl)) (short_nil 1)
+
+saved_short : (p : PackedFrame) → p.integers ≤ 11 → p.floats ≤ 9 → Short 13 (saved_codes p)
 saved_short p integers floats =
-    short_more (1 + (p.floats / 2 + (1 + (p.integers / 2 + 1)))) 12 (saved_codes p) (omega (arith, integers, floats))
+    short_more (1 + (p.floats / 2 + (1 + (p.integers / 2 + (1 + 1))))) 13 (saved_codes p) (omega (arith, integers, floats))
     (short_append 1 _ _ _ (last_float_short p (p.floats / 2)) (short_append (p.floats / 2) _ _ _ (floats_short p (p.floats / 2))
-    (short_append 1 _ _ _ (last_integers_short p (p.integers / 2)) (short_append (p.integers / 2) 1 _ _ (integers_short p (p.integers / 2)) (sign_short p)))))
+    (short_append 1 _ _ _ (last_integers_short p (p.integers / 2)) (short_append (p.integers / 2) (1 + 1) _ _ (integers_short p (p.integers / 2)) (short_append 1 1 _ _ (alone_short p) (sign_short p))))))
 
-canonical_short : (p : PackedFrame) → p.integers ≤ 11 → p.floats ≤ 9 → Short 20 (canonical_codes p)
+canonical_short : (p : PackedFrame) → p.integers ≤ 11 → p.floats ≤ 9 → Short 21 (canonical_codes p)
 canonical_short p integers floats =
-    short_append 1 19 (point_codes p) (frame_codes p ++ (home_codes p ++ saved_codes p)) (point_short p)
-    (short_append 3 16 (frame_codes p) (home_codes p ++ saved_codes p) (frame_short p)
-    (short_append 4 12 (home_codes p) (saved_codes p) (home_short p) (saved_short p integers floats)))
+    short_append 1 20 (point_codes p) (frame_codes p ++ (home_codes p ++ saved_codes p)) (point_short p)
+    (short_append 3 17 (frame_codes p) (home_codes p ++ saved_codes p) (frame_short p)
+    (short_append 4 13 (home_codes p) (saved_codes p) (home_short p) (saved_short p integers floats)))
 
-epilog_short : (p : PackedFrame) → p.integers ≤ 11 → p.floats ≤ 9 → Short 16 (epilog_codes p)
+epilog_short : (p : PackedFrame) → p.integers ≤ 11 → p.floats ≤ 9 → Short 17 (epilog_codes p)
 epilog_short p integers floats =
-    short_append 3 13 (frame_codes p) (freed_codes p ++ saved_codes p) (frame_short p)
-    (short_append 1 12 (freed_codes p) (saved_codes p) (freed_short p) (saved_short p integers floats))
+    short_append 3 14 (frame_codes p) (freed_codes p ++ saved_codes p) (frame_short p)
+    (short_append 1 13 (freed_codes p) (saved_codes p) (freed_short p) (saved_short p integers floats))
 
 -- the parts of a test
 both : (a b : Bool) → (a && b) ≡ true → (a ≡ true) × (b ≡ true)
@@ -161,10 +165,9 @@ both false b e = cc
 few_integers : (d : ℕ) → is_canonical d ≡ true → (packed_frame d).integers ≤ 10
 few_integers d e =
     let p = packed_frame d in
-    let first = both (((bits d 0 2 == 1 || bits d 0 2 == 2) && nat_le p.integers 10) && not (p.integers == 1 && p.cr == 1)) _ e in
-    let second = both ((bits d 0 2 == 1 || bits d 0 2 == 2) && nat_le p.integers 10) _ first.0 in
-    let third = both (bits d 0 2 == 1 || bits d 0 2 == 2) (nat_le p.integers 10) second.0 in
-    let test : nat_le p.integers 10 ≡ true = third.1 in
+    let first = both ((bits d 0 2 == 1 || bits d 0 2 == 2) && nat_le p.integers 10) _ e in
+    let second = both (bits d 0 2 == 1 || bits d 0 2 == 2) (nat_le p.integers 10) first.0 in
+    let test : nat_le p.integers 10 ≡ true = second.1 in
     grind (arith, nat_tests)
 
 few_counted : (f : ℕ) → f < 8 → float_count f ≤ 8
@@ -173,7 +176,7 @@ few_counted f small = grind (arith, nat_tests)
 few_floats : (d : ℕ) → (packed_frame d).floats ≤ 8
 few_floats d = few_counted (bits d 13 3) (omega arith)
 
-pub codes_short : (d : ℕ) → is_canonical d ≡ true → Short 20 (canonical_codes (packed_frame d))
+pub codes_short : (d : ℕ) → is_canonical d ≡ true → Short 21 (canonical_codes (packed_frame d))
 codes_short d e = canonical_short (packed_frame d) (omega (arith, few_integers d e)) (omega (arith, few_floats d))
 
 prolog-length : (cs : List Arm64UnwindCode) → All (λ c. is_end_c c ≡ false) cs → prolog_length cs ≡ length cs
@@ -184,7 +187,7 @@ prolog-length (c ∷ cs) all =
     let more : prolog_length cs + 1 ≡ length (c ∷ cs) = omega (arith, rest) in
     rw first more
 
-packed_alone_if : (b : Bool) (cs : List Arm64UnwindCode) → Short 20 cs → All (λ c. is_save_next c ≡ false) (if b then EndC ∷ cs else cs)
+packed_alone_if : (b : Bool) (cs : List Arm64UnwindCode) → Short 21 cs → All (λ c. is_save_next c ≡ false) (if b then EndC ∷ cs else cs)
 packed_alone_if true cs h = All-cons (λ c. is_save_next c ≡ false) EndC cs refl h.alone
 packed_alone_if false cs h = h.alone
 
@@ -192,7 +195,7 @@ packed_alone_if false cs h = h.alone
 pub packed_alone : (d : ℕ) → is_canonical d ≡ true → All (λ c. is_save_next c ≡ false) (packed_codes d)
 packed_alone d e = packed_alone_if (bits d 0 2 == 2) (canonical_codes (packed_frame d)) (codes_short d e)
 
-packed_few_if : (b : Bool) (cs : List Arm64UnwindCode) → Short 20 cs → length (if b then EndC ∷ cs else cs) ≤ 24
+packed_few_if : (b : Bool) (cs : List Arm64UnwindCode) → Short 21 cs → length (if b then EndC ∷ cs else cs) ≤ 24
 packed_few_if true cs h = omega (arith, h.few)
 packed_few_if false cs h = omega (arith, h.few)
 
@@ -203,7 +206,7 @@ packed_whole d xs e few adds =
     sym (ap (take 24) (append-nil xs) ∙ take_all 24 xs few)
     ∙ (adds [] ∙ (ap (take 24) (append-nil (packed_codes d)) ∙ take_all 24 (packed_codes d) most))
 
-length_if : (b : Bool) (cs : List Arm64UnwindCode) → Short 20 cs → prolog_length (if b then EndC ∷ cs else cs) ≡ (if b then 0 else length (if b then EndC ∷ cs else cs))
+length_if : (b : Bool) (cs : List Arm64UnwindCode) → Short 21 cs → prolog_length (if b then EndC ∷ cs else cs) ≡ (if b then 0 else length (if b then EndC ∷ cs else cs))
 length_if true cs h = refl
 length_if false cs h = prolog-length cs h.inside
 
@@ -212,7 +215,7 @@ prolog_is : (d : ℕ) → is_canonical d ≡ true → prolog_length (packed_code
 prolog_is d e = length_if (bits d 0 2 == 2) (canonical_codes (packed_frame d)) (codes_short d e)
 
 -- the same of the codes of the epilog
-pub epilog_alone : (d : ℕ) → is_canonical d ≡ true → Short 16 (epilog_codes (packed_frame d))
+pub epilog_alone : (d : ℕ) → is_canonical d ≡ true → Short 17 (epilog_codes (packed_frame d))
 epilog_alone d e = epilog_short (packed_frame d) (omega (arith, few_integers d e)) (omega (arith, few_floats d))
 
 pub epilog_whole : (d : ℕ) (xs : List Arm64UnwindCode) → is_canonical d ≡ true → length xs ≤ 24 → Adds [] xs (epilog_codes (packed_frame d)) → xs ≡ epilog_codes (packed_frame d)

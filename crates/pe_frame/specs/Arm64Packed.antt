@@ -1,6 +1,6 @@
 -- Packed unwind data of ARM64: the canonical prolog that an entry stands for, as the unwind codes of its instructions.
 -- (ARM64 exception handling: packed unwind data, whose names stand in parentheses.)
-use Rattle.std.specs.Prelude.{ℕ, zero, suc, ◌+◌, ◌-◌, ◌*◌, ◌/◌, ◌%◌, ◌==◌, ◌&&◌, ◌||◌, nat_le, nat_lt, Bool, not, if◌then◌else◌, List, [], ◌∷◌, ◌++◌, Option, None, Result, Err}
+use Rattle.std.specs.Prelude.{ℕ, zero, suc, ◌+◌, ◌-◌, ◌*◌, ◌/◌, ◌%◌, ◌==◌, ◌&&◌, ◌||◌, nat_le, nat_lt, Bool, if◌then◌else◌, List, [], ◌∷◌, ◌++◌, Option, None, Result, Err}
 use Rattle.pe_unwind.specs.declared.arm64.codes.Arm64UnwindCode.{Arm64UnwindCode}
 use Rattle.pe_unwind.specs.declared.arm64.codes.Arm64UnwindCode.TheVariants.{AllocSmall, SaveFpLr, SaveFpLrPreindexed, AllocMedium, SaveRegPair, SaveRegPairPreindexed, SaveReg, SaveRegPreindexed, SaveLrPair, SaveFRegPair, SaveFRegPairPreindexed, SaveFReg, SetFp, Nop, EndC, PacSignLr}
 use Rattle.pe_unwind.specs.Arm64Words.{bits}
@@ -66,6 +66,11 @@ last_integers p i =
     if p.integers % 2 == 1 then (if p.cr == 1 then SaveLrPair (19 + 2 * i) (16 * i) else single_register p (19 + 2 * i) i) ∷ []
     else (if p.cr == 1 then single_register p 30 i ∷ [] else [])
 
+-- x19 and the link register alone: no code stores these two and moves the stack pointer, so an instruction of its own does that
+-- first
+abbrev pub alone_codes : PackedFrame → List Arm64UnwindCode
+alone_codes p = if p.integers == 1 && p.cr == 1 then AllocSmall p.saved_size ∷ [] else []
+
 -- step 3: d8 and d9, and so many more pairs after that; and one more register
 abbrev pub float_pair : PackedFrame → ℕ → Arm64UnwindCode
 float_pair p i =
@@ -107,7 +112,7 @@ point_codes p = if is_chained p then SetFp ∷ [] else []
 abbrev pub saved_codes : PackedFrame → List Arm64UnwindCode
 saved_codes p =
     last_float p (p.floats / 2) ++ (float_pairs p (p.floats / 2)
-    ++ (last_integers p (p.integers / 2) ++ (integer_pairs p (p.integers / 2) ++ sign_codes p)))
+    ++ (last_integers p (p.integers / 2) ++ (integer_pairs p (p.integers / 2) ++ (alone_codes p ++ sign_codes p))))
 
 -- all of them
 abbrev pub canonical_codes : PackedFrame → List Arm64UnwindCode
@@ -130,12 +135,11 @@ packed_codes d =
 abbrev pub packed_length : ℕ → ℕ → ℕ
 packed_length d count = if bits d 0 2 == 2 then 0 else count
 
--- Unwind data that have a canonical prolog: x19 to x28, no pair of x19 and the link register, which no code saves first, and
--- a frame that holds what is saved, x29 and the link register too.
+-- Unwind data that have a canonical prolog: x19 to x28, and a frame that holds what is saved, x29 and the link register too.
 abbrev pub is_canonical : ℕ → Bool
 is_canonical d =
     let p = packed_frame d in
-    (bits d 0 2 == 1 || bits d 0 2 == 2) && nat_le p.integers 10 && not (p.integers == 1 && p.cr == 1)
+    (bits d 0 2 == 1 || bits d 0 2 == 2) && nat_le p.integers 10
     && nat_le (p.saved_size + (if is_chained p then 16 else 0)) (16 * bits d 23 9)
 
 -- the codes that are left to be undone after a prolog with these codes

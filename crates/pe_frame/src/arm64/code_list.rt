@@ -7,7 +7,7 @@ ghost use Rattle.pe_frame.specs.Arm64CodeLists.{Adds};
 use pe_unwind::Arm64UnwindCode;
 use std::marker::Model;
 
-/// The most codes that a list has. Each part of a canonical prolog at its longest, they are 21.
+/// The most codes that a list has. Each part of a canonical prolog at its longest, they are 22.
 const MOST_CODES: usize = 24;
 
 /// Unwind codes, the last instruction first.

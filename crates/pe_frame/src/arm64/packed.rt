@@ -8,7 +8,7 @@
 ghost use Rattle.std.specs.Prelude.{◌≡◌, ◌≤◌, ◌<◌, ◌+◌, ◌*◌, ◌/◌, ◌==◌, ◌||◌, nat_lt, not, [], ◌∷◌};
 ghost use Rattle.pe_unwind.specs.Arm64Words.{bits};
 ghost use Rattle.pe_frame.specs.Arm64CodeLists.{Adds};
-ghost use Rattle.pe_frame.specs.Arm64Packed.{float_count, packed_frame, is_chained, sign_codes, integer_pair, integer_pairs, single_register, last_integers, float_pair, float_pairs, last_float, home_codes, allocation, local_codes, frame_codes, point_codes, freed_codes, saved_codes, canonical_codes, epilog_codes, packed_codes, packed_length, is_canonical};
+ghost use Rattle.pe_frame.specs.Arm64Packed.{float_count, packed_frame, is_chained, sign_codes, integer_pair, integer_pairs, single_register, last_integers, alone_codes, float_pair, float_pairs, last_float, home_codes, allocation, local_codes, frame_codes, point_codes, freed_codes, saved_codes, canonical_codes, epilog_codes, packed_codes, packed_length, is_canonical};
 
 use super::code_list::CodeList;
 use super::registers::LINK_REGISTER;
@@ -181,6 +181,17 @@ impl PackedFrame {
         }
     }
 
+    /// Adds the code that moves the stack pointer where x19 and the link register alone are stored, which no code does.
+    fn push_alone(&self, codes: &mut CodeList)
+        ensures { Adds codes.old codes.new (alone_codes self.now) }
+    {
+        if self.integers == 1 && self.cr == ARM64_PDATA_CR_UNCHAINED_SAVED_LR {
+            codes.push(Arm64UnwindCode::AllocSmall {
+                size_bytes: self.saved_size,
+            });
+        }
+    }
+
     /// The code of a pair of floating-point registers, by how many pairs are below it.
     fn float_pair(&self, index: u32) -> Arm64UnwindCode
         requires few { index ≤ 4 }
@@ -315,6 +326,7 @@ impl PackedFrame {
         self.push_float_pairs(codes);
         self.push_last_integers(codes);
         self.push_integer_pairs(codes);
+        self.push_alone(codes);
         self.push_signature(codes);
     }
 
@@ -368,10 +380,8 @@ pub(crate) fn is_canonical(function: &Arm64RuntimeFunction) -> bool
     };
     let is_packed = flag == ARM64_PDATA_PACKED_UNWIND_FUNCTION
         || flag == ARM64_PDATA_PACKED_UNWIND_FRAGMENT;
-    let is_unsaved = packed.integers == 1 && packed.cr == ARM64_PDATA_CR_UNCHAINED_SAVED_LR;
     is_packed
         && packed.integers <= MOST_INTEGERS
-        && !is_unsaved
         && packed.saved_size + chain <= function.frame_size()
 }
 

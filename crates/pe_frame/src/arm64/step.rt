@@ -204,8 +204,7 @@ fn packed_caller<M: Memory>(
 /// `rva` is the instruction pointer less the image base; how a walk looks functions up is said at `step_arm64`.
 ///
 /// Refused, in this order: `Packed` if the data have no canonical prolog, that is, a `flag` of 0 or 3, more than ten integer
-/// registers, x19 alone with the link register, which no code saves first, or a frame smaller than what is saved in it; `Address`
-/// and `Memory` where they come up; last `NotRising` if the caller's stack pointer is below this one.
+/// registers, or a frame smaller than what is saved in it; `Address` and `Memory` where they come up; last `NotRising` if the caller's stack pointer is below this one.
 pub fn step_arm64_packed<M: Memory>(
     function: &Arm64RuntimeFunction,
     rva: u32,
