@@ -7,7 +7,7 @@ ghost use Rattle.pe_directories.specs.DirectoryRefusals.{directory_answer};
 ghost use Rattle.pe_c.specs.Directories.{DirectoryHandsOut, block_reported, first_in, left_after, relocation_reported, step_of, table_at};
 
 use crate::directories::{Result, range_left, table_at};
-use crate::image::{Image, BASE_RELOCATION_TABLE};
+use crate::image::{BASE_RELOCATION_TABLE, Image};
 use crate::ranges::{NO_BYTES, Range, slice_of};
 use crate::results::hand_out_found;
 use pe_core::SectionTable;

@@ -1,5 +1,6 @@
-//! The results of calls as numbers: 0, the number of an error of pe_core, one from 100 on, which this crate alone has, or that
-//! of an error of signing, from 201 on, or of a directory, from 301 on. Callers may store them: the numbers stay the same from version to version.
+//! The results of calls as numbers: 0, the number of an error of pe_core, one from 100 on, which this crate alone has, that of
+//! an error of signing, from 201 on, or that of a directory, from 301 on. Callers may store them: the numbers stay the same from
+//! version to version.
 
 ghost use Rattle.std.specs.Prelude.{◌≡◌};
 ghost use Rattle.pe_core.specs.Refusals.{kind_of, kind_of_reason, answer_of};

@@ -1,6 +1,5 @@
 -- The first word with a value.
-use Rattle.std.proofs.Common.{◌≡◌, ℕ, ◌+◌, ◌*◌, ◌<◌, ◌≤◌, ◌==◌, false, true, List, length, get_or, Some, None, refl, ap, sym, ◌∙◌, subst, arith}
-use Rattle.std.specs.Prelude.{Bool, nat_lt, cond}
+use Rattle.std.proofs.Common.{◌≡◌, ℕ, ◌+◌, ◌*◌, ◌<◌, ◌≤◌, ◌==◌, false, true, List, Some, None, ap, ◌∙◌, arith}
 use Rattle.std.specs.List.{position_or_len}
 use Rattle.std.proofs.lemmas.Bool.Decides.{nat_tests}
 use Rattle.std.proofs.lemmas.List.Sums.{position_or_len_is}
@@ -13,13 +12,12 @@ use Rattle.pe_directories.specs.RichHeader.{first_word}
 abbrev pub NoWord : List ℕ → ℕ → ℕ → Type 0
 NoWord b n value = (k : ℕ) → k < n → (le b (4 * k) 4 == value) ≡ false
 
-
 at_or_after : (b : List ℕ) (n value i : ℕ) → i ≤ n → NoWord b i value → (i < n → (le b (4 * i) 4 == value) ≡ true) → position_or_len (λ w. w == value) (each (λ k. le b (4 * k) 4) n) ≡ i
 at_or_after b n value i few none found =
     let count = length-each (λ k. le b (4 * k) 4) n in
     position_or_len_is (λ w. w == value) (each (λ k. le b (4 * k) 4) n) i 0 (omega (arith, count, few))
-        (λ k below. ap (λ w. w == value) (get_or-each (λ k. le b (4 * k) 4) n k 0 (omega (arith, below, few))) ∙ none k below)
-        (λ below. let inside : i < n = omega (arith, below, count) in ap (λ w. w == value) (get_or-each (λ k. le b (4 * k) 4) n i 0 inside) ∙ found inside)
+    (λ k below. ap (λ w. w == value) (get_or-each (λ k. le b (4 * k) 4) n k 0 (omega (arith, below, few))) ∙ none k below)
+    (λ below. let inside : i < n = omega (arith, below, count) in ap (λ w. w == value) (get_or-each (λ k. le b (4 * k) 4) n i 0 inside) ∙ found inside)
 
 pub word_found : (b : List ℕ) (n value i : ℕ) → i < n → NoWord b i value → le b (4 * i) 4 ≡ value → Some i ≡ first_word b n value
 unfolding first_word

@@ -2,7 +2,7 @@
 use Rattle.std.specs.Prelude.{ℕ, ◌+◌, ◌*◌, ◌==◌, ◌&&◌, ◌||◌, List, [], ◌∷◌, length, drop, Bool, Option, Some, None, Result, Ok, Err, if◌then◌else◌}
 use Rattle.std.specs.Option.{option_map}
 use Rattle.pe_core.specs.Bytes.{le, range, holds, record_at}
-use Rattle.pe_core.specs.Refusals.{Short, outcome, ◌>>=◌}
+use Rattle.pe_core.specs.Refusals.{Short, outcome}
 use Rattle.pe_core.specs.Text.{text_at}
 use Rattle.pe_core.specs.declared.data_directories.DataDirectory.{DataDirectory}
 use Rattle.pe_directories.specs.DirectoryRefusals.{DirectoryRefusal, Image, BoundImportName, of_image}

@@ -1,5 +1,5 @@
 -- Parts of an image, by their RVAs and virtual addresses.
-use Rattle.std.specs.Prelude.{◌≡◌, ◌==◌, ℕ, ◌-◌, List, drop, Bool, Result, Ok, Err, nat_le, if◌then◌else◌}
+use Rattle.std.specs.Prelude.{◌==◌, ℕ, ◌-◌, List, drop, Bool, Result, Ok, Err, nat_le, if◌then◌else◌}
 use Rattle.pe_core.specs.Bytes.{range, record_at}
 use Rattle.pe_core.specs.Header.{OptionalHeaderView}
 use Rattle.pe_core.specs.Refusals.{◌>>=◌}

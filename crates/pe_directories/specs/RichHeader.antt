@@ -1,6 +1,6 @@
 -- The Rich header, which Microsoft's linker writes between the DOS stub and the PE header, and Microsoft does not document: the
 -- word DanS, three words of zeros, entries of 8 bytes, all XORed with a key, then the word Rich and the key.
-use Rattle.std.specs.Prelude.{ℕ, ◌+◌, ◌-◌, ◌*◌, ◌/◌, ◌%◌, ◌==◌, ◌&&◌, ◌||◌, bit_xor, List, length, take, Option, Some, None, nat_le, nat_lt, slice_index, if◌then◌else◌}
+use Rattle.std.specs.Prelude.{ℕ, ◌+◌, ◌-◌, ◌*◌, ◌/◌, ◌%◌, ◌==◌, ◌&&◌, bit_xor, List, length, take, Option, Some, None, nat_le, nat_lt, slice_index, if◌then◌else◌}
 use Rattle.std.specs.Int.{rotate_left, w32}
 use Rattle.std.specs.List.{fold, position}
 use Rattle.std.specs.Option.{option_and_then}
