@@ -10,7 +10,9 @@ pub mod functions;
 pub mod headers;
 pub mod imports;
 pub mod regions;
+pub mod relocations;
 pub mod sections;
+pub mod tls;
 pub mod version;
 
 use clap::ValueEnum;
@@ -35,6 +37,10 @@ pub enum Topic {
     Functions,
     /// Version information, and the length of the manifest
     Version,
+    /// Thread-local storage, with the callbacks that run before the entry point
+    Tls,
+    /// Base relocations, counted by page
+    Relocations,
     All,
 }
 
@@ -219,6 +225,10 @@ pub struct Facts {
     pub functions: Option<Part<functions::Functions>>,
     #[serde(skip_serializing_if = "Option::is_none")]
     pub version: Option<version::Version>,
+    #[serde(skip_serializing_if = "Option::is_none")]
+    pub tls: Option<Part<tls::Tls>>,
+    #[serde(skip_serializing_if = "Option::is_none")]
+    pub relocations: Option<Part<List<relocations::Page>>>,
 }
 
 impl Facts {
@@ -236,6 +246,8 @@ impl Facts {
             certificates: None,
             functions: None,
             version: None,
+            tls: None,
+            relocations: None,
         }
     }
 
@@ -257,6 +269,8 @@ impl Facts {
             certificates: is_wanted(Topic::Certificates).then(|| certificates::of(image)),
             functions: is_wanted(Topic::Functions).then(|| functions::of(image)),
             version: is_wanted(Topic::Version).then(|| version::of(image)),
+            tls: is_wanted(Topic::Tls).then(|| tls::of(image)),
+            relocations: is_wanted(Topic::Relocations).then(|| relocations::of(image)),
             ..Facts::empty(path, image.bytes().len())
         }
     }
@@ -275,6 +289,18 @@ impl Facts {
         found.extend(self.certificates.iter().filter_map(|it| it.error.as_ref()).map(|it| ("certificates", it)));
         found.extend(self.functions.iter().filter_map(Part::refusal).map(|it| ("functions", it)));
         found.extend(self.version.iter().flat_map(|it| it.refusals()));
+        if let Some(part) = &self.tls {
+            found.extend(part.refusal().map(|it| ("TLS", it)));
+            let callbacks = part.present().map(|it| &it.callbacks);
+            let list = callbacks.and_then(|it| it.refusal().or(it.present().and_then(|it| it.error.as_ref())));
+            found.extend(list.map(|it| ("TLS callbacks", it)));
+        }
+        if let Some(part) = &self.relocations {
+            let pages = part.present();
+            found.extend(part.refusal().or(pages.and_then(|it| it.error.as_ref())).map(|it| ("relocations", it)));
+            let pages = pages.into_iter().flat_map(|it| &it.entries);
+            found.extend(pages.filter_map(|it| it.error.as_ref()).map(|it| ("relocations", it)));
+        }
         found
     }
 

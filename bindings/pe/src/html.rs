@@ -150,6 +150,12 @@ fn parts(facts: &Facts, regions: &[Region], image: &Image<'_>, html: &mut Html) 
         list("versions", "Version", tables::versions(version), html);
         table("strings", "Version strings", &tables::version_strings(version), html);
     }
+    if let Some(tls) = facts.tls.as_ref().and_then(Part::present) {
+        list("tls", "Thread-local storage", tables::tls(tls), html);
+    }
+    if let Some(pages) = facts.relocations.as_ref().and_then(Part::present) {
+        table("relocations", "Base relocations", &tables::relocations(pages), html);
+    }
     if let Some(functions) = facts.functions.as_ref().and_then(Part::present) {
         table("functions", "Functions", &tables::functions(functions), html);
     }

@@ -124,6 +124,10 @@ pub const DEBUG_TYPES: &Names = &[
 pub const CERTIFICATE_TYPES: &Names =
     &[(1, "X.509"), (2, "PKCS #7 signed data"), (3, "reserved"), (4, "terminal server stack signed")];
 
+/// `IMAGE_REL_BASED_`, without those whose meaning depends on the machine.
+pub const RELOCATION_TYPES: &Names =
+    &[(0, "ABSOLUTE"), (1, "HIGH"), (2, "LOW"), (3, "HIGHLOW"), (4, "HIGHADJ"), (10, "DIR64")];
+
 /// `IMAGE_SCN_MEM_`, as letters: read, write, execute.
 const PERMISSIONS: [(u32, char); 3] = [(0x4000_0000, 'r'), (0x8000_0000, 'w'), (0x2000_0000, 'x')];
 

@@ -8,8 +8,9 @@ use crate::facts::functions::Functions;
 use crate::facts::headers::Headers;
 use crate::facts::imports::Library;
 use crate::facts::sections::Section;
+use crate::facts::tls::Tls;
 use crate::facts::version::Version;
-use crate::facts::{Facts, List, Part};
+use crate::facts::{relocations, Facts, List, Part};
 use crate::page::{Page, Style};
 use crate::tables::{self, Row};
 use chrono::{TimeZone, Utc};
@@ -44,6 +45,8 @@ pub fn text(facts: &Facts, style: Style) -> String {
     if let Some(version) = &facts.version {
         version_of(version, &mut page);
     }
+    part(facts.tls.as_ref(), tls_of, &mut page);
+    part(facts.relocations.as_ref(), relocations_of, &mut page);
     for (part, refusal) in facts.refusals() {
         page.warning(format_args!("{part}: {refusal}"));
     }
@@ -122,6 +125,16 @@ fn version_of(version: &Version, page: &mut Page) {
     for row in tables::version_strings(version).rows {
         page.line(format_args!("  {:18}{}", row[0], row[1]));
     }
+}
+
+fn tls_of(tls: &Tls, page: &mut Page) {
+    page.heading("Thread-local storage");
+    rows(tables::tls(tls), page);
+}
+
+fn relocations_of(pages: &List<relocations::Page>, page: &mut Page) {
+    page.heading("Base relocations");
+    page.table(&tables::relocations(pages));
 }
 
 /// Where a symbol server has the PDB of an image, and the image: a line each. What is refused goes to standard error.

@@ -86,6 +86,14 @@ fn tables_of(facts: &Facts, page: &mut Page) {
     if let Some(functions) = facts.functions.as_ref().and_then(Part::present) {
         page.row("functions", format_args!("{} with unwind data", functions.entries.len()));
     }
+    if let Some(tls) = facts.tls.as_ref().and_then(Part::present) {
+        let callbacks = tls.callbacks.present().map_or(0, |it| it.entries.len());
+        page.row("TLS", format_args!("{} bytes, {callbacks} callbacks", tls.end_va.saturating_sub(tls.start_va)));
+    }
+    if let Some(pages) = facts.relocations.as_ref().and_then(Part::present) {
+        let count: usize = pages.entries.iter().map(|it| it.count()).sum();
+        page.row("relocations", format_args!("{count} in {} pages", pages.entries.len()));
+    }
     for certificate in facts.certificates.iter().flat_map(|it| &it.entries) {
         page.row("certificate", format_args!("{}, {} bytes, not verified", certificate.r#type, certificate.size));
     }

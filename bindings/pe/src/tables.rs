@@ -6,7 +6,9 @@ use crate::facts::exports::Exports;
 use crate::facts::functions::Functions;
 use crate::facts::headers::Headers;
 use crate::facts::imports::{Import, Library};
+use crate::facts::relocations::Page;
 use crate::facts::sections::Section;
+use crate::facts::tls::Tls;
 use crate::facts::version::Version;
 use crate::facts::{List, Name};
 use crate::summary::built;
@@ -166,6 +168,29 @@ pub fn functions(functions: &Functions) -> Table {
         vec![format!("{:#x}", it.start_rva), end, format!("{:#x}", it.unwind)]
     });
     Table::new(&[number("start"), number("end"), number("unwind data")], rows)
+}
+
+/// The TLS directory, and its callbacks.
+pub fn tls(tls: &Tls) -> Vec<Row> {
+    let callbacks = tls.callbacks.present().map_or(&[][..], |it| &it.entries);
+    let mut rows = vec![
+        ("data", format!("{:#x} to {:#x}, and {} zeros", tls.start_va, tls.end_va, tls.zero_fill)),
+        ("index", format!("{:#x}", tls.index_va)),
+    ];
+    rows.extend(callbacks.iter().map(|va| ("callback", format!("{va:#x}"))));
+    rows
+}
+
+/// The types of the relocations of a page, with how many there are of each.
+pub fn relocation_types(page: &Page) -> String {
+    let types = page.types.iter().map(|it| format!("{} {}", it.count, it.r#type));
+    types.collect::<Vec<_>>().join(", ")
+}
+
+pub fn relocations(pages: &List<Page>) -> Table {
+    let rows = pages.entries.iter();
+    let rows = rows.map(|it| vec![format!("{:#x}", it.page_rva), it.count().to_string(), relocation_types(it)]);
+    Table::new(&[number("page"), number("relocations"), text("types")], rows)
 }
 
 /// The two versions of the fixed file information.

@@ -1,4 +1,4 @@
-//! What the program says of eleven small images and of a file that is none, byte for byte: a session for each, in
+//! What the program says of thirteen small images and of a file that is none, byte for byte: a session for each, in
 //! `golden/NAME.txt`. `UPDATE_GOLDEN=1 cargo test --test golden` writes the sessions anew; what has changed in them has to
 //! be read then, as `golden/README.md` says.
 
@@ -24,6 +24,8 @@ const ASKED: &[(&str, &str, &[&str])] = &[
     ("imports", "imports", &["1000"]),
     ("refused_import", "imports", &["1000"]),
     ("resources", "version", &["1000"]),
+    ("tls", "tls", &["1000"]),
+    ("relocations", "relocations", &["1000"]),
     ("x86_dll", "sections", &["1004"]),
     ("short", "headers", &["1000"]),
 ];
@@ -132,6 +134,26 @@ const MADE: &[(&str, &[&str])] = &[
             "  version       3.11.3150.1013, of the product 1.2.3.4\n  manifest      11 bytes\n",
             "\"CompanyName\":\"Größe & Söhne \u{1F600}\",\"ProductName\":\"made\"",
             "\"manifest\":{\"size\":11}",
+        ],
+    ),
+    (
+        "tls",
+        &[
+            "  TLS           8 bytes, 2 callbacks\n",
+            "\nThread-local storage\n  data          0x180001040 to 0x180001048, and 12 zeros\n",
+            "  index         0x180001050\n  callback      0x180002000\n  callback      0x180002010\n",
+            "\"tls\":{\"start_va\":6442455104,\"end_va\":6442455112,\"index_va\":6442455120,\"zero_fill\":12,",
+            "\"characteristics\":3145728,\"callbacks\":{\"entries\":[6442459136,6442459152]}}",
+        ],
+    ),
+    (
+        "relocations",
+        &[
+            "  relocations   3 in 2 pages\n",
+            "\"page_rva\":4096,\"types\":[{\"type\":{\"number\":3,\"name\":\"HIGHLOW\"},\"count\":1},",
+            "{\"type\":{\"number\":10,\"name\":\"DIR64\"},\"count\":1}]}",
+            "\"page_rva\":20480,\"types\":[{\"type\":{\"number\":0,\"name\":\"ABSOLUTE\"},\"count\":2},",
+            "{\"type\":{\"number\":4,\"name\":\"HIGHADJ\"},\"count\":1}]}",
         ],
     ),
     (
