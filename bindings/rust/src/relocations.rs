@@ -66,9 +66,8 @@ impl Iterator for Relocations<'_> {
         let mut walk = self.walk.take()?;
         let (bytes, mut out) = (self.bytes, sys::Relocation::default());
         // SAFETY: the pointer and the length are those of one slice; the records are lent for the call.
-        let number = unsafe {
-            sys::pe_c_next_relocation(bytes.as_ptr(), bytes.len(), self.page_rva, &mut walk, &mut out)
-        };
+        let number =
+            unsafe { sys::pe_c_next_relocation(bytes.as_ptr(), bytes.len(), self.page_rva, &mut walk, &mut out) };
         let item = returned(number, out).transpose()?;
         self.walk = item.is_ok().then_some(walk);
         Some(item.map(|found| Relocation {

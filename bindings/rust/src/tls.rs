@@ -40,9 +40,8 @@ impl Iterator for TlsCallbacks<'_, '_> {
         let mut walk = self.walk.take()?;
         let (bytes, mut out) = (self.image.bytes(), 0);
         // SAFETY: the pointer and the length are those of one slice; the records are lent for the call.
-        let number = unsafe {
-            sys::pe_c_next_tls_callback(bytes.as_ptr(), bytes.len(), self.image.info(), &mut walk, &mut out)
-        };
+        let number =
+            unsafe { sys::pe_c_next_tls_callback(bytes.as_ptr(), bytes.len(), self.image.info(), &mut walk, &mut out) };
         let item = returned(number, out).transpose()?;
         self.walk = item.is_ok().then_some(walk);
         Some(item)
