@@ -143,6 +143,21 @@ class Image:
         raise Unread("Unmapped")
 
 
+def as_loaded(path):
+    """The image in memory, by its file: headers and sections at their RVAs, and zeros between them. None where sections
+    are not in order, or where debug records are no part of it."""
+    image = Image(path)
+    data = image.bytes[:min([raw for *_, raw in image.sections if raw], default=len(image.bytes))]
+    for virtual_size, virtual, raw_size, raw in image.sections:
+        if virtual < len(data):
+            return None
+        size = min(raw_size, (virtual_size or raw_size) + 0xFFF & ~0xFFF)
+        data = data.ljust(virtual, b"\0") + image.bytes[raw // 512 * 512:][:size]
+    start, size = image.directory(6)
+    entries = [struct.unpack_from("<4I", data, at + 12) for at in range(start, start + size - 27, 28)]
+    return None if any(length and not rva for _, length, rva, _ in entries) else data
+
+
 # What the program tools/show prints.
 
 
