@@ -233,6 +233,12 @@ def number(members, name):
     return None if text is None else int(re.search(r"(0x[0-9A-Fa-f]+)\)?$", text)[1], 16)
 
 
+def value(members, name):
+    """The number of a field, in hexadecimal or decimal, which may stand in parentheses after words; None without it."""
+    text = field(members, name)
+    return None if text is None else int(re.search(r"(0x[0-9A-Fa-f]+|\d+)\)?$", text)[1], 0)
+
+
 # Rows.
 
 # A command that compares what tools/show shows of a file: the word for it, and a function from the program's words,
