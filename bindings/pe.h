@@ -1114,6 +1114,53 @@ uint32_t pe_c_tls_callbacks(const uint8_t *bytes, size_t length, const pe_c_imag
 uint32_t pe_c_next_tls_callback(const uint8_t *bytes, size_t length, const pe_c_image_info *image, pe_c_range *walk,
                                 uint64_t *out) PE_C_RESULT(3, 4, 5);
 
+/* ---- load configuration
+ *
+ * What guards an image against attacks: the security cookie, the safe exception handlers of x86, the functions that may be
+ * called indirectly. Versions of Windows have added fields at its end, so its first field says how many bytes it has.
+ * https://learn.microsoft.com/windows/win32/debug/pe-format#the-load-configuration-structure-image-only */
+
+/* IMAGE_LOAD_CONFIG_DIRECTORY32 or IMAGE_LOAD_CONFIG_DIRECTORY64, up to the guard flags. A field that the structure is too
+ * short for is 0, and so is the field of its name with has_, which else is 1. The addresses are virtual addresses, mostly 0
+ * where there is nothing: less image->base one is an RVA, for pe_c_offset. */
+typedef struct {
+    uint64_t security_cookie;       /* where the security cookie is */
+    uint64_t se_handler_table;      /* x86: where the table of exception handlers is, their RVAs, sorted, 4 bytes each */
+    uint64_t se_handler_count;      /* how many entries it has */
+    uint64_t guard_cf_check_function_pointer;       /* where the pointer is to what checks the target of an indirect call */
+    uint64_t guard_cf_dispatch_function_pointer;    /* where the pointer is to what checks the target and calls it */
+    uint64_t guard_cf_function_table;   /* where the table is of the functions that may be called indirectly, sorted: an
+                                           RVA each, 4 bytes, then guard_flags >> 28 bytes more */
+    uint64_t guard_cf_function_count;   /* how many entries it has */
+    uint32_t size;                  /* bytes of the structure, as it says itself */
+    uint32_t time_date_stamp;       /* seconds since 1970 */
+    uint32_t guard_flags;           /* IMAGE_GUARD_ flags */
+    uint16_t major_version;
+    uint16_t minor_version;
+    uint16_t dependent_load_flags;  /* where DLLs that the image imports are looked for, flags of LoadLibraryEx */
+    uint16_t spare;                 /* 0 */
+    uint8_t has_time_date_stamp;    /* 1 or 0, and so all that follow */
+    uint8_t has_major_version;
+    uint8_t has_minor_version;
+    uint8_t has_dependent_load_flags;
+    uint8_t has_security_cookie;
+    uint8_t has_se_handler_table;
+    uint8_t has_se_handler_count;
+    uint8_t has_guard_cf_check_function_pointer;
+    uint8_t has_guard_cf_dispatch_function_pointer;
+    uint8_t has_guard_cf_function_table;
+    uint8_t has_guard_cf_function_count;
+    uint8_t has_guard_flags;
+} pe_c_load_config_directory;
+
+PE_C_SIZE(pe_c_load_config_directory, 88);
+
+/* Returns the load configuration. PE_C_NOTHING where the directory is absent. The size in the data directory is not used.
+ * Errors: PE_C_UNMAPPED; PE_C_SHORT of its size, then of as many bytes. */
+uint32_t pe_c_load_config(const uint8_t *bytes, size_t length, const pe_c_image_info *image,
+                          const pe_c_section *sections, size_t count, pe_c_load_config_directory *out)
+    PE_C_RESULT(3, 6);
+
 /* ---- base relocations
  *
  * What to change in an image that is not at its preferred base, in blocks of one page each.

@@ -17,6 +17,7 @@
 //! | | one step of it [`Arm64Functions::step`], [`Arm64Registers::leaf`] | [ARM64] |
 //! | exports, imports | [`exports`](Image::exports), [`export_addresses`](Image::export_addresses), [`libraries`](Image::libraries) | [.edata], [.idata] |
 //! | thread-local storage | [`tls`](Image::tls), [`tls_callbacks`](Image::tls_callbacks) | [.tls] |
+//! | load configuration | [`load_config`](Image::load_config) | [load config] |
 //! | base relocations | [`relocation_blocks`](Image::relocation_blocks) | [.reloc] |
 //! | resources | [`version`](Image::version), [`version_text`](Image::version_text), [`manifest`](Image::manifest) | [version information] |
 //!
@@ -29,6 +30,7 @@
 //! [.edata]: https://learn.microsoft.com/windows/win32/debug/pe-format#the-edata-section-image-only
 //! [.idata]: https://learn.microsoft.com/windows/win32/debug/pe-format#the-idata-section
 //! [.tls]: https://learn.microsoft.com/windows/win32/debug/pe-format#the-tls-section
+//! [load config]: https://learn.microsoft.com/windows/win32/debug/pe-format#the-load-configuration-structure-image-only
 //! [.reloc]: https://learn.microsoft.com/windows/win32/debug/pe-format#the-reloc-section-image-only
 //! [version information]: https://learn.microsoft.com/windows/win32/menurc/vs-versioninfo
 //!
@@ -74,6 +76,7 @@ mod exports;
 mod frames;
 mod image;
 mod imports;
+mod load_config;
 mod relocations;
 mod signing;
 mod symbol_server;
@@ -93,6 +96,7 @@ pub use exports::{AddressTable, Export, Exported, Exports};
 pub use frames::{End, Frame, Frames, Module, Stack, StepError, Way};
 pub use image::{DirectoryIndex, Error, Image, Layout, Mode};
 pub use imports::{Import, Imports, Libraries, Library};
+pub use load_config::LoadConfig;
 pub use relocations::{Relocation, RelocationBlock, RelocationBlocks, Relocations};
 pub use signing::{Checksum, DigestRanges, Placement};
 pub use symbol_server::{Guid, SymbolPath};

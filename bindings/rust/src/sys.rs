@@ -637,6 +637,63 @@ TlsDirectory, 40 {
     characteristics: u32,
 });
 record!(
+/// The load configuration, up to the guard flags. A field that its structure is too short for is 0, and so is the field of its
+/// name with `has_`, which else is 1. Addresses are virtual addresses. See [`LoadConfig`](crate::LoadConfig).
+LoadConfig, 88 {
+    /// Where the security cookie is.
+    security_cookie: u64,
+    /// Where the sorted table of the RVAs of exception handlers is, on x86.
+    se_handler_table: u64,
+    /// How many entries it has.
+    se_handler_count: u64,
+    /// Where the pointer is to what checks the target of an indirect call.
+    guard_cf_check_function_pointer: u64,
+    /// Where the pointer is to what checks the target and calls it.
+    guard_cf_dispatch_function_pointer: u64,
+    /// Where the sorted table of the functions is that may be called indirectly.
+    guard_cf_function_table: u64,
+    /// How many entries it has.
+    guard_cf_function_count: u64,
+    /// Of the structure in bytes, as it says itself.
+    size: u32,
+    /// Seconds since 1970.
+    time_date_stamp: u32,
+    /// `IMAGE_GUARD_*`.
+    guard_flags: u32,
+    /// Major part of a version.
+    major_version: u16,
+    /// Minor part of a version.
+    minor_version: u16,
+    /// Where DLLs that the image imports are looked for: flags of `LoadLibraryEx`.
+    dependent_load_flags: u16,
+    /// 0.
+    spare: u16,
+    /// 1 or 0.
+    has_time_date_stamp: u8,
+    /// 1 or 0.
+    has_major_version: u8,
+    /// 1 or 0.
+    has_minor_version: u8,
+    /// 1 or 0.
+    has_dependent_load_flags: u8,
+    /// 1 or 0.
+    has_security_cookie: u8,
+    /// 1 or 0.
+    has_se_handler_table: u8,
+    /// 1 or 0.
+    has_se_handler_count: u8,
+    /// 1 or 0.
+    has_guard_cf_check_function_pointer: u8,
+    /// 1 or 0.
+    has_guard_cf_dispatch_function_pointer: u8,
+    /// 1 or 0.
+    has_guard_cf_function_table: u8,
+    /// 1 or 0.
+    has_guard_cf_function_count: u8,
+    /// 1 or 0.
+    has_guard_flags: u8,
+});
+record!(
 /// A block of base relocations. See [`RelocationBlock`](crate::RelocationBlock).
 RelocationBlock, 24 {
     /// 2 bytes each; a walk through the relocations of the block.
@@ -841,6 +898,8 @@ calls_of_an_image! {
     pe_c_tls() -> TlsDirectory;
     /// Returns the callbacks of a TLS directory, as a walk.
     pe_c_tls_callbacks(tls: *const TlsDirectory) -> Range;
+    /// Returns the load configuration.
+    pe_c_load_config() -> LoadConfig;
     /// Returns the blocks of the base relocations, as a walk.
     pe_c_relocation_blocks() -> Range;
 }

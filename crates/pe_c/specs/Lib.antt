@@ -8,6 +8,7 @@ pub mod ExportAddresses
 pub mod Exports
 pub mod Images
 pub mod Imports
+pub mod LoadConfigs
 pub mod Modes
 pub mod Parts
 pub mod Plans

@@ -22,6 +22,7 @@ mod exports;
 mod image;
 mod imports;
 pub mod laws;
+mod load_config;
 mod plan;
 mod ranges;
 mod results;
