@@ -2,8 +2,10 @@ pub mod HandsOut
 pub mod Arm64
 pub mod Arm64Frames
 pub mod Certificates
+pub mod Clr
 pub mod Debug
 pub mod DebugWalks
+pub mod DelayImports
 pub mod ExportAddresses
 pub mod Exports
 pub mod Images

@@ -14,8 +14,10 @@
 mod arm64;
 mod base_relocations;
 mod certificates;
+mod clr;
 mod debug;
 mod debug_walks;
+mod delay_imports;
 mod directories;
 mod export_addresses;
 mod exports;
