@@ -1019,6 +1019,70 @@ uint32_t pe_c_next_import(const uint8_t *bytes, size_t length, const pe_c_image_
                           const pe_c_section *sections, size_t count, pe_c_imports *walk,
                           pe_c_import *out) PE_C_RESULT(3, 6, 7);
 
+/* ---- delay imports
+ *
+ * DLLs that are loaded when one of their functions is called first. The directory has an entry of 32 bytes for each DLL, which
+ * leads to the DLL's name and to a table of what is imported of it, by name or by ordinal.
+ * https://learn.microsoft.com/windows/win32/debug/pe-format#delay-load-import-tables-image-only
+ *
+ * There are two walks: one over the DLLs, and for each one over its functions, which starts as import.functions. */
+
+/* IMAGE_DELAYLOAD_DESCRIPTOR. Addresses are RVAs where bit 0 of the attributes is set, else virtual addresses, as linkers
+ * before Visual C++ 7 wrote them. */
+typedef struct {
+    uint32_t attributes;            /* flags, of which bit 0 is defined */
+    uint32_t name;                  /* where the DLL's name is */
+    uint32_t module_handle;         /* where the DLL's handle is written when it is loaded */
+    uint32_t import_address_table;  /* where the functions' addresses are written */
+    uint32_t import_name_table;     /* where the table of what is imported is */
+    uint32_t bound_import_address_table;    /* where the addresses are if the DLL has the time stamp; 0 for none */
+    uint32_t unload_information_table;  /* where a copy of the address table is, to unload the DLL; 0 for none */
+    uint32_t time_date_stamp;       /* of the DLL to which the image is bound; 0 where it is not bound */
+} pe_c_delay_descriptor;
+
+/* A walk over what is imported of a DLL. */
+typedef struct {
+    pe_c_range left;                /* its table from the next number on: 8 bytes each in PE32+, else 4 */
+    uint32_t attributes;            /* those of the DLL's entry */
+    uint32_t spare;                 /* 0 */
+} pe_c_delayed_functions;
+
+typedef struct {
+    pe_c_range name;                /* of the DLL: UTF-8, without its final zero */
+    pe_c_delayed_functions functions;   /* a walk for pe_c_next_delayed_function, at its start */
+    pe_c_delay_descriptor descriptor;
+} pe_c_delay_import;
+
+typedef struct {
+    pe_c_range name;                /* UTF-8, without its final zero; empty unless has_name */
+    uint32_t ordinal;               /* the ordinal; with a name its hint, an index into the DLL's table of names */
+    uint32_t has_name;              /* 1 or 0 */
+} pe_c_delayed_function;
+
+PE_C_SIZE(pe_c_delay_descriptor, 32);
+PE_C_SIZE(pe_c_delayed_functions, 24);
+PE_C_SIZE(pe_c_delay_import, 72);
+PE_C_SIZE(pe_c_delayed_function, 24);
+
+/* Returns the entries of the delay import directory as a walk. PE_C_NOTHING where the directory is absent.
+ * Errors: PE_C_UNMAPPED, PE_C_SHORT. */
+uint32_t pe_c_delay_imports(const uint8_t *bytes, size_t length, const pe_c_image_info *image,
+                            const pe_c_section *sections, size_t count, pe_c_range *out) PE_C_RESULT(3, 6);
+
+/* Returns the next DLL. The directory ends with its bytes, or at an entry without the address of a name.
+ * Errors: PE_C_SHORT of the entry; PE_C_DIRECTORY_VA_BELOW_BASE, PE_C_UNMAPPED, PE_C_DIRECTORY_DELAY_IMPORT_NAME of the name;
+ * PE_C_DIRECTORY_VA_BELOW_BASE, PE_C_UNMAPPED of the table of functions. */
+uint32_t pe_c_next_delay_import(const uint8_t *bytes, size_t length, const pe_c_image_info *image,
+                                const pe_c_section *sections, size_t count, pe_c_range *walk,
+                                pe_c_delay_import *out) PE_C_RESULT(3, 6, 7);
+
+/* Returns the next function of a DLL.
+ * Errors: PE_C_SHORT where the bytes end before the table does; of an import by name PE_C_DIRECTORY_VA_BELOW_BASE,
+ * PE_C_UNMAPPED of its address, PE_C_SHORT of the hint there, PE_C_DIRECTORY_DELAY_IMPORT_NAME. */
+uint32_t pe_c_next_delayed_function(const uint8_t *bytes, size_t length, const pe_c_image_info *image,
+                                    const pe_c_section *sections, size_t count, pe_c_delayed_functions *walk,
+                                    pe_c_delayed_function *out) PE_C_RESULT(3, 6, 7);
+
 /* ---- version information and manifest
  *
  * Resources are a tree of directories: type, name, language. Version information is the first resource of type 16
@@ -1114,6 +1178,53 @@ uint32_t pe_c_tls_callbacks(const uint8_t *bytes, size_t length, const pe_c_imag
 uint32_t pe_c_next_tls_callback(const uint8_t *bytes, size_t length, const pe_c_image_info *image, pe_c_range *walk,
                                 uint64_t *out) PE_C_RESULT(3, 4, 5);
 
+/* ---- load configuration
+ *
+ * What guards an image against attacks: the security cookie, the safe exception handlers of x86, the functions that may be
+ * called indirectly. Versions of Windows have added fields at its end, so its first field says how many bytes it has.
+ * https://learn.microsoft.com/windows/win32/debug/pe-format#the-load-configuration-structure-image-only */
+
+/* IMAGE_LOAD_CONFIG_DIRECTORY32 or IMAGE_LOAD_CONFIG_DIRECTORY64, up to the guard flags. A field that the structure is too
+ * short for is 0, and so is the field of its name with has_, which else is 1. The addresses are virtual addresses, mostly 0
+ * where there is nothing: less image->base one is an RVA, for pe_c_offset. */
+typedef struct {
+    uint64_t security_cookie;       /* where the security cookie is */
+    uint64_t se_handler_table;      /* x86: where the table of exception handlers is, their RVAs, sorted, 4 bytes each */
+    uint64_t se_handler_count;      /* how many entries it has */
+    uint64_t guard_cf_check_function_pointer;       /* where the pointer is to what checks the target of an indirect call */
+    uint64_t guard_cf_dispatch_function_pointer;    /* where the pointer is to what checks the target and calls it */
+    uint64_t guard_cf_function_table;   /* where the table is of the functions that may be called indirectly, sorted: an
+                                           RVA each, 4 bytes, then guard_flags >> 28 bytes more */
+    uint64_t guard_cf_function_count;   /* how many entries it has */
+    uint32_t size;                  /* bytes of the structure, as it says itself */
+    uint32_t time_date_stamp;       /* seconds since 1970 */
+    uint32_t guard_flags;           /* IMAGE_GUARD_ flags */
+    uint16_t major_version;
+    uint16_t minor_version;
+    uint16_t dependent_load_flags;  /* where DLLs that the image imports are looked for, flags of LoadLibraryEx */
+    uint16_t spare;                 /* 0 */
+    uint8_t has_time_date_stamp;    /* 1 or 0, and so all that follow */
+    uint8_t has_major_version;
+    uint8_t has_minor_version;
+    uint8_t has_dependent_load_flags;
+    uint8_t has_security_cookie;
+    uint8_t has_se_handler_table;
+    uint8_t has_se_handler_count;
+    uint8_t has_guard_cf_check_function_pointer;
+    uint8_t has_guard_cf_dispatch_function_pointer;
+    uint8_t has_guard_cf_function_table;
+    uint8_t has_guard_cf_function_count;
+    uint8_t has_guard_flags;
+} pe_c_load_config_directory;
+
+PE_C_SIZE(pe_c_load_config_directory, 88);
+
+/* Returns the load configuration. PE_C_NOTHING where the directory is absent. The size in the data directory is not used.
+ * Errors: PE_C_UNMAPPED; PE_C_SHORT of its size, then of as many bytes. */
+uint32_t pe_c_load_config(const uint8_t *bytes, size_t length, const pe_c_image_info *image,
+                          const pe_c_section *sections, size_t count, pe_c_load_config_directory *out)
+    PE_C_RESULT(3, 6);
+
 /* ---- base relocations
  *
  * What to change in an image that is not at its preferred base, in blocks of one page each.
@@ -1151,6 +1262,79 @@ uint32_t pe_c_next_relocation_block(const uint8_t *bytes, size_t length, pe_c_ra
  * Errors: PE_C_SHORT of the entry; PE_C_DIRECTORY_NO_ARGUMENT. */
 uint32_t pe_c_next_relocation(const uint8_t *bytes, size_t length, uint32_t page_rva, pe_c_range *walk, pe_c_relocation *out)
     PE_C_RESULT(4, 5);
+
+/* ---- CLR header and metadata
+ *
+ * An image with a CLR header is one for the .NET runtime. The header leads to the metadata: a root with the version of the
+ * runtime that the image was made for, and streams by their names, "#~" the tables, "#Strings", "#US", "#GUID", "#Blob".
+ * ECMA-335, II.25.3.3 and II.24.2: https://www.ecma-international.org/publications-and-standards/standards/ecma-335/ */
+
+/* IMAGE_COR20_HEADER. */
+typedef struct {
+    uint32_t cb;                    /* bytes of the header, as it says itself: 72 or more */
+    uint16_t major_runtime_version; /* the version of the runtime that is needed */
+    uint16_t minor_runtime_version;
+    pe_c_directory metadata;
+    uint32_t flags;                 /* COMIMAGE_FLAGS_ */
+    uint32_t entry_point_token;     /* a metadata token; an RVA with COMIMAGE_FLAGS_NATIVE_ENTRYPOINT (0x10) */
+    pe_c_directory resources;       /* managed resources */
+    pe_c_directory strong_name_signature;
+    pe_c_directory code_manager_table;  /* 0 */
+    pe_c_directory vtable_fixups;   /* fixups of tables of virtual functions */
+    pe_c_directory export_address_table_jumps;  /* 0 */
+    pe_c_directory managed_native_header;   /* of code that was compiled ahead of time (ReadyToRun), else 0 */
+} pe_c_cor20_header;
+
+/* A walk over the streams of metadata. */
+typedef struct {
+    pe_c_range metadata;            /* the metadata, from which the offsets of streams count */
+    pe_c_range headers;             /* the stream headers that are left, and the rest of the metadata */
+    uint16_t count;                 /* how many streams are left */
+    uint16_t spare;                 /* 0 */
+    uint32_t spare_too;             /* 0 */
+} pe_c_metadata_streams;
+
+/* The root of the metadata. */
+typedef struct {
+    pe_c_range version;             /* such as "v4.0.30319": UTF-8 up to the first zero, and the zeros after it */
+    pe_c_metadata_streams streams;  /* a walk for pe_c_next_metadata_stream, at its start */
+    uint16_t major_version;         /* of the format of metadata */
+    uint16_t minor_version;
+    uint16_t flags;                 /* reserved */
+    uint16_t spare;                 /* 0 */
+} pe_c_metadata;
+
+typedef struct {
+    pe_c_range name;                /* without its final zero; at most 31 bytes */
+    pe_c_range content;             /* the stream's bytes; empty unless has_content */
+    uint32_t offset;                /* of the stream, from the start of the metadata */
+    uint32_t size;                  /* of the stream in bytes */
+    uint32_t has_content;           /* 1 where the stream lies in the metadata, else 0 */
+    uint32_t spare;                 /* 0 */
+} pe_c_metadata_stream;
+
+PE_C_SIZE(pe_c_cor20_header, 72);
+PE_C_SIZE(pe_c_metadata_streams, 40);
+PE_C_SIZE(pe_c_metadata, 64);
+PE_C_SIZE(pe_c_metadata_stream, 48);
+
+/* Returns the CLR header. PE_C_NOTHING where the directory is absent. The size in the data directory is not used.
+ * Errors: PE_C_UNMAPPED, PE_C_SHORT of its 72 bytes; PE_C_DIRECTORY_CLR_HEADER_SIZE. */
+uint32_t pe_c_clr_header(const uint8_t *bytes, size_t length, const pe_c_image_info *image, const pe_c_section *sections,
+                         size_t count, pe_c_cor20_header *out) PE_C_RESULT(3, 6);
+
+/* Returns the root of the metadata of a CLR header.
+ * Errors: PE_C_UNMAPPED; PE_C_SHORT of the metadata, then of the root's first 16 bytes; PE_C_BAD_MAGIC; PE_C_SHORT of the rest
+ * of the root. */
+uint32_t pe_c_clr_metadata(const uint8_t *bytes, size_t length, const pe_c_image_info *image,
+                           const pe_c_section *sections, size_t count, const pe_c_cor20_header *header,
+                           pe_c_metadata *out) PE_C_RESULT(3, 6, 7);
+
+/* Returns the next stream of the metadata.
+ * Errors: PE_C_SHORT of the stream header's first 8 bytes; PE_C_DIRECTORY_STREAM_NAME where its name does not end in 32 bytes;
+ * PE_C_SHORT of the zeros after the name, up to a multiple of 4. */
+uint32_t pe_c_next_metadata_stream(const uint8_t *bytes, size_t length, pe_c_metadata_streams *walk,
+                                   pe_c_metadata_stream *out) PE_C_RESULT(3, 4);
 
 #ifdef __cplusplus
 }

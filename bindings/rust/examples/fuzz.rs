@@ -276,6 +276,18 @@ fn read_by_lies(bytes: &[u8], random: &mut Random, seen: &mut Seen) {
             sys::pe_c_next_relocation(start, length, few, &mut entries, &mut relocation);
         }
     }
+    call_of_image!(pe_c_load_config(), LoadConfig);
+    let clr = call_of_image!(pe_c_clr_header(), ClrHeader);
+    let metadata = call_of_image!(pe_c_clr_metadata(&sys::ClrHeader { metadata: directory, ..clr }), Metadata);
+    walk!(pe_c_next_metadata_stream(metadata.streams), MetadataStream);
+    let lie = sys::MetadataStreams { headers: range, count: few as u16, ..metadata.streams };
+    walk!(pe_c_next_metadata_stream(lie), MetadataStream);
+    walk!(pe_c_next_metadata_stream(sys::MetadataStreams { metadata: range, ..lie }), MetadataStream);
+    let delayed = call_of_image!(pe_c_delay_imports(), Range);
+    walk_of_image!(pe_c_next_delay_import(delayed), DelayImport);
+    walk_of_image!(pe_c_next_delay_import(range), DelayImport);
+    let lie = sys::DelayedFunctions { left: range, attributes: few, spare: 1 };
+    walk_of_image!(pe_c_next_delayed_function(lie), DelayedFunction);
     let saved = if few & 8 == 0 { directory.virtual_address } else { few };
     let plan = sys::Plan {
         unwind: directory.virtual_address,
@@ -343,7 +355,7 @@ fn main() {
     let read = names.iter().filter_map(|name| std::fs::read(name).ok());
     let mut files: Vec<Vec<u8>> = read.filter(|bytes| (64..=ROOM).contains(&bytes.len())).collect();
     if files.is_empty() {
-        files = made::all().into_iter().map(|(_, bytes)| bytes).collect();
+        files = made::all().into_iter().chain(made::more()).map(|(_, bytes)| bytes).collect();
     }
     let files: Vec<_> = files.into_iter().map(|bytes| (hot_offsets(&bytes), bytes)).collect();
     let memory = fenced();

@@ -4,6 +4,7 @@ pub mod Arm64CodeRuns
 pub mod CertificateRuns
 pub mod CodeRuns
 pub mod DigestParts
+pub mod DirectoryParts
 pub mod EntryRuns
 pub mod EvenRecords
 pub mod ExportParts

@@ -2,12 +2,15 @@ pub mod HandsOut
 pub mod Arm64
 pub mod Arm64Frames
 pub mod Certificates
+pub mod Clr
 pub mod Debug
 pub mod DebugWalks
+pub mod DelayImports
 pub mod ExportAddresses
 pub mod Exports
 pub mod Images
 pub mod Imports
+pub mod LoadConfigs
 pub mod Modes
 pub mod Parts
 pub mod Plans

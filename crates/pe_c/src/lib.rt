@@ -14,14 +14,17 @@
 mod arm64;
 mod base_relocations;
 mod certificates;
+mod clr;
 mod debug;
 mod debug_walks;
+mod delay_imports;
 mod directories;
 mod export_addresses;
 mod exports;
 mod image;
 mod imports;
 pub mod laws;
+mod load_config;
 mod plan;
 mod ranges;
 mod results;

@@ -269,6 +269,42 @@ fn read_imports(image: &Image, seen: &mut Seen) {
     }
 }
 
+fn read_delay_imports(image: &Image, seen: &mut Seen) {
+    for import in seen.keep(image.delay_imports()).into_iter().flatten().take(seen.most) {
+        let Some(import) = seen.item(import) else {
+            continue;
+        };
+        seen.touch(import.name);
+        for function in import.functions().take(seen.most) {
+            if let Some(function) = seen.item(function) {
+                seen.touch(function.name.unwrap_or_default());
+            }
+        }
+    }
+}
+
+fn read_clr(image: &Image, seen: &mut Seen) {
+    let Some(clr) = seen.keep(image.clr()) else {
+        return;
+    };
+    let Some(metadata) = seen.item(clr.metadata()) else {
+        return;
+    };
+    assert_eq!(metadata.bytes.len() as u64, u64::from(clr.header().metadata.size));
+    assert!(metadata.version().len() <= metadata.version_bytes.len());
+    seen.touch(metadata.version_bytes);
+    for stream in metadata.streams().take(seen.most) {
+        if let Some(stream) = seen.item(stream) {
+            assert!(stream.name.len() < 32 && !stream.name.contains(&0));
+            seen.touch(stream.name);
+            if let Some(content) = stream.content {
+                assert_eq!(content.len() as u64, u64::from(stream.size));
+                seen.touch(content);
+            }
+        }
+    }
+}
+
 fn read_version(image: &Image, seen: &mut Seen) {
     seen.keep(image.version());
     for name in VersionName::ALL.into_iter().take(seen.most) {
@@ -304,6 +340,9 @@ pub fn read_all(bytes: &[u8], mode: Mode, layout: Layout, most: usize) -> Seen {
     read_addresses(&image, &mut seen);
     read_exports(&image, &mut seen);
     read_imports(&image, &mut seen);
+    read_delay_imports(&image, &mut seen);
+    seen.keep(image.load_config());
+    read_clr(&image, &mut seen);
     read_version(&image, &mut seen);
     seen
 }
