@@ -81,6 +81,8 @@ pub const DEBUG_TABLE: usize = 6;
 
 pub const TLS_TABLE: usize = 9;
 
+pub const BOUND_IMPORT_TABLE: usize = 11;
+
 /// Bytes from the PE signature to the optional header.
 const SIZE_BEFORE_OPTIONAL_HEADER: u64 = 24;
 

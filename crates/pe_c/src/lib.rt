@@ -13,6 +13,7 @@
 
 mod arm64;
 mod base_relocations;
+mod bound_imports;
 mod certificates;
 mod debug;
 mod debug_walks;
@@ -24,7 +25,10 @@ mod imports;
 pub mod laws;
 mod plan;
 mod ranges;
+mod resource_leaves;
 mod results;
+mod rich_header;
+mod section_names;
 mod signing;
 mod stack_frames;
 mod texts;

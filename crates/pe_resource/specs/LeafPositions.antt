@@ -1,5 +1,5 @@
 -- Positions of walks over the leaves of a resource tree: where the entries are that a walk has left, as ranges of the data.
-use Rattle.std.specs.Prelude.{◌≡◌, ℕ, ◌&&◌, Bool, List, [], ◌∷◌, Option, Some, None, Result, Ok, Err, if◌then◌else◌}
+use Rattle.std.specs.Prelude.{◌≡◌, ℕ, ◌&&◌, Bool, List, [], ◌∷◌, Option, Result, Ok, Err, if◌then◌else◌}
 use Rattle.std.specs.Option.{option_map}
 use Rattle.pe_core.specs.Bytes.{holds}
 use Rattle.pe_core.specs.Offsets.{bytes_in, IsWithin, StandAt}
