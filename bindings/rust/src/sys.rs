@@ -839,6 +839,109 @@ DelayedFunction, 24 {
     has_name: u32,
 });
 
+record!(
+/// What names a type of resources, a resource or a language. See [`ResourceName`](crate::ResourceName).
+ResourceName, 24 {
+    /// UTF-16 code units, little-endian, without a final zero; the empty range with an id.
+    name: Range,
+    /// Below 2^16; 0 with a name.
+    id: u32,
+    /// 1 with a name, 0 with an id.
+    has_name: u32,
+});
+record!(
+/// A leaf of a resource tree. See [`ResourceLeaf`](crate::ResourceLeaf).
+ResourceLeaf, 104 {
+    /// An id is `RT_` of winuser.h.
+    resource_type: ResourceName,
+    /// The resource among those of its type.
+    name: ResourceName,
+    /// An id is a language identifier; 0 for any language.
+    language: ResourceName,
+    /// The empty range where `content_result` is not [`DONE`].
+    content: Range,
+    /// [`DONE`], or why the content is not in the file.
+    content_result: u32,
+    /// RVA of the content.
+    rva: u32,
+    /// Bytes of the content.
+    size: u32,
+    /// Of texts in the content, mostly 0.
+    code_page: u32,
+});
+record!(
+/// `IMAGE_RESOURCE_DIRECTORY_ENTRY`.
+ResourceEntry, 8 {
+    /// With bit 31 the offset of a name, else an id.
+    name_or_id: u32,
+    /// With bit 31 the offset of a directory, else that of a data entry.
+    offset_to_data_or_directory: u32,
+});
+record!(
+/// A walk over leaves. The ranges of entries, 8 bytes each, count from the start of the tree.
+ResourceWalk, 80 {
+    /// The data of the resource directory.
+    tree: Range,
+    /// The types that are left.
+    types: Range,
+    /// The names that are left of a type.
+    names: Range,
+    /// The languages that are left of a name.
+    languages: Range,
+    /// The entry of this type.
+    resource_type: ResourceEntry,
+    /// The entry of this name.
+    name: ResourceEntry,
+});
+record!(
+/// The Rich header. See [`RichHeader`](crate::RichHeader).
+RichHeader, 40 {
+    /// 8 bytes each, XORed with the key; a walk through them.
+    entries: Range,
+    /// How many entries there are.
+    count: u64,
+    /// What the header is XORed with.
+    key: u32,
+    /// Of the DOS header, the DOS stub and the entries: the linker takes it as the key.
+    checksum: u32,
+    /// 1 where they are equal, else 0.
+    key_is_checksum: u32,
+    /// 0.
+    spare: u32,
+});
+record!(
+/// An entry of a Rich header.
+RichEntry, 8 {
+    /// The build of the tool.
+    build: u16,
+    /// Which tool it is.
+    product: u16,
+    /// How many objects it made.
+    count: u32,
+});
+record!(
+/// A bound import, `IMAGE_BOUND_IMPORT_DESCRIPTOR`. See [`BoundImport`](crate::BoundImport).
+BoundImport, 40 {
+    /// UTF-8, not NUL-terminated.
+    name: Range,
+    /// 8 bytes each; a walk through the DLLs that this one forwards to.
+    forwarders: Range,
+    /// Of the DLL.
+    time_date_stamp: u32,
+    /// 0.
+    spare: u32,
+});
+record!(
+/// A DLL that another one forwards to, `IMAGE_BOUND_FORWARDER_REF`. See [`BoundForwarder`](crate::BoundForwarder).
+BoundForwarder, 24 {
+    /// UTF-8, not NUL-terminated.
+    name: Range,
+    /// Of the DLL.
+    time_date_stamp: u32,
+    /// 0.
+    spare: u32,
+});
+
 /// Declares calls that take an image first, after their names more parameters, and then `out`.
 macro_rules! calls_of_an_image {
     ($($(#[$doc:meta])* $name:ident($($more:ident: $type:ty),*) -> $out:ty;)*) => {
@@ -966,6 +1069,24 @@ calls_of_bytes! {
     pe_c_next_tls_callback(image: *const ImageInfo, walk: *mut Range) -> u64;
     /// Returns the next stream of CLR metadata.
     pe_c_next_metadata_stream(walk: *mut MetadataStreams) -> MetadataStream;
+    /// Returns the fixed file information in the content of a leaf.
+    pe_c_fixed_version_in(content: *const Range) -> Version;
+    /// Returns the value of a version name in the content of a leaf.
+    pe_c_version_text_in(content: *const Range, name: u32) -> Range;
+    /// Returns the COFF string table.
+    pe_c_string_table(image: *const ImageInfo) -> Range;
+    /// Returns the name of a section in the string table.
+    pe_c_long_section_name(table: *const Range, section: *const Section) -> Range;
+    /// Returns the Rich header.
+    pe_c_rich_header() -> RichHeader;
+    /// Returns the next entry of a Rich header.
+    pe_c_next_rich_entry(key: u32, walk: *mut Range) -> RichEntry;
+    /// Returns the directory of bound imports.
+    pe_c_bound_imports(image: *const ImageInfo) -> Range;
+    /// Returns the next bound import.
+    pe_c_next_bound_import(table: *const Range, walk: *mut Range) -> BoundImport;
+    /// Returns the next DLL that a bound import forwards to.
+    pe_c_next_bound_forwarder(table: *const Range, walk: *mut Range) -> BoundForwarder;
     /// Returns the next block of base relocations.
     pe_c_next_relocation_block(walk: *mut Range) -> RelocationBlock;
     /// Returns the next relocation of a block.
@@ -1027,6 +1148,10 @@ calls_of_an_image! {
     pe_c_version_text(name: u32) -> Range;
     /// Returns the range of the manifest.
     pe_c_manifest() -> Range;
+    /// Returns the leaves of the resource tree, as a walk.
+    pe_c_resource_leaves() -> ResourceWalk;
+    /// Returns the next leaf.
+    pe_c_next_resource_leaf(walk: *mut ResourceWalk) -> ResourceLeaf;
     /// Returns the TLS directory.
     pe_c_tls() -> TlsDirectory;
     /// Returns the callbacks of a TLS directory, as a walk.

@@ -116,6 +116,17 @@ fn ranges_that_lie_are_refused() {
                 let (mut table, mut certificate) = (range, sys::Certificate::default());
                 let answer = sys::pe_c_next_certificate(start, length, &mut table, &mut certificate);
                 assert_eq!(answer == 10, !there);
+                let mut fixed = sys::Version::default();
+                let answer = sys::pe_c_fixed_version_in(start, length, &range, &mut fixed);
+                assert!(there || answer == 2);
+                let (mut table, mut import) = (range, sys::BoundImport::default());
+                let answer = sys::pe_c_next_bound_import(start, length, &range, &mut table, &mut import);
+                assert!(there || answer == 2);
+                let (mut entries, mut entry) = (range, sys::RichEntry::default());
+                let answer = sys::pe_c_next_rich_entry(start, length, 7, &mut entries, &mut entry);
+                assert!(there || answer == 2);
+                let answer = sys::pe_c_long_section_name(start, length, &range, &sections[0], &mut out);
+                assert!(there || answer == 2);
             }
             walk(&bytes, there, range, sys::pe_c_next_debug_entry);
             walk(&bytes, there, range, sys::pe_c_next_pogo_entry);
@@ -193,6 +204,36 @@ fn walks_over_delay_imports_and_streams_that_lie_end() {
                 let streams = sys::MetadataStreams { metadata, headers, count: u16::MAX, spare: 9, spare_too: 9 };
                 walk(&bytes, there, streams, sys::pe_c_next_metadata_stream);
             }
+        }
+    }
+}
+
+#[test]
+fn walks_over_leaves_that_lie_end() {
+    let bytes = with_named_resources();
+    let length = bytes.len();
+    let image = Image::parse(&bytes, Mode::Strict).unwrap();
+    let (info, sections) = (image.info(), image.sections());
+    let (tree, none) = (sys::Range { offset: 0x408, length: 0x8E }, sys::Range::default());
+    let whole = sys::ResourceWalk { tree, ..sys::ResourceWalk::default() };
+    let entry = sys::ResourceEntry { name_or_id: u32::MAX, offset_to_data_or_directory: u32::MAX };
+    for (offset, size) in
+        lies(length as u64).into_iter().flat_map(|it| lies(0x8E).into_iter().map(move |size| (it, size)))
+    {
+        let lie = sys::Range { offset, length: size };
+        let is_in_tree = lie.of(&[0; 0x8E]).is_some();
+        for (walk, there) in [
+            (sys::ResourceWalk { tree: lie, types: none, ..whole }, lie.of(&bytes).is_some()),
+            (sys::ResourceWalk { types: lie, ..whole }, is_in_tree),
+            (sys::ResourceWalk { names: lie, resource_type: entry, ..whole }, is_in_tree),
+            (sys::ResourceWalk { languages: lie, name: entry, ..whole }, is_in_tree),
+        ] {
+            // SAFETY: the pointers and lengths are those of slices, and the records are lent for the call.
+            let first = first_of_all(length * length, walk, |walk, out| unsafe {
+                let (bytes, sections, count) = (bytes.as_ptr(), sections.as_ptr(), sections.len());
+                sys::pe_c_next_resource_leaf(bytes, length, info, sections, count, walk, out)
+            });
+            assert!(there || first == 2);
         }
     }
 }

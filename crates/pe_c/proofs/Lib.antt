@@ -26,3 +26,4 @@ pub mod Runs
 pub mod Steps
 pub mod VersionsReported
 pub mod Ways
+pub mod LeafRuns

@@ -87,6 +87,8 @@ pub const DELAY_IMPORT_DESCRIPTOR: usize = 13;
 
 pub const CLR_RUNTIME_HEADER: usize = 14;
 
+pub const BOUND_IMPORT_TABLE: usize = 11;
+
 /// Bytes from the PE signature to the optional header.
 const SIZE_BEFORE_OPTIONAL_HEADER: u64 = 24;
 

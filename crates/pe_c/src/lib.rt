@@ -13,6 +13,7 @@
 
 mod arm64;
 mod base_relocations;
+mod bound_imports;
 mod certificates;
 mod clr;
 mod debug;
@@ -27,7 +28,10 @@ pub mod laws;
 mod load_config;
 mod plan;
 mod ranges;
+mod resource_leaves;
 mod results;
+mod rich_header;
+mod section_names;
 mod signing;
 mod stack_frames;
 mod texts;

@@ -3,7 +3,7 @@
 
 use pe_c::{
     Arm64Record, Arm64Unwinding, Error, Frames, Function, Functions, Handler, Image, Layout, Mode, Module, Placement,
-    Registers, Stack, StepError, UnwindRecord, VersionName,
+    Registers, ResourceName, Stack, StepError, UnwindRecord, VersionName,
 };
 
 /// What was read.
@@ -318,6 +318,56 @@ fn read_version(image: &Image, seen: &mut Seen) {
     }
 }
 
+fn read_leaves(image: &Image, seen: &mut Seen) {
+    for leaf in seen.keep(image.resource_leaves()).into_iter().flatten().take(seen.most) {
+        let Some(leaf) = seen.item(leaf) else {
+            continue;
+        };
+        for name in [leaf.resource_type, leaf.name, leaf.language] {
+            if let ResourceName::Name(text) = name {
+                seen.touch(text.0);
+            }
+        }
+        if let Some(content) = seen.item(leaf.content()) {
+            assert_eq!(content.len(), leaf.size as usize);
+            seen.touch(content);
+        }
+        seen.keep(leaf.version());
+        if let Some(text) = seen.keep(leaf.version_text(VersionName::ProductName)) {
+            seen.touch(text.0);
+        }
+    }
+}
+
+fn read_bound_imports(image: &Image, seen: &mut Seen) {
+    for import in seen.keep(image.bound_imports()).into_iter().flatten().take(seen.most) {
+        let Some(import) = seen.item(import) else {
+            continue;
+        };
+        seen.touch(import.name);
+        for forwarder in import.forwarders().take(seen.most) {
+            if let Some(forwarder) = seen.item(forwarder) {
+                seen.touch(forwarder.name);
+            }
+        }
+    }
+}
+
+/// The Rich header, and the names of sections in the string table.
+fn read_names(image: &Image, seen: &mut Seen) {
+    if let Some(header) = seen.keep(image.rich_header()) {
+        assert_eq!(header.entries().filter(Result::is_ok).count() as u64, header.count);
+    }
+    if let Some(strings) = seen.keep(image.string_table()) {
+        seen.touch(strings);
+    }
+    for section in image.sections().iter().take(seen.most) {
+        if let Some(name) = seen.keep(image.long_section_name(section)) {
+            seen.touch(name);
+        }
+    }
+}
+
 /// Makes every call on these bytes, and reads at most so many items of each table and walk.
 pub fn read_all(bytes: &[u8], mode: Mode, layout: Layout, most: usize) -> Seen {
     let mut seen = Seen::up_to(most);
@@ -344,5 +394,8 @@ pub fn read_all(bytes: &[u8], mode: Mode, layout: Layout, most: usize) -> Seen {
     seen.keep(image.load_config());
     read_clr(&image, &mut seen);
     read_version(&image, &mut seen);
+    read_leaves(&image, &mut seen);
+    read_bound_imports(&image, &mut seen);
+    read_names(&image, &mut seen);
     seen
 }
