@@ -93,7 +93,7 @@ enum {
     PE_C_BAD_MAGIC = 3,             /* invalid magic number */
     PE_C_HEADER_POINTER = 4,        /* PE header offset lies inside the DOS header; strict mode only */
     PE_C_IMPORT_NAME = 5,           /* import name not NUL-terminated or not UTF-8 */
-    PE_C_STRING_TABLE = 6,          /* string table truncated, or string not NUL-terminated or not UTF-8; never returned */
+    PE_C_STRING_TABLE = 6,          /* string table truncated, or string not NUL-terminated or not UTF-8 */
     PE_C_CERTIFICATE_REVISION = 7,  /* invalid certificate revision */
     PE_C_CERTIFICATE_TYPE = 8,      /* invalid certificate type */
     PE_C_CERTIFICATE_SIZE = 9,      /* certificate truncated */
@@ -146,6 +146,9 @@ enum {
     PE_C_DIRECTORY_STREAM_NAME = 306, /* name of a metadata stream not NUL-terminated */
     PE_C_DIRECTORY_DELAY_IMPORT_NAME = 307, /* name of a delay import not NUL-terminated or not UTF-8 */
     PE_C_DIRECTORY_BOUND_IMPORT_NAME = 308, /* name of a bound import not NUL-terminated or not UTF-8 */
+    PE_C_TREE_NOT_DIRECTORY = 401,  /* resource data entry above the level of languages */
+    PE_C_TREE_NOT_DATA = 402,       /* resource directory below the level of languages */
+    PE_C_TREE_NO_ENTRIES = 403,     /* resource directory of names or languages has no entries */
 };
 
 /* Modes. PE_C_MAPPED is added to one of the others, or stands for PE_C_STRICT | PE_C_MAPPED. */
@@ -254,6 +257,55 @@ uint32_t pe_c_sections(const uint8_t *bytes, size_t length, const pe_c_image_inf
  * iPXE's, every call that maps RVAs so finds other offsets than a reader that does not round. */
 uint32_t pe_c_offset(const pe_c_image_info *image, const pe_c_section *sections, size_t count, uint32_t rva,
                      uint64_t *out) PE_C_RESULT(1, 5);
+
+/* ---- section names
+ *
+ * A section's name that is longer than 8 bytes is a string of the COFF string table, and its header has a slash and the offset
+ * of that, as "/4", or two slashes and the offset in base 64. Images of mingw-w64 have such names for their debug sections. */
+
+/* Returns the COFF string table, from its size field on. PE_C_NOTHING where the image has no COFF symbols, where the bytes end
+ * after them, and in an image as loaded.
+ * Errors: PE_C_SHORT of the headers and of the symbols; PE_C_STRING_TABLE where the table is truncated. */
+uint32_t pe_c_string_table(const uint8_t *bytes, size_t length, const pe_c_image_info *image, pe_c_range *out)
+    PE_C_RESULT(3, 4);
+
+/* Returns the name of a section in the string table: UTF-8, not NUL-terminated. PE_C_NOTHING where its header has the name
+ * itself, and where no string is at the offset, NUL-terminated and UTF-8.
+ * Error: PE_C_SHORT where the table is not inside the bytes. */
+uint32_t pe_c_long_section_name(const uint8_t *bytes, size_t length, const pe_c_range *table,
+                                const pe_c_section *section, pe_c_range *out) PE_C_RESULT(3, 4, 5);
+
+/* ---- the Rich header
+ *
+ * Microsoft's linker writes it between the DOS stub and the PE header: which tools made the objects of the image. Microsoft
+ * does not document it; https://www.ntcore.com/files/richsign.htm does. */
+
+typedef struct {
+    pe_c_range entries;             /* 8 bytes each, XORed with the key; a walk through them */
+    uint64_t count;                 /* how many entries there are */
+    uint32_t key;                   /* what the header is XORed with */
+    uint32_t checksum;              /* of the DOS header, the DOS stub and the entries: the linker takes it as the key */
+    uint32_t key_is_checksum;       /* 1 where they are equal, so that nobody changed what the checksum covers; else 0 */
+    uint32_t spare;                 /* 0 */
+} pe_c_rich_header_info;
+
+typedef struct {
+    uint16_t build;                 /* the build of the tool */
+    uint16_t product;               /* which tool it is */
+    uint32_t count;                 /* how many objects it made */
+} pe_c_rich_entry;
+
+PE_C_SIZE(pe_c_rich_header_info, 40);
+PE_C_SIZE(pe_c_rich_entry, 8);
+
+/* Returns the Rich header. PE_C_NOTHING where the bytes before the PE header have none.
+ * Error: PE_C_SHORT of the DOS header. */
+uint32_t pe_c_rich_header(const uint8_t *bytes, size_t length, pe_c_rich_header_info *out) PE_C_RESULT(3);
+
+/* Returns the next entry. `key` is that of the header, and the walk starts as its entries.
+ * Error: PE_C_SHORT of the entry. */
+uint32_t pe_c_next_rich_entry(const uint8_t *bytes, size_t length, uint32_t key, pe_c_range *walk, pe_c_rich_entry *out)
+    PE_C_RESULT(4, 5);
 
 /* ---- debug data
  *
@@ -1019,6 +1071,110 @@ uint32_t pe_c_next_import(const uint8_t *bytes, size_t length, const pe_c_image_
                           const pe_c_section *sections, size_t count, pe_c_imports *walk,
                           pe_c_import *out) PE_C_RESULT(3, 6, 7);
 
+/* ---- delay imports
+ *
+ * DLLs that are loaded when one of their functions is called first. The directory has an entry of 32 bytes for each DLL, which
+ * leads to the DLL's name and to a table of what is imported of it, by name or by ordinal.
+ * https://learn.microsoft.com/windows/win32/debug/pe-format#delay-load-import-tables-image-only
+ *
+ * There are two walks: one over the DLLs, and for each one over its functions, which starts as import.functions. */
+
+/* IMAGE_DELAYLOAD_DESCRIPTOR. Addresses are RVAs where bit 0 of the attributes is set, else virtual addresses, as linkers
+ * before Visual C++ 7 wrote them. */
+typedef struct {
+    uint32_t attributes;            /* flags, of which bit 0 is defined */
+    uint32_t name;                  /* where the DLL's name is */
+    uint32_t module_handle;         /* where the DLL's handle is written when it is loaded */
+    uint32_t import_address_table;  /* where the functions' addresses are written */
+    uint32_t import_name_table;     /* where the table of what is imported is */
+    uint32_t bound_import_address_table;    /* where the addresses are if the DLL has the time stamp; 0 for none */
+    uint32_t unload_information_table;  /* where a copy of the address table is, to unload the DLL; 0 for none */
+    uint32_t time_date_stamp;       /* of the DLL to which the image is bound; 0 where it is not bound */
+} pe_c_delay_descriptor;
+
+/* A walk over what is imported of a DLL. */
+typedef struct {
+    pe_c_range left;                /* its table from the next number on: 8 bytes each in PE32+, else 4 */
+    uint32_t attributes;            /* those of the DLL's entry */
+    uint32_t spare;                 /* 0 */
+} pe_c_delayed_functions;
+
+typedef struct {
+    pe_c_range name;                /* of the DLL: UTF-8, without its final zero */
+    pe_c_delayed_functions functions;   /* a walk for pe_c_next_delayed_function, at its start */
+    pe_c_delay_descriptor descriptor;
+} pe_c_delay_import;
+
+typedef struct {
+    pe_c_range name;                /* UTF-8, without its final zero; empty unless has_name */
+    uint32_t ordinal;               /* the ordinal; with a name its hint, an index into the DLL's table of names */
+    uint32_t has_name;              /* 1 or 0 */
+} pe_c_delayed_function;
+
+PE_C_SIZE(pe_c_delay_descriptor, 32);
+PE_C_SIZE(pe_c_delayed_functions, 24);
+PE_C_SIZE(pe_c_delay_import, 72);
+PE_C_SIZE(pe_c_delayed_function, 24);
+
+/* Returns the entries of the delay import directory as a walk. PE_C_NOTHING where the directory is absent.
+ * Errors: PE_C_UNMAPPED, PE_C_SHORT. */
+uint32_t pe_c_delay_imports(const uint8_t *bytes, size_t length, const pe_c_image_info *image,
+                            const pe_c_section *sections, size_t count, pe_c_range *out) PE_C_RESULT(3, 6);
+
+/* Returns the next DLL. The directory ends with its bytes, or at an entry without the address of a name.
+ * Errors: PE_C_SHORT of the entry; PE_C_DIRECTORY_VA_BELOW_BASE, PE_C_UNMAPPED, PE_C_DIRECTORY_DELAY_IMPORT_NAME of the name;
+ * PE_C_DIRECTORY_VA_BELOW_BASE, PE_C_UNMAPPED of the table of functions. */
+uint32_t pe_c_next_delay_import(const uint8_t *bytes, size_t length, const pe_c_image_info *image,
+                                const pe_c_section *sections, size_t count, pe_c_range *walk,
+                                pe_c_delay_import *out) PE_C_RESULT(3, 6, 7);
+
+/* Returns the next function of a DLL.
+ * Errors: PE_C_SHORT where the bytes end before the table does; of an import by name PE_C_DIRECTORY_VA_BELOW_BASE,
+ * PE_C_UNMAPPED of its address, PE_C_SHORT of the hint there, PE_C_DIRECTORY_DELAY_IMPORT_NAME. */
+uint32_t pe_c_next_delayed_function(const uint8_t *bytes, size_t length, const pe_c_image_info *image,
+                                    const pe_c_section *sections, size_t count, pe_c_delayed_functions *walk,
+                                    pe_c_delayed_function *out) PE_C_RESULT(3, 6, 7);
+
+/* ---- bound imports
+ *
+ * DLLs whose addresses the linker, or a tool after it, wrote into the import address table: they are valid as long as each DLL
+ * has the time stamp that stands here. Each is followed by the DLLs that it forwards to. The directory stands in the headers,
+ * so its RVA is an offset, and the offsets of names count from its start. */
+
+/* IMAGE_BOUND_IMPORT_DESCRIPTOR. */
+typedef struct {
+    pe_c_range name;                /* UTF-8, not NUL-terminated */
+    pe_c_range forwarders;          /* 8 bytes each; a walk through the DLLs that this one forwards to */
+    uint32_t time_date_stamp;       /* of the DLL */
+    uint32_t spare;                 /* 0 */
+} pe_c_bound_import;
+
+/* IMAGE_BOUND_FORWARDER_REF. */
+typedef struct {
+    pe_c_range name;                /* UTF-8, not NUL-terminated */
+    uint32_t time_date_stamp;       /* of the DLL */
+    uint32_t spare;                 /* 0 */
+} pe_c_bound_forwarder;
+
+PE_C_SIZE(pe_c_bound_import, 40);
+PE_C_SIZE(pe_c_bound_forwarder, 24);
+
+/* Returns the bytes of the directory: the table that the next two calls take. PE_C_NOTHING where it is absent.
+ * Error: PE_C_SHORT. */
+uint32_t pe_c_bound_imports(const uint8_t *bytes, size_t length, const pe_c_image_info *image, pe_c_range *out)
+    PE_C_RESULT(3, 4);
+
+/* Returns the next DLL. The walk starts as a copy of the table. The list ends with the table, or at an entry without a name.
+ * Errors: PE_C_SHORT of the entry and its forwarders; PE_C_SHORT where the table is not inside the bytes;
+ * PE_C_DIRECTORY_BOUND_IMPORT_NAME. */
+uint32_t pe_c_next_bound_import(const uint8_t *bytes, size_t length, const pe_c_range *table, pe_c_range *walk,
+                                pe_c_bound_import *out) PE_C_RESULT(3, 4, 5);
+
+/* Returns the next DLL that a DLL forwards to. The walk starts as the `forwarders` of that.
+ * Errors: PE_C_SHORT of the entry; PE_C_SHORT where the table is not inside the bytes; PE_C_DIRECTORY_BOUND_IMPORT_NAME. */
+uint32_t pe_c_next_bound_forwarder(const uint8_t *bytes, size_t length, const pe_c_range *table, pe_c_range *walk,
+                                   pe_c_bound_forwarder *out) PE_C_RESULT(3, 4, 5);
+
 /* ---- version information and manifest
  *
  * Resources are a tree of directories: type, name, language. Version information is the first resource of type 16
@@ -1080,6 +1236,79 @@ uint32_t pe_c_version_text(const uint8_t *bytes, size_t length, const pe_c_image
 uint32_t pe_c_manifest(const uint8_t *bytes, size_t length, const pe_c_image_info *image,
                        const pe_c_section *sections, size_t count, pe_c_range *out) PE_C_RESULT(3, 6);
 
+/* ---- resources
+ *
+ * All resources of an image, each in each language: the leaves of the tree. Its three levels are types, names and languages.
+ * A hostile tree of n bytes can have (n/8)^3 leaves, since directories may be shared: bound the walk over a file that you do
+ * not trust.
+ * https://learn.microsoft.com/windows/win32/debug/pe-format#the-rsrc-section */
+
+/* What names a type, a resource or a language: an id, or a name. */
+typedef struct {
+    pe_c_range name;                /* UTF-16 code units, little-endian, without a final zero; the empty range with an id */
+    uint32_t id;                    /* below 2^16; 0 with a name */
+    uint32_t has_name;              /* 1 with a name, 0 with an id */
+} pe_c_resource_name;
+
+typedef struct {
+    pe_c_resource_name resource_type;   /* an id is RT_ of winuser.h */
+    pe_c_resource_name name;        /* the resource among those of its type */
+    pe_c_resource_name language;    /* an id is a language identifier; 0 for any language */
+    pe_c_range content;             /* the empty range where content_result is not PE_C_DONE */
+    uint32_t content_result;        /* PE_C_DONE, or why the content is not in the file: PE_C_UNMAPPED, PE_C_RESOURCE_BOUNDS */
+    uint32_t rva;                   /* RVA of the content */
+    uint32_t size;                  /* bytes of the content */
+    uint32_t code_page;             /* of texts in the content, mostly 0 */
+} pe_c_resource_leaf;
+
+/* IMAGE_RESOURCE_DIRECTORY_ENTRY. */
+typedef struct {
+    uint32_t name_or_id;            /* with bit 31 the offset of a name, else an id */
+    uint32_t offset_to_data_or_directory;   /* with bit 31 the offset of a directory, else that of a data entry */
+} pe_c_resource_entry;
+
+/* A walk over leaves. The ranges of entries, 8 bytes each, count from the start of the tree. */
+typedef struct {
+    pe_c_range tree;                /* the data of the resource directory */
+    pe_c_range types;               /* the types that are left */
+    pe_c_range names;               /* the names that are left of a type */
+    pe_c_range languages;           /* the languages that are left of a name */
+    pe_c_resource_entry resource_type;  /* the entry of this type */
+    pe_c_resource_entry name;       /* the entry of this name */
+} pe_c_resource_walk;
+
+PE_C_SIZE(pe_c_resource_name, 24);
+PE_C_SIZE(pe_c_resource_leaf, 104);
+PE_C_SIZE(pe_c_resource_entry, 8);
+PE_C_SIZE(pe_c_resource_walk, 80);
+
+/* Returns the leaves as a walk, in the order of the entries of directories. PE_C_NOTHING where the directory is absent, and in
+ * permissive mode where its data is too short for a directory.
+ * Errors: PE_C_UNMAPPED, PE_C_SHORT of the root directory; PE_C_RESOURCE_BOUNDS where the data that the data directory names
+ * ends past the end of the file, and in strict mode where the root or its entries are not all inside the data. */
+uint32_t pe_c_resource_leaves(const uint8_t *bytes, size_t length, const pe_c_image_info *image,
+                              const pe_c_section *sections, size_t count, pe_c_resource_walk *out) PE_C_RESULT(3, 6);
+
+/* Returns the next leaf. A content that is not in the file is no error of its leaf.
+ * Errors: PE_C_SHORT where the walk is not inside the bytes, or its entries are not inside its tree; of the entry of a type or
+ * a name PE_C_TREE_NOT_DIRECTORY, PE_C_SHORT of its directory and of the entries there, PE_C_TREE_NO_ENTRIES; of the entry of a
+ * language PE_C_TREE_NOT_DATA, PE_C_SHORT of its data entry; PE_C_SHORT of a name. */
+uint32_t pe_c_next_resource_leaf(const uint8_t *bytes, size_t length, const pe_c_image_info *image,
+                                 const pe_c_section *sections, size_t count, pe_c_resource_walk *walk,
+                                 pe_c_resource_leaf *out) PE_C_RESULT(3, 6, 7);
+
+/* Returns the fixed file information in the content of a leaf of type 16 (RT_VERSION). PE_C_NOTHING where it has none.
+ * Errors: PE_C_SHORT where the content is not inside the bytes; PE_C_SHORT, PE_C_RESOURCE_STRING of the version strings;
+ * PE_C_SHORT of the fixed file information. */
+uint32_t pe_c_fixed_version_in(const uint8_t *bytes, size_t length, const pe_c_range *content, pe_c_version *out)
+    PE_C_RESULT(3, 4);
+
+/* Returns the value of a name in the content of such a leaf, as pe_c_version_text does. PE_C_NOTHING without a string of that
+ * name, and for another number.
+ * Errors: PE_C_SHORT where the content is not inside the bytes; PE_C_SHORT, PE_C_RESOURCE_STRING of the version strings. */
+uint32_t pe_c_version_text_in(const uint8_t *bytes, size_t length, const pe_c_range *content, uint32_t name,
+                              pe_c_range *out) PE_C_RESULT(3, 5);
+
 /* ---- thread-local storage
  *
  * The TLS directory has the data that each thread gets a copy of, and leads to the callbacks: functions that run when a
@@ -1113,6 +1342,53 @@ uint32_t pe_c_tls_callbacks(const uint8_t *bytes, size_t length, const pe_c_imag
  * Error: PE_C_SHORT where the bytes end before the table does. */
 uint32_t pe_c_next_tls_callback(const uint8_t *bytes, size_t length, const pe_c_image_info *image, pe_c_range *walk,
                                 uint64_t *out) PE_C_RESULT(3, 4, 5);
+
+/* ---- load configuration
+ *
+ * What guards an image against attacks: the security cookie, the safe exception handlers of x86, the functions that may be
+ * called indirectly. Versions of Windows have added fields at its end, so its first field says how many bytes it has.
+ * https://learn.microsoft.com/windows/win32/debug/pe-format#the-load-configuration-structure-image-only */
+
+/* IMAGE_LOAD_CONFIG_DIRECTORY32 or IMAGE_LOAD_CONFIG_DIRECTORY64, up to the guard flags. A field that the structure is too
+ * short for is 0, and so is the field of its name with has_, which else is 1. The addresses are virtual addresses, mostly 0
+ * where there is nothing: less image->base one is an RVA, for pe_c_offset. */
+typedef struct {
+    uint64_t security_cookie;       /* where the security cookie is */
+    uint64_t se_handler_table;      /* x86: where the table of exception handlers is, their RVAs, sorted, 4 bytes each */
+    uint64_t se_handler_count;      /* how many entries it has */
+    uint64_t guard_cf_check_function_pointer;       /* where the pointer is to what checks the target of an indirect call */
+    uint64_t guard_cf_dispatch_function_pointer;    /* where the pointer is to what checks the target and calls it */
+    uint64_t guard_cf_function_table;   /* where the table is of the functions that may be called indirectly, sorted: an
+                                           RVA each, 4 bytes, then guard_flags >> 28 bytes more */
+    uint64_t guard_cf_function_count;   /* how many entries it has */
+    uint32_t size;                  /* bytes of the structure, as it says itself */
+    uint32_t time_date_stamp;       /* seconds since 1970 */
+    uint32_t guard_flags;           /* IMAGE_GUARD_ flags */
+    uint16_t major_version;
+    uint16_t minor_version;
+    uint16_t dependent_load_flags;  /* where DLLs that the image imports are looked for, flags of LoadLibraryEx */
+    uint16_t spare;                 /* 0 */
+    uint8_t has_time_date_stamp;    /* 1 or 0, and so all that follow */
+    uint8_t has_major_version;
+    uint8_t has_minor_version;
+    uint8_t has_dependent_load_flags;
+    uint8_t has_security_cookie;
+    uint8_t has_se_handler_table;
+    uint8_t has_se_handler_count;
+    uint8_t has_guard_cf_check_function_pointer;
+    uint8_t has_guard_cf_dispatch_function_pointer;
+    uint8_t has_guard_cf_function_table;
+    uint8_t has_guard_cf_function_count;
+    uint8_t has_guard_flags;
+} pe_c_load_config_directory;
+
+PE_C_SIZE(pe_c_load_config_directory, 88);
+
+/* Returns the load configuration. PE_C_NOTHING where the directory is absent. The size in the data directory is not used.
+ * Errors: PE_C_UNMAPPED; PE_C_SHORT of its size, then of as many bytes. */
+uint32_t pe_c_load_config(const uint8_t *bytes, size_t length, const pe_c_image_info *image,
+                          const pe_c_section *sections, size_t count, pe_c_load_config_directory *out)
+    PE_C_RESULT(3, 6);
 
 /* ---- base relocations
  *
@@ -1151,6 +1427,79 @@ uint32_t pe_c_next_relocation_block(const uint8_t *bytes, size_t length, pe_c_ra
  * Errors: PE_C_SHORT of the entry; PE_C_DIRECTORY_NO_ARGUMENT. */
 uint32_t pe_c_next_relocation(const uint8_t *bytes, size_t length, uint32_t page_rva, pe_c_range *walk, pe_c_relocation *out)
     PE_C_RESULT(4, 5);
+
+/* ---- CLR header and metadata
+ *
+ * An image with a CLR header is one for the .NET runtime. The header leads to the metadata: a root with the version of the
+ * runtime that the image was made for, and streams by their names, "#~" the tables, "#Strings", "#US", "#GUID", "#Blob".
+ * ECMA-335, II.25.3.3 and II.24.2: https://www.ecma-international.org/publications-and-standards/standards/ecma-335/ */
+
+/* IMAGE_COR20_HEADER. */
+typedef struct {
+    uint32_t cb;                    /* bytes of the header, as it says itself: 72 or more */
+    uint16_t major_runtime_version; /* the version of the runtime that is needed */
+    uint16_t minor_runtime_version;
+    pe_c_directory metadata;
+    uint32_t flags;                 /* COMIMAGE_FLAGS_ */
+    uint32_t entry_point_token;     /* a metadata token; an RVA with COMIMAGE_FLAGS_NATIVE_ENTRYPOINT (0x10) */
+    pe_c_directory resources;       /* managed resources */
+    pe_c_directory strong_name_signature;
+    pe_c_directory code_manager_table;  /* 0 */
+    pe_c_directory vtable_fixups;   /* fixups of tables of virtual functions */
+    pe_c_directory export_address_table_jumps;  /* 0 */
+    pe_c_directory managed_native_header;   /* of code that was compiled ahead of time (ReadyToRun), else 0 */
+} pe_c_cor20_header;
+
+/* A walk over the streams of metadata. */
+typedef struct {
+    pe_c_range metadata;            /* the metadata, from which the offsets of streams count */
+    pe_c_range headers;             /* the stream headers that are left, and the rest of the metadata */
+    uint16_t count;                 /* how many streams are left */
+    uint16_t spare;                 /* 0 */
+    uint32_t spare_too;             /* 0 */
+} pe_c_metadata_streams;
+
+/* The root of the metadata. */
+typedef struct {
+    pe_c_range version;             /* such as "v4.0.30319": UTF-8 up to the first zero, and the zeros after it */
+    pe_c_metadata_streams streams;  /* a walk for pe_c_next_metadata_stream, at its start */
+    uint16_t major_version;         /* of the format of metadata */
+    uint16_t minor_version;
+    uint16_t flags;                 /* reserved */
+    uint16_t spare;                 /* 0 */
+} pe_c_metadata;
+
+typedef struct {
+    pe_c_range name;                /* without its final zero; at most 31 bytes */
+    pe_c_range content;             /* the stream's bytes; empty unless has_content */
+    uint32_t offset;                /* of the stream, from the start of the metadata */
+    uint32_t size;                  /* of the stream in bytes */
+    uint32_t has_content;           /* 1 where the stream lies in the metadata, else 0 */
+    uint32_t spare;                 /* 0 */
+} pe_c_metadata_stream;
+
+PE_C_SIZE(pe_c_cor20_header, 72);
+PE_C_SIZE(pe_c_metadata_streams, 40);
+PE_C_SIZE(pe_c_metadata, 64);
+PE_C_SIZE(pe_c_metadata_stream, 48);
+
+/* Returns the CLR header. PE_C_NOTHING where the directory is absent. The size in the data directory is not used.
+ * Errors: PE_C_UNMAPPED, PE_C_SHORT of its 72 bytes; PE_C_DIRECTORY_CLR_HEADER_SIZE. */
+uint32_t pe_c_clr_header(const uint8_t *bytes, size_t length, const pe_c_image_info *image, const pe_c_section *sections,
+                         size_t count, pe_c_cor20_header *out) PE_C_RESULT(3, 6);
+
+/* Returns the root of the metadata of a CLR header.
+ * Errors: PE_C_UNMAPPED; PE_C_SHORT of the metadata, then of the root's first 16 bytes; PE_C_BAD_MAGIC; PE_C_SHORT of the rest
+ * of the root. */
+uint32_t pe_c_clr_metadata(const uint8_t *bytes, size_t length, const pe_c_image_info *image,
+                           const pe_c_section *sections, size_t count, const pe_c_cor20_header *header,
+                           pe_c_metadata *out) PE_C_RESULT(3, 6, 7);
+
+/* Returns the next stream of the metadata.
+ * Errors: PE_C_SHORT of the stream header's first 8 bytes; PE_C_DIRECTORY_STREAM_NAME where its name does not end in 32 bytes;
+ * PE_C_SHORT of the zeros after the name, up to a multiple of 4. */
+uint32_t pe_c_next_metadata_stream(const uint8_t *bytes, size_t length, pe_c_metadata_streams *walk,
+                                   pe_c_metadata_stream *out) PE_C_RESULT(3, 4);
 
 #ifdef __cplusplus
 }

@@ -143,6 +143,21 @@ class Image:
         raise Unread("Unmapped")
 
 
+def as_loaded(path):
+    """The image in memory, by its file: headers and sections at their RVAs, and zeros between them. None where sections
+    are not in order, or where debug records are no part of it."""
+    image = Image(path)
+    data = image.bytes[:min([raw for *_, raw in image.sections if raw], default=len(image.bytes))]
+    for virtual_size, virtual, raw_size, raw in image.sections:
+        if virtual < len(data):
+            return None
+        size = min(raw_size, (virtual_size or raw_size) + 0xFFF & ~0xFFF)
+        data = data.ljust(virtual, b"\0") + image.bytes[raw // 512 * 512:][:size]
+    start, size = image.directory(6)
+    entries = [struct.unpack_from("<4I", data, at + 12) for at in range(start, start + size - 27, 28)]
+    return None if any(length and not rva for _, length, rva, _ in entries) else data
+
+
 # What the program tools/show prints.
 
 
@@ -216,6 +231,12 @@ def number(members, name):
     """The hexadecimal number of a field, which may stand in parentheses behind a word, or None."""
     text = field(members, name)
     return None if text is None else int(re.search(r"(0x[0-9A-Fa-f]+)\)?$", text)[1], 16)
+
+
+def value(members, name):
+    """The number of a field, in hexadecimal or decimal, which may stand in parentheses after words; None without it."""
+    text = field(members, name)
+    return None if text is None else int(re.search(r"(0x[0-9A-Fa-f]+|\d+)\)?$", text)[1], 0)
 
 
 # Rows.

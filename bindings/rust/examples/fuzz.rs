@@ -150,6 +150,7 @@ fn read_by_lies(bytes: &[u8], random: &mut Random, seen: &mut Seen) {
         ..sys::ImageInfo::default()
     };
     let section = sys::Section {
+        name: *b"/4\0\0\0\0\0\0",
         virtual_address: random.edge(number) as u32,
         virtual_size: random.edge(number) as u32,
         size_of_raw_data: random.edge(number) as u32,
@@ -276,6 +277,47 @@ fn read_by_lies(bytes: &[u8], random: &mut Random, seen: &mut Seen) {
             sys::pe_c_next_relocation(start, length, few, &mut entries, &mut relocation);
         }
     }
+    call_of_image!(pe_c_load_config(), LoadConfig);
+    let clr = call_of_image!(pe_c_clr_header(), ClrHeader);
+    let metadata = call_of_image!(pe_c_clr_metadata(&sys::ClrHeader { metadata: directory, ..clr }), Metadata);
+    walk!(pe_c_next_metadata_stream(metadata.streams), MetadataStream);
+    let lie = sys::MetadataStreams { headers: range, count: few as u16, ..metadata.streams };
+    walk!(pe_c_next_metadata_stream(lie), MetadataStream);
+    walk!(pe_c_next_metadata_stream(sys::MetadataStreams { metadata: range, ..lie }), MetadataStream);
+    let delayed = call_of_image!(pe_c_delay_imports(), Range);
+    walk_of_image!(pe_c_next_delay_import(delayed), DelayImport);
+    walk_of_image!(pe_c_next_delay_import(range), DelayImport);
+    let lie = sys::DelayedFunctions { left: range, attributes: few, spare: 1 };
+    walk_of_image!(pe_c_next_delayed_function(lie), DelayedFunction);
+    let leaves = call_of_image!(pe_c_resource_leaves(), ResourceWalk);
+    walk_of_image!(pe_c_next_resource_leaf(leaves), ResourceLeaf);
+    let entry = sys::ResourceEntry { name_or_id: few, offset_to_data_or_directory: few.rotate_left(5) };
+    let part = sys::Range { offset: index, length: u64::from(few % 64) };
+    for lie in [
+        sys::ResourceWalk { tree: range, ..leaves },
+        sys::ResourceWalk { types: part, ..leaves },
+        sys::ResourceWalk { names: part, resource_type: entry, ..leaves },
+        sys::ResourceWalk { languages: part, name: entry, ..leaves },
+    ] {
+        walk_of_image!(pe_c_next_resource_leaf(lie), ResourceLeaf);
+    }
+    call!(pe_c_fixed_version_in(&range), Version);
+    call!(pe_c_version_text_in(&range, few % 16), Range);
+    call!(pe_c_rich_header(), RichHeader);
+    call!(pe_c_string_table(&image), Range);
+    call!(pe_c_long_section_name(&range, &section), Range);
+    let table = call!(pe_c_bound_imports(&image), Range);
+    let (mut entries, mut imports, mut forwarders) = (range, range, range);
+    for _ in 0..MOST {
+        let (mut entry, mut import) = (sys::RichEntry::default(), sys::BoundImport::default());
+        let mut forwarder = sys::BoundForwarder::default();
+        // SAFETY: as above.
+        unsafe {
+            sys::pe_c_next_rich_entry(start, length, few, &mut entries, &mut entry);
+            sys::pe_c_next_bound_import(start, length, &table, &mut imports, &mut import);
+            sys::pe_c_next_bound_forwarder(start, length, &range, &mut forwarders, &mut forwarder);
+        }
+    }
     let saved = if few & 8 == 0 { directory.virtual_address } else { few };
     let plan = sys::Plan {
         unwind: directory.virtual_address,
@@ -343,7 +385,7 @@ fn main() {
     let read = names.iter().filter_map(|name| std::fs::read(name).ok());
     let mut files: Vec<Vec<u8>> = read.filter(|bytes| (64..=ROOM).contains(&bytes.len())).collect();
     if files.is_empty() {
-        files = made::all().into_iter().map(|(_, bytes)| bytes).collect();
+        files = made::all().into_iter().chain(made::more()).map(|(_, bytes)| bytes).collect();
     }
     let files: Vec<_> = files.into_iter().map(|bytes| (hot_offsets(&bytes), bytes)).collect();
     let memory = fenced();

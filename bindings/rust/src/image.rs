@@ -89,6 +89,8 @@ errors! {
     HEADER_POINTER = 4;
     /// Import name not NUL-terminated or not UTF-8.
     IMPORT_NAME = 5;
+    /// String table truncated, or string not NUL-terminated or not UTF-8.
+    STRING_TABLE = 6;
     /// Invalid certificate revision.
     CERTIFICATE_REVISION = 7;
     /// Invalid certificate type.
@@ -169,6 +171,12 @@ errors! {
     DIRECTORY_DELAY_IMPORT_NAME = 307;
     /// Name of a bound import not NUL-terminated or not UTF-8.
     DIRECTORY_BOUND_IMPORT_NAME = 308;
+    /// Resource data entry above the level of languages.
+    TREE_NOT_DIRECTORY = 401;
+    /// Resource directory below the level of languages.
+    TREE_NOT_DATA = 402;
+    /// Resource directory of names or languages has no entries.
+    TREE_NO_ENTRIES = 403;
     // Of steps of a stack walk, which pe_core does not make.
     /// Eight bytes of memory are missing: [`StepError::Missing`](crate::StepError::Missing).
     MISSING = 102;

@@ -1,6 +1,7 @@
 //! Reads PE images (Windows .exe and .dll files) by a proved library: headers, debug data, certificates, x64 and ARM64
-//! unwind data, exports, imports, TLS callbacks, base relocations, version information and the manifest. For signing tools it says what a digest covers, and
-//! attaches and detaches certificates.
+//! unwind data, exports, imports, delay and bound imports, TLS callbacks, the load configuration, base relocations, the CLR
+//! header with its metadata, Rich headers, resources, version information and the manifest. For signing tools it says what a
+//! digest covers, and attaches and detaches certificates.
 //!
 //! The library is proved to return what its definitions say, for every byte string; this crate is a thin safe layer over
 //! it, and is tested. Start with [`Image::parse`], or for a module in memory [`Image::parse_as`]; each part of an image is a
@@ -16,9 +17,15 @@
 //! | a stack walk | [`Frames`]; one step of it [`Functions::step`], [`Registers::leaf`] | [x64] |
 //! | | one step of it [`Arm64Functions::step`], [`Arm64Registers::leaf`] | [ARM64] |
 //! | exports, imports | [`exports`](Image::exports), [`export_addresses`](Image::export_addresses), [`libraries`](Image::libraries) | [.edata], [.idata] |
+//! | delay imports | [`delay_imports`](Image::delay_imports) | [delay load] |
+//! | bound imports | [`bound_imports`](Image::bound_imports) | |
+//! | section names, Rich header | [`long_section_name`](Image::long_section_name), [`rich_header`](Image::rich_header) | [section table], [Rich header] |
 //! | thread-local storage | [`tls`](Image::tls), [`tls_callbacks`](Image::tls_callbacks) | [.tls] |
+//! | load configuration | [`load_config`](Image::load_config) | [load config] |
 //! | base relocations | [`relocation_blocks`](Image::relocation_blocks) | [.reloc] |
+//! | .NET | [`clr`](Image::clr) | [ECMA-335], II.24 and II.25 |
 //! | resources | [`version`](Image::version), [`version_text`](Image::version_text), [`manifest`](Image::manifest) | [version information] |
+//! | | [`resource_leaves`](Image::resource_leaves) | [.rsrc] |
 //!
 //! [PE Format]: https://learn.microsoft.com/windows/win32/debug/pe-format
 //! [debug section]: https://learn.microsoft.com/windows/win32/debug/pe-format#the-debug-section
@@ -28,8 +35,14 @@
 //! [ARM64]: https://learn.microsoft.com/cpp/build/arm64-exception-handling
 //! [.edata]: https://learn.microsoft.com/windows/win32/debug/pe-format#the-edata-section-image-only
 //! [.idata]: https://learn.microsoft.com/windows/win32/debug/pe-format#the-idata-section
+//! [delay load]: https://learn.microsoft.com/windows/win32/debug/pe-format#delay-load-import-tables-image-only
 //! [.tls]: https://learn.microsoft.com/windows/win32/debug/pe-format#the-tls-section
+//! [load config]: https://learn.microsoft.com/windows/win32/debug/pe-format#the-load-configuration-structure-image-only
 //! [.reloc]: https://learn.microsoft.com/windows/win32/debug/pe-format#the-reloc-section-image-only
+//! [ECMA-335]: https://www.ecma-international.org/publications-and-standards/standards/ecma-335/
+//! [section table]: https://learn.microsoft.com/windows/win32/debug/pe-format#section-table-section-headers
+//! [Rich header]: https://www.ntcore.com/files/richsign.htm
+//! [.rsrc]: https://learn.microsoft.com/windows/win32/debug/pe-format#the-rsrc-section
 //! [version information]: https://learn.microsoft.com/windows/win32/menurc/vs-versioninfo
 //!
 //! - An `Image` borrows the bytes of the file or module. Names, bodies and texts are slices of these bytes: they outlive the
@@ -68,13 +81,20 @@
 extern crate alloc;
 
 mod arm64;
+mod bound_imports;
 mod certificates;
+mod clr;
 mod debug;
+mod delay_imports;
 mod exports;
 mod frames;
 mod image;
 mod imports;
+mod load_config;
 mod relocations;
+mod resources;
+mod rich_header;
+mod section_names;
 mod signing;
 mod symbol_server;
 pub mod sys;
@@ -87,13 +107,19 @@ pub use arm64::{
     Arm64Code, Arm64Codes, Arm64Functions, Arm64Operation, Arm64Record, Arm64Scopes, Arm64Unwinding, CustomStack,
     RegisterKind,
 };
+pub use bound_imports::{BoundForwarder, BoundForwarders, BoundImport, BoundImports};
 pub use certificates::{Certificate, Certificates};
+pub use clr::{Clr, Metadata, MetadataStream, MetadataStreams};
 pub use debug::{DebugEntries, Pdb20, Pogo, PogoEntries, PogoEntry, Repro, SymbolKey};
+pub use delay_imports::{DelayImport, DelayImports, DelayedFunction, DelayedFunctions};
 pub use exports::{AddressTable, Export, Exported, Exports};
 pub use frames::{End, Frame, Frames, Module, Stack, StepError, Way};
 pub use image::{DirectoryIndex, Error, Image, Layout, Mode};
 pub use imports::{Import, Imports, Libraries, Library};
+pub use load_config::LoadConfig;
 pub use relocations::{Relocation, RelocationBlock, RelocationBlocks, Relocations};
+pub use resources::{ResourceLeaf, ResourceLeaves, ResourceName};
+pub use rich_header::{RichEntries, RichEntry, RichHeader};
 pub use signing::{Checksum, DigestRanges, Placement};
 pub use symbol_server::{Guid, SymbolPath};
 pub use sys::{

@@ -637,6 +637,63 @@ TlsDirectory, 40 {
     characteristics: u32,
 });
 record!(
+/// The load configuration, up to the guard flags. A field that its structure is too short for is 0, and so is the field of its
+/// name with `has_`, which else is 1. Addresses are virtual addresses. See [`LoadConfig`](crate::LoadConfig).
+LoadConfig, 88 {
+    /// Where the security cookie is.
+    security_cookie: u64,
+    /// Where the sorted table of the RVAs of exception handlers is, on x86.
+    se_handler_table: u64,
+    /// How many entries it has.
+    se_handler_count: u64,
+    /// Where the pointer is to what checks the target of an indirect call.
+    guard_cf_check_function_pointer: u64,
+    /// Where the pointer is to what checks the target and calls it.
+    guard_cf_dispatch_function_pointer: u64,
+    /// Where the sorted table of the functions is that may be called indirectly.
+    guard_cf_function_table: u64,
+    /// How many entries it has.
+    guard_cf_function_count: u64,
+    /// Of the structure in bytes, as it says itself.
+    size: u32,
+    /// Seconds since 1970.
+    time_date_stamp: u32,
+    /// `IMAGE_GUARD_*`.
+    guard_flags: u32,
+    /// Major part of a version.
+    major_version: u16,
+    /// Minor part of a version.
+    minor_version: u16,
+    /// Where DLLs that the image imports are looked for: flags of `LoadLibraryEx`.
+    dependent_load_flags: u16,
+    /// 0.
+    spare: u16,
+    /// 1 or 0.
+    has_time_date_stamp: u8,
+    /// 1 or 0.
+    has_major_version: u8,
+    /// 1 or 0.
+    has_minor_version: u8,
+    /// 1 or 0.
+    has_dependent_load_flags: u8,
+    /// 1 or 0.
+    has_security_cookie: u8,
+    /// 1 or 0.
+    has_se_handler_table: u8,
+    /// 1 or 0.
+    has_se_handler_count: u8,
+    /// 1 or 0.
+    has_guard_cf_check_function_pointer: u8,
+    /// 1 or 0.
+    has_guard_cf_dispatch_function_pointer: u8,
+    /// 1 or 0.
+    has_guard_cf_function_table: u8,
+    /// 1 or 0.
+    has_guard_cf_function_count: u8,
+    /// 1 or 0.
+    has_guard_flags: u8,
+});
+record!(
 /// A block of base relocations. See [`RelocationBlock`](crate::RelocationBlock).
 RelocationBlock, 24 {
     /// 2 bytes each; a walk through the relocations of the block.
@@ -655,6 +712,234 @@ Relocation, 16 {
     kind: u32,
     /// Low 16 bits of the number that `IMAGE_REL_BASED_HIGHADJ` (4) changes; else 0.
     argument: u32,
+});
+record!(
+/// The CLR header, `IMAGE_COR20_HEADER`. See [`Clr`](crate::Clr).
+ClrHeader, 72 {
+    /// Of the header in bytes, as it says itself: 72 or more.
+    cb: u32,
+    /// The version of the runtime that is needed, major part.
+    major_runtime_version: u16,
+    /// The version of the runtime that is needed, minor part.
+    minor_runtime_version: u16,
+    /// The metadata.
+    metadata: Directory,
+    /// `COMIMAGE_FLAGS_*`.
+    flags: u32,
+    /// A metadata token; an RVA with `COMIMAGE_FLAGS_NATIVE_ENTRYPOINT` (0x10).
+    entry_point_token: u32,
+    /// The managed resources.
+    resources: Directory,
+    /// The strong name signature.
+    strong_name_signature: Directory,
+    /// 0.
+    code_manager_table: Directory,
+    /// The fixups of tables of virtual functions.
+    vtable_fixups: Directory,
+    /// 0.
+    export_address_table_jumps: Directory,
+    /// The header of code that was compiled ahead of time (ReadyToRun), else 0.
+    managed_native_header: Directory,
+});
+record!(
+/// A walk over the streams of CLR metadata.
+MetadataStreams, 40 {
+    /// The metadata, from which the offsets of streams count.
+    metadata: Range,
+    /// The stream headers that are left, and the rest of the metadata.
+    headers: Range,
+    /// How many streams are left.
+    count: u16,
+    /// 0.
+    spare: u16,
+    /// 0.
+    spare_too: u32,
+});
+record!(
+/// The root of CLR metadata. See [`Metadata`](crate::Metadata).
+Metadata, 64 {
+    /// UTF-8 up to the first zero, and the zeros after it.
+    version: Range,
+    /// A walk over the streams, at its start.
+    streams: MetadataStreams,
+    /// Of the format of metadata.
+    major_version: u16,
+    /// Of the format of metadata.
+    minor_version: u16,
+    /// Reserved.
+    flags: u16,
+    /// 0.
+    spare: u16,
+});
+record!(
+/// A stream of CLR metadata. See [`MetadataStream`](crate::MetadataStream).
+MetadataStream, 48 {
+    /// Without its final zero.
+    name: Range,
+    /// The stream's bytes; empty unless `has_content`.
+    content: Range,
+    /// From the start of the metadata.
+    offset: u32,
+    /// In bytes.
+    size: u32,
+    /// 1 where the stream lies in the metadata, else 0.
+    has_content: u32,
+    /// 0.
+    spare: u32,
+});
+record!(
+/// An entry of the delay import directory, `IMAGE_DELAYLOAD_DESCRIPTOR`. Its addresses are RVAs where bit 0 of the attributes is
+/// set, else virtual addresses.
+DelayDescriptor, 32 {
+    /// Flags, of which bit 0 is defined.
+    attributes: u32,
+    /// Where the DLL's name is.
+    name: u32,
+    /// Where the DLL's handle is written when it is loaded.
+    module_handle: u32,
+    /// Where the functions' addresses are written.
+    import_address_table: u32,
+    /// Where the table of what is imported is.
+    import_name_table: u32,
+    /// Where the addresses are if the DLL has the time stamp; 0 for none.
+    bound_import_address_table: u32,
+    /// Where a copy of the address table is, to unload the DLL; 0 for none.
+    unload_information_table: u32,
+    /// Of the DLL to which the image is bound; 0 where it is not bound.
+    time_date_stamp: u32,
+});
+record!(
+/// A walk over what is imported of a DLL that is loaded later.
+DelayedFunctions, 24 {
+    /// The table from its next number on: 8 bytes each in PE32+, else 4.
+    left: Range,
+    /// Those of the DLL's entry.
+    attributes: u32,
+    /// 0.
+    spare: u32,
+});
+record!(
+/// A DLL that is loaded later. See [`DelayImport`](crate::DelayImport).
+DelayImport, 72 {
+    /// UTF-8, without its final zero.
+    name: Range,
+    /// A walk over what is imported of the DLL, at its start.
+    functions: DelayedFunctions,
+    /// The entry.
+    descriptor: DelayDescriptor,
+});
+record!(
+/// What is imported of a DLL that is loaded later. See [`DelayedFunction`](crate::DelayedFunction).
+DelayedFunction, 24 {
+    /// UTF-8, without its final zero; empty unless `has_name`.
+    name: Range,
+    /// The ordinal; with a name its hint.
+    ordinal: u32,
+    /// 1 or 0.
+    has_name: u32,
+});
+
+record!(
+/// What names a type of resources, a resource or a language. See [`ResourceName`](crate::ResourceName).
+ResourceName, 24 {
+    /// UTF-16 code units, little-endian, without a final zero; the empty range with an id.
+    name: Range,
+    /// Below 2^16; 0 with a name.
+    id: u32,
+    /// 1 with a name, 0 with an id.
+    has_name: u32,
+});
+record!(
+/// A leaf of a resource tree. See [`ResourceLeaf`](crate::ResourceLeaf).
+ResourceLeaf, 104 {
+    /// An id is `RT_` of winuser.h.
+    resource_type: ResourceName,
+    /// The resource among those of its type.
+    name: ResourceName,
+    /// An id is a language identifier; 0 for any language.
+    language: ResourceName,
+    /// The empty range where `content_result` is not [`DONE`].
+    content: Range,
+    /// [`DONE`], or why the content is not in the file.
+    content_result: u32,
+    /// RVA of the content.
+    rva: u32,
+    /// Bytes of the content.
+    size: u32,
+    /// Of texts in the content, mostly 0.
+    code_page: u32,
+});
+record!(
+/// `IMAGE_RESOURCE_DIRECTORY_ENTRY`.
+ResourceEntry, 8 {
+    /// With bit 31 the offset of a name, else an id.
+    name_or_id: u32,
+    /// With bit 31 the offset of a directory, else that of a data entry.
+    offset_to_data_or_directory: u32,
+});
+record!(
+/// A walk over leaves. The ranges of entries, 8 bytes each, count from the start of the tree.
+ResourceWalk, 80 {
+    /// The data of the resource directory.
+    tree: Range,
+    /// The types that are left.
+    types: Range,
+    /// The names that are left of a type.
+    names: Range,
+    /// The languages that are left of a name.
+    languages: Range,
+    /// The entry of this type.
+    resource_type: ResourceEntry,
+    /// The entry of this name.
+    name: ResourceEntry,
+});
+record!(
+/// The Rich header. See [`RichHeader`](crate::RichHeader).
+RichHeader, 40 {
+    /// 8 bytes each, XORed with the key; a walk through them.
+    entries: Range,
+    /// How many entries there are.
+    count: u64,
+    /// What the header is XORed with.
+    key: u32,
+    /// Of the DOS header, the DOS stub and the entries: the linker takes it as the key.
+    checksum: u32,
+    /// 1 where they are equal, else 0.
+    key_is_checksum: u32,
+    /// 0.
+    spare: u32,
+});
+record!(
+/// An entry of a Rich header.
+RichEntry, 8 {
+    /// The build of the tool.
+    build: u16,
+    /// Which tool it is.
+    product: u16,
+    /// How many objects it made.
+    count: u32,
+});
+record!(
+/// A bound import, `IMAGE_BOUND_IMPORT_DESCRIPTOR`. See [`BoundImport`](crate::BoundImport).
+BoundImport, 40 {
+    /// UTF-8, not NUL-terminated.
+    name: Range,
+    /// 8 bytes each; a walk through the DLLs that this one forwards to.
+    forwarders: Range,
+    /// Of the DLL.
+    time_date_stamp: u32,
+    /// 0.
+    spare: u32,
+});
+record!(
+/// A DLL that another one forwards to, `IMAGE_BOUND_FORWARDER_REF`. See [`BoundForwarder`](crate::BoundForwarder).
+BoundForwarder, 24 {
+    /// UTF-8, not NUL-terminated.
+    name: Range,
+    /// Of the DLL.
+    time_date_stamp: u32,
+    /// 0.
+    spare: u32,
 });
 
 /// Declares calls that take an image first, after their names more parameters, and then `out`.
@@ -782,6 +1067,26 @@ calls_of_bytes! {
     pe_c_next_arm64_code(walk: *mut Arm64Walk) -> Arm64Code;
     /// Returns the next TLS callback, a virtual address.
     pe_c_next_tls_callback(image: *const ImageInfo, walk: *mut Range) -> u64;
+    /// Returns the next stream of CLR metadata.
+    pe_c_next_metadata_stream(walk: *mut MetadataStreams) -> MetadataStream;
+    /// Returns the fixed file information in the content of a leaf.
+    pe_c_fixed_version_in(content: *const Range) -> Version;
+    /// Returns the value of a version name in the content of a leaf.
+    pe_c_version_text_in(content: *const Range, name: u32) -> Range;
+    /// Returns the COFF string table.
+    pe_c_string_table(image: *const ImageInfo) -> Range;
+    /// Returns the name of a section in the string table.
+    pe_c_long_section_name(table: *const Range, section: *const Section) -> Range;
+    /// Returns the Rich header.
+    pe_c_rich_header() -> RichHeader;
+    /// Returns the next entry of a Rich header.
+    pe_c_next_rich_entry(key: u32, walk: *mut Range) -> RichEntry;
+    /// Returns the directory of bound imports.
+    pe_c_bound_imports(image: *const ImageInfo) -> Range;
+    /// Returns the next bound import.
+    pe_c_next_bound_import(table: *const Range, walk: *mut Range) -> BoundImport;
+    /// Returns the next DLL that a bound import forwards to.
+    pe_c_next_bound_forwarder(table: *const Range, walk: *mut Range) -> BoundForwarder;
     /// Returns the next block of base relocations.
     pe_c_next_relocation_block(walk: *mut Range) -> RelocationBlock;
     /// Returns the next relocation of a block.
@@ -831,16 +1136,32 @@ calls_of_an_image! {
     pe_c_next_library(walk: *mut Libraries) -> Library;
     /// Returns the next import of a library.
     pe_c_next_import(walk: *mut Imports) -> Import;
+    /// Returns the entries of the delay import directory, as a walk.
+    pe_c_delay_imports() -> Range;
+    /// Returns the next DLL of the delay import directory.
+    pe_c_next_delay_import(walk: *mut Range) -> DelayImport;
+    /// Returns the next function of a DLL of the delay import directory.
+    pe_c_next_delayed_function(walk: *mut DelayedFunctions) -> DelayedFunction;
     /// Returns the fixed file information.
     pe_c_fixed_version() -> Version;
     /// Returns the value of a version name, by its number in the order of [`VersionName`](crate::VersionName).
     pe_c_version_text(name: u32) -> Range;
     /// Returns the range of the manifest.
     pe_c_manifest() -> Range;
+    /// Returns the leaves of the resource tree, as a walk.
+    pe_c_resource_leaves() -> ResourceWalk;
+    /// Returns the next leaf.
+    pe_c_next_resource_leaf(walk: *mut ResourceWalk) -> ResourceLeaf;
     /// Returns the TLS directory.
     pe_c_tls() -> TlsDirectory;
     /// Returns the callbacks of a TLS directory, as a walk.
     pe_c_tls_callbacks(tls: *const TlsDirectory) -> Range;
+    /// Returns the load configuration.
+    pe_c_load_config() -> LoadConfig;
     /// Returns the blocks of the base relocations, as a walk.
     pe_c_relocation_blocks() -> Range;
+    /// Returns the CLR header.
+    pe_c_clr_header() -> ClrHeader;
+    /// Returns the root of the metadata of a CLR header.
+    pe_c_clr_metadata(header: *const ClrHeader) -> Metadata;
 }

@@ -143,7 +143,7 @@ fn images_are_refused_by_number() {
 #[test]
 fn answers_have_texts() {
     let mut texts = Vec::new();
-    for number in (0..=40).chain([100, 101, 102, u32::MAX]).chain(201..=207).chain(301..=309) {
+    for number in (0..=40).chain([100, 101, 102, u32::MAX]).chain(201..=207).chain(301..=309).chain(401..=404) {
         let mut room = [0; 128];
         // SAFETY: the pointer and the length are those of one array.
         let length = unsafe { pe_c::sys::pe_c_text(number, room.as_mut_ptr(), room.len()) };
@@ -152,12 +152,14 @@ fn answers_have_texts() {
     }
     assert_eq!(Error::SHORT.to_string(), texts[2]);
     assert!(texts[2].contains("truncated"), "{}", texts[2]);
-    // those of 1 to 37, of 100 and 101, of 201 to 206 and of 301 to 308 differ from each other and from that of all others
-    let mut known: Vec<_> = texts[1..38].iter().chain(&texts[41..43]).chain(&texts[45..60]).collect();
+    // those of 1 to 37, of 100 and 101, of 201 to 206, of 301 to 308 and of 401 to 403 differ from each other and from that of
+    // all others
+    let mut known: Vec<_> =
+        texts[1..38].iter().chain(&texts[41..43]).chain(&texts[45..60]).chain(&texts[61..64]).collect();
     known.sort();
     known.dedup();
-    assert_eq!(known.len(), 54);
-    assert_eq!((&texts[51], &texts[60]), (&texts[44], &texts[44]));
+    assert_eq!(known.len(), 57);
+    assert_eq!([&texts[51], &texts[60], &texts[64]], [&texts[44]; 3]);
 }
 
 #[test]

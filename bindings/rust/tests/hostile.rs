@@ -16,7 +16,7 @@ const WAYS: [(Mode, Layout); 4] = [
 
 #[test]
 fn every_beginning_of_an_image_is_read_or_refused() {
-    for (_, image) in made::all() {
+    for (_, image) in made::all().into_iter().chain(made::more()) {
         for length in 0..image.len() {
             // an allocation of its own, so that a memory checker sees a read past its end
             let bytes = image[..length].to_vec();
@@ -29,7 +29,7 @@ fn every_beginning_of_an_image_is_read_or_refused() {
 
 #[test]
 fn every_byte_of_an_image_may_change() {
-    for (_, image) in made::all() {
+    for (_, image) in made::all().into_iter().chain(made::more()) {
         for offset in 0..image.len() {
             for value in [0, 1, 0x7F, 0x80, 0xFF] {
                 let mut bytes = image.clone();
@@ -116,6 +116,17 @@ fn ranges_that_lie_are_refused() {
                 let (mut table, mut certificate) = (range, sys::Certificate::default());
                 let answer = sys::pe_c_next_certificate(start, length, &mut table, &mut certificate);
                 assert_eq!(answer == 10, !there);
+                let mut fixed = sys::Version::default();
+                let answer = sys::pe_c_fixed_version_in(start, length, &range, &mut fixed);
+                assert!(there || answer == 2);
+                let (mut table, mut import) = (range, sys::BoundImport::default());
+                let answer = sys::pe_c_next_bound_import(start, length, &range, &mut table, &mut import);
+                assert!(there || answer == 2);
+                let (mut entries, mut entry) = (range, sys::RichEntry::default());
+                let answer = sys::pe_c_next_rich_entry(start, length, 7, &mut entries, &mut entry);
+                assert!(there || answer == 2);
+                let answer = sys::pe_c_long_section_name(start, length, &range, &sections[0], &mut out);
+                assert!(there || answer == 2);
             }
             walk(&bytes, there, range, sys::pe_c_next_debug_entry);
             walk(&bytes, there, range, sys::pe_c_next_pogo_entry);
@@ -161,6 +172,68 @@ fn walks_over_imports_that_lie_end() {
                 sys::pe_c_next_import(bytes, length, info, sections, count, walk, out)
             });
             assert!(left.of(&bytes).is_some() || first == 2);
+        }
+    }
+}
+
+#[test]
+fn walks_over_delay_imports_and_streams_that_lie_end() {
+    let bytes = with_delay_imports();
+    let length = bytes.len();
+    let image = Image::parse(&bytes, Mode::Strict).unwrap();
+    let (info, sections) = (image.info(), image.sections());
+    for offset in lies(length as u64) {
+        for size in lies(length as u64) {
+            let range = sys::Range { offset, length: size };
+            let there = range.of(&bytes).is_some();
+            // SAFETY: the pointers and lengths are those of slices, and the records are lent for the call.
+            let first = first_of_all(length, range, |walk, out| unsafe {
+                let (bytes, sections, count) = (bytes.as_ptr(), sections.as_ptr(), sections.len());
+                sys::pe_c_next_delay_import(bytes, length, info, sections, count, walk, out)
+            });
+            assert!(there || first == 2);
+            let start = sys::DelayedFunctions { left: range, attributes: size as u32, spare: 9 };
+            // SAFETY: as above.
+            let first = first_of_all(length, start, |walk, out| unsafe {
+                let (bytes, sections, count) = (bytes.as_ptr(), sections.as_ptr(), sections.len());
+                sys::pe_c_next_delayed_function(bytes, length, info, sections, count, walk, out)
+            });
+            assert!(there || first == 2);
+            let whole = sys::Range { offset: 0, length: length as u64 };
+            for (metadata, headers) in [(range, whole), (whole, range), (range, range)] {
+                let streams = sys::MetadataStreams { metadata, headers, count: u16::MAX, spare: 9, spare_too: 9 };
+                walk(&bytes, there, streams, sys::pe_c_next_metadata_stream);
+            }
+        }
+    }
+}
+
+#[test]
+fn walks_over_leaves_that_lie_end() {
+    let bytes = with_named_resources();
+    let length = bytes.len();
+    let image = Image::parse(&bytes, Mode::Strict).unwrap();
+    let (info, sections) = (image.info(), image.sections());
+    let (tree, none) = (sys::Range { offset: 0x408, length: 0x8E }, sys::Range::default());
+    let whole = sys::ResourceWalk { tree, ..sys::ResourceWalk::default() };
+    let entry = sys::ResourceEntry { name_or_id: u32::MAX, offset_to_data_or_directory: u32::MAX };
+    for (offset, size) in
+        lies(length as u64).into_iter().flat_map(|it| lies(0x8E).into_iter().map(move |size| (it, size)))
+    {
+        let lie = sys::Range { offset, length: size };
+        let is_in_tree = lie.of(&[0; 0x8E]).is_some();
+        for (walk, there) in [
+            (sys::ResourceWalk { tree: lie, types: none, ..whole }, lie.of(&bytes).is_some()),
+            (sys::ResourceWalk { types: lie, ..whole }, is_in_tree),
+            (sys::ResourceWalk { names: lie, resource_type: entry, ..whole }, is_in_tree),
+            (sys::ResourceWalk { languages: lie, name: entry, ..whole }, is_in_tree),
+        ] {
+            // SAFETY: the pointers and lengths are those of slices, and the records are lent for the call.
+            let first = first_of_all(length * length, walk, |walk, out| unsafe {
+                let (bytes, sections, count) = (bytes.as_ptr(), sections.as_ptr(), sections.len());
+                sys::pe_c_next_resource_leaf(bytes, length, info, sections, count, walk, out)
+            });
+            assert!(there || first == 2);
         }
     }
 }

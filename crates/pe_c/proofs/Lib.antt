@@ -4,6 +4,7 @@ pub mod Arm64CodeRuns
 pub mod CertificateRuns
 pub mod CodeRuns
 pub mod DigestParts
+pub mod DirectoryParts
 pub mod EntryRuns
 pub mod EvenRecords
 pub mod ExportParts
@@ -25,3 +26,4 @@ pub mod Runs
 pub mod Steps
 pub mod VersionsReported
 pub mod Ways
+pub mod LeafRuns

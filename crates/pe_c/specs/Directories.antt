@@ -60,16 +60,17 @@ table_at i b image sections =
 
 -- ---- walks by what stands first in what is left
 
--- what stands first in the bytes of a range, or why the range has no bytes
-abbrev pub first_of : {X : Type 0} → (List ℕ → First X (List ℕ)) → Result (List ℕ) DirectoryRefusal → First X (List ℕ)
+-- what stands first in what is left, or why there is none of it
+abbrev pub first_of : {X S : Type 0} → (S → First X S) → Result S DirectoryRefusal → First X S
 first_of first (Ok left) = first left
 first_of first (Err refusal) = Some (Err refusal)
 
+-- what stands first in the bytes of a range, or why the range has no bytes
 abbrev pub first_in : {X : Type 0} → (List ℕ → First X (List ℕ)) → List ℕ → Range → First X (List ℕ)
 first_in first b r = first_of first (of_image (bytes_at b r))
 
 -- what a step returns: the item as callers get it
-abbrev pub step_of : {X Y : Type 0} → (X → Y) → First X (List ℕ) → Result (Option Y) DirectoryRefusal
+abbrev pub step_of : {X Y S : Type 0} → (X → Y) → First X S → Result (Option Y) DirectoryRefusal
 step_of report None = Ok None
 step_of report (Some (Ok x)) = Ok (Some (report x.0))
 step_of report (Some (Err refusal)) = Err refusal

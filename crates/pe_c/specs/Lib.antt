@@ -2,12 +2,15 @@ pub mod HandsOut
 pub mod Arm64
 pub mod Arm64Frames
 pub mod Certificates
+pub mod Clr
 pub mod Debug
 pub mod DebugWalks
+pub mod DelayImports
 pub mod ExportAddresses
 pub mod Exports
 pub mod Images
 pub mod Imports
+pub mod LoadConfigs
 pub mod Modes
 pub mod Parts
 pub mod Plans
@@ -20,3 +23,7 @@ pub mod Unwinding
 pub mod Versions
 pub mod Walks
 pub mod Directories
+pub mod ResourceLeaves
+pub mod RichHeaders
+pub mod BoundImports
+pub mod SectionNames

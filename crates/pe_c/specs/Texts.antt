@@ -96,8 +96,21 @@ directory_texts =
 unfoldable pub directory_text : ℕ → List ℕ
 directory_text n = slice_index_or directory_texts n (codes "unknown result")
 
+-- the texts of the refusals of resource trees, in the order of their numbers
+abbrev pub tree_texts : List (List ℕ)
+tree_texts =
+    codes "resource data entry above the level of languages" ∷
+    codes "resource directory below the level of languages" ∷
+    codes "resource directory of names or languages has no entries" ∷
+    []
+
+-- the text of a refusal of a resource tree, by its number from 401 on
+unfoldable pub tree_text : ℕ → List ℕ
+tree_text n = slice_index_or tree_texts n (codes "unknown result")
+
 -- the text of the number of a result
 unfoldable pub result_text : ℕ → List ℕ
 result_text n =
     if nat_lt n 100 then refusal_text n
-    else (if nat_lt n 201 then other_text n else (if nat_lt n 301 then sign_text (n - 201) else directory_text (n - 301)))
+    else (if nat_lt n 201 then other_text n
+    else (if nat_lt n 301 then sign_text (n - 201) else (if nat_lt n 401 then directory_text (n - 301) else tree_text (n - 401))))

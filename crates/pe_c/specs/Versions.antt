@@ -1,6 +1,7 @@
 -- The version information of an image, and its manifest.
 use Rattle.std.specs.Prelude.{◌≡◌, ℕ, ◌==◌, Bool, true, false, List, Option, Some, None, Result, Ok, if◌then◌else◌}
 use Rattle.std.specs.Option.{option_map}
+use Rattle.pe_core.specs.Bytes.{record_at}
 use Rattle.pe_core.specs.Offsets.{bytes_in}
 use Rattle.pe_core.specs.Refusals.{Refusal, ◌>>=◌}
 use Rattle.pe_core.specs.declared.byte_range.ByteRange.{ByteRange}
@@ -70,6 +71,20 @@ abbrev pub HandsOutText : List ℕ → Image → List SectionTable → ℕ → O
 HandsOutText b image sections mode None number old new = (number ≡ 100) × (new ≡ old)
 HandsOutText b image sections mode (Some name) number old new =
     (c : Result (Option ByteRange) Refusal) × IsContentOf b image sections mode 16 c × HandsOutIf number old new (c >>= value_at b name)
+
+-- ---- the same of one version information, whose range a caller has
+
+-- a range of the bytes, or `Short` where it is not inside them
+abbrev pub content_at : List ℕ → Range → Result ByteRange Refusal
+content_at b r = record_at b r.offset r.length (record { offset = r.offset; length = r.length })
+
+abbrev pub fixed_in : List ℕ → Range → Result (Option VsFixedFileInfo) Refusal
+fixed_in b r = content_at b r >>= λ c. fixed_at b (Some c)
+
+-- the range of the value of a name; any other number is no name
+abbrev pub text_in : List ℕ → Range → Option VersionName → Result (Option Range) Refusal
+text_in b r None = Ok None
+text_in b r (Some name) = content_at b r >>= λ c. value_at b name (Some c)
 
 -- ---- the same by the resources
 

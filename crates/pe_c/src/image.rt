@@ -81,6 +81,14 @@ pub const DEBUG_TABLE: usize = 6;
 
 pub const TLS_TABLE: usize = 9;
 
+pub const LOAD_CONFIG_TABLE: usize = 10;
+
+pub const DELAY_IMPORT_DESCRIPTOR: usize = 13;
+
+pub const CLR_RUNTIME_HEADER: usize = 14;
+
+pub const BOUND_IMPORT_TABLE: usize = 11;
+
 /// Bytes from the PE signature to the optional header.
 const SIZE_BEFORE_OPTIONAL_HEADER: u64 = 24;
 

@@ -13,18 +13,25 @@
 
 mod arm64;
 mod base_relocations;
+mod bound_imports;
 mod certificates;
+mod clr;
 mod debug;
 mod debug_walks;
+mod delay_imports;
 mod directories;
 mod export_addresses;
 mod exports;
 mod image;
 mod imports;
 pub mod laws;
+mod load_config;
 mod plan;
 mod ranges;
+mod resource_leaves;
 mod results;
+mod rich_header;
+mod section_names;
 mod signing;
 mod stack_frames;
 mod texts;

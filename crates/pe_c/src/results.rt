@@ -7,12 +7,15 @@ ghost use Rattle.pe_core.specs.Refusals.{kind_of, kind_of_reason, answer_of};
 ghost use Rattle.pe_c.specs.Directories.{DirectoryHandsOut, directory_number};
 ghost use Rattle.pe_c.specs.HandsOut.{result_number, HandsOut, HandsOutIf};
 ghost use Rattle.pe_c.specs.Modes.{options_of};
+ghost use Rattle.pe_c.specs.ResourceLeaves.{TreeHandsOut, tree_number};
 ghost use Rattle.pe_c.specs.Signing.{SignHandsOut, sign_number};
 ghost use Rattle.pe_directories.specs.DirectoryRefusals.{directory_answer, directory_kind_of};
+ghost use Rattle.pe_resource.specs.Leaves.{tree_answer, tree_kind_of};
 ghost use Rattle.pe_sign.specs.SignRefusals.{sign_answer_of, sign_kind_of};
 
 use pe_core::{Error, ParseMode, ParseOptions, Reason, Result};
 use pe_directories::DirectoryError;
+use pe_resource::ResourceTreeError;
 use pe_sign::SignError;
 
 /// The call succeeded.
@@ -136,6 +139,18 @@ pub fn number_of_directory(error: &DirectoryError) -> u32
     }
 }
 
+/// The number of an error of a resource tree. It stays the same from version to version. `tools/make_errors` writes the arms.
+pub fn number_of_tree(error: &ResourceTreeError) -> u32
+    ensures { result ≡ tree_number (tree_kind_of error.now) }
+{
+    match error {
+        ResourceTreeError::Image(error) => number_of(error),
+        ResourceTreeError::NotDirectory(_) => 401,
+        ResourceTreeError::NotData(_) => 402,
+        ResourceTreeError::NoEntries(_) => 403,
+    }
+}
+
 /// The options of a mode: bit 0 is permissive mode, bit 1 an image as loaded, whose RVAs are its offsets.
 pub fn options(mode: u32) -> ParseOptions
     ensures { result ≡ options_of mode }
@@ -206,5 +221,22 @@ pub fn hand_out_found<T: Copy>(
         }
         Ok(None) => NOTHING,
         Err(error) => number_of_directory(&error),
+    }
+}
+
+/// The same of what may be absent, by an error of a resource tree.
+pub fn hand_out_leaf<T: Copy>(
+    given: std::result::Result<Option<T>, ResourceTreeError>,
+    out: &mut T,
+) -> u32
+    ensures { TreeHandsOut result out.old out.new (tree_answer given) }
+{
+    match given {
+        Ok(Some(value)) => {
+            *out = value;
+            DONE
+        }
+        Ok(None) => NOTHING,
+        Err(error) => number_of_tree(&error),
     }
 }

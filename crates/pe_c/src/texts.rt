@@ -1,7 +1,7 @@
 //! The texts of the results of calls, for a caller's messages.
 
 ghost use Rattle.std.specs.Prelude.{◌≡◌, ◌≤◌, length, take, drop, ◌++◌};
-ghost use Rattle.pe_c.specs.Texts.{refusal_text, other_text, result_text, sign_text, directory_text};
+ghost use Rattle.pe_c.specs.Texts.{refusal_text, other_text, result_text, sign_text, directory_text, tree_text};
 
 use crate::results::{BAD_ADDRESS, BAD_OPERATION, LONG_CHAIN, MISSING, NOT_RISING, NOTHING, ROOM};
 
@@ -10,6 +10,9 @@ const SIGNING: u32 = 201;
 
 /// The number of the first error of the directories that pe_directories reads.
 const DIRECTORIES: u32 = 301;
+
+/// The number of the first error of resource trees.
+const TREES: u32 = 401;
 
 /// The text of 0 or of the number of an error. `tools/make_errors` writes the arms.
 #[tactic(auto, unfolding(crate::specs::Texts::refusal_text))]
@@ -111,6 +114,19 @@ fn directory_text(number: u32) -> &'static str
     }
 }
 
+/// The text of an error of a resource tree, by its number from `TREES` on. `tools/make_errors` writes the arms.
+#[tactic(auto, unfolding(crate::specs::Texts::tree_text))]
+fn tree_text(number: u32) -> &'static str
+    ensures { result.now ≡ tree_text number }
+{
+    match number {
+        0 => "resource data entry above the level of languages",
+        1 => "resource directory below the level of languages",
+        2 => "resource directory of names or languages has no entries",
+        _ => "unknown result",
+    }
+}
+
 /// The text of the number of a result.
 #[tactic(auto, unfolding(crate::specs::Texts::result_text))]
 fn text_of(number: u32) -> &'static str
@@ -122,8 +138,10 @@ fn text_of(number: u32) -> &'static str
         other_text(number)
     } else if number < DIRECTORIES {
         sign_text(number - SIGNING)
-    } else {
+    } else if number < TREES {
         directory_text(number - DIRECTORIES)
+    } else {
+        tree_text(number - TREES)
     }
 }
 

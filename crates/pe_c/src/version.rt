@@ -8,12 +8,13 @@ ghost use Rattle.std.specs.Option.{option_map};
 ghost use Rattle.pe_core.specs.Offsets.{IsWithin};
 ghost use Rattle.pe_core.specs.Refusals.{answer_of};
 ghost use Rattle.pe_resource.specs.Contents.{inner};
-ghost use Rattle.pe_c.specs.Versions.{IsContentOf, HandsOutManifest, fixed_at, HandsOutFixed, value_at, name_at, HandsOutText};
+ghost use Rattle.pe_c.specs.HandsOut.{HandsOutIf};
+ghost use Rattle.pe_c.specs.Versions.{IsContentOf, HandsOutManifest, content_at, fixed_at, fixed_in, HandsOutFixed, value_at, name_at, text_in, HandsOutText};
 
 use crate::image::{Image, RESOURCE_TABLE, directory, is_absent};
 use crate::ranges::{Range, range_of};
 use crate::results::{NOTHING, hand_out_some, number_of, options};
-use pe_core::{ByteRange, Result, SectionTable};
+use pe_core::{ByteRange, Result, SectionTable, require_bytes};
 use pe_resource::{RT_MANIFEST, RT_VERSION, ResourceData, VersionName, VsFixedFileInfo};
 
 /// The range of the content of the first resource with an id, if the image has resources and this one.
@@ -147,4 +148,65 @@ pub extern "C" fn pe_c_version_text(
         Ok(content) => hand_out_some(value_at(bytes, name, content), out),
         Err(error) => number_of(&error),
     }
+}
+
+/// The content at a range that a caller passes. `Short` where it is not inside the bytes.
+fn content_at(bytes: &[u8], content: &Range) -> Result<ByteRange>
+    ensures content { answer_of result ≡ content_at bytes.now content.now }
+    ensures within { IfOk result (IsWithin bytes.now) }
+{
+    let content = ByteRange {
+        offset: content.offset as usize,
+        length: content.length as usize,
+    };
+    require_bytes(bytes, content.offset, content.length)?;
+    Ok(content)
+}
+
+fn fixed_in(bytes: &[u8], content: &Range) -> Result<Option<VsFixedFileInfo>>
+    ensures { answer_of result ≡ fixed_in bytes.now content.now }
+{
+    let content = content_at(bytes, content)?;
+    fixed_at(bytes, Some(content))
+}
+
+/// Reads the fixed file information of one version information, the content of a leaf of type 16 (`RT_VERSION`): `NOTHING` where
+/// it has none.
+///
+/// Errors: `SHORT` where `content` is not inside the bytes; those of `VsFixedFileInfo::of_strings`.
+#[unsafe(no_mangle)]
+pub extern "C" fn pe_c_fixed_version_in(
+    bytes: &[u8],
+    content: &Range,
+    out: &mut VsFixedFileInfo,
+) -> u32
+    ensures { HandsOutIf result out.old out.new (fixed_in bytes.now content.now) }
+{
+    hand_out_some(fixed_in(bytes, content), out)
+}
+
+fn text_in(bytes: &[u8], content: &Range, name: Option<VersionName>) -> Result<Option<Range>>
+    ensures { answer_of result ≡ text_in bytes.now content.now name }
+{
+    let Some(name) = name else {
+        return Ok(None);
+    };
+    let content = content_at(bytes, content)?;
+    value_at(bytes, name, Some(content))
+}
+
+/// Returns the range of the value of a name in one version information, as `pe_c_version_text` does: `NOTHING` where it has no
+/// string of that name, and for a number above 11.
+///
+/// Errors: `SHORT` where `content` is not inside the bytes; those of `VersionName::value_range`.
+#[unsafe(no_mangle)]
+pub extern "C" fn pe_c_version_text_in(
+    bytes: &[u8],
+    content: &Range,
+    name: u32,
+    out: &mut Range,
+) -> u32
+    ensures { HandsOutIf result out.old out.new (text_in bytes.now content.now (name_at name)) }
+{
+    hand_out_some(text_in(bytes, content, name_at(name)), out)
 }

@@ -41,6 +41,10 @@ offset_in_name name =
     then (if slice_index name 1 == 47 then number_after true 0 (drop 2 name) else number_after false 0 (drop 1 name))
     else None
 
+-- the offset that the name of a section leads to
+abbrev pub string_offset : SectionTable → Option ℕ
+string_offset s = option_and_then offset_in_name (section_name s)
+
 -- the string of a string table that the name of a section leads to
 unfoldable pub long_section_name : SectionTable → List ℕ → Option (List ℕ)
-long_section_name s table = option_and_then (string_at table) (option_and_then offset_in_name (section_name s))
+long_section_name s table = option_and_then (string_at table) (string_offset s)

@@ -14,7 +14,7 @@ ghost use Rattle.pe_core.specs.EntriesLeft.{bytes_left};
 ghost use Rattle.pe_directories.specs.BoundImports.{bound_view, bound_of, bound_forwarder_at, first_bound_import, bound_imports_left, bound_table, bound_name};
 ghost use Rattle.pe_directories.specs.DirectoryRefusals.{DirectoryReturns};
 ghost use Rattle.pe_directories.specs.ForwardersAfter.{forwarders_after};
-ghost use Rattle.pe_directories.specs.Walks.{ReturnsFirst, LeavesFewer, Steps, most_left};
+ghost use Rattle.pe_directories.specs.Walks.{ReturnsFirst, LeavesFewer, Steps, most_left, rest_of};
 
 use crate::error::{DirectoryError, Result};
 use pe_core::{
@@ -156,6 +156,15 @@ fn first_bound_import<'a>(bytes: &'a [u8]) -> Option<Result<(BoundImport<'a>, &'
 #[derive(Clone, Copy, Debug)]
 pub struct BoundImports<'a> {
     left: Option<&'a [u8]>,
+}
+
+impl<'a> BoundImports<'a> {
+    /// The bytes that are left: those of the next item are at their start. Empty if the walk is over.
+    pub fn rest(&self) -> &'a [u8]
+        ensures { result.now ≡ rest_of (bound_imports_left self.now) }
+    {
+        self.left.unwrap_or_default()
+    }
 }
 
 impl<'a> Iterator for BoundImports<'a> {

@@ -11,7 +11,7 @@ ghost use Rattle.std.specs.Iterator.{at_most};
 ghost use Rattle.pe_core.specs.Records.{data_directory};
 ghost use Rattle.pe_core.specs.Text.{text_at};
 ghost use Rattle.pe_directories.specs.DirectoryRefusals.{DirectoryReturns};
-ghost use Rattle.pe_directories.specs.Walks.{Steps};
+ghost use Rattle.pe_directories.specs.Walks.{Steps, rest_of};
 ghost use Rattle.pe_directories.specs.Clr.{clr_header_at, clr_header, metadata_view, metadata_of, clr_metadata, stream_view, name_field, name_length, stream_of, first_stream, streams_left, most_streams, stream_bytes};
 ghost use Rattle.pe_directories.specs.ImageParts.{image_view};
 
@@ -37,6 +37,7 @@ const NAME_OFFSET: usize = 8;
 const MOST_OF_NAME: usize = 32;
 
 /// The CLR header (`IMAGE_COR20_HEADER`), 72 bytes. Directories in it are RVAs and sizes.
+#[repr(C)]
 #[derive(Clone, Copy, Debug, PartialEq)]
 pub struct ClrHeader {
     /// The size of the header in bytes.
@@ -252,6 +253,15 @@ fn stream_at<'a>(bytes: &'a [u8]) -> Result<(ClrStream<'a>, &'a [u8])>
 pub struct ClrStreams<'a> {
     count: u16,
     left: Option<&'a [u8]>,
+}
+
+impl<'a> ClrStreams<'a> {
+    /// The bytes that are left: the header of the next stream is at their start. Empty if the walk is over.
+    pub fn rest(&self) -> &'a [u8]
+        ensures { result.now ≡ rest_of (option_map (λ s. s.1) (streams_left self.now)) }
+    {
+        self.left.unwrap_or_default()
+    }
 }
 
 impl<'a> Iterator for ClrStreams<'a> {

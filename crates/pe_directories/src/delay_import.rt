@@ -97,7 +97,7 @@ impl DelayImport {
     /// The offset of an address of the entry in the bytes. Errors, in order: `VaBelowBase` of a virtual address; `Image` with
     /// `Unmapped`.
     #[tactic(auto, unfolding(crate::specs::DelayImports::offset_in_entry))]
-    fn offset_of(&self, image: &ImageBytes<'_>, address: u32) -> Result<usize>
+    pub fn offset_of(&self, image: &ImageBytes<'_>, address: u32) -> Result<usize>
         ensures { DirectoryReturns (λ p. p) result (offset_in_entry (image_view image.now) self.now address) }
     {
         if self.attributes % 2 == 1 {

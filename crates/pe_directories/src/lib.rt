@@ -38,6 +38,6 @@ pub use error::DirectoryError;
 pub use image_bytes::ImageBytes;
 pub use load_config::LoadConfig;
 pub use rich_header::{RichEntry, RichHeader};
-pub use section_name::long_section_name;
+pub use section_name::{long_section_name, string_offset};
 pub use tls::TlsDirectory;
 pub use va_table::VaTable;

@@ -41,6 +41,7 @@ pub struct RichHeader<'a> {
 }
 
 /// An entry of a Rich header: a tool, and how many objects of the image it made.
+#[repr(C)]
 #[derive(Clone, Copy, Debug, PartialEq)]
 pub struct RichEntry {
     /// The build of the tool.

@@ -5,7 +5,7 @@
 
 ghost use Rattle.std.specs.Prelude.{◌≡◌, ◌<◌};
 ghost use Rattle.std.specs.Option.{option_map};
-ghost use Rattle.pe_directories.specs.SectionNames.{digit_of, with_digit, number_after, offset_in_name, long_section_name};
+ghost use Rattle.pe_directories.specs.SectionNames.{digit_of, with_digit, number_after, offset_in_name, string_offset, long_section_name};
 
 use pe_core::{SectionTable, Strtab};
 
@@ -66,6 +66,14 @@ fn offset_in_name(name: &[u8]) -> Option<u32>
     }
 }
 
+/// The offset in the string table that the name of a section leads to, from the size field of the table. `None` if the name is
+/// none that leads there, as `.text`.
+pub fn string_offset(section: &SectionTable) -> Option<u32>
+    ensures { result ≡ string_offset section.now }
+{
+    offset_in_name(section.name()?.as_bytes())
+}
+
 /// The string of `strings`, the string table of the object or image, that the name of a section leads to. `None` if the name
 /// is none that leads there, as `.text`, or if there is no string at its offset.
 #[tactic(auto, unfolding(crate::specs::SectionNames::long_section_name))]
@@ -73,6 +81,6 @@ pub fn long_section_name<'a>(section: &SectionTable, strings: &Strtab<'a>) -> Op
     ensures { option_map (λ s. s.now) result
         ≡ long_section_name section.now strings.now.bytes.now }
 {
-    let offset = offset_in_name(section.name()?.as_bytes())?;
+    let offset = string_offset(section)?;
     strings.string_at(offset as usize)
 }

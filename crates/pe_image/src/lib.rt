@@ -147,6 +147,7 @@ pub use pe_records::enumerate_certificates;
 pub use pe_resource::IMAGE_RESOURCE_DATA_IS_DIRECTORY;
 pub use pe_resource::IMAGE_RESOURCE_MASK;
 pub use pe_resource::IMAGE_RESOURCE_NAME_IS_STRING;
+pub use pe_resource::LeafPosition;
 pub use pe_resource::ImageResourceDirectory;
 pub use pe_resource::ManifestData;
 pub use pe_resource::RESOURCE_ENTRY_SIZE;

@@ -1,9 +1,12 @@
 -- The leaves that a walk has left, by what it takes next: a language, a name, a type.
-use Rattle.std.proofs.Common.{◌≡◌, ℕ, List, [], ◌∷◌, ◌++◌, map, Result, refl, ap}
+use Rattle.std.proofs.Common.{◌≡◌, ℕ, ◌+◌, ◌-◌, ◌<◌, ◌≤◌, List, [], ◌∷◌, ◌++◌, length, drop, map, Result, refl, sym, ap, ◌∙◌, arith}
 use Rattle.std.specs.List.{flat_map}
-use Rattle.std.proofs.lemmas.List.{append_assoc}
+use Rattle.std.proofs.lemmas.List.{append_assoc, places, same_lists}
+use Rattle.pe_core.specs.Bytes.{range}
 use Rattle.pe_resource.specs.declared.entry.ResourceEntry.{ResourceEntry}
 use Rattle.pe_resource.specs.declared.leaves.ResourceLeaf.{ResourceLeaf}
+use Rattle.pe_resource.specs.ResourceEntries.{entry_at, entries}
+use Rattle.pe_resource.proofs.Entries.{entries_more, entries_none}
 use Rattle.pe_resource.specs.Leaves.{TreeRefusal, leaf_of, leaves_of_name, leaves_of_type, tree_leaves, leaves_from}
 
 abbrev Item : Type 0
@@ -26,3 +29,19 @@ next_type b t n e f x ls more ns names ts types l m k h =
     let mine : List Item = map (leaf_of b e f) more in
     let others : List Item = flat_map (leaves_of_name b e) names in
     rw l (rw m (rw k (rw h (ap (λ (xs : List Item). x ∷ xs) (append_assoc mine others (tree_leaves b types))))))
+
+-- ---- entries in ranges of the data
+
+rest_of_range : (b : List ℕ) (p n k : ℕ) → p + n ≤ length b → k ≤ n → range b (p + k) (n - k) ≡ drop k (range b p n)
+rest_of_range b p n k h i = same_lists _ _ (grind (arith, places)) (λ j d lt. grind (arith, places))
+
+long : (b : List ℕ) (p n : ℕ) → p + n ≤ length b → length (range b p n) ≡ n
+long b p n h = grind (arith, places)
+
+pub entries_of_range : (b : List ℕ) (p n : ℕ) → p + n ≤ length b → 8 ≤ n → entries (range b p n) ≡ entry_at (range b p n) 0 ∷ entries (range b (p + 8) (n - 8))
+entries_of_range b p n h some =
+    entries_more (range b p n) (let size : length (range b p n) ≡ n = long b p n h in omega (arith, size))
+    ∙ ap (λ (d : List ℕ). entry_at (range b p n) 0 ∷ entries d) (sym (rest_of_range b p n 8 h some))
+
+pub no_entry_in_range : (b : List ℕ) (p n : ℕ) → p + n ≤ length b → n < 8 → entries (range b p n) ≡ []
+no_entry_in_range b p n h few = entries_none (range b p n) (let size : length (range b p n) ≡ n = long b p n h in omega (arith, size))

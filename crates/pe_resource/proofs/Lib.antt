@@ -14,3 +14,4 @@ pub mod SomeResource
 pub mod ContentRanges
 pub mod ResourceModes
 pub mod LeafWalks
+pub mod LeafPositions

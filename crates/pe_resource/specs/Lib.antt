@@ -6,3 +6,4 @@ pub mod VersionFields
 pub mod Contents
 pub mod Resources
 pub mod Leaves
+pub mod LeafPositions

@@ -18,6 +18,7 @@ use pe_core::{Error, Reason, Result, read_u32, require_bytes};
 use std::alloc::Allocator;
 
 /// An entry of a resource directory, 8 bytes: a name or an id, and the offset of what it leads to.
+#[repr(C)]
 #[derive(Clone, Copy, Debug, Default, PartialEq)]
 pub struct ResourceEntry {
     /// If bit 31 is set, the offset of a name in the low 31 bits, from the first directory; else an id in the low 16

@@ -12,7 +12,7 @@ ghost use Rattle.std.specs.Prelude.{◌≡◌, ◌≤◌, ◌++◌, ◌∷◌, [
 ghost use Rattle.std.specs.List.{flat_map};
 ghost use Rattle.std.specs.Option.{MatchOption, option_map};
 ghost use Rattle.std.specs.Iterator.{YieldsFirstBy, item_count};
-ghost use Rattle.pe_core.specs.Offsets.{IsWithin};
+ghost use Rattle.pe_core.specs.Offsets.{IsWithin, bytes_in};
 ghost use Rattle.pe_core.specs.Refusals.{Returns, ReturnsAs};
 ghost use Rattle.pe_resource.specs.Contents.{map_of, file_range};
 ghost use Rattle.pe_resource.specs.ResourceEntries.{entries, entries_left};
@@ -26,6 +26,12 @@ use crate::entry::ResourceEntry;
 use crate::tree_error::ResourceTreeError;
 use crate::version::VersionInfo;
 use pe_core::{ByteRange, ParseOptions, Result, SectionTable, read_u16, require_bytes, slice_at};
+
+/// The range of a table without entries.
+pub(crate) const NO_ENTRIES: ByteRange = ByteRange {
+    offset: 0,
+    length: 0,
+};
 
 /// A leaf of a resource tree: a resource in one language.
 #[derive(Clone, Copy, Debug, PartialEq)]
@@ -139,15 +145,16 @@ fn first_entry(table: &[u8]) -> Option<(ResourceEntry, &[u8])>
     Some(split_entry(table))
 }
 
-/// The bytes of the entries of the directory that an entry leads to. Errors, in order: `NotDirectory`; `Image` with `Short`
-/// if the directory or its entries are truncated; `NoEntries`.
+/// The range in the data of the entries of the directory that an entry leads to. Errors, in order: `NotDirectory`; `Image`
+/// with `Short` if the directory or its entries are truncated; `NoEntries`.
 #[tactic(auto, unfolding(crate::specs::Leaves::table_below))]
-fn table_below<'a>(
-    data: &'a [u8],
+fn table_below(
+    data: &[u8],
     entry: ResourceEntry,
-) -> std::result::Result<&'a [u8], ResourceTreeError>
-    ensures table { TreeReturns (λ s. s.now) result (table_below data.entry.now entry) }
-    ensures some { IfOk result (λ s. 8 ≤ length s.now) }
+) -> std::result::Result<ByteRange, ResourceTreeError>
+    ensures table { TreeReturns (bytes_in data.now) result (table_below data.now entry) }
+    ensures within { IfOk result (IsWithin data.now) }
+    ensures some { IfOk result (λ r. 8 ≤ r.length) }
 {
     let offset = entry.offset_to_directory();
     if !entry.data_is_directory() {
@@ -156,17 +163,38 @@ fn table_below<'a>(
     let start = offset as usize;
     require_bytes(data, start, SIZE_OF_DIRECTORY)?;
     let directory = ImageResourceDirectory::at(data, start);
-    let table = slice_at(data, start + SIZE_OF_DIRECTORY, directory.entries_size())?;
+    let table = ByteRange {
+        offset: start + SIZE_OF_DIRECTORY,
+        length: directory.entries_size(),
+    };
+    require_bytes(data, table.offset, table.length)?;
     if directory.count() == 0 {
         return Err(ResourceTreeError::NoEntries(offset));
     }
     Ok(table)
 }
 
+/// The first entry of a table in the data that has one, and the range of those after it.
+#[tactic(auto, using(crate::proofs::LeafWalks::entries_of_range))]
+pub(crate) fn split_range(data: &[u8], table: ByteRange) -> (ResourceEntry, ByteRange)
+    requires within { IsWithin data.now table }
+    requires some { 8 ≤ table.length }
+    ensures entries { entries (bytes_in data.now table) ≡ result.0 ∷ entries (bytes_in data.now result.1) }
+    ensures within { IsWithin data.now result.1 }
+{
+    (
+        ResourceEntry::at(table.of(data), 0),
+        ByteRange {
+            offset: table.offset + RESOURCE_ENTRY_SIZE,
+            length: table.length - RESOURCE_ENTRY_SIZE,
+        },
+    )
+}
+
 /// The leaf of the entries of a type, a name and a language. Errors, in order: `NotData`; `Image` with `Short` if the data
 /// entry is truncated.
 #[tactic(auto, unfolding(crate::specs::Leaves::leaf_of))]
-fn leaf_of(
+pub(crate) fn leaf_of(
     data: &[u8],
     resource_type: ResourceEntry,
     name: ResourceEntry,
@@ -187,30 +215,31 @@ fn leaf_of(
     })
 }
 
-/// The first item of a name, and the entries of the languages after it.
+/// The first item of a name, and the range of the entries of the languages after it.
 #[derive(Drop)]
-struct FirstOfName<'a> {
-    item: std::result::Result<ResourceLeaf, ResourceTreeError>,
-    languages: &'a [u8],
+pub(crate) struct FirstOfName {
+    pub item: std::result::Result<ResourceLeaf, ResourceTreeError>,
+    pub languages: ByteRange,
 }
 
 /// Takes the first item of a name: the leaf of its first language, or why the name has none.
 #[tactic(auto, using(crate::proofs::Entries::entries_empty), unfolding(crate::specs::Leaves::leaves_of_name))]
-fn first_of_name<'a>(
-    data: &'a [u8],
+pub(crate) fn first_of_name(
+    data: &[u8],
     resource_type: ResourceEntry,
     name: ResourceEntry,
-) -> FirstOfName<'a>
-    ensures { leaves_of_name data.entry.now resource_type name
-        ≡ tree_answer result.item ∷ map (leaf_of data.entry.now resource_type name) (entries result.languages.now) }
+) -> FirstOfName
+    ensures items { leaves_of_name data.now resource_type name ≡ tree_answer result.item
+        ∷ map (leaf_of data.now resource_type name) (entries (bytes_in data.now result.languages)) }
+    ensures within { IsWithin data.now result.languages }
 {
     match table_below(data, name) {
         Err(error) => FirstOfName {
             item: Err(error),
-            languages: &[],
+            languages: NO_ENTRIES,
         },
         Ok(table) => {
-            let (language, languages) = split_entry(table);
+            let (language, languages) = split_range(data, table);
             FirstOfName {
                 item: leaf_of(data, resource_type, name, language),
                 languages,
@@ -219,31 +248,33 @@ fn first_of_name<'a>(
     }
 }
 
-/// The first item of a type, the name that it is of, and the entries of the languages and of the names after it.
+/// The first item of a type, the name that it is of, and the ranges of the entries of the languages and of the names after it.
 #[derive(Drop)]
-struct FirstOfType<'a> {
-    item: std::result::Result<ResourceLeaf, ResourceTreeError>,
-    name: ResourceEntry,
-    languages: &'a [u8],
-    names: &'a [u8],
+pub(crate) struct FirstOfType {
+    pub item: std::result::Result<ResourceLeaf, ResourceTreeError>,
+    pub name: ResourceEntry,
+    pub languages: ByteRange,
+    pub names: ByteRange,
 }
 
 /// Takes the first item of a type: that of its first name, or why the type has none.
 #[tactic(auto, using(crate::proofs::Entries::entries_empty), unfolding(crate::specs::Leaves::leaves_of_type))]
-fn first_of_type<'a>(data: &'a [u8], resource_type: ResourceEntry) -> FirstOfType<'a>
-    ensures { leaves_of_type data.entry.now resource_type ≡ tree_answer result.item
-        ∷ (map (leaf_of data.entry.now resource_type result.name) (entries result.languages.now)
-        ++ flat_map (leaves_of_name data.entry.now resource_type) (entries result.names.now)) }
+pub(crate) fn first_of_type(data: &[u8], resource_type: ResourceEntry) -> FirstOfType
+    ensures items { leaves_of_type data.now resource_type ≡ tree_answer result.item
+        ∷ (map (leaf_of data.now resource_type result.name) (entries (bytes_in data.now result.languages))
+        ++ flat_map (leaves_of_name data.now resource_type) (entries (bytes_in data.now result.names))) }
+    ensures languages { IsWithin data.now result.languages }
+    ensures names { IsWithin data.now result.names }
 {
     match table_below(data, resource_type) {
         Err(error) => FirstOfType {
             item: Err(error),
             name: ResourceEntry::default(),
-            languages: &[],
-            names: &[],
+            languages: NO_ENTRIES,
+            names: NO_ENTRIES,
         },
         Ok(table) => {
-            let (name, names) = split_entry(table);
+            let (name, names) = split_range(data, table);
             let first = first_of_name(data, resource_type, name);
             FirstOfType {
                 item: first.item,
@@ -323,16 +354,16 @@ impl<'a> Iterator for ResourceLeaves<'a> {
             let first = first_of_name(self.data_bytes, self.resource_type, name);
             self.names = names;
             self.name = name;
-            self.languages = first.languages;
+            self.languages = first.languages.of(self.data_bytes);
             return Some(first.item);
         }
         let (resource_type, types) = first_entry(self.types)?;
         let first = first_of_type(self.data_bytes, resource_type);
         self.types = types;
         self.resource_type = resource_type;
-        self.names = first.names;
+        self.names = first.names.of(self.data_bytes);
         self.name = first.name;
-        self.languages = first.languages;
+        self.languages = first.languages.of(self.data_bytes);
         Some(first.item)
     }
 }

@@ -15,6 +15,7 @@ mod content;
 mod directory;
 mod entry;
 pub mod laws;
+mod leaf_position;
 mod leaves;
 mod manifest;
 mod resource;
@@ -41,6 +42,7 @@ pub use constants::{
 pub use content::ResourceDataEntry;
 pub use directory::{ImageResourceDirectory, ResourceEntryIterator};
 pub use entry::ResourceEntry;
+pub use leaf_position::LeafPosition;
 pub use leaves::{ResourceLeaf, ResourceLeaves};
 pub use manifest::ManifestData;
 pub use pe_core::ByteRange;

@@ -5,16 +5,18 @@
 ghost use Rattle.std.specs.Prelude.{◌≡◌, ◌≢◌, Err, Ok, IfOk, IfSome};
 ghost use Rattle.std.specs.Option.{option_map};
 ghost use Rattle.pe_core.specs.Options.{default_options};
-ghost use Rattle.pe_core.specs.Offsets.{IsWithin};
+ghost use Rattle.pe_core.specs.Offsets.{IsWithin, StandAt};
 ghost use Rattle.pe_core.specs.Refusals.{ReturnsAs, Memory, answer_of, answer_by};
-ghost use Rattle.pe_resource.specs.Contents.{map_of};
+ghost use Rattle.pe_resource.specs.Contents.{map_of, file_range};
 ghost use Rattle.pe_resource.specs.Directories.{count};
-ghost use Rattle.pe_resource.specs.Leaves.{walk_view, resource_tree};
+ghost use Rattle.pe_resource.specs.LeafPositions.{IsPlaced, leaves_at, tree_at, tree_view};
+ghost use Rattle.pe_resource.specs.Leaves.{walk_view, resource_tree, tree_leaves};
 ghost use Rattle.pe_resource.specs.ResourceEntries.{entries, entries_left};
 ghost use Rattle.pe_resource.specs.Resources.{resource_view, first_entries_in, first_directory_view, first_directory, AreResources, IsResource, IsResourceRange};
 
 use crate::content::{content_range, file_range};
 use crate::directory::{ImageResourceDirectory, ResourceEntryIterator, SIZE_OF_DIRECTORY};
+use crate::leaf_position::LeafPosition;
 use crate::leaves::ResourceLeaves;
 use crate::manifest::ManifestData;
 use crate::version::VersionInfo;
@@ -62,8 +64,9 @@ fn first_entries<'a>(
     directory: &ImageResourceDirectory,
     mode: ParseMode,
 ) -> Result<Option<&'a [u8]>>
-    ensures { ReturnsAs
+    ensures entries { ReturnsAs
         (option_map (λ s. s.now)) result (first_entries_in mode data.entry.now directory.now) }
+    ensures place { IfOk result (λ t. IfSome t (λ s. StandAt data.entry.now 16 s.now)) }
 {
     let fits = SIZE_OF_DIRECTORY <= data.len();
     let size = directory.entries_size();
@@ -78,10 +81,12 @@ fn first_entries<'a>(
     }
 }
 
-/// The first directory, the data of the resource directory, and the bytes of the first directory's entries in it.
+/// The first directory, the data of the resource directory and where it is in the file, and the bytes of the first directory's
+/// entries in it.
 #[derive(Clone, Copy)]
 struct FirstDirectory<'a> {
     directory: ImageResourceDirectory,
+    range: ByteRange,
     bytes: &'a [u8],
     table: &'a [u8],
 }
@@ -96,8 +101,11 @@ impl<'a> FirstDirectory<'a> {
         file_alignment: u32,
         opts: &ParseOptions,
     ) -> Result<Option<FirstDirectory<'a>>>
-        ensures { ReturnsAs (option_map first_directory_view) result
+        ensures first { ReturnsAs (option_map first_directory_view) result
             (first_directory opts.now bytes.entry.now data_directory sections.now file_alignment) }
+        ensures place { IfOk result (λ d. IfSome d (IsPlaced bytes.entry.now
+            (file_range bytes.entry.now data_directory.size (map_of
+            opts.now sections.now file_alignment data_directory.virtual_address)))) }
     {
         let directory = ImageResourceDirectory::parse_with_opts(
             bytes,
@@ -116,6 +124,7 @@ impl<'a> FirstDirectory<'a> {
             None => Ok(None),
             Some(table) => Ok(Some(FirstDirectory {
                 directory,
+                range,
                 bytes: data,
                 table,
             })),
@@ -128,6 +137,22 @@ impl<'a> FirstDirectory<'a> {
     {
         let FirstDirectory { table, .. } = *self;
         ResourceEntryIterator::new(table)
+    }
+
+    /// The position before the first leaf of its tree.
+    #[tactic(auto, using(crate::proofs::Entries::entries_empty))]
+    fn position(&self) -> LeafPosition
+        requires { StandAt self.now.bytes.now 16 self.now.table.now }
+        ensures { leaves_at self.now.bytes.now result
+            ≡ tree_leaves self.now.bytes.now (first_directory_view self.now).entries }
+    {
+        LeafPosition {
+            types: ByteRange {
+                offset: SIZE_OF_DIRECTORY,
+                length: self.table.len(),
+            },
+            ..LeafPosition::default()
+        }
     }
 }
 
@@ -226,6 +251,28 @@ impl<'a> ResourceData<'a> {
         match FirstDirectory::parse(bytes, data_directory, sections, file_alignment, opts)? {
             None => Ok(ResourceLeaves::empty()),
             Some(first) => Ok(ResourceLeaves::of_table(first.bytes, first.table)),
+        }
+    }
+
+    /// Returns where the data of the resource directory is in the file, and the position before the first leaf of the tree:
+    /// what `leaves` walks over, in numbers. `None` in permissive mode if the data is shorter than a directory. Errors: those
+    /// of `leaves`.
+    pub fn leaf_position(
+        bytes: &[u8],
+        data_directory: DataDirectory,
+        sections: &[SectionTable],
+        file_alignment: u32,
+        opts: &ParseOptions,
+    ) -> Result<Option<(ByteRange, LeafPosition)>>
+        ensures tree { ReturnsAs (option_map (tree_view bytes.now)) result
+            (tree_at opts.now bytes.now data_directory sections.now file_alignment) }
+        ensures place { IfOk result (λ x. IfSome x (λ x. file_range bytes.now data_directory.size
+            (map_of opts.now sections.now file_alignment data_directory.virtual_address) ≡ Ok x.0)) }
+        ensures within { IfOk result (λ x. IfSome x (λ x. IsWithin bytes.now x.0)) }
+    {
+        match FirstDirectory::parse(bytes, data_directory, sections, file_alignment, opts)? {
+            None => Ok(None),
+            Some(first) => Ok(Some((first.range, first.position()))),
         }
     }
 

@@ -3,7 +3,7 @@
 
 use pe_c::{
     Arm64Record, Arm64Unwinding, Error, Frames, Function, Functions, Handler, Image, Layout, Mode, Module, Placement,
-    Registers, Stack, StepError, UnwindRecord, VersionName,
+    Registers, ResourceName, Stack, StepError, UnwindRecord, VersionName,
 };
 
 /// What was read.
@@ -269,6 +269,42 @@ fn read_imports(image: &Image, seen: &mut Seen) {
     }
 }
 
+fn read_delay_imports(image: &Image, seen: &mut Seen) {
+    for import in seen.keep(image.delay_imports()).into_iter().flatten().take(seen.most) {
+        let Some(import) = seen.item(import) else {
+            continue;
+        };
+        seen.touch(import.name);
+        for function in import.functions().take(seen.most) {
+            if let Some(function) = seen.item(function) {
+                seen.touch(function.name.unwrap_or_default());
+            }
+        }
+    }
+}
+
+fn read_clr(image: &Image, seen: &mut Seen) {
+    let Some(clr) = seen.keep(image.clr()) else {
+        return;
+    };
+    let Some(metadata) = seen.item(clr.metadata()) else {
+        return;
+    };
+    assert_eq!(metadata.bytes.len() as u64, u64::from(clr.header().metadata.size));
+    assert!(metadata.version().len() <= metadata.version_bytes.len());
+    seen.touch(metadata.version_bytes);
+    for stream in metadata.streams().take(seen.most) {
+        if let Some(stream) = seen.item(stream) {
+            assert!(stream.name.len() < 32 && !stream.name.contains(&0));
+            seen.touch(stream.name);
+            if let Some(content) = stream.content {
+                assert_eq!(content.len() as u64, u64::from(stream.size));
+                seen.touch(content);
+            }
+        }
+    }
+}
+
 fn read_version(image: &Image, seen: &mut Seen) {
     seen.keep(image.version());
     for name in VersionName::ALL.into_iter().take(seen.most) {
@@ -279,6 +315,56 @@ fn read_version(image: &Image, seen: &mut Seen) {
     }
     if let Some(manifest) = seen.keep(image.manifest()) {
         seen.touch(manifest);
+    }
+}
+
+fn read_leaves(image: &Image, seen: &mut Seen) {
+    for leaf in seen.keep(image.resource_leaves()).into_iter().flatten().take(seen.most) {
+        let Some(leaf) = seen.item(leaf) else {
+            continue;
+        };
+        for name in [leaf.resource_type, leaf.name, leaf.language] {
+            if let ResourceName::Name(text) = name {
+                seen.touch(text.0);
+            }
+        }
+        if let Some(content) = seen.item(leaf.content()) {
+            assert_eq!(content.len(), leaf.size as usize);
+            seen.touch(content);
+        }
+        seen.keep(leaf.version());
+        if let Some(text) = seen.keep(leaf.version_text(VersionName::ProductName)) {
+            seen.touch(text.0);
+        }
+    }
+}
+
+fn read_bound_imports(image: &Image, seen: &mut Seen) {
+    for import in seen.keep(image.bound_imports()).into_iter().flatten().take(seen.most) {
+        let Some(import) = seen.item(import) else {
+            continue;
+        };
+        seen.touch(import.name);
+        for forwarder in import.forwarders().take(seen.most) {
+            if let Some(forwarder) = seen.item(forwarder) {
+                seen.touch(forwarder.name);
+            }
+        }
+    }
+}
+
+/// The Rich header, and the names of sections in the string table.
+fn read_names(image: &Image, seen: &mut Seen) {
+    if let Some(header) = seen.keep(image.rich_header()) {
+        assert_eq!(header.entries().filter(Result::is_ok).count() as u64, header.count);
+    }
+    if let Some(strings) = seen.keep(image.string_table()) {
+        seen.touch(strings);
+    }
+    for section in image.sections().iter().take(seen.most) {
+        if let Some(name) = seen.keep(image.long_section_name(section)) {
+            seen.touch(name);
+        }
     }
 }
 
@@ -304,6 +390,12 @@ pub fn read_all(bytes: &[u8], mode: Mode, layout: Layout, most: usize) -> Seen {
     read_addresses(&image, &mut seen);
     read_exports(&image, &mut seen);
     read_imports(&image, &mut seen);
+    read_delay_imports(&image, &mut seen);
+    seen.keep(image.load_config());
+    read_clr(&image, &mut seen);
     read_version(&image, &mut seen);
+    read_leaves(&image, &mut seen);
+    read_bound_imports(&image, &mut seen);
+    read_names(&image, &mut seen);
     seen
 }

@@ -1,0 +1,117 @@
+//! Delay imports: DLLs that are loaded when one of their functions is called first. The directory has an entry of 32 bytes for
+//! each DLL, which leads to the DLL's name and to a table of what is imported of it, by name or by ordinal. See
+//! [Microsoft's page](https://learn.microsoft.com/windows/win32/debug/pe-format#delay-load-import-tables-image-only).
+
+use crate::image::{bytes_of, Error, Image};
+use crate::sys;
+use crate::walk::ImageWalk;
+use core::iter::FusedIterator;
+
+/// A DLL that is loaded when one of its functions is called first.
+#[derive(Clone, Copy, Debug)]
+pub struct DelayImport<'i, 'a> {
+    image: &'i Image<'a>,
+    /// The DLL's name: UTF-8, without its final zero.
+    pub name: &'a [u8],
+    raw: sys::DelayImport,
+}
+
+impl<'i, 'a> DelayImport<'i, 'a> {
+    /// The entry of the directory, with the addresses of its tables.
+    pub fn descriptor(&self) -> &sys::DelayDescriptor {
+        &self.raw.descriptor
+    }
+
+    /// The functions that are imported of this DLL.
+    pub fn functions(&self) -> DelayedFunctions<'i, 'a> {
+        DelayedFunctions(ImageWalk::new(self.image, self.raw.functions))
+    }
+}
+
+/// The DLLs of the delay import directory, in its order. The directory ends with its bytes, or at an entry without the address
+/// of a name.
+///
+/// The last item may be an error: [`Error::SHORT`] of the entry; [`Error::DIRECTORY_VA_BELOW_BASE`], [`Error::UNMAPPED`],
+/// [`Error::DIRECTORY_DELAY_IMPORT_NAME`] of the name; [`Error::DIRECTORY_VA_BELOW_BASE`], [`Error::UNMAPPED`] of the table of
+/// functions.
+///
+/// ```
+/// # #[path = "../tests/made/mod.rs"] mod made;
+/// # let bytes = made::with_delay_imports();
+/// use pe_c::{Image, Mode};
+///
+/// let image = Image::parse(&bytes, Mode::Permissive)?;
+/// let mut found = Vec::new();
+/// for import in image.delay_imports()?.into_iter().flatten() {
+///     let import = import?;
+///     for function in import.functions() {
+///         found.push((import.name, function?.name));
+///     }
+/// }
+/// let dbghelp = b"dbghelp.dll".as_slice();
+/// assert_eq!(found[0], (dbghelp, Some(b"SymInitialize".as_slice())));
+/// assert_eq!(found[1], (dbghelp, None)); // by ordinal
+/// # Ok::<(), pe_c::Error>(())
+/// ```
+#[derive(Clone, Debug)]
+pub struct DelayImports<'i, 'a>(ImageWalk<'i, 'a, sys::Range>);
+
+impl<'i, 'a> Iterator for DelayImports<'i, 'a> {
+    type Item = Result<DelayImport<'i, 'a>, Error>;
+
+    fn next(&mut self) -> Option<Self::Item> {
+        let image = self.0.image;
+        let found: Result<sys::DelayImport, Error> = self.0.step(sys::pe_c_next_delay_import)?;
+        Some(found.and_then(|raw| {
+            let name = bytes_of(raw.name, image.bytes())?;
+            Ok(DelayImport { image, name, raw })
+        }))
+    }
+}
+
+impl FusedIterator for DelayImports<'_, '_> {}
+
+/// A function of a DLL that is loaded later, by name or by ordinal.
+#[derive(Clone, Copy, Debug, PartialEq, Eq)]
+pub struct DelayedFunction<'a> {
+    /// UTF-8, without its final zero; `None` for an import by ordinal.
+    pub name: Option<&'a [u8]>,
+    /// The ordinal; with a name its hint, an index into the DLL's table of names.
+    pub ordinal: u32,
+}
+
+/// The functions of a DLL, in the order of its table.
+///
+/// The last item may be an error: [`Error::SHORT`] where the bytes end before the table does; of an import by name
+/// [`Error::DIRECTORY_VA_BELOW_BASE`], [`Error::UNMAPPED`] of its address, [`Error::SHORT`] of the hint there,
+/// [`Error::DIRECTORY_DELAY_IMPORT_NAME`]. [`DelayImports`] has an example.
+#[derive(Clone, Debug)]
+pub struct DelayedFunctions<'i, 'a>(ImageWalk<'i, 'a, sys::DelayedFunctions>);
+
+impl<'a> Iterator for DelayedFunctions<'_, 'a> {
+    type Item = Result<DelayedFunction<'a>, Error>;
+
+    fn next(&mut self) -> Option<Self::Item> {
+        let bytes = self.0.image.bytes();
+        let found: Result<sys::DelayedFunction, Error> = self.0.step(sys::pe_c_next_delayed_function)?;
+        Some(found.and_then(|found| {
+            let name = bytes_of(found.name, bytes)?;
+            Ok(DelayedFunction { name: (found.has_name != 0).then_some(name), ordinal: found.ordinal })
+        }))
+    }
+}
+
+impl FusedIterator for DelayedFunctions<'_, '_> {}
+
+impl<'a> Image<'a> {
+    /// The DLLs that are loaded when one of their functions is called first, each with its functions. `None` where the
+    /// directory is absent.
+    ///
+    /// # Errors
+    ///
+    /// [`Error::UNMAPPED`], [`Error::SHORT`].
+    pub fn delay_imports(&self) -> Result<Option<DelayImports<'_, 'a>>, Error> {
+        let walk = self.ask(sys::pe_c_delay_imports)?;
+        Ok(walk.map(|walk| DelayImports(ImageWalk::new(self, walk))))
+    }
+}

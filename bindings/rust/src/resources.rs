@@ -1,0 +1,160 @@
+//! All resources of an image, each in each language: the leaves of the resource tree, whose three levels are types, names
+//! and languages. See <https://learn.microsoft.com/windows/win32/debug/pe-format#the-rsrc-section>. A caller extracts icons,
+//! dialogs or texts, or finds version information in every language.
+
+use crate::image::{bytes_of, Error, Image};
+use crate::sys;
+use crate::version::{FixedVersion, Text, VersionName};
+use crate::walk::{ask_of_bytes, look, ImageWalk};
+use core::iter::FusedIterator;
+
+/// `RT_VERSION`, the type of version information.
+const RT_VERSION: u16 = 16;
+
+/// What names a type of resources, a resource or a language.
+#[derive(Clone, Copy, Debug, PartialEq, Eq)]
+pub enum ResourceName<'a> {
+    /// Of a type `RT_*` of winuser.h, of a language its identifier, 0 for any language.
+    Id(u16),
+    /// A name of its own. Its bytes have no final zero.
+    Name(Text<'a>),
+}
+
+/// A resource in one language.
+#[derive(Clone, Copy, Debug)]
+pub struct ResourceLeaf<'a> {
+    /// The type.
+    pub resource_type: ResourceName<'a>,
+    /// The resource among those of its type.
+    pub name: ResourceName<'a>,
+    /// The language.
+    pub language: ResourceName<'a>,
+    /// RVA of the content.
+    pub rva: u32,
+    /// Bytes of the content.
+    pub size: u32,
+    /// The code page of texts in the content, mostly 0.
+    pub code_page: u32,
+    bytes: &'a [u8],
+    content: sys::Range,
+    content_result: u32,
+}
+
+fn name_of(found: sys::ResourceName, bytes: &[u8]) -> Result<ResourceName<'_>, Error> {
+    if found.has_name == 0 {
+        return Ok(ResourceName::Id(found.id as u16));
+    }
+    Ok(ResourceName::Name(Text(bytes_of(found.name, bytes)?)))
+}
+
+impl<'a> ResourceLeaf<'a> {
+    fn of(found: sys::ResourceLeaf, bytes: &'a [u8]) -> Result<Self, Error> {
+        Ok(ResourceLeaf {
+            resource_type: name_of(found.resource_type, bytes)?,
+            name: name_of(found.name, bytes)?,
+            language: name_of(found.language, bytes)?,
+            rva: found.rva,
+            size: found.size,
+            code_page: found.code_page,
+            bytes,
+            content: found.content,
+            content_result: found.content_result,
+        })
+    }
+
+    /// The content.
+    ///
+    /// # Errors
+    ///
+    /// [`Error::UNMAPPED`] of its RVA; [`Error::RESOURCE_BOUNDS`] where it is not in the file.
+    pub fn content(&self) -> Result<&'a [u8], Error> {
+        Error::of(self.content_result)?;
+        bytes_of(self.content, self.bytes)
+    }
+
+    fn is_version(&self) -> bool {
+        self.resource_type == ResourceName::Id(RT_VERSION)
+    }
+
+    /// The fixed file information of a leaf of type `RT_VERSION`. `None` of another type, and where it has none.
+    ///
+    /// # Errors
+    ///
+    /// Those of [`ResourceLeaf::content`]; [`Error::SHORT`], [`Error::RESOURCE_STRING`] of the version strings;
+    /// [`Error::SHORT`] of the fixed file information.
+    pub fn version(&self) -> Result<Option<FixedVersion>, Error> {
+        if !self.is_version() {
+            return Ok(None);
+        }
+        Error::of(self.content_result)?;
+        ask_of_bytes(self.bytes, sys::pe_c_fixed_version_in, &self.content)
+    }
+
+    /// The value of a version string of a leaf of type `RT_VERSION`. `None` of another type, and without a string of that name.
+    ///
+    /// # Errors
+    ///
+    /// Those of [`ResourceLeaf::content`]; [`Error::SHORT`], [`Error::RESOURCE_STRING`] of the version strings.
+    pub fn version_text(&self, name: VersionName) -> Result<Option<Text<'a>>, Error> {
+        if !self.is_version() {
+            return Ok(None);
+        }
+        Error::of(self.content_result)?;
+        match look(self.bytes, sys::pe_c_version_text_in, &self.content, name as u32)? {
+            Some(range) => Ok(Some(Text(bytes_of(range, self.bytes)?))),
+            None => Ok(None),
+        }
+    }
+}
+
+/// The leaves of an image's resource tree, in the order of the entries of its directories.
+///
+/// A hostile tree of n bytes can have (n/8)^3 leaves, since directories may be shared: a caller that does not trust the file
+/// bounds the walk, by `take`.
+///
+/// An item is an error, and the last one: of the entry of a type or a name [`Error::TREE_NOT_DIRECTORY`], [`Error::SHORT`]
+/// of its directory, [`Error::TREE_NO_ENTRIES`]; of the entry of a language [`Error::TREE_NOT_DATA`], [`Error::SHORT`] of
+/// its data entry; [`Error::SHORT`] of a name.
+///
+/// ```
+/// # #[path = "../tests/made/mod.rs"] mod made;
+/// # let bytes = made::with_resources();
+/// use pe_c::{Image, Mode, ResourceName};
+///
+/// let image = Image::parse(&bytes, Mode::Permissive)?;
+/// for leaf in image.resource_leaves()?.into_iter().flatten().take(1000) {
+///     let leaf = leaf?;
+///     if leaf.resource_type == ResourceName::Id(24) {
+///         // RT_MANIFEST
+///         assert_eq!(leaf.content()?, image.manifest()?.unwrap());
+///     }
+/// }
+/// # Ok::<(), pe_c::Error>(())
+/// ```
+#[derive(Clone, Debug)]
+pub struct ResourceLeaves<'i, 'a>(ImageWalk<'i, 'a, sys::ResourceWalk>);
+
+impl<'a> Iterator for ResourceLeaves<'_, 'a> {
+    type Item = Result<ResourceLeaf<'a>, Error>;
+
+    fn next(&mut self) -> Option<Self::Item> {
+        let bytes = self.0.image.bytes();
+        Some(self.0.step(sys::pe_c_next_resource_leaf)?.and_then(|found| ResourceLeaf::of(found, bytes)))
+    }
+}
+
+impl FusedIterator for ResourceLeaves<'_, '_> {}
+
+impl<'a> Image<'a> {
+    /// All resources, each in each language. `None` where the directory is absent, and in permissive mode where its data is too
+    /// short for a directory.
+    ///
+    /// # Errors
+    ///
+    /// [`Error::UNMAPPED`], [`Error::SHORT`] of the root directory; [`Error::RESOURCE_BOUNDS`] where the data that the data
+    /// directory names ends past the end of the file, and in strict mode where the root or its entries are not all inside the
+    /// data.
+    pub fn resource_leaves(&self) -> Result<Option<ResourceLeaves<'_, 'a>>, Error> {
+        Ok(self.ask(sys::pe_c_resource_leaves)?.map(|walk| ResourceLeaves(ImageWalk::new(self, walk))))
+    }
+}

@@ -1,0 +1,41 @@
+//! Names of sections that are longer than the 8 bytes of their header, which has a slash and the offset of a string in the COFF
+//! string table. Images of mingw-w64 have such names for their debug sections. See
+//! <https://learn.microsoft.com/windows/win32/debug/pe-format#section-table-section-headers>.
+
+use crate::image::{bytes_of, Error, Image};
+use crate::sys::{self, Section};
+use crate::walk::ask_of_bytes;
+
+impl<'a> Image<'a> {
+    /// The COFF string table, from its size field on. `None` where the image has no COFF symbols, where the bytes end after
+    /// them, and in an image as loaded.
+    ///
+    /// # Errors
+    ///
+    /// [`Error::SHORT`] of the symbols; [`Error::STRING_TABLE`] where the table is truncated.
+    pub fn string_table(&self) -> Result<Option<&'a [u8]>, Error> {
+        let Some(range) = self.string_table_range()? else { return Ok(None) };
+        Ok(Some(bytes_of(range, self.bytes())?))
+    }
+
+    fn string_table_range(&self) -> Result<Option<sys::Range>, Error> {
+        ask_of_bytes(self.bytes(), sys::pe_c_string_table, self.info())
+    }
+
+    /// The name of a section in the string table: UTF-8, without its final zero. `None` where the header has the name itself,
+    /// [`Section::name`]; where the image has no string table; and where no string is at the offset, NUL-terminated and UTF-8.
+    ///
+    /// # Errors
+    ///
+    /// Those of [`Image::string_table`].
+    pub fn long_section_name(&self, section: &Section) -> Result<Option<&'a [u8]>, Error> {
+        let Some(table) = self.string_table_range()? else { return Ok(None) };
+        let (bytes, mut out) = (self.bytes(), sys::Range::default());
+        // SAFETY: the pointer and the length are those of one slice; the records are lent for the call.
+        let number = unsafe { sys::pe_c_long_section_name(bytes.as_ptr(), bytes.len(), &table, section, &mut out) };
+        match crate::image::returned(number, out)? {
+            Some(name) => Ok(Some(bytes_of(name, bytes)?)),
+            None => Ok(None),
+        }
+    }
+}

@@ -1,0 +1,126 @@
+//! The load configuration of images: each field, and which are there.
+
+mod facts;
+mod made;
+
+use facts::as_loaded;
+use made::*;
+use pe_c::{Error, Image, Layout, LoadConfig, Mode};
+
+fn strict(bytes: &[u8]) -> Image<'_> {
+    Image::parse(bytes, Mode::Strict).unwrap()
+}
+
+/// Of a structure that has its size alone.
+const NONE: LoadConfig = LoadConfig {
+    size: 4,
+    time_date_stamp: None,
+    major_version: None,
+    minor_version: None,
+    dependent_load_flags: None,
+    security_cookie: None,
+    se_handler_table: None,
+    se_handler_count: None,
+    guard_cf_check_function_pointer: None,
+    guard_cf_dispatch_function_pointer: None,
+    guard_cf_function_table: None,
+    guard_cf_function_count: None,
+    guard_flags: None,
+};
+
+/// The image with a structure of another size.
+fn of_size(size: u32) -> Vec<u8> {
+    let mut bytes = with_load_config();
+    bytes[OFFSET as usize..OFFSET as usize + 4].copy_from_slice(&size.to_le_bytes());
+    bytes
+}
+
+#[test]
+fn load_configurations_are_read() {
+    let bytes = with_load_config();
+    let image = strict(&bytes);
+    let all = LoadConfig {
+        size: 148,
+        time_date_stamp: Some(1_600_000_000),
+        major_version: Some(6),
+        minor_version: Some(1),
+        dependent_load_flags: Some(0x800),
+        security_cookie: Some(0x1_8000_2000),
+        se_handler_table: Some(0),
+        se_handler_count: Some(0),
+        guard_cf_check_function_pointer: Some(0x1_8000_3000),
+        guard_cf_dispatch_function_pointer: Some(0x1_8000_3008),
+        guard_cf_function_table: Some(0x1_8000_4000),
+        guard_cf_function_count: Some(3),
+        guard_flags: Some(0x1000_0500),
+    };
+    assert_eq!(image.load_config(), Ok(Some(all)));
+    let memory = as_loaded(&image);
+    let module = Image::parse_as(&memory, Mode::Strict, Layout::Mapped).unwrap();
+    assert_eq!(module.load_config(), Ok(Some(all)));
+    assert_eq!(strict(&with_debug()).load_config(), Ok(None));
+}
+
+#[test]
+fn short_load_configurations_have_fewer_fields() {
+    assert_eq!(strict(&of_size(4)).load_config(), Ok(Some(NONE)));
+    assert_eq!(strict(&of_size(7)).load_config(), Ok(Some(LoadConfig { size: 7, ..NONE })));
+    let early = LoadConfig {
+        time_date_stamp: Some(1_600_000_000),
+        major_version: Some(6),
+        minor_version: Some(1),
+        dependent_load_flags: Some(0x800),
+        ..NONE
+    };
+    assert_eq!(strict(&of_size(95)).load_config(), Ok(Some(LoadConfig { size: 95, ..early })));
+    let cookie = LoadConfig { size: 96, security_cookie: Some(0x1_8000_2000), ..early };
+    assert_eq!(strict(&of_size(96)).load_config(), Ok(Some(cookie)));
+    let flags = |size| strict(&of_size(size)).load_config().unwrap().unwrap().guard_flags;
+    assert_eq!((flags(147), flags(148), flags(200)), (None, Some(0x1000_0500), Some(0x1000_0500)));
+}
+
+#[test]
+fn truncated_load_configurations_are_refused() {
+    // the section has 512 bytes
+    assert!(strict(&of_size(512)).load_config().is_ok());
+    assert_eq!(strict(&of_size(513)).load_config(), Err(Error::SHORT));
+    assert_eq!(strict(&of_size(u32::MAX)).load_config(), Err(Error::SHORT));
+    let mut bytes = with_load_config();
+    bytes.truncate(OFFSET as usize + 3);
+    assert_eq!(strict(&bytes).load_config(), Err(Error::SHORT));
+    let mut made = Made::new(X64);
+    made.directory(LOAD_CONFIG, 0x9000, 64);
+    assert_eq!(strict(&made.image()).load_config(), Err(Error::UNMAPPED));
+}
+
+/// PE32 has other offsets, and addresses of 4 bytes.
+#[test]
+fn load_configurations_of_pe32_are_read() {
+    let mut bytes = x86_dll();
+    let mut at = |offset: usize, words: &[u32]| {
+        for (i, word) in words.iter().enumerate() {
+            bytes[offset + 4 * i..][..4].copy_from_slice(&word.to_le_bytes());
+        }
+    };
+    // directory 10 of PE32 follows 80 bytes of the directories at 0xB8
+    at(0xB8 + 80, &[0x2100, 64]);
+    at(0x700, &[92, 0x5F00_0000, 0x0002_0001]);
+    at(0x700 + 52, &[0x0800_0000, 0, 0x1000_2000, 0x1000_2010, 5, 0x1000_2020, 0, 0, 0, 0x500]);
+    let config = strict(&bytes).load_config().unwrap().unwrap();
+    let wanted = LoadConfig {
+        size: 92,
+        time_date_stamp: Some(0x5F00_0000),
+        major_version: Some(1),
+        minor_version: Some(2),
+        dependent_load_flags: Some(0x800),
+        security_cookie: Some(0x1000_2000),
+        se_handler_table: Some(0x1000_2010),
+        se_handler_count: Some(5),
+        guard_cf_check_function_pointer: Some(0x1000_2020),
+        guard_cf_dispatch_function_pointer: Some(0),
+        guard_cf_function_table: Some(0),
+        guard_cf_function_count: Some(0),
+        guard_flags: Some(0x500),
+    };
+    assert_eq!(config, wanted);
+}

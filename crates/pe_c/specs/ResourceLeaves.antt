@@ -1,0 +1,138 @@
+-- What calls return of the leaves of a resource tree.
+use Rattle.std.specs.Prelude.{◌≡◌, ℕ, ◌+◌, ◌%◌, ◌^◌, List, [], ◌∷◌, length, map, Option, Some, None, Result, Ok, Err, if◌then◌else◌}
+use Rattle.pe_core.specs.Refusals.{Refusal, ◌>>=◌}
+use Rattle.pe_core.specs.declared.byte_range.ByteRange.{ByteRange}
+use Rattle.pe_core.specs.declared.section_table.SectionTable.{SectionTable}
+use Rattle.pe_resource.specs.Contents.{file_range}
+use Rattle.pe_resource.specs.LeafPositions.{leaves_at, tree_at}
+use Rattle.pe_resource.specs.Leaves.{TreeRefusal, Image, NotDirectory, NotData, NoEntries, name_units}
+use Rattle.pe_resource.specs.ResourceEntries.{name_offset}
+use Rattle.pe_resource.specs.declared.content.ResourceDataEntry.{ResourceDataEntry}
+use Rattle.pe_resource.specs.declared.entry.ResourceEntry.{ResourceEntry}
+use Rattle.pe_resource.specs.declared.leaf_position.LeafPosition.{LeafPosition}
+use Rattle.pe_resource.specs.declared.leaves.ResourceLeaf as trees
+use Rattle.pe_c.specs.HandsOut.{result_number}
+use Rattle.pe_c.specs.Images.{is_absent, map_of_image, resource_directory}
+use Rattle.pe_c.specs.Modes.{options_of}
+use Rattle.pe_c.specs.Ranges.{bytes_at, no_bytes, range_of}
+use Rattle.pe_c.specs.declared.image.Image as images
+use Rattle.pe_c.specs.declared.ranges.Range.{Range}
+use Rattle.pe_c.specs.declared.resource_leaves.ResourceLeaf.{ResourceLeaf}
+use Rattle.pe_c.specs.declared.resource_leaves.ResourceLeaves.{ResourceLeaves}
+use Rattle.pe_c.specs.declared.resource_leaves.ResourceName.{ResourceName}
+
+-- the number of a refusal of a resource tree, written by tools/make_errors
+abbrev pub tree_number : TreeRefusal → ℕ
+tree_number (Image refusal) = result_number refusal
+tree_number NotDirectory = 401
+tree_number NotData = 402
+tree_number NoEntries = 403
+
+-- 0 and the value; 100 where there is none; else the number of the refusal. `out` is unchanged without a value
+abbrev pub TreeHandsOut : {Y : Type 0} → ℕ → Y → Y → Result (Option Y) TreeRefusal → Type 0
+TreeHandsOut number old new (Ok (Some value)) = (number ≡ 0) × (new ≡ value)
+TreeHandsOut number old new (Ok None) = (number ≡ 100) × (new ≡ old)
+TreeHandsOut number old new (Err refusal) = (number ≡ tree_number refusal) × (new ≡ old)
+
+-- ---- a leaf
+
+-- what names a type, a resource or a language: an id, or the name of an entry of data that start at this offset of the file;
+-- the units of a name follow their number, 2 bytes
+abbrev pub name_reported : ℕ → ResourceEntry → Option (List ℕ) → ResourceName
+name_reported start e None = record { name = no_bytes; id = e.name_or_id % 2 ^ 16; has_name = 0 }
+name_reported start e (Some units) = record { name = record { offset = start + (name_offset e + 2); length = length units }; id = 0; has_name = 1 }
+
+abbrev pub name_in : ℕ → List ℕ → ResourceEntry → Result ResourceName Refusal
+name_in start d e = name_units d e >>= λ units. Ok (name_reported start e units)
+
+-- the range of a content, or the empty one; and 0, or the number of what refuses it
+abbrev pub content_reported : Result ByteRange Refusal → Range × ℕ
+content_reported (Ok r) = (range_of r, 0)
+content_reported (Err refusal) = (no_bytes, result_number refusal)
+
+-- a leaf by its names, the entry of its content, and where that is
+abbrev pub leaf_of_names : ResourceName → ResourceName → ResourceName → ResourceDataEntry → Range × ℕ → ResourceLeaf
+leaf_of_names t n l e content = record {
+  resource_type = t;
+  name = n;
+  language = l;
+  content = content.0;
+  content_result = content.1;
+  rva = e.offset_to_data;
+  size = e.size;
+  code_page = e.code_page;
+}
+
+-- where the content of a leaf is in the file
+abbrev pub content_of : List ℕ → images.Image → List SectionTable → ResourceDataEntry → Range × ℕ
+content_of b image sections e = content_reported (file_range b e.size (map_of_image image sections e.offset_to_data))
+
+-- a leaf as callers get it; it is refused where one of its names is
+abbrev pub leaf_reported : List ℕ → images.Image → List SectionTable → ℕ → List ℕ → trees.ResourceLeaf → Result ResourceLeaf Refusal
+leaf_reported b image sections start d x =
+    name_in start d x.resource_type >>= λ t.
+    name_in start d x.name >>= λ n.
+    name_in start d x.language >>= λ l.
+    Ok (leaf_of_names t n l x.data_entry (content_of b image sections x.data_entry))
+
+-- ---- walks
+
+-- a refusal of pe_core as one of a tree
+abbrev pub of_file : {X : Type 0} → Result X Refusal → Result X TreeRefusal
+of_file (Ok x) = Ok x
+of_file (Err refusal) = Err (Image refusal)
+
+-- an item of a tree as callers get it
+abbrev pub item_reported : List ℕ → images.Image → List SectionTable → ℕ → List ℕ → Result trees.ResourceLeaf TreeRefusal → Result ResourceLeaf TreeRefusal
+item_reported b image sections start d (Ok x) = of_file (leaf_reported b image sections start d x)
+item_reported b image sections start d (Err refusal) = Err refusal
+
+-- the position of a walk in its data
+abbrev pub position_of : ResourceLeaves → LeafPosition
+position_of w = record {
+  types = record { offset = w.types.offset; length = w.types.length };
+  resource_type = w.resource_type;
+  names = record { offset = w.names.offset; length = w.names.length };
+  name = w.name;
+  languages = record { offset = w.languages.offset; length = w.languages.length };
+}
+
+-- the items that a walk over these data has left
+abbrev pub items_in : List ℕ → images.Image → List SectionTable → ResourceLeaves → Result (List ℕ) Refusal → List (Result ResourceLeaf TreeRefusal)
+items_in b image sections w (Ok d) = map (item_reported b image sections w.tree.offset d) (leaves_at d (position_of w))
+items_in b image sections w (Err refusal) = Err (Image refusal) ∷ []
+
+-- the items that a walk has left; one refusal alone where its data are not inside the bytes
+abbrev pub items_left : List ℕ → images.Image → List SectionTable → ResourceLeaves → List (Result ResourceLeaf TreeRefusal)
+items_left b image sections w = items_in b image sections w (bytes_at b w.tree)
+
+-- what a step returns where these items are left
+abbrev pub first_item : {X R : Type 0} → List (Result X R) → Result (Option X) R
+first_item [] = Ok None
+first_item (Ok x ∷ more) = Ok (Some x)
+first_item (Err refusal ∷ more) = Err refusal
+
+-- what it leaves of them: nothing after a refusal
+abbrev pub after_item : {X R : Type 0} → List (Result X R) → List (Result X R)
+after_item [] = []
+after_item (Ok x ∷ more) = more
+after_item (Err refusal ∷ more) = []
+
+-- the tree of an image that has resources: its data, and the items of its leaves. `None` where the directory is absent, and in
+-- permissive mode where its data are shorter than a directory
+abbrev pub image_tree : List ℕ → images.Image → List SectionTable → Result (Option (List ℕ × List (Result trees.ResourceLeaf TreeRefusal))) Refusal
+image_tree b image sections =
+    if is_absent (resource_directory image) then Ok None
+    else tree_at (options_of image.mode) b (resource_directory image) sections image.file_alignment
+
+-- the walk is at the first leaf of this tree: its data are at the RVA of the directory, as many bytes as that says
+pub record StartsTree (b : List ℕ) (image : images.Image) (sections : List SectionTable) (tree : List ℕ × List (Result trees.ResourceLeaf TreeRefusal)) (w : ResourceLeaves) : Type 0 where
+  pub place : file_range b (resource_directory image).size (map_of_image image sections (resource_directory image).virtual_address) ≡ Ok (record { offset = w.tree.offset; length = w.tree.length })
+  pub bytes_of_tree : bytes_at b w.tree ≡ Ok tree.0
+  pub leaves : leaves_at tree.0 (position_of w) ≡ tree.1
+
+-- what a call that starts a walk returns
+abbrev pub StartsLeaves : List ℕ → images.Image → List SectionTable → ℕ → ResourceLeaves → ResourceLeaves → Result (Option (List ℕ × List (Result trees.ResourceLeaf TreeRefusal))) Refusal → Type 0
+StartsLeaves b image sections number old new (Ok (Some tree)) = (number ≡ 0) × StartsTree b image sections tree new
+StartsLeaves b image sections number old new (Ok None) = (number ≡ 100) × (new ≡ old)
+StartsLeaves b image sections number old new (Err refusal) = (number ≡ result_number refusal) × (new ≡ old)

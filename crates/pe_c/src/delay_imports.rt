@@ -1,0 +1,257 @@
+//! Delay imports: DLLs that are loaded when one of their functions is called first. An entry of 32 bytes for each DLL leads to
+//! its name, and to a table of what is imported of it, by name or by ordinal. One walk steps over the DLLs, another over what
+//! is imported of each.
+//! https://learn.microsoft.com/windows/win32/debug/pe-format#delay-load-import-tables-image-only
+
+ghost use Rattle.std.specs.Prelude.{◌≡◌};
+ghost use Rattle.pe_directories.specs.DirectoryRefusals.{directory_answer};
+ghost use Rattle.pe_directories.specs.ImageParts.{image_view};
+ghost use Rattle.pe_c.specs.DelayImports.{library_of, dll_range, entry_with, first_library_in, first_function_in, first_of_walk, function_of, functions_after, functions_of};
+ghost use Rattle.pe_c.specs.Directories.{DirectoryHandsOut, image_parts, left_after, step_of, table_at};
+
+use crate::directories::{Result, image_bytes, range_left, table_at};
+use crate::image::{DELAY_IMPORT_DESCRIPTOR, Image};
+use crate::ranges::{NO_BYTES, Range, slice_of};
+use crate::results::hand_out_found;
+use pe_core::SectionTable;
+use pe_directories::{DelayImport, DelayImports, DelayedFunction as Function, ImageBytes, VaTable};
+
+/// The size of the hint before a function's name in bytes.
+const SIZE_OF_HINT: u64 = 2;
+
+/// A walk over what is imported of a DLL.
+#[repr(C)]
+#[derive(Clone, Copy)]
+pub struct DelayedFunctions {
+    /// The table from its next number on, up to the end of the bytes: numbers of 8 bytes in PE32+, else of 4.
+    pub left: Range,
+    /// The attributes of the DLL's entry.
+    pub attributes: u32,
+    /// 0.
+    pub spare: u32,
+}
+
+/// A DLL that is loaded when one of its functions is called first.
+#[repr(C)]
+#[derive(Clone, Copy)]
+pub struct DelayLibrary {
+    /// The DLL's name: UTF-8, without its final zero.
+    pub name: Range,
+    /// A walk for `pe_c_next_delayed_function`, at its start.
+    pub functions: DelayedFunctions,
+    /// The entry of the directory.
+    pub descriptor: DelayImport,
+}
+
+/// What is imported of a DLL.
+#[repr(C)]
+#[derive(Clone, Copy)]
+pub struct DelayedFunction {
+    /// UTF-8, without its final zero. Empty where `has_name` is 0.
+    pub name: Range,
+    /// The ordinal, or the hint for a name: an index into the DLL's table of names.
+    pub ordinal: u32,
+    /// 1 for an import by name, 0 for one by ordinal.
+    pub has_name: u32,
+}
+
+/// Returns a walk through the entries of the delay import directory, its bytes: `NOTHING` where it is absent. Strict and
+/// permissive mode make no difference.
+///
+/// Errors: `UNMAPPED`, `SHORT`.
+#[unsafe(no_mangle)]
+pub extern "C" fn pe_c_delay_imports(
+    bytes: &[u8],
+    image: &Image,
+    sections: &[SectionTable],
+    out: &mut Range,
+) -> u32
+    ensures { DirectoryHandsOut result out.old out.new
+        (table_at 13 bytes.now image.now sections.now) }
+{
+    hand_out_found(
+        table_at(DELAY_IMPORT_DESCRIPTOR, bytes, image, sections),
+        out,
+    )
+}
+
+/// The range of the name of an entry's DLL.
+fn dll_range(image: &ImageBytes<'_>, entry: &DelayImport) -> Result<Range>
+    ensures { directory_answer (λ r. r) result ≡ dll_range (image_view image.now) entry.now }
+{
+    let name = entry.dll(image)?;
+    let offset = entry.offset_of(image, entry.name)?;
+    Ok(Range {
+        offset: offset as u64,
+        length: name.len() as u64,
+    })
+}
+
+/// A walk over what is imported of an entry's DLL.
+fn functions_of(image: &ImageBytes<'_>, entry: &DelayImport) -> Result<DelayedFunctions>
+    ensures { directory_answer (λ w. w) result ≡ functions_of (image_view image.now) entry.now }
+{
+    let offset = entry.offset_of(image, entry.import_name_table)?;
+    Ok(DelayedFunctions {
+        left: Range {
+            offset: offset as u64,
+            length: image.bytes.len().saturating_sub(offset) as u64,
+        },
+        attributes: entry.attributes,
+        spare: 0,
+    })
+}
+
+/// An entry as callers get it.
+fn library_of(image: &ImageBytes<'_>, entry: DelayImport) -> Result<DelayLibrary>
+    ensures { directory_answer (λ x. x) result ≡ library_of (image_view image.now) entry }
+{
+    Ok(DelayLibrary {
+        name: dll_range(image, &entry)?,
+        functions: functions_of(image, &entry)?,
+        descriptor: entry,
+    })
+}
+
+/// The next DLL of a walk. It is over after an error.
+fn next_library(image: &ImageBytes<'_>, walk: &mut Range) -> Result<Option<DelayLibrary>>
+    ensures library { directory_answer (λ x. x) result
+        ≡ step_of (λ x. x) (first_library_in (image_view image.now) walk.old) }
+    ensures walk { walk.new
+        ≡ left_after walk.old (first_library_in (image_view image.now) walk.old) }
+{
+    let range = *walk;
+    *walk = NO_BYTES;
+    let mut entries = DelayImports::new(slice_of(image.bytes, &range)?);
+    let Some(entry) = entries.next() else {
+        *walk = range;
+        return Ok(None);
+    };
+    let library = library_of(image, entry?)?;
+    *walk = range_left(range, entries.rest());
+    Ok(Some(library))
+}
+
+/// Steps through the DLLs of the delay import directory: returns the next one, and moves `walk` past it. `NOTHING` where no
+/// bytes are left, or where the next entry has no name: then `walk` stays. Strict and permissive mode make no difference.
+///
+/// Errors, after which the walk is over: `SHORT` where `walk` is not inside the bytes, or the entry is truncated;
+/// `DIRECTORY_VA_BELOW_BASE`, `UNMAPPED`, `DIRECTORY_DELAY_IMPORT_NAME` of the name; `DIRECTORY_VA_BELOW_BASE`, `UNMAPPED`
+/// of the table of what is imported.
+#[unsafe(no_mangle)]
+pub extern "C" fn pe_c_next_delay_import(
+    bytes: &[u8],
+    image: &Image,
+    sections: &[SectionTable],
+    walk: &mut Range,
+    out: &mut DelayLibrary,
+) -> u32
+    ensures library { DirectoryHandsOut result out.old out.new (step_of (λ x. x)
+        (first_library_in (image_parts bytes.now image.now sections.now) walk.old)) }
+    ensures walk { walk.new ≡ left_after walk.old
+        (first_library_in (image_parts bytes.now image.now sections.now) walk.old) }
+{
+    hand_out_found(
+        next_library(&image_bytes(bytes, image, sections), walk),
+        out,
+    )
+}
+
+/// An entry of which the attributes alone are known.
+fn entry_with(attributes: u32) -> DelayImport
+    ensures { result ≡ entry_with attributes }
+{
+    DelayImport {
+        attributes,
+        name: 0,
+        module_handle: 0,
+        import_address_table: 0,
+        import_name_table: 0,
+        bound_import_address_table: 0,
+        unload_information_table: 0,
+        time_date_stamp: 0,
+    }
+}
+
+/// What a number of the table imports, as callers get it.
+#[tactic(auto, unfolding(crate::specs::DelayImports::function_of, pe_directories::specs::DelayImports::imported_by, pe_directories::specs::DelayImports::hint_and_name))]
+fn function_of(image: &ImageBytes<'_>, entry: &DelayImport, lookup: u64) -> Result<DelayedFunction>
+    ensures { directory_answer (λ x. x) result
+        ≡ function_of (image_view image.now) entry.now lookup }
+{
+    match entry.imported(image, lookup)? {
+        Function::Ordinal(ordinal) => Ok(DelayedFunction {
+            name: NO_BYTES,
+            ordinal: u32::from(ordinal),
+            has_name: 0,
+        }),
+        Function::Name { hint, name } => {
+            let offset = entry.offset_of(image, (lookup % (1 << 31)) as u32)?;
+            Ok(DelayedFunction {
+                name: Range {
+                    offset: offset as u64 + SIZE_OF_HINT,
+                    length: name.len() as u64,
+                },
+                ordinal: u32::from(hint),
+                has_name: 1,
+            })
+        }
+    }
+}
+
+/// The next function of a walk, whose attributes and bytes left are these. It is over after an error.
+fn next_function(
+    bytes: &[u8],
+    image: &Image,
+    sections: &[SectionTable],
+    attributes: u32,
+    left: &mut Range,
+) -> Result<Option<DelayedFunction>>
+    ensures function { directory_answer (λ x. x) result ≡ step_of (λ x. x)
+        (first_function_in image.now (image_parts bytes.now image.now sections.now)
+        attributes left.old) }
+    ensures left { left.new ≡ left_after left.old
+        (first_function_in image.now (image_parts bytes.now image.now sections.now)
+        attributes left.old) }
+{
+    let range = *left;
+    if range.offset == 0 && range.length == 0 {
+        return Ok(None);
+    }
+    *left = NO_BYTES;
+    let mut table = VaTable::new(slice_of(bytes, &range)?, image.width == 64);
+    let Some(lookup) = table.next() else {
+        *left = range;
+        return Ok(None);
+    };
+    let parts = image_bytes(bytes, image, sections);
+    let function = function_of(&parts, &entry_with(attributes), lookup?)?;
+    *left = range_left(range, table.rest());
+    Ok(Some(function))
+}
+
+/// Steps through what is imported of a DLL: returns the next function, and moves `walk` past it. `NOTHING` where the table
+/// ends: then `walk` stays. Strict and permissive mode make no difference.
+///
+/// Errors, after which the walk is over: `SHORT` where the bytes end before the table does, or where `walk` is not inside the
+/// bytes; of an import by name `DIRECTORY_VA_BELOW_BASE`, `UNMAPPED` of its address, `SHORT` of the hint there,
+/// `DIRECTORY_DELAY_IMPORT_NAME`.
+#[unsafe(no_mangle)]
+pub extern "C" fn pe_c_next_delayed_function(
+    bytes: &[u8],
+    image: &Image,
+    sections: &[SectionTable],
+    walk: &mut DelayedFunctions,
+    out: &mut DelayedFunction,
+) -> u32
+    ensures function { DirectoryHandsOut result out.old out.new (step_of (λ x. x)
+        (first_of_walk image.now (image_parts bytes.now image.now sections.now) walk.old)) }
+    ensures walk { walk.new ≡ functions_after walk.old
+        (first_of_walk image.now (image_parts bytes.now image.now sections.now) walk.old) }
+{
+    let attributes = walk.attributes;
+    hand_out_found(
+        next_function(bytes, image, sections, attributes, &mut walk.left),
+        out,
+    )
+}

@@ -1,0 +1,47 @@
+//! Laws of the ranges that calls return of directories which pe_directories reads.
+
+ghost use Rattle.pe_c.specs.Clr.{content_of, first_stream_in, metadata_reported, stream_reported};
+ghost use Rattle.pe_c.specs.DelayImports.{dll_range, function_of};
+ghost use Rattle.pe_c.specs.Ranges.{IsRange, bytes_at, range_of};
+ghost use Rattle.pe_c.specs.declared.clr.MetadataStreams.{MetadataStreams};
+ghost use Rattle.pe_c.specs.declared.delay_imports.DelayedFunction.{DelayedFunction};
+ghost use Rattle.pe_c.specs.declared.ranges.Range.{Range};
+ghost use Rattle.pe_core.specs.Bytes.{range};
+ghost use Rattle.pe_core.specs.declared.byte_range.ByteRange.{ByteRange};
+ghost use Rattle.pe_directories.specs.Clr.{Metadata, Stream, metadata_of};
+ghost use Rattle.pe_directories.specs.DelayImports.{Name, delay_dll, imported_by};
+ghost use Rattle.pe_directories.specs.ImageParts.{ImageView};
+ghost use Rattle.pe_directories.specs.declared.delay_import.DelayImport.{DelayImport};
+ghost use Rattle.std.specs.Prelude.{◌≡◌, ℕ, ◌+◌, ◌≤◌, List, length, IfSome, Ok, Some};
+
+/// The ranges of a metadata root lie in the bytes, and are its version text, the headers of its streams and the metadata.
+pub fn ranges_of_metadata_are_its_parts()
+    ensures version { (b : List ℕ) (r : ByteRange) (m : Metadata) →
+        r.offset + r.length ≤ length b → metadata_of (range b r.offset r.length) ≡ Ok m →
+        IsRange b (metadata_reported (range_of r) m).version m.version }
+    ensures headers { (b : List ℕ) (r : ByteRange) (m : Metadata) →
+        r.offset + r.length ≤ length b → metadata_of (range b r.offset r.length) ≡ Ok m →
+        IsRange b (metadata_reported (range_of r) m).streams.headers m.stream_headers }
+    ensures metadata { (b : List ℕ) (r : ByteRange) (m : Metadata) →
+        r.offset + r.length ≤ length b → metadata_of (range b r.offset r.length) ≡ Ok m →
+        IsRange b (metadata_reported (range_of r) m).streams.metadata m.bytes }
+{}
+
+/// The ranges of the stream that stands first in a walk lie in the bytes, and are its name and its part of the metadata.
+pub fn ranges_of_streams_are_their_parts()
+    ensures name { (b : List ℕ) (w : MetadataStreams) (s : Stream) (left : ℕ × List ℕ) →
+        first_stream_in b w ≡ Some (Ok (s, left)) → IsRange b (stream_reported w s).name s.name }
+    ensures content { (b metadata : List ℕ) (w : MetadataStreams) (s : Stream) →
+        bytes_at b w.metadata ≡ Ok metadata →
+        IfSome (content_of w.metadata s) (λ r. IsRange b r (range metadata s.offset s.size)) }
+{}
+
+/// The ranges of the names of delay imports lie in the bytes, and are these names.
+pub fn ranges_of_delay_imports_are_their_names()
+    ensures dll { (i : ImageView) (e : DelayImport) (name : List ℕ) (r : Range) →
+        delay_dll i e ≡ Ok name → dll_range i e ≡ Ok r → IsRange i.bytes r name }
+    ensures function { (i : ImageView) (e : DelayImport)
+        (number hint : ℕ) (name : List ℕ) (f : DelayedFunction) →
+        imported_by i e number ≡ Ok (Name hint name) → function_of i e number ≡ Ok f →
+        IsRange i.bytes f.name name }
+{}

@@ -1,0 +1,163 @@
+//! The load configuration: what guards an image against attacks, as the security cookie, the safe exception handlers of x86
+//! and the functions that may be called indirectly. Versions of Windows have added fields at the end of its structure, so it
+//! says how many bytes it has, and the fields after these are absent.
+//! https://learn.microsoft.com/windows/win32/debug/pe-format#the-load-configuration-structure-image-only
+
+ghost use Rattle.std.specs.Prelude.{◌≡◌};
+ghost use Rattle.pe_directories.specs.DirectoryRefusals.{directory_answer};
+ghost use Rattle.pe_c.specs.Directories.{DirectoryHandsOut};
+ghost use Rattle.pe_c.specs.Exports.{one_if_some, or_zero};
+ghost use Rattle.pe_c.specs.LoadConfigs.{config_reported, load_config_at};
+
+use crate::directories::{Result, image_bytes};
+use crate::image::{Image, LOAD_CONFIG_TABLE, directory, is_absent};
+use crate::results::hand_out_found;
+use pe_core::SectionTable;
+use pe_directories::LoadConfig as Structure;
+
+/// The load configuration (`IMAGE_LOAD_CONFIG_DIRECTORY32`, `IMAGE_LOAD_CONFIG_DIRECTORY64`), up to the guard flags. A field
+/// that the structure is too short for is 0, and the field `has_` of its name is 0 too. Addresses are virtual addresses.
+#[repr(C)]
+#[derive(Clone, Copy)]
+pub struct LoadConfig {
+    /// Where the security cookie is.
+    pub security_cookie: u64,
+    /// Where the sorted table of the RVAs of exception handlers is, 4 bytes each, on x86.
+    pub se_handler_table: u64,
+    /// The number of exception handlers in the table.
+    pub se_handler_count: u64,
+    /// Where the pointer to the function is that checks the target of an indirect call.
+    pub guard_cf_check_function_pointer: u64,
+    /// Where the pointer to the function is that checks the target and calls it.
+    pub guard_cf_dispatch_function_pointer: u64,
+    /// Where the sorted table of the functions is that may be called indirectly: the RVA of each, 4 bytes, and as many more
+    /// bytes as bits 28 to 31 of the guard flags say.
+    pub guard_cf_function_table: u64,
+    /// The number of functions in the table.
+    pub guard_cf_function_count: u64,
+    /// The size of the structure in bytes, as it says.
+    pub size: u32,
+    /// When it was made, in seconds since 1970.
+    pub time_date_stamp: u32,
+    /// Flags, `IMAGE_GUARD_*`.
+    pub guard_flags: u32,
+    /// The major part of a version.
+    pub major_version: u16,
+    /// The minor part of a version.
+    pub minor_version: u16,
+    /// Where DLLs that the image imports are looked for: flags of `LoadLibraryEx`.
+    pub dependent_load_flags: u16,
+    /// 0.
+    pub spare: u16,
+    /// 1 where the structure has the field of this name, else 0, as all that follow.
+    pub has_time_date_stamp: u8,
+    pub has_major_version: u8,
+    pub has_minor_version: u8,
+    pub has_dependent_load_flags: u8,
+    pub has_security_cookie: u8,
+    pub has_se_handler_table: u8,
+    pub has_se_handler_count: u8,
+    pub has_guard_cf_check_function_pointer: u8,
+    pub has_guard_cf_dispatch_function_pointer: u8,
+    pub has_guard_cf_function_table: u8,
+    pub has_guard_cf_function_count: u8,
+    pub has_guard_flags: u8,
+}
+
+/// 1 for a field that is there, else 0.
+fn flag<T: Copy>(field: Option<T>) -> u8
+    ensures { result ≡ one_if_some field }
+{
+    match field {
+        Some(_) => 1,
+        None => 0,
+    }
+}
+
+/// A field, 0 where it is not there.
+fn u16_or_0(field: Option<u16>) -> u16
+    ensures { result ≡ or_zero field }
+{
+    field.unwrap_or(0)
+}
+
+/// The same of 4 bytes.
+fn u32_or_0(field: Option<u32>) -> u32
+    ensures { result ≡ or_zero field }
+{
+    field.unwrap_or(0)
+}
+
+/// The same of 8 bytes.
+fn u64_or_0(field: Option<u64>) -> u64
+    ensures { result ≡ or_zero field }
+{
+    field.unwrap_or(0)
+}
+
+/// A load configuration as callers get it.
+#[tactic(auto, unfolding(crate::specs::LoadConfigs::config_reported))]
+fn config_reported(config: &Structure) -> LoadConfig
+    ensures { result ≡ config_reported config.now }
+{
+    LoadConfig {
+        security_cookie: u64_or_0(config.security_cookie),
+        se_handler_table: u64_or_0(config.se_handler_table),
+        se_handler_count: u64_or_0(config.se_handler_count),
+        guard_cf_check_function_pointer: u64_or_0(config.guard_cf_check_function_pointer),
+        guard_cf_dispatch_function_pointer: u64_or_0(config.guard_cf_dispatch_function_pointer),
+        guard_cf_function_table: u64_or_0(config.guard_cf_function_table),
+        guard_cf_function_count: u64_or_0(config.guard_cf_function_count),
+        size: config.size,
+        time_date_stamp: u32_or_0(config.time_date_stamp),
+        guard_flags: u32_or_0(config.guard_flags),
+        major_version: u16_or_0(config.major_version),
+        minor_version: u16_or_0(config.minor_version),
+        dependent_load_flags: u16_or_0(config.dependent_load_flags),
+        spare: 0,
+        has_time_date_stamp: flag(config.time_date_stamp),
+        has_major_version: flag(config.major_version),
+        has_minor_version: flag(config.minor_version),
+        has_dependent_load_flags: flag(config.dependent_load_flags),
+        has_security_cookie: flag(config.security_cookie),
+        has_se_handler_table: flag(config.se_handler_table),
+        has_se_handler_count: flag(config.se_handler_count),
+        has_guard_cf_check_function_pointer: flag(config.guard_cf_check_function_pointer),
+        has_guard_cf_dispatch_function_pointer: flag(config.guard_cf_dispatch_function_pointer),
+        has_guard_cf_function_table: flag(config.guard_cf_function_table),
+        has_guard_cf_function_count: flag(config.guard_cf_function_count),
+        has_guard_flags: flag(config.guard_flags),
+    }
+}
+
+fn load_config_at(
+    bytes: &[u8],
+    image: &Image,
+    sections: &[SectionTable],
+) -> Result<Option<LoadConfig>>
+    ensures { directory_answer (λ c. c) result
+        ≡ load_config_at bytes.now image.now sections.now }
+{
+    let directory = directory(image, LOAD_CONFIG_TABLE);
+    if is_absent(directory) {
+        return Ok(None);
+    }
+    let config = Structure::parse(&image_bytes(bytes, image, sections), directory)?;
+    Ok(Some(config_reported(&config)))
+}
+
+/// Returns the load configuration of an image: `NOTHING` where it is absent. Strict and permissive mode make no difference.
+///
+/// Errors: `UNMAPPED`, `SHORT`.
+#[unsafe(no_mangle)]
+pub extern "C" fn pe_c_load_config(
+    bytes: &[u8],
+    image: &Image,
+    sections: &[SectionTable],
+    out: &mut LoadConfig,
+) -> u32
+    ensures { DirectoryHandsOut result out.old out.new
+        (load_config_at bytes.now image.now sections.now) }
+{
+    hand_out_found(load_config_at(bytes, image, sections), out)
+}

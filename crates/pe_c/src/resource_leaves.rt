@@ -1,0 +1,260 @@
+//! All leaves of a resource tree: each resource in each language. The tree has three levels: types, names, languages. A walk is
+//! a position in the tree, in numbers; callers may copy it, and store it.
+//! https://learn.microsoft.com/windows/win32/debug/pe-format#the-rsrc-section
+
+ghost use Rattle.std.specs.Prelude.{◌≡◌, ◌≤◌, ◌^◌};
+ghost use Rattle.pe_core.specs.Refusals.{answer_of};
+ghost use Rattle.pe_resource.specs.Leaves.{tree_answer};
+ghost use Rattle.pe_c.specs.ResourceLeaves.{StartsLeaves, TreeHandsOut, after_item, content_of, first_item, image_tree, items_left, leaf_reported, name_in, position_of};
+
+use crate::image::{Image, RESOURCE_TABLE, directory, is_absent};
+use crate::ranges::{NO_BYTES, Range, range_of, slice_of};
+use crate::results::{DONE, NOTHING, hand_out_leaf, number_of, options};
+use pe_core::{ByteRange, Result, SectionTable};
+use pe_resource::{LeafPosition, ResourceData, ResourceEntry, ResourceTreeError};
+
+/// What names a type, a resource or a language: an id, or a name.
+#[repr(C)]
+#[derive(Clone, Copy)]
+pub struct ResourceName {
+    /// The name in UTF-16 code units, little-endian, without a final zero; the empty range with an id.
+    pub name: Range,
+    /// The id; 0 with a name.
+    pub id: u32,
+    /// 1 with a name, else 0.
+    pub has_name: u32,
+}
+
+/// A leaf of a resource tree: a resource in one language.
+#[repr(C)]
+#[derive(Clone, Copy)]
+pub struct ResourceLeaf {
+    /// An id is one of `RT_*` of winuser.h.
+    pub resource_type: ResourceName,
+    /// The resource among those of its type.
+    pub name: ResourceName,
+    /// An id is a language identifier of Windows, 0 for any language.
+    pub language: ResourceName,
+    /// The content; the empty range where `content_result` is not 0.
+    pub content: Range,
+    /// 0, or why the content is not in the file: `UNMAPPED`, `RESOURCE_BOUNDS`.
+    pub content_result: u32,
+    /// RVA of the content.
+    pub rva: u32,
+    /// Bytes of the content.
+    pub size: u32,
+    /// The code page of texts in the content, mostly 0.
+    pub code_page: u32,
+}
+
+/// A walk over the leaves of a resource tree. The ranges of entries count from the start of the data.
+#[repr(C)]
+#[derive(Clone, Copy)]
+pub struct ResourceLeaves {
+    /// The data of the resource directory in the file.
+    pub tree: Range,
+    /// The entries of the types that are left.
+    pub types: Range,
+    /// The entries of the names that are left of a type.
+    pub names: Range,
+    /// The entries of the languages that are left of a name.
+    pub languages: Range,
+    /// The entry of the type that the names are of.
+    pub resource_type: ResourceEntry,
+    /// The entry of the name that the languages are of.
+    pub name: ResourceEntry,
+}
+
+fn byte_range(range: &Range) -> ByteRange
+    ensures offset { result.offset ≡ range.now.offset }
+    ensures length { result.length ≡ range.now.length }
+{
+    ByteRange {
+        offset: range.offset as usize,
+        length: range.length as usize,
+    }
+}
+
+fn position_of(walk: &ResourceLeaves) -> LeafPosition
+    ensures { result ≡ position_of walk.now }
+{
+    LeafPosition {
+        types: byte_range(&walk.types),
+        resource_type: walk.resource_type,
+        names: byte_range(&walk.names),
+        name: walk.name,
+        languages: byte_range(&walk.languages),
+    }
+}
+
+/// The walk at a position in the data.
+fn walk_at(tree: Range, position: &LeafPosition) -> ResourceLeaves
+    ensures position { position_of result ≡ position.now }
+    ensures tree { result.tree ≡ tree }
+{
+    ResourceLeaves {
+        tree,
+        types: range_of(position.types),
+        names: range_of(position.names),
+        languages: range_of(position.languages),
+        resource_type: position.resource_type,
+        name: position.name,
+    }
+}
+
+/// The name of an entry of data that start at a file offset. `Short` where it is truncated.
+fn name_in(start: u64, data: &[u8], entry: ResourceEntry) -> Result<ResourceName>
+    requires { start ≤ 2 ^ 63 }
+    ensures { answer_of result ≡ name_in start data.now entry }
+{
+    Ok(match entry.name_units(data)? {
+        Some(units) => ResourceName {
+            name: Range {
+                offset: start + (u64::from(entry.name_offset()) + 2),
+                length: units.len() as u64,
+            },
+            id: 0,
+            has_name: 1,
+        },
+        None => ResourceName {
+            name: NO_BYTES,
+            id: entry.name_or_id % 0x1_0000,
+            has_name: 0,
+        },
+    })
+}
+
+/// Where the content of a leaf is: its range and 0, or the empty range and why there is none.
+fn content_of(
+    bytes: &[u8],
+    image: &Image,
+    sections: &[SectionTable],
+    leaf: &pe_resource::ResourceLeaf,
+) -> (Range, u32)
+    ensures { result ≡ content_of bytes.now image.now sections.now leaf.now.data_entry }
+{
+    match leaf.content_range(bytes, sections, image.file_alignment, &options(image.mode)) {
+        Ok(range) => (range_of(range), DONE),
+        Err(error) => (NO_BYTES, number_of(&error)),
+    }
+}
+
+fn leaf_reported(
+    bytes: &[u8],
+    image: &Image,
+    sections: &[SectionTable],
+    start: u64,
+    data: &[u8],
+    leaf: &pe_resource::ResourceLeaf,
+) -> Result<ResourceLeaf>
+    requires { start ≤ 2 ^ 63 }
+    ensures { answer_of result
+        ≡ leaf_reported bytes.now image.now sections.now start data.now leaf.now }
+{
+    let resource_type = name_in(start, data, leaf.resource_type)?;
+    let name = name_in(start, data, leaf.name)?;
+    let language = name_in(start, data, leaf.language)?;
+    let (content, content_result) = content_of(bytes, image, sections, leaf);
+    Ok(ResourceLeaf {
+        resource_type,
+        name,
+        language,
+        content,
+        content_result,
+        rva: leaf.data_entry.offset_to_data,
+        size: leaf.data_entry.size,
+        code_page: leaf.data_entry.code_page,
+    })
+}
+
+/// A walk that is over.
+const OVER: ResourceLeaves = ResourceLeaves {
+    tree: NO_BYTES,
+    types: NO_BYTES,
+    names: NO_BYTES,
+    languages: NO_BYTES,
+    resource_type: NO_ENTRY,
+    name: NO_ENTRY,
+};
+
+/// An entry that no walk looks at.
+const NO_ENTRY: ResourceEntry = ResourceEntry {
+    name_or_id: 0,
+    offset_to_data_or_directory: 0,
+};
+
+/// Returns a walk over the leaves of the resource tree: `NOTHING` where the directory is absent, and in permissive mode where its
+/// data are shorter than a directory.
+///
+/// Errors: `UNMAPPED`, `SHORT` of the first directory; `RESOURCE_BOUNDS` where the data are not in the file, and in strict mode
+/// where the first directory or its entries are not all in the data.
+#[unsafe(no_mangle)]
+pub extern "C" fn pe_c_resource_leaves(
+    bytes: &[u8],
+    image: &Image,
+    sections: &[SectionTable],
+    out: &mut ResourceLeaves,
+) -> u32
+    ensures { StartsLeaves bytes.now image.now sections.now result out.old out.new
+        (image_tree bytes.now image.now sections.now) }
+{
+    let directory = directory(image, RESOURCE_TABLE);
+    if is_absent(directory) {
+        return NOTHING;
+    }
+    let alignment = image.file_alignment;
+    let opts = options(image.mode);
+    match ResourceData::leaf_position(bytes, directory, sections, alignment, &opts) {
+        Ok(Some((data, position))) => {
+            *out = walk_at(range_of(data), &position);
+            DONE
+        }
+        Ok(None) => NOTHING,
+        Err(error) => number_of(&error),
+    }
+}
+
+/// The next leaf of a walk. It is over after an error.
+#[tactic(auto, using(crate::proofs::LeafRuns::over_has_none))]
+fn next_leaf(
+    bytes: &[u8],
+    image: &Image,
+    sections: &[SectionTable],
+    walk: &mut ResourceLeaves,
+) -> std::result::Result<Option<ResourceLeaf>, ResourceTreeError>
+    ensures leaf { tree_answer result
+        ≡ first_item (items_left bytes.now image.now sections.now walk.old) }
+    ensures walk { items_left bytes.now image.now sections.now walk.new
+        ≡ after_item (items_left bytes.now image.now sections.now walk.old) }
+{
+    let tree = walk.tree;
+    let mut position = position_of(walk);
+    *walk = OVER;
+    let data = slice_of(bytes, &tree)?;
+    let Some(item) = position.next(data) else {
+        return Ok(None);
+    };
+    let leaf = leaf_reported(bytes, image, sections, tree.offset, data, &item?)?;
+    *walk = walk_at(tree, &position);
+    Ok(Some(leaf))
+}
+
+/// Steps through the leaves of a resource tree: returns the next one, and moves `walk` past it. `NOTHING` at the end.
+///
+/// Errors, after which the walk is over: `SHORT` where `walk` is not inside the bytes, or where a directory, its entries, a data
+/// entry or a name is truncated; `TREE_NOT_DIRECTORY`, `TREE_NOT_DATA`, `TREE_NO_ENTRIES` of an entry that has no leaf.
+#[unsafe(no_mangle)]
+pub extern "C" fn pe_c_next_resource_leaf(
+    bytes: &[u8],
+    image: &Image,
+    sections: &[SectionTable],
+    walk: &mut ResourceLeaves,
+    out: &mut ResourceLeaf,
+) -> u32
+    ensures leaf { TreeHandsOut result out.old out.new
+        (first_item (items_left bytes.now image.now sections.now walk.old)) }
+    ensures walk { items_left bytes.now image.now sections.now walk.new
+        ≡ after_item (items_left bytes.now image.now sections.now walk.old) }
+{
+    hand_out_leaf(next_leaf(bytes, image, sections, walk), out)
+}

@@ -1,0 +1,92 @@
+//! Names of sections that are longer than the 8 bytes of their header: a slash and the offset of a string in the COFF string
+//! table. Images of mingw-w64 have such names for their debug sections.
+//! https://learn.microsoft.com/windows/win32/debug/pe-format#section-table-section-headers
+
+ghost use Rattle.std.specs.Prelude.{◌≡◌};
+ghost use Rattle.pe_core.specs.Refusals.{answer_of};
+ghost use Rattle.pe_c.specs.HandsOut.{HandsOutIf};
+ghost use Rattle.pe_c.specs.SectionNames.{long_name_at, strings_at, strings_in};
+
+use crate::image::Image;
+use crate::ranges::{Range, slice_of};
+use crate::results::{hand_out_some, options};
+use pe_core::{CoffHeader, DosHeader, Result, SectionTable, Strtab};
+use pe_directories::{long_section_name, string_offset};
+
+/// Bytes from the PE signature to the COFF header.
+const SIZE_OF_SIGNATURE: usize = 4;
+
+/// The size of an entry of the COFF symbol table in bytes.
+const SIZE_OF_SYMBOL: u64 = 18;
+
+fn strings_in(bytes: &[u8]) -> Result<Option<Range>>
+    ensures { answer_of result ≡ strings_in bytes.now }
+{
+    let dos_header = DosHeader::parse(bytes)?;
+    let coff = CoffHeader::parse(bytes, dos_header.pe_pointer as usize + SIZE_OF_SIGNATURE)?;
+    match coff.strings(bytes)? {
+        Some(table) => Ok(Some(Range {
+            offset: u64::from(coff.pointer_to_symbol_table)
+                + SIZE_OF_SYMBOL * u64::from(coff.number_of_symbol_table),
+            length: table.bytes.len() as u64,
+        })),
+        None => Ok(None),
+    }
+}
+
+fn strings_at(bytes: &[u8], image: &Image) -> Result<Option<Range>>
+    ensures { answer_of result ≡ strings_at bytes.now image.now }
+{
+    if options(image.mode).resolve_rva {
+        strings_in(bytes)
+    } else {
+        Ok(None)
+    }
+}
+
+/// Returns the COFF string table, from its size field on, which follows the COFF symbols: `NOTHING` where the image has no
+/// symbols, where the bytes end after them, and in an image as loaded.
+///
+/// Errors: `SHORT` of the headers; `SHORT` where the symbols are truncated; `STRING_TABLE` where the table is.
+#[unsafe(no_mangle)]
+pub extern "C" fn pe_c_string_table(bytes: &[u8], image: &Image, out: &mut Range) -> u32
+    ensures { HandsOutIf result out.old out.new (strings_at bytes.now image.now) }
+{
+    hand_out_some(strings_at(bytes, image), out)
+}
+
+fn long_name_at(bytes: &[u8], table: &Range, section: &SectionTable) -> Result<Option<Range>>
+    ensures { answer_of result ≡ long_name_at bytes.now table.now section.now }
+{
+    let strings = Strtab {
+        bytes: slice_of(bytes, table)?,
+    };
+    let Some(name) = long_section_name(section, &strings) else {
+        return Ok(None);
+    };
+    // There is an offset where there is a string.
+    let offset = match string_offset(section) {
+        Some(offset) => offset,
+        None => 0,
+    };
+    Ok(Some(Range {
+        offset: table.offset + u64::from(offset),
+        length: name.len() as u64,
+    }))
+}
+
+/// Returns the string that the name of a section leads to, in UTF-8 without its final zero. `table` is the string table.
+/// `NOTHING` where the name is none that leads there, as `.text`, or where no string is at its offset.
+///
+/// Error: `SHORT` where `table` is not inside the bytes.
+#[unsafe(no_mangle)]
+pub extern "C" fn pe_c_long_section_name(
+    bytes: &[u8],
+    table: &Range,
+    section: &SectionTable,
+    out: &mut Range,
+) -> u32
+    ensures { HandsOutIf result out.old out.new (long_name_at bytes.now table.now section.now) }
+{
+    hand_out_some(long_name_at(bytes, table, section), out)
+}
