@@ -14,3 +14,5 @@ pub mod SomeResource
 pub mod ContentRanges
 pub mod ResourceModes
 pub mod LeafWalks
+pub mod BlockLists
+pub mod Digits

@@ -6,3 +6,5 @@ pub mod VersionFields
 pub mod Contents
 pub mod Resources
 pub mod Leaves
+pub mod VersionBlocks
+pub mod TranslationsAfter

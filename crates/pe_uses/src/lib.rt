@@ -11,6 +11,7 @@ mod signing;
 mod stacks;
 mod symbols;
 mod unwinding;
+mod version_strings;
 mod versions;
 mod writing;
 
@@ -24,5 +25,6 @@ pub use signing::digest_input;
 pub use stacks::walk_stack;
 pub use symbols::symbol_key;
 pub use unwinding::frames_at;
+pub use version_strings::version_strings;
 pub use versions::file_version;
 pub use writing::without_time_stamp;
