@@ -18,7 +18,7 @@
 //! | exports, imports | [`exports`](Image::exports), [`export_addresses`](Image::export_addresses), [`libraries`](Image::libraries) | [.edata], [.idata] |
 //! | thread-local storage | [`tls`](Image::tls), [`tls_callbacks`](Image::tls_callbacks) | [.tls] |
 //! | base relocations | [`relocation_blocks`](Image::relocation_blocks) | [.reloc] |
-//! | resources | [`version`](Image::version), [`version_text`](Image::version_text), [`manifest`](Image::manifest) | [version information] |
+//! | resources | [`version`](Image::version), [`version_text`](Image::version_text), [`version_blocks`](Image::version_blocks), [`manifest`](Image::manifest) | [version information] |
 //!
 //! [PE Format]: https://learn.microsoft.com/windows/win32/debug/pe-format
 //! [debug section]: https://learn.microsoft.com/windows/win32/debug/pe-format#the-debug-section
@@ -80,6 +80,7 @@ mod symbol_server;
 pub mod sys;
 mod tls;
 mod version;
+mod version_blocks;
 mod walk;
 mod x64;
 
@@ -102,4 +103,5 @@ pub use sys::{
 };
 pub use tls::{Tls, TlsCallbacks};
 pub use version::{FixedVersion, Text, VersionName};
+pub use version_blocks::{VersionBlock, VersionBlocks, VersionLanguage};
 pub use x64::{Code, Codes, Functions, Handler, Offset, Operation, Plan, Register, Scopes, UnwindRecord};

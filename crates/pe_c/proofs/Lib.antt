@@ -25,3 +25,4 @@ pub mod Runs
 pub mod Steps
 pub mod VersionsReported
 pub mod Ways
+pub mod VersionBlockParts

@@ -20,3 +20,4 @@ pub mod Unwinding
 pub mod Versions
 pub mod Walks
 pub mod Directories
+pub mod VersionBlocks

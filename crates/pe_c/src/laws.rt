@@ -1,6 +1,8 @@
 //! Laws over the definitions of `specs/`. Each is the contract of a function that does nothing, so that a caller's
 //! proof can cite it by calling the function.
 
+pub mod version_blocks;
+
 ghost use Rattle.pe_c.specs.Arm64.{StepsArm64Codes, arm64_function_in, arm64_walk_at, flat_arm64_item, flat_info, flat_scope_at, left_of_stream};
 ghost use Rattle.pe_c.specs.Certificates.{StepsCertificates, ReportsCertificate, listed};
 ghost use Rattle.pe_c.specs.Debug.{key_of, pdb20_field, pogo_field, repro_field};
