@@ -1181,8 +1181,8 @@ uint32_t pe_c_next_bound_forwarder(const uint8_t *bytes, size_t length, const pe
  * (RT_VERSION), the manifest the first of type 24 (RT_MANIFEST).
  * https://learn.microsoft.com/windows/win32/menurc/vs-versioninfo
  *
- * The three calls return PE_C_NOTHING without resources or without one of the type. Damaged version information is no
- * error of the manifest, nor the reverse. The calls share these errors; the last two items are of version information:
+ * The calls of an image return PE_C_NOTHING without resources or without one of the type. Damaged version information is no
+ * error of the manifest, nor the reverse. They share these errors; the last two items are of version information:
  *   - the root directory: PE_C_UNMAPPED, PE_C_SHORT; PE_C_RESOURCE_BOUNDS where the data that the data directory names ends
  *     past the end of the file, and in strict mode where the root or its entries are not all inside the data;
  *   - the way to the resource: PE_C_SHORT, PE_C_RESOURCE_CYCLE;
@@ -1222,6 +1222,22 @@ enum {
 
 PE_C_SIZE(pe_c_version, 52);
 
+/* A block of version information, which is a tree of them. The first block, VS_VERSION_INFO, is all of it; its value is the
+ * fixed file information. It contains StringFileInfo, with a string table for each language, whose blocks are strings with
+ * any key; and VarFileInfo, with Translation, whose value is a language and a code page, uint16_t each, for each language of
+ * the file. */
+typedef struct {
+    pe_c_range key;                 /* UTF-16 code units, little-endian, without the zero that ends them */
+    pe_c_range value;               /* a text in UTF-16, which ends at the first zero, or binary data */
+    pe_c_range children;            /* a walk over the blocks that it contains */
+    uint32_t value_type;            /* 1 where the value is a text, 0 where it is binary data */
+    uint32_t has_language;          /* 1 where the key is eight hexadecimal digits, as that of a string table; else 0 */
+    uint32_t language;              /* the language identifier that the first four digits are; else 0 */
+    uint32_t code_page;             /* the code page that the last four digits are; else 0 */
+} pe_c_version_block;
+
+PE_C_SIZE(pe_c_version_block, 64);
+
 /* Returns the fixed file information. PE_C_NOTHING also where version information has none. */
 uint32_t pe_c_fixed_version(const uint8_t *bytes, size_t length, const pe_c_image_info *image,
                             const pe_c_section *sections, size_t count, pe_c_version *out) PE_C_RESULT(3, 6);
@@ -1231,6 +1247,18 @@ uint32_t pe_c_fixed_version(const uint8_t *bytes, size_t length, const pe_c_imag
 uint32_t pe_c_version_text(const uint8_t *bytes, size_t length, const pe_c_image_info *image,
                            const pe_c_section *sections, size_t count, uint32_t name, pe_c_range *out)
     PE_C_RESULT(3, 7);
+
+/* Returns version information as a walk over its blocks, of which the first is all of it. Its content is not read yet, so the
+ * errors of version strings and of fixed file information are not among its errors. */
+uint32_t pe_c_version_blocks(const uint8_t *bytes, size_t length, const pe_c_image_info *image,
+                             const pe_c_section *sections, size_t count, pe_c_range *out) PE_C_RESULT(3, 6);
+
+/* Returns the next block. A walk ends with its bytes, or at a block of length 0. Unlike other walks this one may go on after an
+ * error, with the block after that which has the error; it is over where a call returns PE_C_NOTHING.
+ * Errors: PE_C_SHORT where the block is truncated, which ends the walk; PE_C_RESOURCE_STRING where its length is below 6, which
+ * ends the walk, or its key has no zero code unit in it, after which the walk goes on. */
+uint32_t pe_c_next_version_block(const uint8_t *bytes, size_t length, pe_c_range *walk, pe_c_version_block *out)
+    PE_C_RESULT(3, 4);
 
 /* Returns the range of the manifest, an XML text. */
 uint32_t pe_c_manifest(const uint8_t *bytes, size_t length, const pe_c_image_info *image,

@@ -237,6 +237,8 @@ fn read_by_lies(bytes: &[u8], random: &mut Random, seen: &mut Seen) {
     );
     call_of_image!(pe_c_fixed_version(), Version);
     call_of_image!(pe_c_version_text(few % 16), Range);
+    call_of_image!(pe_c_version_blocks(), Range);
+    walk!(pe_c_next_version_block(range), VersionBlock);
     call_of_image!(pe_c_manifest(), Range);
     call!(pe_c_digest_ranges(&image), Digest);
     call!(pe_c_checksum(&image), ChecksumField);

@@ -24,7 +24,7 @@
 //! | load configuration | [`load_config`](Image::load_config) | [load config] |
 //! | base relocations | [`relocation_blocks`](Image::relocation_blocks) | [.reloc] |
 //! | .NET | [`clr`](Image::clr) | [ECMA-335], II.24 and II.25 |
-//! | resources | [`version`](Image::version), [`version_text`](Image::version_text), [`manifest`](Image::manifest) | [version information] |
+//! | resources | [`version`](Image::version), [`version_text`](Image::version_text), [`version_blocks`](Image::version_blocks), [`manifest`](Image::manifest) | [version information] |
 //! | | [`resource_leaves`](Image::resource_leaves) | [.rsrc] |
 //!
 //! [PE Format]: https://learn.microsoft.com/windows/win32/debug/pe-format
@@ -100,6 +100,7 @@ mod symbol_server;
 pub mod sys;
 mod tls;
 mod version;
+mod version_blocks;
 mod walk;
 mod x64;
 
@@ -128,4 +129,5 @@ pub use sys::{
 };
 pub use tls::{Tls, TlsCallbacks};
 pub use version::{FixedVersion, Text, VersionName};
+pub use version_blocks::{VersionBlock, VersionBlocks, VersionLanguage};
 pub use x64::{Code, Codes, Functions, Handler, Offset, Operation, Plan, Register, Scopes, UnwindRecord};

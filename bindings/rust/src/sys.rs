@@ -610,6 +610,24 @@ Version, 52 {
     /// Low half of it.
     file_date_ls: u32,
 });
+record!(
+/// A block of version information. See [`VersionBlock`](crate::VersionBlock).
+VersionBlock, 64 {
+    /// UTF-16 code units, without the zero that ends them.
+    key: Range,
+    /// A text in UTF-16, which ends at the first zero, or binary data.
+    value: Range,
+    /// A walk over the blocks that it contains.
+    children: Range,
+    /// 1 where the value is a text, 0 where it is binary data.
+    value_type: u32,
+    /// 1 where the key is eight hexadecimal digits, as that of a string table; else 0.
+    has_language: u32,
+    /// The language identifier that the first four digits are; else 0.
+    language: u32,
+    /// The code page that the last four digits are; else 0.
+    code_page: u32,
+});
 
 impl Range {
     /// The bytes of a range, or `None` if they are not all there.
@@ -1087,6 +1105,8 @@ calls_of_bytes! {
     pe_c_next_bound_import(table: *const Range, walk: *mut Range) -> BoundImport;
     /// Returns the next DLL that a bound import forwards to.
     pe_c_next_bound_forwarder(table: *const Range, walk: *mut Range) -> BoundForwarder;
+    /// Returns the next block of version information.
+    pe_c_next_version_block(walk: *mut Range) -> VersionBlock;
     /// Returns the next block of base relocations.
     pe_c_next_relocation_block(walk: *mut Range) -> RelocationBlock;
     /// Returns the next relocation of a block.
@@ -1146,6 +1166,8 @@ calls_of_an_image! {
     pe_c_fixed_version() -> Version;
     /// Returns the value of a version name, by its number in the order of [`VersionName`](crate::VersionName).
     pe_c_version_text(name: u32) -> Range;
+    /// Returns version information, as a walk over its blocks.
+    pe_c_version_blocks() -> Range;
     /// Returns the range of the manifest.
     pe_c_manifest() -> Range;
     /// Returns the leaves of the resource tree, as a walk.

@@ -133,8 +133,8 @@ impl fmt::Display for Text<'_> {
 
 /// # Version information and manifest
 ///
-/// The three methods return `None` without resources or without one of the type. Damaged version information is no error of
-/// the manifest, nor the reverse. The methods share these errors; the last two items are of version information:
+/// The methods return `None` without resources or without one of the type. Damaged version information is no error of
+/// the manifest, nor the reverse. They share these errors; the last two items are of version information:
 ///
 /// - the root directory: [`Error::UNMAPPED`], [`Error::SHORT`]; [`Error::RESOURCE_BOUNDS`] where the data that the data
 ///   directory names ends past the end of the file, and in strict mode where the root or its entries are not all inside

@@ -27,3 +27,4 @@ pub mod Steps
 pub mod VersionsReported
 pub mod Ways
 pub mod LeafRuns
+pub mod VersionBlockParts

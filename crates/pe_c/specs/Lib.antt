@@ -27,3 +27,4 @@ pub mod ResourceLeaves
 pub mod RichHeaders
 pub mod BoundImports
 pub mod SectionNames
+pub mod VersionBlocks

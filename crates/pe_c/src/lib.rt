@@ -38,4 +38,5 @@ mod texts;
 mod tls;
 mod unwinding;
 mod version;
+mod version_blocks;
 mod walks;

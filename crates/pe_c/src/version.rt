@@ -18,7 +18,7 @@ use pe_core::{ByteRange, Result, SectionTable, require_bytes};
 use pe_resource::{RT_MANIFEST, RT_VERSION, ResourceData, VersionName, VsFixedFileInfo};
 
 /// The range of the content of the first resource with an id, if the image has resources and this one.
-fn content_of(
+pub fn content_of(
     bytes: &[u8],
     image: &Image,
     sections: &[SectionTable],

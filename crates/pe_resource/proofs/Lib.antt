@@ -15,3 +15,5 @@ pub mod ContentRanges
 pub mod ResourceModes
 pub mod LeafWalks
 pub mod LeafPositions
+pub mod BlockLists
+pub mod Digits

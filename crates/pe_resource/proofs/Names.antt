@@ -122,7 +122,7 @@ units_front [] = refl
 units_front (x ∷ []) = refl
 units_front (x ∷ y ∷ b) = front_at (x + 256 * y == 0) x y b (units_front b)
 
-same_test : (r s : Bool) → (r ≡ true → s ≡ true) → (s ≡ true → r ≡ true) → r ≡ s
+pub same_test : (r s : Bool) → (r ≡ true → s ≡ true) → (s ≡ true → r ≡ true) → r ≡ s
 same_test true true f g = refl
 same_test true false f g = absurd (false≢true (f refl))
 same_test false true f g = absurd (false≢true (g refl))

@@ -7,3 +7,5 @@ pub mod Contents
 pub mod Resources
 pub mod Leaves
 pub mod LeafPositions
+pub mod VersionBlocks
+pub mod TranslationsAfter

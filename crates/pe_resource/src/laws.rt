@@ -4,3 +4,4 @@
 pub mod constants;
 pub mod derives;
 pub mod resources;
+pub mod version_blocks;

@@ -17,6 +17,7 @@ ghost use Rattle.pe_core.specs.Refusals.{Returns, ReturnsAs};
 ghost use Rattle.pe_resource.specs.Contents.{map_of, file_range};
 ghost use Rattle.pe_resource.specs.ResourceEntries.{entries, entries_left};
 ghost use Rattle.pe_resource.specs.Leaves.{TreeReturns, tree_answer, table_below, leaf_of, leaves_of_name, leaves_of_type, tree_leaves, leaves_left, walk_view, name_units, content_of_type, leaf_version};
+ghost use Rattle.pe_resource.specs.VersionBlocks.{BlockReturns, block_view, leaf_block};
 ghost use Rattle.pe_resource.specs.VersionFields.{version_view};
 
 use crate::constants::{RESOURCE_ENTRY_SIZE, RT_VERSION};
@@ -25,6 +26,8 @@ use crate::directory::{ImageResourceDirectory, ResourceEntryIterator, SIZE_OF_DI
 use crate::entry::ResourceEntry;
 use crate::tree_error::ResourceTreeError;
 use crate::version::VersionInfo;
+use crate::version_block::VersionBlock;
+use crate::version_block_error::VersionBlockError;
 use pe_core::{ByteRange, ParseOptions, Result, SectionTable, read_u16, require_bytes, slice_at};
 
 /// The range of a table without entries.
@@ -101,6 +104,23 @@ impl ResourceLeaf {
     {
         let content = self.content_of_type(pe, RT_VERSION, sections, file_alignment, opts)?;
         VersionInfo::of_content(content)
+    }
+
+    /// Reads the block that the content is, the root of all strings and languages in it. `None` unless the type is
+    /// `RT_VERSION`, and if the content is empty or starts with a length of 0. Errors, in order: `Image` with those of
+    /// `content_range`; those of `VersionBlock::parse`.
+    pub fn version_block<'a>(
+        &self,
+        pe: &'a [u8],
+        sections: &[SectionTable],
+        file_alignment: u32,
+        opts: &ParseOptions,
+    ) -> std::result::Result<Option<VersionBlock<'a>>, VersionBlockError>
+        ensures { BlockReturns (option_map block_view) result (leaf_block
+            (map_of opts.now sections.now file_alignment) pe.entry.now self.now) }
+    {
+        let data = self.content_of_type(pe, RT_VERSION, sections, file_alignment, opts)?;
+        VersionBlock::of_content(data)
     }
 }
 

@@ -22,6 +22,8 @@ mod resource;
 mod string;
 mod tree_error;
 mod version;
+mod version_block;
+mod version_block_error;
 
 pub use constants::{
     IMAGE_RESOURCE_DATA_IS_DIRECTORY, IMAGE_RESOURCE_MASK, IMAGE_RESOURCE_NAME_IS_STRING,
@@ -50,3 +52,5 @@ pub use resource::ResourceData;
 pub use string::{ResourceString, ResourceStringIterator};
 pub use tree_error::ResourceTreeError;
 pub use version::{StringFileInfo, VersionField, VersionInfo, VersionName, VsFixedFileInfo};
+pub use version_block::{Translation, Translations, VersionBlock, VersionBlocks};
+pub use version_block_error::VersionBlockError;

@@ -26,10 +26,10 @@ const TEXT: u16 = 1;
 const MOST_UNITS: u16 = 32767;
 
 /// The size of a string's length, value length and type in bytes.
-const SIZE_OF_HEAD: usize = 6;
+pub(crate) const SIZE_OF_HEAD: usize = 6;
 
 /// The size of a UTF-16 code unit in bytes.
-const SIZE_OF_UNIT: usize = 2;
+pub(crate) const SIZE_OF_UNIT: usize = 2;
 
 /// One string of version information. A block that contains other strings is a string too: its value is empty or the
 /// fixed file information.
@@ -49,7 +49,7 @@ pub struct ResourceString<'a> {
 
 /// The size in bytes of the code units at `offset`, up to the first zero code unit or the end.
 #[tactic(auto, using(crate::proofs::Keys::key_more, crate::proofs::Keys::key_end, crate::proofs::Keys::key_none))]
-fn key_length(bytes: &[u8], offset: usize) -> usize
+pub(crate) fn key_length(bytes: &[u8], offset: usize) -> usize
     requires { offset ≤ length bytes.now }
     ensures key { result ≡ key_length bytes.now offset }
     ensures within { offset + result ≤ length bytes.now }
@@ -59,6 +59,17 @@ fn key_length(bytes: &[u8], offset: usize) -> usize
         end += SIZE_OF_UNIT;
     }
     end - offset
+}
+
+/// The size of a value in bytes, by its length and its type.
+pub(crate) fn size_of_value(value_len: u16, text_type: u16) -> usize
+    ensures { result ≡ (if text_type == 1 then 2 * value_len else value_len) }
+{
+    if text_type == TEXT {
+        SIZE_OF_UNIT * usize::from(value_len)
+    } else {
+        usize::from(value_len)
+    }
 }
 
 impl<'a> ResourceString<'a> {
@@ -87,11 +98,7 @@ impl<'a> ResourceString<'a> {
         let key = key_length(bytes, start + SIZE_OF_HEAD);
         let key_end = start + SIZE_OF_HEAD + key + SIZE_OF_UNIT;
         let value_offset = rounded_up(key_end, RESOURCE_STRING_FIELD_ALIGNMENT);
-        let size = if text_type == TEXT {
-            SIZE_OF_UNIT * usize::from(value_len)
-        } else {
-            usize::from(value_len)
-        };
+        let size = size_of_value(value_len, text_type);
         let too_long = text_type == TEXT && MOST_UNITS < value_len;
         if too_long || bytes.len() < size || bytes.len() - size < value_offset {
             return Err(Error::Malformed(Reason::ResourceString(offset_in_refusal(start))));
@@ -178,7 +185,7 @@ impl<'a> ResourceString<'a> {
 
 /// Whether the code units in `bytes` are the ASCII characters of `name`.
 #[tactic(auto, using(crate::proofs::Units::unit_at, crate::proofs::Units::units_count, crate::proofs::Units::same_from_each))]
-fn same_units(bytes: &[u8], name: &[u8]) -> bool
+pub(crate) fn same_units(bytes: &[u8], name: &[u8]) -> bool
     ensures { IsTrue result ↔ (units bytes.now ≡ name.now) }
 {
     if bytes.len() / SIZE_OF_UNIT != name.len() {

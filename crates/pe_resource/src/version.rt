@@ -20,7 +20,7 @@ use pe_core::{ByteRange, Error, ParseOptions, Result, SectionTable, read_u32};
 use std::alloc::{AllocError, Allocator};
 
 /// The size of the fixed file information in bytes.
-const SIZE_OF_FIXED_INFO: usize = 52;
+pub(crate) const SIZE_OF_FIXED_INFO: usize = 52;
 
 /// The keys of the values that are read: of the fixed file information, and the twelve names in their order.
 const KEYS: [&str; 13] = [
@@ -145,7 +145,7 @@ pub struct VsFixedFileInfo {
 impl VsFixedFileInfo {
     /// Reads the fixed file information at `offset`. The caller has checked that its 52 bytes are there.
     #[tactic(auto, unfolding(crate::specs::VersionFields::fixed_info_at))]
-    fn at(bytes: &[u8], offset: usize) -> VsFixedFileInfo
+    pub(crate) fn at(bytes: &[u8], offset: usize) -> VsFixedFileInfo
         requires { offset + 52 ≤ length bytes.now }
         ensures { result ≡ fixed_info_at bytes.now offset }
     {

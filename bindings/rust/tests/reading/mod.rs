@@ -3,7 +3,7 @@
 
 use pe_c::{
     Arm64Record, Arm64Unwinding, Error, Frames, Function, Functions, Handler, Image, Layout, Mode, Module, Placement,
-    Registers, ResourceName, Stack, StepError, UnwindRecord, VersionName,
+    Registers, ResourceName, Stack, StepError, UnwindRecord, VersionBlocks, VersionName,
 };
 
 /// What was read.
@@ -315,6 +315,24 @@ fn read_version(image: &Image, seen: &mut Seen) {
     }
     if let Some(manifest) = seen.keep(image.manifest()) {
         seen.touch(manifest);
+    }
+    if let Some(blocks) = seen.keep(image.version_blocks()) {
+        read_blocks(blocks, 4, seen);
+    }
+}
+
+/// Reads so many levels of blocks.
+fn read_blocks(blocks: VersionBlocks, levels: usize, seen: &mut Seen) {
+    for block in blocks.take(seen.most) {
+        let Some(block) = seen.item(block) else {
+            continue;
+        };
+        seen.touch(block.key.0);
+        seen.touch(block.value);
+        std::hint::black_box(block.languages().count());
+        if levels > 1 {
+            read_blocks(block.children(), levels - 1, seen);
+        }
     }
 }
 
