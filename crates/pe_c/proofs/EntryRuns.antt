@@ -1,17 +1,20 @@
 -- A walk over entries of one width gives all of them.
-use Rattle.std.proofs.Common.{◌≡◌, ℕ, zero, suc, ◌+◌, ◌-◌, ◌<◌, ◌≤◌, Bool, true, false, List, [], ◌∷◌, length, Some, None, Result, Ok, Err, refl, sym, ap, subst, ◌∙◌, arith}
+use Rattle.std.proofs.Common.{◌≡◌, ℕ, zero, suc, ◌+◌, ◌-◌, ◌<◌, ◌≤◌, Bool, true, false, List, [], ◌∷◌, length, drop, Some, None, Result, Ok, Err, refl, sym, ap, subst, ◌∙◌, arith}
 use Rattle.std.specs.Prelude.{◌==◌, nat_lt, if◌then◌else◌}
 use Rattle.std.proofs.lemmas.Bool.Decides.{nat_tests}
 use Rattle.pe_core.specs.Rows.{ReadsAfter}
 use Rattle.pe_core.proofs.EntryItems.{le_after, entry_items_more, entry_items_none, entry_items_cut}
+use Rattle.std.proofs.lemmas.List.{drop-drop}
 use Rattle.pe_core.specs.Bytes.{holds, range}
 use Rattle.pe_core.specs.Refusals.{Refusal, Short}
 use Rattle.pe_core.specs.Rows.{entry_items}
+use Rattle.pe_directories.specs.RichHeader.{rich_entry}
 use Rattle.pe_records.specs.DebugDirectory.{debug_entry_at}
 use Rattle.pe_unwind.specs.ScopeTable.{scope_at}
 use Rattle.pe_c.proofs.LeftBytes.{long, rest_of_range}
 use Rattle.pe_c.specs.Arm64.{flat_scope_at}
 use Rattle.pe_c.specs.Ranges.{no_bytes, range_after}
+use Rattle.pe_c.specs.RichHeaders.{rich_entry_at}
 use Rattle.pe_c.specs.Runs.{ReturnsItems, IsOver}
 use Rattle.pe_c.specs.Walks.{StepsEntries, walk_items, left_entry}
 use Rattle.pe_c.specs.declared.ranges.Range.{Range}
@@ -122,3 +125,10 @@ entry_after b p q e =
 
 pub debug_entries_in_turn : (b : List ℕ) (r : Range) → ReturnsItems (StepsEntries (debug_entry_at 0) 28 b) r (walk_items (debug_entry_at 0) 28 b r)
 debug_entries_in_turn = gives_entries (debug_entry_at 0) 28 entry_after (omega arith)
+
+rich_entry_after : (key : ℕ) → ReadsAfter (rich_entry_at key) 8
+rich_entry_after key b p q e =
+    ap (λ (d : List ℕ). rich_entry (record { key = key; before = []; entries = d }) 0) (drop-drop p 8 b ∙ ap (λ (n : ℕ). drop n b) (sym e))
+
+pub rich_entries_in_turn : (key : ℕ) (b : List ℕ) (r : Range) → ReturnsItems (StepsEntries (rich_entry_at key) 8 b) r (walk_items (rich_entry_at key) 8 b r)
+rich_entries_in_turn key = gives_entries (rich_entry_at key) 8 (rich_entry_after key) (omega arith)

@@ -1,15 +1,19 @@
--- Walks over the leaves of resource trees.
-use Rattle.std.proofs.Common.{◌≡◌, ℕ, true, List, [], ◌∷◌, map, Result, Ok, refl, sym, ap, ◌∙◌, arith}
+-- Walks over the leaves of resource trees, and the names that they report.
+use Rattle.std.proofs.Common.{◌≡◌, ℕ, ◌+◌, ◌*◌, ◌≤◌, Bool, true, false, List, [], ◌∷◌, length, map, Option, Some, None, Result, Ok, Err, refl, sym, ap, ◌∙◌, arith}
 use Rattle.std.proofs.lemmas.Bool.Decides.{nat_tests}
-use Rattle.pe_core.specs.Bytes.{holds}
+use Rattle.std.proofs.lemmas.List.{places, same_lists}
+use Rattle.pe_core.specs.Bytes.{holds, le, range}
+use Rattle.pe_core.specs.Refusals.{Refusal, Short}
 use Rattle.pe_core.specs.declared.section_table.SectionTable.{SectionTable}
 use Rattle.pe_resource.proofs.LeafPositions.{last_position}
 use Rattle.pe_resource.specs.LeafPositions.{leaves_at}
-use Rattle.pe_resource.specs.Leaves.{TreeRefusal}
+use Rattle.pe_resource.specs.Leaves.{TreeRefusal, name_units}
+use Rattle.pe_resource.specs.ResourceEntries.{has_name, name_offset}
 use Rattle.pe_resource.specs.declared.entry.ResourceEntry.{ResourceEntry}
 use Rattle.pe_resource.specs.declared.leaf_position.LeafPosition.{LeafPosition}
 use Rattle.pe_resource.specs.declared.leaves.ResourceLeaf as trees
-use Rattle.pe_c.specs.ResourceLeaves.{after_item, item_reported, items_left, leaf_reported, position_of}
+use Rattle.pe_c.proofs.LeftBytes.{long, there}
+use Rattle.pe_c.specs.ResourceLeaves.{IsNameOf, after_item, item_reported, items_left, leaf_reported, name_reported, position_of}
 use Rattle.pe_c.specs.Ranges.{bytes_at, no_bytes}
 use Rattle.pe_c.specs.declared.image.Image as images
 use Rattle.pe_c.specs.declared.ranges.Range.{Range}
@@ -43,3 +47,34 @@ pub after_leaf : (b : List ℕ) (image : images.Image) (sections : List SectionT
 after_leaf b image sections v w d p q x y there same at from first reported =
     items_at b image sections v w.tree d p there same at
     ∙ sym (ap after_item (items_at b image sections w w.tree d q there refl (sym from) ∙ ap (map (item_reported b image sections w.tree.offset d)) first) ∙ rw reported refl)
+
+-- ---- names
+
+part_of_range : (b : List ℕ) (t n m k : ℕ) → t + n ≤ length b → m + k ≤ n → range (range b t n) m k ≡ range b (t + m) k
+part_of_range b t n m k h i = same_lists _ _ (grind (arith, places)) (λ j d lt. grind (arith, places))
+
+-- the units of a name are in the data, after their number
+units_there : (d : List ℕ) (e : ResourceEntry) (units : List ℕ) (named first second : Bool) → has_name e ≡ named → holds d (name_offset e) 2 ≡ first →
+    holds d (name_offset e + 2) (2 * le d (name_offset e) 2) ≡ second → name_units d e ≡ Ok (Some units) →
+    (name_offset e + 2 + 2 * le d (name_offset e) 2 ≤ length d) × (units ≡ range d (name_offset e + 2) (2 * le d (name_offset e) 2))
+unfolding name_units
+units_there d e units true true true n f s is = (
+  grind (arith, nat_tests),
+  (let same : ◌≡◌ {A = Result (Option (List ℕ)) Refusal} (Ok (Some (range d (name_offset e + 2) (2 * le d (name_offset e) 2)))) (Ok (Some units)) = sym (rw n (rw f (rw s refl))) ∙ is in cc),
+)
+units_there d e units true true false n f s is = absurd (let same : ◌≡◌ {A = Result (Option (List ℕ)) Refusal} (Err Short) (Ok (Some units)) = sym (rw n (rw f (rw s refl))) ∙ is in cc)
+units_there d e units true false second n f s is = absurd (let same : ◌≡◌ {A = Result (Option (List ℕ)) Refusal} (Err Short) (Ok (Some units)) = sym (rw n (rw f refl)) ∙ is in cc)
+units_there d e units false first second n f s is = absurd (let same : ◌≡◌ {A = Result (Option (List ℕ)) Refusal} (Ok None) (Ok (Some units)) = sym (rw n refl) ∙ is in cc)
+
+pub names_are_theirs : (b : List ℕ) (tree : Range) (d : List ℕ) (e : ResourceEntry) (units : Option (List ℕ)) → bytes_at b tree ≡ Ok d → name_units d e ≡ Ok units → IsNameOf b (name_reported tree.offset e units) units
+names_are_theirs b tree d e None at is = refl
+names_are_theirs b tree d e (Some units) at is =
+    let p : ℕ = name_offset e + 2 in
+    let n : ℕ = 2 * le d (name_offset e) 2 in
+    let in_b = there b tree d (holds b tree.offset tree.length) refl at in
+    let in_d = units_there d e units (has_name e) (holds d (name_offset e) 2) (holds d p n) refl refl refl is in
+    let size : length d ≡ tree.length = ap length in_b.1 ∙ long b tree.offset tree.length in_b.0 in
+    let fits : p + n ≤ tree.length = (let inside : p + n ≤ length d = in_d.0 in omega (arith, size)) in
+    let count : length units ≡ n = ap length in_d.1 ∙ long d p n in_d.0 in
+    let here : range b (tree.offset + p) n ≡ units = sym (part_of_range b tree.offset tree.length p n in_b.0 fits) ∙ ap (λ (x : List ℕ). range x p n) (sym in_b.1) ∙ sym in_d.1 in
+    (refl, record { inside = (let whole : tree.offset + tree.length ≤ length b = in_b.0 in omega (arith, count, fits)); same = rw count here })

@@ -14,7 +14,7 @@ use Rattle.pe_resource.specs.declared.leaves.ResourceLeaf as trees
 use Rattle.pe_c.specs.HandsOut.{result_number}
 use Rattle.pe_c.specs.Images.{is_absent, map_of_image, resource_directory}
 use Rattle.pe_c.specs.Modes.{options_of}
-use Rattle.pe_c.specs.Ranges.{bytes_at, no_bytes, range_of}
+use Rattle.pe_c.specs.Ranges.{IsRange, bytes_at, no_bytes, range_of}
 use Rattle.pe_c.specs.declared.image.Image as images
 use Rattle.pe_c.specs.declared.ranges.Range.{Range}
 use Rattle.pe_c.specs.declared.resource_leaves.ResourceLeaf.{ResourceLeaf}
@@ -74,6 +74,11 @@ leaf_reported b image sections start d x =
     name_in start d x.name >>= λ n.
     name_in start d x.language >>= λ l.
     Ok (leaf_of_names t n l x.data_entry (content_of b image sections x.data_entry))
+
+-- the name that is reported of an entry with these units, if it has a name, is that: its range is the units
+abbrev pub IsNameOf : List ℕ → ResourceName → Option (List ℕ) → Type 0
+IsNameOf b n None = n.has_name ≡ 0
+IsNameOf b n (Some units) = (n.has_name ≡ 1) × IsRange b n.name units
 
 -- ---- walks
 

@@ -1,5 +1,5 @@
-//! Bound imports: DLLs whose addresses the linker, or a tool after it, wrote into the import address table. They are valid as long
-//! as each DLL has the time stamp that stands here. Each is followed by the DLLs that it forwards to.
+//! Bound imports: DLLs whose addresses the linker, or a tool after it, wrote into the import address table. They are valid as
+//! long as each DLL has the time stamp that stands here. Each is followed by the DLLs that it forwards to.
 //! https://learn.microsoft.com/windows/win32/debug/pe-format#optional-header-data-directories-image-only
 
 ghost use Rattle.std.specs.Prelude.{◌≡◌};
@@ -58,8 +58,8 @@ fn bound_imports_at(bytes: &[u8], image: &Image) -> Result<Option<Range>>
     }))
 }
 
-/// Returns the bytes of the directory of bound imports, at first a walk through them: `NOTHING` where it is absent. It stands in
-/// the headers, so its RVA is a file offset. Strict and permissive mode make no difference.
+/// Returns the bytes of the directory of bound imports, at first a walk through them: `NOTHING` where it is absent. It stands
+/// in the headers, so its RVA is a file offset. Strict and permissive mode make no difference.
 ///
 /// Error: `SHORT`.
 #[unsafe(no_mangle)]

@@ -15,6 +15,8 @@ ghost use Rattle.pe_c.specs.Parts.{HasTables, ImportsInTurn, IsPart, ReportsExpo
 ghost use Rattle.pe_c.specs.Modes.{options_of};
 ghost use Rattle.pe_c.specs.Plans.{HandsOutAfter, ReturnsInTurn, ReportsUnwindRecord, ending_of, plan_from};
 ghost use Rattle.pe_c.specs.Ranges.{IsRange, bytes_at};
+ghost use Rattle.pe_c.specs.ResourceLeaves.{IsNameOf, name_reported};
+ghost use Rattle.pe_c.specs.RichHeaders.{rich_entry_at};
 ghost use Rattle.pe_c.specs.Runs.{ReturnsItems};
 ghost use Rattle.pe_c.specs.Signing.{CoversDigest, digest_at, headers_of};
 ghost use Rattle.pe_c.specs.Unwinding.{FollowsToRecord, StepsCodes, image_exceptions, record_at_rva, flat_item, flat_record, function_in, code_stream_at};
@@ -47,6 +49,8 @@ ghost use Rattle.pe_records.specs.Certificates.{CertificateView, certificate_at}
 ghost use Rattle.pe_records.specs.DebugDirectory.{debug_entry_at};
 ghost use Rattle.pe_records.specs.Parts.{hash_of};
 ghost use Rattle.pe_records.specs.Pogo.{Entries, Entry};
+ghost use Rattle.pe_resource.specs.Leaves.{name_units};
+ghost use Rattle.pe_resource.specs.declared.entry.ResourceEntry.{ResourceEntry};
 ghost use Rattle.pe_unwind.specs.Arm64Functions.{arm64_functions};
 ghost use Rattle.pe_unwind.specs.Arm64Record.{Arm64InfoView, info_at};
 ghost use Rattle.pe_unwind.specs.Arm64Tiling.{Tiles};
@@ -166,8 +170,8 @@ pub fn indices_give_the_functions()
 
 /// A walk over entries of one width returns those of its range, one a step and in their order: each whole entry, one
 /// error where the last is truncated, and then nothing. A range that is not inside the bytes is one error alone. So the
-/// walks over scope tables, over epilog scopes and over debug entries leave nothing out, and end.
-#[tactic(auto, using(crate::proofs::EntryRuns::scopes_in_turn, crate::proofs::EntryRuns::arm64_scopes_in_turn, crate::proofs::EntryRuns::debug_entries_in_turn))]
+/// walks over scope tables, over epilog scopes, over debug entries and over those of a Rich header leave nothing out, and end.
+#[tactic(auto, using(crate::proofs::EntryRuns::scopes_in_turn, crate::proofs::EntryRuns::arm64_scopes_in_turn, crate::proofs::EntryRuns::debug_entries_in_turn, crate::proofs::EntryRuns::rich_entries_in_turn))]
 pub fn walks_give_their_entries()
     ensures scopes { (b : List ℕ) (walk : Range) →
         ReturnsItems (StepsEntries scope_at 16 b) walk (walk_items scope_at 16 b walk) }
@@ -175,6 +179,8 @@ pub fn walks_give_their_entries()
         ReturnsItems (StepsEntries flat_scope_at 4 b) walk (walk_items flat_scope_at 4 b walk) }
     ensures debug_entries { (b : List ℕ) (walk : Range) → ReturnsItems
         (StepsEntries (debug_entry_at 0) 28 b) walk (walk_items (debug_entry_at 0) 28 b walk) }
+    ensures rich_entries { (key : ℕ) (b : List ℕ) (walk : Range) → ReturnsItems
+        (StepsEntries (rich_entry_at key) 8 b) walk (walk_items (rich_entry_at key) 8 b walk) }
 {}
 
 /// A walk over unwind codes returns, one a step, the items of the stream of its bytes, and then nothing: the codes that
@@ -327,4 +333,13 @@ pub fn versions_are_those_of_resources()
     ensures manifest { ReportsManifest }
     ensures fixed { ReportsFixed }
     ensures value { ReportsValue }
+{}
+
+/// The names that a walk over the leaves of a resource tree reports lie in the bytes, and are the units that the entries of the
+/// tree have.
+#[tactic(auto, using(crate::proofs::LeafRuns::names_are_theirs))]
+pub fn names_of_leaves_are_their_units()
+    ensures { (b : List ℕ) (tree : Range) (d : List ℕ)
+        (e : ResourceEntry) (units : Option (List ℕ)) → bytes_at b tree ≡ Ok d →
+        name_units d e ≡ Ok units → IsNameOf b (name_reported tree.offset e units) units }
 {}

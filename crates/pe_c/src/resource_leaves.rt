@@ -183,8 +183,8 @@ const NO_ENTRY: ResourceEntry = ResourceEntry {
     offset_to_data_or_directory: 0,
 };
 
-/// Returns a walk over the leaves of the resource tree: `NOTHING` where the directory is absent, and in permissive mode where its
-/// data are shorter than a directory.
+/// Returns a walk over the leaves of the resource tree: `NOTHING` where the directory is absent, and in permissive mode where
+/// its data are shorter than a directory.
 ///
 /// Errors: `UNMAPPED`, `SHORT` of the first directory; `RESOURCE_BOUNDS` where the data are not in the file, and in strict mode
 /// where the first directory or its entries are not all in the data.
@@ -241,8 +241,8 @@ fn next_leaf(
 
 /// Steps through the leaves of a resource tree: returns the next one, and moves `walk` past it. `NOTHING` at the end.
 ///
-/// Errors, after which the walk is over: `SHORT` where `walk` is not inside the bytes, or where a directory, its entries, a data
-/// entry or a name is truncated; `TREE_NOT_DIRECTORY`, `TREE_NOT_DATA`, `TREE_NO_ENTRIES` of an entry that has no leaf.
+/// Errors, after which the walk is over: `SHORT` where `walk` is not inside the bytes, or where a directory, its entries, a
+/// data entry or a name is truncated; `TREE_NOT_DIRECTORY`, `TREE_NOT_DATA`, `TREE_NO_ENTRIES` of an entry that has no leaf.
 #[unsafe(no_mangle)]
 pub extern "C" fn pe_c_next_resource_leaf(
     bytes: &[u8],

@@ -170,8 +170,8 @@ fn fixed_in(bytes: &[u8], content: &Range) -> Result<Option<VsFixedFileInfo>>
     fixed_at(bytes, Some(content))
 }
 
-/// Reads the fixed file information of one version information, the content of a leaf of type 16 (`RT_VERSION`): `NOTHING` where
-/// it has none.
+/// Reads the fixed file information of one version information, the content of a leaf of type 16 (`RT_VERSION`): `NOTHING`
+/// where it has none.
 ///
 /// Errors: `SHORT` where `content` is not inside the bytes; those of `VsFixedFileInfo::of_strings`.
 #[unsafe(no_mangle)]
