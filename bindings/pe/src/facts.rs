@@ -1,16 +1,22 @@
 //! What the program says of an image, as records: JSON is made of them as they are, and text by `summary` and `show`. Each
 //! value comes from a call of the crate `pe_c`.
 
+pub mod bound_imports;
 pub mod certificates;
+pub mod clr;
 pub mod debug;
+pub mod delay_imports;
 pub mod entropy;
 pub mod exports;
 pub mod extracted;
 pub mod functions;
 pub mod headers;
 pub mod imports;
+pub mod load_config;
 pub mod regions;
 pub mod relocations;
+pub mod resources;
+pub mod rich;
 pub mod sections;
 pub mod tls;
 pub mod version;
@@ -41,6 +47,18 @@ pub enum Topic {
     Tls,
     /// Base relocations, counted by page
     Relocations,
+    /// DLLs that are loaded when one of their functions is called first
+    DelayImports,
+    /// DLLs whose addresses stand in the image, with their time stamps
+    BoundImports,
+    /// What guards the image against attacks
+    LoadConfig,
+    /// The CLR header and the streams of its metadata, of an image for .NET
+    Clr,
+    /// The Rich header: which tools made the objects of the image
+    Rich,
+    /// All resources, each in each language
+    Resources,
     All,
 }
 
@@ -99,6 +117,13 @@ impl<T> Part<T> {
             Part::Refused(refusal) => Some(refusal),
             _ => None,
         }
+    }
+}
+
+impl<T> Part<List<T>> {
+    /// Why the list is refused, or the entry at which it ends.
+    pub fn list_refusal(&self) -> Option<&Refusal> {
+        self.refusal().or(self.present().and_then(|it| it.error.as_ref()))
     }
 }
 
@@ -200,6 +225,29 @@ impl fmt::Display for Named {
     }
 }
 
+/// Flags, and the names of those that have one.
+#[derive(Clone, Debug, Serialize)]
+pub struct Flags {
+    pub number: u32,
+    pub names: Vec<&'static str>,
+}
+
+impl Flags {
+    pub fn of(number: u32, names: &'static [(u32, &'static str)]) -> Flags {
+        Flags { number, names: crate::names::flags_of(number, names) }
+    }
+}
+
+impl fmt::Display for Flags {
+    fn fmt(&self, f: &mut fmt::Formatter<'_>) -> fmt::Result {
+        write!(f, "{:#x}", self.number)?;
+        if !self.names.is_empty() {
+            write!(f, ": {}", self.names.join(", "))?;
+        }
+        Ok(())
+    }
+}
+
 /// What is said of a file.
 #[derive(Debug, Serialize)]
 pub struct Facts {
@@ -229,6 +277,18 @@ pub struct Facts {
     pub tls: Option<Part<tls::Tls>>,
     #[serde(skip_serializing_if = "Option::is_none")]
     pub relocations: Option<Part<List<relocations::Page>>>,
+    #[serde(skip_serializing_if = "Option::is_none")]
+    pub delay_imports: Option<Part<List<delay_imports::Library>>>,
+    #[serde(skip_serializing_if = "Option::is_none")]
+    pub bound_imports: Option<Part<List<bound_imports::Bound>>>,
+    #[serde(skip_serializing_if = "Option::is_none")]
+    pub load_config: Option<Part<load_config::LoadConfig>>,
+    #[serde(skip_serializing_if = "Option::is_none")]
+    pub clr: Option<Part<clr::Clr>>,
+    #[serde(skip_serializing_if = "Option::is_none")]
+    pub rich: Option<Part<rich::Rich>>,
+    #[serde(skip_serializing_if = "Option::is_none")]
+    pub resources: Option<Part<resources::Resources>>,
 }
 
 impl Facts {
@@ -248,6 +308,12 @@ impl Facts {
             version: None,
             tls: None,
             relocations: None,
+            delay_imports: None,
+            bound_imports: None,
+            load_config: None,
+            clr: None,
+            rich: None,
+            resources: None,
         }
     }
 
@@ -271,6 +337,12 @@ impl Facts {
             version: is_wanted(Topic::Version).then(|| version::of(image)),
             tls: is_wanted(Topic::Tls).then(|| tls::of(image)),
             relocations: is_wanted(Topic::Relocations).then(|| relocations::of(image)),
+            delay_imports: is_wanted(Topic::DelayImports).then(|| delay_imports::of(image)),
+            bound_imports: is_wanted(Topic::BoundImports).then(|| bound_imports::of(image)),
+            load_config: is_wanted(Topic::LoadConfig).then(|| load_config::of(image)),
+            clr: is_wanted(Topic::Clr).then(|| clr::of(image)),
+            rich: is_wanted(Topic::Rich).then(|| rich::of(image)),
+            resources: is_wanted(Topic::Resources).then(|| resources::of(image)),
             ..Facts::empty(path, image.bytes().len())
         }
     }
@@ -280,7 +352,7 @@ impl Facts {
         let mut found = Vec::new();
         found.extend(self.error.iter().map(|it| ("image", it)));
         if let Some(part) = &self.imports {
-            found.extend(part.refusal().or(part.present().and_then(|it| it.error.as_ref())).map(|it| ("imports", it)));
+            found.extend(part.list_refusal().map(|it| ("imports", it)));
             let libraries = part.present().into_iter().flat_map(|it| &it.entries);
             found.extend(libraries.filter_map(|it| it.imports.error.as_ref()).map(|it| ("imports", it)));
         }
@@ -292,14 +364,42 @@ impl Facts {
         if let Some(part) = &self.tls {
             found.extend(part.refusal().map(|it| ("TLS", it)));
             let callbacks = part.present().map(|it| &it.callbacks);
-            let list = callbacks.and_then(|it| it.refusal().or(it.present().and_then(|it| it.error.as_ref())));
+            let list = callbacks.and_then(|it| it.list_refusal());
             found.extend(list.map(|it| ("TLS callbacks", it)));
         }
         if let Some(part) = &self.relocations {
-            let pages = part.present();
-            found.extend(part.refusal().or(pages.and_then(|it| it.error.as_ref())).map(|it| ("relocations", it)));
-            let pages = pages.into_iter().flat_map(|it| &it.entries);
+            found.extend(part.list_refusal().map(|it| ("relocations", it)));
+            let pages = part.present().into_iter().flat_map(|it| &it.entries);
             found.extend(pages.filter_map(|it| it.error.as_ref()).map(|it| ("relocations", it)));
+        }
+        found.extend(self.refusals_of_more());
+        found
+    }
+
+    /// What is refused of the parts from the delay imports on. A resource without its content is shown as such.
+    fn refusals_of_more(&self) -> Vec<(&'static str, &Refusal)> {
+        let mut found = Vec::new();
+        if let Some(part) = &self.delay_imports {
+            found.extend(part.list_refusal().map(|it| ("delay imports", it)));
+            let libraries = part.present().into_iter().flat_map(|it| &it.entries);
+            found.extend(libraries.filter_map(|it| it.imports.error.as_ref()).map(|it| ("delay imports", it)));
+        }
+        if let Some(part) = &self.bound_imports {
+            found.extend(part.list_refusal().map(|it| ("bound imports", it)));
+            let bound = part.present().into_iter().flat_map(|it| &it.entries);
+            found.extend(bound.filter_map(|it| it.forwarders.error.as_ref()).map(|it| ("bound imports", it)));
+        }
+        found.extend(self.load_config.iter().filter_map(Part::refusal).map(|it| ("load configuration", it)));
+        if let Some(part) = &self.clr {
+            let metadata = part.present().map(|it| &it.metadata);
+            let streams = metadata.and_then(|it| it.present()).and_then(|it| it.streams.error.as_ref());
+            let refusal = part.refusal().or(metadata.and_then(|it| it.refusal())).or(streams);
+            found.extend(refusal.map(|it| ("CLR header", it)));
+        }
+        found.extend(self.rich.iter().filter_map(Part::refusal).map(|it| ("Rich header", it)));
+        if let Some(part) = &self.resources {
+            let refusal = part.refusal().or(part.present().and_then(|it| it.error.as_ref()));
+            found.extend(refusal.map(|it| ("resources", it)));
         }
         found
     }

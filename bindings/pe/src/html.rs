@@ -156,8 +156,34 @@ fn parts(facts: &Facts, regions: &[Region], image: &Image<'_>, html: &mut Html) 
     if let Some(pages) = facts.relocations.as_ref().and_then(Part::present) {
         table("relocations", "Base relocations", &tables::relocations(pages), html);
     }
+    more_parts(facts, html);
     if let Some(functions) = facts.functions.as_ref().and_then(Part::present) {
         table("functions", "Functions", &tables::functions(functions), html);
+    }
+}
+
+/// The parts that few images have.
+fn more_parts(facts: &Facts, html: &mut Html) {
+    if let Some(delayed) = facts.delay_imports.as_ref().and_then(Part::present) {
+        table("delayed", "Delay imports", &tables::delay_imports(delayed), html);
+    }
+    if let Some(bound) = facts.bound_imports.as_ref().and_then(Part::present) {
+        table("bound", "Bound imports", &tables::bound_imports(bound), html);
+    }
+    if let Some(config) = facts.load_config.as_ref().and_then(Part::present) {
+        list("config", "Load configuration", tables::load_config(config), html);
+    }
+    if let Some(clr) = facts.clr.as_ref().and_then(Part::present) {
+        list("clr", "CLR header", tables::clr(clr), html);
+        table("clr-directories", "Directories of the CLR header", &tables::clr_directories(clr), html);
+        table("streams", "Streams of metadata", &tables::clr_streams(clr), html);
+    }
+    if let Some(rich) = facts.rich.as_ref().and_then(Part::present) {
+        list("rich", "Rich header", tables::rich(rich), html);
+        table("tools", "Tools, by the Rich header", &tables::rich_tools(rich), html);
+    }
+    if let Some(resources) = facts.resources.as_ref().and_then(Part::present) {
+        table("resources", "Resources", &tables::resources(resources), html);
     }
 }
 

@@ -128,6 +128,63 @@ pub const CERTIFICATE_TYPES: &Names =
 pub const RELOCATION_TYPES: &Names =
     &[(0, "ABSOLUTE"), (1, "HIGH"), (2, "LOW"), (3, "HIGHLOW"), (4, "HIGHADJ"), (10, "DIR64")];
 
+/// `IMAGE_GUARD_`, without the bits 28 to 31, a number.
+pub const GUARD_FLAGS: &Names = &[
+    (0x100, "CF_INSTRUMENTED"),
+    (0x200, "CFW_INSTRUMENTED"),
+    (0x400, "CF_FUNCTION_TABLE_PRESENT"),
+    (0x800, "SECURITY_COOKIE_UNUSED"),
+    (0x1000, "PROTECT_DELAYLOAD_IAT"),
+    (0x2000, "DELAYLOAD_IAT_IN_ITS_OWN_SECTION"),
+    (0x4000, "CF_EXPORT_SUPPRESSION_INFO_PRESENT"),
+    (0x8000, "CF_ENABLE_EXPORT_SUPPRESSION"),
+    (0x1_0000, "CF_LONGJUMP_TABLE_PRESENT"),
+    (0x2_0000, "RF_INSTRUMENTED"),
+    (0x4_0000, "RF_ENABLE"),
+    (0x8_0000, "RF_STRICT"),
+    (0x10_0000, "RETPOLINE_PRESENT"),
+    (0x40_0000, "EH_CONTINUATION_TABLE_PRESENT"),
+    (0x80_0000, "XFG_ENABLED"),
+    (0x100_0000, "CASTGUARD_PRESENT"),
+    (0x200_0000, "MEMCPY_PRESENT"),
+];
+
+/// `COMIMAGE_FLAGS_`, of corhdr.h
+pub const CLR_FLAGS: &Names = &[
+    (0x1, "ILONLY"),
+    (0x2, "32BITREQUIRED"),
+    (0x4, "IL_LIBRARY"),
+    (0x8, "STRONGNAMESIGNED"),
+    (0x10, "NATIVE_ENTRYPOINT"),
+    (0x1_0000, "TRACKDEBUGDATA"),
+    (0x2_0000, "32BITPREFERRED"),
+];
+
+/// `RT_`, of winuser.h
+pub const RESOURCE_TYPES: &Names = &[
+    (1, "cursor"),
+    (2, "bitmap"),
+    (3, "icon"),
+    (4, "menu"),
+    (5, "dialog"),
+    (6, "strings"),
+    (7, "font directory"),
+    (8, "font"),
+    (9, "accelerators"),
+    (10, "raw data"),
+    (11, "messages"),
+    (12, "cursor group"),
+    (14, "icon group"),
+    (16, "version"),
+    (17, "dialog include"),
+    (19, "plug and play"),
+    (20, "VxD"),
+    (21, "animated cursor"),
+    (22, "animated icon"),
+    (23, "HTML"),
+    (24, "manifest"),
+];
+
 /// `IMAGE_SCN_MEM_`, as letters: read, write, execute.
 const PERMISSIONS: [(u32, char); 3] = [(0x4000_0000, 'r'), (0x8000_0000, 'w'), (0x2000_0000, 'x')];
 

@@ -1,16 +1,21 @@
 //! Parts of an image, whole, as tables.
 
 use crate::escape::escaped;
+use crate::facts::bound_imports::Bound;
 use crate::facts::certificates::Certificate;
+use crate::facts::clr::Clr;
 use crate::facts::debug::Debug;
 use crate::facts::exports::Exports;
 use crate::facts::functions::Functions;
 use crate::facts::headers::Headers;
 use crate::facts::imports::Library;
+use crate::facts::load_config::LoadConfig;
+use crate::facts::resources::Resources;
+use crate::facts::rich::Rich;
 use crate::facts::sections::Section;
 use crate::facts::tls::Tls;
 use crate::facts::version::Version;
-use crate::facts::{relocations, Facts, List, Part};
+use crate::facts::{delay_imports, relocations, Facts, List, Part};
 use crate::page::{Page, Style};
 use crate::tables::{self, Row};
 use chrono::{TimeZone, Utc};
@@ -47,6 +52,12 @@ pub fn text(facts: &Facts, style: Style) -> String {
     }
     part(facts.tls.as_ref(), tls_of, &mut page);
     part(facts.relocations.as_ref(), relocations_of, &mut page);
+    part(facts.delay_imports.as_ref(), delay_imports_of, &mut page);
+    part(facts.bound_imports.as_ref(), bound_imports_of, &mut page);
+    part(facts.load_config.as_ref(), load_config_of, &mut page);
+    part(facts.clr.as_ref(), clr_of, &mut page);
+    part(facts.rich.as_ref(), rich_of, &mut page);
+    part(facts.resources.as_ref(), resources_of, &mut page);
     for (part, refusal) in facts.refusals() {
         page.warning(format_args!("{part}: {refusal}"));
     }
@@ -81,7 +92,7 @@ fn imports_of(libraries: &List<Library>, page: &mut Page) {
     for library in &libraries.entries {
         page.heading(&format!("Imports from {}", library.name));
         for import in &library.imports.entries {
-            page.line(format_args!("  {}", tables::import(import)));
+            page.line(format_args!("  {}", tables::import(import.name.as_ref(), import.ordinal)));
         }
     }
 }
@@ -135,6 +146,46 @@ fn tls_of(tls: &Tls, page: &mut Page) {
 fn relocations_of(pages: &List<relocations::Page>, page: &mut Page) {
     page.heading("Base relocations");
     page.table(&tables::relocations(pages));
+}
+
+fn delay_imports_of(libraries: &List<delay_imports::Library>, page: &mut Page) {
+    for library in &libraries.entries {
+        page.heading(&format!("Delay imports from {}", library.name));
+        for import in &library.imports.entries {
+            page.line(format_args!("  {}", tables::import(import.name.as_ref(), import.ordinal)));
+        }
+    }
+}
+
+fn bound_imports_of(bound: &List<Bound>, page: &mut Page) {
+    page.heading("Bound imports");
+    page.table(&tables::bound_imports(bound));
+}
+
+fn load_config_of(config: &LoadConfig, page: &mut Page) {
+    page.heading("Load configuration");
+    rows(tables::load_config(config), page);
+}
+
+fn clr_of(clr: &Clr, page: &mut Page) {
+    page.heading("CLR header");
+    rows(tables::clr(clr), page);
+    page.table(&tables::clr_directories(clr));
+    page.table(&tables::clr_streams(clr));
+}
+
+fn rich_of(rich: &Rich, page: &mut Page) {
+    page.heading("Rich header");
+    rows(tables::rich(rich), page);
+    page.table(&tables::rich_tools(rich));
+}
+
+fn resources_of(resources: &Resources, page: &mut Page) {
+    page.heading("Resources");
+    page.table(&tables::resources(resources));
+    if resources.is_limited {
+        page.line(format_args!("  and more"));
+    }
 }
 
 /// Where a symbol server has the PDB of an image, and the image: a line each. What is refused goes to standard error.

@@ -66,17 +66,21 @@ fn sections_of(sections: &[Section], page: &mut Page) {
     for (index, section) in sections.iter().enumerate() {
         let entropy = section.entropy.map_or(String::new(), |it| format!(" {} {it:.2} bits a byte", bar_of(it)));
         let label = if index == 0 { "sections" } else { "" };
-        let Section { name, permissions, rva, virtual_size, .. } = section;
+        let (Section { permissions, rva, virtual_size, .. }, name) = (section, section.shown_name());
         page.row(label, format_args!("{name:9}{permissions} {virtual_size:>9} bytes at {rva:<#10x}{entropy}"));
     }
 }
 
+/// Names of DLLs, each with a count, and how many more there are.
+fn listed(counts: impl ExactSizeIterator<Item = (String, usize)>) -> String {
+    let more = counts.len().saturating_sub(LIBRARIES);
+    let more = if more > 0 { format!(" and {more} more") } else { String::new() };
+    counts.take(LIBRARIES).map(|(name, count)| format!("{name} {count}")).collect::<Vec<_>>().join(", ") + &more
+}
+
 fn tables_of(facts: &Facts, page: &mut Page) {
     if let Some(imports) = facts.imports.as_ref().and_then(Part::present) {
-        let counts = imports.entries.iter().map(|it| format!("{} {}", it.name, it.imports.entries.len()));
-        let more = imports.entries.len().saturating_sub(LIBRARIES);
-        let more = if more > 0 { format!(" and {more} more") } else { String::new() };
-        page.row("imports", counts.take(LIBRARIES).collect::<Vec<_>>().join(", ") + &more);
+        page.row("imports", listed(imports.entries.iter().map(|it| (it.name.to_string(), it.imports.entries.len()))));
     }
     if let Some(exports) = facts.exports.as_ref().and_then(Part::present) {
         let forwarders = exports.forwarders();
@@ -94,8 +98,37 @@ fn tables_of(facts: &Facts, page: &mut Page) {
         let count: usize = pages.entries.iter().map(|it| it.count()).sum();
         page.row("relocations", format_args!("{count} in {} pages", pages.entries.len()));
     }
+    more_of(facts, page);
     for certificate in facts.certificates.iter().flat_map(|it| &it.entries) {
         page.row("certificate", format_args!("{}, {} bytes, not verified", certificate.r#type, certificate.size));
+    }
+}
+
+/// The parts that few images have.
+fn more_of(facts: &Facts, page: &mut Page) {
+    if let Some(delayed) = facts.delay_imports.as_ref().and_then(Part::present) {
+        let counts = delayed.entries.iter().map(|it| (it.name.to_string(), it.imports.entries.len()));
+        page.row("delay imports", listed(counts));
+    }
+    if let Some(bound) = facts.bound_imports.as_ref().and_then(Part::present) {
+        let counts = bound.entries.iter().map(|it| (it.name.to_string(), it.forwarders.entries.len()));
+        page.row("bound imports", listed(counts));
+    }
+    if let Some(config) = facts.load_config.as_ref().and_then(Part::present) {
+        let flags = config.guard_flags.as_ref().map_or(String::new(), |it| format!(", guard flags {it}"));
+        page.row("load config", format_args!("{} bytes{flags}", config.size));
+    }
+    if let Some(clr) = facts.clr.as_ref().and_then(Part::present) {
+        let version = clr.metadata.present().map_or(String::new(), |it| format!(", made for {}", it.version));
+        page.row(".NET", format_args!("runtime {}{version}", clr.runtime_version));
+    }
+    if let Some(rich) = facts.rich.as_ref().and_then(Part::present) {
+        let key = if rich.key == rich.checksum { "" } else { ", whose key is not its checksum" };
+        page.row("Rich header", format_args!("{} tools{key}", rich.tools.entries.len()));
+    }
+    if let Some(resources) = facts.resources.as_ref().and_then(Part::present) {
+        let more = if resources.is_limited { " and more" } else { "" };
+        page.row("resources", format_args!("{}{more}, of {} types", resources.entries.len(), resources.type_count()));
     }
 }
 

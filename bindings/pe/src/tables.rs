@@ -1,16 +1,22 @@
 //! The parts of an image as rows and tables of text. `show` lays them out as text, and `html` on its page.
 
+use crate::facts::bound_imports::Bound;
 use crate::facts::certificates::Certificate;
+use crate::facts::clr::{Clr, Metadata};
 use crate::facts::debug::{Debug, Entry, Pogo};
 use crate::facts::exports::Exports;
 use crate::facts::functions::Functions;
 use crate::facts::headers::Headers;
-use crate::facts::imports::{Import, Library};
+use crate::facts::imports::Library;
+use crate::facts::load_config::LoadConfig;
 use crate::facts::relocations::Page;
+use crate::facts::resources::{Label, Leaf, Resources};
+use crate::facts::rich::Rich;
 use crate::facts::sections::Section;
 use crate::facts::tls::Tls;
 use crate::facts::version::Version;
-use crate::facts::{List, Name};
+use crate::facts::{delay_imports, List, Name, Part};
+use crate::show::time_of;
 use crate::summary::built;
 
 /// A column: its head, and whether its cells are numbers.
@@ -72,7 +78,7 @@ pub fn directories(headers: &Headers) -> Table {
 pub fn sections(sections: &[Section]) -> Table {
     let rows = sections.iter().map(|it| {
         vec![
-            it.name.to_string(),
+            it.shown_name().to_string(),
             it.permissions.clone(),
             format!("{:#x}", it.rva),
             it.virtual_size.to_string(),
@@ -94,18 +100,23 @@ pub fn sections(sections: &[Section]) -> Table {
 }
 
 /// The name of an import, or its ordinal.
-pub fn import(import: &Import) -> String {
-    match &import.name {
+pub fn import(name: Option<&Name>, ordinal: Option<u32>) -> String {
+    match name {
         Some(name) => name.to_string(),
-        None => format!("#{}", import.ordinal.unwrap_or_default()),
+        None => format!("#{}", ordinal.unwrap_or_default()),
     }
+}
+
+/// A hint, or nothing of an import by ordinal.
+fn hint(hint: Option<u32>) -> String {
+    hint.map_or(String::new(), |hint| hint.to_string())
 }
 
 pub fn imports(libraries: &List<Library>) -> Table {
     let rows = libraries.entries.iter().flat_map(|library| {
         library.imports.entries.iter().map(move |it| {
-            let hint = it.hint.map_or(String::new(), |hint| hint.to_string());
-            vec![library.name.to_string(), import(it), hint, format!("{:#x}", it.slot_rva)]
+            let name = import(it.name.as_ref(), it.ordinal);
+            vec![library.name.to_string(), name, hint(it.hint), format!("{:#x}", it.slot_rva)]
         })
     });
     Table::new(&[text("DLL"), text("name or ordinal"), number("hint"), number("slot RVA")], rows)
@@ -191,6 +202,111 @@ pub fn relocations(pages: &List<Page>) -> Table {
     let rows = pages.entries.iter();
     let rows = rows.map(|it| vec![format!("{:#x}", it.page_rva), it.count().to_string(), relocation_types(it)]);
     Table::new(&[number("page"), number("relocations"), text("types")], rows)
+}
+
+pub fn delay_imports(libraries: &List<delay_imports::Library>) -> Table {
+    let rows = libraries.entries.iter().flat_map(|library| {
+        let imports = library.imports.entries.iter();
+        imports.map(|it| vec![library.name.to_string(), import(it.name.as_ref(), it.ordinal), hint(it.hint)])
+    });
+    Table::new(&[text("DLL"), text("name or ordinal"), number("hint")], rows)
+}
+
+/// The DLLs that the image is bound to, each with those that it forwards to.
+pub fn bound_imports(bound: &List<Bound>) -> Table {
+    let rows = bound.entries.iter().flat_map(|it| {
+        let of_dll = vec![it.name.to_string(), time_of(it.time_date_stamp), String::new()];
+        let forwarders = it.forwarders.entries.iter();
+        let forwarders =
+            forwarders.map(|to| vec![to.name.to_string(), time_of(to.time_date_stamp), it.name.to_string()]);
+        [of_dll].into_iter().chain(forwarders)
+    });
+    Table::new(&[text("DLL"), text("time stamp"), text("forwarded to by")], rows)
+}
+
+/// What the load configuration has, without fields that are 0.
+pub fn load_config(config: &LoadConfig) -> Vec<Row> {
+    let address = |va: Option<u64>| va.filter(|va| *va != 0).map(|va| format!("{va:#x}"));
+    let table = |va, count: Option<u64>| address(va).map(|va| format!("{} at {va}", count.unwrap_or_default()));
+    let stamp = config.time_date_stamp.filter(|stamp| *stamp != 0);
+    let load_flags = config.dependent_load_flags.filter(|flags| *flags != 0);
+    let rows = [
+        ("size", Some(format!("{} bytes", config.size))),
+        ("made", stamp.map(time_of)),
+        ("cookie", address(config.security_cookie_va)),
+        ("handlers", table(config.se_handler_table_va, config.se_handler_count)),
+        ("guard check", address(config.guard_cf_check_function_pointer_va)),
+        ("guard call", address(config.guard_cf_dispatch_function_pointer_va)),
+        ("guarded", table(config.guard_cf_function_table_va, config.guard_cf_function_count)),
+        ("guard flags", config.guard_flags.as_ref().map(|flags| flags.to_string())),
+        ("load flags", load_flags.map(|flags| format!("{flags:#x}"))),
+    ];
+    rows.into_iter().filter_map(|(label, value)| Some((label, value?))).collect()
+}
+
+/// The CLR header, and the root of its metadata.
+pub fn clr(clr: &Clr) -> Vec<Row> {
+    let mut rows = vec![("runtime", clr.runtime_version.clone())];
+    if let Part::Present(Metadata { version, format_version, .. }) = &clr.metadata {
+        rows.push(("made for", format!("{version}, metadata of format {format_version}")));
+    }
+    rows.push(("flags", clr.flags.to_string()));
+    rows.push(("entry token", format!("{:#010x}", clr.entry_point_token)));
+    rows
+}
+
+pub fn clr_directories(clr: &Clr) -> Table {
+    let rows =
+        clr.directories.iter().map(|it| vec![it.name.to_string(), format!("{:#x}", it.rva), it.size.to_string()]);
+    Table::new(&[text("directory"), number("RVA"), number("bytes")], rows)
+}
+
+pub fn clr_streams(clr: &Clr) -> Table {
+    let streams = clr.metadata.present().into_iter().flat_map(|it| &it.streams.entries);
+    let rows = streams.map(|it| {
+        let missing = if it.is_there { "" } else { "past the metadata" };
+        vec![it.name.to_string(), format!("{:#x}", it.offset), it.size.to_string(), missing.to_string()]
+    });
+    Table::new(&[text("stream"), number("offset"), number("bytes"), text("")], rows)
+}
+
+/// The key of a Rich header, and whether it is what the linker takes.
+pub fn rich(rich: &Rich) -> Vec<Row> {
+    let key = match rich.key == rich.checksum {
+        true => format!("{:#010x}, the checksum", rich.key),
+        false => format!("{:#010x}; the checksum is {:#010x}", rich.key, rich.checksum),
+    };
+    vec![("key", key)]
+}
+
+pub fn rich_tools(rich: &Rich) -> Table {
+    let rows = rich.tools.entries.iter();
+    let rows = rows.map(|it| vec![it.product.to_string(), it.build.to_string(), it.count.to_string()]);
+    Table::new(&[number("tool"), number("build"), number("objects")], rows)
+}
+
+/// A name of a type, a resource or a language, or its identifier.
+fn label(label: &Label) -> String {
+    let id = label.id.map(|id| format!("#{id}"));
+    label.name.as_deref().map(crate::escape::escaped).or(id).unwrap_or_default()
+}
+
+/// The version of a leaf, or why its content is missing.
+fn remark(leaf: &Leaf) -> String {
+    let version = leaf.version.as_ref().and_then(|it| it.fixed.present());
+    let refused = leaf.error.as_ref().map(|it| it.text.clone());
+    refused.or(version.map(|it| it.file_version.clone())).unwrap_or_default()
+}
+
+pub fn resources(resources: &Resources) -> Table {
+    let rows = resources.entries.iter().map(|it| {
+        let labels = [&it.r#type, &it.name, &it.language].map(label);
+        let numbers = [format!("{:#x}", it.rva), it.size.to_string(), it.code_page.to_string()];
+        labels.into_iter().chain(numbers).chain([remark(it)]).collect()
+    });
+    let columns =
+        &[text("type"), text("name"), text("language"), number("RVA"), number("bytes"), number("code page"), text("")];
+    Table::new(columns, rows)
 }
 
 /// The two versions of the fixed file information.

@@ -1,4 +1,4 @@
-//! What the program says of thirteen small images and of a file that is none, byte for byte: a session for each, in
+//! What the program says of twenty small images and of a file that is none, byte for byte: a session for each, in
 //! `golden/NAME.txt`. `UPDATE_GOLDEN=1 cargo test --test golden` writes the sessions anew; what has changed in them has to
 //! be read then, as `golden/README.md` says.
 
@@ -26,6 +26,13 @@ const ASKED: &[(&str, &str, &[&str])] = &[
     ("resources", "version", &["1000"]),
     ("tls", "tls", &["1000"]),
     ("relocations", "relocations", &["1000"]),
+    ("load_config", "load-config", &["1000"]),
+    ("delay_imports", "delay-imports", &["1000"]),
+    ("clr", "clr", &["1000"]),
+    ("named_resources", "resources", &["1000"]),
+    ("rich_header", "rich", &["1000"]),
+    ("bound_imports", "bound-imports", &["1000"]),
+    ("long_section_name", "sections", &["1000"]),
     ("x86_dll", "sections", &["1004"]),
     ("short", "headers", &["1000"]),
 ];
@@ -134,6 +141,8 @@ const MADE: &[(&str, &[&str])] = &[
             "  version       3.11.3150.1013, of the product 1.2.3.4\n  manifest      11 bytes\n",
             "\"CompanyName\":\"Größe & Söhne \u{1F600}\",\"ProductName\":\"made\"",
             "\"manifest\":{\"size\":11}",
+            "  resources     2, of 2 types\n",
+            "\"type\":{\"id\":24,\"name\":\"manifest\"},\"name\":{\"id\":1,",
         ],
     ),
     (
@@ -154,6 +163,77 @@ const MADE: &[(&str, &[&str])] = &[
             "{\"type\":{\"number\":10,\"name\":\"DIR64\"},\"count\":1}]}",
             "\"page_rva\":20480,\"types\":[{\"type\":{\"number\":0,\"name\":\"ABSOLUTE\"},\"count\":2},",
             "{\"type\":{\"number\":4,\"name\":\"HIGHADJ\"},\"count\":1}]}",
+        ],
+    ),
+    (
+        "load_config",
+        &[
+            "  load config   148 bytes, guard flags 0x10000500: CF_INSTRUMENTED, CF_FUNCTION_TABLE_PRESENT\n",
+            "\nLoad configuration\n  size          148 bytes\n  made          2020-09-13 12:26:40 UTC\n",
+            "  cookie        0x180002000\n  guard check   0x180003000\n  guard call    0x180003008\n",
+            "  guarded       3 at 0x180004000\n  guard flags   0x10000500: CF_INSTRUMENTED, CF_FUNCTION_TABLE_PRESENT\n",
+            "  load flags    0x800\n",
+            "\"load_config\":{\"size\":148,\"time_date_stamp\":1600000000,\"major_version\":6,\"minor_version\":1,",
+            "\"dependent_load_flags\":2048,\"security_cookie_va\":6442459136,\"se_handler_table_va\":0,",
+            "\"guard_cf_function_table_va\":6442467328,\"guard_cf_function_count\":3,",
+        ],
+    ),
+    (
+        "delay_imports",
+        &[
+            "  delay imports dbghelp.dll 2, VERSION.dll 1\n",
+            "\nDelay imports from dbghelp.dll\n  SymInitialize\n  #7\n\nDelay imports from VERSION.dll\n  VerQueryValueW\n",
+            "{\"name\":\"dbghelp.dll\",\"time_date_stamp\":1593835520,\"imports\":{\"entries\":[",
+            "{\"name\":\"SymInitialize\",\"hint\":289},{\"name\":null,\"ordinal\":7}]}}",
+        ],
+    ),
+    (
+        "clr",
+        &[
+            "  .NET          runtime 2.5, made for v4.0.30319\n",
+            "\nCLR header\n  runtime       2.5\n  made for      v4.0.30319, metadata of format 1.1\n",
+            "  flags         0x1: ILONLY\n  entry token   0x06000001\n",
+            "  metadata               0x1048  76\n  resources              0x2000  16\n",
+            "  strong name signature  0x2010  128\n  vtable fixups          0x2090  8\n",
+            "  #~        0x40    8\n  #Strings  0x48    5      past the metadata\n",
+            "\"name\":\"#Strings\",\"offset\":72,\"size\":5,\"is_there\":false}",
+        ],
+    ),
+    (
+        "named_resources",
+        &[
+            "  resources     2, of 1 types\n",
+            "  AB    #1    #1033     0x1000    5      1252\n",
+            "  AB    #1    #1031     0x990000  6      0          RVA maps to no file offset\n",
+            "  warning       resources: resource data entry above the level of languages (TREE_NOT_DIRECTORY)\n",
+            "{\"type\":{\"id\":null,\"name\":\"AB\"},\"name\":{\"id\":1,\"name\":null},\"language\":{\"id\":1033,",
+        ],
+    ),
+    (
+        "rich_header",
+        &[
+            "  Rich header   9 tools\n",
+            "\nRich header\n  key           0x25a310c8, the checksum\n",
+            "  152   20115  1\n  171   40219  33\n",
+            "\"rich\":{\"key\":631443656,\"checksum\":631443656,",
+            "{\"product\":152,\"build\":20115,\"count\":1},{\"product\":171,\"build\":40219,\"count\":33}",
+        ],
+    ),
+    (
+        "bound_imports",
+        &[
+            "  bound imports one.dll 1, six.dll 0\n",
+            "  one.dll  2003-06-30 09:16:49 UTC\n  two.dll  2003-06-30 09:16:50 UTC  one.dll\n",
+            "  six.dll  2003-06-30 09:16:51 UTC\n",
+            "{\"name\":\"one.dll\",\"time_date_stamp\":1056964609,\"forwarders\":{\"entries\":[",
+            "{\"name\":\"two.dll\",\"time_date_stamp\":1056964610}",
+        ],
+    ),
+    (
+        "long_section_name",
+        &[
+            "  sections      .debug_info",
+            "\"name\":\"/4\",\"long_name\":\".debug_info\",",
         ],
     ),
     (

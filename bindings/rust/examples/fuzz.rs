@@ -387,7 +387,7 @@ fn main() {
     let read = names.iter().filter_map(|name| std::fs::read(name).ok());
     let mut files: Vec<Vec<u8>> = read.filter(|bytes| (64..=ROOM).contains(&bytes.len())).collect();
     if files.is_empty() {
-        files = made::every().into_iter().map(|(_, bytes)| bytes).collect();
+        files = made::all().into_iter().map(|(_, bytes)| bytes).collect();
     }
     let files: Vec<_> = files.into_iter().map(|bytes| (hot_offsets(&bytes), bytes)).collect();
     let memory = fenced();

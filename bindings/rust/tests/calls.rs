@@ -107,7 +107,7 @@ fn addresses_in_memory_are_offsets() {
 
 #[test]
 fn images_in_memory_say_what_their_files_say() {
-    for (name, bytes) in made::every() {
+    for (name, bytes) in made::all() {
         for mode in [Mode::Strict, Mode::Permissive] {
             let file = Image::parse(&bytes, mode).unwrap();
             let memory = as_loaded(&file);

@@ -16,7 +16,7 @@ const WAYS: [(Mode, Layout); 4] = [
 
 #[test]
 fn every_beginning_of_an_image_is_read_or_refused() {
-    for (_, image) in made::every() {
+    for (_, image) in made::all() {
         for length in 0..image.len() {
             // an allocation of its own, so that a memory checker sees a read past its end
             let bytes = image[..length].to_vec();
@@ -29,7 +29,7 @@ fn every_beginning_of_an_image_is_read_or_refused() {
 
 #[test]
 fn every_byte_of_an_image_may_change() {
-    for (_, image) in made::every() {
+    for (_, image) in made::all() {
         for offset in 0..image.len() {
             for value in [0, 1, 0x7F, 0x80, 0xFF] {
                 let mut bytes = image.clone();

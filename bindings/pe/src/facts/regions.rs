@@ -97,7 +97,7 @@ pub fn of(image: &Image<'_>, facts: &Facts) -> Vec<Region> {
     map.put(Kind::Headers, String::new(), 0..section_headers.max(headers.size_of_headers.into()));
     for (section, facts) in image.sections().iter().zip(facts.sections.iter().flatten()) {
         let kind = Kind::of_section(&facts.permissions);
-        map.put(kind, facts.name.to_string(), range_of(image.layout(), section));
+        map.put(kind, facts.shown_name().to_string(), range_of(image.layout(), section));
     }
     directories_of(image, headers, &mut map);
     map.put_rest();

@@ -9,7 +9,10 @@ use std::ops::Range;
 
 #[derive(Clone, Debug, Serialize)]
 pub struct Section {
+    /// As the header has it.
     pub name: Name,
+    /// The name in the string table to which a name such as `/4` leads.
+    pub long_name: Option<Name>,
     pub rva: u32,
     pub virtual_size: u32,
     pub file_offset: u32,
@@ -22,21 +25,35 @@ pub struct Section {
     pub entropy: Option<f64>,
 }
 
-pub fn of(image: &Image<'_>) -> Vec<Section> {
-    let counts = ByteCounts::of(image.bytes());
-    image.sections().iter().map(|section| section_of(image.layout(), section, &counts)).collect()
+/// How many sections are looked up in the string table: as many as Windows loads. Many could lead to one long string.
+const LONG_NAMES: usize = 96;
+
+impl Section {
+    /// The name for people: the long one, if it has one.
+    pub fn shown_name(&self) -> &Name {
+        self.long_name.as_ref().unwrap_or(&self.name)
+    }
 }
 
-fn section_of(layout: Layout, section: &pe_c::Section, counts: &ByteCounts<'_>) -> Section {
+pub fn of(image: &Image<'_>) -> Vec<Section> {
+    let counts = ByteCounts::of(image.bytes());
+    let sections = image.sections().iter().enumerate();
+    sections.map(|(index, section)| section_of(image, section, index < LONG_NAMES, &counts)).collect()
+}
+
+fn section_of(image: &Image<'_>, section: &pe_c::Section, is_looked_up: bool, counts: &ByteCounts<'_>) -> Section {
+    // Without a string table, or one that is refused, the name of the header is what there is.
+    let long_name = if is_looked_up { image.long_section_name(section).ok().flatten() } else { None };
     Section {
         name: Name(section.name().to_vec()),
+        long_name: long_name.map(|name| Name(name.to_vec())),
         rva: section.virtual_address,
         virtual_size: section.virtual_size,
         file_offset: section.pointer_to_raw_data,
         file_size: section.size_of_raw_data,
         permissions: permissions(section.characteristics),
         flags: section.characteristics,
-        entropy: counts.entropy_of(range_of(layout, section)),
+        entropy: counts.entropy_of(range_of(image.layout(), section)),
     }
 }
 

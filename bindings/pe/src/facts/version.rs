@@ -1,7 +1,7 @@
 //! Version information and the manifest, both of which are resources.
 
 use super::{Part, Refusal};
-use pe_c::{FixedVersion, Image, VersionName};
+use pe_c::{Error, FixedVersion, Image, Text, VersionName};
 use serde::Serialize;
 use std::collections::BTreeMap;
 
@@ -37,14 +37,17 @@ fn dotted(numbers: [u16; 4]) -> String {
     numbers.map(|it| it.to_string()).join(".")
 }
 
-fn fixed_of(version: FixedVersion) -> Fixed {
+pub fn fixed_of(version: FixedVersion) -> Fixed {
     Fixed { file_version: dotted(version.file_version()), product_version: dotted(version.product_version()) }
 }
 
-fn strings_of(image: &Image<'_>) -> Result<Option<BTreeMap<String, String>>, pe_c::Error> {
+/// The strings by their names, or none. `text_of` finds one.
+pub fn strings_of<'a>(
+    text_of: impl Fn(VersionName) -> Result<Option<Text<'a>>, Error>,
+) -> Result<Option<BTreeMap<String, String>>, Error> {
     let mut strings = BTreeMap::new();
     for name in VersionName::ALL {
-        if let Some(text) = image.version_text(name)? {
+        if let Some(text) = text_of(name)? {
             strings.insert(format!("{name:?}"), text.to_string_lossy());
         }
     }
@@ -54,7 +57,7 @@ fn strings_of(image: &Image<'_>) -> Result<Option<BTreeMap<String, String>>, pe_
 pub fn of(image: &Image<'_>) -> Version {
     Version {
         fixed: image.version().map(|it| it.map(fixed_of)).into(),
-        strings: strings_of(image).into(),
+        strings: strings_of(|name| image.version_text(name)).into(),
         manifest: image.manifest().map(|it| it.map(|bytes| Manifest { size: bytes.len() })).into(),
     }
 }

@@ -1,0 +1,87 @@
+//! The CLR header of an image for the .NET runtime, and the streams of its metadata.
+
+use super::{Flags, List, Name, Part};
+use crate::names::CLR_FLAGS;
+use pe_c::{Image, Metadata as FoundMetadata, MetadataStream};
+use serde::Serialize;
+
+#[derive(Clone, Debug, Serialize)]
+pub struct Clr {
+    /// Of the header in bytes, as it says itself.
+    pub size: u32,
+    /// The version of the runtime that is needed, such as `2.5`.
+    pub runtime_version: String,
+    /// `COMIMAGE_FLAGS_`
+    pub flags: Flags,
+    /// A metadata token, or with `NATIVE_ENTRYPOINT` an RVA.
+    pub entry_point_token: u32,
+    /// Those that are not absent.
+    pub directories: Vec<Directory>,
+    pub metadata: Part<Metadata>,
+}
+
+/// A directory of the header.
+#[derive(Clone, Debug, Serialize)]
+pub struct Directory {
+    pub name: &'static str,
+    pub rva: u32,
+    pub size: u32,
+}
+
+#[derive(Clone, Debug, Serialize)]
+pub struct Metadata {
+    /// Of the runtime that the image was made for, such as `v4.0.30319`.
+    pub version: Name,
+    /// Of the format of the metadata, such as `1.1`.
+    pub format_version: String,
+    pub streams: List<Stream>,
+}
+
+#[derive(Clone, Debug, Serialize)]
+pub struct Stream {
+    pub name: Name,
+    /// From the start of the metadata.
+    pub offset: u32,
+    pub size: u32,
+    /// Whether its bytes all lie in the metadata.
+    pub is_there: bool,
+}
+
+fn stream_of(stream: MetadataStream<'_>) -> Stream {
+    let MetadataStream { name, content, offset, size } = stream;
+    Stream { name: Name(name.to_vec()), offset, size, is_there: content.is_some() }
+}
+
+fn metadata_of(found: FoundMetadata<'_>) -> Metadata {
+    Metadata {
+        version: Name(found.version().to_vec()),
+        format_version: format!("{}.{}", found.major_version, found.minor_version),
+        streams: List::of(found.streams(), stream_of),
+    }
+}
+
+fn clr_of(clr: pe_c::Clr<'_, '_>) -> Clr {
+    let header = clr.header();
+    let directories = [
+        ("metadata", header.metadata),
+        ("resources", header.resources),
+        ("strong name signature", header.strong_name_signature),
+        ("code manager table", header.code_manager_table),
+        ("vtable fixups", header.vtable_fixups),
+        ("export address table jumps", header.export_address_table_jumps),
+        ("managed native header", header.managed_native_header),
+    ];
+    let present = directories.into_iter().filter(|(_, row)| row.virtual_address != 0 || row.size != 0);
+    Clr {
+        size: header.cb,
+        runtime_version: format!("{}.{}", header.major_runtime_version, header.minor_runtime_version),
+        flags: Flags::of(header.flags, CLR_FLAGS),
+        entry_point_token: header.entry_point_token,
+        directories: present.map(|(name, row)| Directory { name, rva: row.virtual_address, size: row.size }).collect(),
+        metadata: clr.metadata().map(|found| Some(metadata_of(found))).into(),
+    }
+}
+
+pub fn of(image: &Image<'_>) -> Part<Clr> {
+    image.clr().map(|found| found.map(clr_of)).into()
+}

@@ -1,0 +1,129 @@
+//! The resources: all leaves of the resource tree, each with its type, its name and its language.
+
+use super::version::{fixed_of, strings_of, Fixed};
+use super::{Part, Refusal};
+use crate::names::{name_of, RESOURCE_TYPES};
+use pe_c::{Image, ResourceLeaf, ResourceLeaves, ResourceName};
+use serde::Serialize;
+use std::collections::{BTreeMap, BTreeSet};
+
+/// How many leaves are shown. Directories of a tree may be shared, so a small file can have more leaves than anyone reads.
+const LEAVES: usize = 65_536;
+/// How often the bytes of a file are read for names and version information, which leaves may share too.
+const READINGS: usize = 16;
+
+#[derive(Clone, Debug, Serialize)]
+pub struct Resources {
+    pub entries: Vec<Leaf>,
+    /// Why there are no more.
+    #[serde(skip_serializing_if = "Option::is_none")]
+    pub error: Option<Refusal>,
+    /// Whether there are more than 65,536, or so many that share long names or version information, and the first stand here.
+    pub is_limited: bool,
+}
+
+/// A resource in one language.
+#[derive(Clone, Debug, Serialize)]
+pub struct Leaf {
+    pub r#type: Label,
+    pub name: Label,
+    pub language: Label,
+    pub rva: u32,
+    pub size: u32,
+    pub code_page: u32,
+    /// Of version information what it says, null of other types.
+    pub version: Option<Version>,
+    /// Why its content is not in the file.
+    #[serde(skip_serializing_if = "Option::is_none")]
+    pub error: Option<Refusal>,
+}
+
+/// An identifier, which may have a name of winuser.h, or a name of its own without one.
+#[derive(Clone, Debug, PartialEq, Eq, PartialOrd, Ord, Serialize)]
+pub struct Label {
+    pub id: Option<u16>,
+    pub name: Option<String>,
+}
+
+/// The version information of one language.
+#[derive(Clone, Debug, Serialize)]
+pub struct Version {
+    pub fixed: Part<Fixed>,
+    pub strings: Part<BTreeMap<String, String>>,
+}
+
+/// `RT_VERSION`
+const VERSION: ResourceName<'_> = ResourceName::Id(16);
+
+impl Resources {
+    /// How many types there are.
+    pub fn type_count(&self) -> usize {
+        self.entries.iter().map(|it| &it.r#type).collect::<BTreeSet<_>>().len()
+    }
+}
+
+fn label_of(name: ResourceName<'_>) -> Label {
+    match name {
+        ResourceName::Id(id) => Label { id: Some(id), name: None },
+        ResourceName::Name(text) => Label { id: None, name: Some(text.to_string_lossy()) },
+    }
+}
+
+fn type_of(name: ResourceName<'_>) -> Label {
+    let label = label_of(name);
+    let known = label.id.and_then(|id| name_of(id.into(), RESOURCE_TYPES));
+    Label { name: label.name.or(known.map(str::to_string)), ..label }
+}
+
+fn version_of(leaf: &ResourceLeaf<'_>) -> Version {
+    Version {
+        fixed: leaf.version().map(|found| found.map(fixed_of)).into(),
+        strings: strings_of(|name| leaf.version_text(name)).into(),
+    }
+}
+
+fn leaf_of(leaf: &ResourceLeaf<'_>) -> Leaf {
+    Leaf {
+        r#type: type_of(leaf.resource_type),
+        name: label_of(leaf.name),
+        language: label_of(leaf.language),
+        rva: leaf.rva,
+        size: leaf.size,
+        code_page: leaf.code_page,
+        version: (leaf.resource_type == VERSION).then(|| version_of(leaf)),
+        error: leaf.content().err().map(Refusal::from),
+    }
+}
+
+/// How many bytes are read for what is shown of a leaf.
+fn cost_of(leaf: &ResourceLeaf<'_>) -> usize {
+    let length = |name: ResourceName<'_>| match name {
+        ResourceName::Id(_) => 0,
+        ResourceName::Name(text) => text.0.len(),
+    };
+    let content = if leaf.resource_type == VERSION { leaf.size as usize } else { 0 };
+    length(leaf.resource_type) + length(leaf.name) + length(leaf.language) + content
+}
+
+fn resources_of(leaves: ResourceLeaves<'_, '_>, length: usize) -> Resources {
+    let mut resources = Resources { entries: Vec::new(), error: None, is_limited: false };
+    let mut left = length.saturating_mul(READINGS);
+    for leaf in leaves {
+        match leaf {
+            Ok(leaf) if resources.entries.len() < LEAVES && cost_of(&leaf) <= left => {
+                left -= cost_of(&leaf);
+                resources.entries.push(leaf_of(&leaf));
+            }
+            Ok(_) => {
+                resources.is_limited = true;
+                break;
+            }
+            Err(error) => resources.error = Some(error.into()),
+        }
+    }
+    resources
+}
+
+pub fn of(image: &Image<'_>) -> Part<Resources> {
+    image.resource_leaves().map(|found| found.map(|leaves| resources_of(leaves, image.bytes().len()))).into()
+}
