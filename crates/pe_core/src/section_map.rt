@@ -86,7 +86,8 @@ fn offset_by(section: &SectionTable, alignment: u32, address: usize) -> Option<u
     Some(offset)
 }
 
-/// The index of the first section that passes the cheap test. The scan rejects a section in nine instructions.
+/// The index of the first section that passes the cheap test. An index, not the section, so that what follows the scan
+/// reads the section again and the scan keeps none of its fields: it rejects a section in eight instructions.
 fn first_candidate(sections: &[SectionTable], low: u32) -> Option<usize>
     ensures { result ≡ position (may_cover low) sections.now }
 {
@@ -133,8 +134,7 @@ fn first_offset(address: usize, sections: &[SectionTable], alignment: u32) -> Op
 
 /// The file offset of an RVA, by the first section that covers it. `None` if no section does, or if the file alignment
 /// is not a power of two. With `resolve_rva` off an RVA is its own file offset.
-///
-/// Out of line: the scan then has registers enough.
+// Out of line, so that the scan has all registers and the callers save no more of theirs.
 #[tactic(auto, using(crate::proofs::Map::positive, crate::proofs::Map::find_first), unfolding(crate::specs::SectionMap::offset_of))]
 #[inline(never)]
 pub fn find_offset(
