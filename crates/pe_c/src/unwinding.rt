@@ -213,6 +213,7 @@ fn handler_of(info: &UnwindInfo, bytes: &[u8], offset: usize) -> (u8, u32, Range
 }
 
 /// The record at a file offset, as numbers and ranges.
+#[inline(always)]
 fn flat_record(info: &UnwindInfo, bytes: &[u8], offset: usize) -> UnwindRecord
     requires { UnwindPartsStand bytes.now offset (unwind_view info.now) }
     ensures { result ≡ flat_record bytes.now offset (unwind_view info.now) }
@@ -240,7 +241,8 @@ fn flat_record(info: &UnwindInfo, bytes: &[u8], offset: usize) -> UnwindRecord
     }
 }
 
-/// The unwind record at a file offset.
+/// The unwind record at a file offset. Inlined, so that its fields go straight to the caller's record.
+#[inline(always)]
 fn record_at(bytes: &[u8], offset: usize) -> Result<UnwindRecord>
     ensures { answer_of result ≡ flat_record_at bytes.now offset }
 {
@@ -298,6 +300,8 @@ pub extern "C" fn pe_c_unwind_record(
     hand_out(read_record(bytes, image, sections, unwind), out)
 }
 
+/// The unwind record at an RVA.
+#[inline(always)]
 fn record_at_rva(
     bytes: &[u8],
     image: &Image,

@@ -25,5 +25,6 @@ pub mod ImportLists
 pub mod Libraries
 pub mod Equality
 pub mod VariantEquality
+pub mod Reaches
 pub mod ReasonEquality
 pub mod FieldEquality

@@ -1,14 +1,20 @@
 -- The first section that covers an address.
-use Rattle.std.proofs.Common.{◌≡◌, ℕ, ◌+◌, ◌-◌, ◌*◌, ◌/◌, ◌%◌, ◌^◌, ◌<◌, ◌≤◌, arith, Bool, true, false, cond, List, [], ◌∷◌, Option, Some, None, Result, Ok, Err, refl, ap}
-use Rattle.std.specs.Prelude.{filter, nat_lt, nat_le, ◌&&◌, ◌==◌, min}
+use Rattle.std.proofs.Common.{◌≡◌, ℕ, ◌+◌, ◌-◌, ◌*◌, ◌/◌, ◌%◌, ◌^◌, ◌<◌, ◌≤◌, arith, Bool, true, false, cond, List, [], ◌∷◌, Option, Some, None, Result, Ok, Err, refl, ap, length, ◌∙◌}
+use Rattle.std.specs.Prelude.{filter, nat_lt, if◌then◌else◌}
 use Rattle.std.proofs.lemmas.Bool.Decides.{nat_tests}
-use Rattle.std.specs.List.{find}
+use Rattle.std.specs.Option.{option_map}
+use Rattle.std.specs.List.{find, position, position_or_len, slice_get}
 use Rattle.std.specs.Int.{is_power_of_two}
 use Rattle.std.proofs.lemmas.Bool.{eqb-true}
 use Rattle.std.proofs.lemmas.Nat.{ones_le_self}
+use Rattle.std.proofs.lemmas.List.Folds.{find_at}
+use Rattle.std.proofs.lemmas.List.Quantifiers.{position-Some}
+use Rattle.std.proofs.lemmas.List.Sums.{position_or_len_is}
+use Rattle.std.proofs.lemmas.Option.{slice_get_past, slice_get-get_or}
+use Rattle.std.proofs.Math.ListN.{get_or}
 use Rattle.pe_core.specs.Refusals.{Refusal}
-use Rattle.pe_core.specs.SectionMap.{first, covers, mapped, reach, rounded_up, raw_start}
-use Rattle.pe_core.specs.Sections.{raw_end}
+use Rattle.pe_core.proofs.Reaches.{outside, reach_by_raw}
+use Rattle.pe_core.specs.SectionMap.{first, covers, may_cover, offset_by, mapped, reach, raw_start}
 use Rattle.pe_core.specs.declared.section_table.SectionTable.{SectionTable}
 
 pub positive : (n : ℕ) → is_power_of_two n ≡ true → 0 < n
@@ -33,30 +39,58 @@ pub found_covers : {X : Type 0} (p : X → Bool) (xs : List X) (y : X) → find 
 found_covers p [] y e = absurd cc
 found_covers p (x ∷ xs) y e = found_of_cond p (p x) x y (find p xs) refl (found_covers p xs y) e
 
--- no section reaches past its raw size, rounded up to pages
-least : (t : Bool) (a b c : ℕ) → cond t (min a b) (min (min a b) c) ≤ b
-least true a b c = omega arith
-least false a b c = omega arith
-
-reach_by_raw : (alignment : ℕ) (s : SectionTable) → reach alignment s ≤ (s.size_of_raw_data + 4095) / 4096 * 4096
-unfolding reach
-reach_by_raw alignment s =
-    least (s.virtual_size == 0) (rounded_up (raw_end s) alignment - raw_start s) ((s.size_of_raw_data + 4095) / 4096 * 4096) (rounded_up s.virtual_size 4096)
-
-not_both : (va a r : ℕ) → (va ≤ a → a < va + r → ⊥) → (nat_le va a && nat_lt a (va + r)) ≡ false
-not_both va a r h = grind (arith, nat_tests, h)
-
 -- a section that covers the address passes the cheap test
-cheap : (alignment address low : ℕ) (s : SectionTable) → s.virtual_address < 2 ^ 32 → s.size_of_raw_data < 2 ^ 32 → low ≡ address % 2 ^ 32 → s.size_of_raw_data ≤ (low + (2 ^ 32 - s.virtual_address)) % 2 ^ 32 / 4096 * 4096 → covers alignment address s ≡ false
-cheap alignment address low s va raw bits e =
+cheap : (alignment address low : ℕ) (s : SectionTable) → low ≡ address % 2 ^ 32 → s.size_of_raw_data ≤ (low + (2 ^ 32 - s.virtual_address % 2 ^ 32)) % 2 ^ 32 / 4096 * 4096 → covers alignment address s ≡ false
+cheap alignment address low s bits e =
     let small : reach alignment s ≤ (s.size_of_raw_data + 4095) / 4096 * 4096 = reach_by_raw alignment s in
-    not_both s.virtual_address address (reach alignment s) (λ i j. omega arith)
+    outside s.virtual_address address (reach alignment s) (λ i j. omega arith)
 
 not_below : (n k : ℕ) → nat_lt n k ≡ false → k ≤ n
 not_below n k e = grind (arith, nat_tests)
 
-pub passes : (alignment address low : ℕ) (s : SectionTable) → s.virtual_address < 2 ^ 32 → s.size_of_raw_data < 2 ^ 32 → low ≡ address % 2 ^ 32 → nat_lt ((low + (2 ^ 32 - s.virtual_address)) % 2 ^ 32 / 4096 * 4096) s.size_of_raw_data ≡ false → covers alignment address s ≡ false
-passes alignment address low s va raw bits e = cheap alignment address low s va raw bits (not_below _ _ e)
+passes : (alignment address low : ℕ) (s : SectionTable) → low ≡ address % 2 ^ 32 → may_cover low s ≡ false → covers alignment address s ≡ false
+passes alignment address low s bits e = cheap alignment address low s bits (not_below _ _ e)
+
+-- where no element of a list passes p, none passes q, if all that pass q pass p
+none_of_cond : {X : Type 0} (b c : Bool) (x : X) (o r : Option X) → (b ≡ false → c ≡ false) → (o ≡ None → r ≡ None) → cond b (Some x) o ≡ None → cond c (Some x) r ≡ None
+none_of_cond true c x o r h k e = absurd cc
+none_of_cond false true x o r h k e = let t : true ≡ false = h refl in absurd cc
+none_of_cond false false x o r h k e = k e
+
+none_passes : {X : Type 0} (p q : X → Bool) (xs : List X) → ((x : X) → p x ≡ false → q x ≡ false) → find p xs ≡ None → find q xs ≡ None
+none_passes p q [] h e = refl
+none_passes p q (x ∷ xs) h e = none_of_cond (p x) (q x) x (find p xs) (find q xs) (h x) (none_passes p q xs h) e
+
+unplaced_test : (b : Bool) (n : ℕ) → cond b (Some n) None ≡ None → b ≡ false
+unplaced_test true n e = absurd cc
+unplaced_test false n e = refl
+
+unplaced : (n k : ℕ) → cond (nat_lt n k) (Some n) None ≡ None → k ≤ n
+unplaced n k e = not_below n k (unplaced_test (nat_lt n k) n e)
+
+-- where no section passes the cheap test, none covers the address
+pub no_candidate : (alignment address low : ℕ) (xs : List SectionTable) → low ≡ address % 2 ^ 32 → position (may_cover low) xs ≡ None → find (covers alignment address) xs ≡ None
+no_candidate alignment address low xs bits e =
+    let past : length xs ≤ position_or_len (may_cover low) xs = unplaced _ _ e in
+    let none : find (may_cover low) xs ≡ None = find_at (may_cover low) xs ∙ slice_get_past xs _ past in
+    none_passes (may_cover low) (covers alignment address) xs (λ x fails. passes alignment address low x bits fails) none
+
+-- where the first section that passes it covers the address, it is the first that does
+candidate_covers : (alignment address low i : ℕ) (xs : List SectionTable) (d : SectionTable) → low ≡ address % 2 ^ 32 → position (may_cover low) xs ≡ Some i → covers alignment address (get_or xs i d) ≡ true → find (covers alignment address) xs ≡ Some (get_or xs i d)
+candidate_covers alignment address low i xs d bits e found =
+    let here : (i < length xs) × (may_cover low (get_or xs i d) ≡ true) × ((k : ℕ) → k < i → may_cover low (get_or xs k d) ≡ false) = position-Some (may_cover low) xs i d e in
+    let at : position_or_len (covers alignment address) xs ≡ i = position_or_len_is (covers alignment address) xs i d (omega (arith, here.0)) (λ k l. passes alignment address low _ bits (here.2 k l)) (λ _. found) in
+    find_at (covers alignment address) xs ∙ ap (slice_get xs) at ∙ slice_get-get_or xs i d here.0
+
+offset_if : (t : Bool) (n o : ℕ) → (if t then Some n else None) ≡ Some o → (t ≡ true) × (Some n ≡ Some o)
+offset_if true n o e = (refl, e)
+offset_if false n o e = absurd cc
+
+-- where the first section that passes it has an offset for the address, that is the offset
+pub candidate_offset : (alignment address low i o : ℕ) (xs : List SectionTable) (d : SectionTable) → low ≡ address % 2 ^ 32 → position (may_cover low) xs ≡ Some i → offset_by alignment address (get_or xs i d) ≡ Some o → option_map (λ s. address - s.virtual_address + raw_start s) (find (covers alignment address) xs) ≡ Some o
+candidate_offset alignment address low i o xs d bits e found =
+    let both : (covers alignment address (get_or xs i d) ≡ true) × (Some (address - (get_or xs i d).virtual_address + raw_start (get_or xs i d)) ≡ Some o) = offset_if _ _ o found in
+    rw (candidate_covers alignment address low i xs d bits e both.0) both.1
 
 value_or_zero : Result ℕ Refusal → ℕ
 value_or_zero (Ok p) = p

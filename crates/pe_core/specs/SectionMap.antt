@@ -1,5 +1,5 @@
 -- The section map: from RVAs to file offsets. (This project's profile.)
-use Rattle.std.specs.Prelude.{ℕ, ◌+◌, ◌-◌, ◌*◌, ◌/◌, ◌==◌, ◌&&◌, min, Bool, not, List, [], ◌∷◌, filter, Option, Some, None, Result, Ok, Err, nat_le, nat_lt, if◌then◌else◌}
+use Rattle.std.specs.Prelude.{ℕ, ◌+◌, ◌-◌, ◌*◌, ◌/◌, ◌%◌, ◌^◌, ◌==◌, ◌&&◌, min, Bool, not, List, [], ◌∷◌, filter, Option, Some, None, Result, Ok, Err, nat_le, nat_lt, if◌then◌else◌}
 use Rattle.std.specs.Option.{option_map}
 use Rattle.std.specs.Int.{is_power_of_two}
 use Rattle.pe_core.specs.Refusals.{Refusal, Unmapped}
@@ -28,6 +28,15 @@ reach alignment s =
 -- the section covers the RVA: it starts at or before it, and reaches past it
 abbrev pub covers : ℕ → ℕ → SectionTable → Bool
 covers alignment rva s = nat_le s.virtual_address rva && nat_lt rva (s.virtual_address + reach alignment s)
+
+-- the file offset of the RVA by this section, if it covers it
+abbrev pub offset_by : ℕ → ℕ → SectionTable → Option ℕ
+offset_by alignment rva s = if covers alignment rva s then Some (rva - s.virtual_address + raw_start s) else None
+
+-- a test that every section passes that covers an RVA with these low 32 bits: the page of the RVA starts, counted from
+-- the section's start modulo 2^32, before its raw size ends
+abbrev pub may_cover : ℕ → SectionTable → Bool
+may_cover low s = nat_lt (rounded_down ((low + (2 ^ 32 - s.virtual_address % 2 ^ 32)) % 2 ^ 32) 4096) s.size_of_raw_data
 
 -- the first of a list
 abbrev pub first : {X : Type 0} → List X → Option X

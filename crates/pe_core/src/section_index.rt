@@ -154,7 +154,10 @@ pub fn mapped_offset(
 ) -> Result<usize>
     ensures { Returns result (mapped (section_map opts.now sections.now file_alignment rva)) }
 {
-    SectionMap::new(sections, file_alignment, opts).offset_of(rva)
+    match find_offset(rva as usize, sections, file_alignment, opts) {
+        Some(offset) => Ok(offset),
+        None => Err(Error::Malformed(Reason::Unmapped(u64::from(rva)))),
+    }
 }
 
 /// An index that makes a section map fast under many sections: the RVAs, divided into pieces that each belong to the

@@ -3,10 +3,10 @@
 //! pointers are rounded down to 512 bytes and sizes up to 4096, whatever alignments the image states. A caller maps one
 //! RVA by `find_offset`, and many by a `SectionMap`.
 
-ghost use Rattle.std.specs.Prelude.{◌≡◌, ℕ, ◌+◌, ◌%◌, ◌<◌, ◌≤◌, ◌^◌, false, IsTrue, OnSome};
-ghost use Rattle.std.specs.Option.{option_copied};
-ghost use Rattle.std.specs.List.{find};
-ghost use Rattle.pe_core.specs.SectionMap.{rounded_up, raw_start, reach, covers, section_map};
+ghost use Rattle.std.specs.Prelude.{◌≡◌, ◌+◌, ◌-◌, ◌<◌, ◌≤◌, ◌^◌};
+ghost use Rattle.std.specs.Option.{option_map};
+ghost use Rattle.std.specs.List.{find, position};
+ghost use Rattle.pe_core.specs.SectionMap.{rounded_up, raw_start, reach, covers, may_cover, offset_by, section_map};
 
 use crate::options::ParseOptions;
 use crate::section_table::SectionTable;
@@ -55,51 +55,88 @@ pub(crate) fn reach(section: &SectionTable, alignment: u32) -> usize
 
 /// A cheap test that every section passes that covers an RVA with these low 32 bits: the page of the RVA starts,
 /// counted from the section's start, before its raw size ends.
-#[tactic(auto, using(crate::proofs::Map::passes))]
 fn may_cover(section: &SectionTable, low: u32) -> bool
-    ensures { (alignment address : ℕ) → low ≡ address % 2 ^ 32 → result ≡ false →
-        covers alignment address section.now ≡ false }
+    ensures { result ≡ may_cover low section.now }
 {
     let raw_size = section.size_of_raw_data;
     low.wrapping_sub(section.virtual_address) / PAGE * PAGE < raw_size
 }
 
-/// Whether the section covers this RVA, by all tests. Out of line, so that the scan rejects a section by the cheap test
-/// in nine instructions.
-#[cold]
-#[inline(never)]
-fn covers(section: &SectionTable, alignment: u32, address: usize) -> bool
+/// The file offset of this RVA by the section: `None` if the section does not cover it. Each test is that of `reach`,
+/// with the RVA rounded down in place of the size rounded up.
+#[tactic(auto, using(crate::proofs::Reaches::starts_after, crate::proofs::Reaches::past_raw_size, crate::proofs::Reaches::past_virtual_size, crate::proofs::Reaches::past_raw_end, crate::proofs::Reaches::inside))]
+fn offset_by(section: &SectionTable, alignment: u32, address: usize) -> Option<usize>
     requires { 0 < alignment }
-    ensures cover { result ≡ covers alignment address section.now }
-    ensures small { IsTrue result → address < 2 ^ 34 }
+    ensures { result ≡ offset_by alignment address section.now }
 {
     let start = section.virtual_address as usize;
-    start <= address && address < start + reach(section, alignment)
+    if address < start {
+        return None;
+    }
+    let within = address - start;
+    let page = within / PAGE as usize * PAGE as usize;
+    let virtual_size = section.virtual_size as usize;
+    if section.size_of_raw_data as usize <= page || virtual_size != 0 && virtual_size <= page {
+        return None;
+    }
+    let offset = within + raw_start(section);
+    if section.raw_end() <= offset / alignment as usize * alignment as usize {
+        return None;
+    }
+    Some(offset)
 }
 
-/// Whether the section covers this RVA, whose low 32 bits are `low`. The cheap test rejects most sections.
-fn covers_by_tests(section: &SectionTable, alignment: u32, address: usize, low: u32) -> bool
-    requires some { 0 < alignment }
-    requires bits { low ≡ address % 2 ^ 32 }
-    ensures cover { result ≡ covers alignment address section.now }
-    ensures small { IsTrue result → address < 2 ^ 34 }
+/// The index of the first section that passes the cheap test. An index, not the section, so that what follows the scan
+/// reads the section again and the scan keeps none of its fields: it rejects a section in eight instructions.
+fn first_candidate(sections: &[SectionTable], low: u32) -> Option<usize>
+    ensures { result ≡ position (may_cover low) sections.now }
 {
-    may_cover(section, low) && covers(section, alignment, address)
+    sections.iter().position(|section| may_cover(section, low))
 }
 
-/// The first section that covers this RVA.
-fn section_of(sections: &[SectionTable], alignment: u32, address: usize) -> Option<&SectionTable>
+/// Whether the section covers this RVA.
+fn covers(section: &SectionTable, alignment: u32, address: usize) -> bool
     requires { 0 < alignment }
-    ensures found { option_copied result ≡ find (covers alignment address) sections.now }
-    ensures small { OnSome result (address < 2 ^ 34) }
+    ensures { result ≡ covers alignment address section.now }
+{
+    offset_by(section, alignment, address).is_some()
+}
+
+/// The file offset of an RVA, by all tests of each section. Out of line, as it is rare.
+#[cold]
+#[inline(never)]
+#[tactic(auto, using(crate::proofs::Map::found_covers))]
+fn offset_by_all_tests(address: usize, sections: &[SectionTable], alignment: u32) -> Option<usize>
+    requires { 0 < alignment }
+    ensures { result ≡ option_map (λ s. address - s.virtual_address + raw_start s)
+        (find (covers alignment address) sections.now) }
+{
+    let section = sections
+        .iter()
+        .find(|section| covers(section, alignment, address))?;
+    offset_by(section, alignment, address)
+}
+
+/// The file offset of an RVA, by the first section that covers it: mostly the first that passes the cheap test.
+#[tactic(auto, using(crate::proofs::Map::no_candidate, crate::proofs::Map::candidate_offset))]
+fn first_offset(address: usize, sections: &[SectionTable], alignment: u32) -> Option<usize>
+    requires { 0 < alignment }
+    ensures { result ≡ option_map (λ s. address - s.virtual_address + raw_start s)
+        (find (covers alignment address) sections.now) }
 {
     let low = (address % (1 << 32)) as u32;
-    sections.iter().find(|section| covers_by_tests(section, alignment, address, low))
+    let candidate = first_candidate(sections, low)?;
+    match offset_by(&sections[candidate], alignment, address) {
+        Some(offset) => Some(offset),
+        None => offset_by_all_tests(address, sections, alignment),
+    }
 }
 
 /// The file offset of an RVA, by the first section that covers it. `None` if no section does, or if the file alignment
 /// is not a power of two. With `resolve_rva` off an RVA is its own file offset.
-#[tactic(auto, using(crate::proofs::Map::positive, crate::proofs::Map::found_covers, crate::proofs::Map::find_first), unfolding(crate::specs::SectionMap::offset_of))]
+// Out of line, so that the scan has all registers and the callers save no more of theirs.
+#[tactic(auto, using(crate::proofs::Map::positive, crate::proofs::Map::find_first), unfolding(crate::specs::SectionMap::offset_of))]
+#[inline(never)]
 pub fn find_offset(
     rva: usize,
     sections: &[SectionTable],
@@ -114,6 +151,5 @@ pub fn find_offset(
     if !file_alignment.is_power_of_two() {
         return None;
     }
-    let section = section_of(sections, file_alignment, rva)?;
-    Some(rva - section.virtual_address as usize + raw_start(section))
+    first_offset(rva, sections, file_alignment)
 }

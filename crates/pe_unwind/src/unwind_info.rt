@@ -2,12 +2,12 @@
 //! handler. A caller undoes the codes of the record, then those of the function to which it is chained. See
 //! [x64 exception handling](https://learn.microsoft.com/cpp/build/exception-handling-x64).
 
-ghost use Rattle.std.specs.Prelude.{◌≡◌, [], ◌∷◌};
+ghost use Rattle.std.specs.Prelude.{◌≡◌, ◌+◌, ◌*◌, ◌%◌, ◌<◌, ◌≤◌, ◌^◌, ◌==◌, ◌||◌, [], ◌∷◌, length, true, if◌then◌else◌};
 ghost use Rattle.std.specs.Option.{option_map};
-ghost use Rattle.pe_core.specs.Refusals.{ReturnsAs, Short, outcome};
+ghost use Rattle.pe_core.specs.Refusals.{Returns, ReturnsAs, Short, UnwindVersion, outcome};
 ghost use Rattle.pe_unwind.specs.CodeStream.{stream_of};
 ghost use Rattle.pe_unwind.specs.ScopeTable.{scopes_left};
-ghost use Rattle.pe_unwind.specs.UnwindRecord.{handler_view, ending_view, unwind_view, ending_holds, ending_at, unwind_tests, unwind_record, code_stream, scope_table_size, scope_table_at, scope_table_of};
+ghost use Rattle.pe_unwind.specs.UnwindRecord.{handler_view, ending_view, unwind_view, ending_holds, ending_at, is_chained, handles_exceptions, handles_termination, flags_at, count_at, after_codes, unwind_tests, unwind_record, code_stream, scope_table_size, scope_table_at, scope_table_of};
 
 use crate::function_table::{RuntimeFunction, SIZE_OF_FUNCTION};
 use crate::register::Register;
@@ -46,24 +46,40 @@ pub struct UnwindInfo<'a> {
     code_bytes: &'a [u8],
 }
 
-/// What follows the codes of a record with these flags: a chained function, a handler or nothing. Errors: `Short`.
+/// Tests what follows the codes of a record with these flags: a chained function, a handler's RVA or nothing. Error:
+/// `Short`.
+#[tactic(auto, unfolding(crate::specs::UnwindRecord::ending_holds))]
+fn require_ending(bytes: &[u8], offset: usize, flags: u8) -> Result<()>
+    ensures { Returns result
+        (outcome ((ending_holds bytes.now offset flags, Short) ∷ []) tt) }
+{
+    if flags / 4 % 2 == 1 {
+        return require_bytes(bytes, offset, SIZE_OF_FUNCTION);
+    }
+    if flags % 2 == 0 && flags / 2 % 2 == 0 {
+        return Ok(());
+    }
+    require_bytes(bytes, offset, 4)
+}
+
+/// What follows the codes of a record with these flags: a chained function, a handler or nothing. Inlined, as is all
+/// that makes a record, so that a caller who takes some of its fields makes no others.
+#[inline(always)]
 #[tactic(auto, unfolding(crate::specs::UnwindRecord::ending_holds, crate::specs::UnwindRecord::ending_at))]
 fn ending(
     bytes: &[u8],
     offset: usize,
     flags: u8,
-) -> Result<(Option<RuntimeFunction>, Option<UnwindHandler<'_>>)>
-    ensures { ReturnsAs ending_view result (outcome
-        ((ending_holds bytes.now offset flags, Short) ∷ []) (ending_at bytes.now offset flags)) }
+) -> (Option<RuntimeFunction>, Option<UnwindHandler<'_>>)
+    requires { ending_holds bytes.now offset flags ≡ true }
+    ensures { ending_view result ≡ ending_at bytes.now offset flags }
 {
     if flags / 4 % 2 == 1 {
-        require_bytes(bytes, offset, SIZE_OF_FUNCTION)?;
-        return Ok((Some(RuntimeFunction::at(bytes, offset)), None));
+        return (Some(RuntimeFunction::at(bytes, offset)), None);
     }
     if flags % 2 == 0 && flags / 2 % 2 == 0 {
-        return Ok((None, None));
+        return (None, None);
     }
-    require_bytes(bytes, offset, 4)?;
     let address = read_u32(bytes, offset);
     let data = bytes.split_at(offset + 4).1;
     let handler = if flags % 2 == 1 {
@@ -71,7 +87,80 @@ fn ending(
     } else {
         UnwindHandler::TerminationHandler(address, data)
     };
-    Ok((None, Some(handler)))
+    (None, Some(handler))
+}
+
+/// Tests the version, in the lowest bits of a record's first byte. Error: `UnwindVersion`.
+fn require_version(first: u8) -> Result<()>
+    ensures { Returns result
+        (outcome ((first % 8 == 1 || first % 8 == 2, UnwindVersion) ∷ []) tt) }
+{
+    let version = first % 8;
+    if version == 1 || version == 2 {
+        Ok(())
+    } else {
+        Err(Error::Malformed(Reason::UnwindVersion(version)))
+    }
+}
+
+/// The number of slots of a record, after all tests of the record, one after the other. Out of line, as few records need
+/// more than the tests of `tested_slots`.
+#[cold]
+#[inline(never)]
+#[tactic(auto, unfolding(crate::specs::UnwindRecord::unwind_tests))]
+fn slots_by_all_tests(bytes: &[u8], offset: usize) -> Result<usize>
+    ensures { Returns result
+        (outcome (unwind_tests bytes.now offset) (count_at bytes.now offset)) }
+{
+    let first = u8_at(bytes, offset)?;
+    require_version(first)?;
+    require_bytes(bytes, offset, 4)?;
+    let count = usize::from(read_u8(bytes, offset + 2));
+    require_bytes(bytes, offset + 4, 2 * count)?;
+    require_ending(bytes, after_slots(offset, count), first / 8)?;
+    Ok(count)
+}
+
+/// The size in bytes of what follows the codes of a record with these flags.
+fn ending_size(flags: u8) -> usize
+    ensures { result ≡ (if is_chained flags then 12
+        else (if handles_exceptions flags || handles_termination flags then 4 else 0)) }
+{
+    if flags / 4 % 2 == 1 {
+        SIZE_OF_FUNCTION
+    } else if flags % 2 == 1 || flags / 2 % 2 == 1 {
+        4
+    } else {
+        0
+    }
+}
+
+/// The number of slots of a record, after all tests of the record: those of `UnwindInfo::parse`.
+#[inline(always)]
+#[tactic(auto, unfolding(crate::specs::UnwindRecord::unwind_tests, crate::specs::UnwindRecord::ending_holds))]
+fn tested_slots(bytes: &[u8], offset: usize) -> Result<usize>
+    ensures { Returns result
+        (outcome (unwind_tests bytes.now offset) (count_at bytes.now offset)) }
+{
+    if bytes.len() < 4 || bytes.len() - 4 < offset {
+        return slots_by_all_tests(bytes, offset);
+    }
+    // Where the end of the record is inside the bytes, so are all parts of it.
+    let first = read_u8(bytes, offset);
+    let count = usize::from(read_u8(bytes, offset + 2));
+    if bytes.len() < after_slots(offset, count) + ending_size(first / 8) {
+        return slots_by_all_tests(bytes, offset);
+    }
+    require_version(first)?;
+    Ok(count)
+}
+
+/// The offset after the codes of a record. They are padded to an even number of slots.
+fn after_slots(offset: usize, count: usize) -> usize
+    requires { offset + 4 + 2 * (count + 1) < 2 ^ 64 }
+    ensures { result ≡ offset + 4 + 2 * (count + count % 2) }
+{
+    offset + 4 + 2 * (count + count % 2)
 }
 
 /// The size in bytes of the entries of the scope table at the start of a handler's data, after its count of 4 bytes.
@@ -100,32 +189,38 @@ impl<'a> UnwindInfo<'a> {
     ///
     /// Errors, in this order: `Short` if the first byte is missing; `UnwindVersion` unless the version is 1 or 2;
     /// `Short` if the rest of the header, the codes, or the chained function or the handler's RVA are truncated.
-    #[tactic(auto, unfolding(crate::specs::UnwindRecord::unwind_tests, crate::specs::UnwindRecord::unwind_record))]
+    #[inline(always)]
+    #[tactic(auto, unfolding(crate::specs::UnwindRecord::unwind_tests, crate::specs::UnwindRecord::ending_holds))]
     pub fn parse(bytes: &'a [u8], offset: usize) -> Result<UnwindInfo<'a>>
         ensures { ReturnsAs unwind_view result
             (outcome (unwind_tests bytes.entry.now offset) (unwind_record bytes.entry.now offset)) }
     {
-        let first = u8_at(bytes, offset)?;
-        let version = first % 8;
-        if version != 1 && version != 2 {
-            return Err(Error::Malformed(Reason::UnwindVersion(version)));
-        }
-        require_bytes(bytes, offset, 4)?;
-        let count = usize::from(read_u8(bytes, offset + 2));
+        let count = tested_slots(bytes, offset)?;
+        Ok(UnwindInfo::at(bytes, offset, count))
+    }
+
+    /// The record at an offset in the bytes, with so many slots, where its tests hold.
+    #[inline(always)]
+    #[tactic(auto, unfolding(crate::specs::UnwindRecord::unwind_record))]
+    fn at(bytes: &'a [u8], offset: usize, count: usize) -> UnwindInfo<'a>
+        requires slots { count ≡ count_at bytes.now offset }
+        requires codes { offset + 4 + 2 * count ≤ length bytes.now }
+        requires ending { ending_holds bytes.now (after_codes bytes.now offset)
+            (flags_at bytes.now offset) ≡ true }
+        ensures { unwind_view result ≡ unwind_record bytes.entry.now offset }
+    {
+        let first = read_u8(bytes, offset);
         let frame = read_u8(bytes, offset + 3);
-        let code_bytes = slice_at(bytes, offset + 4, 2 * count)?;
-        // The codes are padded to an even number of slots.
-        let after = offset + 4 + 2 * (count + count % 2);
-        let (chained_info, handler) = ending(bytes, after, first / 8)?;
-        Ok(UnwindInfo {
-            version,
+        let (chained_info, handler) = ending(bytes, after_slots(offset, count), first / 8);
+        UnwindInfo {
+            version: first % 8,
             size_of_prolog: read_u8(bytes, offset + 1),
             frame_register: Register(frame % 16),
             frame_register_offset: u32::from(frame / 16) * 16,
             chained_info,
             handler,
-            code_bytes,
-        })
+            code_bytes: &bytes[offset + 4..offset + 4 + 2 * count],
+        }
     }
 
     /// The codes, the last operation of the prolog first. The codes of `chained_info` come after them.
