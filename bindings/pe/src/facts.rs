@@ -25,6 +25,7 @@ use clap::ValueEnum;
 use pe_c::{Error, Image};
 use serde::{Serialize, Serializer};
 use std::fmt;
+use std::ops::Not;
 use std::path::Path;
 
 /// The version of the JSON that `docs/JSON.md` describes. It grows when a field changes its meaning or goes away.
@@ -152,26 +153,71 @@ impl<T: Serialize> Serialize for Part<T> {
     }
 }
 
+/// How often the bytes of a file are read for the names and lists of one part.
+const READINGS: usize = 16;
+/// How many bytes an entry of a list counts for, beside its name.
+pub const ENTRY: usize = 8;
+
+/// How many bytes may still be read for one part of an image. Entries of a hostile file may share a long name or a long list, and
+/// without a bound a small file has more to show than anyone reads. In other files hardly a byte is read twice.
+pub struct Budget {
+    left: usize,
+}
+
+impl Budget {
+    pub fn of(image: &Image<'_>) -> Budget {
+        Budget { left: image.bytes().len().saturating_mul(READINGS) }
+    }
+
+    /// Takes so many bytes, if they are left.
+    pub fn takes(&mut self, count: usize) -> bool {
+        let left = self.left.checked_sub(count);
+        self.left = left.unwrap_or(self.left);
+        left.is_some()
+    }
+}
+
 /// A list that ends early where an entry is refused: in JSON the entries, and the error of the first that is none.
 #[derive(Clone, Debug, Serialize)]
 pub struct List<T> {
     pub entries: Vec<T>,
     #[serde(skip_serializing_if = "Option::is_none")]
     pub error: Option<Refusal>,
+    /// Whether there are more, and what they share is too long to be shown as often.
+    #[serde(skip_serializing_if = "Not::not")]
+    pub is_limited: bool,
 }
 
 impl<T> List<T> {
     /// The items up to the first error, each as `of` shows it.
     pub fn of<I>(items: impl Iterator<Item = Result<I, Error>>, mut of: impl FnMut(I) -> T) -> List<T> {
-        let mut list = List { entries: Vec::new(), error: None };
+        List::limited(items, |item| Some(of(item)))
+    }
+
+    pub fn count(&self) -> String {
+        count_of(self.entries.len(), self.is_limited)
+    }
+
+    /// The items up to the first error, or up to the first that `of` does not show.
+    pub fn limited<I>(items: impl Iterator<Item = Result<I, Error>>, mut of: impl FnMut(I) -> Option<T>) -> List<T> {
+        let mut list = List { entries: Vec::new(), error: None, is_limited: false };
         for item in items {
-            match item {
-                Ok(item) => list.entries.push(of(item)),
+            match item.map(&mut of) {
+                Ok(Some(item)) => list.entries.push(item),
+                Ok(None) => {
+                    list.is_limited = true;
+                    break;
+                }
                 Err(error) => list.error = Some(error.into()),
             }
         }
         list
     }
+}
+
+/// How many entries there are, with a plus sign where there are more.
+pub fn count_of(count: usize, is_limited: bool) -> String {
+    count.to_string() + if is_limited { "+" } else { "" }
 }
 
 /// A name in an image. In JSON its text, or an object with the one field `hex` where it is not UTF-8.

@@ -76,6 +76,13 @@ fn rows(rows: Vec<Row>, page: &mut Page) {
     }
 }
 
+/// Says that a list has more entries than are shown.
+fn more(is_limited: bool, page: &mut Page) {
+    if is_limited {
+        page.line(format_args!("  and more"));
+    }
+}
+
 fn headers_of(headers: &Headers, page: &mut Page) {
     page.heading("Headers");
     rows(tables::headers(headers), page);
@@ -94,13 +101,16 @@ fn imports_of(libraries: &List<Library>, page: &mut Page) {
         for import in &library.imports.entries {
             page.line(format_args!("  {}", tables::import(import.name.as_ref(), import.ordinal)));
         }
+        more(library.imports.is_limited, page);
     }
+    more(libraries.is_limited, page);
 }
 
 fn exports_of(exports: &Exports, page: &mut Page) {
     let name = exports.name.as_ref().map_or(String::new(), |name| format!(" of {name}"));
     page.heading(&format!("Exports{name}"));
     page.table(&tables::exports(exports));
+    more(exports.is_limited, page);
 }
 
 fn debug_of(debug: &Debug, page: &mut Page) {
@@ -154,12 +164,15 @@ fn delay_imports_of(libraries: &List<delay_imports::Library>, page: &mut Page) {
         for import in &library.imports.entries {
             page.line(format_args!("  {}", tables::import(import.name.as_ref(), import.ordinal)));
         }
+        more(library.imports.is_limited, page);
     }
+    more(libraries.is_limited, page);
 }
 
 fn bound_imports_of(bound: &List<Bound>, page: &mut Page) {
     page.heading("Bound imports");
     page.table(&tables::bound_imports(bound));
+    more(bound.is_limited || bound.entries.iter().any(|it| it.forwarders.is_limited), page);
 }
 
 fn load_config_of(config: &LoadConfig, page: &mut Page) {
@@ -183,9 +196,7 @@ fn rich_of(rich: &Rich, page: &mut Page) {
 fn resources_of(resources: &Resources, page: &mut Page) {
     page.heading("Resources");
     page.table(&tables::resources(resources));
-    if resources.is_limited {
-        page.line(format_args!("  and more"));
-    }
+    more(resources.is_limited, page);
 }
 
 /// Where a symbol server has the PDB of an image, and the image: a line each. What is refused goes to standard error.

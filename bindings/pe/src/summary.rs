@@ -3,7 +3,7 @@
 use crate::escape::escaped;
 use crate::facts::headers::Headers;
 use crate::facts::sections::Section;
-use crate::facts::{Facts, Part};
+use crate::facts::{count_of, Facts, Part};
 use crate::page::{Page, Style};
 use crate::show::time_of;
 
@@ -72,20 +72,25 @@ fn sections_of(sections: &[Section], page: &mut Page) {
 }
 
 /// Names of DLLs, each with a count, and how many more there are.
-fn listed(counts: impl ExactSizeIterator<Item = (String, usize)>) -> String {
-    let more = counts.len().saturating_sub(LIBRARIES);
-    let more = if more > 0 { format!(" and {more} more") } else { String::new() };
+fn listed(counts: impl ExactSizeIterator<Item = (String, String)>, is_limited: bool) -> String {
+    let more = match counts.len().saturating_sub(LIBRARIES) {
+        0 if is_limited => " and more".to_string(),
+        0 => String::new(),
+        more => format!(" and {} more", count_of(more, is_limited)),
+    };
     counts.take(LIBRARIES).map(|(name, count)| format!("{name} {count}")).collect::<Vec<_>>().join(", ") + &more
 }
 
 fn tables_of(facts: &Facts, page: &mut Page) {
     if let Some(imports) = facts.imports.as_ref().and_then(Part::present) {
-        page.row("imports", listed(imports.entries.iter().map(|it| (it.name.to_string(), it.imports.entries.len()))));
+        let counts = imports.entries.iter().map(|it| (it.name.to_string(), it.imports.count()));
+        page.row("imports", listed(counts, imports.is_limited));
     }
     if let Some(exports) = facts.exports.as_ref().and_then(Part::present) {
         let forwarders = exports.forwarders();
         let of_others = if forwarders > 0 { format!(", {forwarders} of them forwarders") } else { String::new() };
-        page.row("exports", format_args!("{}{of_others}", exports.entries.len()));
+        let count = count_of(exports.entries.len(), exports.is_limited);
+        page.row("exports", format_args!("{count}{of_others}"));
     }
     if let Some(functions) = facts.functions.as_ref().and_then(Part::present) {
         page.row("functions", format_args!("{} with unwind data", functions.entries.len()));
@@ -107,12 +112,12 @@ fn tables_of(facts: &Facts, page: &mut Page) {
 /// The parts that few images have.
 fn more_of(facts: &Facts, page: &mut Page) {
     if let Some(delayed) = facts.delay_imports.as_ref().and_then(Part::present) {
-        let counts = delayed.entries.iter().map(|it| (it.name.to_string(), it.imports.entries.len()));
-        page.row("delay imports", listed(counts));
+        let counts = delayed.entries.iter().map(|it| (it.name.to_string(), it.imports.count()));
+        page.row("delay imports", listed(counts, delayed.is_limited));
     }
     if let Some(bound) = facts.bound_imports.as_ref().and_then(Part::present) {
-        let counts = bound.entries.iter().map(|it| (it.name.to_string(), it.forwarders.entries.len()));
-        page.row("bound imports", listed(counts));
+        let counts = bound.entries.iter().map(|it| (it.name.to_string(), it.forwarders.count()));
+        page.row("bound imports", listed(counts, bound.is_limited));
     }
     if let Some(config) = facts.load_config.as_ref().and_then(Part::present) {
         let flags = config.guard_flags.as_ref().map_or(String::new(), |it| format!(", guard flags {it}"));
@@ -127,8 +132,8 @@ fn more_of(facts: &Facts, page: &mut Page) {
         page.row("Rich header", format_args!("{} tools{key}", rich.tools.entries.len()));
     }
     if let Some(resources) = facts.resources.as_ref().and_then(Part::present) {
-        let more = if resources.is_limited { " and more" } else { "" };
-        page.row("resources", format_args!("{}{more}, of {} types", resources.entries.len(), resources.type_count()));
+        let count = count_of(resources.entries.len(), resources.is_limited);
+        page.row("resources", format_args!("{count}, of {} types", resources.type_count()));
     }
 }
 

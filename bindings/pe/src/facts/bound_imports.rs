@@ -1,7 +1,7 @@
 //! The bound imports: DLLs whose addresses stand in the image already, for as long as they have the same time stamps.
 
-use super::{List, Name, Part};
-use pe_c::{BoundImport, Image};
+use super::{Budget, List, Name, Part, ENTRY};
+use pe_c::{BoundForwarder, BoundImport, Image};
 use serde::Serialize;
 
 #[derive(Clone, Debug, Serialize)]
@@ -18,14 +18,22 @@ pub struct Forwarder {
     pub time_date_stamp: u32,
 }
 
-fn bound_of(found: BoundImport<'_>) -> Bound {
-    let forwarders = List::of(found.forwarders(), |it| Forwarder {
-        name: Name(it.name.to_vec()),
-        time_date_stamp: it.time_date_stamp,
-    });
-    Bound { name: Name(found.name.to_vec()), time_date_stamp: found.time_date_stamp, forwarders }
+fn bound_of(found: BoundImport<'_>, budget: &mut Budget) -> Option<Bound> {
+    let mut forwarder_of = |it: BoundForwarder<'_>| {
+        budget
+            .takes(ENTRY + it.name.len())
+            .then(|| Forwarder { name: Name(it.name.to_vec()), time_date_stamp: it.time_date_stamp })
+    };
+    let forwarders = List::limited(found.forwarders(), &mut forwarder_of);
+    budget.takes(ENTRY + found.name.len()).then(|| Bound {
+        name: Name(found.name.to_vec()),
+        time_date_stamp: found.time_date_stamp,
+        forwarders,
+    })
 }
 
 pub fn of(image: &Image<'_>) -> Part<List<Bound>> {
-    image.bound_imports().map(|found| found.map(|bound| List::of(bound, bound_of))).into()
+    let mut budget = Budget::of(image);
+    let bound_imports_of = |bound| List::limited(bound, |found| bound_of(found, &mut budget));
+    image.bound_imports().map(|found| found.map(bound_imports_of)).into()
 }

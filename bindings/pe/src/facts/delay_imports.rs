@@ -1,6 +1,6 @@
 //! The delay imports: DLLs that are loaded when one of their functions is called first.
 
-use super::{List, Name, Part};
+use super::{Budget, List, Name, Part, ENTRY};
 use pe_c::{DelayImport, DelayedFunction, Image};
 use serde::Serialize;
 
@@ -22,23 +22,28 @@ pub struct Import {
     pub ordinal: Option<u32>,
 }
 
-fn import_of(function: DelayedFunction<'_>) -> Import {
-    let name = function.name.map(|name| Name(name.to_vec()));
-    let (hint, ordinal) = match name {
+fn import_of(function: DelayedFunction<'_>, budget: &mut Budget) -> Option<Import> {
+    let (hint, ordinal) = match function.name {
         Some(_) => (Some(function.ordinal), None),
         None => (None, Some(function.ordinal)),
     };
-    Import { name, hint, ordinal }
+    budget.takes(ENTRY + function.name.map_or(0, <[u8]>::len)).then(|| Import {
+        name: function.name.map(|name| Name(name.to_vec())),
+        hint,
+        ordinal,
+    })
 }
 
-fn library_of(found: DelayImport<'_, '_>) -> Library {
-    Library {
+fn library_of(found: DelayImport<'_, '_>, budget: &mut Budget) -> Option<Library> {
+    budget.takes(ENTRY + found.name.len()).then(|| Library {
         name: Name(found.name.to_vec()),
         time_date_stamp: found.descriptor().time_date_stamp,
-        imports: List::of(found.functions(), import_of),
-    }
+        imports: List::limited(found.functions(), |function| import_of(function, budget)),
+    })
 }
 
 pub fn of(image: &Image<'_>) -> Part<List<Library>> {
-    image.delay_imports().map(|found| found.map(|libraries| List::of(libraries, library_of))).into()
+    let mut budget = Budget::of(image);
+    let libraries_of = |libraries| List::limited(libraries, |found| library_of(found, &mut budget));
+    image.delay_imports().map(|found| found.map(libraries_of)).into()
 }

@@ -1,6 +1,6 @@
 //! The imports: DLLs, and what is taken of each by name or by ordinal.
 
-use super::{List, Name, Part};
+use super::{Budget, List, Name, Part, ENTRY};
 use pe_c::Image;
 use serde::Serialize;
 
@@ -22,22 +22,26 @@ pub struct Import {
     pub slot_rva: u64,
 }
 
-fn import_of(import: pe_c::Import<'_>) -> Import {
+fn import_of(import: pe_c::Import<'_>, budget: &mut Budget) -> Option<Import> {
     let (hint, ordinal) = match import.name {
         Some(_) => (Some(import.ordinal), None),
         None => (None, Some(import.ordinal)),
     };
-    Import { name: import.name.map(|name| Name(name.to_vec())), hint, ordinal, slot_rva: import.rva }
+    budget.takes(ENTRY + import.name.map_or(0, <[u8]>::len)).then(|| Import {
+        name: import.name.map(|name| Name(name.to_vec())),
+        hint,
+        ordinal,
+        slot_rva: import.rva,
+    })
 }
 
 pub fn of(image: &Image<'_>) -> Part<List<Library>> {
-    let libraries = image.libraries().map(|found| {
-        found.map(|libraries| {
-            List::of(libraries, |library| Library {
-                name: Name(library.name.to_vec()),
-                imports: List::of(library.imports(), import_of),
-            })
+    let mut budget = Budget::of(image);
+    let library_of = |library: pe_c::Library<'_, '_>| {
+        budget.takes(ENTRY + library.name.len()).then(|| Library {
+            name: Name(library.name.to_vec()),
+            imports: List::limited(library.imports(), |import| import_of(import, &mut budget)),
         })
-    });
-    libraries.into()
+    };
+    image.libraries().map(|found| found.map(|libraries| List::limited(libraries, library_of))).into()
 }

@@ -1,7 +1,7 @@
 //! The resources: all leaves of the resource tree, each with its type, its name and its language.
 
 use super::version::{fixed_of, strings_of, Fixed};
-use super::{Part, Refusal};
+use super::{Budget, Part, Refusal};
 use crate::names::{name_of, RESOURCE_TYPES};
 use pe_c::{Image, ResourceLeaf, ResourceLeaves, ResourceName};
 use serde::Serialize;
@@ -9,8 +9,6 @@ use std::collections::{BTreeMap, BTreeSet};
 
 /// How many leaves are shown. Directories of a tree may be shared, so a small file can have more leaves than anyone reads.
 const LEAVES: usize = 65_536;
-/// How often the bytes of a file are read for names and version information, which leaves may share too.
-const READINGS: usize = 16;
 
 #[derive(Clone, Debug, Serialize)]
 pub struct Resources {
@@ -105,13 +103,11 @@ fn cost_of(leaf: &ResourceLeaf<'_>) -> usize {
     length(leaf.resource_type) + length(leaf.name) + length(leaf.language) + content
 }
 
-fn resources_of(leaves: ResourceLeaves<'_, '_>, length: usize) -> Resources {
+fn resources_of(leaves: ResourceLeaves<'_, '_>, mut budget: Budget) -> Resources {
     let mut resources = Resources { entries: Vec::new(), error: None, is_limited: false };
-    let mut left = length.saturating_mul(READINGS);
     for leaf in leaves {
         match leaf {
-            Ok(leaf) if resources.entries.len() < LEAVES && cost_of(&leaf) <= left => {
-                left -= cost_of(&leaf);
+            Ok(leaf) if resources.entries.len() < LEAVES && budget.takes(cost_of(&leaf)) => {
                 resources.entries.push(leaf_of(&leaf));
             }
             Ok(_) => {
@@ -125,5 +121,5 @@ fn resources_of(leaves: ResourceLeaves<'_, '_>, length: usize) -> Resources {
 }
 
 pub fn of(image: &Image<'_>) -> Part<Resources> {
-    image.resource_leaves().map(|found| found.map(|leaves| resources_of(leaves, image.bytes().len()))).into()
+    image.resource_leaves().map(|found| found.map(|leaves| resources_of(leaves, Budget::of(image)))).into()
 }
