@@ -5,7 +5,7 @@ use Rattle.pe_directories.specs.BoundImports.{Bound, bound_forwarder_at, bound_n
 use Rattle.pe_directories.specs.DirectoryRefusals.{DirectoryRefusal, of_image}
 use Rattle.pe_directories.specs.Walks.{First}
 use Rattle.pe_directories.specs.declared.bound_import.BoundForwarder as forwarders
-use Rattle.pe_c.specs.Directories.{first_in, if_present}
+use Rattle.pe_c.specs.Directories.{first_in, if_present, read_first}
 use Rattle.pe_c.specs.Images.{directory}
 use Rattle.pe_c.specs.Ranges.{bytes_at, no_bytes}
 use Rattle.pe_c.specs.Walks.{next_of, walk_of}
@@ -33,15 +33,9 @@ bound_reported b table walk x =
     bound_name_at b table x.name >>= λ name.
     Ok (record { name = name; forwarders = record { offset = walk.offset + 8; length = length x.forwarders }; time_date_stamp = x.time_date_stamp; spare = 0 })
 
--- what stands first, with its item made of it, which may be refused
-abbrev pub first_made : {X Y : Type 0} → (X → Result Y DirectoryRefusal) → First X (List ℕ) → First Y (List ℕ)
-first_made make None = None
-first_made make (Some (Ok x)) = Some (make x.0 >>= λ y. Ok (y, x.1))
-first_made make (Some (Err refusal)) = Some (Err refusal)
-
 -- the DLL that stands first in a walk
 abbrev pub first_bound : List ℕ → Range → Range → First BoundImport (List ℕ)
-first_bound b table walk = first_made (bound_reported b table walk) (first_in first_bound_import b walk)
+first_bound b table walk = read_first (bound_reported b table walk) (first_in first_bound_import b walk)
 
 -- ---- the forwarders of a DLL
 

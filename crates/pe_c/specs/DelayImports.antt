@@ -1,24 +1,18 @@
 -- Delay imports: a walk over the DLLs of the directory, and a walk over what is imported of each.
-use Rattle.std.specs.Prelude.{ℕ, ◌+◌, ◌-◌, ◌%◌, ◌^◌, List, length, Some, None, Result, Ok, Err}
+use Rattle.std.specs.Prelude.{ℕ, ◌+◌, ◌-◌, ◌%◌, ◌^◌, List, length, Result, Ok}
 use Rattle.pe_core.specs.Refusals.{◌>>=◌}
 use Rattle.pe_directories.specs.DelayImports.{Function, Ordinal, Name, delay_dll, first_delay_import, imported_by, offset_in_entry}
 use Rattle.pe_directories.specs.DirectoryRefusals.{DirectoryRefusal}
 use Rattle.pe_directories.specs.ImageParts.{ImageView}
 use Rattle.pe_directories.specs.Walks.{First}
 use Rattle.pe_directories.specs.declared.delay_import.DelayImport.{DelayImport}
-use Rattle.pe_c.specs.Directories.{first_in, first_va_in, left_after}
+use Rattle.pe_c.specs.Directories.{first_in, first_va_in, left_after, read_first}
 use Rattle.pe_c.specs.Ranges.{no_bytes}
 use Rattle.pe_c.specs.declared.delay_imports.DelayLibrary.{DelayLibrary}
 use Rattle.pe_c.specs.declared.delay_imports.DelayedFunction.{DelayedFunction}
 use Rattle.pe_c.specs.declared.delay_imports.DelayedFunctions.{DelayedFunctions}
 use Rattle.pe_c.specs.declared.image.Image as images
 use Rattle.pe_c.specs.declared.ranges.Range.{Range}
-
--- what stands first, where an item is read further and may be refused by that
-abbrev pub read_first : {X Y S : Type 0} → (X → Result Y DirectoryRefusal) → First X S → First Y S
-read_first read None = None
-read_first read (Some (Ok x)) = Some (read x.0 >>= λ y. Ok (y, x.1))
-read_first read (Some (Err refusal)) = Some (Err refusal)
 
 -- ---- DLLs; `i` is the image as pe_directories takes it
 

@@ -11,6 +11,7 @@ use Rattle.pe_directories.specs.VaTables.{first_va}
 use Rattle.pe_directories.specs.Walks.{First}
 use Rattle.pe_directories.specs.declared.base_relocation.BaseRelocation.{BaseRelocation}
 use Rattle.pe_directories.specs.declared.tls.TlsDirectory.{TlsDirectory}
+use Rattle.pe_c.specs.Exports.{or_zero}
 use Rattle.pe_c.specs.HandsOut.{result_number}
 use Rattle.pe_c.specs.Images.{directory, is_absent}
 use Rattle.pe_c.specs.Modes.{options_of}
@@ -69,6 +70,12 @@ first_of first (Err refusal) = Some (Err refusal)
 abbrev pub first_in : {X : Type 0} → (List ℕ → First X (List ℕ)) → List ℕ → Range → First X (List ℕ)
 first_in first b r = first_of first (of_image (bytes_at b r))
 
+-- what stands first, where an item is read further and may be refused by that
+abbrev pub read_first : {X Y S : Type 0} → (X → Result Y DirectoryRefusal) → First X S → First Y S
+read_first read None = None
+read_first read (Some (Ok x)) = Some (read x.0 >>= λ y. Ok (y, x.1))
+read_first read (Some (Err refusal)) = Some (Err refusal)
+
 -- what a step returns: the item as callers get it
 abbrev pub step_of : {X Y S : Type 0} → (X → Y) → First X S → Result (Option Y) DirectoryRefusal
 step_of report None = Ok None
@@ -112,9 +119,5 @@ block_reported r x = record {
   spare = 0;
 }
 
-abbrev pub argument_or_0 : Option ℕ → ℕ
-argument_or_0 None = 0
-argument_or_0 (Some n) = n
-
 abbrev pub relocation_reported : BaseRelocation → Relocation
-relocation_reported x = record { rva = x.rva; kind = x.kind; argument = argument_or_0 x.argument }
+relocation_reported x = record { rva = x.rva; kind = x.kind; argument = or_zero x.argument }

@@ -1,5 +1,5 @@
 -- What calls return of the COFF string table, and of section names in it.
-use Rattle.std.specs.Prelude.{ℕ, ◌+◌, List, length, Option, Some, None, Result, Ok, if◌then◌else◌}
+use Rattle.std.specs.Prelude.{ℕ, ◌+◌, List, length, Option, None, Result, Ok, if◌then◌else◌}
 use Rattle.std.specs.Option.{option_map}
 use Rattle.pe_core.specs.Bytes.{record_at}
 use Rattle.pe_core.specs.Records.{coff_header, dos_header}
@@ -7,6 +7,7 @@ use Rattle.pe_core.specs.Refusals.{Refusal, ◌>>=◌}
 use Rattle.pe_core.specs.Strings.{strings_of, strings_offset}
 use Rattle.pe_core.specs.declared.section_table.SectionTable.{SectionTable}
 use Rattle.pe_directories.specs.SectionNames.{long_section_name, string_offset}
+use Rattle.pe_c.specs.Exports.{or_zero}
 use Rattle.pe_c.specs.Modes.{resolves}
 use Rattle.pe_c.specs.Ranges.{bytes_at}
 use Rattle.pe_c.specs.declared.image.Image.{Image}
@@ -23,13 +24,8 @@ strings_in b =
 abbrev pub strings_at : List ℕ → Image → Result (Option Range) Refusal
 strings_at b image = if resolves image.mode then strings_in b else Ok None
 
--- the offset of a string table's string, or 0
-abbrev pub or_0 : Option ℕ → ℕ
-or_0 None = 0
-or_0 (Some n) = n
-
 -- the range of the string that the name of a section leads to in the string table at a range
 abbrev pub long_name_at : List ℕ → Range → SectionTable → Result (Option Range) Refusal
 long_name_at b table section =
     bytes_at b table >>= λ strings.
-    Ok (option_map (λ name. record { offset = table.offset + or_0 (string_offset section); length = length name }) (long_section_name section strings))
+    Ok (option_map (λ name. record { offset = table.offset + or_zero (string_offset section); length = length name }) (long_section_name section strings))

@@ -17,7 +17,7 @@ power_more n i digit small below = rw add-one (omega (arith, pow-suc 16 i))
 pub power_small : (n i : ℕ) → n < 16 ^ i → i ≤ 8 → n < 2 ^ 32
 power_small n i small le = omega (arith, small, pow-le-pow_right {n = 16} (lit< tt) le)
 
--- the number behind another, by its first digit
+-- the number that digits make after a number, by the first of them
 of_digit : (n digit : ℕ) (cs : List ℕ) (d : Option ℕ) → d ≡ Some digit → option_and_then (λ digit. number_after (16 * n + digit) cs) d ≡ number_after (16 * n + digit) cs
 of_digit n digit cs d e = rw e refl
 

@@ -1,5 +1,6 @@
 //! The delay imports: DLLs that are loaded when one of their functions is called first.
 
+use super::imports::hint_or_ordinal;
 use super::{Budget, List, Name, Part, ENTRY};
 use pe_c::{DelayImport, DelayedFunction, Image};
 use serde::Serialize;
@@ -23,10 +24,7 @@ pub struct Import {
 }
 
 fn import_of(function: DelayedFunction<'_>, budget: &mut Budget) -> Option<Import> {
-    let (hint, ordinal) = match function.name {
-        Some(_) => (Some(function.ordinal), None),
-        None => (None, Some(function.ordinal)),
-    };
+    let (hint, ordinal) = hint_or_ordinal(function.name, function.ordinal);
     budget.takes(ENTRY + function.name.map_or(0, <[u8]>::len)).then(|| Import {
         name: function.name.map(|name| Name(name.to_vec())),
         hint,

@@ -22,11 +22,16 @@ pub struct Import {
     pub slot_rva: u64,
 }
 
+/// The number of an import: the hint of one by name, or the ordinal of one without.
+pub fn hint_or_ordinal(name: Option<&[u8]>, number: u32) -> (Option<u32>, Option<u32>) {
+    match name {
+        Some(_) => (Some(number), None),
+        None => (None, Some(number)),
+    }
+}
+
 fn import_of(import: pe_c::Import<'_>, budget: &mut Budget) -> Option<Import> {
-    let (hint, ordinal) = match import.name {
-        Some(_) => (Some(import.ordinal), None),
-        None => (None, Some(import.ordinal)),
-    };
+    let (hint, ordinal) = hint_or_ordinal(import.name, import.ordinal);
     budget.takes(ENTRY + import.name.map_or(0, <[u8]>::len)).then(|| Import {
         name: import.name.map(|name| Name(name.to_vec())),
         hint,

@@ -3,7 +3,7 @@ use Rattle.pe_resource.specs.VersionBlocks.{number_after}
 use Rattle.pe_resource.specs.VersionStrings.{units}
 use Rattle.pe_resource.proofs.version_block.number_of.Given as goal
 
--- the digits that are left make the whole number behind the one that the others made
+-- the digits that are left make the whole number after the one that the others made
 abbrev pub invariant-loop-i : goal.invariant-loop-i
 invariant-loop-i l = record {
   rest : number_after l.number (drop l.i (units l.digits)) ≡ number_after 0 (units l.digits);
