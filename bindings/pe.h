@@ -77,9 +77,9 @@ extern "C" {
  *
  * Its number is in the name of this call, and grows with each change that breaks callers. A program refers to the name
  * from each file that includes this header, so it does not link with an archive of another ABI. Returns the number. */
-uint32_t pe_c_abi_2(void);
+uint32_t pe_c_abi_3(void);
 #if defined(__GNUC__)
-static uint32_t (*const pe_c_abi)(void) __attribute__((used)) = pe_c_abi_2;
+static uint32_t (*const pe_c_abi)(void) __attribute__((used)) = pe_c_abi_3;
 #endif
 
 /* ---- results
@@ -664,19 +664,13 @@ uint32_t pe_c_find_function(const uint8_t *bytes, size_t length, const pe_c_rang
 uint32_t pe_c_function_at(const uint8_t *bytes, size_t length, const pe_c_range *table, uint64_t index,
                           pe_c_function *out) PE_C_RESULT(3, 5);
 
-/* Returns the unwind record of an unwind RVA, the field `unwind` of a function. Links are followed to their end.
- * Errors: those of pe_c_function_table; PE_C_UNMAPPED, PE_C_FUNCTION_LINK, PE_C_FUNCTION_CYCLE of the links;
- * PE_C_UNMAPPED, PE_C_SHORT, PE_C_UNWIND_VERSION of the record. */
+/* Returns the unwind record of an unwind RVA, the field `unwind` of a function of this table, which pe_c_function_table
+ * returned. An odd one is a link to another entry of the table; links are followed to their end.
+ * Errors: PE_C_SHORT where the table is not inside the bytes; PE_C_UNMAPPED, PE_C_FUNCTION_LINK, PE_C_FUNCTION_CYCLE of the
+ * links; PE_C_UNMAPPED, PE_C_SHORT, PE_C_UNWIND_VERSION of the record. */
 uint32_t pe_c_unwind_record(const uint8_t *bytes, size_t length, const pe_c_image_info *image,
-                            const pe_c_section *sections, size_t count, uint32_t unwind,
-                            pe_c_record *out) PE_C_RESULT(3, 7);
-
-/* Returns the unwind record at an RVA. An even unwind RVA of a function is that of its record, so where pe_c_function_table
- * returned a table, this is the record that pe_c_unwind_record returns, in less time: the exception directory and its table
- * are not read again. An odd unwind RVA is a link, which only pe_c_unwind_record follows.
- * Errors: PE_C_UNMAPPED; PE_C_SHORT, PE_C_UNWIND_VERSION of the record. */
-uint32_t pe_c_unwind_record_at(const uint8_t *bytes, size_t length, const pe_c_image_info *image,
-                               const pe_c_section *sections, size_t count, uint32_t rva, pe_c_record *out) PE_C_RESULT(3, 7);
+                            const pe_c_section *sections, size_t count, const pe_c_range *table, uint32_t unwind,
+                            pe_c_record *out) PE_C_RESULT(3, 6, 8);
 
 /* Returns the next code of a record, in the order in which they are undone: the last instruction of the prolog first.
  * Errors: PE_C_SHORT where the walk is not inside the bytes, or a code is truncated; PE_C_UNWIND_CODE for an invalid
@@ -697,13 +691,13 @@ uint32_t pe_c_next_scope(const uint8_t *bytes, size_t length, pe_c_range *walk, 
 uint32_t pe_c_plan_from(uint32_t unwind, pe_c_plan *out) PE_C_NOT_NULL(2);
 
 /* Returns the next record of a plan: that of the function, then that of the function to which it is chained, and so on.
- * PE_C_NOTHING after the root.
+ * PE_C_NOTHING after the root. The table is the one that the function is from: pass the same one at each step.
  * Errors: those of pe_c_unwind_record for the next record; PE_C_FUNCTION_CYCLE if, and only if, the chain of a plan that
  * pe_c_plan_from started never ends. Records may be returned before that error. Such a plan is over after at most 3 * 2^32
  * records; a plan with other fields may never be over. */
 uint32_t pe_c_next_record(const uint8_t *bytes, size_t length, const pe_c_image_info *image,
-                          const pe_c_section *sections, size_t count, pe_c_plan *plan,
-                          pe_c_record *out) PE_C_RESULT(3, 6, 7);
+                          const pe_c_section *sections, size_t count, const pe_c_range *table, pe_c_plan *plan,
+                          pe_c_record *out) PE_C_RESULT(3, 6, 7, 8);
 
 /* Finds the registers of a function's caller, from those inside the function, in its prolog and epilogs too, and writes them
  * over those of the frame. It undoes the records of frame->function, up to the root of their chain, or runs what is left of

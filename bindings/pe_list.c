@@ -493,7 +493,7 @@ static int show_unwinding(image *it, uint32_t rva)
     pe_c_plan plan = PE_C_EMPTY;
     pe_c_plan_from(function.unwind, &plan);
     pe_c_record record = PE_C_EMPTY;
-    while ((result = pe_c_next_record(IMAGE(it), &plan, &record)) == PE_C_DONE) {
+    while ((result = pe_c_next_record(IMAGE(it), &table, &plan, &record)) == PE_C_DONE) {
         result = show_record(it, &record);
         if (result != PE_C_NOTHING)
             break;

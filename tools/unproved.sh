@@ -82,3 +82,37 @@ END
   TMPDIR=$room "$unproved_rt" try --steps 1 -- "$@" 2>&1 </dev/null || :
   [ -e "$room/raised" ] && [ -e "$room/met_sanitizer" ] && [ -e "$room/program" ]
 }
+
+# Makes clang of ROOM/kit, which link_kit has made, keep the code that it compiles last, as ROOM/kept.bc.
+keep_code() {
+  local room=$1 own=$1/kit
+  ln -s -- "$linked_kit/toolchain/bin" "$room/compilers"
+  rm -f -- "$own/toolchain/bin/clang"
+  cat >"$own/toolchain/bin/clang" <<'END'
+#!/bin/sh
+room=${0%/kit/toolchain/bin/clang}
+for word in "$@"; do
+  case $word in *.bc) cp "$word" "$room/kept.bc" ;; esac
+done
+exec "$room/compilers/clang" "$@"
+END
+  chmod +x -- "$own/toolchain/bin/clang"
+}
+
+# Makes the library for C of the code that `rt try --test` compiled in pe_c, whose tests call each of its calls:
+#
+#     archive_of_calls ROOM FILE
+#
+# It is compiled for plain x86-64 at LLVM's -O2 and not proved. It stops at a number that overflows and at an index out of
+# range.
+archive_of_calls() {
+  local room=$1 file=$2 clang=$linked_kit/toolchain/bin/clang
+  local flags=(--target=x86_64-unknown-linux-gnu -march=x86-64 -x ir)
+  "$clang" "${flags[@]}" -S -emit-llvm -O0 "$room/kept.bc" -o "$room/calls.ll" 2>/dev/null
+  # The calls are inside the program of the tests, under their names of Rattle.
+  sed -i -E -e 's/@"pe_c::[a-z0-9_:]+::(pe_c_[a-z0-9_]+)"/@\1/g' -e 's/^define internal (.*@pe_c_[a-z0-9_]+\()/define \1/' \
+    -e 's/^define i32 @main\(/define internal i32 @main(/' "$room/calls.ll"
+  "$clang" "${flags[@]}" -c -O2 -fPIC -ffunction-sections -fdata-sections "$room/calls.ll" -o "$room/calls.o"
+  rm -f -- "$file"
+  "$linked_kit/toolchain/bin/llvm-ar" rcs "$file" "$room/calls.o"
+}

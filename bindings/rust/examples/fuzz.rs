@@ -189,13 +189,13 @@ fn read_by_lies(bytes: &[u8], random: &mut Random, seen: &mut Seen) {
         }};
     }
     macro_rules! walk_of_image {
-        ($name:ident($walk:expr), $out:ident) => {{
+        ($name:ident($($more:expr,)? $walk:expr), $out:ident) => {{
             let mut walk = $walk;
             for _ in 0..MOST {
                 let mut out = sys::$out::default();
                 let (first, count) = (sections.as_ptr(), sections.len());
                 // SAFETY: as above.
-                if unsafe { sys::$name(start, length, &image, first, count, &mut walk, &mut out) } != 0 {
+                if unsafe { sys::$name(start, length, &image, first, count, $($more,)? &mut walk, &mut out) } != 0 {
                     break;
                 }
             }
@@ -228,8 +228,7 @@ fn read_by_lies(bytes: &[u8], random: &mut Random, seen: &mut Seen) {
     call_of_image!(pe_c_debug_pogo(), Pogo);
     call_of_image!(pe_c_function_table(), Range);
     call_of_image!(pe_c_arm64_table(), Range);
-    call_of_image!(pe_c_unwind_record(directory.virtual_address ^ (few & 1)), Record);
-    call_of_image!(pe_c_unwind_record_at(directory.virtual_address ^ (few & 1)), Record);
+    call_of_image!(pe_c_unwind_record(&range, directory.virtual_address ^ (few & 1)), Record);
     call_of_image!(pe_c_find_arm64_function(&range, few), Arm64Function);
     call_of_image!(
         pe_c_arm64_unwind_record(&sys::Arm64Function { begin: few, unwind: directory.virtual_address & !3 }),
@@ -328,10 +327,10 @@ fn read_by_lies(bytes: &[u8], random: &mut Random, seen: &mut Seen) {
         limit: range.length,
         ..sys::Plan::default()
     };
-    walk_of_image!(pe_c_next_record(plan), Record);
+    walk_of_image!(pe_c_next_record(&range, plan), Record);
     let mut started = sys::Plan::default();
     unsafe { sys::pe_c_plan_from(few, &mut started) };
-    walk_of_image!(pe_c_next_record(started), Record);
+    walk_of_image!(pe_c_next_record(&range, started), Record);
     let mut frame = sys::Frame {
         registers: sys::Registers { general: [random.edge(number); 16], xmm: [index; 32], rip: few.into() },
         stack_start: random.edge(number),

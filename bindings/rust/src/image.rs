@@ -339,8 +339,8 @@ type Call<T> = unsafe extern "C" fn(*const u8, usize, *const ImageInfo, *const S
 /// A call that takes an image and one more argument.
 type CallWith<M, T> = unsafe extern "C" fn(*const u8, usize, *const ImageInfo, *const Section, usize, M, *mut T) -> u32;
 
-/// A call that takes an image, a record and a number.
-type Look<M, N, T> =
+/// A call that takes an image, a record and one more argument.
+pub(crate) type Look<M, N, T> =
     unsafe extern "C" fn(*const u8, usize, *const ImageInfo, *const Section, usize, *const M, N, *mut T) -> u32;
 
 // SAFETY of all calls here: they are the declarations of `sys`, which match the archive. Each pointer and length are
@@ -387,7 +387,7 @@ impl<'a> Image<'a> {
     /// - [`Error::SHORT`] where they are truncated.
     pub fn parse_as(bytes: &'a [u8], mode: Mode, layout: Layout) -> Result<Self, Error> {
         // SAFETY: it takes no arguments. The call is here so that no program links with an archive of another ABI.
-        unsafe { sys::pe_c_abi_2() };
+        unsafe { sys::pe_c_abi_3() };
         let mut info = ImageInfo::default();
         let way = number_of(mode, layout);
         // SAFETY: as above.
@@ -475,14 +475,29 @@ impl<'a> Image<'a> {
         self.call_with(call, more)
     }
 
-    /// Makes a call that takes a record and a number too.
-    pub(crate) fn look<M, N, T: Default>(&self, call: Look<M, N, T>, more: &M, n: N) -> Result<Option<T>, Error> {
+    /// Makes a call that takes a record, and a number or a pointer to what the caller lends for the call.
+    fn look_with<M, N, T: Default>(&self, call: Look<M, N, T>, more: &M, last: N) -> Result<Option<T>, Error> {
         let mut out = T::default();
         let (bytes, sections) = (self.bytes, &self.sections);
         let (first, count) = (sections.as_ptr(), sections.len());
-        // SAFETY: as above, and `more` is lent for the call.
-        let number = unsafe { call(bytes.as_ptr(), bytes.len(), &self.info, first, count, more, n, &mut out) };
+        // SAFETY: as above, `more` is lent for the call, and `last` is a number, or comes from a reference of `step_by`.
+        let number = unsafe { call(bytes.as_ptr(), bytes.len(), &self.info, first, count, more, last, &mut out) };
         returned(number, out)
+    }
+
+    /// Makes a call that takes a record and a number too.
+    pub(crate) fn look<M, N: Into<u64>, T: Default>(&self, call: Look<M, N, T>, more: &M, n: N) -> Result<Option<T>, Error> {
+        self.look_with(call, more, n)
+    }
+
+    /// Makes a call that moves a walk, by a record.
+    pub(crate) fn step_by<M, W, T: Default>(
+        &self,
+        call: Look<M, *mut W, T>,
+        more: &M,
+        walk: &mut W,
+    ) -> Result<Option<T>, Error> {
+        self.look_with(call, more, walk)
     }
 
     /// Makes a step of a stack walk, and returns its number.

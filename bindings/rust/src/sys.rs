@@ -983,7 +983,7 @@ macro_rules! calls_of_bytes {
 
 extern "C" {
     /// Returns the number of the archive's ABI, which its name has too: a program does not link with an archive of another.
-    pub fn pe_c_abi_2() -> u32;
+    pub fn pe_c_abi_3() -> u32;
     /// Writes the text of a result to the start of the array, truncated at its end. Returns the length of the whole text.
     pub fn pe_c_text(number: u32, room: *mut u8, length: usize) -> usize;
     /// Writes the section headers to the start of an array.
@@ -1131,11 +1131,9 @@ calls_of_an_image! {
     /// Returns the range of the x64 function table.
     pe_c_function_table() -> Range;
     /// Returns the x64 unwind record of an unwind RVA.
-    pe_c_unwind_record(unwind: u32) -> Record;
-    /// Returns the x64 unwind record at an RVA, without links.
-    pe_c_unwind_record_at(rva: u32) -> Record;
+    pe_c_unwind_record(table: *const Range, unwind: u32) -> Record;
     /// Returns the next record of a plan.
-    pe_c_next_record(plan: *mut Plan) -> Record;
+    pe_c_next_record(table: *const Range, plan: *mut Plan) -> Record;
     /// Returns the range of the ARM64 function table.
     pe_c_arm64_table() -> Range;
     /// Returns the ARM64 function that covers an RVA.

@@ -1,6 +1,6 @@
 //! What all walks share: the call of a step, and that a walk is over after its end or an error.
 
-use crate::image::{returned, Error, Image};
+use crate::image::{returned, Error, Image, Look as ImageLook};
 
 /// A call that takes the bytes, a record and a number, and returns a record.
 pub(crate) type Look<M, N, T> = unsafe extern "C" fn(*const u8, usize, *const M, N, *mut T) -> u32;
@@ -108,6 +108,16 @@ impl<'i, 'a, W> ImageWalk<'i, 'a, W> {
             return None;
         }
         let item = self.image.step(call, &mut self.walk).transpose();
+        self.is_over = !matches!(item, Some(Ok(_)));
+        item
+    }
+
+    /// The next item, by a call that takes a record too.
+    pub fn step_by<M, T: Default>(&mut self, call: ImageLook<M, *mut W, T>, more: &M) -> Option<Result<T, Error>> {
+        if self.is_over {
+            return None;
+        }
+        let item = self.image.step_by(call, more, &mut self.walk).transpose();
         self.is_over = !matches!(item, Some(Ok(_)));
         item
     }

@@ -284,9 +284,7 @@ impl<'i, 'a> Functions<'i, 'a> {
     ///
     /// The table was checked by [`Image::functions`]: its errors come there.
     pub fn record(&self, function: Function) -> Result<UnwindRecord<'a>, Error> {
-        // An even unwind RVA is no link, so the table need not be read again.
-        let call = if function.unwind % 2 == 0 { sys::pe_c_unwind_record_at } else { sys::pe_c_unwind_record };
-        let raw = self.image.ask_with(call, function.unwind)?.ok_or(Error::UNMAPPED)?;
+        let raw = self.image.look(sys::pe_c_unwind_record, &self.table, function.unwind)?.ok_or(Error::UNMAPPED)?;
         Ok(UnwindRecord { raw, bytes: self.image.bytes() })
     }
 
@@ -304,7 +302,7 @@ impl<'i, 'a> Functions<'i, 'a> {
     /// [`Error::FUNCTION_CYCLE`] is returned if, and only if, the chain never ends. Records may be returned before it. The
     /// errors of the table come from [`Image::functions`].
     pub fn plan(&self, function: Function) -> Plan<'i, 'a> {
-        Plan(ImageWalk::new(self.image, plan_from(function.unwind)))
+        Plan { table: self.table, walk: ImageWalk::new(self.image, plan_from(function.unwind)) }
     }
 }
 
@@ -317,14 +315,17 @@ fn plan_from(unwind: u32) -> sys::Plan {
 
 /// The records of a function, up to the root of its chain. [`Functions::plan`] says which errors an item can be.
 #[derive(Clone, Debug)]
-pub struct Plan<'i, 'a>(ImageWalk<'i, 'a, sys::Plan>);
+pub struct Plan<'i, 'a> {
+    table: sys::Range,
+    walk: ImageWalk<'i, 'a, sys::Plan>,
+}
 
 impl<'a> Iterator for Plan<'_, 'a> {
     type Item = Result<UnwindRecord<'a>, Error>;
 
     fn next(&mut self) -> Option<Self::Item> {
-        let bytes = self.0.image.bytes();
-        Some(self.0.step(sys::pe_c_next_record)?.map(|raw| UnwindRecord { raw, bytes }))
+        let bytes = self.walk.image.bytes();
+        Some(self.walk.step_by(sys::pe_c_next_record, &self.table)?.map(|raw| UnwindRecord { raw, bytes }))
     }
 }
 

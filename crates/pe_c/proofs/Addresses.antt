@@ -4,14 +4,13 @@ use Rattle.std.specs.Prelude.{if◌then◌else◌, IfSome}
 use Rattle.pe_core.proofs.NumberBytes.{le-zero, le-cons}
 use Rattle.pe_core.specs.Bytes.{AreBytes, le}
 use Rattle.pe_core.specs.Refusals.{Refusal, outcome, ◌>>=◌}
-use Rattle.pe_core.specs.declared.section_table.SectionTable.{SectionTable}
 use Rattle.pe_unwind.proofs.Offsets.{given}
 use Rattle.pe_unwind.specs.FunctionTable.{function_at}
+use Rattle.pe_unwind.specs.Links.{Table}
 use Rattle.pe_unwind.specs.UnwindRecord.{Exception, Termination, UnwindInfoView, Ending, ending_at, unwind_tests, unwind_record, after_codes, flags_at, is_chained, handles_exceptions, handles_termination}
 use Rattle.pe_unwind.specs.declared.function_table.RuntimeFunction.{RuntimeFunction}
 use Rattle.pe_c.proofs.Ways.{GoesTo}
 use Rattle.pe_c.specs.Unwinding.{or_no_function, flat_record, flat_record_at}
-use Rattle.pe_c.specs.declared.image.Image.{Image}
 use Rattle.pe_c.specs.declared.unwinding.UnwindRecord.{UnwindRecord}
 use Rattle.pe_c.proofs.Rings.{EndsBelow}
 
@@ -73,5 +72,5 @@ by_offset : (b : List ℕ) (r : UnwindRecord) (offset : Result ℕ Refusal) → 
 by_offset b r (Err refusal) small f = absurd cc
 by_offset b r (Ok p) small f = by_record b p r (outcome (unwind_tests b p) (unwind_record b p)) small refl f
 
-pub goes_below : (b : List ℕ) (image : Image) (s : List SectionTable) (mode : ℕ) → AreBytes b → EndsBelow 4294967296 (GoesTo b image s mode)
-goes_below b image s mode small u v g = subst (λ (x : ℕ). x < 4294967296) g.3 (by_offset b g.0 g.1.0 small g.1.2)
+pub goes_below : (b : List ℕ) (links : Result Table Refusal) → AreBytes b → EndsBelow 4294967296 (GoesTo b links)
+goes_below b links small u v g = subst (λ (x : ℕ). x < 4294967296) g.3 (by_offset b g.0 g.1.0 small g.1.2)

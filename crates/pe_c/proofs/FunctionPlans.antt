@@ -7,10 +7,7 @@ use Rattle.std.proofs.lemmas.Bool.Decides.{nat_tests}
 use Rattle.std.proofs.lemmas.List.{append_assoc, append-nil}
 use Rattle.pe_core.specs.Refusals.{Refusal, Memory, FunctionCycle, outcome, ◌>>=◌}
 use Rattle.pe_core.specs.SectionMap.{mapped}
-use Rattle.pe_core.specs.declared.section_table.SectionTable.{SectionTable}
-use Rattle.pe_unwind.proofs.ExceptionBytes.{in_directory}
-use Rattle.pe_unwind.specs.ExceptionTable.{ExceptionView}
-use Rattle.pe_unwind.specs.Links.{Table, links_of}
+use Rattle.pe_unwind.specs.Links.{Table}
 use Rattle.pe_unwind.specs.UnwindRecord.{UnwindInfoView, unwind_tests, unwind_record}
 use Rattle.pe_unwind.specs.Unwinding.{FindsRecord, Unwinds, record_at_offset, record_at_address}
 use Rattle.pe_unwind.specs.declared.function_table.RuntimeFunction.{RuntimeFunction}
@@ -20,11 +17,8 @@ use Rattle.pe_plan.proofs.Marks.{Marked, starts, keeps, moves, comes_again, come
 use Rattle.pe_plan.proofs.OnePlan.{one_plan}
 use Rattle.pe_plan.proofs.RecordLaw.{RecordLaw}
 use Rattle.pe_plan.proofs.Walks.{counted}
-use Rattle.pe_c.specs.Modes.{options_of}
 use Rattle.pe_c.specs.Plans.{HandsOutAfter, ReturnsInTurn, StepsIf, StepsPlan, ReportsUnwindRecord, ended, ending_of, plan_result, goes_on, leaves, plan_from}
-use Rattle.pe_c.specs.Unwinding.{FindsOffsetIn, FollowsToRecord, image_exceptions, flat_record, flat_record_at, is_some_number, or_no_function}
-use Rattle.pe_c.specs.Images.{exception_directory}
-use Rattle.pe_c.specs.declared.image.Image.{Image}
+use Rattle.pe_c.specs.Unwinding.{FollowsToRecord, flat_record, flat_record_at, is_some_number, or_no_function}
 use Rattle.pe_c.specs.declared.plan.Plan.{Plan}
 use Rattle.pe_c.specs.declared.unwinding.UnwindRecord.{UnwindRecord}
 use Rattle.pe_c.proofs.PlanSteps.{over_gives}
@@ -63,16 +57,8 @@ found_at t b u offset next f is = record {
   reports = subst (λ (x : Result UnwindRecord Refusal). Reports b x (f.0 >>= record_at_address t b)) (sym (is ∙ ap (λ (y : Result ℕ Refusal). y >>= flat_record_at b) f.2)) (reports_at_end t b f.0);
 }
 
--- the image has this table, with these links
-record Has (t : Table) (b : List ℕ) (image : Image) (s : List SectionTable) (mode : ℕ) : Type 0 where
-  view : ExceptionView
-  there : image_exceptions b image s mode ≡ Ok view
-  links : links_of view s (options_of mode) ≡ t
-
-found : (t : Table) (b : List ℕ) (image : Image) (s : List SectionTable) (mode u : ℕ) (next : Result UnwindRecord Refusal) → Has t b image s mode → FollowsToRecord b image s mode u next → Found t b u next
-found t b image s mode u next h f =
-    let finds : FindsOffsetIn (Ok h.view) s mode u f.0 = subst (λ (x : Result ExceptionView Refusal). FindsOffsetIn x s mode u f.0) h.there f.1 in
-    found_at t b u f.0 next (subst (λ (x : Table). FindsRecord x u f.0) h.links finds) f.2
+found : (t : Table) (b : List ℕ) (u : ℕ) (next : Result UnwindRecord Refusal) → FollowsToRecord b (Ok t) u next → Found t b u next
+found t b u next f = found_at t b u f.0 next f.1 f.2
 
 -- ---- one step
 
@@ -166,75 +152,62 @@ by_answer law t b f reported p w (Err e) (Ok i) u reports = absurd reports
 by_answer law t b f reported p w (Err e) (Err k) u reports =
     subst (λ (x : Refusal). Counts t b f (Err x)) reports (comes_to_refusal law t b f w.current w.records k p.saved w.way u)
 
-by_step : (law : RecordLaw) (t : Table) (b : List ℕ) (image : Image) (s : List SectionTable) (mode : ℕ) (f : RuntimeFunction) (reported : List UnwindRecord) (p q : Plan) (next : Result UnwindRecord Refusal) (answer : Result (Option UnwindRecord) Refusal) →
-    Has t b image s mode → Stands t b f reported p → FollowsToRecord b image s mode p.unwind next → answer ≡ plan_result p next → q ≡ leaves p next → Steps t b f reported answer q
-by_step law t b image s mode f reported p q next answer h w follows a l =
-    let x : Found t b p.unwind next = found t b image s mode p.unwind next h follows in
+by_step : (law : RecordLaw) (t : Table) (b : List ℕ) (f : RuntimeFunction) (reported : List UnwindRecord) (p q : Plan) (next : Result UnwindRecord Refusal) (answer : Result (Option UnwindRecord) Refusal) →
+    Stands t b f reported p → FollowsToRecord b (Ok t) p.unwind next → answer ≡ plan_result p next → q ≡ leaves p next → Steps t b f reported answer q
+by_step law t b f reported p q next answer w follows a l =
+    let x : Found t b p.unwind next = found t b p.unwind next follows in
     let u : Unwinds t b (w.current).unwind_info_address x.answer = subst (λ (y : ℕ). Unwinds t b y x.answer) (sym w.here) x.unwinds in
     rw (a, l) (by_answer law t b f reported p w next x.answer u x.reports)
 
-by_test : (law : RecordLaw) (test : Bool) (t : Table) (b : List ℕ) (image : Image) (s : List SectionTable) (mode : ℕ) (f : RuntimeFunction) (reported : List UnwindRecord) (p q : Plan) (answer : Result (Option UnwindRecord) Refusal) →
-    test ≡ true → Has t b image s mode → Stands t b f reported p → StepsIf test b image s mode p answer q → Steps t b f reported answer q
-by_test law false t b image s mode f reported p q answer e h w step = absurd cc
-by_test law true t b image s mode f reported p q answer e h w step = by_step law t b image s mode f reported p q step.0 answer h w step.1 step.2 step.3
+by_test : (law : RecordLaw) (test : Bool) (t : Table) (b : List ℕ) (f : RuntimeFunction) (reported : List UnwindRecord) (p q : Plan) (answer : Result (Option UnwindRecord) Refusal) →
+    test ≡ true → Stands t b f reported p → StepsIf test b (Ok t) p answer q → Steps t b f reported answer q
+by_test law false t b f reported p q answer e w step = absurd cc
+by_test law true t b f reported p q answer e w step = by_step law t b f reported p q step.0 answer w step.1 step.2 step.3
 
-steps : (law : RecordLaw) (t : Table) (b : List ℕ) (image : Image) (s : List SectionTable) (mode : ℕ) (f : RuntimeFunction) (reported : List UnwindRecord) (p q : Plan) (answer : Result (Option UnwindRecord) Refusal) →
-    Has t b image s mode → GoesOn t b f reported p → StepsPlan b image s mode p answer q → Steps t b f reported answer q
-steps law t b image s mode f reported p q answer h on step =
+steps : (law : RecordLaw) (t : Table) (b : List ℕ) (f : RuntimeFunction) (reported : List UnwindRecord) (p q : Plan) (answer : Result (Option UnwindRecord) Refusal) →
+    GoesOn t b f reported p → StepsPlan b (Ok t) p answer q → Steps t b f reported answer q
+steps law t b f reported p q answer on step =
     ⊎_elim
     (λ (w : Stands t b f reported p).
     let over : (p.is_over == 0) ≡ true = (let none : p.is_over ≡ 0 = w.not_over in grind (arith, nat_tests)) in
-    by_test law (p.is_over == 0) t b image s mode f reported p q answer over h w step)
+    by_test law (p.is_over == 0) t b f reported p q answer over w step)
     (λ (w : (p.is_over ≡ 1) × Reported t b f reported).
-    subst (λ (x : Result (Option UnwindRecord) Refusal). Steps t b f reported x q) (sym (over_gives b image s mode p q answer w.0 step)) w.1)
+    subst (λ (x : Result (Option UnwindRecord) Refusal). Steps t b f reported x q) (sym (over_gives b (Ok t) p q answer w.0 step)) w.1)
     on
 
 -- ---- all steps
 
-run : (law : RecordLaw) (t : Table) (b : List ℕ) (image : Image) (s : List SectionTable) (mode : ℕ) (f : RuntimeFunction) (reported rs : List UnwindRecord) (p q : Plan) →
-    Has t b image s mode → GoesOn t b f reported p → ReturnsInTurn b image s mode p rs q → GoesOn t b f (reported ++ rs) q
-run law t b image s mode f reported [] p q h on g =
+run : (law : RecordLaw) (t : Table) (b : List ℕ) (f : RuntimeFunction) (reported rs : List UnwindRecord) (p q : Plan) →
+    GoesOn t b f reported p → ReturnsInTurn b (Ok t) p rs q → GoesOn t b f (reported ++ rs) q
+run law t b f reported [] p q on g =
     subst (λ (x : List UnwindRecord). GoesOn t b f x q) (sym (append-nil reported)) (subst (λ (x : Plan). GoesOn t b f reported x) g on)
-run law t b image s mode f reported (r ∷ rs) p q h on g =
+run law t b f reported (r ∷ rs) p q on g =
     subst (λ (x : List UnwindRecord). GoesOn t b f x q) (append_assoc reported (r ∷ []) rs)
-    (run law t b image s mode f (reported ++ r ∷ []) rs g.0 q h (steps law t b image s mode f reported p g.0 (Ok (Some r)) h on g.1) g.2)
+    (run law t b f (reported ++ r ∷ []) rs g.0 q (steps law t b f reported p g.0 (Ok (Some r)) on g.1) g.2)
 
-whole : (law : RecordLaw) (t : Table) (b : List ℕ) (image : Image) (s : List SectionTable) (mode : ℕ) (f : RuntimeFunction) (given : List UnwindRecord) (answer : Result (Option UnwindRecord) Refusal) →
-    Has t b image s mode → (a : HandsOutAfter b image s mode f.unwind_info_address given answer) → Steps t b f given answer a.1
-whole law t b image s mode f given answer h a =
+whole : (law : RecordLaw) (t : Table) (b : List ℕ) (f : RuntimeFunction) (given : List UnwindRecord) (answer : Result (Option UnwindRecord) Refusal) →
+    (a : HandsOutAfter b (Ok t) f.unwind_info_address given answer) → Steps t b f given answer a.1
+whole law t b f given answer a =
     let start : Stands t b f [] (plan_from f.unwind_info_address) = record { records = []; reports = tt; current = f; way = starts t b f; here = refl; not_over = refl } in
-    steps law t b image s mode f given a.0 a.1 answer h (run law t b image s mode f [] given (plan_from f.unwind_info_address) a.0 h (inl start) a.2) a.3
+    steps law t b f given a.0 a.1 answer (run law t b f [] given (plan_from f.unwind_info_address) a.0 (inl start) a.2) a.3
 
 -- ---- what the steps answer
 
-there : (b : List ℕ) (image : Image) (s : List SectionTable) (mode : ℕ) (v : ExceptionView) → image_exceptions b image s mode ≡ Ok v → Has (links_of v s (options_of mode)) b image s mode
-there b image s mode v e = record { view = v; there = e; links = refl }
-
--- plans are of the bytes that the exception data are of
-of_bytes : (b : List ℕ) (image : Image) (s : List SectionTable) (mode : ℕ) (v : ExceptionView) → image_exceptions b image s mode ≡ Ok v → v.content ≡ b
-of_bytes b image s mode v e = (in_directory 12 b (exception_directory image) s image.file_alignment (options_of mode) v e).0
-
-content_is : (b : List ℕ) (image : Image) (s : List SectionTable) (mode : ℕ) (v : ExceptionView) (f : RuntimeFunction) (x : Result (List UnwindInfoView) Refusal) → image_exceptions b image s mode ≡ Ok v →
-    PlansFrom (links_of v s (options_of mode)) b f x → PlansFrom (links_of v s (options_of mode)) v.content f x
-content_is b image s mode v f x e p = subst (λ (c : List ℕ). PlansFrom (links_of v s (options_of mode)) c f x) (sym (of_bytes b image s mode v e)) p
-
-pub records_are_reported : (law : RecordLaw) (b : List ℕ) (image : Image) (s : List SectionTable) (mode : ℕ) (v : ExceptionView) (f : RuntimeFunction) (given : List UnwindRecord) →
-    image_exceptions b image s mode ≡ Ok v → HandsOutAfter b image s mode f.unwind_info_address given (Ok None) →
-    (is : List UnwindInfoView) × PlansFrom (links_of v s (options_of mode)) v.content f (Ok is) × AllZip (ReportsUnwindRecord b) given is
-records_are_reported law b image s mode v f given e a =
-    let all : Reported (links_of v s (options_of mode)) b f given = whole law (links_of v s (options_of mode)) b image s mode f given (Ok None) (there b image s mode v e) a in
-    (all.records, content_is b image s mode v f (Ok all.records) e all.chain, all.reports)
+pub records_are_reported : (law : RecordLaw) (b : List ℕ) (t : Table) (f : RuntimeFunction) (given : List UnwindRecord) →
+    HandsOutAfter b (Ok t) f.unwind_info_address given (Ok None) →
+    (is : List UnwindInfoView) × PlansFrom t b f (Ok is) × AllZip (ReportsUnwindRecord b) given is
+records_are_reported law b t f given a =
+    let all : Reported t b f given = whole law t b f given (Ok None) a in
+    (all.records, all.chain, all.reports)
 
 no_memory : (t : Table) (b : List ℕ) (f : RuntimeFunction) (k : Refusal) → Counts t b f (Err k) → k ≢ Memory
 no_memory t b f k c e = absurd (subst (λ (x : Refusal). Counts t b f (Err x)) e c)
 
-pub refusals_are_of_plans : (law : RecordLaw) (b : List ℕ) (image : Image) (s : List SectionTable) (mode : ℕ) (v : ExceptionView) (f : RuntimeFunction) (given : List UnwindRecord) (refusal : Refusal) →
-    image_exceptions b image s mode ≡ Ok v → HandsOutAfter b image s mode f.unwind_info_address given (Err refusal) →
-    (refusal ≢ Memory) × PlansFrom (links_of v s (options_of mode)) v.content f (Err refusal)
-refusals_are_of_plans law b image s mode v f given refusal e a =
-    let t = links_of v s (options_of mode) in
-    let c : Counts t b f (Err refusal) = whole law t b image s mode f given (Err refusal) (there b image s mode v e) a in
-    (no_memory t b f refusal c, content_is b image s mode v f (Err refusal) e (counted t b f refusal c))
+pub refusals_are_of_plans : (law : RecordLaw) (b : List ℕ) (t : Table) (f : RuntimeFunction) (given : List UnwindRecord) (refusal : Refusal) →
+    HandsOutAfter b (Ok t) f.unwind_info_address given (Err refusal) → (refusal ≢ Memory) × PlansFrom t b f (Err refusal)
+refusals_are_of_plans law b t f given refusal a =
+    let c : Counts t b f (Err refusal) = whole law t b f given (Err refusal) a in
+    (no_memory t b f refusal c, counted t b f refusal c)
 
 ends_so : (law : RecordLaw) (t : Table) (b : List ℕ) (f : RuntimeFunction) (given : List UnwindRecord) (q : Plan) (plan : Result (List UnwindInfoView) Refusal) (answer : Result (Option UnwindRecord) Refusal) →
     PlansFrom t b f plan → plan ≢ Err Memory → Steps t b f given answer q → (answer ≡ ending_of plan) ⊎ ((r : UnwindRecord) × (answer ≡ Ok (Some r)))
@@ -243,26 +216,22 @@ ends_so law t b f given q plan (Ok (Some r)) p known on = inr (r, refl)
 ends_so law t b f given q plan (Err k) p known c =
     inl (ap ending_of (one_plan law t b f (Err k) plan (counted t b f k c) p (λ e. no_memory t b f k c (let same : k ≡ Memory = cc in same)) known))
 
-pub plans_end_so : (law : RecordLaw) (b : List ℕ) (image : Image) (s : List SectionTable) (mode : ℕ) (v : ExceptionView) (f : RuntimeFunction) (plan : Result (List UnwindInfoView) Refusal) (given : List UnwindRecord) (answer : Result (Option UnwindRecord) Refusal) →
-    image_exceptions b image s mode ≡ Ok v → PlansFrom (links_of v s (options_of mode)) v.content f plan → plan ≢ Err Memory →
-    HandsOutAfter b image s mode f.unwind_info_address given answer → (answer ≡ ending_of plan) ⊎ ((r : UnwindRecord) × (answer ≡ Ok (Some r)))
-plans_end_so law b image s mode v f plan given answer e p known a =
-    let t = links_of v s (options_of mode) in
-    ends_so law t b f given a.1 plan answer (subst (λ (c : List ℕ). PlansFrom t c f plan) (of_bytes b image s mode v e) p) known (whole law t b image s mode f given answer (there b image s mode v e) a)
+pub plans_end_so : (law : RecordLaw) (b : List ℕ) (t : Table) (f : RuntimeFunction) (plan : Result (List UnwindInfoView) Refusal) (given : List UnwindRecord) (answer : Result (Option UnwindRecord) Refusal) →
+    PlansFrom t b f plan → plan ≢ Err Memory → HandsOutAfter b (Ok t) f.unwind_info_address given answer →
+    (answer ≡ ending_of plan) ⊎ ((r : UnwindRecord) × (answer ≡ Ok (Some r)))
+plans_end_so law b t f plan given answer p known a = ends_so law t b f given a.1 plan answer p known (whole law t b f given answer a)
 
--- ---- exception data that are refused
+-- ---- a table that is not inside the bytes
 
-first_refused : (b : List ℕ) (image : Image) (s : List SectionTable) (mode u : ℕ) (refusal : Refusal) (q : Plan) (answer : Result (Option UnwindRecord) Refusal) →
-    image_exceptions b image s mode ≡ Err refusal → StepsPlan b image s mode (plan_from u) answer q → answer ≡ Err refusal
-first_refused b image s mode u refusal q answer e step =
+first_refused : (b : List ℕ) (u : ℕ) (refusal : Refusal) (q : Plan) (answer : Result (Option UnwindRecord) Refusal) → StepsPlan b (Err refusal) (plan_from u) answer q → answer ≡ Err refusal
+first_refused b u refusal q answer step =
     let follows = step.1 in
-    let offset : follows.0 ≡ Err refusal = subst (λ (x : Result ExceptionView Refusal). FindsOffsetIn x s mode u follows.0) e follows.1 in
-    let next : step.0 ≡ Err refusal = follows.2 ∙ ap (λ (x : Result ℕ Refusal). x >>= flat_record_at b) offset in
+    let next : step.0 ≡ Err refusal = follows.2 ∙ ap (λ (x : Result ℕ Refusal). x >>= flat_record_at b) follows.1 in
     step.2 ∙ ap (λ (x : Result UnwindRecord Refusal). plan_result (plan_from u) x) next
 
-pub tables_are_refused : (b : List ℕ) (image : Image) (s : List SectionTable) (mode u : ℕ) (refusal : Refusal) (given : List UnwindRecord) (answer : Result (Option UnwindRecord) Refusal) →
-    image_exceptions b image s mode ≡ Err refusal → HandsOutAfter b image s mode u given answer → (given ≡ []) × (answer ≡ Err refusal)
-tables_are_refused b image s mode u refusal [] answer e a =
-    (refl, first_refused b image s mode u refusal a.1 answer e (subst (λ (x : Plan). StepsPlan b image s mode x answer a.1) (sym a.2) a.3))
-tables_are_refused b image s mode u refusal (r ∷ rs) answer e a =
-    absurd (let clash = first_refused b image s mode u refusal a.2.0 (Ok (Some r)) e a.2.1 in cc)
+pub tables_are_refused : (b : List ℕ) (u : ℕ) (refusal : Refusal) (given : List UnwindRecord) (answer : Result (Option UnwindRecord) Refusal) →
+    HandsOutAfter b (Err refusal) u given answer → (given ≡ []) × (answer ≡ Err refusal)
+tables_are_refused b u refusal [] answer a =
+    (refl, first_refused b u refusal a.1 answer (subst (λ (x : Plan). StepsPlan b (Err refusal) x answer a.1) (sym a.2) a.3))
+tables_are_refused b u refusal (r ∷ rs) answer a =
+    absurd (let clash = first_refused b u refusal a.2.0 (Ok (Some r)) a.2.1 in cc)

@@ -24,6 +24,7 @@ pub mod Rings
 pub mod Rooms
 pub mod Runs
 pub mod Steps
+pub mod TableLinks
 pub mod VersionsReported
 pub mod Ways
 pub mod LeafRuns

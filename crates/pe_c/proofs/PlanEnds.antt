@@ -6,14 +6,10 @@ use Rattle.std.proofs.lemmas.Bool.Decides.{nat_tests}
 use Rattle.pe_core.specs.Bytes.{AreBytes}
 use Rattle.pe_core.specs.Refusals.{Refusal, ◌>>=◌}
 use Rattle.pe_core.specs.SectionMap.{mapped}
-use Rattle.pe_core.specs.declared.section_table.SectionTable.{SectionTable}
 use Rattle.pe_unwind.proofs.OneChain.{one_answer}
-use Rattle.pe_unwind.specs.ExceptionTable.{ExceptionView}
-use Rattle.pe_unwind.specs.Links.{links_of}
-use Rattle.pe_c.specs.Modes.{options_of}
+use Rattle.pe_unwind.specs.Links.{Table}
 use Rattle.pe_c.specs.Plans.{plan_from, ended, goes_on, leaves, StepsIf, ReturnsInTurn}
-use Rattle.pe_c.specs.Unwinding.{FindsOffsetIn, FollowsToRecord, image_exceptions, flat_record_at}
-use Rattle.pe_c.specs.declared.image.Image.{Image}
+use Rattle.pe_c.specs.Unwinding.{FindsOffset, FollowsToRecord, flat_record_at}
 use Rattle.pe_c.specs.declared.plan.Plan.{Plan}
 use Rattle.pe_c.specs.declared.unwinding.UnwindRecord.{UnwindRecord}
 use Rattle.pe_c.proofs.Addresses.{goes_below}
@@ -23,24 +19,23 @@ use Rattle.pe_c.proofs.Rings.{HasOneEnd, EndsBelow, same_end, split, Ring, ring_
 
 -- ---- an address has one record
 
-one_offset : (t : Result ExceptionView Refusal) (s : List SectionTable) (mode u : ℕ) (x y : Result ℕ Refusal) → FindsOffsetIn t s mode u x → FindsOffsetIn t s mode u y → x ≡ y
-one_offset (Err refusal) s mode u x y f g = f ∙ sym g
-one_offset (Ok v) s mode u x y f g =
-    let t = links_of v s (options_of mode) in
+one_offset : (links : Result Table Refusal) (u : ℕ) (x y : Result ℕ Refusal) → FindsOffset links u x → FindsOffset links u y → x ≡ y
+one_offset (Err refusal) u x y f g = f ∙ sym g
+one_offset (Ok t) u x y f g =
     let same : f.0 ≡ g.0 = one_answer t u f.0 g.0 f.1 g.1 in
     f.2 ∙ ap (λ (end : Result ℕ Refusal). end >>= λ a. mapped (t.offset a)) same ∙ sym g.2
 
-pub one_record : (b : List ℕ) (image : Image) (s : List SectionTable) (mode u : ℕ) (x y : Result UnwindRecord Refusal) → FollowsToRecord b image s mode u x → FollowsToRecord b image s mode u y → x ≡ y
-one_record b image s mode u x y f g =
-    let same : f.0 ≡ g.0 = one_offset (image_exceptions b image s mode) s mode u f.0 g.0 f.1 g.1 in
+pub one_record : (b : List ℕ) (links : Result Table Refusal) (u : ℕ) (x y : Result UnwindRecord Refusal) → FollowsToRecord b links u x → FollowsToRecord b links u y → x ≡ y
+one_record b links u x y f g =
+    let same : f.0 ≡ g.0 = one_offset links u f.0 g.0 f.1 g.1 in
     f.2 ∙ ap (λ (offset : Result ℕ Refusal). offset >>= flat_record_at b) same ∙ sym g.2
 
 same_inside : (x y : UnwindRecord) → ◌≡◌ {A = Result UnwindRecord Refusal} (Ok x) (Ok y) → x ≡ y
 same_inside x y e = cc
 
-pub goes_once : (b : List ℕ) (image : Image) (s : List SectionTable) (mode : ℕ) → HasOneEnd (GoesTo b image s mode)
-goes_once b image s mode u v w p q =
-    let same : p.0 ≡ q.0 = same_inside p.0 q.0 (one_record b image s mode u (Ok p.0) (Ok q.0) p.1 q.1) in
+pub goes_once : (b : List ℕ) (links : Result Table Refusal) → HasOneEnd (GoesTo b links)
+goes_once b links u v w p q =
+    let same : p.0 ≡ q.0 = same_inside p.0 q.0 (one_record b links u (Ok p.0) (Ok q.0) p.1 q.1) in
     sym p.3 ∙ ap (λ (r : UnwindRecord). r.chained.unwind_info_address) same ∙ q.3
 
 -- ---- where a plan stands after k records
@@ -121,38 +116,38 @@ left goes one small u k p r false false h w g other q e =
 apart_of : (a b : ℕ) → (a == b) ≡ false → a ≢ b
 apart_of a b e same = absurd (grind (arith, nat_tests))
 
-after : (b : List ℕ) (image : Image) (s : List SectionTable) (mode u k : ℕ) (p q : Plan) (next : Result UnwindRecord Refusal) → EndsBelow 4294967296 (GoesTo b image s mode) → u < 4294967296 → At (GoesTo b image s mode) u p k →
-    FollowsToRecord b image s mode p.unwind next → q ≡ leaves p next → (q.is_over ≡ 1) ⊎ At (GoesTo b image s mode) u q (suc k)
-after b image s mode u k p q (Err refusal) small h w f e = inl (ap (λ (x : Plan). x.is_over) e)
-after b image s mode u k p q (Ok given) small h w f e =
-    left (GoesTo b image s mode) (goes_once b image s mode) small u k p given (given.is_chained == 0) (given.chained.unwind_info_address == p.saved) h w
+after : (b : List ℕ) (links : Result Table Refusal) (u k : ℕ) (p q : Plan) (next : Result UnwindRecord Refusal) → EndsBelow 4294967296 (GoesTo b links) → u < 4294967296 → At (GoesTo b links) u p k →
+    FollowsToRecord b links p.unwind next → q ≡ leaves p next → (q.is_over ≡ 1) ⊎ At (GoesTo b links) u q (suc k)
+after b links u k p q (Err refusal) small h w f e = inl (ap (λ (x : Plan). x.is_over) e)
+after b links u k p q (Ok given) small h w f e =
+    left (GoesTo b links) (goes_once b links) small u k p given (given.is_chained == 0) (given.chained.unwind_info_address == p.saved) h w
     (λ root. (given, f, root, refl)) (λ met. apart_of given.chained.unwind_info_address p.saved met) q e
 
-step_at : (test : Bool) (b : List ℕ) (image : Image) (s : List SectionTable) (mode u k : ℕ) (p q : Plan) (r : UnwindRecord) → EndsBelow 4294967296 (GoesTo b image s mode) → u < 4294967296 → At (GoesTo b image s mode) u p k →
-    StepsIf test b image s mode p (Ok (Some r)) q → (q.is_over ≡ 1) ⊎ At (GoesTo b image s mode) u q (suc k)
-step_at false b image s mode u k p q r small h w step = absurd (let e = step.0 in cc)
-step_at true b image s mode u k p q r small h w step = after b image s mode u k p q step.0 small h w step.1 step.3
+step_at : (test : Bool) (b : List ℕ) (links : Result Table Refusal) (u k : ℕ) (p q : Plan) (r : UnwindRecord) → EndsBelow 4294967296 (GoesTo b links) → u < 4294967296 → At (GoesTo b links) u p k →
+    StepsIf test b links p (Ok (Some r)) q → (q.is_over ≡ 1) ⊎ At (GoesTo b links) u q (suc k)
+step_at false b links u k p q r small h w step = absurd (let e = step.0 in cc)
+step_at true b links u k p q r small h w step = after b links u k p q step.0 small h w step.1 step.3
 
-none_after : (b : List ℕ) (image : Image) (s : List SectionTable) (mode : ℕ) (p q : Plan) (rs : List UnwindRecord) → p.is_over ≡ 1 → ReturnsInTurn b image s mode p rs q → length rs ≡ 0
-none_after b image s mode p q [] over g = refl
-none_after b image s mode p q (r ∷ rs) over g = absurd (let e = over_gives b image s mode p g.0 (Ok (Some r)) over g.1 in cc)
+none_after : (b : List ℕ) (links : Result Table Refusal) (p q : Plan) (rs : List UnwindRecord) → p.is_over ≡ 1 → ReturnsInTurn b links p rs q → length rs ≡ 0
+none_after b links p q [] over g = refl
+none_after b links p q (r ∷ rs) over g = absurd (let e = over_gives b links p g.0 (Ok (Some r)) over g.1 in cc)
 
-run : (b : List ℕ) (image : Image) (s : List SectionTable) (mode u k : ℕ) (p q : Plan) (rs : List UnwindRecord) → EndsBelow 4294967296 (GoesTo b image s mode) → u < 4294967296 → At (GoesTo b image s mode) u p k →
-    ReturnsInTurn b image s mode p rs q → k + length rs ≤ 12884901888
-run b image s mode u k p q [] small h w g =
-    omega (arith, w.count, w.early, few (GoesTo b image s mode) (goes_once b image s mode) small u p k h w)
-run b image s mode u k p q (r ∷ rs) small h w g =
+run : (b : List ℕ) (links : Result Table Refusal) (u k : ℕ) (p q : Plan) (rs : List UnwindRecord) → EndsBelow 4294967296 (GoesTo b links) → u < 4294967296 → At (GoesTo b links) u p k →
+    ReturnsInTurn b links p rs q → k + length rs ≤ 12884901888
+run b links u k p q [] small h w g =
+    omega (arith, w.count, w.early, few (GoesTo b links) (goes_once b links) small u p k h w)
+run b links u k p q (r ∷ rs) small h w g =
     ⊎_elim (λ (over : (g.0).is_over ≡ 1).
-    omega (arith, none_after b image s mode g.0 q rs over g.2, w.count, w.early, few (GoesTo b image s mode) (goes_once b image s mode) small u p k h w))
-    (λ (next : At (GoesTo b image s mode) u g.0 (suc k)).
-    let more : suc k + length rs ≤ 12884901888 = run b image s mode u (suc k) g.0 q rs small h next g.2 in
+    omega (arith, none_after b links g.0 q rs over g.2, w.count, w.early, few (GoesTo b links) (goes_once b links) small u p k h w))
+    (λ (next : At (GoesTo b links) u g.0 (suc k)).
+    let more : suc k + length rs ≤ 12884901888 = run b links u (suc k) g.0 q rs small h next g.2 in
     omega (arith, more))
-    (step_at (p.is_over == 0) b image s mode u k p g.0 r small h w g.1)
+    (step_at (p.is_over == 0) b links u k p g.0 r small h w g.1)
 
-pub plans_end_below : (b : List ℕ) (image : Image) (s : List SectionTable) (mode u : ℕ) (rs : List UnwindRecord) (q : Plan) → EndsBelow 4294967296 (GoesTo b image s mode) → u < 4294967296 →
-    ReturnsInTurn b image s mode (plan_from u) rs q → length rs ≤ 12884901888
-plans_end_below b image s mode u rs q small h g =
-    let start : At (GoesTo b image s mode) u (plan_from u) 0 = record {
+pub plans_end_below : (b : List ℕ) (links : Result Table Refusal) (u : ℕ) (rs : List UnwindRecord) (q : Plan) → EndsBelow 4294967296 (GoesTo b links) → u < 4294967296 →
+    ReturnsInTurn b links (plan_from u) rs q → length rs ≤ 12884901888
+plans_end_below b links u rs q small h g =
+    let start : At (GoesTo b links) u (plan_from u) 0 = record {
       before = 0;
       to_saved = refl;
       to_next = refl;
@@ -162,9 +157,9 @@ plans_end_below b image s mode u rs q small h g =
       early = omega arith;
       apart = λ j some most back. absurd (omega (arith, some, most));
     } in
-    let bound : 0 + length rs ≤ 12884901888 = run b image s mode u 0 (plan_from u) q rs small h start g in
+    let bound : 0 + length rs ≤ 12884901888 = run b links u 0 (plan_from u) q rs small h start g in
     omega (arith, bound)
 
-pub plans_end : (b : List ℕ) (image : Image) (s : List SectionTable) (mode u : ℕ) (rs : List UnwindRecord) (q : Plan) → AreBytes b → u < 2 ^ 32 →
-    ReturnsInTurn b image s mode (plan_from u) rs q → length rs ≤ 3 * 2 ^ 32
-plans_end b image s mode u rs q small h g = plans_end_below b image s mode u rs q (goes_below b image s mode small) h g
+pub plans_end : (b : List ℕ) (links : Result Table Refusal) (u : ℕ) (rs : List UnwindRecord) (q : Plan) → AreBytes b → u < 2 ^ 32 →
+    ReturnsInTurn b links (plan_from u) rs q → length rs ≤ 3 * 2 ^ 32
+plans_end b links u rs q small h g = plans_end_below b links u rs q (goes_below b links small) h g

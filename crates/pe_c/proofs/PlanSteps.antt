@@ -3,23 +3,22 @@ use Rattle.std.proofs.Common.{◌≡◌, ℕ, Bool, true, false, List, Option, N
 use Rattle.std.specs.Prelude.{◌==◌}
 use Rattle.std.proofs.lemmas.Bool.Decides.{nat_tests}
 use Rattle.pe_core.specs.Refusals.{Refusal}
-use Rattle.pe_core.specs.declared.section_table.SectionTable.{SectionTable}
+use Rattle.pe_unwind.specs.Links.{Table}
 use Rattle.pe_c.specs.Plans.{plan_result, leaves, StepsIf, StepsPlan}
 use Rattle.pe_c.specs.Unwinding.{FollowsToRecord}
-use Rattle.pe_c.specs.declared.image.Image.{Image}
 use Rattle.pe_c.specs.declared.plan.Plan.{Plan}
 use Rattle.pe_c.specs.declared.unwinding.UnwindRecord.{UnwindRecord}
 
 -- a plan that is over gives nothing
-pub over_gives : (b : List ℕ) (image : Image) (s : List SectionTable) (mode : ℕ) (p q : Plan) (answer : Result (Option UnwindRecord) Refusal) → p.is_over ≡ 1 → StepsPlan b image s mode p answer q → answer ≡ Ok None
-over_gives b image s mode p q answer e step = (rw e at step).0
+pub over_gives : (b : List ℕ) (links : Result Table Refusal) (p q : Plan) (answer : Result (Option UnwindRecord) Refusal) → p.is_over ≡ 1 → StepsPlan b links p answer q → answer ≡ Ok None
+over_gives b links p q answer e step = (rw e at step).0
 
-by_test : (test : Bool) (b : List ℕ) (image : Image) (s : List SectionTable) (mode : ℕ) (old new : Plan) (answer : Result (Option UnwindRecord) Refusal) (next : Result UnwindRecord Refusal) →
-    test ≡ true → FollowsToRecord b image s mode old.unwind next → answer ≡ plan_result old next → new ≡ leaves old next → StepsIf test b image s mode old answer new
-by_test true b image s mode old new answer next e f a n = (next, f, a, n)
-by_test false b image s mode old new answer next e f a n = absurd cc
+by_test : (test : Bool) (b : List ℕ) (links : Result Table Refusal) (old new : Plan) (answer : Result (Option UnwindRecord) Refusal) (next : Result UnwindRecord Refusal) →
+    test ≡ true → FollowsToRecord b links old.unwind next → answer ≡ plan_result old next → new ≡ leaves old next → StepsIf test b links old answer new
+by_test true b links old new answer next e f a n = (next, f, a, n)
+by_test false b links old new answer next e f a n = absurd cc
 
-pub stepped : (b : List ℕ) (image : Image) (s : List SectionTable) (mode : ℕ) (old new : Plan) (answer : Result (Option UnwindRecord) Refusal) (next : Result UnwindRecord Refusal) →
-    old.is_over ≡ 0 → FollowsToRecord b image s mode old.unwind next → answer ≡ plan_result old next → new ≡ leaves old next → StepsPlan b image s mode old answer new
-stepped b image s mode old new answer next e f a n =
-    by_test (old.is_over == 0) b image s mode old new answer next (grind (arith, nat_tests)) f a n
+pub stepped : (b : List ℕ) (links : Result Table Refusal) (old new : Plan) (answer : Result (Option UnwindRecord) Refusal) (next : Result UnwindRecord Refusal) →
+    old.is_over ≡ 0 → FollowsToRecord b links old.unwind next → answer ≡ plan_result old next → new ≡ leaves old next → StepsPlan b links old answer new
+stepped b links old new answer next e f a n =
+    by_test (old.is_over == 0) b links old new answer next (grind (arith, nat_tests)) f a n

@@ -1,15 +1,15 @@
 -- Ways of steps, each from a place to another: those of a plan, from the unwind address of a record to the one it goes on at.
-use Rattle.std.proofs.Common.{◌≡◌, ℕ, zero, suc, ◌+◌, false, List, Ok, refl, sym, subst, arith}
+use Rattle.std.proofs.Common.{◌≡◌, ℕ, zero, suc, ◌+◌, false, List, Result, Ok, refl, sym, subst, arith}
 use Rattle.std.specs.Prelude.{◌==◌}
-use Rattle.pe_core.specs.declared.section_table.SectionTable.{SectionTable}
+use Rattle.pe_core.specs.Refusals.{Refusal}
+use Rattle.pe_unwind.specs.Links.{Table}
 use Rattle.pe_c.specs.Unwinding.{FollowsToRecord}
-use Rattle.pe_c.specs.declared.image.Image.{Image}
 use Rattle.pe_c.specs.declared.unwinding.UnwindRecord.{UnwindRecord}
 
 -- the record of an address goes on at another
-abbrev pub GoesTo : List ℕ → Image → List SectionTable → ℕ → ℕ → ℕ → Type 0
-GoesTo b image sections mode address next =
-    (r : UnwindRecord) × FollowsToRecord b image sections mode address (Ok r) × (r.is_chained == 0 ≡ false) × (r.chained.unwind_info_address ≡ next)
+abbrev pub GoesTo : List ℕ → Result Table Refusal → ℕ → ℕ → Type 0
+GoesTo b links address next =
+    (r : UnwindRecord) × FollowsToRecord b links address (Ok r) × (r.is_chained == 0 ≡ false) × (r.chained.unwind_info_address ≡ next)
 
 -- so many steps lead from one to the other
 abbrev pub LeadsIn : (ℕ → ℕ → Type 0) → ℕ → ℕ → ℕ → Type 0

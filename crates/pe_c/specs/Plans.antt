@@ -1,11 +1,10 @@
 -- The plan of a function: its records up to the root of its chain, one a step.
 use Rattle.std.specs.Prelude.{◌≡◌, ℕ, ◌+◌, ◌*◌, ◌==◌, min, nat_le, Bool, true, false, List, [], ◌∷◌, Option, Some, None, Result, Ok, Err, if◌then◌else◌}
 use Rattle.pe_core.specs.Refusals.{Refusal, FunctionCycle, outcome}
-use Rattle.pe_core.specs.declared.section_table.SectionTable.{SectionTable}
+use Rattle.pe_unwind.specs.Links.{Table}
 use Rattle.pe_unwind.specs.UnwindRecord.{UnwindInfoView, unwind_tests, unwind_record}
 use Rattle.pe_c.specs.HandsOut.{HandsOutIf}
 use Rattle.pe_c.specs.Unwinding.{FollowsToRecord, flat_record}
-use Rattle.pe_c.specs.declared.image.Image.{Image}
 use Rattle.pe_c.specs.declared.plan.Plan.{Plan}
 use Rattle.pe_c.specs.declared.unwinding.UnwindRecord.{UnwindRecord}
 
@@ -47,30 +46,30 @@ leaves p (Ok r) = after_record p r
 leaves p (Err refusal) = ended p
 
 -- one step of a plan: nothing where it is over; else the record of its unwind RVA decides
-abbrev pub StepsIf : Bool → List ℕ → Image → List SectionTable → ℕ → Plan → Result (Option UnwindRecord) Refusal → Plan → Type 0
-StepsIf false b image sections mode old answer new = (answer ≡ Ok None) × (new ≡ old)
-StepsIf true b image sections mode old answer new =
-    (next : Result UnwindRecord Refusal) × FollowsToRecord b image sections mode old.unwind next × (answer ≡ plan_result old next) × (new ≡ leaves old next)
+abbrev pub StepsIf : Bool → List ℕ → Result Table Refusal → Plan → Result (Option UnwindRecord) Refusal → Plan → Type 0
+StepsIf false b links old answer new = (answer ≡ Ok None) × (new ≡ old)
+StepsIf true b links old answer new =
+    (next : Result UnwindRecord Refusal) × FollowsToRecord b links old.unwind next × (answer ≡ plan_result old next) × (new ≡ leaves old next)
 
-abbrev pub StepsPlan : List ℕ → Image → List SectionTable → ℕ → Plan → Result (Option UnwindRecord) Refusal → Plan → Type 0
-StepsPlan b image sections mode old answer new = StepsIf (old.is_over == 0) b image sections mode old answer new
+abbrev pub StepsPlan : List ℕ → Result Table Refusal → Plan → Result (Option UnwindRecord) Refusal → Plan → Type 0
+StepsPlan b links old answer new = StepsIf (old.is_over == 0) b links old answer new
 
 -- what a call for the next record returns, and the plan after it
-abbrev pub HandsOutPlan : List ℕ → Image → List SectionTable → ℕ → Plan → Plan → ℕ → UnwindRecord → UnwindRecord → Type 0
-HandsOutPlan b image sections mode old_plan new_plan number old new =
-    (answer : Result (Option UnwindRecord) Refusal) × StepsPlan b image sections mode old_plan answer new_plan × HandsOutIf number old new answer
+abbrev pub HandsOutPlan : List ℕ → Result Table Refusal → Plan → Plan → ℕ → UnwindRecord → UnwindRecord → Type 0
+HandsOutPlan b links old_plan new_plan number old new =
+    (answer : Result (Option UnwindRecord) Refusal) × StepsPlan b links old_plan answer new_plan × HandsOutIf number old new answer
 
 -- ---- whole plans
 
 -- a plan returns these records in turn, and is then this plan
-abbrev pub ReturnsInTurn : List ℕ → Image → List SectionTable → ℕ → Plan → List UnwindRecord → Plan → Type 0
-ReturnsInTurn b image sections mode p [] q = p ≡ q
-ReturnsInTurn b image sections mode p (r ∷ rs) q = (next : Plan) × StepsPlan b image sections mode p (Ok (Some r)) next × ReturnsInTurn b image sections mode next rs q
+abbrev pub ReturnsInTurn : List ℕ → Result Table Refusal → Plan → List UnwindRecord → Plan → Type 0
+ReturnsInTurn b links p [] q = p ≡ q
+ReturnsInTurn b links p (r ∷ rs) q = (next : Plan) × StepsPlan b links p (Ok (Some r)) next × ReturnsInTurn b links next rs q
 
 -- the result of a plan's step, after all records that it returned since it started at an unwind RVA
-abbrev pub HandsOutAfter : List ℕ → Image → List SectionTable → ℕ → ℕ → List UnwindRecord → Result (Option UnwindRecord) Refusal → Type 0
-HandsOutAfter b image sections mode unwind given answer =
-    (p : Plan) × (q : Plan) × ReturnsInTurn b image sections mode (plan_from unwind) given p × StepsPlan b image sections mode p answer q
+abbrev pub HandsOutAfter : List ℕ → Result Table Refusal → ℕ → List UnwindRecord → Result (Option UnwindRecord) Refusal → Type 0
+HandsOutAfter b links unwind given answer =
+    (p : Plan) × (q : Plan) × ReturnsInTurn b links (plan_from unwind) given p × StepsPlan b links p answer q
 
 -- a record as numbers is this record at some offset of the bytes
 abbrev pub ReportsUnwindRecord : List ℕ → UnwindRecord → UnwindInfoView → Type 0

@@ -2,13 +2,12 @@
 use Rattle.std.specs.Prelude.{◌≡◌, ℕ, ◌+◌, ◌-◌, ◌==◌, ◌≤◌, length, drop, List, [], ◌∷◌, Option, Some, None, Result, Ok, Err, if◌then◌else◌}
 use Rattle.std.specs.Option.{option_map}
 use Rattle.pe_core.specs.Refusals.{Refusal, kind_of, outcome, ◌>>=◌}
-use Rattle.pe_core.specs.SectionMap.{mapped}
 use Rattle.pe_core.specs.declared.error.Error.{Error}
 use Rattle.pe_core.specs.declared.section_table.SectionTable.{SectionTable}
 use Rattle.pe_unwind.specs.CodeStream.{CodeStream, ReturnsCode}
 use Rattle.pe_unwind.specs.ExceptionTable.{ExceptionView, exception_at, table_range, function_of}
 use Rattle.pe_unwind.specs.FunctionTable.{functions, Finds}
-use Rattle.pe_unwind.specs.Links.{links_of}
+use Rattle.pe_unwind.specs.Links.{Table}
 use Rattle.pe_unwind.specs.Offsets.{handler_data_of}
 use Rattle.pe_unwind.specs.UnwindRecord.{HandlerView, Exception, Termination, UnwindInfoView, unwind_tests, unwind_record, scope_table_size}
 use Rattle.pe_unwind.specs.Unwinding.{FindsRecord}
@@ -114,28 +113,25 @@ flat_record_at b p = outcome (unwind_tests b p) (unwind_record b p) >>= λ i. Ok
 abbrev pub image_exceptions : List ℕ → Image → List SectionTable → ℕ → Result ExceptionView Refusal
 image_exceptions b image sections mode = exception_at 12 b (exception_directory image) sections image.file_alignment (options_of mode)
 
--- the file offset of the record of an unwind RVA in a table, or what refuses the table
-abbrev pub FindsOffsetIn : Result ExceptionView Refusal → List SectionTable → ℕ → ℕ → Result ℕ Refusal → Type 0
-FindsOffsetIn (Err refusal) sections mode address answer = answer ≡ Err refusal
-FindsOffsetIn (Ok v) sections mode address answer = FindsRecord (links_of v sections (options_of mode)) address answer
+-- the links between the entries of the function table at a range, or what refuses the range
+abbrev pub links_at : List ℕ → Image → List SectionTable → Range → Result Table Refusal
+links_at b image sections table =
+    bytes_at b table >>= λ entries. Ok (record { entries = entries; start = table.offset; offset = map_of_image image sections })
 
--- the same in the exception data of an image
-abbrev pub FindsOffset : List ℕ → Image → List SectionTable → ℕ → ℕ → Result ℕ Refusal → Type 0
-FindsOffset b image sections mode address answer = FindsOffsetIn (image_exceptions b image sections mode) sections mode address answer
+-- the file offset of the record of an unwind RVA by the links of a table, or what refuses the table
+abbrev pub FindsOffset : Result Table Refusal → ℕ → Result ℕ Refusal → Type 0
+FindsOffset (Err refusal) address answer = answer ≡ Err refusal
+FindsOffset (Ok table) address answer = FindsRecord table address answer
 
 -- the result of reading the record of an unwind RVA: the record at its offset, or what refuses it
-abbrev pub FollowsToRecord : List ℕ → Image → List SectionTable → ℕ → ℕ → Result UnwindRecord Refusal → Type 0
-FollowsToRecord b image sections mode address answer =
-    (offset : Result ℕ Refusal) × FindsOffset b image sections mode address offset × (answer ≡ (offset >>= flat_record_at b))
+abbrev pub FollowsToRecord : List ℕ → Result Table Refusal → ℕ → Result UnwindRecord Refusal → Type 0
+FollowsToRecord b links address answer =
+    (offset : Result ℕ Refusal) × FindsOffset links address offset × (answer ≡ (offset >>= flat_record_at b))
 
 -- what a call for the record of an unwind RVA returns
-abbrev pub HandsOutRecord : List ℕ → Image → List SectionTable → ℕ → ℕ → ℕ → UnwindRecord → UnwindRecord → Type 0
-HandsOutRecord b image sections mode address number old new =
-    (answer : Result UnwindRecord Refusal) × FollowsToRecord b image sections mode address answer × HandsOut number old new answer
-
--- the record at an RVA, without links: the record at its offset, or what refuses it
-abbrev pub record_at_rva : List ℕ → Image → List SectionTable → ℕ → Result UnwindRecord Refusal
-record_at_rva b image sections rva = mapped (map_of_image image sections rva) >>= flat_record_at b
+abbrev pub HandsOutRecord : List ℕ → Result Table Refusal → ℕ → ℕ → UnwindRecord → UnwindRecord → Type 0
+HandsOutRecord b links address number old new =
+    (answer : Result UnwindRecord Refusal) × FollowsToRecord b links address answer × HandsOut number old new answer
 
 -- ---- unwind codes
 

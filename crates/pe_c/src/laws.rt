@@ -20,7 +20,7 @@ ghost use Rattle.pe_c.specs.ResourceLeaves.{IsNameOf, name_reported};
 ghost use Rattle.pe_c.specs.RichHeaders.{rich_entry_at};
 ghost use Rattle.pe_c.specs.Runs.{ReturnsItems};
 ghost use Rattle.pe_c.specs.Signing.{CoversDigest, digest_at, headers_of};
-ghost use Rattle.pe_c.specs.Unwinding.{FollowsToRecord, StepsCodes, image_exceptions, record_at_rva, flat_item, flat_record, function_in, code_stream_at};
+ghost use Rattle.pe_c.specs.Unwinding.{StepsCodes, exception_table_at, image_exceptions, links_at, flat_item, flat_record, function_in, code_stream_at};
 ghost use Rattle.pe_c.specs.Versions.{ReportsFixed, ReportsManifest, ReportsValue};
 ghost use Rattle.pe_c.specs.Walks.{StepsEntries, walk_items, indexed};
 ghost use Rattle.pe_c.specs.declared.arm64.codes.Arm64CodeWalk.{Arm64CodeWalk};
@@ -58,7 +58,7 @@ ghost use Rattle.pe_unwind.specs.Arm64Tiling.{Tiles};
 ghost use Rattle.pe_unwind.specs.CodeStream.{AreItems};
 ghost use Rattle.pe_unwind.specs.ExceptionTable.{ExceptionView};
 ghost use Rattle.pe_unwind.specs.FunctionTable.{functions};
-ghost use Rattle.pe_unwind.specs.Links.{links_of};
+ghost use Rattle.pe_unwind.specs.Links.{Table, links_of};
 ghost use Rattle.pe_unwind.specs.Offsets.{handler_data_of};
 ghost use Rattle.pe_unwind.specs.ScopeTable.{scope_at};
 ghost use Rattle.pe_unwind.specs.UnwindRecord.{UnwindInfoView, unwind_record, unwind_tests};
@@ -88,55 +88,47 @@ pub fn ranges_of_arm64_records()
         IfSome i.handler (λ h. IsRange b (flat_info b p i).handler_data h.bytes) }
 {}
 
-/// The plan that `pe_c_plan_from` starts for a function, one record a step, is that of pe_plan. Where a step returns
-/// nothing, the records before it are those of the function's plan, one for one. The error of a step is the error of
-/// the plan, so it is a cycle only where the function's chain never ends. Each step returns a record, or ends as the
-/// plan of pe_plan does. Where reading the exception data fails, the first step returns that error.
+/// The range that `pe_c_function_table` returns leads to the links of the image's exception data: plans and records by it are
+/// those of the image, as pe_unwind and pe_plan define them.
+#[tactic(auto, using(crate::proofs::TableLinks::links_of_tables))]
+pub fn function_tables_have_their_links()
+    ensures { (b : List ℕ) (image : Image) (sections : List SectionTable) (table : Range) →
+        exception_table_at 0x8664 12 b image sections image.mode ≡ Ok (Some table) →
+        (v : ExceptionView) × (image_exceptions b image sections image.mode ≡ Ok v)
+        × (v.content ≡ b)
+        × (links_at b image sections table ≡ Ok (links_of v sections (options_of image.mode))) }
+{}
+
+/// The plan that `pe_c_plan_from` starts for a function of a table, one record a step, is that of pe_plan. Where a step
+/// returns nothing, the records before it are those of the function's plan, one for one. The error of a step is the error
+/// of the plan, so it is a cycle only where the function's chain never ends. Each step returns a record, or ends as the
+/// plan of pe_plan does. Where the table is not inside the bytes, the first step returns that error.
 pub fn plans_are_those_of_functions()
-    ensures records { (b : List ℕ) (image : Image) (sections : List SectionTable)
-        (mode : ℕ) (v : ExceptionView) (f : RuntimeFunction) (given : List UnwindRecord) →
-        image_exceptions b image sections mode ≡ Ok v →
-        HandsOutAfter b image sections mode f.unwind_info_address given (Ok None) →
-        (is : List UnwindInfoView) × PlansFrom (links_of v sections (options_of mode)) v.content f
-        (Ok is) × AllZip (ReportsUnwindRecord b) given is }
-    ensures refused { (b : List ℕ) (image : Image) (sections : List SectionTable) (mode : ℕ)
-        (v : ExceptionView) (f : RuntimeFunction) (given : List UnwindRecord) (refusal : Refusal) →
-        image_exceptions b image sections mode ≡ Ok v →
-        HandsOutAfter b image sections mode f.unwind_info_address given (Err refusal) →
-        (refusal ≢ Memory)
-        × PlansFrom (links_of v sections (options_of mode)) v.content f (Err refusal) }
-    ensures endings { (b : List ℕ) (image : Image) (sections : List SectionTable) (mode : ℕ)
-        (v : ExceptionView) (f : RuntimeFunction) (plan : Result (List UnwindInfoView) Refusal)
-        (given : List UnwindRecord) (last : Result (Option UnwindRecord) Refusal) →
-        image_exceptions b image sections mode ≡ Ok v →
-        PlansFrom (links_of v sections (options_of mode)) v.content f plan →
-        plan ≢ Err Memory → HandsOutAfter b image sections mode f.unwind_info_address given last →
+    ensures records { (b : List ℕ) (t : Table) (f : RuntimeFunction) (given : List UnwindRecord) →
+        HandsOutAfter b (Ok t) f.unwind_info_address given (Ok None) →
+        (is : List UnwindInfoView) × PlansFrom t b f (Ok is)
+        × AllZip (ReportsUnwindRecord b) given is }
+    ensures refused { (b : List ℕ) (t : Table) (f : RuntimeFunction) (given : List UnwindRecord)
+        (refusal : Refusal) → HandsOutAfter b (Ok t) f.unwind_info_address given (Err refusal) →
+        (refusal ≢ Memory) × PlansFrom t b f (Err refusal) }
+    ensures endings { (b : List ℕ) (t : Table) (f : RuntimeFunction)
+        (plan : Result (List UnwindInfoView) Refusal) (given : List UnwindRecord)
+        (last : Result (Option UnwindRecord) Refusal) → PlansFrom t b f plan →
+        plan ≢ Err Memory → HandsOutAfter b (Ok t) f.unwind_info_address given last →
         (last ≡ ending_of plan) ⊎ ((r : UnwindRecord) × (last ≡ Ok (Some r))) }
-    ensures without_table { (b : List ℕ)
-        (image : Image) (sections : List SectionTable) (mode unwind : ℕ) (refusal : Refusal)
+    ensures without_table { (b : List ℕ) (unwind : ℕ) (refusal : Refusal)
         (given : List UnwindRecord) (last : Result (Option UnwindRecord) Refusal) →
-        image_exceptions b image sections mode ≡ Err refusal →
-        HandsOutAfter b image sections mode unwind given last →
-        (given ≡ []) × (last ≡ Err refusal) }
+        HandsOutAfter b (Err refusal) unwind given last → (given ≡ []) × (last ≡ Err refusal) }
 {
     pe_unwind::laws::x64::one_record_of_addresses();
 }
 
-/// Where the function table can be read, the record of an even unwind RVA is the record at that RVA.
-pub fn even_addresses_are_those_of_records()
-    ensures { (b : List ℕ) (image : Image) (sections : List SectionTable) (unwind : ℕ)
-        (v : ExceptionView) (answer : Result UnwindRecord Refusal) →
-        image_exceptions b image sections image.mode ≡ Ok v → unwind % 2 ≡ 0 →
-        FollowsToRecord b image sections image.mode unwind answer →
-        answer ≡ record_at_rva b image sections unwind }
-{}
-
 /// A plan that `pe_c_plan_from` starts returns at most three times as many records as there are RVAs: so it comes to
 /// the root, or to an error.
 pub fn plans_end()
-    ensures { (b : List ℕ) (image : Image) (sections : List SectionTable)
-        (mode unwind : ℕ) (given : List UnwindRecord) (p : Plan) → AreBytes b → unwind < 2 ^ 32 →
-        ReturnsInTurn b image sections mode (plan_from unwind) given p → length given ≤ 3 * 2 ^ 32 }
+    ensures { (b : List ℕ) (links : Result Table Refusal) (unwind : ℕ)
+        (given : List UnwindRecord) (p : Plan) → AreBytes b → unwind < 2 ^ 32 →
+        ReturnsInTurn b links (plan_from unwind) given p → length given ≤ 3 * 2 ^ 32 }
 {}
 
 /// The ranges that calls return for debug data lie in the bytes, and are the file names, the hash and the POGO entries

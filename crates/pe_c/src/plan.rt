@@ -6,8 +6,10 @@
 ghost use Rattle.std.specs.Prelude.{◌≡◌};
 ghost use Rattle.pe_core.specs.Refusals.{answer_of};
 ghost use Rattle.pe_c.specs.Plans.{goes_on, ended, plan_from, returned_record, after_record, StepsPlan, HandsOutPlan};
+ghost use Rattle.pe_c.specs.Unwinding.{links_at};
 
 use crate::image::Image;
+use crate::ranges::Range;
 use crate::results::{DONE, hand_out_some};
 use crate::unwinding::{UnwindRecord, read_record};
 use pe_core::{Error, Reason, Result, SectionTable};
@@ -92,15 +94,16 @@ fn next_record(
     bytes: &[u8],
     image: &Image,
     sections: &[SectionTable],
+    table: &Range,
     plan: &mut Plan,
 ) -> Result<Option<UnwindRecord>>
-    ensures { StepsPlan bytes.now image.now sections.now image.now.mode plan.old
+    ensures { StepsPlan bytes.now (links_at bytes.now image.now sections.now table.now) plan.old
         (answer_of result) plan.new }
 {
     if plan.is_over != 0 {
         return Ok(None);
     }
-    match read_record(bytes, image, sections, plan.unwind) {
+    match read_record(bytes, image, sections, table, plan.unwind) {
         Ok(record) => advance(plan, record),
         Err(error) => {
             plan.is_over = 1;
@@ -109,7 +112,7 @@ fn next_record(
     }
 }
 
-/// Reads the next record of a plan: `NOTHING` after the root.
+/// Reads the next record of a plan, by the function table at this range: `NOTHING` after the root.
 ///
 /// Errors: those of `pe_c_unwind_record` for the next record; `FUNCTION_CYCLE` where it continues at the saved RVA.
 /// After an error the plan is over.
@@ -118,11 +121,12 @@ pub extern "C" fn pe_c_next_record(
     bytes: &[u8],
     image: &Image,
     sections: &[SectionTable],
+    table: &Range,
     plan: &mut Plan,
     out: &mut UnwindRecord,
 ) -> u32
-    ensures { HandsOutPlan
-        bytes.now image.now sections.now image.now.mode plan.old plan.new result out.old out.new }
+    ensures { HandsOutPlan bytes.now (links_at bytes.now image.now sections.now table.now)
+        plan.old plan.new result out.old out.new }
 {
-    hand_out_some(next_record(bytes, image, sections, plan), out)
+    hand_out_some(next_record(bytes, image, sections, table, plan), out)
 }

@@ -10,14 +10,14 @@ ghost use Rattle.pe_unwind.specs.ScopeTable.{scope_at};
 ghost use Rattle.pe_unwind.specs.UnwindRecord.{unwind_view};
 ghost use Rattle.pe_c.specs.HandsOut.{HandsOut, HandsOutIf};
 ghost use Rattle.pe_c.specs.Ranges.{bytes_at};
-ghost use Rattle.pe_c.specs.Unwinding.{exception_table_at, LocatesIn, HandsOutFound, function_in, is_some_number, or_no_function, handler_kind, handler_address, handler_range, flat_record, flat_record_at, FindsOffset, FollowsToRecord, HandsOutRecord, record_at_rva, from_frame, bytes_from, saving, plain, flat, StepsOver, WalksIn, HandsOutCode, scopes_at};
+ghost use Rattle.pe_c.specs.Unwinding.{exception_table_at, LocatesIn, HandsOutFound, function_in, is_some_number, or_no_function, handler_kind, handler_address, handler_range, flat_record, flat_record_at, FindsOffset, FollowsToRecord, HandsOutRecord, links_at, from_frame, bytes_from, saving, plain, flat, StepsOver, WalksIn, HandsOutCode, scopes_at};
 ghost use Rattle.pe_c.specs.Walks.{next_of, walk_of};
 
 use crate::image::{EXCEPTION_TABLE, Image, directory, is_absent};
 use crate::ranges::{NO_BYTES, Range, last_range, range_of, slice_of};
 use crate::results::{DONE, NOTHING, hand_out, hand_out_some, number_of, options};
 use crate::walks::next_entry;
-use pe_core::{COFF_MACHINE_X86_64, CountedTable, Result, SectionTable, mapped_offset};
+use pe_core::{ByteRange, COFF_MACHINE_X86_64, CountedTable, Result, SectionTable, mapped_offset};
 use pe_unwind::{
     ExceptionData, Register, RuntimeFunction, ScopeTableEntry, StackFrameOffset, UnwindCode,
     UnwindCodeIterator, UnwindHandler, UnwindInfo, UnwindOperation, scope_table_size, search,
@@ -250,87 +250,82 @@ fn record_at(bytes: &[u8], offset: usize) -> Result<UnwindRecord>
     Ok(flat_record(&info, bytes, offset))
 }
 
-/// The file offset of the record of an unwind RVA.
+/// The file offset of the record of an unwind RVA, by the links of the function table at a range. It is not inlined, since
+/// compilers write no links.
+#[cold]
+#[inline(never)]
+fn linked_offset(
+    bytes: &[u8],
+    image: &Image,
+    sections: &[SectionTable],
+    table: &Range,
+    unwind: u32,
+) -> Result<usize>
+    ensures { FindsOffset (links_at bytes.now image.now sections.now table.now) unwind
+        (answer_of result) }
+{
+    let table = ByteRange {
+        offset: table.offset as usize,
+        length: table.length as usize,
+    };
+    let exceptions = ExceptionData::of_table(bytes, table, image.file_alignment)?;
+    exceptions.record_offset(unwind, sections, &options(image.mode))
+}
+
+/// The same, where an even RVA, which is no link, needs none of the table.
+#[inline(always)]
+#[tactic(auto, using(crate::proofs::EvenRecords::even_offsets))]
 fn find_record_offset(
     bytes: &[u8],
     image: &Image,
     sections: &[SectionTable],
+    table: &Range,
     unwind: u32,
 ) -> Result<usize>
-    ensures { FindsOffset bytes.now image.now sections.now image.now.mode unwind
+    ensures { FindsOffset (links_at bytes.now image.now sections.now table.now) unwind
         (answer_of result) }
 {
-    let opts = options(image.mode);
-    let alignment = image.file_alignment;
-    let table = directory(image, EXCEPTION_TABLE);
-    let exceptions = ExceptionData::parse_with_opts(bytes, table, sections, alignment, &opts)?;
-    exceptions.record_offset(unwind, sections, &opts)
+    if unwind % 2 == 1 {
+        return linked_offset(bytes, image, sections, table, unwind);
+    }
+    let _entries = slice_of(bytes, table)?;
+    mapped_offset(unwind, sections, image.file_alignment, &options(image.mode))
 }
 
 /// The unwind record of an unwind RVA, as `pe_c_unwind_record` returns it.
+#[inline(always)]
 pub fn read_record(
     bytes: &[u8],
     image: &Image,
     sections: &[SectionTable],
+    table: &Range,
     unwind: u32,
 ) -> Result<UnwindRecord>
-    ensures { FollowsToRecord bytes.now image.now sections.now image.now.mode unwind
+    ensures { FollowsToRecord bytes.now (links_at bytes.now image.now sections.now table.now) unwind
         (answer_of result) }
 {
-    let offset = find_record_offset(bytes, image, sections, unwind)?;
+    let offset = find_record_offset(bytes, image, sections, table, unwind)?;
     record_at(bytes, offset)
 }
 
-/// Reads the unwind record of an unwind RVA, which is a field of a function. An odd RVA is a link to another entry of
-/// the table; links are followed to their end.
+/// Reads the unwind record of an unwind RVA, which is a field of a function of the table at this range. An odd RVA is a
+/// link to another entry of the table; links are followed to their end.
 ///
-/// Errors: those of `pe_c_function_table`; `UNMAPPED`, `FUNCTION_LINK` where a link leads to no entry, `FUNCTION_CYCLE`
-/// where the links never end; `UNMAPPED` of the record's RVA; `SHORT`, `UNWIND_VERSION` of the record.
+/// Errors: `SHORT` where the table is not inside the bytes; `UNMAPPED`, `FUNCTION_LINK` where a link leads to no entry,
+/// `FUNCTION_CYCLE` where the links never end; `UNMAPPED` of the record's RVA; `SHORT`, `UNWIND_VERSION` of the record.
 #[unsafe(no_mangle)]
 pub extern "C" fn pe_c_unwind_record(
     bytes: &[u8],
     image: &Image,
     sections: &[SectionTable],
+    table: &Range,
     unwind: u32,
     out: &mut UnwindRecord,
 ) -> u32
-    ensures { HandsOutRecord
-        bytes.now image.now sections.now image.now.mode unwind result out.old out.new }
+    ensures { HandsOutRecord bytes.now (links_at bytes.now image.now sections.now table.now) unwind
+        result out.old out.new }
 {
-    hand_out(read_record(bytes, image, sections, unwind), out)
-}
-
-/// The unwind record at an RVA.
-#[inline(always)]
-fn record_at_rva(
-    bytes: &[u8],
-    image: &Image,
-    sections: &[SectionTable],
-    rva: u32,
-) -> Result<UnwindRecord>
-    ensures { answer_of result ≡ record_at_rva bytes.now image.now sections.now rva }
-{
-    let opts = options(image.mode);
-    let offset = mapped_offset(rva, sections, image.file_alignment, &opts)?;
-    record_at(bytes, offset)
-}
-
-/// Reads the unwind record at an RVA. An even unwind RVA of a function is that of its record, so where the function table
-/// could be read, the result is that of `pe_c_unwind_record`: neither the exception directory nor the table is read again.
-///
-/// Errors: `UNMAPPED` of the RVA; `SHORT`, `UNWIND_VERSION` of the record.
-#[unsafe(no_mangle)]
-pub extern "C" fn pe_c_unwind_record_at(
-    bytes: &[u8],
-    image: &Image,
-    sections: &[SectionTable],
-    rva: u32,
-    out: &mut UnwindRecord,
-) -> u32
-    ensures { HandsOut result out.old out.new
-        (record_at_rva bytes.now image.now sections.now rva) }
-{
-    hand_out(record_at_rva(bytes, image, sections, rva), out)
+    hand_out(read_record(bytes, image, sections, table, unwind), out)
 }
 
 /// Whether an offset counts from the frame register, and the offset in bytes.

@@ -1,7 +1,7 @@
 -- The exception directory of an image. (PE format: the .pdata section.)
 use Rattle.std.specs.Prelude.{ℕ, ◌*◌, ◌/◌, ◌%◌, ◌==◌, List, [], ◌∷◌, length, Option, Some, None, Result, Err, if◌then◌else◌, nat_lt}
 use Rattle.pe_core.specs.Bytes.{holds, range}
-use Rattle.pe_core.specs.Refusals.{Refusal, Unmapped, ExceptionSize, ExceptionOffset, ExceptionBounds, FunctionIndex, outcome}
+use Rattle.pe_core.specs.Refusals.{Refusal, Short, Unmapped, ExceptionSize, ExceptionOffset, ExceptionBounds, FunctionIndex, outcome}
 use Rattle.pe_core.specs.SectionMap.{section_map}
 use Rattle.pe_core.specs.declared.byte_range.ByteRange.{ByteRange}
 use Rattle.pe_core.specs.declared.data_directories.DataDirectory.{DataDirectory}
@@ -37,6 +37,11 @@ exception_at width b directory sections alignment opts =
     if directory.size % width == 0
     then exception_at_offset b directory.size alignment (section_map opts sections alignment directory.virtual_address)
     else Err ExceptionSize
+
+-- the exception data whose table is this range of the file
+abbrev pub exception_of_table : List ℕ → ByteRange → ℕ → Result ExceptionView Refusal
+exception_of_table b table alignment =
+    outcome ((holds b table.offset table.length, Short) ∷ []) (record { content = b; start = table.offset; size = table.length; alignment = alignment })
 
 -- the entry of a table with this index
 abbrev pub function_of : List ℕ → ℕ → Result RuntimeFunction Refusal

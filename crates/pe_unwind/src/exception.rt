@@ -12,7 +12,7 @@ use crate::links::Links;
 use crate::unwind_info::UnwindInfo;
 use pe_core::{
     ByteRange, CountedTable, DataDirectory, Error, ParseOptions, Reason, Result, SectionMap,
-    SectionTable, mapped_offset,
+    SectionTable, mapped_offset, require_bytes,
 };
 use std::fmt;
 use std::marker::Model;
@@ -60,7 +60,7 @@ impl<'a> ExceptionData<'a> {
     ghost use Rattle.pe_core.specs.Options.{default_options};
     ghost use Rattle.pe_core.specs.Offsets.{IsWithin};
     ghost use Rattle.pe_core.specs.Refusals.{Returns, FunctionCycle, answer_of, answer_by};
-    ghost use Rattle.pe_unwind.specs.ExceptionTable.{exception_at, table_range, table_of, function_of};
+    ghost use Rattle.pe_unwind.specs.ExceptionTable.{exception_at, exception_of_table, table_range, table_of, function_of};
     ghost use Rattle.pe_unwind.specs.Arm64Lookup.{FindsArm64, length_of_arm64};
     ghost use Rattle.pe_unwind.specs.Arm64Functions.{arm64_functions, arm64_function_items, items_of_arm64_functions, arm64_function_of};
     ghost use Rattle.pe_unwind.specs.Arm64Record.{info_view};
@@ -160,6 +160,25 @@ impl<'a> ExceptionData<'a> {
             bytes,
             offset,
             size,
+            file_alignment,
+        })
+    }
+
+    /// The exception data whose function table is this range of the file, as `table_range` returned it: nothing is looked up.
+    ///
+    /// Error: `Short` if the range passes the end of the file.
+    pub fn of_table(
+        bytes: &'a [u8],
+        table: ByteRange,
+        file_alignment: u32,
+    ) -> Result<ExceptionData<'a>>
+        ensures { Returns result (exception_of_table bytes.entry.now table file_alignment) }
+    {
+        require_bytes(bytes, table.offset, table.length)?;
+        Ok(ExceptionData {
+            bytes,
+            offset: table.offset,
+            size: table.length,
             file_alignment,
         })
     }

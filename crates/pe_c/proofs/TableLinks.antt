@@ -1,0 +1,64 @@
+-- The range of an image's function table has the links of the image's exception data.
+use Rattle.std.proofs.Common.{◌≡◌, ℕ, ◌+◌, ◌≤◌, Bool, true, false, List, [], ◌∷◌, length, None, Some, Result, Ok, Err, refl, sym, ap, subst, ◌∙◌, arith}
+use Rattle.std.proofs.lemmas.Bool.Decides.{nat_tests}
+use Rattle.std.specs.Prelude.{◌==◌, if◌then◌else◌}
+use Rattle.pe_core.specs.Bytes.{holds, range}
+use Rattle.pe_core.specs.Refusals.{Refusal, Short, outcome, ◌>>=◌}
+use Rattle.pe_core.specs.SectionMap.{map_view, offset_in}
+use Rattle.pe_core.specs.declared.section_table.SectionTable.{SectionTable}
+use Rattle.pe_unwind.proofs.ExceptionBytes.{in_directory, inside_directory}
+use Rattle.pe_unwind.specs.ExceptionTable.{ExceptionView, table_range}
+use Rattle.pe_unwind.specs.Links.{Table, links_of}
+use Rattle.pe_c.specs.Images.{exception_directory, is_absent, map_of_image}
+use Rattle.pe_c.specs.Modes.{options_of}
+use Rattle.pe_c.specs.Ranges.{bytes_at, range_of}
+use Rattle.pe_c.specs.Unwinding.{exception_table_at, image_exceptions, links_at}
+use Rattle.pe_c.specs.declared.image.Image.{Image}
+use Rattle.pe_c.specs.declared.ranges.Range.{Range}
+
+bytes_by_test : (test : Bool) (bytes : List ℕ) → test ≡ true → outcome ((test, Short) ∷ []) bytes ≡ Ok bytes
+bytes_by_test true bytes e = refl
+bytes_by_test false bytes e = absurd cc
+
+-- the bytes of a range that is inside
+bytes_inside : (b : List ℕ) (table : Range) → table.offset + table.length ≤ length b → bytes_at b table ≡ Ok (range b table.offset table.length)
+bytes_inside b table fits =
+    bytes_by_test (holds b table.offset table.length) (range b table.offset table.length) (grind (arith, nat_tests))
+
+links_of_view : (b : List ℕ) (image : Image) (s : List SectionTable) (v : ExceptionView) → v.content ≡ b → v.alignment ≡ image.file_alignment → v.start + v.size ≤ length v.content →
+    links_at b image s (range_of (table_range v)) ≡ Ok (links_of v s (options_of image.mode))
+links_of_view b image s v content unit inside =
+    let fits : v.start + v.size ≤ length b = subst (λ (c : List ℕ). v.start + v.size ≤ length c) content inside in
+    let there : bytes_at b (range_of (table_range v)) ≡ Ok (range b v.start v.size) = bytes_inside b (range_of (table_range v)) fits in
+    let links : links_at b image s (range_of (table_range v)) ≡ Ok (record { entries = range b v.start v.size; start = v.start; offset = map_of_image image s }) =
+        ap (λ (x : Result (List ℕ) Refusal). x >>= λ entries. Ok (record { entries = entries; start = v.start; offset = map_of_image image s })) there in
+    let of_content : ◌≡◌ {A = Result Table Refusal} (Ok (record { entries = range b v.start v.size; start = v.start; offset = map_of_image image s }))
+        (Ok (record { entries = range v.content v.start v.size; start = v.start; offset = map_of_image image s })) =
+        ap (λ (c : List ℕ). Ok (record { entries = range c v.start v.size; start = v.start; offset = map_of_image image s })) (sym content) in
+    let of_unit : ◌≡◌ {A = Result Table Refusal} (Ok (record { entries = range v.content v.start v.size; start = v.start; offset = map_of_image image s })) (Ok (links_of v s (options_of image.mode))) =
+        ap (λ (n : ℕ). Ok (record { entries = range v.content v.start v.size; start = v.start; offset = offset_in (map_view (options_of image.mode) s n) })) (sym unit) in
+    links ∙ of_content ∙ of_unit
+
+-- the image has exception data, of these bytes, whose links are those of the table
+abbrev HasLinks : List ℕ → Image → List SectionTable → Range → Type 0
+HasLinks b image s table =
+    (v : ExceptionView) × (image_exceptions b image s image.mode ≡ Ok v) × (v.content ≡ b) × (links_at b image s table ≡ Ok (links_of v s (options_of image.mode)))
+
+of_view : (b : List ℕ) (image : Image) (s : List SectionTable) (table : Range) (exceptions : Result ExceptionView Refusal) → image_exceptions b image s image.mode ≡ exceptions →
+    (exceptions >>= λ v. Ok (Some (range_of (table_range v)))) ≡ Ok (Some table) → HasLinks b image s table
+of_view b image s table (Err refusal) e h = absurd cc
+of_view b image s table (Ok v) e h =
+    let same : range_of (table_range v) ≡ table = cc in
+    let is : (v.content ≡ b) × (v.alignment ≡ image.file_alignment) = in_directory 12 b (exception_directory image) s image.file_alignment (options_of image.mode) v e in
+    let inside : v.start + v.size ≤ length v.content = inside_directory 12 b (exception_directory image) s image.file_alignment (options_of image.mode) v e in
+    (v, e, is.0, subst (λ (r : Range). links_at b image s r ≡ Ok (links_of v s (options_of image.mode))) same (links_of_view b image s v is.0 is.1 inside))
+
+by_tests : (b : List ℕ) (image : Image) (s : List SectionTable) (table : Range) (machine absent : Bool) →
+    (if machine then (if absent then Ok None else (image_exceptions b image s image.mode >>= λ v. Ok (Some (range_of (table_range v))))) else Ok None) ≡ Ok (Some table) → HasLinks b image s table
+by_tests b image s table false absent h = absurd cc
+by_tests b image s table true true h = absurd cc
+by_tests b image s table true false h = of_view b image s table (image_exceptions b image s image.mode) refl h
+
+pub links_of_tables : (b : List ℕ) (image : Image) (s : List SectionTable) (table : Range) → exception_table_at 0x8664 12 b image s image.mode ≡ Ok (Some table) → HasLinks b image s table
+unfolding exception_table_at
+links_of_tables b image s table h = by_tests b image s table (image.machine == 0x8664) (is_absent (exception_directory image)) h
