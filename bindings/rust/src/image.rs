@@ -486,7 +486,12 @@ impl<'a> Image<'a> {
     }
 
     /// Makes a call that takes a record and a number too.
-    pub(crate) fn look<M, N: Into<u64>, T: Default>(&self, call: Look<M, N, T>, more: &M, n: N) -> Result<Option<T>, Error> {
+    pub(crate) fn look<M, N: Into<u64>, T: Default>(
+        &self,
+        call: Look<M, N, T>,
+        more: &M,
+        n: N,
+    ) -> Result<Option<T>, Error> {
         self.look_with(call, more, n)
     }
 

@@ -31,12 +31,12 @@ links_of_view b image s v content unit inside =
     let fits : v.start + v.size ≤ length b = subst (λ (c : List ℕ). v.start + v.size ≤ length c) content inside in
     let there : bytes_at b (range_of (table_range v)) ≡ Ok (range b v.start v.size) = bytes_inside b (range_of (table_range v)) fits in
     let links : links_at b image s (range_of (table_range v)) ≡ Ok (record { entries = range b v.start v.size; start = v.start; offset = map_of_image image s }) =
-        ap (λ (x : Result (List ℕ) Refusal). x >>= λ entries. Ok (record { entries = entries; start = v.start; offset = map_of_image image s })) there in
+    ap (λ (x : Result (List ℕ) Refusal). x >>= λ entries. Ok (record { entries = entries; start = v.start; offset = map_of_image image s })) there in
     let of_content : ◌≡◌ {A = Result Table Refusal} (Ok (record { entries = range b v.start v.size; start = v.start; offset = map_of_image image s }))
-        (Ok (record { entries = range v.content v.start v.size; start = v.start; offset = map_of_image image s })) =
-        ap (λ (c : List ℕ). Ok (record { entries = range c v.start v.size; start = v.start; offset = map_of_image image s })) (sym content) in
+    (Ok (record { entries = range v.content v.start v.size; start = v.start; offset = map_of_image image s })) =
+    ap (λ (c : List ℕ). Ok (record { entries = range c v.start v.size; start = v.start; offset = map_of_image image s })) (sym content) in
     let of_unit : ◌≡◌ {A = Result Table Refusal} (Ok (record { entries = range v.content v.start v.size; start = v.start; offset = map_of_image image s })) (Ok (links_of v s (options_of image.mode))) =
-        ap (λ (n : ℕ). Ok (record { entries = range v.content v.start v.size; start = v.start; offset = offset_in (map_view (options_of image.mode) s n) })) (sym unit) in
+    ap (λ (n : ℕ). Ok (record { entries = range v.content v.start v.size; start = v.start; offset = offset_in (map_view (options_of image.mode) s n) })) (sym unit) in
     links ∙ of_content ∙ of_unit
 
 -- the image has exception data, of these bytes, whose links are those of the table
