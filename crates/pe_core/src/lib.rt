@@ -29,6 +29,7 @@ mod section_table;
 mod section_window;
 mod strtab;
 mod symbol;
+mod symbol_names;
 mod table_entries;
 mod text;
 
