@@ -22,6 +22,7 @@ pub mod AddressLists
 pub mod Pigeonhole
 pub mod Gathering
 pub mod ImportLists
+pub mod FirstEntries
 pub mod SymbolNames
 pub mod Libraries
 pub mod Equality

@@ -1,5 +1,5 @@
 -- Imports: the import directory, and the lookup entries of its records. (PE format: the .idata section.)
-use Rattle.std.specs.Prelude.{ℕ, suc, ◌+◌, ◌-◌, ◌*◌, ◌/◌, ◌%◌, ◌^◌, ◌==◌, ◌||◌, Bool, List, [], map, flat_map, length, nat_le, Option, Some, None, Result, Ok, Err, if◌then◌else◌}
+use Rattle.std.specs.Prelude.{ℕ, suc, ◌+◌, ◌-◌, ◌*◌, ◌/◌, ◌%◌, ◌^◌, ◌==◌, ◌||◌, Bool, List, [], map, flat_map, length, take, nat_le, Option, Some, None, Result, Ok, Err, if◌then◌else◌}
 use Rattle.std.specs.Cmp.Lexicographic.{slice_cmp}
 use Rattle.std.specs.List.{All, Contains}
 use Rattle.std.specs.List.Sorted.{IsStrictlySortedBy}
@@ -137,3 +137,7 @@ import_of offset w b e =
 -- the imports of all entries, or the first refusal
 unfoldable pub imports : (ℕ → Option ℕ) → ℕ → List ℕ → List ImportRecordView → Result (List ImportView) Refusal
 imports offset w b records = all_or_refusal (map (import_of offset w b) (import_entries w records))
+
+-- the imports of the first entries, at most so many, or the first refusal among them
+unfoldable pub first_imports : (ℕ → Option ℕ) → ℕ → List ℕ → List ImportRecordView → ℕ → Result (List ImportView) Refusal
+first_imports offset w b records most = all_or_refusal (map (import_of offset w b) (take most (import_entries w records)))
