@@ -1,9 +1,10 @@
 -- The first entries of all records, and how many there are.
-use Rattle.std.proofs.Common.{◌≡◌, ℕ, zero, suc, ◌+◌, ◌-◌, ◌*◌, ◌/◌, ◌^◌, ◌<◌, ◌≤◌, List, [], ◌∷◌, ◌++◌, map, length, get_or, take, drop, refl, sym, ap, subst, ◌∙◌, arith, ⊎_elim, length-append, append_assoc, zero-add}
+use Rattle.std.proofs.Common.{◌≡◌, ℕ, zero, suc, ◌+◌, ◌-◌, ◌*◌, ◌/◌, ◌^◌, ◌<◌, ◌≤◌, List, [], ◌∷◌, ◌++◌, map, length, get_or, Option, take, drop, refl, sym, ap, subst, ◌∙◌, arith, ⊎_elim, length-append, append_assoc, zero-add}
 use Rattle.std.specs.Prelude.{min}
 use Rattle.std.proofs.lemmas.Bool.{cases_lt}
 use Rattle.std.proofs.lemmas.List.{append-nil, drop_all, drop_more, take-append-le, take_all}
-use Rattle.pe_core.specs.Imports.{EntryView, ImportRecordView, import_entries, import_entry_at, import_record_view}
+use Rattle.pe_core.specs.Imports.{EntryView, ImportRecordView, first_imports, import_entries, import_entry_at, import_of, import_record_view, imports}
+use Rattle.pe_core.specs.Gathered.{all_or_refusal}
 use Rattle.pe_core.specs.ImportSteps.{entry_view}
 use Rattle.pe_core.specs.Rows.{each}
 use Rattle.pe_core.specs.declared.import_list.Entry.{Entry}
@@ -124,3 +125,9 @@ read-done w records most i entries r le =
     sym (append-nil entries) ∙ ap (λ l. entries ++ l) (sym (take_all (most - length entries) [] (omega arith)) ∙ ap (take (most - length entries)) (sym (left-none w records i le))) ∙ r.rest
 
 pub ruleset entries_read = (read-start, read-more, read-done)
+
+-- ---- all of them
+
+pub all_are_first : (offset : ℕ → Option ℕ) (w : ℕ) (b : List ℕ) (records : List ImportRecordView) (most : ℕ) → length (import_entries w records) ≤ most → first_imports offset w b records most ≡ imports offset w b records
+unfolding first_imports imports
+all_are_first offset w b records most le = ap (λ l. all_or_refusal (map (import_of offset w b) l)) (take_all most (import_entries w records) le)

@@ -25,6 +25,7 @@ pub mod ImportLists
 pub mod FirstEntries
 pub mod SymbolNames
 pub mod Libraries
+pub mod NamesRead
 pub mod Equality
 pub mod VariantEquality
 pub mod Reaches

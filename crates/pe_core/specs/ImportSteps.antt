@@ -1,6 +1,7 @@
 -- How the imports are read, step by step. Only private contracts cite this.
 use Rattle.std.specs.Prelude.{◌≡◌, ℕ, ◌+◌, ◌*◌, ◌-◌, ◌%◌, ◌^◌, ◌<◌, ◌≤◌, true, false, min, List, length, Option, slice_index_or, if◌then◌else◌}
 use Rattle.std.specs.Borrow.{Bor}
+use Rattle.std.specs.List.{All, Contains}
 use Rattle.std.specs.Option.{option_and_then, option_map}
 use Rattle.pe_core.specs.Records.{import_entry}
 use Rattle.pe_core.specs.declared.import_list.Entry.{Entry}
@@ -30,3 +31,8 @@ hint_offset_of offset w e = if is_ordinal w e then 2 ^ 64 - 1 else min (offset_o
 -- these are the texts at the offsets of the entries' names
 pub record AreEntryNames (offset : ℕ → Option ℕ) (w : ℕ) (b : List ℕ) (entries : List Entry) (names : List (Option (Bor (List ℕ)))) : Type 0 where
   pub are : (i : ℕ) (d : Option (Bor (List ℕ))) (e : Entry) → i < length names → option_map (λ s. s.now) (slice_index_or names i d) ≡ text_at b (hint_offset_of offset w (entry_view (slice_index_or entries i e)))
+
+-- these are the same numbers, whatever their order and however often
+pub record AreSameNumbers (xs ys : List ℕ) : Type 0 where
+  pub kept : All (Contains ys) xs
+  pub only : All (Contains xs) ys

@@ -3,7 +3,7 @@ use Rattle.std.specs.Prelude.{ℕ, suc, ◌+◌, ◌-◌, ◌*◌, ◌/◌, ◌%
 use Rattle.std.specs.Cmp.Lexicographic.{slice_cmp}
 use Rattle.std.specs.List.{All, Contains}
 use Rattle.std.specs.List.Sorted.{IsStrictlySortedBy}
-use Rattle.std.specs.Option.{option_map}
+use Rattle.std.specs.Option.{option_and_then, option_map}
 use Rattle.std.specs.Ordering.{nat_cmp}
 use Rattle.pe_core.specs.Bytes.{le, range, record_at}
 use Rattle.pe_core.specs.Gathered.{all_or_refusal, up_to_none}
@@ -99,6 +99,10 @@ pub record AreLibraries (names libraries : List (List ℕ)) : Type 0 where
   pub in_order : IsStrictlySortedBy (slice_cmp nat_cmp) libraries
   pub named : All (Contains names) libraries
   pub whole : All (Contains libraries) names
+
+-- the text at the RVA of a record's name, if one is there
+abbrev pub name_read_of : (ℕ → Option ℕ) → List ℕ → ImportRecordView → Option (List ℕ)
+name_read_of offset b r = option_and_then (text_at b) (offset r.import_directory_entry.name_rva)
 
 -- ---- the list
 

@@ -290,7 +290,7 @@ fn names_of<'a, A: Allocator>(
 }
 
 /// Sorts the names by their bytes, and keeps each once.
-fn sort_once<'a, A: Allocator>(names: &mut Vec<&'a str, A>)
+pub(crate) fn sort_once<'a, A: Allocator>(names: &mut Vec<&'a str, A>)
     ensures { AreLibraries (map (λ s. s.now) names.old.items) (map (λ s. s.now) names.new.items) }
 {
     names.sort_unstable();

@@ -18,6 +18,7 @@ mod header;
 mod import;
 mod import_list;
 pub mod laws;
+mod library_names;
 mod many_texts;
 mod optional_header;
 mod options;
