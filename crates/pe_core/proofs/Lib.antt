@@ -23,6 +23,7 @@ pub mod Pigeonhole
 pub mod Gathering
 pub mod ImportLists
 pub mod FirstEntries
+pub mod EntryLists
 pub mod SymbolNames
 pub mod Libraries
 pub mod NamesRead

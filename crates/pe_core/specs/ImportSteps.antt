@@ -4,7 +4,9 @@ use Rattle.std.specs.Borrow.{Bor}
 use Rattle.std.specs.List.{All, Contains}
 use Rattle.std.specs.Option.{option_and_then, option_map}
 use Rattle.pe_core.specs.Records.{import_entry}
+use Rattle.pe_core.specs.Bytes.{le}
 use Rattle.pe_core.specs.declared.import_list.Entry.{Entry}
+use Rattle.pe_core.specs.declared.many_lists.Entries.{Entries}
 use Rattle.pe_core.specs.Imports.{EntryView, is_last, is_ordinal}
 use Rattle.pe_core.specs.SectionIndex.{offset_or_end}
 use Rattle.pe_core.specs.Text.{text_at}
@@ -36,3 +38,9 @@ pub record AreEntryNames (offset : ℕ → Option ℕ) (w : ℕ) (b : List ℕ) 
 pub record AreSameNumbers (xs ys : List ℕ) : Type 0 where
   pub kept : All (Contains ys) xs
   pub only : All (Contains xs) ys
+
+-- the entries of w bytes from `start` on are there and not zero, up to the zero one at `end`; each is some entries before it
+pub record IsList (w : ℕ) (b : List ℕ) (list : Entries) : Type 0 where
+  pub inside : list.end + w ≤ length b
+  pub last : le b list.end w ≡ 0
+  pub before : (k : ℕ) → 0 < k → list.start + w * k ≤ list.end → 0 < le b (list.end - w * k) w

@@ -19,6 +19,7 @@ mod import;
 mod import_list;
 pub mod laws;
 mod library_names;
+mod many_lists;
 mod many_texts;
 mod optional_header;
 mod options;
