@@ -43,8 +43,8 @@ pub counted-more : (w : ℕ) (records : List SyntheticImportDirectoryEntry) (i c
     → n ≡ many w (get_or records i d) → sum ≡ min (count + n) (2 ^ 64 - 1) → EntriesCounted w records (i + 1) sum
 counted-more w records i count sum n d c lt is more =
     let there : length (left w records i) ≡ n + length (left w records (i + 1)) =
-        ap length (left-next w records i d lt) ∙ length-append (each (import_entry_at w (import_record_view (get_or records i d))) (many w (get_or records i d))) (left w records (i + 1))
-        ∙ ap (λ k. k + length (left w records (i + 1))) (each-length (import_entry_at w (import_record_view (get_or records i d))) (many w (get_or records i d)) ∙ sym is) in
+    ap length (left-next w records i d lt) ∙ length-append (each (import_entry_at w (import_record_view (get_or records i d))) (many w (get_or records i d))) (left w records (i + 1))
+    ∙ ap (λ k. k + length (left w records (i + 1))) (each-length (import_entry_at w (import_record_view (get_or records i d))) (many w (get_or records i d)) ∙ sym is) in
     record { small = omega (arith, more); rest = omega (arith, c.rest, there, more) }
 
 pub counted-done : (w : ℕ) (records : List SyntheticImportDirectoryEntry) (i count : ℕ) → EntriesCounted w records i count → length records ≤ i
@@ -95,21 +95,21 @@ read-more w records most i n entries pushed d r lt is more =
     let room : ℕ = most - length entries in
     let long : length pushed ≡ length entries + n = ap length more ∙ length-append entries (each (import_entry_at w record_of) n) ∙ ap (λ k. length entries + k) (each-length (import_entry_at w record_of) n) in
     let split : take room (left w records i) ≡ each (import_entry_at w record_of) n ++ take (most - length pushed) (left w records (i + 1)) =
-        ap (take room) (left-next w records i d lt)
-        ∙ ⊎_elim
-        (λ (h : room < many w (get_or records i d)).
-        let all : n ≡ room = omega (arith, is, h) in
-        let full : most - length pushed ≡ 0 = omega (arith, long, all, r.few) in
-        take-append-le room (each (import_entry_at w record_of) (many w (get_or records i d))) (left w records (i + 1)) (omega (arith, h, each-length (import_entry_at w record_of) (many w (get_or records i d))))
-        ∙ take-each (import_entry_at w record_of) (many w (get_or records i d)) room (omega (arith, h))
-        ∙ ap (each (import_entry_at w record_of)) (sym all)
-        ∙ sym (append-nil (each (import_entry_at w record_of) n))
-        ∙ ap (λ k. each (import_entry_at w record_of) n ++ take k (left w records (i + 1))) (sym full))
-        (λ (h : many w (get_or records i d) ≤ room).
-        let all : many w (get_or records i d) ≡ n = omega (arith, is, h) in
-        take-past (each (import_entry_at w record_of) (many w (get_or records i d))) (left w records (i + 1)) room (most - length pushed) (omega (arith, long, all, r.few, h, each-length (import_entry_at w record_of) (many w (get_or records i d))))
-        ∙ ap (λ k. each (import_entry_at w record_of) k ++ take (most - length pushed) (left w records (i + 1))) all)
-        (cases_lt room (many w (get_or records i d))) in
+    ap (take room) (left-next w records i d lt)
+    ∙ ⊎_elim
+    (λ (h : room < many w (get_or records i d)).
+    let all : n ≡ room = omega (arith, is, h) in
+    let full : most - length pushed ≡ 0 = omega (arith, long, all, r.few) in
+    take-append-le room (each (import_entry_at w record_of) (many w (get_or records i d))) (left w records (i + 1)) (omega (arith, h, each-length (import_entry_at w record_of) (many w (get_or records i d))))
+    ∙ take-each (import_entry_at w record_of) (many w (get_or records i d)) room (omega (arith, h))
+    ∙ ap (each (import_entry_at w record_of)) (sym all)
+    ∙ sym (append-nil (each (import_entry_at w record_of) n))
+    ∙ ap (λ k. each (import_entry_at w record_of) n ++ take k (left w records (i + 1))) (sym full))
+    (λ (h : many w (get_or records i d) ≤ room).
+    let all : many w (get_or records i d) ≡ n = omega (arith, is, h) in
+    take-past (each (import_entry_at w record_of) (many w (get_or records i d))) (left w records (i + 1)) room (most - length pushed) (omega (arith, long, all, r.few, h, each-length (import_entry_at w record_of) (many w (get_or records i d))))
+    ∙ ap (λ k. each (import_entry_at w record_of) k ++ take (most - length pushed) (left w records (i + 1))) all)
+    (cases_lt room (many w (get_or records i d))) in
     record {
       few = omega (arith, long, is, r.few);
       rest =

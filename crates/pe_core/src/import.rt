@@ -276,9 +276,7 @@ fn named_records<'a, A: Allocator>(
     let mut records = Vec::with_capacity(alloc, names.len())?;
     for (i, name) in names.iter().enumerate() {
         let entry = ImportDirectoryEntry::at(bytes, offset + SIZE_OF_IMPORT_ENTRY * i);
-        records.push(import_record(
-            bytes, entry, *name, lists, sections, is_64,
-        )?)?;
+        records.push(import_record(bytes, entry, *name, lists, sections, is_64)?)?;
     }
     let end = offset + SIZE_OF_IMPORT_ENTRY * names.len();
     require_bytes(bytes, end, SIZE_OF_IMPORT_ENTRY)?;
@@ -404,7 +402,8 @@ impl<'a, A: Allocator + Copy + Drop> ImportData<'a, A> {
         Ok(ImportData { import_data })
     }
 
-    /// The names of the imported DLLs, sorted by their bytes, each once. Error: `Memory`.
+    /// The names of the imported DLLs, sorted by their bytes, each once. It compares the name of each record, to its end
+    /// where names are equal; `libraries_with_map` compares names at one offset once. Error: `Memory`.
     pub fn libraries(&self, alloc: A) -> Result<Vec<&'a str, A>>
         ensures listed { IfOk result (λ v. AreLibraries
             (map (λ r. r.name) (import_data_view self.now)) (map (λ s. s.now) v.items)) }

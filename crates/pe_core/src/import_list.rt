@@ -288,7 +288,8 @@ impl<'a> Import<'a> {
         Import::parse_with_map(alloc, bytes, import_data, &index.map(), is_64)
     }
 
-    /// The imports of all records, as `parse_with_opts` lists them, by a section map.
+    /// The imports of all records, as `parse_with_opts` lists them, by a section map. Records may share their lookup
+    /// entries, so these may be more imports than fit in memory; `parse_at_most` lists the first of them.
     #[tactic(auto, unfolding(crate::specs::Imports::imports))]
     pub fn parse_with_map<A: Allocator + Copy + Drop>(
         alloc: A,

@@ -55,8 +55,9 @@ pub(crate) fn lists_at<A: Allocator + Copy + Drop>(
     let mut list = Entries { start: 1, end: 0 };
     for offset in &rising {
         let start = *offset;
-        let is_covered =
-            list.start <= start && start <= list.end && start % size == list.start % size;
+        let is_covered = list.start <= start
+            && start <= list.end
+            && start % size == list.start % size;
         if !is_covered {
             match zero_entry(bytes, start, is_64) {
                 Some(end) => {

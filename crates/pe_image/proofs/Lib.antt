@@ -22,3 +22,4 @@ pub mod WrittenImages
 pub mod ListedAgain
 pub mod RewrittenBytes
 pub mod HeadlineCalls
+pub mod ImportedNames
