@@ -22,4 +22,3 @@ pub mod WrittenImages
 pub mod ListedAgain
 pub mod RewrittenBytes
 pub mod HeadlineCalls
-pub mod ImportedNames
