@@ -1,13 +1,11 @@
 -- The first entries of all records, and how many there are.
-use Rattle.std.proofs.Common.{◌≡◌, ℕ, zero, suc, ◌+◌, ◌-◌, ◌*◌, ◌/◌, ◌^◌, ◌<◌, ◌≤◌, List, [], ◌∷◌, ◌++◌, map, length, get_or, Option, take, drop, refl, sym, ap, subst, ◌∙◌, arith, ⊎_elim, length-append, append_assoc, zero-add}
+use Rattle.std.proofs.Common.{◌≡◌, ℕ, zero, suc, ◌+◌, ◌-◌, ◌/◌, ◌^◌, ◌<◌, ◌≤◌, List, [], ◌∷◌, ◌++◌, map, length, get_or, Option, take, drop, refl, sym, ap, subst, ◌∙◌, arith, ⊎_elim, length-append, append_assoc, zero-add}
 use Rattle.std.specs.Prelude.{min}
 use Rattle.std.proofs.lemmas.Bool.{cases_lt}
 use Rattle.std.proofs.lemmas.List.{append-nil, drop_all, drop_more, take-append-le, take_all}
 use Rattle.pe_core.specs.Imports.{EntryView, ImportRecordView, first_imports, import_entries, import_entry_at, import_of, import_record_view, imports}
 use Rattle.pe_core.specs.Gathered.{all_or_refusal}
-use Rattle.pe_core.specs.ImportSteps.{entry_view}
 use Rattle.pe_core.specs.Rows.{each}
-use Rattle.pe_core.specs.declared.import_list.Entry.{Entry}
 use Rattle.pe_core.specs.declared.import.SyntheticImportDirectoryEntry.{SyntheticImportDirectoryEntry}
 use Rattle.pe_core.proofs.ExportLists.{each-length}
 

@@ -1,5 +1,5 @@
 -- The names of the symbols of a table, read from the front.
-use Rattle.std.proofs.Common.{◌≡◌, ℕ, zero, suc, ◌+◌, ◌-◌, ◌^◌, ◌<◌, ◌≤◌, Bool, true, false, cond, List, [], ◌∷◌, ◌++◌, map, length, get_or, drop, Option, Some, None, Result, Ok, Err, refl, sym, ap, subst, ◌∙◌, arith, ⊎_elim, length-append}
+use Rattle.std.proofs.Common.{◌≡◌, ℕ, zero, suc, ◌+◌, ◌^◌, ◌<◌, ◌≤◌, Bool, true, false, cond, List, [], ◌∷◌, ◌++◌, map, length, get_or, drop, Option, Some, None, Result, Ok, Err, refl, sym, ap, subst, ◌∙◌, arith, ⊎_elim, length-append}
 use Rattle.std.specs.Prelude.{nat_le, ◌==◌, slice_index, ◌&&◌}
 use Rattle.std.specs.Borrow.{Bor}
 use Rattle.std.specs.Option.{option_map, option_and_then}
@@ -11,12 +11,12 @@ use Rattle.pe_core.specs.Gathered.{all_or_refusal, with_rest, up_to_none}
 use Rattle.pe_core.specs.Refusals.{Refusal, UnlessMemory, kind_of, ◌>>=◌}
 use Rattle.pe_core.specs.Rows.{each}
 use Rattle.pe_core.specs.SectionIndex.{offset_or_end}
-use Rattle.pe_core.specs.Symbols.{AreSymbols, SymbolItem, inline_name, item_in, name_in, or_no_text, row_after, row_count, row_of, string_at, string_offset, symbol_in, symbol_name, symbol_names}
+use Rattle.pe_core.specs.Symbols.{AreSymbols, SymbolItem, inline_name, name_in, or_no_text, row_after, row_count, row_of, string_offset, symbol_in, symbol_name, symbol_names}
 use Rattle.pe_core.specs.SymbolSteps.{AreStringOffsets, name_by_text, named_at}
 use Rattle.pe_core.specs.Text.{text_at, texts_of}
 use Rattle.pe_core.specs.declared.symbol.Symbol.{Symbol}
-use Rattle.pe_core.proofs.ExportLists.{each-length, text_or_end}
-use Rattle.pe_core.proofs.Gathering.{Gathered, drop-each, gathered-start, gathered-more, gathered-done, gathered-refused, get_or-each, with_none, with_one}
+use Rattle.pe_core.proofs.ExportLists.{text_or_end}
+use Rattle.pe_core.proofs.Gathering.{Gathered, drop-each, gathered-start, gathered-more, gathered-done, gathered-refused, get_or-each}
 use Rattle.pe_core.proofs.ImportLists.{unless_memory}
 use Rattle.pe_core.proofs.SymbolRows.{first, row_of-next}
 

@@ -1,4 +1,4 @@
-use Rattle.std.proofs.Common.{length, ◌+◌, ◌-◌}
+use Rattle.std.proofs.Common.{length, ◌-◌}
 use Rattle.pe_core.specs.Imports.{entry_size}
 use Rattle.pe_core.proofs.EntryLists.{NoneIsZero}
 use Rattle.pe_core.proofs.many_lists.zero_entry.Given as goal
