@@ -20,6 +20,7 @@ KINDS = {
     "libraries-falling": "libraries in falling order",
     "libraries-equal": "libraries all equal, at one place",
     "libraries-same": "libraries all equal, each at a place of its own",
+    "libraries-one-text": "libraries at places inside one long text of one letter",
 }
 BASE = 0x1000
 
@@ -78,7 +79,7 @@ def imports(kind, out, size):
     struct.pack_into("<I", out, 0x58 + 112 + 8, BASE + directory)
     libraries = kind.startswith("libraries")
     if libraries:
-        per_record, width = 0, {"libraries-equal": 20, "libraries-falling": 40, "libraries-same": 40}[kind]
+        per_record, width = 0, {"libraries-equal": 20, "libraries-one-text": 30}.get(kind, 40)
         count = (size - directory) // width * 3 // 4
     elif kind == "imports-ordinary":
         per_record = 30
@@ -95,6 +96,9 @@ def imports(kind, out, size):
         entries = [0]
         if kind == "libraries-equal":
             names = [text] * count
+            texts = b"a" * length + b"\0"
+        elif kind == "libraries-one-text":
+            names = [text + length // count * i for i in range(count)]
             texts = b"a" * length + b"\0"
         else:
             name = {"libraries-falling": lambda i: b"library%08d.dll\0" % (count - i),

@@ -153,7 +153,7 @@ records-done offset w b p n i xs u v s end g is =
     let row : import_record_at offset w b (p + 20 * i) ≡ Ok None = ap (λ k. import_record_at offset w b (p + 20 * k)) end ∙ record-there offset w b (p + 20 * n) true le_end (s.last le_end) in
     gathered-done (λ k. import_record_at offset w b (p + 20 * k)) (suc (length b)) i xs g.gathered (omega (arith, end, few_records b p n s)) row
 
-unless_memory : (e : Error) (P : Type 0) → P → UnlessMemory e P
+pub unless_memory : (e : Error) (P : Type 0) → P → UnlessMemory e P
 unless_memory (errors.Malformed reason) P x = x
 unless_memory (errors.BadMagic magic) P x = x
 unless_memory (errors.Short at needed) P x = x

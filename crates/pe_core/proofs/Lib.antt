@@ -22,7 +22,11 @@ pub mod AddressLists
 pub mod Pigeonhole
 pub mod Gathering
 pub mod ImportLists
+pub mod FirstEntries
+pub mod EntryLists
+pub mod SymbolNames
 pub mod Libraries
+pub mod NamesRead
 pub mod Equality
 pub mod VariantEquality
 pub mod Reaches

@@ -7,7 +7,7 @@ use Rattle.pe_core.specs.Symbols.{SymbolItem, AreSymbols, item_in, row_of, row_a
 abbrev items_from : List ℕ → ℕ → ℕ → List SymbolItem
 items_from b k n = map (λ i. item_in b (row_of b i)) (range_with_len k n)
 
-row_of-next : (b : List ℕ) (k : ℕ) → row_of b (k + 1) ≡ row_after b (row_of b k)
+pub row_of-next : (b : List ℕ) (k : ℕ) → row_of b (k + 1) ≡ row_after b (row_of b k)
 unfolding row_of
 row_of-next b k =
     let next : k + 1 ≡ suc k = omega arith in
@@ -28,7 +28,7 @@ over b k (x ∷ xs) h =
     let more = over b (k + 1) xs (subst (λ row. AreSymbols b row xs) (sym (row_of-next b k)) h.2) in
     subst (λ i. row_count b ≤ row_of b i) (sym same) more
 
-first : (b : List ℕ) → row_of b 0 ≡ 0
+pub first : (b : List ℕ) → row_of b 0 ≡ 0
 unfolding row_of
 first b = refl
 

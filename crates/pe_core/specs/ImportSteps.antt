@@ -1,9 +1,12 @@
 -- How the imports are read, step by step. Only private contracts cite this.
 use Rattle.std.specs.Prelude.{◌≡◌, ℕ, ◌+◌, ◌*◌, ◌-◌, ◌%◌, ◌^◌, ◌<◌, ◌≤◌, true, false, min, List, length, Option, slice_index_or, if◌then◌else◌}
 use Rattle.std.specs.Borrow.{Bor}
+use Rattle.std.specs.List.{All, Contains}
 use Rattle.std.specs.Option.{option_and_then, option_map}
 use Rattle.pe_core.specs.Records.{import_entry}
+use Rattle.pe_core.specs.Bytes.{le}
 use Rattle.pe_core.specs.declared.import_list.Entry.{Entry}
+use Rattle.pe_core.specs.declared.many_lists.Entries.{Entries}
 use Rattle.pe_core.specs.Imports.{EntryView, is_last, is_ordinal}
 use Rattle.pe_core.specs.SectionIndex.{offset_or_end}
 use Rattle.pe_core.specs.Text.{text_at}
@@ -30,3 +33,14 @@ hint_offset_of offset w e = if is_ordinal w e then 2 ^ 64 - 1 else min (offset_o
 -- these are the texts at the offsets of the entries' names
 pub record AreEntryNames (offset : ℕ → Option ℕ) (w : ℕ) (b : List ℕ) (entries : List Entry) (names : List (Option (Bor (List ℕ)))) : Type 0 where
   pub are : (i : ℕ) (d : Option (Bor (List ℕ))) (e : Entry) → i < length names → option_map (λ s. s.now) (slice_index_or names i d) ≡ text_at b (hint_offset_of offset w (entry_view (slice_index_or entries i e)))
+
+-- these are the same numbers, whatever their order and however often
+pub record AreSameNumbers (xs ys : List ℕ) : Type 0 where
+  pub kept : All (Contains ys) xs
+  pub only : All (Contains xs) ys
+
+-- the entries of w bytes from `start` on are there and not zero, up to the zero one at `end`; each is some entries before it
+pub record IsList (w : ℕ) (b : List ℕ) (list : Entries) : Type 0 where
+  pub inside : list.end + w ≤ length b
+  pub last : le b list.end w ≡ 0
+  pub before : (k : ℕ) → 0 < k → list.start + w * k ≤ list.end → 0 < le b (list.end - w * k) w

@@ -1,9 +1,9 @@
 -- Imports: the import directory, and the lookup entries of its records. (PE format: the .idata section.)
-use Rattle.std.specs.Prelude.{ℕ, suc, ◌+◌, ◌-◌, ◌*◌, ◌/◌, ◌%◌, ◌^◌, ◌==◌, ◌||◌, Bool, List, [], map, flat_map, length, nat_le, Option, Some, None, Result, Ok, Err, if◌then◌else◌}
+use Rattle.std.specs.Prelude.{ℕ, suc, ◌+◌, ◌-◌, ◌*◌, ◌/◌, ◌%◌, ◌^◌, ◌==◌, ◌||◌, Bool, List, [], map, flat_map, length, take, nat_le, Option, Some, None, Result, Ok, Err, if◌then◌else◌}
 use Rattle.std.specs.Cmp.Lexicographic.{slice_cmp}
 use Rattle.std.specs.List.{All, Contains}
 use Rattle.std.specs.List.Sorted.{IsStrictlySortedBy}
-use Rattle.std.specs.Option.{option_map}
+use Rattle.std.specs.Option.{option_and_then, option_map}
 use Rattle.std.specs.Ordering.{nat_cmp}
 use Rattle.pe_core.specs.Bytes.{le, range, record_at}
 use Rattle.pe_core.specs.Gathered.{all_or_refusal, up_to_none}
@@ -100,6 +100,10 @@ pub record AreLibraries (names libraries : List (List ℕ)) : Type 0 where
   pub named : All (Contains names) libraries
   pub whole : All (Contains libraries) names
 
+-- the text at the RVA of a record's name, if one is there
+abbrev pub name_read_of : (ℕ → Option ℕ) → List ℕ → ImportRecordView → Option (List ℕ)
+name_read_of offset b r = option_and_then (text_at b) (offset r.import_directory_entry.name_rva)
+
 -- ---- the list
 
 -- a lookup entry, with the DLL's name and the RVA of its entry of the address table
@@ -137,3 +141,7 @@ import_of offset w b e =
 -- the imports of all entries, or the first refusal
 unfoldable pub imports : (ℕ → Option ℕ) → ℕ → List ℕ → List ImportRecordView → Result (List ImportView) Refusal
 imports offset w b records = all_or_refusal (map (import_of offset w b) (import_entries w records))
+
+-- the imports of the first entries, at most so many, or the first refusal among them
+unfoldable pub first_imports : (ℕ → Option ℕ) → ℕ → List ℕ → List ImportRecordView → ℕ → Result (List ImportView) Refusal
+first_imports offset w b records most = all_or_refusal (map (import_of offset w b) (take most (import_entries w records)))

@@ -29,6 +29,7 @@ pub mod SectionIndex
 pub mod SectionWindow
 pub mod Relocations
 pub mod Symbols
+pub mod SymbolSteps
 pub mod Strings
 pub mod TeImages
 pub mod Chains

@@ -5,7 +5,9 @@ use Rattle.std.specs.Int.{w16, cast_signed}
 use Rattle.std.specs.List.{before_first}
 use Rattle.std.specs.Option.{option_map}
 use Rattle.pe_core.specs.Bytes.{le, range, record_at}
-use Rattle.pe_core.specs.Refusals.{Refusal, StringTable}
+use Rattle.pe_core.specs.Gathered.{up_to_none}
+use Rattle.pe_core.specs.Refusals.{Refusal, StringTable, ◌>>=◌}
+use Rattle.pe_core.specs.Rows.{each}
 use Rattle.pe_core.specs.Text.{text_of, text_at}
 use Rattle.pe_core.specs.declared.header.CoffHeader.{CoffHeader}
 use Rattle.pe_core.specs.declared.symbol.Symbol.{Symbol}
@@ -79,6 +81,16 @@ item_in b row = record { row = row; name = inline_name (symbol_in b row).name; s
 abbrev pub AreSymbols : List ℕ → ℕ → List SymbolItem → Type 0
 AreSymbols b row [] = row_count b ≤ row
 AreSymbols b row (item ∷ more) = (row < row_count b) × (item ≡ item_in b row) × AreSymbols b (row_after b row) more
+
+-- ---- the names of all symbols
+
+-- the name of the symbol in an entry, or `None` after the last entry
+abbrev pub name_in : List ℕ → List ℕ → ℕ → Result (Option (List ℕ)) Refusal
+name_in b table row = if nat_le (row_count b) row then Ok None else (symbol_name (symbol_in b row) table >>= λ name. Ok (Some name))
+
+-- the names of the symbols in order, or the first refusal; there are no more symbols than entries
+unfoldable pub symbol_names : List ℕ → List ℕ → Result (List (List ℕ)) Refusal
+symbol_names b table = up_to_none (each (λ k. name_in b table (row_of b k)) (suc (row_count b)))
 
 -- ---- the iterator
 

@@ -2,11 +2,11 @@
 //! ([layout](https://learn.microsoft.com/windows/win32/debug/pe-format#the-idata-section)). A caller parses
 //! `ImportData` from data directory 1, and passes it to `Import::parse_with_opts` for the list of imports.
 
-ghost use Rattle.std.specs.Prelude.{◌≡◌, ◌*◌, ◌+◌, ◌/◌, ◌≤◌, length, map, IfErr, IfOk, Some};
+ghost use Rattle.std.specs.Prelude.{◌≡◌, ◌*◌, ◌+◌, ◌/◌, ◌≤◌, length, map, All, IfErr, IfOk, Some};
 ghost use Rattle.std.specs.Option.{option_and_then, option_map};
 ghost use Rattle.pe_core.specs.Bytes.{le, range, record_at};
 ghost use Rattle.pe_core.specs.Imports.{AreLibraries, import_data_view, import_data_at, import_record, import_record_view, import_records, entry_size, lookups_at, lookups_rva};
-ghost use Rattle.pe_core.specs.ImportSteps.{AreNames, StandInFront};
+ghost use Rattle.pe_core.specs.ImportSteps.{AreNames, IsList, StandInFront};
 ghost use Rattle.pe_core.specs.Options.{default_options};
 ghost use Rattle.pe_core.specs.Records.{import_entry};
 ghost use Rattle.pe_core.specs.Refusals.{Returns, ReturnsAs, ReturnsUnlessMemory, ReturnsUnlessMemoryAfter};
@@ -19,6 +19,7 @@ ghost use Rattle.pe_core.specs.declared.error.Error.TheVariants.{Memory};
 use crate::bytes::{read_u32, read_u64, require_bytes};
 use crate::data_directories::DataDirectory;
 use crate::error::{Error, Reason, Result};
+use crate::many_lists::{Entries, lists_at, lookups_among};
 use crate::many_texts::texts_at;
 use crate::options::ParseOptions;
 use crate::section_index::{SectionIndex, SectionMap, mapped_offset};
@@ -146,18 +147,20 @@ pub fn lookups_at(bytes: &[u8], offset: usize, is_64: bool) -> Result<&[u8]>
     }
 }
 
-/// The lookup entries of a record. None if their RVA is unmapped.
+/// The lookup entries of a record, by the lists of `lists_at`. None if their RVA is unmapped.
 fn lookups_of<'a>(
     bytes: &'a [u8],
     entry: &ImportDirectoryEntry,
+    lists: &[Entries],
     sections: &SectionMap<'_>,
     is_64: bool,
 ) -> Result<&'a [u8]>
+    requires { All (IsList (entry_size is_64) bytes.now) lists.now }
     ensures { ReturnsAs (λ s. s.now) result (lookups_at
         (entry_size is_64) bytes.entry.now (offset_in sections.now (lookups_rva entry.now))) }
 {
     match sections.find(entry.lookups_rva() as usize) {
-        Some(offset) => lookups_at(bytes, offset, is_64),
+        Some(offset) => lookups_among(bytes, lists, offset, is_64),
         None => Ok(&[]),
     }
 }
@@ -169,10 +172,12 @@ fn import_record<'a>(
     bytes: &'a [u8],
     entry: ImportDirectoryEntry,
     name: Option<&'a str>,
+    lists: &[Entries],
     sections: &SectionMap<'_>,
     is_64: bool,
 ) -> Result<SyntheticImportDirectoryEntry<'a>>
-    requires { option_map (λ s. s.now) name ≡ option_and_then (text_at bytes.now)
+    requires lists { All (IsList (entry_size is_64) bytes.now) lists.now }
+    requires name { option_map (λ s. s.now) name ≡ option_and_then (text_at bytes.now)
         (offset_in sections.now entry.name_rva) }
     ensures { ReturnsAs (λ r. Some (import_record_view r)) result
         (import_record (offset_in sections.now) (entry_size is_64) bytes.entry.now entry) }
@@ -181,7 +186,7 @@ fn import_record<'a>(
     let Some(name) = name else {
         return Err(Error::Malformed(Reason::ImportName(entry.name_rva)));
     };
-    let lookups = lookups_of(bytes, &entry, sections, is_64)?;
+    let lookups = lookups_of(bytes, &entry, lists, sections, is_64)?;
     Ok(SyntheticImportDirectoryEntry {
         import_directory_entry: entry,
         name,
@@ -230,16 +235,39 @@ fn name_offsets<A: Allocator>(
     Ok(offsets)
 }
 
-/// The records that have these names. `Short` if the record that ends the directory is truncated.
+/// The offsets of the lookup entries of the first `count` records.
+#[tactic(auto, unfolding(crate::specs::Rows::each))]
+fn list_offsets<A: Allocator>(
+    alloc: A,
+    bytes: &[u8],
+    offset: usize,
+    count: usize,
+    sections: &SectionMap<'_>,
+) -> std::result::Result<Vec<usize, A>, AllocError>
+    requires { StandInFront bytes.now offset count }
+    ensures { IfOk result (λ v. v.items ≡ each (λ i. offset_or_end
+        (offset_in sections.now (lookups_rva (import_entry bytes.now (offset + 20 * i))))) count) }
+{
+    let mut offsets = Vec::with_capacity(alloc, count)?;
+    for i in 0..count {
+        let entry = ImportDirectoryEntry::at(bytes, offset + SIZE_OF_IMPORT_ENTRY * i);
+        offsets.push(sections.find_or_end(entry.lookups_rva()))?;
+    }
+    Ok(offsets)
+}
+
+/// The records that have these names, by the lists of `lists_at`. `Short` if the record that ends the directory is truncated.
 #[tactic(auto, using(crate::proofs::ImportLists::records_read))]
 fn named_records<'a, A: Allocator>(
     alloc: A,
     bytes: &'a [u8],
     offset: usize,
     names: &[Option<&'a str>],
+    lists: &[Entries],
     sections: &SectionMap<'_>,
     is_64: bool,
 ) -> Result<Vec<SyntheticImportDirectoryEntry<'a>, A>>
+    requires lists { All (IsList (entry_size is_64) bytes.now) lists.now }
     requires stand { StandInFront bytes.now offset (length names.now) }
     requires names { AreNames (offset_in sections.now) bytes.now offset names.now }
     ensures { ReturnsUnlessMemory (λ v. map import_record_view v.items) result
@@ -248,7 +276,7 @@ fn named_records<'a, A: Allocator>(
     let mut records = Vec::with_capacity(alloc, names.len())?;
     for (i, name) in names.iter().enumerate() {
         let entry = ImportDirectoryEntry::at(bytes, offset + SIZE_OF_IMPORT_ENTRY * i);
-        records.push(import_record(bytes, entry, *name, sections, is_64)?)?;
+        records.push(import_record(bytes, entry, *name, lists, sections, is_64)?)?;
     }
     let end = offset + SIZE_OF_IMPORT_ENTRY * names.len();
     require_bytes(bytes, end, SIZE_OF_IMPORT_ENTRY)?;
@@ -271,7 +299,10 @@ fn records_at<'a, A: Allocator + Copy + Drop>(
     let offsets = name_offsets(alloc, bytes, offset, count, sections)?;
     // All names at once: many of them may lie in one long text.
     let names = texts_at(alloc, bytes, &offsets)?;
-    named_records(alloc, bytes, offset, &names, sections, is_64)
+    // All lists at once too: records may share them.
+    let starts = list_offsets(alloc, bytes, offset, count, sections)?;
+    let lists = lists_at(alloc, bytes, &starts, is_64)?;
+    named_records(alloc, bytes, offset, &names, &lists, sections, is_64)
 }
 
 /// The names of the DLLs, in the order of the records.
@@ -290,7 +321,7 @@ fn names_of<'a, A: Allocator>(
 }
 
 /// Sorts the names by their bytes, and keeps each once.
-fn sort_once<'a, A: Allocator>(names: &mut Vec<&'a str, A>)
+pub(crate) fn sort_once<'a, A: Allocator>(names: &mut Vec<&'a str, A>)
     ensures { AreLibraries (map (λ s. s.now) names.old.items) (map (λ s. s.now) names.new.items) }
 {
     names.sort_unstable();
@@ -371,7 +402,8 @@ impl<'a, A: Allocator + Copy + Drop> ImportData<'a, A> {
         Ok(ImportData { import_data })
     }
 
-    /// The names of the imported DLLs, sorted by their bytes, each once. Error: `Memory`.
+    /// The names of the imported DLLs, sorted by their bytes, each once. It compares the name of each record, to its end
+    /// where names are equal; `libraries_with_map` compares names at one offset once. Error: `Memory`.
     pub fn libraries(&self, alloc: A) -> Result<Vec<&'a str, A>>
         ensures listed { IfOk result (λ v. AreLibraries
             (map (λ r. r.name) (import_data_view self.now)) (map (λ s. s.now) v.items)) }

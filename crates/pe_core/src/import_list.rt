@@ -2,10 +2,10 @@
 //! ([layout](https://learn.microsoft.com/windows/win32/debug/pe-format#the-idata-section)). An entry is an ordinal, or
 //! the RVA of a hint and a name. A caller passes the `ImportData` of the image to `Import::parse_with_opts`.
 
-ghost use Rattle.std.specs.Prelude.{◌≡◌, ◌*◌, ◌/◌, ◌%◌, ◌^◌, ◌++◌, length, map, IfOk, OnOk};
+ghost use Rattle.std.specs.Prelude.{◌≡◌, ◌≤◌, ◌-◌, ◌*◌, ◌/◌, ◌%◌, ◌^◌, ◌++◌, length, map, min, take, IfOk, OnOk};
 ghost use Rattle.std.specs.Option.{option_map};
 ghost use Rattle.pe_core.specs.Gathered.{all_or_refusal};
-ghost use Rattle.pe_core.specs.Imports.{import_entries, import_entry_at, import_data_view, import_of, import_record_view, import_view, imports, entry_size};
+ghost use Rattle.pe_core.specs.Imports.{first_imports, import_entries, import_entry_at, import_data_view, import_of, import_record_view, import_view, imports, entry_size};
 ghost use Rattle.pe_core.specs.ImportSteps.{AreEntryNames, entry_view, hint_offset_of};
 ghost use Rattle.pe_core.specs.Refusals.{ReturnsAs, ReturnsUnlessMemory};
 ghost use Rattle.pe_core.specs.Rows.{each};
@@ -70,20 +70,28 @@ impl<'a> Entry<'a> {
     }
 }
 
-/// Appends the lookup entries of a record.
+/// The number of lookup entries of a record.
+fn entry_count(imported: &SyntheticImportDirectoryEntry<'_>, is_64: bool) -> usize
+    ensures { result ≡ length imported.now.lookups.now / entry_size is_64 }
+{
+    imported.lookups.len() / lookup_size(is_64)
+}
+
+/// Appends the first `count` lookup entries of a record.
 #[tactic(auto, unfolding(crate::specs::Rows::each))]
 fn push_entries<'a, A: Allocator>(
     imported: &SyntheticImportDirectoryEntry<'a>,
     is_64: bool,
+    count: usize,
     entries: &mut Vec<Entry<'a>, A>,
 ) -> std::result::Result<(), AllocError>
+    requires { count ≤ length imported.now.lookups.now / entry_size is_64 }
     ensures { OnOk result (map entry_view entries.new.items ≡ map entry_view entries.old.items
-        ++ each (import_entry_at (entry_size is_64) (import_record_view imported.now))
-        (length imported.now.lookups.now / entry_size is_64)) }
+        ++ each (import_entry_at (entry_size is_64) (import_record_view imported.now)) count) }
 {
     let size = lookup_size(is_64);
     let rva = u64::from(imported.import_directory_entry.address_table_rva);
-    for k in 0..imported.lookups.len() / size {
+    for k in 0..count {
         entries.push(Entry {
             dll: imported.name,
             entry: lookup_number(imported.lookups, size * k, is_64),
@@ -105,7 +113,39 @@ fn entries_of<'a, A: Allocator>(
 {
     let mut entries = Vec::new(alloc);
     for record in records {
-        push_entries(record, is_64, &mut entries)?;
+        push_entries(record, is_64, entry_count(record, is_64), &mut entries)?;
+    }
+    Ok(entries)
+}
+
+/// The number of lookup entries of all records, or `usize::MAX` if there are more.
+#[tactic(auto, using(crate::proofs::FirstEntries::entries_counted))]
+fn count_entries(records: &[SyntheticImportDirectoryEntry<'_>], is_64: bool) -> usize
+    ensures { result ≡ min (length (import_entries (entry_size is_64)
+        (map import_record_view records.now))) (2 ^ 64 - 1) }
+{
+    let mut count: usize = 0;
+    for record in records {
+        count = count.saturating_add(entry_count(record, is_64));
+    }
+    count
+}
+
+/// The first lookup entries of the records, at most `most`.
+#[tactic(auto, using(crate::proofs::FirstEntries::entries_read))]
+fn first_entries_of<'a, A: Allocator>(
+    alloc: A,
+    records: &[SyntheticImportDirectoryEntry<'a>],
+    is_64: bool,
+    most: usize,
+) -> std::result::Result<Vec<Entry<'a>, A>, AllocError>
+    ensures { IfOk result (λ v. map entry_view v.items ≡ take most
+        (import_entries (entry_size is_64) (map import_record_view records.now))) }
+{
+    let mut entries = Vec::new(alloc);
+    for record in records {
+        let count = entry_count(record, is_64).min(most - entries.len());
+        push_entries(record, is_64, count, &mut entries)?;
     }
     Ok(entries)
 }
@@ -205,6 +245,24 @@ fn named_imports<'a, A: Allocator>(
     Ok(imports)
 }
 
+/// The imports of these entries.
+fn imports_of<'a, A: Allocator + Copy + Drop>(
+    alloc: A,
+    bytes: &'a [u8],
+    entries: &[Entry<'a>],
+    sections: &SectionMap<'_>,
+    is_64: bool,
+) -> Result<Vec<Import<'a>, A>>
+    ensures { ReturnsUnlessMemory (λ v. map import_view v.items) result
+        (all_or_refusal (map (import_of (offset_in sections.now) (entry_size is_64) bytes.entry.now)
+        (map entry_view entries.now))) }
+{
+    let offsets = entry_offsets(alloc, entries, sections, is_64)?;
+    // All names at once: many of them may lie in one long text.
+    let names = texts_at(alloc, bytes, &offsets)?;
+    named_imports(alloc, bytes, entries, &names, sections, is_64)
+}
+
 impl<'a> Import<'a> {
     /// The imports of all records, in the order of their lookup entries. An entry whose highest bit is set is an
     /// ordinal, in its low 16 bits. Otherwise its low 31 bits are the RVA of a hint of 2 bytes, and the name follows
@@ -230,7 +288,8 @@ impl<'a> Import<'a> {
         Import::parse_with_map(alloc, bytes, import_data, &index.map(), is_64)
     }
 
-    /// The imports of all records, as `parse_with_opts` lists them, by a section map.
+    /// The imports of all records, as `parse_with_opts` lists them, by a section map. Records may share their lookup
+    /// entries, so these may be more imports than fit in memory; `parse_at_most` lists the first of them.
     #[tactic(auto, unfolding(crate::specs::Imports::imports))]
     pub fn parse_with_map<A: Allocator + Copy + Drop>(
         alloc: A,
@@ -244,9 +303,37 @@ impl<'a> Import<'a> {
             (entry_size is_64) bytes.entry.now (import_data_view import_data.now)) }
     {
         let entries = entries_of(alloc, &import_data.import_data, is_64)?;
-        let offsets = entry_offsets(alloc, &entries, sections, is_64)?;
-        // All names at once: many of them may lie in one long text.
-        let names = texts_at(alloc, bytes, &offsets)?;
-        named_imports(alloc, bytes, &entries, &names, sections, is_64)
+        imports_of(alloc, bytes, &entries, sections, is_64)
+    }
+
+    /// The imports of the first entries, at most `most`, as `parse_with_map` lists them. Records may share their lookup
+    /// entries, so an image may have more imports than fit in memory; `ImportData::import_count` says how many. Errors:
+    /// those of `parse_with_map`, of these entries alone. It asks for memory for these entries alone.
+    #[tactic(auto, unfolding(crate::specs::Imports::first_imports))]
+    pub fn parse_at_most<A: Allocator + Copy + Drop>(
+        alloc: A,
+        bytes: &'a [u8],
+        import_data: &ImportData<'a, A>,
+        sections: &SectionMap<'_>,
+        is_64: bool,
+        most: usize,
+    ) -> Result<Vec<Import<'a>, A>>
+        ensures { ReturnsUnlessMemory
+            (λ v. map import_view v.items) result (first_imports (offset_in sections.now)
+            (entry_size is_64) bytes.entry.now (import_data_view import_data.now) most) }
+    {
+        let entries = first_entries_of(alloc, &import_data.import_data, is_64, most)?;
+        imports_of(alloc, bytes, &entries, sections, is_64)
+    }
+}
+
+impl<'a, A: Allocator + Copy + Drop> ImportData<'a, A> {
+    /// The number of imports: of the lookup entries of all records. Takes no memory, and reads no entry. Records may share
+    /// their entries, so it may be larger than the image. `usize::MAX` if there are more.
+    pub fn import_count(&self, is_64: bool) -> usize
+        ensures { result ≡ min (length (import_entries (entry_size is_64)
+            (import_data_view self.now))) (2 ^ 64 - 1) }
+    {
+        count_entries(&self.import_data, is_64)
     }
 }

@@ -4,7 +4,8 @@ pub mod constants;
 pub mod derives;
 pub mod symbols;
 
-ghost use Rattle.std.specs.Prelude.{◌≡◌, ℕ, ◌+◌, ◌/◌, ◌<◌, ◌≤◌, ◌^◌, List, Ok, Option, Some, IsSome, length};
+ghost use Rattle.std.specs.Prelude.{◌≡◌, ℕ, ◌+◌, ◌/◌, ◌<◌, ◌≤◌, ◌^◌, List, Ok, Option, Some, IsSome, length, map};
+ghost use Rattle.std.specs.List.{filter_map};
 ghost use Rattle.pe_core.specs.declared.data_directories.DataDirectory.{DataDirectory};
 ghost use Rattle.pe_core.specs.declared.export_addresses.ExportAddress.{ExportAddress};
 ghost use Rattle.pe_core.specs.declared.options.ParseMode.{ParseMode};
@@ -12,6 +13,7 @@ ghost use Rattle.pe_core.specs.Bytes.{AreBytes, range, le, bytes_of, put};
 ghost use Rattle.pe_core.specs.Chains.{after, NeverStops, FollowsKey, HasKeysBelow, KeyDecides};
 ghost use Rattle.pe_core.specs.ExportAddresses.{NameView, address_at, address_with, addresses_of, name_at};
 ghost use Rattle.pe_core.specs.Exports.{ExportDataView, ExportView, export_at};
+ghost use Rattle.pe_core.specs.Imports.{ImportRecordView, first_imports, import_data_at, import_entries, imports, name_read_of};
 ghost use Rattle.pe_core.specs.Header.{OptionalHeaderView, HeaderView, optional_header_at, header_at};
 ghost use Rattle.pe_core.specs.Records.{dos_header, coff_header, standard_fields_32, standard_fields_64, windows_fields_32, windows_fields_64, data_directory, section_table, te_header};
 ghost use Rattle.pe_core.specs.Spelling.{spell_dos, spell_coff, spell_standard_fields_32, spell_standard_fields_64, spell_windows_fields_32, spell_windows_fields_64, spell_directory, spell_section, spell_te, spell_optional};
@@ -86,4 +88,21 @@ pub fn steps_that_never_stop<X>()
     ensures again { (step : X → Option X) (key : X → ℕ) (x y z : X) (i d : ℕ) →
         KeyDecides step key → after step i x ≡ Some y →
         after step (d + 1) y ≡ Some z → key y ≡ key z → NeverStops step x }
+{}
+
+/// The names of the records of a parsed import directory are those that are read again at the records' RVAs. So
+/// `ImportData::libraries_with_map` returns the names that `libraries` returns.
+#[tactic(auto, using(crate::proofs::NamesRead::names_read_again))]
+pub fn names_of_records_are_read_again()
+    ensures { (offset : ℕ → Option ℕ) (w : ℕ) (b : List ℕ) (rva : ℕ) (records : List ImportRecordView) →
+        import_data_at offset w b rva ≡ Ok records →
+        filter_map (name_read_of offset b) records ≡ map (λ r. r.name) records }
+{}
+
+/// The first imports are all imports if there are no more.
+#[tactic(auto, using(crate::proofs::FirstEntries::all_are_first))]
+pub fn imports_are_first_imports()
+    ensures { (offset : ℕ → Option ℕ) (w : ℕ) (b : List ℕ) (records : List ImportRecordView) (most : ℕ) →
+        length (import_entries w records) ≤ most →
+        first_imports offset w b records most ≡ imports offset w b records }
 {}

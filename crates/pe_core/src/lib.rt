@@ -18,6 +18,8 @@ mod header;
 mod import;
 mod import_list;
 pub mod laws;
+mod library_names;
+mod many_lists;
 mod many_texts;
 mod optional_header;
 mod options;
@@ -29,6 +31,7 @@ mod section_table;
 mod section_window;
 mod strtab;
 mod symbol;
+mod symbol_names;
 mod table_entries;
 mod text;
 

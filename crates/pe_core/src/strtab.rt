@@ -19,7 +19,7 @@ use crate::text::{from_offset, text_at, text_of};
 use std::alloc::Allocator;
 
 /// The size field before the strings, in bytes.
-const SIZE_FIELD: usize = 4;
+pub(crate) const SIZE_FIELD: usize = 4;
 
 /// The string table of an object or image.
 #[derive(Clone, Copy, Debug, PartialEq)]

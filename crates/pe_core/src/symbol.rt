@@ -1,7 +1,7 @@
 //! COFF symbols: the symbol table of an object or image
 //! ([layout](https://learn.microsoft.com/windows/win32/debug/pe-format#coff-symbol-table)). A symbol may be followed by
 //! auxiliary records of the same size, which are not symbols. A caller gets the table from `CoffHeader::symbols`, and
-//! names by `Symbol::name`.
+//! names by `Symbol::name`, or all of them by `SymbolTable::names`.
 
 ghost use Rattle.std.specs.Prelude.{◌≡◌, ◌+◌, ◌-◌, ◌*◌, ◌/◌, ◌≤◌, length};
 ghost use Rattle.std.specs.Iterator.{at_most};
@@ -39,7 +39,7 @@ pub struct Symbol {
 }
 
 /// The name in the 8 bytes themselves. `None` if they start with a zero, or are not UTF-8 up to the first zero.
-fn inline_name(name: &[u8]) -> Option<&str>
+pub(crate) fn inline_name(name: &[u8]) -> Option<&str>
     requires { length name.now ≡ 8 }
     ensures { option_map (λ s. s.now) result ≡ inline_name name.now }
 {
@@ -55,7 +55,7 @@ impl Symbol {
 
     /// The symbol at `offset`, whose 18 bytes the caller knows to lie in `bytes`.
     #[tactic(auto, unfolding(crate::specs::Symbols::symbol))]
-    fn at(bytes: &[u8], offset: usize) -> Symbol
+    pub(crate) fn at(bytes: &[u8], offset: usize) -> Symbol
         requires { offset + 18 ≤ length bytes.now }
         ensures { result ≡ symbol bytes.now offset }
     {
@@ -80,7 +80,7 @@ impl Symbol {
     }
 
     /// The name: that in the 8 bytes themselves, or, if they start with a zero, the string of `strings` at the offset
-    /// in the last 4 of them. Error: `StringTable` if no string is there, if it is not NUL-terminated, or if the name
+    /// in the last 4 of them, which is read to its end. `SymbolTable::names` returns the names of all symbols. Error: `StringTable` if no string is there, if it is not NUL-terminated, or if the name
     /// is not UTF-8.
     #[tactic(auto, unfolding(crate::specs::Symbols::symbol_name))]
     pub fn name<'a>(&'a self, strings: &Strtab<'a>) -> Result<&'a str>
