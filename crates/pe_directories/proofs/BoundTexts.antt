@@ -1,10 +1,10 @@
 -- The texts at all offsets of a directory of bound imports.
-use Rattle.std.proofs.Common.{◌≡◌, ℕ, ◌+◌, ◌<◌, ◌≤◌, ◌^◌, min, List, [], length, map, get_or, drop, Option, None, refl, ap, sym, ◌∙◌, arith}
+use Rattle.std.proofs.Common.{◌≡◌, ℕ, ◌<◌, ◌≤◌, ◌^◌, min, List, [], length, get_or, Option, None, refl, ap, sym, ◌∙◌, arith}
 use Rattle.std.specs.Borrow.{Bor}
 use Rattle.std.specs.Option.{option_map}
 use Rattle.std.proofs.lemmas.List.{drop_all, get_or-map, length-map}
 use Rattle.pe_core.specs.Rows.{each}
-use Rattle.pe_core.specs.Text.{text_at, text_to_zero, texts_of}
+use Rattle.pe_core.specs.Text.{text_at, text_to_zero}
 use Rattle.pe_core.proofs.EntryItems.{get_or-each, length-each}
 use Rattle.pe_core.proofs.Texts.{zero_missing}
 use Rattle.pe_directories.specs.BoundImports.{AreTexts}

@@ -1,8 +1,7 @@
-use Rattle.std.proofs.Common.{◌≡◌, ℕ, ◌<◌, ◌∷◌, [], List, length, Result, Ok, Err, None, refl, arith, rules}
+use Rattle.std.proofs.Common.{◌<◌, ◌∷◌, [], length, Ok, Err, None, refl, rules}
 use Rattle.std.proofs.lemmas.Slice.{pushed}
 use Rattle.pe_directories.specs.DelayImports.{dll_of, dll_view}
 use Rattle.pe_directories.specs.DelayImportSteps.{dll_name_offset, entry_items}
-use Rattle.pe_directories.specs.DirectoryRefusals.{DirectoryRefusal}
 use Rattle.pe_directories.proofs.DelayLists.{entry_taken, no_entry, taken_is, name_is, names_after, names_below}
 use Rattle.pe_directories.proofs.WalkLists.{all_read, one_pushed, refused_item, refused_read}
 use Rattle.pe_directories.proofs.delay_import_list.named_dlls.Goals as goal

@@ -1,4 +1,4 @@
-use Rattle.std.proofs.Common.{◌≡◌, ℕ, ◌^◌, List, map, length, min, ap, ◌∙◌, rules}
+use Rattle.std.proofs.Common.{◌≡◌, ◌^◌, map, length, min, ap, ◌∙◌, rules}
 use Rattle.pe_core.specs.Rows.{each}
 use Rattle.pe_core.specs.Text.{text_at}
 use Rattle.pe_directories.proofs.bound_import.BoundImportDirectory.names.Goals as goal

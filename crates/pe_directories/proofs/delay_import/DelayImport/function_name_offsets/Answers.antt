@@ -1,4 +1,4 @@
-use Rattle.std.proofs.Common.{ℕ, List, map, refl, ◌∷◌, []}
+use Rattle.std.proofs.Common.{ℕ, map, refl, ◌∷◌, []}
 use Rattle.std.proofs.lemmas.Slice.{pushed}
 use Rattle.pe_directories.specs.DelayImportSteps.{function_name_offset, item_offset, table_items}
 use Rattle.pe_directories.specs.DirectoryRefusals.{directory_answer}

@@ -1,8 +1,7 @@
-use Rattle.std.proofs.Common.{◌≡◌, ℕ, ◌<◌, ◌∷◌, [], List, length, Result, Ok, Err, None, refl, arith, rules}
+use Rattle.std.proofs.Common.{◌<◌, ◌∷◌, [], length, Ok, Err, None, refl, rules}
 use Rattle.std.proofs.lemmas.Slice.{pushed}
 use Rattle.pe_directories.specs.DelayImports.{imported_by, function_view}
 use Rattle.pe_directories.specs.DelayImportSteps.{function_name_offset, table_items}
-use Rattle.pe_directories.specs.DirectoryRefusals.{DirectoryRefusal}
 use Rattle.pe_directories.proofs.DelayLists.{number_taken, no_number, taken_is, name_is, names_after, names_below}
 use Rattle.pe_directories.proofs.WalkLists.{all_read, one_pushed, refused_item, refused_read}
 use Rattle.pe_directories.proofs.delay_import.DelayImport.named_functions.Goals as goal
