@@ -2,7 +2,7 @@
 #![tactic(auto)]
 
 mod arm64;
-mod delayed_dlls;
+mod delay_imports;
 mod directories;
 mod frames;
 mod imports;
@@ -17,7 +17,7 @@ mod versions;
 mod writing;
 
 pub use arm64::arm64_codes;
-pub use delayed_dlls::delayed_dlls;
+pub use delay_imports::delayed_dlls;
 pub use directories::first_tls_callback;
 pub use frames::{Frame, frame_at, frame_of};
 pub use imports::import_names;
