@@ -22,11 +22,11 @@ get_or-each f (suc n) i d lt = ⊎_elim
 pub drop-each : {X : Type 0} (f : ℕ → X) (n i : ℕ) → i < n → drop i (each f n) ≡ f i ∷ drop (suc i) (each f n)
 drop-each f n i lt = drop-cons (each f n) i (f i) (omega (arith, lt, each-length f n)) ∙ ap (λ x. x ∷ drop (suc i) (each f n)) (get_or-each f n i (f i) lt)
 
-pub with_none : {X : Type 0} (r : Result (List X) Refusal) → with_rest [] r ≡ r
+pub with_none : {X R : Type 0} (r : Result (List X) R) → with_rest [] r ≡ r
 with_none (Ok xs) = refl
 with_none (Err e) = refl
 
-pub with_one : {X : Type 0} (xs : List X) (x : X) (r : Result (List X) Refusal) → with_rest (xs ++ x ∷ []) r ≡ with_rest xs (with_rest (x ∷ []) r)
+pub with_one : {X R : Type 0} (xs : List X) (x : X) (r : Result (List X) R) → with_rest (xs ++ x ∷ []) r ≡ with_rest xs (with_rest (x ∷ []) r)
 with_one xs x (Ok ys) = ap (λ (l : List _). Ok l) (append_assoc xs (x ∷ []) ys)
 with_one xs x (Err e) = refl
 

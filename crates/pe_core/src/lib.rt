@@ -57,6 +57,7 @@ pub use import::{
     lookups_at,
 };
 pub use import_list::Import;
+pub use many_texts::texts_at;
 pub use optional_header::{MAGIC_32, MAGIC_64, OptionalHeader, StandardFields, WindowsFields};
 pub use options::{ParseMode, ParseOptions};
 pub use relocation::RelocationData;

@@ -196,9 +196,10 @@ fn text_among<'a>(bytes: &'a [u8], runs: &[Run<'a>], offset: usize) -> Option<&'
     text_at(bytes, offset)
 }
 
-/// The texts at the offsets, in their order. Takes about as long as it takes to sort the offsets and to read each byte
-/// twice, however many of them lie in one text.
-pub(crate) fn texts_at<'a, A: Allocator + Copy + Drop>(
+/// The NUL-terminated texts at the offsets, in their order: of each offset what `text_at` returns. It takes about as
+/// long as to sort the offsets and to read each byte twice, however many of the texts overlap; `text_at` for each of
+/// them would read an overlapped byte once for each. Error: `AllocError`, if memory runs out.
+pub fn texts_at<'a, A: Allocator + Copy + Drop>(
     alloc: A,
     bytes: &'a [u8],
     offsets: &[usize],

@@ -1,4 +1,7 @@
 pub mod WholeWalks
+pub mod WalkLists
+pub mod DelayLists
+pub mod BoundTexts
 pub mod RelocationWalks
 pub mod Names
 pub mod OtherWalks

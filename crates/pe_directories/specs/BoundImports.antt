@@ -1,9 +1,11 @@
 -- Bound imports. (winnt.h: IMAGE_BOUND_IMPORT_DESCRIPTOR, IMAGE_BOUND_FORWARDER_REF.)
-use Rattle.std.specs.Prelude.{ℕ, ◌+◌, ◌*◌, ◌==◌, ◌&&◌, ◌||◌, List, [], ◌∷◌, length, drop, Bool, Option, Some, None, Result, Ok, Err, if◌then◌else◌}
+use Rattle.std.specs.Prelude.{◌≡◌, ℕ, ◌+◌, ◌*◌, ◌^◌, ◌==◌, ◌&&◌, ◌||◌, min, List, [], ◌∷◌, map, length, drop, Bool, Option, Some, None, Result, Ok, Err, if◌then◌else◌}
+use Rattle.std.specs.Borrow.{Bor}
 use Rattle.std.specs.Option.{option_map}
 use Rattle.pe_core.specs.Bytes.{le, range, holds, record_at}
 use Rattle.pe_core.specs.Refusals.{Short, outcome}
-use Rattle.pe_core.specs.Text.{text_at}
+use Rattle.pe_core.specs.Rows.{each}
+use Rattle.pe_core.specs.Text.{text_at, texts_of}
 use Rattle.pe_core.specs.declared.data_directories.DataDirectory.{DataDirectory}
 use Rattle.pe_directories.specs.DirectoryRefusals.{DirectoryRefusal, Image, BoundImportName, of_image}
 use Rattle.pe_directories.specs.Walks.{First}
@@ -57,6 +59,10 @@ name_or_refusal (Some name) = Ok name
 
 unfoldable pub bound_name : List ℕ → ℕ → Result (List ℕ) DirectoryRefusal
 bound_name table offset = name_or_refusal (text_at table offset)
+
+-- these are the texts at all offsets of the directory that 16 bits can say
+abbrev pub AreTexts : List ℕ → List (Option (Bor (List ℕ))) → Type 0
+AreTexts table texts = texts_of texts ≡ map (text_at table) (each (λ offset. offset) (min (length table) (2 ^ 16)))
 
 -- the bytes that a walk has left
 abbrev pub bound_imports_left : BoundImports → Option (List ℕ)

@@ -7,10 +7,12 @@ use Rattle.pe_core.specs.Text.{text_at}
 use Rattle.pe_core.specs.declared.data_directories.DataDirectory.{DataDirectory}
 use Rattle.pe_directories.specs.DirectoryRefusals.{DirectoryRefusal, Image, DelayImportName, of_image}
 use Rattle.pe_directories.specs.ImageParts.{ImageView, offset_of_rva, offset_of_va, table_of}
-use Rattle.pe_directories.specs.Walks.{First}
+use Rattle.pe_directories.specs.Walks.{First, all_items, each_read}
+use Rattle.pe_directories.specs.VaTables.{first_va}
 use Rattle.pe_directories.specs.declared.delay_import.DelayImport.{DelayImport}
 use Rattle.pe_directories.specs.declared.delay_import.DelayImports.{DelayImports}
 use Rattle.pe_directories.specs.declared.delay_import.DelayedFunction.{DelayedFunction}
+use Rattle.pe_directories.specs.declared.delay_import_list.DelayedDll.{DelayedDll}
 use Rattle.pe_directories.specs.declared.delay_import.DelayedFunction.TheVariants as functions
 
 -- an entry of the directory, 32 bytes
@@ -89,3 +91,25 @@ unfoldable pub imported_by : ImageView → DelayImport → ℕ → Result Functi
 imported_by i e number =
     if nat_le (ordinal_flag i.is_64) number then Ok (Ordinal (number % 2 ^ 16))
     else (offset_in_entry i e (number % 2 ^ 31) >>= hint_and_name i)
+
+-- ---- lists
+
+-- a DLL as callers see it
+pub record Dll : Type 0 where
+  pub entry : DelayImport
+  pub name : List ℕ
+
+abbrev pub dll_view : DelayedDll → Dll
+dll_view d = record { entry = d.entry; name = d.name.now }
+
+-- an entry with the name of its DLL
+abbrev pub dll_of : ImageView → DelayImport → Result Dll DirectoryRefusal
+dll_of i e = delay_dll i e >>= λ name. Ok (record { entry = e; name = name })
+
+-- all DLLs that are left of a directory, or the first refusal
+abbrev pub dlls_left : ImageView → Option (List ℕ) → Result (List Dll) DirectoryRefusal
+dlls_left i left = each_read (dll_of i) (all_items first_delay_import left)
+
+-- all that is imported of a DLL: what each number of its table imports, or the first refusal
+abbrev pub functions_of : ImageView → DelayImport → Result (List Function) DirectoryRefusal
+functions_of i e = lookup_table i e >>= λ table. each_read (imported_by i e) (all_items (first_va i.is_64) table)

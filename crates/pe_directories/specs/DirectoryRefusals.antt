@@ -1,6 +1,6 @@
 -- What an error of a directory is, without its numbers and its text.
 use Rattle.std.specs.Prelude.{◌≡◌, Result, Ok, Err}
-use Rattle.pe_core.specs.Refusals.{Refusal, kind_of}
+use Rattle.pe_core.specs.Refusals.{Refusal, UnlessMemory, kind_of}
 use Rattle.pe_directories.specs.declared.error.DirectoryError.{DirectoryError}
 use Rattle.pe_directories.specs.declared.error.DirectoryError.TheVariants as errors
 
@@ -42,3 +42,20 @@ of_image (Err r) = Err (Image r)
 abbrev pub directory_answer : {X Y : Type 0} → (X → Y) → Result X DirectoryError → Result Y DirectoryRefusal
 directory_answer view (Ok x) = Ok (view x)
 directory_answer view (Err e) = Err (directory_kind_of e)
+
+-- P holds, unless the error is `Image` with `Memory`
+abbrev pub UnlessNoMemory : DirectoryError → Type 0 → Type 0
+UnlessNoMemory (errors.Image error) P = UnlessMemory error P
+UnlessNoMemory (errors.BlockSize size) P = P
+UnlessNoMemory (errors.BlockTruncated size length) P = P
+UnlessNoMemory (errors.NoArgument rva) P = P
+UnlessNoMemory (errors.VaBelowBase va) P = P
+UnlessNoMemory (errors.ClrHeaderSize size) P = P
+UnlessNoMemory errors.StreamName P = P
+UnlessNoMemory (errors.DelayImportName address) P = P
+UnlessNoMemory (errors.BoundImportName offset) P = P
+
+-- the same as `DirectoryReturns` for a call that allocates, which may also return `Image` with `Memory`
+abbrev pub DirectoryReturnsUnlessMemory : {X Y : Type 0} → (X → Y) → Result X DirectoryError → Result Y DirectoryRefusal → Type 0
+DirectoryReturnsUnlessMemory view (Ok x) defined = defined ≡ Ok (view x)
+DirectoryReturnsUnlessMemory view (Err e) defined = UnlessNoMemory e (defined ≡ Err (directory_kind_of e))

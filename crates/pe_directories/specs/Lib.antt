@@ -7,6 +7,7 @@ pub mod BoundImports
 pub mod VaTables
 pub mod Tls
 pub mod DelayImports
+pub mod DelayImportSteps
 pub mod Clr
 pub mod LoadConfig
 pub mod Chosen

@@ -1,6 +1,8 @@
 -- Walks: items that follow one another. What a walk is over is defined by `first`: what stands first in what is left, which is
 -- nothing, an item with what is left after it, or a refusal.
-use Rattle.std.specs.Prelude.{◌≡◌, ℕ, ◌+◌, ◌<◌, List, [], ◌∷◌, length, Option, Some, None, Result, Ok, Err}
+use Rattle.std.specs.Prelude.{◌≡◌, ℕ, zero, suc, ◌+◌, ◌<◌, List, [], ◌∷◌, map, length, Option, Some, None, Result, Ok, Err}
+use Rattle.pe_core.specs.Gathered.{all_or_refusal}
+use Rattle.pe_core.specs.Refusals.{◌>>=◌}
 use Rattle.pe_directories.specs.DirectoryRefusals.{DirectoryRefusal, directory_kind_of}
 use Rattle.pe_directories.specs.declared.error.DirectoryError.{DirectoryError}
 
@@ -52,3 +54,25 @@ LeavesFewer rest b (Some (Err e)) = Unit {0}
 abbrev pub most_left : Option (List ℕ) → ℕ
 most_left None = 0
 most_left (Some b) = length b + 1
+
+-- ---- a whole walk as a list
+
+-- an item, then the items that `more` finds in what is left after it; a refusal is the last
+abbrev pub with_more : {X S : Type 0} → (S → List (Result X DirectoryRefusal)) → First X S → List (Result X DirectoryRefusal)
+with_more more None = []
+with_more more (Some (Ok y)) = Ok y.0 ∷ more y.1
+with_more more (Some (Err r)) = Err r ∷ []
+
+-- the first items of what is left, at most n of them
+unfoldable pub first_items : {X S : Type 0} → (S → First X S) → ℕ → S → List (Result X DirectoryRefusal)
+first_items first zero s = []
+first_items first (suc n) s = with_more (first_items first n) (first s)
+
+-- all items of a walk over bytes; there are at most as many as bytes, and an error
+unfoldable pub all_items : {X : Type 0} → (List ℕ → First X (List ℕ)) → Option (List ℕ) → List (Result X DirectoryRefusal)
+all_items first None = []
+all_items first (Some b) = first_items first (suc (length b)) b
+
+-- what `read` makes of each item, or the first refusal, of an item or of `read`
+unfoldable pub each_read : {X Y : Type 0} → (X → Result Y DirectoryRefusal) → List (Result X DirectoryRefusal) → Result (List Y) DirectoryRefusal
+each_read read items = all_or_refusal (map (λ item. item >>= read) items)

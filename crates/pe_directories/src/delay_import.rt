@@ -3,12 +3,14 @@
 //! loaded when one of their functions is called first. An entry of 32 bytes for each DLL leads to its name, and to a table of
 //! what is imported of it, which is a lookup table as that of the import directory.
 //!
-//! A caller walks through the entries, through the table of each, and reads what a number of the table imports. Linkers before
-//! Visual C++ 7 wrote virtual addresses instead of RVAs, and left bit 0 of the attributes clear.
+//! A caller walks through the entries, through the table of each, and reads what a number of the table imports; or it lists
+//! the DLLs, and what is imported of each, by `DelayImports::dlls` and `DelayImport::functions`. Linkers before Visual C++ 7
+//! wrote virtual addresses instead of RVAs, and left bit 0 of the attributes clear.
 
-ghost use Rattle.std.specs.Prelude.{◌≡◌, ◌+◌, ◌≤◌, length, IfOk};
+ghost use Rattle.std.specs.Prelude.{◌≡◌, ◌+◌, ◌%◌, ◌^◌, ◌≤◌, length, IfOk};
 ghost use Rattle.std.specs.Iterator.{at_most};
 ghost use Rattle.pe_directories.specs.DelayImports.{delay_import_at, first_delay_import, delay_import_table, delay_imports_left, offset_in_entry, delay_name, delay_dll, lookup_table, function_view, hint_and_name, imported_by};
+ghost use Rattle.pe_directories.specs.DelayImportSteps.{ordinal_of};
 ghost use Rattle.pe_directories.specs.DirectoryRefusals.{DirectoryReturns};
 ghost use Rattle.pe_directories.specs.ImageParts.{image_view};
 ghost use Rattle.pe_directories.specs.VaTables.{vas_left, vas_are_64};
@@ -16,8 +18,10 @@ ghost use Rattle.pe_directories.specs.Walks.{ReturnsFirst, LeavesFewer, Steps, m
 
 use crate::error::{DirectoryError, Result};
 use crate::image_bytes::ImageBytes;
+use crate::indexed_image::IndexedImage;
 use crate::va_table::VaTable;
 use pe_core::{DataDirectory, read_u32, require_bytes, text_at, u16_at};
+use std::alloc::Allocator;
 
 /// The size of an entry in bytes.
 const SIZE_OF_ENTRY: usize = 32;
@@ -52,6 +56,24 @@ pub enum DelayedFunction<'a> {
     Ordinal(u16),
     /// By its name; the hint is where the name may be in the export name table of the DLL.
     Name { hint: u16, name: &'a str },
+}
+
+/// The ordinal that a number of a lookup table is: its low 16 bits, if its highest bit is set.
+pub(crate) fn ordinal_of(lookup: u64, is_64: bool) -> Option<u16>
+    ensures { result ≡ ordinal_of is_64 lookup }
+{
+    let ordinals: u64 = if is_64 { 1 << 63 } else { 1 << 31 };
+    if lookup < ordinals {
+        return None;
+    }
+    Some((lookup % (1 << 16)) as u16)
+}
+
+/// The address of the hint and the name to which a number of a lookup table leads: its low 31 bits.
+pub(crate) fn hint_address(lookup: u64) -> u32
+    ensures { result ≡ lookup % 2 ^ 31 }
+{
+    (lookup % (1 << 31)) as u32
 }
 
 /// The name at an offset. Error: `DelayImportName`.
@@ -107,6 +129,22 @@ impl DelayImport {
         }
     }
 
+    /// The same by an index of the sections.
+    #[tactic(auto, unfolding(crate::specs::DelayImports::offset_in_entry))]
+    pub(crate) fn offset_by_index<A: Allocator>(
+        &self,
+        image: &IndexedImage<'_, A>,
+        address: u32,
+    ) -> Result<usize>
+        ensures { DirectoryReturns (λ p. p) result (offset_in_entry image.now self.now address) }
+    {
+        if self.attributes % 2 == 1 {
+            image.offset_of_rva(address)
+        } else {
+            image.offset_of_va(u64::from(address))
+        }
+    }
+
     /// The name of the DLL. Errors, in order: `VaBelowBase`, `Image` with `Unmapped`, `DelayImportName`.
     pub fn dll<'a>(&self, image: &ImageBytes<'a>) -> Result<&'a str>
         ensures { DirectoryReturns (λ s. s.now) result (delay_dll (image_view image.now) self.now) }
@@ -132,11 +170,10 @@ impl DelayImport {
         ensures { DirectoryReturns function_view result
             (imported_by (image_view image.now) self.now lookup) }
     {
-        let ordinals: u64 = if image.is_64 { 1 << 63 } else { 1 << 31 };
-        if lookup >= ordinals {
-            return Ok(DelayedFunction::Ordinal((lookup % (1 << 16)) as u16));
+        if let Some(ordinal) = ordinal_of(lookup, image.is_64) {
+            return Ok(DelayedFunction::Ordinal(ordinal));
         }
-        let offset = self.offset_of(image, (lookup % (1 << 31)) as u32)?;
+        let offset = self.offset_of(image, hint_address(lookup))?;
         hint_and_name(image, offset)
     }
 }

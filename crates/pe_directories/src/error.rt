@@ -1,13 +1,16 @@
 //! Why a directory of an image is not read.
 
 ghost use Rattle.std.specs.Prelude.{◌≡◌};
+ghost use Rattle.pe_core.specs.declared.error.Error.TheVariants.{Memory};
 ghost use Rattle.pe_directories.specs.declared.error.DirectoryError.TheVariants.{Image};
+
+use std::alloc::{AllocError, AllocFailed};
 
 /// Why a directory, or an item of a walk through one, is not read.
 #[derive(Debug, Drop, thiserror::Error)]
 pub enum DirectoryError {
     /// An error of pe_core: `Unmapped` if an RVA is not mapped, `Short` if a record is truncated, `BadMagic` with the
-    /// signature that CLR metadata have instead.
+    /// signature that CLR metadata have instead, `Memory` if memory runs out.
     #[error("{0}")]
     Image(pe_core::Error),
     /// The size of a block of base relocations, which is below the 8 bytes of its header, or odd.
@@ -44,6 +47,23 @@ impl From<pe_core::Error> for DirectoryError {
 
     fn from(error: pe_core::Error) -> DirectoryError {
         DirectoryError::Image(error)
+    }
+}
+
+// So that `?` returns an allocation failure as `Image` with `Memory`.
+impl From<AllocError> for DirectoryError {
+    ghost from_gives = { λ _ e. e ≡ Image (Memory record {}) };
+
+    fn from(error: AllocError) -> DirectoryError {
+        DirectoryError::Image(pe_core::Error::from(error))
+    }
+}
+
+impl<T: Drop> From<AllocFailed<T>> for DirectoryError {
+    ghost from_gives = { λ _ e. e ≡ Image (Memory record {}) };
+
+    fn from(failed: AllocFailed<T>) -> DirectoryError {
+        DirectoryError::Image(pe_core::Error::from(failed))
     }
 }
 

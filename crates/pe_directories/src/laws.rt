@@ -1,9 +1,9 @@
 //! What the contracts say together, over whole walks.
 
-ghost use Rattle.std.specs.Prelude.{ℕ, List, Bool, map, Result};
+ghost use Rattle.std.specs.Prelude.{◌≡◌, ℕ, List, Bool, map, Result};
 ghost use Rattle.std.specs.Iterator.{Drains};
 ghost use Rattle.pe_directories.specs.DirectoryRefusals.{directory_answer};
-ghost use Rattle.pe_directories.specs.Walks.{HasOneList, ItemsLeft};
+ghost use Rattle.pe_directories.specs.Walks.{HasOneList, ItemsLeft, all_items};
 ghost use Rattle.pe_directories.specs.BaseRelocations.{block_view, first_block, blocks_left, first_relocation, relocations_left, page_of};
 ghost use Rattle.pe_directories.specs.BoundImports.{bound_view, first_bound_import, bound_imports_left};
 ghost use Rattle.pe_directories.specs.Clr.{stream_view, first_stream, streams_left};
@@ -68,6 +68,17 @@ pub fn delay_import_walks_return_the_list()
         Drains ⟦<DelayImports<'static> as Iterator>⟧.next_gives s xs →
         ItemsLeft first_delay_import (delay_imports_left s) (map (directory_answer (λ x. x)) xs) }
     ensures list { HasOneList first_delay_import }
+{}
+
+/// The lists of delay imports are read from what the walks return one by one: from the numbers of a table, each as `imported`
+/// reads it, and from the entries of a directory.
+pub fn delay_import_lists_are_of_whole_walks()
+    ensures numbers { (s : VaTable) (xs : List (Result ℕ DirectoryError)) →
+        Drains ⟦<VaTable<'static> as Iterator>⟧.next_gives s xs →
+        all_items (first_va (vas_are_64 s)) (vas_left s) ≡ map (directory_answer (λ x. x)) xs }
+    ensures entries { (s : DelayImports) (xs : List (Result DelayImport DirectoryError)) →
+        Drains ⟦<DelayImports<'static> as Iterator>⟧.next_gives s xs →
+        all_items first_delay_import (delay_imports_left s) ≡ map (directory_answer (λ x. x)) xs }
 {}
 
 /// The items of a walk through bound imports are the entries of its bytes up to one without a name. Every byte string has one

@@ -2,7 +2,8 @@
 //! configuration, delay imports, the CLR header.
 //!
 //! A caller makes an `ImageBytes` of the headers, and reads directories one by one, or those that it chooses by
-//! `Directories::parse`. No call allocates: what an entry leads to is read by a walk, or a call of its own.
+//! `Directories::parse`. What an entry leads to is read by a walk, or a call of its own. No call allocates but those that take
+//! an allocator: they list delay imports, and read the names of bound imports together.
 //!
 //! Layouts are those of Microsoft's [PE format](https://learn.microsoft.com/windows/win32/debug/pe-format).
 //!
@@ -11,11 +12,14 @@
 
 mod base_relocation;
 mod bound_import;
+mod bound_names;
 mod clr;
 mod delay_import;
+mod delay_import_list;
 mod directories;
 mod error;
 mod image_bytes;
+mod indexed_image;
 pub mod laws;
 mod load_config;
 mod rich_header;
@@ -31,11 +35,14 @@ pub use base_relocation::{
 pub use bound_import::{
     BoundForwarder, BoundForwarders, BoundImport, BoundImportDirectory, BoundImports,
 };
+pub use bound_names::BoundNames;
 pub use clr::{ClrHeader, ClrMetadata, ClrStream, ClrStreams};
 pub use delay_import::{DelayImport, DelayImports, DelayedFunction};
+pub use delay_import_list::DelayedDll;
 pub use directories::{ChosenDirectories, Directories};
 pub use error::DirectoryError;
 pub use image_bytes::ImageBytes;
+pub use indexed_image::IndexedImage;
 pub use load_config::LoadConfig;
 pub use rich_header::{RichEntry, RichHeader};
 pub use section_name::{long_section_name, string_offset};

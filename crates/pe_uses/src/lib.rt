@@ -2,6 +2,7 @@
 #![tactic(auto)]
 
 mod arm64;
+mod delay_imports;
 mod directories;
 mod frames;
 mod imports;
@@ -16,6 +17,7 @@ mod versions;
 mod writing;
 
 pub use arm64::arm64_codes;
+pub use delay_imports::delayed_dlls;
 pub use directories::first_tls_callback;
 pub use frames::{Frame, frame_at, frame_of};
 pub use imports::import_names;
