@@ -1,6 +1,8 @@
 pub mod Streams
 pub mod Records
 pub mod OneStep
+pub mod StepsOut
+pub mod Lookups
 pub mod Words
 pub mod Runs
 pub mod Saved
