@@ -3,6 +3,7 @@ pub mod Records
 pub mod OneStep
 pub mod StepsOut
 pub mod Lookups
+pub mod Pieces
 pub mod Words
 pub mod Runs
 pub mod Saved

@@ -1,6 +1,6 @@
 //! Memory in several pieces, as a minidump lists it: the stack of a thread may stand in more than one of them.
 
-ghost use Rattle.std.specs.Prelude.{◌≡◌, IsTrue};
+ghost use Rattle.std.specs.Prelude.{◌≡◌, ◌-◌, Some, slice_index, IsTrue};
 ghost use Rattle.std.specs.Option.{option_map};
 ghost use Rattle.std.specs.List.{find};
 ghost use Rattle.pe_frame.specs.AddressRanges.{AreAscending};
@@ -29,6 +29,15 @@ fn has_byte(piece: &Stack<'_>, address: u64) -> bool
     piece.start <= address && address - piece.start < piece.bytes.len() as u64
 }
 
+/// The byte of a piece at an address that it has.
+fn byte_of(piece: &Stack<'_>, address: u64) -> Option<u8>
+    requires { IsTrue (has_byte address piece.now) }
+    ensures { result ≡ Some (slice_index piece.now.bytes.now (address - piece.now.start)) }
+{
+    let index = (address - piece.start) as usize;
+    Some(piece.bytes[index])
+}
+
 /// The first piece that has a byte at an address. The pieces are tested in turn.
 fn first_piece_with<'a, 'b>(pieces: &'b [Stack<'a>], address: u64) -> Option<&'b Stack<'a>>
     ensures { option_map (λ s. s.now) result ≡ find (has_byte address) pieces.now }
@@ -50,16 +59,25 @@ impl<'a> StackPieces<'a> {
         }
     }
 
+    /// The first piece that has a byte at an address.
+    fn piece_at(&self, address: u64) -> Option<&'a Stack<'a>>
+        ensures { option_map (λ s. s.now) result ≡ find (has_byte address) self.now.pieces.now }
+    {
+        if self.is_ascending {
+            range_with(self.pieces, address)
+        } else {
+            first_piece_with(self.pieces, address)
+        }
+    }
+
     /// The byte at an address.
     fn byte_at(&self, address: u64) -> Option<u8>
         ensures { result ≡ byte_in self.now.pieces.now address }
     {
-        let piece = if self.is_ascending {
-            range_with(self.pieces, address)?
-        } else {
-            first_piece_with(self.pieces, address)?
-        };
-        piece.bytes.get((address - piece.start) as usize).copied()
+        match self.piece_at(address) {
+            Some(piece) => byte_of(piece, address),
+            None => None,
+        }
     }
 }
 

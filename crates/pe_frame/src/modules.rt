@@ -1,8 +1,8 @@
 //! The modules of a process: images, each with the address where it is loaded.
 
-ghost use Rattle.std.specs.Prelude.{◌≡◌, ◌-◌, MatchResult, Some};
+ghost use Rattle.std.specs.Prelude.{◌≡◌, MatchResult};
 ghost use Rattle.std.specs.Option.{option_map};
-ghost use Rattle.pe_frame.specs.AddressRanges.{AreAscending, Overlaps};
+ghost use Rattle.pe_frame.specs.AddressRanges.{AreAscending, IsOverlap};
 ghost use Rattle.pe_frame.specs.Modules.{module_base, module_size, module_at, code_in};
 
 use crate::address_ranges::{AddressRange, first_overlap, range_with};
@@ -77,7 +77,7 @@ impl<'a> Modules<'a> {
     /// of the one before it.
     pub fn new(modules: &'a [Module<'a>]) -> Result<Modules<'a>, ModuleOrder>
         ensures { MatchResult result (λ m. m.modules.now ≡ modules.entry.now)
-            (λ e. Overlaps module_base module_size modules.entry.now (Some e.0)) }
+            (λ e. IsOverlap module_base module_size modules.entry.now e.0) }
     {
         match first_overlap(modules) {
             None => Ok(Modules { modules }),
