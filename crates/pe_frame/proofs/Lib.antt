@@ -9,6 +9,7 @@ pub mod Runs
 pub mod Saved
 pub mod Undone
 pub mod Begun
+pub mod PiecesShow
 pub mod Frames
 pub mod Tails
 pub mod Returned

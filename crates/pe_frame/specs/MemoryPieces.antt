@@ -1,6 +1,6 @@
 -- Memory in several pieces.
-use Rattle.std.specs.Prelude.{ℕ, zero, suc, ◌+◌, ◌-◌, ◌^◌, nat_le, Bool, List, [], ◌∷◌, ◌++◌, length, slice_index, Option, Some, None, if◌then◌else◌}
-use Rattle.std.specs.List.{find}
+use Rattle.std.specs.Prelude.{◌≡◌, ℕ, zero, suc, ◌+◌, ◌-◌, ◌^◌, ◌<◌, nat_le, Bool, List, [], ◌∷◌, ◌++◌, length, slice_index, Option, Some, None, if◌then◌else◌}
+use Rattle.std.specs.List.{find, list_any, AllByRecursion}
 use Rattle.std.specs.Option.{option_map, option_and_then}
 use Rattle.pe_core.specs.Bytes.{le}
 use Rattle.pe_frame.specs.declared.memory.Stack.{Stack}
@@ -27,3 +27,11 @@ known_bytes byte a (suc n) = option_and_then (λ before. option_map (λ b. befor
 abbrev pub pieces_word : List Stack → ℕ → Option ℕ
 pieces_word pieces a =
     if nat_le (a + 8) (2 ^ 64) then option_map (λ bytes. le bytes 0 8) (known_bytes (byte_in pieces) a 8) else None
+
+-- the pieces show what a memory has
+abbrev pub ArePiecesOf : (ℕ → ℕ) → List Stack → Type 0
+ArePiecesOf memory pieces = AllByRecursion (λ s. (i : ℕ) → i < piece_size s → slice_index s.bytes.now i ≡ memory (s.start + i)) pieces
+
+-- one of them has a byte at this address
+abbrev pub have_byte : ℕ → List Stack → Bool
+have_byte a pieces = list_any (has_byte a) pieces
