@@ -39,10 +39,10 @@ found_passes p (y ∷ ys) x e = passes p y x (p y) (find p ys) refl (found_passe
 pub has_it : (s n a : ℕ) → s ≤ a → a < s + n → nat_le s a && nat_lt a (s + n) ≡ true
 has_it s n a le lt = grind (arith, nat_tests)
 
-ends_before : (s n a : ℕ) → s + n ≤ a → nat_le s a && nat_lt a (s + n) ≡ false
+pub ends_before : (s n a : ℕ) → s + n ≤ a → nat_le s a && nat_lt a (s + n) ≡ false
 ends_before s n a le = grind (arith, nat_tests)
 
-starts_after : (s n a : ℕ) → leb s a ≡ false → nat_le s a && nat_lt a (s + n) ≡ false
+pub starts_after : (s n a : ℕ) → leb s a ≡ false → nat_le s a && nat_lt a (s + n) ≡ false
 starts_after s n a late = grind (arith, nat_tests)
 
 pub is_within : (s n a : ℕ) → nat_le s a && nat_lt a (s + n) ≡ true → (s ≤ a) × (a < s + n)

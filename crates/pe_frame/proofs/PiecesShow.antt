@@ -1,5 +1,5 @@
 -- Memory in pieces shows what a machine's memory has.
-use Rattle.std.proofs.Common.{◌≡◌, ℕ, zero, suc, ◌+◌, ◌-◌, ◌^◌, ◌<◌, ◌≤◌, ◌⊎◌, inl, inr, Bool, true, false, ◌&&◌, nat_le, nat_lt, leb, List, [], ◌∷◌, ◌++◌, length, get_or, Option, Some, None, refl, ap, subst, sym, ◌∙◌, arith, add-one}
+use Rattle.std.proofs.Common.{◌≡◌, ℕ, zero, suc, ◌+◌, ◌-◌, ◌^◌, ◌<◌, ◌≤◌, ◌⊎◌, inl, inr, Bool, true, false, ◌&&◌, ◌||◌, nat_le, nat_lt, leb, List, [], ◌∷◌, ◌++◌, length, get_or, Option, Some, None, refl, ap, subst, sym, ◌∙◌, arith, add-one}
 use Rattle.std.proofs.lemmas.Bool.{cases_lt}
 use Rattle.std.proofs.lemmas.Bool.Decides.{nat_tests}
 use Rattle.std.specs.List.{find}
@@ -12,7 +12,7 @@ use Rattle.pe_frame.specs.Memory.{stack_word}
 use Rattle.pe_frame.specs.MemoryPieces.{ArePiecesOf, byte_in, has_byte, have_byte, known_bytes, piece_size, pieces_word}
 use Rattle.pe_frame.specs.declared.memory.Stack.{Stack}
 use Rattle.pe_frame.proofs.Begun.{number_shown, word_shown}
-use Rattle.pe_frame.proofs.Lookups.{is_within}
+use Rattle.pe_frame.proofs.Lookups.{ends_before, has_it, is_within, starts_after}
 use Rattle.pe_frame.proofs.Pieces.{byte_missing, still_unknown}
 
 -- ---- a byte
@@ -46,8 +46,58 @@ word_known : (memory : ℕ → ℕ) (a : ℕ) (pieces : List Stack) → a + 8 �
 word_known memory a pieces fits known =
     let test : nat_le (a + 8) (2 ^ 64) ≡ true = grind (arith, nat_tests) in
     rw (test, bytes_shown memory a pieces 8 (omega arith) known)
-    (ap (λ (v : ℕ). Some v) (number_shown (each (λ i. memory (a + i)) 8) 0 a 8 memory (omega arith) (λ i small. get_or-each (λ i. memory (a + i)) 8 i 0 small)))
+    (ap (λ (v : ℕ). Some v) (number_shown (each (λ i. memory (a + i)) 8) 0 a 8 memory (omega arith) (λ i small. let same : 0 + i ≡ i = omega arith in rw same (get_or-each (λ i. memory (a + i)) 8 i 0 small))))
 
 pub word_of_pieces : (pieces : List Stack) (a : ℕ) (memory : ℕ → ℕ) → ArePiecesOf memory pieces → ((i : ℕ) → i < 8 → have_byte (a + i) pieces ≡ true) → a + 8 ≤ 2 ^ 64 → pieces_word pieces a ≡ Some (loaded memory a)
 word_of_pieces pieces a memory shows one fits =
     word_known memory a pieces fits (λ i small. byte_shown memory (a + i) pieces shows (one i small))
+
+-- ---- one piece
+
+byte_unknown : (s : Stack) (b : ℕ) → has_byte b s ≡ false → byte_in (s ∷ []) b ≡ None
+byte_unknown s b has = rw has refl
+
+last_unknown : (byte : ℕ → Option ℕ) (a n : ℕ) (before : Option (List ℕ)) → known_bytes byte a n ≡ before → byte (a + n) ≡ None → known_bytes byte a (n + 1) ≡ None
+last_unknown byte a n None known none = rw (add-one n, known) refl
+last_unknown byte a n (Some before) known none = byte_missing byte a n before known none
+
+none_past : (pieces : List Stack) (a : ℕ) → 2 ^ 64 < a + 8 → pieces_word pieces a ≡ None
+none_past pieces a past = let test : nat_le (a + 8) (2 ^ 64) ≡ false = grind (arith, nat_tests) in rw test refl
+
+word_unknown : (s : Stack) (a i : ℕ) → i < 8 → has_byte (a + i) s ≡ false → pieces_word (s ∷ []) a ≡ None
+word_unknown s a i small has =
+    let part = last_unknown (byte_in (s ∷ [])) a i (known_bytes (byte_in (s ∷ [])) a i) refl (byte_unknown s (a + i) has) in
+    let whole : known_bytes (byte_in (s ∷ [])) a 8 ≡ None = still_unknown (byte_in (s ∷ [])) a (i + 1) 8 (omega (arith, small)) part in
+    elim (cases_lt (2 ^ 64) (a + 8)) [
+    | inl past ↦ none_past (s ∷ []) a past
+    | inr fits ↦ let test : nat_le (a + 8) (2 ^ 64) ≡ true = grind (arith, nat_tests) in rw (test, whole) refl
+    ]
+
+has_not : (s : Stack) (b : ℕ) → (b < s.start) ⊎ (s.start + piece_size s ≤ b) → has_byte b s ≡ false
+has_not s b (inl h) = starts_after s.start (piece_size s) b (grind (arith, nat_tests))
+has_not s b (inr h) = ends_before s.start (piece_size s) b h
+
+stack_unknown : (s : Stack) (a : ℕ) → (nat_le s.start a && nat_le (a + 8) (2 ^ 64) && holds s.bytes.now (a - s.start) 8) ≡ false → stack_word s.bytes.now s.start a ≡ None
+stack_unknown s a test = rw test refl
+
+pub one_piece : (s : Stack) (a : ℕ) → pieces_word (s ∷ []) a ≡ stack_word s.bytes.now s.start a
+one_piece s a =
+    elim (cases_lt a s.start) [
+    | inl low ↦
+      word_unknown s a 0 (omega arith) (has_not s (a + 0) (inl (omega (arith, low))))
+      ∙ sym (stack_unknown s a (grind (arith, nat_tests)))
+    | inr from ↦ elim (cases_lt (s.start + piece_size s) (a + 8)) [
+      | inl past ↦
+        word_unknown s a 7 (omega arith) (has_not s (a + 7) (inr (omega (arith, past))))
+        ∙ sym (stack_unknown s a (grind (arith, nat_tests)))
+      | inr room ↦ elim (cases_lt (2 ^ 64) (a + 8)) [
+        | inl past ↦ none_past (s ∷ []) a past ∙ sym (stack_unknown s a (grind (arith, nat_tests)))
+        | inr fits ↦
+          let memory : ℕ → ℕ = λ b. get_or s.bytes.now (b - s.start) 0 in
+          let shows : ArePiecesOf memory (s ∷ []) = (λ i small. ap (λ (k : ℕ). get_or s.bytes.now k 0) (omega arith), tt) in
+          let has : (i : ℕ) → i < 8 → have_byte (a + i) (s ∷ []) ≡ true = λ i small. rw (has_it s.start (piece_size s) (a + i) (omega (arith, from)) (omega (arith, room, small))) refl in
+          let word = word_shown s.bytes.now s.start a memory from room fits (λ i small. ap (λ (k : ℕ). get_or s.bytes.now k 0) (omega (arith, from))) in
+          word_of_pieces (s ∷ []) a memory shows has fits ∙ sym word
+        ]
+      ]
+    ]
