@@ -6,7 +6,7 @@ use Rattle.std.proofs.lemmas.Bool.Decides.{nat_tests}
 use Rattle.std.specs.List.{find}
 use Rattle.std.specs.Option.{is_none}
 use Rattle.std.specs.List.Sorted.{IsNonDecreasingBy}
-use Rattle.pe_frame.specs.AddressRanges.{has_address, FirstAscend, AreAscending, Overlaps}
+use Rattle.pe_frame.specs.AddressRanges.{has_address, FirstAscend, AreAscending, IsCountUpTo, Overlaps}
 
 -- ---- the first element that passes
 
@@ -42,7 +42,7 @@ has_it s n a le lt = grind (arith, nat_tests)
 pub ends_before : (s n a : ℕ) → s + n ≤ a → nat_le s a && nat_lt a (s + n) ≡ false
 ends_before s n a le = grind (arith, nat_tests)
 
-pub starts_after : (s n a : ℕ) → leb s a ≡ false → nat_le s a && nat_lt a (s + n) ≡ false
+pub starts_after : (s n a : ℕ) → a < s → nat_le s a && nat_lt a (s + n) ≡ false
 starts_after s n a late = grind (arith, nat_tests)
 
 pub is_within : (s n a : ℕ) → nat_le s a && nat_lt a (s + n) ≡ true → (s ≤ a) × (a < s + n)
@@ -64,36 +64,41 @@ module _ {X : Type 0} (start size : X → ℕ) (xs : List X) where
       ends_before (start (get_or xs k d)) (size (get_or xs k d)) a (omega (arith, ends, le))
 
   -- all start after the address
-  pub none_starts : (a : ℕ) → ((k : ℕ) (d : X) → k < length xs → leb (start (get_or xs k d)) a ≡ false) → find (has_address start size a) xs ≡ None
-  none_starts a late =
-      found_none (has_address start size a) xs (λ k d lt. starts_after (start (get_or xs k d)) (size (get_or xs k d)) a (late k d lt))
+  pub none_starts : (a n : ℕ) → IsCountUpTo start a xs n → n ≡ 0 → find (has_address start size a) xs ≡ None
+  none_starts a n count none =
+      found_none (has_address start size a) xs (λ k d lt. starts_after (start (get_or xs k d)) (size (get_or xs k d)) a (count.after k d (omega arith) lt))
 
   at : (i : ℕ) (x d : X) → i < length xs → x ≡ get_or xs i x → get_or xs i d ≡ x
   at i x d lt is = get_or_default xs i d x lt ∙ sym is
 
-  pub starts_before : (a i : ℕ) (x : X) → x ≡ get_or xs i x → leb (start (get_or xs i x)) a ≡ true → start x ≤ a
-  starts_before a i x is before =
-      let le : start (get_or xs i x) ≤ a = grind (arith, nat_tests) in
-      subst (λ (y : X). start y ≤ a) (sym is) le
+  -- the last that starts at or before the address
+  pub last_starts : (a n : ℕ) (x : X) → IsCountUpTo start a xs n → (n ≡ 0 → ⊥) → x ≡ get_or xs (n - 1) x → start x ≤ a
+  last_starts a n x count some is =
+      subst (λ (y : X). start y ≤ a) (sym is) (count.before (n - 1) x (omega (arith, some)))
 
-  -- the last that starts at or before it has it
-  pub range_found : (a i : ℕ) (x : X) → AreAscending start size xs → i < length xs → x ≡ get_or xs i x → start x ≤ a → a < start x + size x → find (has_address start size a) xs ≡ Some x
-  range_found a i x up lt is le within =
-      let has : has_address start size a (get_or xs i x) ≡ true = subst (λ (y : X). has_address start size a y ≡ true) is (has_it (start x) (size x) a le within) in
-      let before : start (get_or xs i x) ≤ a = subst (λ (y : X). start y ≤ a) is le in
-      found_at (has_address start size a) xs i x lt (λ k less. earlier a i k x up less lt before) has ∙ ap (λ (y : X). Some y) (sym is)
+  -- it has the address
+  pub range_found : (a n : ℕ) (x : X) → AreAscending start size xs → IsCountUpTo start a xs n → (n ≡ 0 → ⊥) → x ≡ get_or xs (n - 1) x → a < start x + size x → find (has_address start size a) xs ≡ Some x
+  range_found a n x up count some is within =
+      let le = last_starts a n x count some is in
+      let lt : n - 1 < length xs = omega (arith, some, count.within) in
+      let has : has_address start size a (get_or xs (n - 1) x) ≡ true = subst (λ (y : X). has_address start size a y ≡ true) is (has_it (start x) (size x) a le within) in
+      let before : start (get_or xs (n - 1) x) ≤ a = subst (λ (y : X). start y ≤ a) is le in
+      found_at (has_address start size a) xs (n - 1) x lt (λ k less. earlier a (n - 1) k x up less lt before) has
+      ∙ ap (λ (y : X). Some y) (sym is)
 
   -- it ends at or before it
-  pub range_missed : (a i : ℕ) (x : X) → AreAscending start size xs → i < length xs → x ≡ get_or xs i x → start x ≤ a → start x + size x ≤ a → ((k : ℕ) (d : X) → i < k → k < length xs → leb (start (get_or xs k d)) a ≡ false) → find (has_address start size a) xs ≡ None
-  range_missed a i x up lt is le ends late =
+  pub range_missed : (a n : ℕ) (x : X) → AreAscending start size xs → IsCountUpTo start a xs n → (n ≡ 0 → ⊥) → x ≡ get_or xs (n - 1) x → start x + size x ≤ a → find (has_address start size a) xs ≡ None
+  range_missed a n x up count some is ends =
+      let le = last_starts a n x count some is in
+      let lt : n - 1 < length xs = omega (arith, some, count.within) in
       found_none (has_address start size a) xs (λ k d within.
-      elim (cases_lt k i) [
-        | inl less ↦ earlier a i k d up less lt (subst (λ (y : X). start y ≤ a) (sym (at i x d lt is)) le)
-        | inr more ↦ elim (cases_lt i k) [
-          | inl less ↦ starts_after (start (get_or xs k d)) (size (get_or xs k d)) a (late k d less within)
-          | inr least ↦
-              let same : k ≡ i = omega (arith, more, least) in
-              rw (same, at i x d lt is) (ends_before (start x) (size x) a ends)
+      elim (cases_lt k (n - 1)) [
+      | inl less ↦ earlier a (n - 1) k d up less lt (subst (λ (y : X). start y ≤ a) (sym (at (n - 1) x d lt is)) le)
+      | inr more ↦ elim (cases_lt (n - 1) k) [
+        | inl less ↦ starts_after (start (get_or xs k d)) (size (get_or xs k d)) a (count.after k d (omega (arith, less)) within)
+        | inr least ↦
+          let same : k ≡ n - 1 = omega (arith, more, least) in
+          rw (same, at (n - 1) x d lt is) (ends_before (start x) (size x) a ends)
         ]
       ])
 

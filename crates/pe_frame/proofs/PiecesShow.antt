@@ -74,7 +74,7 @@ word_unknown s a i small has =
     ]
 
 has_not : (s : Stack) (b : ℕ) → (b < s.start) ⊎ (s.start + piece_size s ≤ b) → has_byte b s ≡ false
-has_not s b (inl h) = starts_after s.start (piece_size s) b (grind (arith, nat_tests))
+has_not s b (inl h) = starts_after s.start (piece_size s) b h
 has_not s b (inr h) = ends_before s.start (piece_size s) b h
 
 stack_unknown : (s : Stack) (a : ℕ) → (nat_le s.start a && nat_le (a + 8) (2 ^ 64) && holds s.bytes.now (a - s.start) 8) ≡ false → stack_word s.bytes.now s.start a ≡ None

@@ -25,3 +25,9 @@ pub record IsOverlap {X : Type 0} (start : X → ℕ) (size : X → ℕ) (xs : L
 abbrev pub Overlaps : {X : Type 0} → (X → ℕ) → (X → ℕ) → List X → Option ℕ → Type 0
 Overlaps start size xs None = AreAscending start size xs
 Overlaps start size xs (Some i) = IsOverlap start size xs i
+
+-- the first n ranges start at or before an address, and the others after it
+pub record IsCountUpTo {X : Type 0} (start : X → ℕ) (a : ℕ) (xs : List X) (n : ℕ) : Type 0 where
+  pub within : n ≤ length xs
+  pub before : (k : ℕ) (d : X) → k < n → start (slice_index_or xs k d) ≤ a
+  pub after : (k : ℕ) (d : X) → n ≤ k → k < length xs → a < start (slice_index_or xs k d)

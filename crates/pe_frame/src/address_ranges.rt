@@ -1,9 +1,9 @@
 //! Tables of address ranges, as of the modules of a process or of pieces of memory, and lookup of an address in them.
 
-ghost use Rattle.std.specs.Prelude.{◌≡◌, ℕ, IfSome, IsNone, length, ◌<◌};
+ghost use Rattle.std.specs.Prelude.{◌≡◌, ℕ};
 ghost use Rattle.std.specs.List.{find};
 ghost use Rattle.std.specs.Option.{option_map};
-ghost use Rattle.pe_frame.specs.AddressRanges.{AreAscending, Overlaps, has_address};
+ghost use Rattle.pe_frame.specs.AddressRanges.{AreAscending, IsCountUpTo, Overlaps, has_address};
 
 /// What lies at a range of addresses.
 pub(crate) trait AddressRange {
@@ -36,17 +36,25 @@ pub(crate) fn first_overlap<R: AddressRange>(ranges: &[R]) -> Option<usize>
     None
 }
 
+/// How many ranges start at or before an address, by binary search.
+fn count_up_to<R: AddressRange>(ranges: &[R], address: u64) -> usize
+    requires { AreAscending R.start_of R.size_of ranges.now }
+    ensures { IsCountUpTo R.start_of address ranges.now result }
+{
+    ranges.partition_point(|range| range.start() <= address)
+}
+
 /// The range that has an address, by binary search.
 pub(crate) fn range_with<R: AddressRange>(ranges: &[R], address: u64) -> Option<&R>
     requires { AreAscending R.start_of R.size_of ranges.now }
     ensures { option_map (λ r. r.now) result
         ≡ find (has_address R.start_of R.size_of address) ranges.now }
 {
-    let after = ranges.partition_point(|range| range.start() <= address);
-    if after == 0 {
+    let count = count_up_to(ranges, address);
+    if count == 0 {
         return None;
     }
-    let range = &ranges[after - 1];
+    let range = &ranges[count - 1];
     if address - range.start() < range.size() {
         Some(range)
     } else {
