@@ -1,5 +1,5 @@
 -- Walks of a stack on x64: from the frame of a function to that of its caller, through the modules of a process.
-use Rattle.std.specs.Prelude.{◌≡◌, ℕ, zero, suc, ◌-◌, ◌==◌, Bool, true, false, if◌then◌else◌, List, [], Option, Some, None, Result, Ok, Err}
+use Rattle.std.specs.Prelude.{◌≡◌, ℕ, zero, suc, ◌-◌, ◌==◌, Bool, true, false, if◌then◌else◌, List, [], ◌∷◌, Option, Some, None, Result, Ok, Err}
 use Rattle.std.specs.Option.{option_map}
 use Rattle.pe_core.specs.Refusals.{Refusal, kind_of}
 use Rattle.pe_unwind.specs.ExceptionTable.{ExceptionView, table_of}
@@ -129,6 +129,15 @@ AdvancesBy (suc n) w answer new =
 
 abbrev pub Advances : WalkState → Option StackFrame → WalkState → Type 0
 Advances w answer new = AdvancesBy w.remaining w answer new
+
+-- these are the frames that a walk returns, at most so many, and then it is over for this reason
+abbrev pub IsWalkBy : ℕ → WalkState → List StackFrame → WalkEnd → Type 0
+IsWalkBy zero w frames end = (frames ≡ []) × (end ≡ w.end)
+IsWalkBy (suc n) w [] end = Follows w (Err end)
+IsWalkBy (suc n) w (s ∷ frames) end = Follows w (Ok s) × IsWalkBy n (walk_after w (Ok s)) frames end
+
+abbrev pub IsWalk : WalkState → List StackFrame → WalkEnd → Type 0
+IsWalk w frames end = IsWalkBy w.remaining w frames end
 
 -- ---- the iterator
 
