@@ -10,6 +10,7 @@ pub mod Saved
 pub mod Undone
 pub mod Begun
 pub mod PiecesShow
+pub mod NoCode
 pub mod WholeWalks
 pub mod Frames
 pub mod Tails

@@ -93,12 +93,12 @@ module _ {X : Type 0} (start size : X → ℕ) (xs : List X) where
       let lt : n - 1 < length xs = omega (arith, some, count.within) in
       found_none (has_address start size a) xs (λ k d within.
       elim (cases_lt k (n - 1)) [
-      | inl less ↦ earlier a (n - 1) k d up less lt (subst (λ (y : X). start y ≤ a) (sym (at (n - 1) x d lt is)) le)
-      | inr more ↦ elim (cases_lt (n - 1) k) [
-        | inl less ↦ starts_after (start (get_or xs k d)) (size (get_or xs k d)) a (count.after k d (omega (arith, less)) within)
-        | inr least ↦
-          let same : k ≡ n - 1 = omega (arith, more, least) in
-          rw (same, at (n - 1) x d lt is) (ends_before (start x) (size x) a ends)
+        | inl less ↦ earlier a (n - 1) k d up less lt (subst (λ (y : X). start y ≤ a) (sym (at (n - 1) x d lt is)) le)
+        | inr more ↦ elim (cases_lt (n - 1) k) [
+          | inl less ↦ starts_after (start (get_or xs k d)) (size (get_or xs k d)) a (count.after k d (omega (arith, less)) within)
+          | inr least ↦
+              let same : k ≡ n - 1 = omega (arith, more, least) in
+              rw (same, at (n - 1) x d lt is) (ends_before (start x) (size x) a ends)
         ]
       ])
 

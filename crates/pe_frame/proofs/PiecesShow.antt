@@ -69,8 +69,8 @@ word_unknown s a i small has =
     let part = last_unknown (byte_in (s ∷ [])) a i (known_bytes (byte_in (s ∷ [])) a i) refl (byte_unknown s (a + i) has) in
     let whole : known_bytes (byte_in (s ∷ [])) a 8 ≡ None = still_unknown (byte_in (s ∷ [])) a (i + 1) 8 (omega (arith, small)) part in
     elim (cases_lt (2 ^ 64) (a + 8)) [
-    | inl past ↦ none_past (s ∷ []) a past
-    | inr fits ↦ let test : nat_le (a + 8) (2 ^ 64) ≡ true = grind (arith, nat_tests) in rw (test, whole) refl
+      | inl past ↦ none_past (s ∷ []) a past
+      | inr fits ↦ let test : nat_le (a + 8) (2 ^ 64) ≡ true = grind (arith, nat_tests) in rw (test, whole) refl
     ]
 
 has_not : (s : Stack) (b : ℕ) → (b < s.start) ⊎ (s.start + piece_size s ≤ b) → has_byte b s ≡ false
@@ -83,21 +83,21 @@ stack_unknown s a test = rw test refl
 pub one_piece : (s : Stack) (a : ℕ) → pieces_word (s ∷ []) a ≡ stack_word s.bytes.now s.start a
 one_piece s a =
     elim (cases_lt a s.start) [
-    | inl low ↦
-      word_unknown s a 0 (omega arith) (has_not s (a + 0) (inl (omega (arith, low))))
-      ∙ sym (stack_unknown s a (grind (arith, nat_tests)))
-    | inr from ↦ elim (cases_lt (s.start + piece_size s) (a + 8)) [
-      | inl past ↦
-        word_unknown s a 7 (omega arith) (has_not s (a + 7) (inr (omega (arith, past))))
-        ∙ sym (stack_unknown s a (grind (arith, nat_tests)))
-      | inr room ↦ elim (cases_lt (2 ^ 64) (a + 8)) [
-        | inl past ↦ none_past (s ∷ []) a past ∙ sym (stack_unknown s a (grind (arith, nat_tests)))
-        | inr fits ↦
-          let memory : ℕ → ℕ = λ b. get_or s.bytes.now (b - s.start) 0 in
-          let shows : ArePiecesOf memory (s ∷ []) = (λ i small. ap (λ (k : ℕ). get_or s.bytes.now k 0) (omega arith), tt) in
-          let has : (i : ℕ) → i < 8 → have_byte (a + i) (s ∷ []) ≡ true = λ i small. rw (has_it s.start (piece_size s) (a + i) (omega (arith, from)) (omega (arith, room, small))) refl in
-          let word = word_shown s.bytes.now s.start a memory from room fits (λ i small. ap (λ (k : ℕ). get_or s.bytes.now k 0) (omega (arith, from))) in
-          word_of_pieces (s ∷ []) a memory shows has fits ∙ sym word
+      | inl low ↦
+          word_unknown s a 0 (omega arith) (has_not s (a + 0) (inl (omega (arith, low))))
+          ∙ sym (stack_unknown s a (grind (arith, nat_tests)))
+      | inr from ↦ elim (cases_lt (s.start + piece_size s) (a + 8)) [
+        | inl past ↦
+            word_unknown s a 7 (omega arith) (has_not s (a + 7) (inr (omega (arith, past))))
+            ∙ sym (stack_unknown s a (grind (arith, nat_tests)))
+        | inr room ↦ elim (cases_lt (2 ^ 64) (a + 8)) [
+          | inl past ↦ none_past (s ∷ []) a past ∙ sym (stack_unknown s a (grind (arith, nat_tests)))
+          | inr fits ↦
+              let memory : ℕ → ℕ = λ b. get_or s.bytes.now (b - s.start) 0 in
+              let shows : ArePiecesOf memory (s ∷ []) = (λ i small. ap (λ (k : ℕ). get_or s.bytes.now k 0) (omega arith), tt) in
+              let has : (i : ℕ) → i < 8 → have_byte (a + i) (s ∷ []) ≡ true = λ i small. rw (has_it s.start (piece_size s) (a + i) (omega (arith, from)) (omega (arith, room, small))) refl in
+              let word = word_shown s.bytes.now s.start a memory from room fits (λ i small. ap (λ (k : ℕ). get_or s.bytes.now k 0) (omega (arith, from))) in
+              word_of_pieces (s ∷ []) a memory shows has fits ∙ sym word
         ]
       ]
     ]

@@ -5,13 +5,19 @@ use Rattle.pe_frame.specs.Walks.{WalkState, Follows, Advances, AdvancesBy, IsWal
 use Rattle.pe_frame.specs.declared.walk.StackFrame.{StackFrame}
 use Rattle.pe_frame.specs.declared.walk.WalkEnd.{WalkEnd}
 
+-- the step of a walk that is not over
+pub advanced : (n : ℕ) (w : WalkState) (found : Result StackFrame WalkEnd) → (n ≡ 0 → ⊥) → Follows w found → AdvancesBy n w (returned_frame found) (walk_after w found)
+advanced zero w found some follows = absurd (some refl)
+advanced (suc n) w found some follows = (found, follows, refl, refl)
+
 -- ---- the call that returns nothing
 
 ended_by : (n : ℕ) (w new : WalkState) (found : Result StackFrame WalkEnd) → Follows w found → None ≡ returned_frame found → new ≡ walk_after w found → IsWalkBy (suc n) w [] new.end × (new.remaining ≡ 0)
 ended_by n w new (Ok s) follows none is = absurd (cc none)
-ended_by n w new (Err e) follows none is =
-    (subst (λ (end : WalkEnd). Follows w (Err end)) (sym (ap (λ (v : WalkState). v.end) is)) follows,
-    ap (λ (v : WalkState). v.remaining) is)
+ended_by n w new (Err e) follows none is = (
+  subst (λ (end : WalkEnd). Follows w (Err end)) (sym (ap (λ (v : WalkState). v.end) is)) follows,
+  ap (λ (v : WalkState). v.remaining) is,
+)
 
 ended : (n : ℕ) (w new : WalkState) → w.remaining ≡ n → AdvancesBy n w None new → IsWalkBy n w [] new.end × (new.remaining ≡ 0)
 ended zero w new left h =
@@ -25,10 +31,13 @@ more_by n w new x xs end (Ok s) left follows some is rest few =
     let same : s ≡ x = cc some in
     let after : new ≡ walk_after w (Ok x) = is ∙ ap (λ (f : StackFrame). walk_after w (Ok f)) same in
     let fewer : new.remaining ≡ n = ap (λ (v : WalkState). v.remaining) after ∙ omega (arith, left) in
-    let walk = subst (λ (k : ℕ). IsWalkBy k new xs end) fewer rest in
-    ((subst (λ (f : StackFrame). Follows w (Ok f)) same follows,
-    subst (λ (v : WalkState). IsWalkBy n v xs end) after walk),
-    omega (arith, few, fewer))
+    let walk = subst (λ (k : ℕ). IsWalkBy k new xs end) fewer rest in (
+      (
+        subst (λ (f : StackFrame). Follows w (Ok f)) same follows,
+        subst (λ (v : WalkState). IsWalkBy n v xs end) after walk,
+      ),
+      omega (arith, few, fewer),
+    )
 more_by n w new x xs end (Err e) left follows some is rest few = absurd (cc some)
 
 more : (n : ℕ) (w new : WalkState) (x : StackFrame) (xs : List StackFrame) (end : WalkEnd) → w.remaining ≡ n → AdvancesBy n w (Some x) new → IsWalk new xs end → length xs ≤ new.remaining → IsWalkBy n w (x ∷ xs) end × (length (x ∷ xs) ≤ n)

@@ -108,8 +108,12 @@ pub record WalkState : Type 0 where
   pub end : WalkEnd
 
 -- the frame that follows: the first as it is, and then the caller of each
+abbrev pub FollowsBy : Bool → WalkState → Result StackFrame WalkEnd → Type 0
+FollowsBy true w answer = Calls w.memory w.modules w.frame answer
+FollowsBy false w answer = answer ≡ Ok w.frame
+
 abbrev pub Follows : WalkState → Result StackFrame WalkEnd → Type 0
-Follows w answer = if w.has_returned then Calls w.memory w.modules w.frame answer else (answer ≡ Ok w.frame)
+Follows w answer = FollowsBy w.has_returned w answer
 
 -- the walk after it
 abbrev pub walk_after : WalkState → Result StackFrame WalkEnd → WalkState

@@ -167,6 +167,15 @@ fn caller_by_records<M: Memory>(
     frame_after(left)
 }
 
+/// The RVA of an address in a module, which may be its end.
+fn rva_of(module: &Module<'_>, address: u64) -> u32
+    requires { address ≤ module.now.base + module.now.size }
+    ensures { result ≡ address - module.now.base }
+{
+    let size = u64::from(module.size);
+    u64::min(address.saturating_sub(module.base), size) as u32
+}
+
 /// The frame of the caller, by the module that has the lookup address of the frame.
 fn caller_in_module<M: Memory>(
     module: &Module<'_>,
@@ -179,16 +188,15 @@ fn caller_in_module<M: Memory>(
     let Some(exceptions) = module.exceptions else {
         return caller_of_leaf(frame, memory);
     };
-    let inside = (lookup_address(frame) - module.base) as u32;
     let mut table = exceptions.table();
-    match search(&mut table, inside) {
+    match search(&mut table, rva_of(module, lookup_address(frame))) {
         Some(function) => {
             let found = FrameFunction {
                 module,
                 exceptions,
                 function,
             };
-            let rva = (frame.registers.rip - module.base) as u32;
+            let rva = rva_of(module, frame.registers.rip);
             caller_by_records(&found, frame, rva, memory)
         }
         None => caller_of_leaf(frame, memory),
@@ -226,7 +234,7 @@ pub struct StackFrames<'a, M> {
 }
 
 impl<'a, M: Memory> StackFrames<'a, M> {
-    ghost use Rattle.pe_frame.specs.Walks.{walk_of, starting_walk, end_of};
+    ghost use Rattle.pe_frame.specs.Walks.{Follows, walk_of, starting_walk, end_of};
 
     /// A walk of at most `most` frames, from the registers of a thread.
     pub fn new(
@@ -248,6 +256,17 @@ impl<'a, M: Memory> StackFrames<'a, M> {
             has_returned: false,
             remaining: most,
             end: WalkEnd::Bound,
+        }
+    }
+
+    /// The frame that follows: the first as it is, and then the caller of each.
+    fn following(&self) -> Result<StackFrame, WalkEnd>
+        ensures { Follows (walk_of (M.word) self.now) result }
+    {
+        if self.has_returned {
+            caller_of(&self.modules, &self.frame, self.memory)
+        } else {
+            Ok(self.frame)
         }
     }
 
@@ -283,12 +302,7 @@ impl<'a, M: Memory> Iterator for StackFrames<'a, M> {
         if self.remaining == 0 {
             return None;
         }
-        let found = if self.has_returned {
-            caller_of(&self.modules, &self.frame, self.memory)
-        } else {
-            Ok(self.frame)
-        };
-        match found {
+        match self.following() {
             Ok(frame) => {
                 self.frame = frame;
                 self.has_returned = true;

@@ -13,7 +13,7 @@ use crate::walk::StackFrames;
 
 /// A whole walk returns the frames of a thread, at most as many as were asked for: the first as it is, and then the caller of
 /// each, until there is none, for the reason that the iterator then has, or until as many were returned.
-pub fn walks_return_the_frames<M: Memory>()
+pub fn walks_return_the_frames<M: Memory + 'static>()
     ensures { (s u : StackFrames M) (frames : List StackFrame) →
         YieldsThen ⟦<StackFrames<'static, M> as Iterator>⟧.next_gives s frames None u →
         IsWalk (walk_of M.word s) frames u.end × (length frames ≤ s.remaining)
