@@ -11,6 +11,9 @@ pub mod Undone
 pub mod Begun
 pub mod PiecesShow
 pub mod NoCode
+pub mod FrameSteps
+pub mod OneShortPlan
+pub mod OneWalk
 pub mod WholeWalks
 pub mod Frames
 pub mod Tails

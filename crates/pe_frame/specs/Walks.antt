@@ -1,15 +1,17 @@
 -- Walks of a stack on x64: from the frame of a function to that of its caller, through the modules of a process.
 use Rattle.std.specs.Prelude.{◌≡◌, ℕ, zero, suc, ◌-◌, ◌==◌, Bool, true, false, if◌then◌else◌, List, [], ◌∷◌, Option, Some, None, Result, Ok, Err}
+use Rattle.std.specs.List.{AllByRecursion}
 use Rattle.std.specs.Option.{option_map}
 use Rattle.pe_core.specs.Refusals.{Refusal, kind_of}
 use Rattle.pe_unwind.specs.ExceptionTable.{ExceptionView, table_of}
-use Rattle.pe_unwind.specs.FunctionTable.{functions, Finds}
+use Rattle.pe_unwind.specs.FunctionTable.{functions, Finds, NeverFalls}
 use Rattle.pe_unwind.specs.Links.{links_of}
 use Rattle.pe_unwind.specs.UnwindRecord.{UnwindInfoView}
 use Rattle.pe_unwind.specs.declared.function_table.RuntimeFunction.{RuntimeFunction}
 use Rattle.pe_plan.specs.ShortPlans.{PlansShort}
 use Rattle.pe_frame.specs.Epilogs.{StepsOutWithCode}
 use Rattle.pe_frame.specs.Modules.{module_at, code_in}
+use Rattle.pe_frame.specs.Steps.{ErrorKind, error_kind}
 use Rattle.pe_frame.specs.Undoing.{popped}
 use Rattle.pe_frame.specs.declared.error.FrameError.{FrameError}
 use Rattle.pe_frame.specs.declared.modules.Module.{Module}
@@ -170,3 +172,32 @@ starting_walk memory modules registers most = record {
 -- why it is over, once it is
 abbrev pub end_of : WalkState → Option WalkEnd
 end_of w = if w.remaining == 0 then Some w.end else None
+
+-- ---- what decides a walk
+
+-- the function table of each module is sorted, so that lookup finds what a linear scan finds
+abbrev pub HasSortedTable : Option ExceptionView → Type 0
+HasSortedTable None = Unit {0}
+HasSortedTable (Some e) = NeverFalls (functions (table_of e))
+
+abbrev pub IsSortedModule : Module → Type 0
+IsSortedModule m = HasSortedTable (option_map (λ e. e.now) m.exceptions)
+
+abbrev pub AreSortedModules : List Module → Type 0
+AreSortedModules modules = AllByRecursion IsSortedModule modules
+
+-- a reason without the numbers in a refusal
+pub data EndKind : Type 0 where
+  OfRecords : Refusal → EndKind
+  OfError : ErrorKind → EndKind
+  OfEnd : WalkEnd → EndKind
+
+abbrev pub end_kind : WalkEnd → EndKind
+end_kind (ends.Records e) = OfRecords (kind_of e)
+end_kind (ends.Step e) = OfError (error_kind e)
+end_kind other = OfEnd other
+
+-- a frame, or the kind of a reason
+abbrev pub by_end_kind : Result StackFrame WalkEnd → Result StackFrame EndKind
+by_end_kind (Ok s) = Ok s
+by_end_kind (Err e) = Err (end_kind e)
