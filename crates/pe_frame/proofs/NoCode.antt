@@ -2,7 +2,7 @@
 use Rattle.std.proofs.Common.{◌≡◌, ℕ, ◌-◌, ◌==◌, Bool, true, false, List, [], Option, Some, None, refl}
 use Rattle.std.specs.Option.{option_map_or}
 use Rattle.pe_unwind.specs.UnwindRecord.{UnwindInfoView}
-use Rattle.pe_frame.specs.Epilogs.{add_form, after_pops, epilog_at, exit_form, frame_register_of, is_frame_register, jump_form, lea_form, operand, pop_form, popped_first, tail}
+use Rattle.pe_frame.specs.Epilogs.{add_form, after_pops, epilog_at, exit_form, frame_register_of, is_frame_register, jump_form, lea_form, operand, pop_form, tail}
 use Rattle.pe_frame.specs.Steps.{limit_of}
 
 lea_none : (r : ℕ) (is_frame is_twelve : Bool) → is_frame_register r ≡ is_frame → (r == 12) ≡ is_twelve → lea_form r [] ≡ None

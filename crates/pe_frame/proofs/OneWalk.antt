@@ -2,9 +2,8 @@
 use Rattle.std.proofs.Common.{◌≡◌, ℕ, zero, suc, ◌-◌, Bool, true, false, cond, List, [], ◌∷◌, Option, Some, None, Result, Ok, Err, refl, ap, sym, ◌∙◌, subst}
 use Rattle.std.specs.List.{find}
 use Rattle.std.specs.Option.{option_map}
-use Rattle.pe_core.specs.Refusals.{Refusal, kind_of}
-use Rattle.pe_unwind.specs.ExceptionTable.{ExceptionView, table_of}
-use Rattle.pe_unwind.specs.FunctionTable.{functions, Finds}
+use Rattle.pe_core.specs.Refusals.{Refusal}
+use Rattle.pe_unwind.specs.ExceptionTable.{ExceptionView}
 use Rattle.pe_unwind.specs.Links.{links_of}
 use Rattle.pe_unwind.specs.UnwindRecord.{UnwindInfoView}
 use Rattle.pe_unwind.specs.declared.function_table.RuntimeFunction.{RuntimeFunction}
@@ -14,7 +13,7 @@ use Rattle.pe_frame.specs.Epilogs.{StepsOutFrom, epilog_at}
 use Rattle.pe_frame.specs.Modules.{module_at, module_base, module_size}
 use Rattle.pe_frame.specs.Steps.{ErrorKind, StepsOut, by_kind, error_kind, limit_of, returned_out}
 use Rattle.pe_frame.specs.Undoing.{pointer}
-use Rattle.pe_frame.specs.Walks.{AreSortedModules, Calls, CallsBy, CallsByPlan, CallsFound, CallsIn, EndKind, Follows, FollowsBy, HasSortedTable, IsSortedModule, IsUnreadable, IsWalk, IsWalkBy, OfError, OfRecords, WalkState, by_end_kind, code_of_frame, end_kind, frame_after, lookup_address, walk_after, way_of}
+use Rattle.pe_frame.specs.Walks.{AreSortedModules, Calls, CallsBy, CallsByPlan, CallsFound, CallsIn, FollowsBy, HasSortedTable, IsSortedModule, IsUnreadable, IsWalk, IsWalkBy, OfError, OfRecords, WalkState, by_end_kind, code_of_frame, end_kind, frame_after, lookup_address, walk_after}
 use Rattle.pe_frame.specs.declared.epilog.Instruction.{Instruction}
 use Rattle.pe_frame.specs.declared.error.FrameError.{FrameError}
 use Rattle.pe_frame.specs.declared.modules.Module.{Module}

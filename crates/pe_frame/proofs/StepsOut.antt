@@ -1,5 +1,5 @@
 -- A step's registers are those of what it returns with its cause.
-use Rattle.std.proofs.Common.{◌≡◌, ℕ, ◌-◌, Bool, false, List, Option, Some, None, Result, Ok, Err, refl, ap, sym, ◌∙◌}
+use Rattle.std.proofs.Common.{◌≡◌, ℕ, ◌-◌, Bool, false, List, Option, Some, None, Result, Ok, Err, refl, ap, ◌∙◌}
 use Rattle.pe_unwind.specs.UnwindRecord.{UnwindInfoView}
 use Rattle.pe_frame.specs.Epilogs.{StepsFrom, StepsOutFrom, StepsWithCode, StepsOutWithCode, epilog_at}
 use Rattle.pe_frame.specs.Steps.{Steps, StepsOut, registers_alone, returned, returned_out}

@@ -1,5 +1,5 @@
 -- Whole walks.
-use Rattle.std.proofs.Common.{◌≡◌, ℕ, zero, suc, ◌+◌, ◌-◌, ◌≤◌, List, [], ◌∷◌, length, Option, Some, None, Result, Ok, Err, refl, ap, sym, ◌∙◌, subst, arith}
+use Rattle.std.proofs.Common.{◌≡◌, ℕ, zero, suc, ◌≤◌, List, [], ◌∷◌, length, Option, Some, None, Result, Ok, Err, refl, ap, sym, ◌∙◌, subst, arith}
 use Rattle.std.specs.Iterator.{Yields}
 use Rattle.pe_frame.specs.Walks.{WalkState, Follows, Advances, AdvancesBy, IsWalk, IsWalkBy, returned_frame, walk_after}
 use Rattle.pe_frame.specs.declared.walk.StackFrame.{StackFrame}

@@ -277,7 +277,8 @@ impl<'a, M: Memory> StackFrames<'a, M> {
         self.remaining
     }
 
-    /// Why the walk is over. `None` while a frame may follow.
+    /// Why the walk is over. `None` while a frame may follow. After as many frames as were asked for it is `Bound`, whether or
+    /// not the last of them has a caller.
     pub fn end(&self) -> Option<&WalkEnd>
         ensures { option_map (λ e. e.now) result ≡ end_of (walk_of (M.word) self.now) }
     {

@@ -1,4 +1,4 @@
-use Rattle.std.proofs.Common.{rules, arith, ◌≡◌, ◌≤◌, ◌<◌, ℕ, true, false, get_or, leb}
+use Rattle.std.proofs.Common.{rules, arith, ◌≡◌, ℕ, true, false, get_or, leb}
 use Rattle.std.proofs.lemmas.Bool.Decides.{nat_tests}
 use Rattle.std.proofs.lemmas.List.Sorted.{IsPartitionPoint-from_clause, IsPartitionedBy-leb}
 use Rattle.pe_frame.proofs.Lookups.{starts_rise}

@@ -1,4 +1,4 @@
-use Rattle.std.proofs.Common.{◌≡◌, ◌+◌, ◌∙◌, ap, sym, arith, Some, take, length-set}
+use Rattle.std.proofs.Common.{◌∙◌, ap, sym, arith, Some, take, length-set}
 use Rattle.std.proofs.lemmas.List.{take_more_set}
 use Rattle.pe_frame.specs.MemoryPieces.{byte_in}
 use Rattle.pe_frame.proofs.Pieces.{byte_more}
