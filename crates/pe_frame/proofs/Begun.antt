@@ -27,7 +27,7 @@ pub begun : (c : Bool) (f : Frame) (codes : List UnwindCode) (s : Machine) (limi
 begun c f codes s None order p = p
 begun c f codes s (Some offset) order p = first_ran c f codes s order.0 offset order.1 p
 
-number_shown : (bytes : List ℕ) (p a n : ℕ) (memory : ℕ → ℕ) → n ≤ 8 → ((i : ℕ) → i < 8 → get_or bytes (p + i) 0 ≡ memory (a + i)) → le bytes p n ≡ number_at memory a n
+pub number_shown : (bytes : List ℕ) (p a n : ℕ) (memory : ℕ → ℕ) → n ≤ 8 → ((i : ℕ) → i < 8 → get_or bytes (p + i) 0 ≡ memory (a + i)) → le bytes p n ≡ number_at memory a n
 unfolding le
 number_shown bytes p a zero memory small h = refl
 number_shown bytes p a (suc n) memory small h =

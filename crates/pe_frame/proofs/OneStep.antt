@@ -52,7 +52,7 @@ one_then m is b (Err d) (Err e) x y h next k l =
     let same : error_kind d ≡ error_kind e = cc in
     ap by_kind k ∙ (ap Err same ∙ sym (ap by_kind l))
 
-one_undoing : (m : ℕ → Option ℕ) (is : List UnwindInfoView) (limit : Option ℕ) (b : Bool) (g : Registers) (x y : Result (Registers × Bool) FrameError) →
+pub one_undoing : (m : ℕ → Option ℕ) (is : List UnwindInfoView) (limit : Option ℕ) (b : Bool) (g : Registers) (x y : Result (Registers × Bool) FrameError) →
     Undoes m is limit b g x → Undoes m is limit b g y → by_kind x ≡ by_kind y
 one_undoing m [] limit b g x y h k = ap by_kind (h ∙ sym k)
 one_undoing m (i ∷ is) limit b g x y h k =

@@ -12,7 +12,7 @@ use Rattle.pe_frame.specs.declared.epilog.Instruction.TheVariants.{Add, Lea, Pop
 use Rattle.pe_frame.specs.declared.error.FrameError.{FrameError}
 use Rattle.pe_frame.specs.declared.registers.Registers.{Registers}
 use Rattle.pe_frame.specs.Undoing.{◌>>=◌, pointer, put_register, raised, undone, popped, dropped}
-use Rattle.pe_frame.specs.Steps.{Steps, limit_of, rising}
+use Rattle.pe_frame.specs.Steps.{Steps, StepsOut, limit_of, rising}
 
 -- a number of so many bits in two's complement, as one of 64 bits
 abbrev pub widened : ℕ → ℕ → ℕ
@@ -181,3 +181,12 @@ StepsFrom (Some rest) m plan offset g answer = answer ≡ executed_all m rest g 
 -- what a step with the code returns, by the records of a function, its start, the RVA in it and its code from there on
 abbrev pub StepsWithCode : (ℕ → Option ℕ) → List UnwindInfoView → ℕ → ℕ → List ℕ → Registers → Result Registers FrameError → Type 0
 StepsWithCode m plan start rva code g answer = StepsFrom (epilog_at plan start rva code) m plan (rva - start) g answer
+
+-- the same, and whether an interrupt left the registers, as no epilog does
+abbrev pub StepsOutFrom : Option (List Instruction) → (ℕ → Option ℕ) → List UnwindInfoView → ℕ → Registers → Result (Registers × Bool) FrameError → Type 0
+StepsOutFrom None m plan offset g answer = StepsOut m plan offset g answer
+StepsOutFrom (Some rest) m plan offset g answer =
+    answer ≡ (executed_all m rest g >>= rising (pointer g)) >>= λ u. Ok (u, false)
+
+abbrev pub StepsOutWithCode : (ℕ → Option ℕ) → List UnwindInfoView → ℕ → ℕ → List ℕ → Registers → Result (Registers × Bool) FrameError → Type 0
+StepsOutWithCode m plan start rva code g answer = StepsOutFrom (epilog_at plan start rva code) m plan (rva - start) g answer

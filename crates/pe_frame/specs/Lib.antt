@@ -1,8 +1,12 @@
+pub mod AddressRanges
 pub mod Memory
+pub mod MemoryPieces
 pub mod Undoing
 pub mod Steps
 pub mod Survey
 pub mod Epilogs
+pub mod Modules
+pub mod Walks
 pub mod Tails
 pub mod Machine
 pub mod Frames

@@ -62,6 +62,18 @@ Steps m plan offset g answer =
     (entry : Result (Registers × Bool) FrameError) × Undoes m plan (limit_of plan offset) false g entry
     × (answer ≡ entry >>= returned m (pointer g))
 
+-- the same, and whether an interrupt left them
+abbrev pub returned_out : (ℕ → Option ℕ) → ℕ → (Registers × Bool) → Result (Registers × Bool) FrameError
+returned_out m p u = returned m p u >>= λ c. Ok (c, u.1)
+
+abbrev pub StepsOut : (ℕ → Option ℕ) → List UnwindInfoView → ℕ → Registers → Result (Registers × Bool) FrameError → Type 0
+StepsOut m plan offset g answer =
+    (entry : Result (Registers × Bool) FrameError) × Undoes m plan (limit_of plan offset) false g entry
+    × (answer ≡ entry >>= returned_out m (pointer g))
+
+abbrev pub registers_alone : Result (Registers × Bool) FrameError → Result Registers FrameError
+registers_alone left = left >>= λ u. Ok u.0
+
 -- an error without the numbers in a refusal of codes
 pub data ErrorKind : Type 0 where
   OfCodes : Refusal → ErrorKind

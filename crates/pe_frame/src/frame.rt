@@ -6,8 +6,8 @@ ghost use Rattle.pe_unwind.specs.UnwindRecord.{unwind_view};
 ghost use Rattle.pe_frame.specs.Undoing.{popped};
 ghost use Rattle.pe_frame.specs.declared.registers.Registers.{Registers};
 ghost use Rattle.pe_frame.specs.Frames.{Part, infos, AreFrames, IsCaller};
-ghost use Rattle.pe_frame.specs.Steps.{Steps, Undoes, limit_of, rising};
-ghost use Rattle.pe_frame.specs.Epilogs.{epilog_at, StepsWithCode};
+ghost use Rattle.pe_frame.specs.Steps.{Steps, StepsOut, Undoes, limit_of, registers_alone, rising};
+ghost use Rattle.pe_frame.specs.Epilogs.{epilog_at, StepsWithCode, StepsOutWithCode};
 ghost use Rattle.pe_frame.specs.Tails.{instructions_of};
 
 use crate::epilog::{Tail, execute_tail, tail_at};
@@ -62,7 +62,36 @@ fn rising(pointer: u64, caller: Registers) -> Result<Registers, FrameError>
     Ok(caller)
 }
 
+/// The registers of the caller, from those at an offset in a function, and whether an interrupt left them.
+fn undo_function<M: Memory>(
+    plan: &[UnwindInfo<'_>],
+    offset: u32,
+    registers: Registers,
+    memory: &M,
+) -> Result<(Registers, bool), FrameError>
+    ensures { StepsOut (M.word memory.now) (map unwind_view plan.now) offset registers result }
+{
+    let limit = limit_of(plan, offset);
+    let (entry, is_interrupted) = undo_records(plan, limit, registers, memory)?;
+    if is_interrupted {
+        return Ok((entry, true));
+    }
+    let caller = rising(registers.general[RSP], pop(entry, memory)?)?;
+    Ok((caller, false))
+}
+
+/// The registers alone.
+fn registers_alone(left: Result<(Registers, bool), FrameError>) -> Result<Registers, FrameError>
+    ensures { result ≡ registers_alone left }
+{
+    match left {
+        Ok((registers, _)) => Ok(registers),
+        Err(error) => Err(error),
+    }
+}
+
 /// The registers of the caller, from those at an offset in a function.
+#[tactic(auto, using(crate::proofs::StepsOut::registers_of_step))]
 fn caller<M: Memory>(
     plan: &[UnwindInfo<'_>],
     offset: u32,
@@ -71,13 +100,7 @@ fn caller<M: Memory>(
 ) -> Result<Registers, FrameError>
     ensures { Steps (M.word memory.now) (map unwind_view plan.now) offset registers result }
 {
-    let limit = limit_of(plan, offset);
-    let (entry, is_interrupted) = undo_records(plan, limit, registers, memory)?;
-    if is_interrupted {
-        return Ok(entry);
-    }
-    let caller = pop(entry, memory)?;
-    rising(registers.general[RSP], caller)
+    registers_alone(undo_function(plan, offset, registers, memory))
 }
 
 /// What is left of an epilog at an RVA, from which on the function has this code. In the prolog there is none.
@@ -128,6 +151,27 @@ pub fn step<M: Memory>(
     caller(plan, rva.saturating_sub(start), registers, memory)
 }
 
+/// The registers of a function's caller, as [`step_with_code`] returns them, and whether an interrupt left them.
+pub(crate) fn step_out<M: Memory>(
+    plan: &[UnwindInfo<'_>],
+    start: u32,
+    rva: u32,
+    code: &[u8],
+    registers: Registers,
+    memory: &M,
+) -> Result<(Registers, bool), FrameError>
+    ensures { StepsOutWithCode (M.word memory.now)
+        (map unwind_view plan.now) start rva code.now registers result }
+{
+    match epilog_at(plan, start, rva, code) {
+        Some(tail) => {
+            let caller = execute_tail(tail, registers, memory)?;
+            Ok((rising(registers.general[RSP], caller)?, false))
+        }
+        None => undo_function(plan, rva.saturating_sub(start), registers, memory),
+    }
+}
+
 /// The registers of a function's caller, from those inside the function, in its epilogs too.
 ///
 /// As [`step`], with the function's bytes from `rva` to its end in `code`. After the prolog, if they start with what is left
@@ -151,6 +195,7 @@ pub fn step<M: Memory>(
 ///
 /// Refused in an epilog: for each instruction in turn `Memory` and `Address` where they come up, and last `NotRising`. Else as
 /// `step`.
+#[tactic(auto, using(crate::proofs::StepsOut::registers_of_step_with_code))]
 pub fn step_with_code<M: Memory>(
     plan: &[UnwindInfo<'_>],
     start: u32,
@@ -162,13 +207,7 @@ pub fn step_with_code<M: Memory>(
     ensures { StepsWithCode (M.word memory.now)
         (map unwind_view plan.now) start rva code.now registers result }
 {
-    match epilog_at(plan, start, rva, code) {
-        Some(tail) => {
-            let caller = execute_tail(tail, registers, memory)?;
-            rising(registers.general[RSP], caller)
-        }
-        None => caller(plan, rva.saturating_sub(start), registers, memory),
-    }
+    registers_alone(step_out(plan, start, rva, code, registers, memory))
 }
 
 /// The registers of the caller of a leaf function: one without unwind data, which changes no nonvolatile register and leaves

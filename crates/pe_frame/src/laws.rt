@@ -1,13 +1,16 @@
 //! Laws over the definitions. Each is the contract of a function that does nothing.
 
 pub mod arm64;
+pub mod walks;
 
-ghost use Rattle.std.specs.Prelude.{◌≡◌, ℕ, ◌+◌, ◌-◌, ◌^◌, ◌<◌, ◌≤◌, length, slice_index, List, Option, None, Some, Result, Ok, [], ◌∷◌, ◌++◌};
+ghost use Rattle.std.specs.Prelude.{◌≡◌, ℕ, ◌+◌, ◌-◌, ◌^◌, ◌<◌, ◌≤◌, length, slice_index, true, List, Option, None, Some, Result, Ok, [], ◌∷◌, ◌++◌};
 ghost use Rattle.pe_core.specs.Traits.{IsEquality};
 ghost use Rattle.pe_unwind.specs.UnwindRecord.{UnwindInfoView};
 ghost use Rattle.pe_frame.specs.declared.error.FrameError.{FrameError};
 ghost use Rattle.pe_frame.specs.declared.registers.Registers.{Registers};
 ghost use Rattle.pe_frame.specs.Memory.{stack_word};
+ghost use Rattle.pe_frame.specs.MemoryPieces.{ArePiecesOf, have_byte, pieces_word};
+ghost use Rattle.pe_frame.specs.declared.memory.Stack.{Stack};
 ghost use Rattle.pe_frame.specs.Machine.{loaded};
 ghost use Rattle.pe_frame.specs.Frames.{Part, infos, left, registers_of, AreFrames, IsCaller};
 ghost use Rattle.pe_frame.specs.Samples.{all_known, home_part, inner_part, framed_part, interrupt_part, pushed_part};
@@ -115,6 +118,16 @@ pub fn stacks_show_memory()
         start ≤ a → a + 8 ≤ start + length bytes →
         a + 8 ≤ 2 ^ 64 → ((i : ℕ) → i < 8 → slice_index bytes (a - start + i) ≡ memory (a + i)) →
         stack_word bytes start a ≡ Some (loaded memory a) }
+{}
+
+/// Memory in pieces shows what a machine's memory has, in whatever order the pieces stand and however they overlap, as far as
+/// one of them has each byte. One piece is a stack.
+pub fn pieces_show_memory()
+    ensures shown { (pieces : List Stack) (a : ℕ) (memory : ℕ → ℕ) →
+        ArePiecesOf memory pieces → ((i : ℕ) → i < 8 → have_byte (a + i) pieces ≡ true) →
+        a + 8 ≤ 2 ^ 64 → pieces_word pieces a ≡ Some (loaded memory a) }
+    ensures one { (s : Stack) (a : ℕ) →
+        pieces_word (s ∷ []) a ≡ stack_word s.bytes.now s.start a }
 {}
 
 /// There are such frames: of a part in the body of a function, of one with a frame register, after its prolog and inside of

@@ -14,18 +14,25 @@
 //! where that returns `None` of an entry, or [`leaf_arm64`]. How ARM64 differs is said in `arm64`.
 #![tactic(auto)]
 
+mod address_ranges;
 mod arm64;
 mod epilog;
 mod error;
 mod frame;
 pub mod laws;
 mod memory;
+mod memory_pieces;
+mod modules;
 mod record;
 mod registers;
 mod undo;
+mod walk;
 
 pub use arm64::{Arm64Registers, leaf_arm64, step_arm64, step_arm64_packed};
 pub use error::FrameError;
 pub use frame::{leaf, step, step_with_code};
 pub use memory::{Memory, Stack};
+pub use memory_pieces::StackPieces;
+pub use modules::{Module, ModuleOrder, Modules};
 pub use registers::Registers;
+pub use walk::{StackFrame, StackFrames, WalkEnd, Way};

@@ -3,6 +3,7 @@
 ghost use Rattle.std.specs.Prelude.{◌≡◌, ℕ, Option};
 ghost use Rattle.pe_frame.specs.Memory.{stack_word};
 
+use crate::address_ranges::AddressRange;
 use pe_core::u64_at;
 
 /// The bytes of a word, which is what a push stores.
@@ -35,5 +36,21 @@ impl<'a> Memory for Stack<'a> {
             return None;
         }
         u64_at(self.bytes, (address - self.start) as usize).ok()
+    }
+}
+
+impl<'a> AddressRange for Stack<'a> {
+    ghost use Rattle.std.specs.Prelude.{length};
+
+    ghost start_of = { λ s. s.start };
+
+    ghost size_of = { λ s. length s.bytes.now };
+
+    fn start(&self) -> u64 {
+        self.start
+    }
+
+    fn size(&self) -> u64 {
+        self.bytes.len() as u64
     }
 }

@@ -24,7 +24,7 @@ pub use imports::import_names;
 pub use leaves::contents_of_type;
 pub use resources::first_data_entry;
 pub use signing::digest_input;
-pub use stacks::walk_stack;
+pub use stacks::{backtrace, module_of};
 pub use strings::version_strings;
 pub use symbols::symbol_key;
 pub use unwinding::frames_at;

@@ -1,61 +1,46 @@
-//! A stack walk over one image.
+//! A stack walk through the modules of a process.
 
-use pe_core::SectionMap;
-use pe_frame::{Registers, Stack, leaf, step_with_code};
-use pe_image::{PE, ParseMode, ParseOptions, Result};
-use pe_plan::UnwindPlan;
-use std::alloc::Global;
+use pe_frame::{Memory, Module, Modules, Registers, StackFrames};
+use pe_image::{PE, ParseOptions};
+use std::alloc::{AllocError, Global};
 
-/// The code of a function from an RVA to its end. `None` if that is not all in the file.
-fn code_from<'a>(bytes: &'a [u8], map: &SectionMap<'_>, rva: u32, end: u32) -> Option<&'a [u8]> {
-    let offset = map.find(rva as usize)?;
-    let length = end.checked_sub(rva)?;
-    bytes.get(offset..offset.checked_add(length as usize)?)
+/// The module of an x64 image that is loaded at `base`. `bytes` and `opts` are those of which it was parsed.
+pub fn module_of<'a>(
+    image: &'a PE<'a>,
+    bytes: &'a [u8],
+    base: u64,
+    opts: &ParseOptions,
+) -> Module<'a> {
+    let size = match &image.header.optional_header {
+        Some(header) => header.windows_fields.size_of_image,
+        None => 0,
+    };
+    Module {
+        base,
+        size,
+        bytes,
+        sections: &image.sections,
+        exceptions: image.x64_exceptions(),
+        opts: *opts,
+    }
 }
 
-/// The instruction pointers of a thread's frames in an x64 image that is loaded at `base`, from the innermost frame to the last
-/// one that can be unwound in this image; at most so many.
-pub fn walk_stack(
+/// The instruction pointers of a thread's frames, from the top frame outwards, at most so many. `modules` are those of its
+/// process, in ascending order of their addresses: `None` if they are not, or overlap. `memory` has its stack, as `Stack` of
+/// one piece or `StackPieces` of several.
+pub fn backtrace<M: Memory>(
     alloc: Global,
-    bytes: &[u8],
-    base: u64,
+    modules: &[Module<'_>],
     registers: Registers,
-    stack: &Stack<'_>,
+    memory: &M,
     most: usize,
-) -> Result<Vec<u64>> {
-    let opts = ParseOptions::default().with_parse_mode(ParseMode::Permissive);
-    let image = PE::parse_with_opts(alloc, bytes, &opts)?;
-    let mut frames = Vec::new(alloc);
-    let Some(exceptions) = image.x64_exceptions() else {
-        return Ok(frames);
+) -> Result<Option<Vec<u64>>, AllocError> {
+    let Ok(modules) = Modules::new(modules) else {
+        return Ok(None);
     };
-    let sections = &image.sections;
-    let map = exceptions.section_map(sections, &opts);
-    let mut registers = registers;
-    for depth in 0..most {
-        frames.push(registers.rip)?;
-        let Ok(rva) = u32::try_from(registers.rip.wrapping_sub(base)) else {
-            break;
-        };
-        // A return address may be the end of its function: the call before it is inside.
-        let is_return_address = depth > 0;
-        let inside = rva.saturating_sub(u32::from(is_return_address));
-        let caller = match exceptions.find_function(inside)? {
-            Some(function) => {
-                let plan = UnwindPlan::of_function(alloc, exceptions, function, sections, &opts)?;
-                // The first frame alone may be in an epilog, which its code tells. Without code the records are undone.
-                let end = function.end_address;
-                let end = if is_return_address { rva } else { end };
-                let code = code_from(bytes, &map, rva, end).unwrap_or(&[]);
-                step_with_code(&plan, function.begin_address, rva, code, registers, stack)
-            }
-            None if is_return_address => break,
-            None => leaf(registers, stack),
-        };
-        match caller {
-            Ok(caller) => registers = caller,
-            Err(_) => break,
-        }
+    let mut pointers = Vec::new(alloc);
+    for frame in StackFrames::new(modules, memory, registers, most) {
+        pointers.push(frame.registers.rip)?;
     }
-    Ok(frames)
+    Ok(Some(pointers))
 }

@@ -1,0 +1,139 @@
+-- Lookup in tables of address ranges.
+use Rattle.std.proofs.Common.{◌≡◌, ℕ, zero, suc, ◌+◌, ◌-◌, ◌<◌, ◌≤◌, Bool, true, false, cond, ◌&&◌, inl, inr, nat_le, nat_lt, List, [], ◌∷◌, length, Option, Some, None, get_or, refl, ap, sym, ◌∙◌, subst, arith}
+use Rattle.std.proofs.lemmas.Bool.{cases_lt}
+use Rattle.std.proofs.lemmas.List.{get_or_default}
+use Rattle.std.proofs.lemmas.Bool.Decides.{nat_tests}
+use Rattle.std.specs.List.{find}
+use Rattle.std.specs.Option.{is_none}
+use Rattle.std.specs.List.Sorted.{IsNonDecreasingBy}
+use Rattle.pe_frame.specs.AddressRanges.{has_address, FirstAscend, AreAscending, IsCountUpTo, Overlaps}
+
+-- ---- the first element that passes
+
+-- no element passes
+pub found_none : {X : Type 0} (p : X → Bool) (xs : List X) → ((k : ℕ) (d : X) → k < length xs → p (get_or xs k d) ≡ false) → find p xs ≡ None
+found_none p [] none = refl
+found_none p (x ∷ xs) none =
+    let first : p x ≡ false = none 0 x (omega arith) in
+    rw first (found_none p xs (λ k d h. none (suc k) d (omega (arith, h))))
+
+-- one passes, and none before it does
+pub found_at : {X : Type 0} (p : X → Bool) (xs : List X) (i : ℕ) (d : X) → i < length xs → ((k : ℕ) → k < i → p (get_or xs k d) ≡ false) → p (get_or xs i d) ≡ true → find p xs ≡ Some (get_or xs i d)
+found_at p [] i d lt none this = absurd (omega (arith, lt))
+found_at p (x ∷ xs) zero d lt none this = let first : p x ≡ true = this in rw first refl
+found_at p (x ∷ xs) (suc i) d lt none this =
+    let first : p x ≡ false = none 0 (omega arith) in
+    rw first (found_at p xs i d (omega (arith, lt)) (λ k h. none (suc k) (omega (arith, h))) this)
+
+passes : {X : Type 0} (p : X → Bool) (y x : X) (t : Bool) (rest : Option X) → p y ≡ t → (rest ≡ Some x → p x ≡ true) → cond t (Some y) rest ≡ Some x → p x ≡ true
+passes {X} p y x true rest h more e = let same : y ≡ x = cc e in subst (λ (z : X). p z ≡ true) same h
+passes p y x false rest h more e = more e
+
+-- what is found passes
+pub found_passes : {X : Type 0} (p : X → Bool) (xs : List X) (x : X) → find p xs ≡ Some x → p x ≡ true
+found_passes p [] x e = absurd (cc e)
+found_passes p (y ∷ ys) x e = passes p y x (p y) (find p ys) refl (found_passes p ys x) e
+
+-- ---- one range
+
+pub has_it : (s n a : ℕ) → s ≤ a → a < s + n → nat_le s a && nat_lt a (s + n) ≡ true
+has_it s n a le lt = grind (arith, nat_tests)
+
+pub ends_before : (s n a : ℕ) → s + n ≤ a → nat_le s a && nat_lt a (s + n) ≡ false
+ends_before s n a le = grind (arith, nat_tests)
+
+pub starts_after : (s n a : ℕ) → a < s → nat_le s a && nat_lt a (s + n) ≡ false
+starts_after s n a late = grind (arith, nat_tests)
+
+pub is_within : (s n a : ℕ) → nat_le s a && nat_lt a (s + n) ≡ true → (s ≤ a) × (a < s + n)
+is_within s n a has = (grind (arith, nat_tests), grind (arith, nat_tests))
+
+-- ---- ranges in ascending order
+
+module _ {X : Type 0} (start size : X → ℕ) (xs : List X) where
+  pub starts_rise : AreAscending start size xs → IsNonDecreasingBy start xs
+  starts_rise up i j d le lt =
+      elim (cases_lt i j) [
+        | inl less ↦ let ends = up i j d less lt in omega (arith, ends)
+        | inr more ↦ let same : i ≡ j = omega (arith, more, le) in rw same (omega arith)
+      ]
+
+  earlier : (a i k : ℕ) (d : X) → AreAscending start size xs → k < i → i < length xs → start (get_or xs i d) ≤ a → has_address start size a (get_or xs k d) ≡ false
+  earlier a i k d up less lt le =
+      let ends = up k i d less lt in
+      ends_before (start (get_or xs k d)) (size (get_or xs k d)) a (omega (arith, ends, le))
+
+  -- all start after the address
+  pub none_starts : (a n : ℕ) → IsCountUpTo start a xs n → n ≡ 0 → find (has_address start size a) xs ≡ None
+  none_starts a n count none =
+      found_none (has_address start size a) xs (λ k d lt. starts_after (start (get_or xs k d)) (size (get_or xs k d)) a (count.after k d (omega arith) lt))
+
+  at : (i : ℕ) (x d : X) → i < length xs → x ≡ get_or xs i x → get_or xs i d ≡ x
+  at i x d lt is = get_or_default xs i d x lt ∙ sym is
+
+  -- the last that starts at or before the address
+  pub last_starts : (a n : ℕ) (x : X) → IsCountUpTo start a xs n → (n ≡ 0 → ⊥) → x ≡ get_or xs (n - 1) x → start x ≤ a
+  last_starts a n x count some is =
+      subst (λ (y : X). start y ≤ a) (sym is) (count.before (n - 1) x (omega (arith, some)))
+
+  -- it has the address
+  pub range_found : (a n : ℕ) (x : X) → AreAscending start size xs → IsCountUpTo start a xs n → (n ≡ 0 → ⊥) → x ≡ get_or xs (n - 1) x → a < start x + size x → find (has_address start size a) xs ≡ Some x
+  range_found a n x up count some is within =
+      let le = last_starts a n x count some is in
+      let lt : n - 1 < length xs = omega (arith, some, count.within) in
+      let has : has_address start size a (get_or xs (n - 1) x) ≡ true = subst (λ (y : X). has_address start size a y ≡ true) is (has_it (start x) (size x) a le within) in
+      let before : start (get_or xs (n - 1) x) ≤ a = subst (λ (y : X). start y ≤ a) is le in
+      found_at (has_address start size a) xs (n - 1) x lt (λ k less. earlier a (n - 1) k x up less lt before) has
+      ∙ ap (λ (y : X). Some y) (sym is)
+
+  -- it ends at or before it
+  pub range_missed : (a n : ℕ) (x : X) → AreAscending start size xs → IsCountUpTo start a xs n → (n ≡ 0 → ⊥) → x ≡ get_or xs (n - 1) x → start x + size x ≤ a → find (has_address start size a) xs ≡ None
+  range_missed a n x up count some is ends =
+      let le = last_starts a n x count some is in
+      let lt : n - 1 < length xs = omega (arith, some, count.within) in
+      found_none (has_address start size a) xs (λ k d within.
+      elim (cases_lt k (n - 1)) [
+        | inl less ↦ earlier a (n - 1) k d up less lt (subst (λ (y : X). start y ≤ a) (sym (at (n - 1) x d lt is)) le)
+        | inr more ↦ elim (cases_lt (n - 1) k) [
+          | inl less ↦ starts_after (start (get_or xs k d)) (size (get_or xs k d)) a (count.after k d (omega (arith, less)) within)
+          | inr least ↦
+              let same : k ≡ n - 1 = omega (arith, more, least) in
+              rw (same, at (n - 1) x d lt is) (ends_before (start x) (size x) a ends)
+        ]
+      ])
+
+  -- ---- the test of the order
+
+  -- where the range before an index ends; 0 before the first
+  abbrev pub EndsAt : ℕ → ℕ → Type 0
+  EndsAt i end = (i ≡ 0 → end ≡ 0) × ((d : X) → 0 < i → end ≡ start (get_or xs (i - 1) d) + size (get_or xs (i - 1) d))
+
+  -- where the test finds nothing
+  pub ascends : (overlap : Option ℕ) → Overlaps start size xs overlap → is_none overlap ≡ true → AreAscending start size xs
+  ascends None up none = up
+  ascends (Some i) up none = absurd (cc none)
+
+  up_to_end : (i j end : ℕ) (d : X) → j < i → FirstAscend start size xs i → EndsAt i end → start (get_or xs j d) + size (get_or xs j d) ≤ end
+  up_to_end i j end d less up ends =
+      let is = ends.1 d (omega (arith, less)) in
+      elim (cases_lt j (i - 1)) [
+        | inl before ↦ let le = up j (i - 1) d before (omega (arith, less)) in omega (arith, le, is)
+        | inr more ↦ let same : j ≡ i - 1 = omega (arith, more, less) in rw same (omega (arith, is))
+      ]
+
+  -- one range more
+  pub one_more : (i end : ℕ) (x : X) → i < length xs → x ≡ get_or xs i x → FirstAscend start size xs i → EndsAt i end → end ≤ start x → FirstAscend start size xs (i + 1) × EndsAt (i + 1) (start x + size x)
+  one_more i end x lt is up ends le = (
+    λ j k d less within.
+        elim (cases_lt k i) [
+          | inl below ↦ up j k d less below
+          | inr more ↦
+              let same : k ≡ i = omega (arith, more, within) in
+              let last = up_to_end i j end d (omega (arith, less, within)) up ends in
+              rw (same, at i x d lt is) (omega (arith, last, le))
+        ],
+    (
+      λ none. absurd (omega (arith, none)),
+      λ d more. let same : i + 1 - 1 ≡ i = omega arith in rw (same, at i x d lt is) refl,
+    ),
+  )

@@ -1,0 +1,101 @@
+-- Memory in pieces shows what a machine's memory has.
+use Rattle.std.proofs.Common.{◌≡◌, ℕ, zero, suc, ◌+◌, ◌-◌, ◌^◌, ◌<◌, ◌≤◌, ◌⊎◌, inl, inr, Bool, true, false, ◌&&◌, ◌||◌, nat_le, List, [], ◌∷◌, get_or, Option, Some, None, refl, ap, subst, sym, ◌∙◌, arith, add-one}
+use Rattle.std.proofs.lemmas.Bool.{cases_lt}
+use Rattle.std.proofs.lemmas.Bool.Decides.{nat_tests}
+use Rattle.pe_core.specs.Bytes.{holds}
+use Rattle.pe_core.specs.Rows.{each}
+use Rattle.pe_core.proofs.EntryItems.{get_or-each}
+use Rattle.pe_frame.specs.Machine.{loaded}
+use Rattle.pe_frame.specs.Memory.{stack_word}
+use Rattle.pe_frame.specs.MemoryPieces.{ArePiecesOf, byte_in, has_byte, have_byte, known_bytes, piece_size, pieces_word}
+use Rattle.pe_frame.specs.declared.memory.Stack.{Stack}
+use Rattle.pe_frame.proofs.Begun.{number_shown, word_shown}
+use Rattle.pe_frame.proofs.Lookups.{ends_before, has_it, is_within, starts_after}
+use Rattle.pe_frame.proofs.Pieces.{byte_missing, still_unknown}
+
+-- ---- a byte
+
+byte_here : (memory : ℕ → ℕ) (b : ℕ) (s : Stack) → ((i : ℕ) → i < piece_size s → get_or s.bytes.now i 0 ≡ memory (s.start + i)) → has_byte b s ≡ true → get_or s.bytes.now (b - s.start) 0 ≡ memory b
+byte_here memory b s shows has =
+    let within = is_within s.start (piece_size s) b has in
+    let same : s.start + (b - s.start) ≡ b = omega (arith, within.0) in
+    shows (b - s.start) (omega (arith, within.0, within.1)) ∙ ap memory same
+
+byte_by : (memory : ℕ → ℕ) (b : ℕ) (s : Stack) (ss : List Stack) (has : Bool) → has_byte b s ≡ has → ((i : ℕ) → i < piece_size s → get_or s.bytes.now i 0 ≡ memory (s.start + i)) → (have_byte b ss ≡ true → byte_in ss b ≡ Some (memory b)) → have_byte b (s ∷ ss) ≡ true → byte_in (s ∷ ss) b ≡ Some (memory b)
+byte_by memory b s ss true has shows more one = rw has (ap (λ (v : ℕ). Some v) (byte_here memory b s shows has))
+byte_by memory b s ss false has shows more one =
+    let others : have_byte b ss ≡ true = subst (λ (t : Bool). (t || have_byte b ss) ≡ true) has one in
+    rw has (more others)
+
+byte_shown : (memory : ℕ → ℕ) (b : ℕ) (pieces : List Stack) → ArePiecesOf memory pieces → have_byte b pieces ≡ true → byte_in pieces b ≡ Some (memory b)
+byte_shown memory b [] shows one = absurd (cc one)
+byte_shown memory b (s ∷ ss) shows one =
+    byte_by memory b s ss (has_byte b s) refl shows.0 (byte_shown memory b ss shows.1) one
+
+-- ---- a word
+
+bytes_shown : (memory : ℕ → ℕ) (a : ℕ) (pieces : List Stack) (n : ℕ) → n ≤ 8 → ((i : ℕ) → i < 8 → byte_in pieces (a + i) ≡ Some (memory (a + i))) → known_bytes (byte_in pieces) a n ≡ Some (each (λ i. memory (a + i)) n)
+unfolding each
+bytes_shown memory a pieces zero small known = refl
+bytes_shown memory a pieces (suc n) small known =
+    rw (bytes_shown memory a pieces n (omega (arith, small)) known, known n (omega (arith, small))) refl
+
+word_known : (memory : ℕ → ℕ) (a : ℕ) (pieces : List Stack) → a + 8 ≤ 2 ^ 64 → ((i : ℕ) → i < 8 → byte_in pieces (a + i) ≡ Some (memory (a + i))) → pieces_word pieces a ≡ Some (loaded memory a)
+word_known memory a pieces fits known =
+    let test : nat_le (a + 8) (2 ^ 64) ≡ true = grind (arith, nat_tests) in
+    rw (test, bytes_shown memory a pieces 8 (omega arith) known)
+    (ap (λ (v : ℕ). Some v) (number_shown (each (λ i. memory (a + i)) 8) 0 a 8 memory (omega arith) (λ i small. let same : 0 + i ≡ i = omega arith in rw same (get_or-each (λ i. memory (a + i)) 8 i 0 small))))
+
+pub word_of_pieces : (pieces : List Stack) (a : ℕ) (memory : ℕ → ℕ) → ArePiecesOf memory pieces → ((i : ℕ) → i < 8 → have_byte (a + i) pieces ≡ true) → a + 8 ≤ 2 ^ 64 → pieces_word pieces a ≡ Some (loaded memory a)
+word_of_pieces pieces a memory shows one fits =
+    word_known memory a pieces fits (λ i small. byte_shown memory (a + i) pieces shows (one i small))
+
+-- ---- one piece
+
+byte_unknown : (s : Stack) (b : ℕ) → has_byte b s ≡ false → byte_in (s ∷ []) b ≡ None
+byte_unknown s b has = rw has refl
+
+last_unknown : (byte : ℕ → Option ℕ) (a n : ℕ) (before : Option (List ℕ)) → known_bytes byte a n ≡ before → byte (a + n) ≡ None → known_bytes byte a (n + 1) ≡ None
+last_unknown byte a n None known none = rw (add-one n, known) refl
+last_unknown byte a n (Some before) known none = byte_missing byte a n before known none
+
+none_past : (pieces : List Stack) (a : ℕ) → 2 ^ 64 < a + 8 → pieces_word pieces a ≡ None
+none_past pieces a past = let test : nat_le (a + 8) (2 ^ 64) ≡ false = grind (arith, nat_tests) in rw test refl
+
+word_unknown : (s : Stack) (a i : ℕ) → i < 8 → has_byte (a + i) s ≡ false → pieces_word (s ∷ []) a ≡ None
+word_unknown s a i small has =
+    let part = last_unknown (byte_in (s ∷ [])) a i (known_bytes (byte_in (s ∷ [])) a i) refl (byte_unknown s (a + i) has) in
+    let whole : known_bytes (byte_in (s ∷ [])) a 8 ≡ None = still_unknown (byte_in (s ∷ [])) a (i + 1) 8 (omega (arith, small)) part in
+    elim (cases_lt (2 ^ 64) (a + 8)) [
+      | inl past ↦ none_past (s ∷ []) a past
+      | inr fits ↦ let test : nat_le (a + 8) (2 ^ 64) ≡ true = grind (arith, nat_tests) in rw (test, whole) refl
+    ]
+
+has_not : (s : Stack) (b : ℕ) → (b < s.start) ⊎ (s.start + piece_size s ≤ b) → has_byte b s ≡ false
+has_not s b (inl h) = starts_after s.start (piece_size s) b h
+has_not s b (inr h) = ends_before s.start (piece_size s) b h
+
+stack_unknown : (s : Stack) (a : ℕ) → (nat_le s.start a && nat_le (a + 8) (2 ^ 64) && holds s.bytes.now (a - s.start) 8) ≡ false → stack_word s.bytes.now s.start a ≡ None
+stack_unknown s a test = rw test refl
+
+pub one_piece : (s : Stack) (a : ℕ) → pieces_word (s ∷ []) a ≡ stack_word s.bytes.now s.start a
+one_piece s a =
+    elim (cases_lt a s.start) [
+      | inl low ↦
+          word_unknown s a 0 (omega arith) (has_not s (a + 0) (inl (omega (arith, low))))
+          ∙ sym (stack_unknown s a (grind (arith, nat_tests)))
+      | inr from ↦ elim (cases_lt (s.start + piece_size s) (a + 8)) [
+        | inl past ↦
+            word_unknown s a 7 (omega arith) (has_not s (a + 7) (inr (omega (arith, past))))
+            ∙ sym (stack_unknown s a (grind (arith, nat_tests)))
+        | inr room ↦ elim (cases_lt (2 ^ 64) (a + 8)) [
+          | inl past ↦ none_past (s ∷ []) a past ∙ sym (stack_unknown s a (grind (arith, nat_tests)))
+          | inr fits ↦
+              let memory : ℕ → ℕ = λ b. get_or s.bytes.now (b - s.start) 0 in
+              let shows : ArePiecesOf memory (s ∷ []) = (λ i small. ap (λ (k : ℕ). get_or s.bytes.now k 0) (omega arith), tt) in
+              let has : (i : ℕ) → i < 8 → have_byte (a + i) (s ∷ []) ≡ true = λ i small. rw (has_it s.start (piece_size s) (a + i) (omega (arith, from)) (omega (arith, room, small))) refl in
+              let word = word_shown s.bytes.now s.start a memory from room fits (λ i small. ap (λ (k : ℕ). get_or s.bytes.now k 0) (omega (arith, from))) in
+              word_of_pieces (s ∷ []) a memory shows has fits ∙ sym word
+        ]
+      ]
+    ]

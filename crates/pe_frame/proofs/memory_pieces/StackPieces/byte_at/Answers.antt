@@ -1,0 +1,8 @@
+use Rattle.std.proofs.Common.{sym}
+use Rattle.pe_frame.specs.MemoryPieces.{has_byte}
+use Rattle.pe_frame.proofs.Lookups.{found_passes}
+use Rattle.pe_frame.proofs.memory_pieces.StackPieces.byte_at.Goals as goal
+
+pub byte_of-requires : goal.byte_of-requires
+byte_of-requires c =
+    found_passes (has_byte c.args.address) c.args.self.now.pieces.now c.in-Some.piece.now (sym c.in-Some.ensures)

@@ -1,0 +1,33 @@
+-- Tables of address ranges, each with a start and a size, and what has an address in them.
+use Rattle.std.specs.Prelude.{ℕ, ◌+◌, ◌-◌, ◌≤◌, ◌<◌, ◌&&◌, nat_le, nat_lt, Bool, List, length, slice_index_or, Option, Some, None}
+
+-- a range has this address
+abbrev pub has_address : {X : Type 0} → (X → ℕ) → (X → ℕ) → ℕ → X → Bool
+has_address start size a x = nat_le (start x) a && nat_lt a (start x + size x)
+
+-- of the first n ranges each ends at or before the start of each later one
+abbrev pub FirstAscend : {X : Type 0} → (X → ℕ) → (X → ℕ) → List X → ℕ → Type 0
+FirstAscend {X} start size xs n =
+    (j k : ℕ) (d : X) → j < k → k < n → start (slice_index_or xs j d) + size (slice_index_or xs j d) ≤ start (slice_index_or xs k d)
+
+-- all of them do
+abbrev pub AreAscending : {X : Type 0} → (X → ℕ) → (X → ℕ) → List X → Type 0
+AreAscending start size xs = FirstAscend start size xs (length xs)
+
+-- the range at this index is the first that starts before the end of the one before it
+pub record IsOverlap {X : Type 0} (start : X → ℕ) (size : X → ℕ) (xs : List X) (i : ℕ) : Type 0 where
+  pub after : 0 < i
+  pub within : i < length xs
+  pub before : FirstAscend start size xs i
+  pub overlaps : (d : X) → start (slice_index_or xs i d) < start (slice_index_or xs (i - 1) d) + size (slice_index_or xs (i - 1) d)
+
+-- the index of that range; none where all ascend
+abbrev pub Overlaps : {X : Type 0} → (X → ℕ) → (X → ℕ) → List X → Option ℕ → Type 0
+Overlaps start size xs None = AreAscending start size xs
+Overlaps start size xs (Some i) = IsOverlap start size xs i
+
+-- the first n ranges start at or before an address, and the others after it
+pub record IsCountUpTo {X : Type 0} (start : X → ℕ) (a : ℕ) (xs : List X) (n : ℕ) : Type 0 where
+  pub within : n ≤ length xs
+  pub before : (k : ℕ) (d : X) → k < n → start (slice_index_or xs k d) ≤ a
+  pub after : (k : ℕ) (d : X) → n ≤ k → k < length xs → a < start (slice_index_or xs k d)

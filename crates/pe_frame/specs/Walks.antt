@@ -1,0 +1,203 @@
+-- Walks of a stack on x64: from the frame of a function to that of its caller, through the modules of a process.
+use Rattle.std.specs.Prelude.{◌≡◌, ℕ, zero, suc, ◌-◌, ◌==◌, Bool, true, false, if◌then◌else◌, List, [], ◌∷◌, Option, Some, None, Result, Ok, Err}
+use Rattle.std.specs.List.{AllByRecursion}
+use Rattle.std.specs.Option.{option_map}
+use Rattle.pe_core.specs.Refusals.{Refusal, kind_of}
+use Rattle.pe_unwind.specs.ExceptionTable.{ExceptionView, table_of}
+use Rattle.pe_unwind.specs.FunctionTable.{functions, Finds, NeverFalls}
+use Rattle.pe_unwind.specs.Links.{links_of}
+use Rattle.pe_unwind.specs.UnwindRecord.{UnwindInfoView}
+use Rattle.pe_unwind.specs.declared.function_table.RuntimeFunction.{RuntimeFunction}
+use Rattle.pe_plan.specs.ShortPlans.{PlansShort}
+use Rattle.pe_frame.specs.Epilogs.{StepsOutWithCode}
+use Rattle.pe_frame.specs.Modules.{module_at, code_in}
+use Rattle.pe_frame.specs.Steps.{ErrorKind, error_kind}
+use Rattle.pe_frame.specs.Undoing.{popped}
+use Rattle.pe_frame.specs.declared.error.FrameError.{FrameError}
+use Rattle.pe_frame.specs.declared.modules.Module.{Module}
+use Rattle.pe_frame.specs.declared.registers.Registers.{Registers}
+use Rattle.pe_frame.specs.declared.walk.StackFrame.{StackFrame}
+use Rattle.pe_frame.specs.declared.walk.StackFrames.{StackFrames}
+use Rattle.pe_frame.specs.declared.walk.Way.{Way}
+use Rattle.pe_frame.specs.declared.walk.Way.TheVariants.{Top, Records, Leaf, Interrupt}
+use Rattle.pe_frame.specs.declared.walk.WalkEnd.{WalkEnd}
+use Rattle.pe_frame.specs.declared.walk.WalkEnd.TheVariants as ends
+
+-- ---- a frame
+
+-- the function of the frame has called, so that its instruction pointer is a return address; in the top frame, and in one
+-- that an interrupt stopped, it is that of the instruction which is about to run
+abbrev pub has_called : Way → Bool
+has_called Top = false
+has_called Records = true
+has_called Leaf = true
+has_called Interrupt = false
+
+-- the address by which the function is looked up: a return address may be the end of the function, so the byte before it
+abbrev pub lookup_address : StackFrame → ℕ
+lookup_address s = (s.registers).rip - (if has_called s.way then 1 else 0)
+
+-- the code by which an epilog is known: after a call there is none
+abbrev pub code_of_frame : Module → ExceptionView → ℕ → StackFrame → List ℕ
+code_of_frame m e end s = if has_called s.way then [] else code_in m e ((s.registers).rip - m.base) end
+
+-- ---- its caller, or why there is none
+
+-- records that cannot be read
+abbrev pub IsUnreadable : Refusal → Result StackFrame WalkEnd → Type 0
+IsUnreadable r (Ok s) = ⊥
+IsUnreadable r (Err (ends.Records e)) = kind_of e ≡ r
+IsUnreadable r (Err other) = ⊥
+
+-- what a step returned
+abbrev pub way_of : Bool → Way
+way_of interrupted = if interrupted then Interrupt else Records
+
+abbrev pub frame_after : Result (Registers × Bool) FrameError → Result StackFrame WalkEnd
+frame_after (Ok u) = Ok (record { registers = u.0; way = way_of u.1 })
+frame_after (Err e) = Err (ends.Step e)
+
+-- by the records of its function
+abbrev pub CallsByPlan : (ℕ → Option ℕ) → Module → ExceptionView → RuntimeFunction → StackFrame → Result (Option (List UnwindInfoView)) Refusal → Result StackFrame WalkEnd → Type 0
+CallsByPlan memory m e f s (Err r) answer = IsUnreadable r answer
+CallsByPlan memory m e f s (Ok None) answer = answer ≡ Err ends.LongChain
+CallsByPlan memory m e f s (Ok (Some plan)) answer =
+    (left : Result (Registers × Bool) FrameError)
+    × StepsOutWithCode memory plan f.begin_address ((s.registers).rip - m.base) (code_of_frame m e f.end_address s) s.registers left
+    × (answer ≡ frame_after left)
+
+-- of a leaf function, which has called nothing: it has the return address at the stack pointer
+abbrev pub after_leaf : Result Registers FrameError → Result StackFrame WalkEnd
+after_leaf (Ok u) = Ok (record { registers = u; way = Leaf })
+after_leaf (Err e) = Err (ends.Step e)
+
+abbrev pub leaf_caller : (ℕ → Option ℕ) → StackFrame → Result StackFrame WalkEnd
+leaf_caller memory s = if has_called s.way then Err ends.NoFunction else after_leaf (popped memory s.registers)
+
+-- by the function that lookup found, if it found one
+abbrev pub CallsFound : (ℕ → Option ℕ) → Module → ExceptionView → StackFrame → Option RuntimeFunction → Result StackFrame WalkEnd → Type 0
+CallsFound memory m e s None answer = answer ≡ leaf_caller memory s
+CallsFound memory m e s (Some f) answer =
+    (plan : Result (Option (List UnwindInfoView)) Refusal)
+    × PlansShort (links_of e m.sections.now m.opts) e.content f plan × CallsByPlan memory m e f s plan answer
+
+-- by the exception data of a module; without any all of its functions are leaf functions
+abbrev pub CallsBy : (ℕ → Option ℕ) → Module → StackFrame → Option ExceptionView → Result StackFrame WalkEnd → Type 0
+CallsBy memory m s None answer = answer ≡ leaf_caller memory s
+CallsBy memory m s (Some e) answer =
+    (found : Option RuntimeFunction) × Finds (functions (table_of e)) (lookup_address s - m.base) found
+    × CallsFound memory m e s found answer
+
+-- in the module that has the address, if one does
+abbrev pub CallsIn : (ℕ → Option ℕ) → StackFrame → Option Module → Result StackFrame WalkEnd → Type 0
+CallsIn memory s None answer = answer ≡ Err ends.NoModule
+CallsIn memory s (Some m) answer = CallsBy memory m s (option_map (λ e. e.now) m.exceptions) answer
+
+-- the frame of the caller of a frame, or why there is none
+abbrev pub Calls : (ℕ → Option ℕ) → List Module → StackFrame → Result StackFrame WalkEnd → Type 0
+Calls memory modules s answer = CallsIn memory s (module_at modules (lookup_address s)) answer
+
+-- ---- a walk
+
+-- where a walk is: what is known of the process; a frame, and whether it was returned; how many frames it returns at most,
+-- none once it is over; and why it is over then
+pub record WalkState : Type 0 where
+  pub memory : ℕ → Option ℕ
+  pub modules : List Module
+  pub frame : StackFrame
+  pub has_returned : Bool
+  pub remaining : ℕ
+  pub end : WalkEnd
+
+-- the frame that follows: the first as it is, and then the caller of each
+abbrev pub FollowsBy : Bool → WalkState → Result StackFrame WalkEnd → Type 0
+FollowsBy true w answer = Calls w.memory w.modules w.frame answer
+FollowsBy false w answer = answer ≡ Ok w.frame
+
+abbrev pub Follows : WalkState → Result StackFrame WalkEnd → Type 0
+Follows w answer = FollowsBy w.has_returned w answer
+
+-- the walk after it
+abbrev pub walk_after : WalkState → Result StackFrame WalkEnd → WalkState
+walk_after w (Ok s) = record w { frame = s; has_returned = true; remaining = w.remaining - 1 }
+walk_after w (Err e) = record w { remaining = 0; end = e }
+
+-- what it returns
+abbrev pub returned_frame : Result StackFrame WalkEnd → Option StackFrame
+returned_frame (Ok s) = Some s
+returned_frame (Err e) = None
+
+-- a call of `next`, by how many frames it may return: nothing changes once the walk is over
+abbrev pub AdvancesBy : ℕ → WalkState → Option StackFrame → WalkState → Type 0
+AdvancesBy zero w answer new = (answer ≡ None) × (new ≡ w)
+AdvancesBy (suc n) w answer new =
+    (found : Result StackFrame WalkEnd) × Follows w found × (answer ≡ returned_frame found) × (new ≡ walk_after w found)
+
+abbrev pub Advances : WalkState → Option StackFrame → WalkState → Type 0
+Advances w answer new = AdvancesBy w.remaining w answer new
+
+-- these are the frames that a walk returns, at most so many, and then it is over for this reason
+abbrev pub IsWalkBy : ℕ → WalkState → List StackFrame → WalkEnd → Type 0
+IsWalkBy zero w frames end = (frames ≡ []) × (end ≡ w.end)
+IsWalkBy (suc n) w [] end = Follows w (Err end)
+IsWalkBy (suc n) w (s ∷ frames) end = Follows w (Ok s) × IsWalkBy n (walk_after w (Ok s)) frames end
+
+abbrev pub IsWalk : WalkState → List StackFrame → WalkEnd → Type 0
+IsWalk w frames end = IsWalkBy w.remaining w frames end
+
+-- ---- the iterator
+
+-- where it is, by what its type of memory knows
+abbrev pub walk_of : {M : Type 0} → (M → ℕ → Option ℕ) → StackFrames M → WalkState
+walk_of word s = record {
+  memory = word s.memory.now;
+  modules = s.modules.modules.now;
+  frame = s.frame;
+  has_returned = s.has_returned;
+  remaining = s.remaining;
+  end = s.end;
+}
+
+-- a walk of at most so many frames, from the registers of a thread
+abbrev pub starting_walk : (ℕ → Option ℕ) → List Module → Registers → ℕ → WalkState
+starting_walk memory modules registers most = record {
+  memory = memory;
+  modules = modules;
+  frame = record { registers = registers; way = Top };
+  has_returned = false;
+  remaining = most;
+  end = ends.Bound;
+}
+
+-- why it is over, once it is
+abbrev pub end_of : WalkState → Option WalkEnd
+end_of w = if w.remaining == 0 then Some w.end else None
+
+-- ---- what decides a walk
+
+-- the function table of each module is sorted, so that lookup finds what a linear scan finds
+abbrev pub HasSortedTable : Option ExceptionView → Type 0
+HasSortedTable None = Unit {0}
+HasSortedTable (Some e) = NeverFalls (functions (table_of e))
+
+abbrev pub IsSortedModule : Module → Type 0
+IsSortedModule m = HasSortedTable (option_map (λ e. e.now) m.exceptions)
+
+abbrev pub AreSortedModules : List Module → Type 0
+AreSortedModules modules = AllByRecursion IsSortedModule modules
+
+-- a reason without the numbers in a refusal
+pub data EndKind : Type 0 where
+  OfRecords : Refusal → EndKind
+  OfError : ErrorKind → EndKind
+  OfEnd : WalkEnd → EndKind
+
+abbrev pub end_kind : WalkEnd → EndKind
+end_kind (ends.Records e) = OfRecords (kind_of e)
+end_kind (ends.Step e) = OfError (error_kind e)
+end_kind other = OfEnd other
+
+-- a frame, or the kind of a reason
+abbrev pub by_end_kind : Result StackFrame WalkEnd → Result StackFrame EndKind
+by_end_kind (Ok s) = Ok s
+by_end_kind (Err e) = Err (end_kind e)

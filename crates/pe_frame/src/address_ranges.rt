@@ -1,0 +1,63 @@
+//! Tables of address ranges, as of the modules of a process or of pieces of memory, and lookup of an address in them.
+
+ghost use Rattle.std.specs.Prelude.{◌≡◌, ℕ};
+ghost use Rattle.std.specs.List.{find};
+ghost use Rattle.std.specs.Option.{option_map};
+ghost use Rattle.pe_frame.specs.AddressRanges.{AreAscending, IsCountUpTo, Overlaps, has_address};
+
+/// What lies at a range of addresses.
+pub(crate) trait AddressRange {
+    ghost start_of: { Self → ℕ };
+
+    ghost size_of: { Self → ℕ };
+
+    /// The first address.
+    fn start(&self) -> u64
+        ensures { result ≡ start_of self.now };
+
+    /// How many addresses there are. Those past 2^64 - 1 are none.
+    fn size(&self) -> u64
+        ensures { result ≡ size_of self.now };
+}
+
+/// The index of the first range that starts before the end of the one before it. `None` if the ranges are in ascending
+/// order.
+pub(crate) fn first_overlap<R: AddressRange>(ranges: &[R]) -> Option<usize>
+    ensures { Overlaps R.start_of R.size_of ranges.now result }
+{
+    let mut end: u128 = 0;
+    for (index, range) in ranges.iter().enumerate() {
+        let start = u128::from(range.start());
+        if start < end {
+            return Some(index);
+        }
+        end = start + u128::from(range.size());
+    }
+    None
+}
+
+/// How many ranges start at or before an address, by binary search.
+fn count_up_to<R: AddressRange>(ranges: &[R], address: u64) -> usize
+    requires { AreAscending R.start_of R.size_of ranges.now }
+    ensures { IsCountUpTo R.start_of address ranges.now result }
+{
+    ranges.partition_point(|range| range.start() <= address)
+}
+
+/// The range that has an address, by binary search.
+pub(crate) fn range_with<R: AddressRange>(ranges: &[R], address: u64) -> Option<&R>
+    requires { AreAscending R.start_of R.size_of ranges.now }
+    ensures { option_map (λ r. r.now) result
+        ≡ find (has_address R.start_of R.size_of address) ranges.now }
+{
+    let count = count_up_to(ranges, address);
+    if count == 0 {
+        return None;
+    }
+    let range = &ranges[count - 1];
+    if address - range.start() < range.size() {
+        Some(range)
+    } else {
+        None
+    }
+}
