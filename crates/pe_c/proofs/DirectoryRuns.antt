@@ -83,7 +83,7 @@ as_they_are {X} first s (Err r ∷ items) f = ap (λ (xs : List (Result X Direct
 -- ---- steps by their definitions
 
 -- an item that is returned without being read further
-reported_as : {W X Y S : Type 0} (report : X → Y) (f : First X S) → step_of report f ≡ answered (λ (x : X). Ok (report x)) f
+reported_as : {X Y S : Type 0} (report : X → Y) (f : First X S) → step_of report f ≡ answered (λ (x : X). Ok (report x)) f
 reported_as report None = refl
 reported_as report (Some (Ok x)) = refl
 reported_as report (Some (Err r)) = refl
@@ -91,15 +91,15 @@ reported_as report (Some (Err r)) = refl
 pub makes_reported : {W X Y S : Type 0} (report : W → X → Y) (first_at : W → First X S) (after : W → First X S → W) (next : W → X → S → W) (over : W → W) →
     ((w : W) (f : First X S) → after w f ≡ moved (λ (x : X). Ok (report w x)) (next w) (over w) w f) →
     (w : W) (f : First X S) → first_at w ≡ f → Makes (StepsBy report first_at after) w (answered (λ (x : X). Ok (report w x)) f) (moved (λ (x : X). Ok (report w x)) (next w) (over w) w f)
-makes_reported {W = W} report first_at after next over moves w f e answer v s =
-    (s.0 ∙ ap (step_of (report w)) e ∙ reported_as {W = W} (report w) f, s.1 ∙ ap (after w) e ∙ moves w f)
+makes_reported report first_at after next over moves w f e answer v s =
+    (s.0 ∙ ap (step_of (report w)) e ∙ reported_as (report w) f, s.1 ∙ ap (after w) e ∙ moves w f)
 
 -- an item that is read further
 pub makes_read : {W X Y S : Type 0} (read : W → X → Result Y DirectoryRefusal) (first_at : W → First X S) (after : W → First Y S → W) (next : W → X → S → W) (over : W → W) →
     ((w : W) (f : First X S) → after w (read_first (read w) f) ≡ moved (read w) (next w) (over w) w f) →
     (w : W) (f : First X S) → first_at w ≡ f → Makes (StepsBy (λ (v : W) (y : Y). y) (λ (v : W). read_first (read v) (first_at v)) after) w (answered (read w) f) (moved (read w) (next w) (over w) w f)
-makes_read {S = S} {Y = Y} read first_at after next over moves w f e answer v s =
-    (s.0 ∙ ap (answered (read w)) e, s.1 ∙ ap (λ (g : First _ S). after w (read_first (read w) g)) e ∙ moves w f)
+makes_read {W} {X} {Y} {S} read first_at after next over moves w f e answer v s =
+    (s.0 ∙ ap (answered (read w)) e, s.1 ∙ ap (λ (g : First X S). after w (read_first (read w) g)) e ∙ moves w f)
 
 -- ---- walks that are ranges
 
@@ -114,13 +114,13 @@ moves_reported report w None = refl
 moves_reported report w (Some (Ok x)) = refl
 moves_reported report w (Some (Err r)) = refl
 
-moves_by : {X Y : Type 0} (w : Range) (t : List ℕ) (a : Result Y DirectoryRefusal) → left_after w (Some (a >>= λ y. Ok (y, t))) ≡ unless a (range_left w (length t)) no_bytes
+moves_by : {Y : Type 0} (w : Range) (t : List ℕ) (a : Result Y DirectoryRefusal) → left_after w (Some (a >>= λ y. Ok (y, t))) ≡ unless a (range_left w (length t)) no_bytes
 moves_by w t (Ok y) = refl
 moves_by w t (Err r) = refl
 
 pub moves_read : {X Y : Type 0} (read : Range → X → Result Y DirectoryRefusal) (w : Range) (f : First X (List ℕ)) → left_after w (read_first (read w) f) ≡ moved (read w) (next_range w) no_bytes w f
 moves_read read w None = refl
-moves_read {X} read w (Some (Ok x)) = moves_by {X} w x.1 (read w x.0)
+moves_read read w (Some (Ok x)) = moves_by w x.1 (read w x.0)
 moves_read read w (Some (Err r)) = refl
 
 -- an item takes so many bytes from the front

@@ -7,6 +7,9 @@ pub mod DigestParts
 pub mod DirectoryParts
 pub mod DirectoryRuns
 pub mod DirectoryLists
+pub mod NumberLists
+pub mod StreamLists
+pub mod ListStarts
 pub mod EntryRuns
 pub mod EvenRecords
 pub mod ExportParts

@@ -49,9 +49,10 @@ after_block walk x = range_after walk (8 + length x.entries)
 abbrev pub blocks_reported : Range → List (Result Block DirectoryRefusal) → List (Result RelocationBlock DirectoryRefusal)
 blocks_reported walk items = read_in_turn (λ w x. Ok (block_reported w x)) after_block walk items
 
--- the range of a block's entries is its entries
-abbrev pub HasEntries : List ℕ → RelocationBlock → Block → Type 0
-HasEntries b y x = IsRange b y.entries x.entries
+-- a block of this page, and the range of its entries is its entries
+pub record HasBlock (b : List ℕ) (y : RelocationBlock) (x : Block) : Type 0 where
+  pub page : y.page_rva ≡ x.page_rva
+  pub entries : IsRange b y.entries x.entries
 
 abbrev pub StepsRelocations : ℕ → List ℕ → Range → Result (Option Relocation) DirectoryRefusal → Range → Type 0
 StepsRelocations page b = StepsBy (λ walk. relocation_reported) (first_in (first_relocation page) b) left_after
