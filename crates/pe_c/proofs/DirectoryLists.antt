@@ -1,27 +1,19 @@
 -- Whole walks over directories return the lists of pe_directories.
-use Rattle.std.proofs.Common.{◌≡◌, ◌⊎◌, inl, inr, ℕ, ◌+◌, ◌-◌, ◌*◌, ◌<◌, ◌≤◌, ◌==◌, Bool, true, false, List, [], ◌∷◌, length, take, drop, length-drop, length-take-le, map, Option, Some, None, Result, Ok, Err, refl, sym, ap, subst, ◌∙◌, arith}
-use Rattle.std.specs.Prelude.{◌&&◌, if◌then◌else◌, position}
+use Rattle.std.proofs.Common.{◌≡◌, ℕ, ◌+◌, ◌-◌, ◌*◌, ◌≤◌, ◌==◌, Bool, true, false, List, [], ◌∷◌, length, drop, Option, Some, None, Result, Ok, Err, refl, sym, ap, subst, ◌∙◌, arith}
+use Rattle.std.specs.Prelude.{if◌then◌else◌}
 use Rattle.std.proofs.lemmas.Bool.Decides.{nat_tests}
-use Rattle.std.proofs.lemmas.List.{places, same_lists, drop_all}
-use Rattle.std.proofs.lemmas.List.Quantifiers.{position-Some}
-use Rattle.pe_core.specs.Bytes.{holds, le, range, record_at}
+use Rattle.pe_core.specs.Bytes.{holds, le, range}
 use Rattle.pe_core.specs.Refusals.{Refusal, Short, outcome, ◌>>=◌}
 use Rattle.pe_core.specs.Rows.{entry_items}
 use Rattle.pe_core.specs.Text.{text_at}
-use Rattle.pe_core.specs.declared.byte_range.ByteRange.{ByteRange}
-use Rattle.pe_core.specs.declared.data_directories.DataDirectory.{DataDirectory}
-use Rattle.pe_core.specs.declared.section_table.SectionTable.{SectionTable}
-use Rattle.pe_directories.specs.BaseRelocations.{Block, block_of, first_block, first_relocation, is_block_size, relocation_of, relocation_size, relocation_table, type_of}
+use Rattle.pe_directories.specs.BaseRelocations.{Block, block_of, first_block, first_relocation, is_block_size, relocation_of, relocation_size, type_of}
 use Rattle.pe_directories.specs.BoundImports.{Bound, bound_at, bound_forwarder_at, bound_imports_end, bound_name, bound_of, bound_size, first_bound_import, name_or_refusal}
-use Rattle.pe_directories.specs.DelayImports.{delay_import_at, delay_import_table, delay_imports_end, first_delay_import, imported_by, lookup_table, offset_in_entry}
+use Rattle.pe_directories.specs.DelayImports.{delay_import_at, delay_imports_end, first_delay_import}
 use Rattle.pe_directories.specs.DirectoryRefusals.{DirectoryRefusal, Image, BlockSize, BlockTruncated, NoArgument, of_image}
-use Rattle.pe_directories.specs.ImageParts.{ImageView, offset_of_rva, offset_of_va, record_of, size_of_va, table_of}
-use Rattle.pe_directories.specs.Tls.{callback_table}
-use Rattle.pe_directories.specs.VaTables.{first_va}
-use Rattle.pe_directories.specs.Walks.{First, Items}
+use Rattle.pe_directories.specs.ImageParts.{ImageView}
+use Rattle.pe_directories.specs.Walks.{Items}
 use Rattle.pe_directories.specs.declared.base_relocation.BaseRelocation.{BaseRelocation}
 use Rattle.pe_directories.specs.declared.delay_import.DelayImport.{DelayImport}
-use Rattle.pe_directories.specs.declared.tls.TlsDirectory.{TlsDirectory}
 use Rattle.pe_directories.specs.ForwardersAfter.{forwarders_after}
 use Rattle.pe_directories.specs.declared.bound_import.BoundForwarder as forwarders
 use Rattle.pe_c.proofs.DirectoryParts.{part}
@@ -29,22 +21,19 @@ use Rattle.pe_c.proofs.EntryRuns.{gives_entries}
 use Rattle.pe_c.proofs.ExportParts.{text_stands}
 use Rattle.pe_c.proofs.Runs.{Makes, gives_first, gives_nothing, gives_refusal}
 use Rattle.pe_c.specs.Walks.{StepsEntries, next_of, walk_items, walk_of}
-use Rattle.pe_c.proofs.DirectoryRuns.{IsWalk, Read, Reported, Takes, as_they_are, each_has, goes_on, in_turn, makes_read, makes_reported, moved, moves_reported, next_range, over_range, read_further, refused, reported, same_read, sees, sees_refusal, unless}
-use Rattle.pe_c.proofs.LeftBytes.{bytes_of_range, bytes_there, long, size_of, there}
-use Rattle.pe_c.specs.BoundImports.{bound_name_at, bound_reported, first_bound, forwarder_reported, next_forwarder, unless_refused}
-use Rattle.pe_c.specs.DelayImports.{entry_with, first_library_in, function_of, functions_after, functions_of, library_of}
-use Rattle.pe_c.specs.DirectoryRuns.{HasBound, HasBlock, StepsBlocks, StepsBoundImports, StepsCallbacks, StepsDelayLibraries, StepsDelayedFunctions, StepsForwarders, StepsRelocations, after_block, after_bound, blocks_reported, bounds_reported, forwarder_named, forwarders_reported, relocations_reported}
-use Rattle.pe_c.specs.Directories.{block_reported, callbacks_at, first_in, first_va_in, image_parts, left_after, range_left, read_first, relocation_reported, table_at}
-use Rattle.pe_c.specs.Images.{directory, is_absent}
+use Rattle.pe_c.proofs.DirectoryRuns.{Read, Reported, Takes, each_has, in_turn, read_further, refused, reported, same_read, sees_refusal}
+use Rattle.pe_c.proofs.LeftBytes.{bytes_of_range, long, size_of, there}
+use Rattle.pe_c.specs.BoundImports.{bound_name_at, bound_reported, forwarder_reported, next_forwarder, unless_refused}
+use Rattle.pe_c.specs.DelayImports.{library_of}
+use Rattle.pe_c.specs.DirectoryRuns.{HasBound, HasBlock, StepsBlocks, StepsBoundImports, StepsDelayLibraries, StepsForwarders, StepsRelocations, blocks_reported, bounds_reported, forwarders_reported, relocations_reported}
+use Rattle.pe_c.specs.Directories.{block_reported, relocation_reported}
+use Rattle.pe_c.specs.Images.{directory}
 use Rattle.pe_c.specs.Ranges.{IsRange, bytes_at, no_bytes, range_after}
-use Rattle.pe_c.specs.Runs.{EachHas, IsOver, ReturnsItems, and_after, read_in_turn, read_items}
+use Rattle.pe_c.specs.Runs.{EachHas, IsOver, ReturnsItems, and_after, read_items}
 use Rattle.pe_c.specs.declared.base_relocations.RelocationBlock.{RelocationBlock}
 use Rattle.pe_c.specs.declared.bound_imports.BoundForwarder.{BoundForwarder}
 use Rattle.pe_c.specs.declared.bound_imports.BoundImport.{BoundImport}
 use Rattle.pe_c.specs.declared.delay_imports.DelayLibrary.{DelayLibrary}
-use Rattle.pe_c.specs.declared.delay_imports.DelayedFunction.{DelayedFunction}
-use Rattle.pe_c.specs.declared.delay_imports.DelayedFunctions.{DelayedFunctions}
-use Rattle.pe_c.specs.declared.image.Image as images
 use Rattle.pe_c.specs.declared.ranges.Range.{Range}
 
 -- ---- what stands first, and what it leaves
@@ -111,8 +100,7 @@ relocation_by page b false false whole x t i e = absurd (cc (e))
 relocation_by page b false true false x t i e = absurd (cc (e))
 relocation_by page b false true true x t i e =
     let pair : (relocation_of page b, drop (relocation_size (type_of (le b 0 2))) b) ≡ (x, t) = cc (e) in
-    let size : relocation_size (type_of (le b 0 2)) ≡ relocation_size x.kind = ap (λ (p : BaseRelocation × List ℕ). relocation_size p.0.kind) pair in
-    (
+    let size : relocation_size (type_of (le b 0 2)) ≡ relocation_size x.kind = ap (λ (p : BaseRelocation × List ℕ). relocation_size p.0.kind) pair in (
       sym (ap (λ (p : BaseRelocation × List ℕ). p.1) pair) ∙ ap (λ (n : ℕ). drop n b) size,
       subst (λ (n : ℕ). n ≤ length b) size (held b (relocation_size (type_of (le b 0 2))) i),
     )
@@ -290,8 +278,8 @@ forwarders_over : (b : List ℕ) (table w : Range) → IsOver (Entries b) w → 
 forwarders_over b table w over =
     let entry = over (next_of bound_forwarder_at 8 b w) (walk_of 8 b w) (refl, refl) in
     λ answer v s.
-        let made = forwarder_makes b table w (Ok None) (step_at b table w (Ok None) entry.0) answer v s in
-        (made.0, made.1 ∙ entry.1)
+    let made = forwarder_makes b table w (Ok None) (step_at b table w (Ok None) entry.0) answer v s in
+    (made.0, made.1 ∙ entry.1)
 
 nothing_left : (b : List ℕ) (table : Range) → IsOver (StepsForwarders b table) no_bytes
 nothing_left b table = let inside : holds b 0 0 ≡ true = grind (arith, nat_tests) in forwarders_over b table no_bytes (λ answer v s. (s.0 ∙ no_entry_left b, s.1 ∙ rw inside refl))

@@ -31,7 +31,7 @@ part b p n q k h i = same_lists _ _ (grind (arith, places)) (λ j d lt. grind (a
 long : (b : List ℕ) (p n : ℕ) → p + n ≤ length b → length (range b p n) ≡ n
 long b p n h = grind (arith, places)
 
-pub rest : (b : List ℕ) (p n k : ℕ) → p + n ≤ length b → k ≤ n → range b (p + k) (n - k) ≡ drop k (range b p n)
+rest : (b : List ℕ) (p n k : ℕ) → p + n ≤ length b → k ≤ n → range b (p + k) (n - k) ≡ drop k (range b p n)
 rest b p n k h i = same_lists _ _ (grind (arith, places)) (λ j d lt. grind (arith, places))
 
 -- a root that is not refused is there

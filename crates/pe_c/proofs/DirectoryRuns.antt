@@ -1,7 +1,7 @@
 -- Whole walks by what stands first in what a walk has left, whatever they are over.
-use Rattle.std.proofs.Common.{◌≡◌, ℕ, ◌+◌, ◌-◌, ◌<◌, ◌≤◌, List, [], ◌∷◌, length, drop, Option, Some, None, Result, Ok, Err, length-drop, refl, sym, ap, subst, ◌∙◌, arith}
+use Rattle.std.proofs.Common.{◌≡◌, ℕ, ◌-◌, ◌≤◌, List, [], ◌∷◌, length, drop, Option, Some, None, Result, Ok, Err, length-drop, refl, sym, ap, subst, ◌∙◌, arith}
 use Rattle.pe_core.specs.Refusals.{Refusal, ◌>>=◌}
-use Rattle.pe_directories.specs.DirectoryRefusals.{DirectoryRefusal, Image, of_image}
+use Rattle.pe_directories.specs.DirectoryRefusals.{DirectoryRefusal, Image}
 use Rattle.pe_directories.specs.Walks.{First, Items}
 use Rattle.pe_c.proofs.LeftBytes.{bytes_there, nothing_there, same_range, size_of}
 use Rattle.pe_c.proofs.LeftBytes as left
@@ -133,8 +133,7 @@ goes_on b w s t n e is some =
     let size : length s ≡ w.length = size_of b w s e in
     let rest : length t ≡ length s - n = ap length is ∙ length-drop n s in
     let next : bytes_at b (range_after w n) ≡ Ok (drop (length s - (w.length - n)) s) = left.left_after b w (range_after w n) s e (omega arith) (omega (arith, size, some)) in
-    let all : length s - (w.length - n) ≡ n = omega (arith, size, some) in
-    (
+    let all : length s - (w.length - n) ≡ n = omega (arith, size, some) in (
       same_range (range_left w (length t)) (range_after w n) (omega (arith, size, rest, some)) (omega (arith, size, rest)),
       next ∙ ap (λ (k : ℕ). Ok (drop k s)) all ∙ ap (λ (d : List ℕ). Ok d) (sym is),
     )

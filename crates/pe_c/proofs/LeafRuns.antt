@@ -14,7 +14,7 @@ use Rattle.pe_resource.specs.declared.leaf_position.LeafPosition.{LeafPosition}
 use Rattle.pe_resource.specs.declared.leaves.ResourceLeaf as trees
 use Rattle.pe_c.proofs.LeftBytes.{long, there}
 use Rattle.pe_c.specs.ResourceLeaves.{IsNameOf, StartsTree, StepsLeaves, after_item, first_item, item_reported, items_left, leaf_reported, leaves_walk, name_reported, no_leaves, position_of, walk_after, walk_at}
-use Rattle.pe_c.specs.Ranges.{bytes_at, no_bytes}
+use Rattle.pe_c.specs.Ranges.{bytes_at}
 use Rattle.pe_c.specs.Runs.{IsOver, ReturnsItems, read_items}
 use Rattle.pe_c.specs.declared.image.Image as images
 use Rattle.pe_c.specs.declared.ranges.Range.{Range}

@@ -1,39 +1,27 @@
 -- Whole walks over TLS callbacks, and over what is imported of a DLL, return the numbers of their tables.
-use Rattle.std.proofs.Common.{◌≡◌, ◌⊎◌, inl, inr, ℕ, ◌+◌, ◌-◌, ◌*◌, ◌<◌, ◌≤◌, ◌==◌, Bool, true, false, List, [], ◌∷◌, length, take, drop, length-drop, length-take-le, map, Option, Some, None, Result, Ok, Err, refl, sym, ap, subst, ◌∙◌, arith}
-use Rattle.std.specs.Prelude.{◌&&◌, if◌then◌else◌, position}
+use Rattle.std.proofs.Common.{◌≡◌, ◌⊎◌, inl, inr, ℕ, ◌+◌, ◌-◌, ◌<◌, ◌≤◌, ◌==◌, Bool, true, false, List, [], ◌∷◌, length, drop, Option, Some, None, Result, Ok, Err, refl, sym, ap, subst, ◌∙◌, arith}
+use Rattle.std.specs.Prelude.{◌&&◌, if◌then◌else◌}
 use Rattle.std.proofs.lemmas.Bool.Decides.{nat_tests}
 use Rattle.std.proofs.lemmas.List.{places, same_lists, drop_all}
-use Rattle.std.proofs.lemmas.List.Quantifiers.{position-Some}
-use Rattle.pe_core.specs.Bytes.{holds, le, range, record_at}
-use Rattle.pe_core.specs.Refusals.{Refusal, Short, outcome, ◌>>=◌}
-use Rattle.pe_core.specs.declared.byte_range.ByteRange.{ByteRange}
-use Rattle.pe_core.specs.declared.data_directories.DataDirectory.{DataDirectory}
+use Rattle.pe_core.specs.Bytes.{holds, le, range}
+use Rattle.pe_core.specs.Refusals.{Refusal, Short, ◌>>=◌}
 use Rattle.pe_core.specs.declared.section_table.SectionTable.{SectionTable}
-use Rattle.pe_directories.specs.BaseRelocations.{Block, block_of, first_block, first_relocation, is_block_size, relocation_of, relocation_size, relocation_table, type_of}
-use Rattle.pe_directories.specs.BoundImports.{Bound, bound_at, bound_imports_end, bound_of, bound_size, first_bound_import, bound_table}
-use Rattle.pe_directories.specs.DelayImports.{delay_import_at, delay_import_table, delay_imports_end, first_delay_import, imported_by, lookup_table, offset_in_entry}
-use Rattle.pe_directories.specs.DirectoryRefusals.{DirectoryRefusal, Image, BlockSize, BlockTruncated, NoArgument, of_image}
-use Rattle.pe_directories.specs.ImageParts.{ImageView, offset_of_rva, offset_of_va, record_of, size_of_va, table_of}
+use Rattle.pe_directories.specs.DelayImports.{imported_by, lookup_table, offset_in_entry}
+use Rattle.pe_directories.specs.DirectoryRefusals.{DirectoryRefusal, Image}
+use Rattle.pe_directories.specs.ImageParts.{ImageView, offset_of_va, size_of_va}
 use Rattle.pe_directories.specs.Tls.{callback_table}
 use Rattle.pe_directories.specs.VaTables.{first_va}
 use Rattle.pe_directories.specs.Walks.{First, Items}
-use Rattle.pe_directories.specs.declared.base_relocation.BaseRelocation.{BaseRelocation}
 use Rattle.pe_directories.specs.declared.delay_import.DelayImport.{DelayImport}
 use Rattle.pe_directories.specs.declared.tls.TlsDirectory.{TlsDirectory}
 use Rattle.pe_c.proofs.DirectoryLists.{held}
-use Rattle.pe_c.proofs.DirectoryRuns.{IsWalk, Read, Reported, Takes, as_they_are, each_has, goes_on, in_turn, makes_read, makes_reported, moved, moves_reported, next_range, over_range, read_further, refused, reported, same_read, sees, sees_refusal, unless}
-use Rattle.pe_c.proofs.LeftBytes.{bytes_there, long, size_of, there}
-use Rattle.pe_c.specs.BoundImports.{bound_imports_at, bound_name_at, bound_reported, first_bound}
-use Rattle.pe_c.specs.DelayImports.{entry_with, first_library_in, function_of, functions_after, functions_of, library_of}
+use Rattle.pe_c.proofs.DirectoryRuns.{IsWalk, Takes, as_they_are, goes_on, in_turn, makes_read, makes_reported, moved, moves_reported, next_range, over_range, refused, same_read, sees, sees_refusal, unless}
+use Rattle.pe_c.proofs.LeftBytes.{size_of}
+use Rattle.pe_c.specs.DelayImports.{entry_with, function_of, functions_after, functions_of}
 use Rattle.pe_c.specs.DirectoryRuns.{StepsCallbacks, StepsDelayedFunctions}
-use Rattle.pe_c.specs.Directories.{block_reported, callbacks_at, first_in, first_va_in, image_parts, left_after, range_left, read_first, relocation_reported, table_at}
-use Rattle.pe_c.specs.Images.{directory, is_absent}
-use Rattle.pe_c.specs.Ranges.{IsRange, bytes_at, no_bytes, range_after}
-use Rattle.pe_c.specs.Runs.{EachHas, IsOver, ReturnsItems, and_after, read_in_turn, read_items}
-use Rattle.pe_c.specs.declared.base_relocations.RelocationBlock.{RelocationBlock}
-use Rattle.pe_c.specs.declared.bound_imports.BoundForwarder.{BoundForwarder}
-use Rattle.pe_c.specs.declared.bound_imports.BoundImport.{BoundImport}
-use Rattle.pe_c.specs.declared.delay_imports.DelayLibrary.{DelayLibrary}
+use Rattle.pe_c.specs.Directories.{callbacks_at, first_in, first_va_in, image_parts, left_after, range_left, read_first}
+use Rattle.pe_c.specs.Ranges.{bytes_at, no_bytes, range_after}
+use Rattle.pe_c.specs.Runs.{ReturnsItems, and_after, read_in_turn, read_items}
 use Rattle.pe_c.specs.declared.delay_imports.DelayedFunction.{DelayedFunction}
 use Rattle.pe_c.specs.declared.delay_imports.DelayedFunctions.{DelayedFunctions}
 use Rattle.pe_c.specs.declared.image.Image as images

@@ -1,10 +1,9 @@
 -- Whole walks over metadata streams return the streams of their headers.
 use Rattle.std.proofs.Common.{◌≡◌, ℕ, ◌+◌, ◌-◌, ◌<◌, ◌≤◌, ◌==◌, Bool, true, false, List, [], ◌∷◌, length, take, drop, length-take-le, Option, Some, None, Result, Ok, Err, refl, sym, ap, subst, ◌∙◌, arith}
 use Rattle.std.specs.Prelude.{if◌then◌else◌, nat_le, position}
-use Rattle.std.proofs.lemmas.Bool.Decides.{nat_tests}
 use Rattle.std.proofs.lemmas.List.Quantifiers.{position-Some}
 use Rattle.pe_core.specs.Bytes.{holds, le, range, record_at}
-use Rattle.pe_core.specs.Refusals.{Refusal, Short, outcome, ◌>>=◌}
+use Rattle.pe_core.specs.Refusals.{Short, outcome, ◌>>=◌}
 use Rattle.pe_directories.specs.Clr.{Stream, first_stream, header_size, name_field, name_length, named, stream_of}
 use Rattle.pe_directories.specs.DirectoryRefusals.{DirectoryRefusal, Image}
 use Rattle.pe_directories.specs.Walks.{First, Items}
@@ -12,10 +11,10 @@ use Rattle.pe_c.proofs.DirectoryLists.{held}
 use Rattle.pe_c.proofs.DirectoryParts.{content_stands, name_of_stream_stands}
 use Rattle.pe_c.proofs.DirectoryRuns.{IsWalk, each_has, goes_on, in_turn, makes_reported, moved, no_bytes_at, refused}
 use Rattle.pe_c.proofs.LeftBytes.{size_of}
-use Rattle.pe_c.specs.Clr.{content_of, first_stream_in, no_streams, stream_reported, streams_after, streams_in}
+use Rattle.pe_c.specs.Clr.{first_stream_in, no_streams, stream_reported, streams_after, streams_in}
 use Rattle.pe_c.specs.DirectoryRuns.{HasContent, HasStream, StepsStreams, after_stream, streams_reported}
 use Rattle.pe_c.specs.Directories.{first_of, range_left}
-use Rattle.pe_c.specs.Ranges.{IsRange, bytes_at, no_bytes, range_after}
+use Rattle.pe_c.specs.Ranges.{bytes_at, range_after}
 use Rattle.pe_c.specs.Runs.{EachHas, ReturnsItems}
 use Rattle.pe_c.specs.declared.clr.MetadataStream.{MetadataStream}
 use Rattle.pe_c.specs.declared.clr.MetadataStreams.{MetadataStreams}
@@ -32,8 +31,7 @@ header_by : (b : List ℕ) (n : ℕ) (whole : Bool) (s : Stream) (t : List ℕ) 
 header_by b n false s t h i e = absurd (cc (e))
 header_by b n true s t h i e =
     let pair : (record { offset = le b 0 4; size = le b 4 4; name = take n (name_field b) }, drop (header_size n) b) ≡ (s, t) = cc (e) in
-    let size : length s.name ≡ n = sym (ap (λ (p : Stream × List ℕ). length p.0.name) pair) ∙ length-take-le n (name_field b) h in
-    (
+    let size : length s.name ≡ n = sym (ap (λ (p : Stream × List ℕ). length p.0.name) pair) ∙ length-take-le n (name_field b) h in (
       sym (ap (λ (p : Stream × List ℕ). p.1) pair) ∙ ap (λ (k : ℕ). drop (header_size k) b) (sym size),
       subst (λ (k : ℕ). header_size k ≤ length b) (sym size) (held b (header_size n) i),
     )
@@ -60,8 +58,7 @@ first_by b n false (Err r) s t h e = absurd (cc (e))
 first_by b n false (Ok y) s t h e =
     let pair : (y.0, (n, y.1)) ≡ (s, t) = cc (e) in
     let rest : y.1 ≡ t.1 = ap (λ (p : Stream × (ℕ × List ℕ)). p.1.1) pair in
-    let stream : y.0 ≡ s = ap (λ (p : Stream × (ℕ × List ℕ)). p.0) pair in
-    (
+    let stream : y.0 ≡ s = ap (λ (p : Stream × (ℕ × List ℕ)). p.0) pair in (
       sym (ap (λ (p : Stream × (ℕ × List ℕ)). p.1.0) pair),
       subst (λ (d : List ℕ). IsTaken b s d) rest (subst (λ (x : Stream). IsTaken b x y.1) stream (stream_taken b y.0 y.1 h)),
     )
@@ -94,8 +91,7 @@ streams_go_on : (b metadata : List ℕ) (w : MetadataStreams) (s : ℕ × List �
 streams_go_on b metadata w s x t h e =
     let taken = first_taken s x t e in
     let on = goes_on b w.headers s.1 t.1 (header_size (length x.name)) h.1 taken.1.0 taken.1.1 in
-    let count : w.count - 1 ≡ t.0 = ap (λ (n : ℕ). n - 1) h.2 ∙ sym taken.0 in
-    (
+    let count : w.count - 1 ≡ t.0 = ap (λ (n : ℕ). n - 1) h.2 ∙ sym taken.0 in (
       ap (λ (r : Range). record w { headers = r; count = t.0 }) on.0 ∙ ap (λ (n : ℕ). record w { headers = range_after w.headers (header_size (length x.name)); count = n }) (sym count),
       (h.0, on.1, count),
     )

@@ -1,7 +1,7 @@
 -- Steps of walks over directories, and what calls return of the lists of pe_directories.
 use Rattle.std.specs.Prelude.{◌≡◌, ℕ, ◌+◌, ◌-◌, List, length, map, Option, Result, Ok, Err}
 use Rattle.pe_core.specs.Bytes.{range, record_at}
-use Rattle.pe_core.specs.Refusals.{Refusal, ◌>>=◌}
+use Rattle.pe_core.specs.Refusals.{Refusal}
 use Rattle.pe_directories.specs.BaseRelocations.{Block, first_block, first_relocation}
 use Rattle.pe_directories.specs.BoundImports.{Bound, bound_name}
 use Rattle.pe_directories.specs.Clr.{Stream, header_size}
@@ -10,11 +10,11 @@ use Rattle.pe_directories.specs.ImageParts.{ImageView}
 use Rattle.pe_directories.specs.Walks.{First}
 use Rattle.pe_directories.specs.declared.base_relocation.BaseRelocation.{BaseRelocation}
 use Rattle.pe_directories.specs.declared.bound_import.BoundForwarder as forwarders
-use Rattle.pe_c.specs.BoundImports.{after_forwarder, bound_name_at, bound_reported, first_bound, next_forwarder}
+use Rattle.pe_c.specs.BoundImports.{after_forwarder, bound_reported, first_bound, forwarder_named, next_forwarder}
 use Rattle.pe_c.specs.Clr.{first_stream_in, stream_reported, streams_after}
 use Rattle.pe_c.specs.DelayImports.{first_library_in, first_of_walk, functions_after}
 use Rattle.pe_c.specs.Directories.{block_reported, first_in, first_va_in, left_after, relocation_reported, step_of}
-use Rattle.pe_c.specs.Ranges.{IsRange, bytes_at, range_after}
+use Rattle.pe_c.specs.Ranges.{IsRange, range_after}
 use Rattle.pe_c.specs.Runs.{read_in_turn, read_items}
 use Rattle.pe_c.specs.declared.base_relocations.Relocation.{Relocation}
 use Rattle.pe_c.specs.declared.base_relocations.RelocationBlock.{RelocationBlock}
@@ -109,10 +109,6 @@ pub record HasBound (b directory : List ℕ) (y : BoundImport) (x : Bound) : Typ
 
 abbrev pub StepsForwarders : List ℕ → Range → Range → Result (Option BoundForwarder) DirectoryRefusal → Range → Type 0
 StepsForwarders b table old answer new = (answer ≡ next_forwarder b table old) × (new ≡ after_forwarder b table old)
-
--- a forwarder as callers get it
-abbrev pub forwarder_named : List ℕ → Range → forwarders.BoundForwarder → Result BoundForwarder DirectoryRefusal
-forwarder_named b table x = bound_name_at b table x.name >>= λ name. Ok (record { name = name; time_date_stamp = x.time_date_stamp; spare = 0 })
 
 -- forwarders as a walk returns them
 abbrev pub forwarders_reported : List ℕ → Range → List (Result forwarders.BoundForwarder Refusal) → List (Result BoundForwarder DirectoryRefusal)

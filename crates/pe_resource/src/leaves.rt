@@ -291,8 +291,13 @@ pub(crate) fn first_of_type(data: &[u8], resource_type: ResourceEntry) -> FirstO
     ensures languages { IsWithin data.now result.languages }
     ensures names { IsWithin data.now result.names }
     ensures place { (types : ByteRange) → in_type data.now types resource_type
-        (first_below data.now resource_type) ≡ record { types = types; resource_type = resource_type;
-        names = result.names; name = result.name; languages = result.languages } }
+        (first_below data.now resource_type) ≡ record {
+          types = types;
+          resource_type = resource_type;
+          names = result.names;
+          name = result.name;
+          languages = result.languages;
+        } }
 {
     match table_below(data, resource_type) {
         Err(error) => FirstOfType {
