@@ -68,7 +68,7 @@ tree_at o f d sections alignment = first_directory o f d sections alignment >>= 
 abbrev pub tree_view : List ℕ → ByteRange × LeafPosition → List ℕ × List (Result ResourceLeaf TreeRefusal)
 tree_view f x = (bytes_in f x.0, leaves_at (bytes_in f x.0) x.1)
 
--- a first directory was read of the data at this range of the file, and its entries follow it there
+-- a first directory was read of the data at this range of the file, and its entries, whole ones, follow it there
 pub record IsPlaced (f : List ℕ) (range : Result ByteRange Refusal) (d : FirstDirectory) : Type 0 where
   pub range_of_data : range ≡ Ok d.range
   pub within : IsWithin f d.range
@@ -122,22 +122,22 @@ others (Some x) = x.1
 abbrev pub in_name : List ℕ → ByteRange → ResourceEntry → ResourceEntry × ByteRange → LeafPosition
 in_name b types t name = record { types = types; resource_type = t; names = name.1; name = name.0; languages = others (first_below b name.0) }
 
--- the position after the first leaf of a type, by its first name; after a type that has none its entry alone stays
+-- the position after the first leaf of a type, by its first name; after a type without one no name and no language is left
 abbrev pub in_type : List ℕ → ByteRange → ResourceEntry → Option (ResourceEntry × ByteRange) → LeafPosition
 in_type b types t None = record no_position { types = types; resource_type = t }
 in_type b types t (Some name) = in_name b types t name
 
--- the next leaf is of the first type that is left, if there is one
+-- with no language and no name left the next leaf is of the first type that is left, if there is one
 abbrev pub after_types : List ℕ → LeafPosition → Option (ResourceEntry × ByteRange) → LeafPosition
 after_types b p None = p
 after_types b p (Some x) = in_type b x.1 x.0 (first_below b x.0)
 
--- it is of the first name that is left, before that
+-- with no language left it is of the first name that is left, if there is one
 abbrev pub after_names : List ℕ → LeafPosition → Option (ResourceEntry × ByteRange) → LeafPosition
 after_names b p None = after_types b p (first_in b p.types)
 after_names b p (Some x) = in_name b p.types p.resource_type x
 
--- it is that of the first language that is left, before those
+-- else it is that of the first language that is left
 abbrev pub after_languages : List ℕ → LeafPosition → Option (ResourceEntry × ByteRange) → LeafPosition
 after_languages b p None = after_names b p (first_in b p.names)
 after_languages b p (Some x) = record p { languages = x.1 }
