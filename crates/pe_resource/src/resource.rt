@@ -57,7 +57,7 @@ impl<'a> Default for ResourceData<'a> {
 
 /// The bytes of the entries of the first directory. `data` is the data of the resource directory, at file offset
 /// `start`. `None` if the data is shorter than a directory.
-#[tactic(auto, unfolding(crate::specs::Resources::first_entries_in))]
+#[tactic(auto, using(crate::proofs::Entries::entries_empty), unfolding(crate::specs::Resources::first_entries_in))]
 fn first_entries<'a>(
     data: &'a [u8],
     start: usize,
