@@ -25,7 +25,7 @@ use Rattle.pe_c.specs.declared.ranges.Range.{Range}
 
 -- ---- the metadata root
 
-part : (b : List ℕ) (p n q k : ℕ) → p + n ≤ length b → q + k ≤ n → range b (p + q) k ≡ range (range b p n) q k
+pub part : (b : List ℕ) (p n q k : ℕ) → p + n ≤ length b → q + k ≤ n → range b (p + q) k ≡ range (range b p n) q k
 part b p n q k h i = same_lists _ _ (grind (arith, places)) (λ j d lt. grind (arith, places))
 
 long : (b : List ℕ) (p n : ℕ) → p + n ≤ length b → length (range b p n) ≡ n

@@ -99,7 +99,7 @@ by_offset : {X : Type 0} (entry_at : List ℕ → ℕ → X) (width : ℕ) (b : 
 by_offset entry_at width b r true reads some h = gives_inside entry_at width b r.length r reads some (grind (arith, nat_tests)) (omega arith)
 by_offset entry_at width b r false reads some h = refusal entry_at width b r (outside width b r h)
 
-gives_entries : {X : Type 0} (entry_at : List ℕ → ℕ → X) (width : ℕ) → ReadsAfter entry_at width → 0 < width → (b : List ℕ) (r : Range) →
+pub gives_entries : {X : Type 0} (entry_at : List ℕ → ℕ → X) (width : ℕ) → ReadsAfter entry_at width → 0 < width → (b : List ℕ) (r : Range) →
     ReturnsItems (StepsEntries entry_at width b) r (walk_items entry_at width b r)
 gives_entries entry_at width reads some b r = by_offset entry_at width b r (holds b r.offset r.length) reads some refl
 

@@ -1,33 +1,28 @@
 -- Walks over the leaves of resource trees, and the names that they report.
-use Rattle.std.proofs.Common.{◌≡◌, ℕ, ◌+◌, ◌*◌, ◌≤◌, Bool, true, false, List, [], ◌∷◌, length, map, Option, Some, None, Result, Ok, Err, refl, sym, ap, ◌∙◌, arith}
+use Rattle.std.proofs.Common.{◌≡◌, ℕ, ◌+◌, ◌*◌, ◌≤◌, Bool, true, false, List, [], ◌∷◌, length, map, Option, Some, None, Result, Ok, Err, refl, sym, ap, subst, ◌∙◌, arith}
 use Rattle.std.proofs.lemmas.Bool.Decides.{nat_tests}
 use Rattle.std.proofs.lemmas.List.{places, same_lists}
 use Rattle.pe_core.specs.Bytes.{holds, le, range}
 use Rattle.pe_core.specs.Refusals.{Refusal, Short}
 use Rattle.pe_core.specs.declared.section_table.SectionTable.{SectionTable}
 use Rattle.pe_resource.proofs.LeafPositions.{last_position}
-use Rattle.pe_resource.specs.LeafPositions.{leaves_at}
+use Rattle.pe_resource.specs.LeafPositions.{leaves_at, position_after}
 use Rattle.pe_resource.specs.Leaves.{TreeRefusal, name_units}
 use Rattle.pe_resource.specs.ResourceEntries.{has_name, name_offset}
 use Rattle.pe_resource.specs.declared.entry.ResourceEntry.{ResourceEntry}
 use Rattle.pe_resource.specs.declared.leaf_position.LeafPosition.{LeafPosition}
 use Rattle.pe_resource.specs.declared.leaves.ResourceLeaf as trees
 use Rattle.pe_c.proofs.LeftBytes.{long, there}
-use Rattle.pe_c.specs.ResourceLeaves.{IsNameOf, after_item, item_reported, items_left, leaf_reported, name_reported, position_of}
-use Rattle.pe_c.specs.Ranges.{bytes_at, no_bytes}
+use Rattle.pe_c.specs.ResourceLeaves.{IsNameOf, StartsTree, StepsLeaves, after_item, first_item, item_reported, items_left, leaf_reported, leaves_walk, name_reported, no_leaves, position_of, walk_after, walk_at}
+use Rattle.pe_c.specs.Ranges.{bytes_at}
+use Rattle.pe_c.specs.Runs.{IsOver, ReturnsItems, read_items}
 use Rattle.pe_c.specs.declared.image.Image as images
 use Rattle.pe_c.specs.declared.ranges.Range.{Range}
 use Rattle.pe_c.specs.declared.resource_leaves.ResourceLeaf.{ResourceLeaf}
 use Rattle.pe_c.specs.declared.resource_leaves.ResourceLeaves.{ResourceLeaves}
 
-abbrev no_entry : ResourceEntry
-no_entry = record { name_or_id = 0; offset_to_data_or_directory = 0 }
-
-abbrev over : ResourceLeaves
-over = record { tree = no_bytes; types = no_bytes; names = no_bytes; languages = no_bytes; resource_type = no_entry; name = no_entry }
-
 -- a walk that is over has no items
-pub over_has_none : (b : List ℕ) (image : images.Image) (sections : List SectionTable) → items_left b image sections over ≡ []
+pub over_has_none : (b : List ℕ) (image : images.Image) (sections : List SectionTable) → items_left b image sections no_leaves ≡ []
 over_has_none b image sections =
     let inside : holds b 0 0 ≡ true = grind (arith, nat_tests) in
     rw inside (rw (last_position []) refl)
@@ -47,6 +42,62 @@ pub after_leaf : (b : List ℕ) (image : images.Image) (sections : List SectionT
 after_leaf b image sections v w d p q x y there same at from first reported =
     items_at b image sections v w.tree d p there same at
     ∙ sym (ap after_item (items_at b image sections w w.tree d q there refl (sym from) ∙ ap (map (item_reported b image sections w.tree.offset d)) first) ∙ rw reported refl)
+
+-- ---- the walk after a step
+
+ends_by : (w : ResourceLeaves) (bytes : Result (List ℕ) Refusal) → walk_after w bytes (Ok None) ≡ no_leaves
+ends_by w (Ok d) = refl
+ends_by w (Err r) = refl
+
+refuses_by : (w : ResourceLeaves) (bytes : Result (List ℕ) Refusal) (r : TreeRefusal) → walk_after w bytes (Err r) ≡ no_leaves
+refuses_by w (Ok d) r = refl
+refuses_by w (Err e) r = refl
+
+pub ends_over : (b : List ℕ) (image : images.Image) (sections : List SectionTable) (w : ResourceLeaves) → first_item (items_left b image sections w) ≡ Ok None → leaves_walk b image sections w ≡ no_leaves
+ends_over b image sections w e = ap (walk_after w (bytes_at b w.tree)) e ∙ ends_by w (bytes_at b w.tree)
+
+pub refuses_over : (b : List ℕ) (image : images.Image) (sections : List SectionTable) (w : ResourceLeaves) (r : TreeRefusal) → first_item (items_left b image sections w) ≡ Err r → leaves_walk b image sections w ≡ no_leaves
+refuses_over b image sections w r e = ap (walk_after w (bytes_at b w.tree)) e ∙ refuses_by w (bytes_at b w.tree) r
+
+pub goes_on : (b : List ℕ) (image : images.Image) (sections : List SectionTable) (w : ResourceLeaves) (d : List ℕ) (y : ResourceLeaf) → bytes_at b w.tree ≡ Ok d → first_item (items_left b image sections w) ≡ Ok (Some y) →
+    leaves_walk b image sections w ≡ walk_at w.tree (position_after d (position_of w))
+goes_on b image sections w d y e f = ap (walk_after w (bytes_at b w.tree)) f ∙ ap (λ (r : Result (List ℕ) Refusal). walk_after w r (Ok (Some y))) e
+
+-- ---- whole walks
+
+abbrev Item : Type 0
+Item = Result ResourceLeaf TreeRefusal
+
+over_is_over : (b : List ℕ) (image : images.Image) (sections : List SectionTable) → IsOver (StepsLeaves b image sections) no_leaves
+over_is_over b image sections answer next s =
+    let nothing : first_item (items_left b image sections no_leaves) ≡ Ok None = ap first_item (over_has_none b image sections) in
+    (s.0 ∙ nothing, s.2 ∙ ends_over b image sections no_leaves nothing)
+
+over_at : (b : List ℕ) (image : images.Image) (sections : List SectionTable) (w : ResourceLeaves) → w ≡ no_leaves → IsOver (StepsLeaves b image sections) w
+over_at b image sections w e = subst (λ (v : ResourceLeaves). IsOver (StepsLeaves b image sections) v) (sym e) (over_is_over b image sections)
+
+by_items : (b : List ℕ) (image : images.Image) (sections : List SectionTable) (w : ResourceLeaves) (items : List (Result ResourceLeaf TreeRefusal)) → items_left b image sections w ≡ items →
+    ReturnsItems (StepsLeaves b image sections) w (read_items (λ (x : ResourceLeaf). Ok x) items)
+by_items b image sections w [] e = λ answer next s.
+    let nothing : first_item (items_left b image sections w) ≡ Ok None = ap first_item e in
+    (s.0 ∙ nothing, over_at b image sections next (s.2 ∙ ends_over b image sections w nothing))
+by_items b image sections w (Ok x ∷ items) e = λ answer next s. (s.0 ∙ ap first_item e, by_items b image sections next items (s.1 ∙ ap after_item e))
+by_items b image sections w (Err r ∷ items) e = (
+  refl,
+  λ answer next s.
+      let refusal : first_item (items_left b image sections w) ≡ Err r = ap first_item e in
+      (s.0 ∙ refusal, over_at b image sections next (s.2 ∙ refuses_over b image sections w r refusal)),
+)
+
+pub leaves_in_turn : (b : List ℕ) (image : images.Image) (sections : List SectionTable) (w : ResourceLeaves) →
+    ReturnsItems (StepsLeaves b image sections) w (read_items (λ (x : ResourceLeaf). Ok x) (items_left b image sections w))
+leaves_in_turn b image sections w = by_items b image sections w (items_left b image sections w) refl
+
+pub leaves_of_tree : (b : List ℕ) (image : images.Image) (sections : List SectionTable) (tree : List ℕ × List (Result trees.ResourceLeaf TreeRefusal)) (w : ResourceLeaves) → StartsTree b image sections tree w →
+    ReturnsItems (StepsLeaves b image sections) w (read_items (λ (x : ResourceLeaf). Ok x) (map (item_reported b image sections w.tree.offset tree.0) tree.1))
+leaves_of_tree b image sections tree w h =
+    by_items b image sections w (map (item_reported b image sections w.tree.offset tree.0) tree.1)
+    (items_at b image sections w w.tree tree.0 (position_of w) h.bytes_of_tree refl refl ∙ ap (map (item_reported b image sections w.tree.offset tree.0)) h.leaves)
 
 -- ---- names
 

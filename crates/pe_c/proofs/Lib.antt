@@ -5,6 +5,11 @@ pub mod CertificateRuns
 pub mod CodeRuns
 pub mod DigestParts
 pub mod DirectoryParts
+pub mod DirectoryRuns
+pub mod DirectoryLists
+pub mod NumberLists
+pub mod StreamLists
+pub mod ListStarts
 pub mod EntryRuns
 pub mod EvenRecords
 pub mod ExportParts

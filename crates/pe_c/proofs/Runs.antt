@@ -6,8 +6,8 @@ use Rattle.pe_core.specs.Refusals.{Refusal}
 use Rattle.pe_c.specs.Runs.{ReturnsItems, IsOver}
 
 -- whatever step is made answers so, and leaves the walk there
-abbrev pub Makes : {W X : Type 0} → (W → Result (Option X) Refusal → W → Type 0) → W → Result (Option X) Refusal → W → Type 0
-Makes {W} {X} Steps walk given next = (answer : Result (Option X) Refusal) (v : W) → Steps walk answer v → (answer ≡ given) × (v ≡ next)
+abbrev pub Makes : {W X R : Type 0} → (W → Result (Option X) R → W → Type 0) → W → Result (Option X) R → W → Type 0
+Makes {W} {X} {R} Steps walk given next = (answer : Result (Option X) R) (v : W) → Steps walk answer v → (answer ≡ given) × (v ≡ next)
 
 -- a walk gives what tells the elements of a list; where the list is refused, what tells some elements, and then the refusal
 abbrev pub ReturnsReported : {W X Y : Type 0} → (W → Result (Option X) Refusal → W → Type 0) → (X → Y → Type 0) → W → Result (List Y) Refusal → Type 0
@@ -18,18 +18,18 @@ ReturnsReported {X = X} {Y = Y} Steps Reports walk (Err e) = (reported : List X)
 pub makes_by : {W X : Type 0} (step : W → Result (Option X) Refusal × W) (walk next : W) (given : Result (Option X) Refusal) → step walk ≡ (given, next) → Makes (λ old answer new. (answer, new) ≡ step old) walk given next
 makes_by {W} {X} step walk next given is answer v s = (ap (λ (p : Result (Option X) Refusal × W). p.0) (s ∙ is), ap (λ (p : Result (Option X) Refusal × W). p.1) (s ∙ is))
 
-gives_first : {W X : Type 0} (Steps : W → Result (Option X) Refusal → W → Type 0) (walk next : W) (x : X) (items : List (Result X Refusal)) → Makes Steps walk (Ok (Some x)) next →
+pub gives_first : {W X R : Type 0} (Steps : W → Result (Option X) R → W → Type 0) (walk next : W) (x : X) (items : List (Result X R)) → Makes Steps walk (Ok (Some x)) next →
     ReturnsItems Steps next items → ReturnsItems Steps walk (Ok x ∷ items)
 gives_first {W} Steps walk next x items makes more = λ answer v s.
     let given = makes answer v s in
     (given.0, subst (λ (u : W). ReturnsItems Steps u items) (sym given.1) more)
 
-gives_nothing : {W X : Type 0} (Steps : W → Result (Option X) Refusal → W → Type 0) (walk next : W) → Makes Steps walk (Ok None) next → IsOver Steps next → ReturnsItems Steps walk []
+pub gives_nothing : {W X R : Type 0} (Steps : W → Result (Option X) R → W → Type 0) (walk next : W) → Makes Steps walk (Ok None) next → IsOver Steps next → ReturnsItems Steps walk []
 gives_nothing {W} Steps walk next makes over = λ answer v s.
     let given = makes answer v s in
     (given.0, subst (λ (u : W). IsOver Steps u) (sym given.1) over)
 
-gives_refusal : {W X : Type 0} (Steps : W → Result (Option X) Refusal → W → Type 0) (walk next : W) (e : Refusal) → Makes Steps walk (Err e) next → IsOver Steps next → ReturnsItems Steps walk (Err e ∷ [])
+pub gives_refusal : {W X R : Type 0} (Steps : W → Result (Option X) R → W → Type 0) (walk next : W) (e : R) → Makes Steps walk (Err e) next → IsOver Steps next → ReturnsItems Steps walk (Err e ∷ [])
 gives_refusal {W} Steps walk next e makes over = (
   refl,
   λ answer v s.

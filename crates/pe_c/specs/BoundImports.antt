@@ -39,9 +39,13 @@ first_bound b table walk = read_first (bound_reported b table walk) (first_in fi
 
 -- ---- the forwarders of a DLL
 
+-- a forwarder as callers get it
+abbrev pub forwarder_named : List ℕ → Range → forwarders.BoundForwarder → Result BoundForwarder DirectoryRefusal
+forwarder_named b table x = bound_name_at b table x.name >>= λ name. Ok (record { name = name; time_date_stamp = x.time_date_stamp; spare = 0 })
+
 abbrev pub forwarder_reported : List ℕ → Range → Option forwarders.BoundForwarder → Result (Option BoundForwarder) DirectoryRefusal
 forwarder_reported b table None = Ok None
-forwarder_reported b table (Some x) = bound_name_at b table x.name >>= λ name. Ok (Some (record { name = name; time_date_stamp = x.time_date_stamp; spare = 0 }))
+forwarder_reported b table (Some x) = forwarder_named b table x >>= λ y. Ok (Some y)
 
 -- the next forwarder of a walk
 abbrev pub next_forwarder : List ℕ → Range → Range → Result (Option BoundForwarder) DirectoryRefusal

@@ -23,6 +23,7 @@ pub mod Unwinding
 pub mod Versions
 pub mod Walks
 pub mod Directories
+pub mod DirectoryRuns
 pub mod ResourceLeaves
 pub mod RichHeaders
 pub mod BoundImports

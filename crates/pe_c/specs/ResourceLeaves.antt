@@ -1,10 +1,11 @@
 -- What calls return of the leaves of a resource tree.
 use Rattle.std.specs.Prelude.{◌≡◌, ℕ, ◌+◌, ◌%◌, ◌^◌, List, [], ◌∷◌, length, map, Option, Some, None, Result, Ok, Err, if◌then◌else◌}
+use Rattle.std.specs.Option.{option_map}
 use Rattle.pe_core.specs.Refusals.{Refusal, ◌>>=◌}
 use Rattle.pe_core.specs.declared.byte_range.ByteRange.{ByteRange}
 use Rattle.pe_core.specs.declared.section_table.SectionTable.{SectionTable}
 use Rattle.pe_resource.specs.Contents.{file_range}
-use Rattle.pe_resource.specs.LeafPositions.{leaves_at, tree_at}
+use Rattle.pe_resource.specs.LeafPositions.{leaf_start, leaves_at, no_position, position_after, tree_at}
 use Rattle.pe_resource.specs.Leaves.{TreeRefusal, Image, NotDirectory, NotData, NoEntries, name_units}
 use Rattle.pe_resource.specs.ResourceEntries.{name_offset}
 use Rattle.pe_resource.specs.declared.content.ResourceDataEntry.{ResourceDataEntry}
@@ -122,6 +123,44 @@ abbrev pub after_item : {X R : Type 0} → List (Result X R) → List (Result X 
 after_item [] = []
 after_item (Ok x ∷ more) = more
 after_item (Err refusal ∷ more) = []
+
+-- the walk at a position of the data at a range
+abbrev pub walk_at : Range → LeafPosition → ResourceLeaves
+walk_at tree p = record {
+  tree = tree;
+  types = range_of p.types;
+  names = range_of p.names;
+  languages = range_of p.languages;
+  resource_type = p.resource_type;
+  name = p.name;
+}
+
+-- a walk that is over
+abbrev pub no_leaves : ResourceLeaves
+no_leaves = walk_at no_bytes no_position
+
+-- the walk after a step that returns this: at the position after the leaf, or over
+abbrev pub walk_after : ResourceLeaves → Result (List ℕ) Refusal → Result (Option ResourceLeaf) TreeRefusal → ResourceLeaves
+walk_after w (Ok d) (Ok (Some leaf)) = walk_at w.tree (position_after d (position_of w))
+walk_after w (Ok d) (Ok None) = no_leaves
+walk_after w (Ok d) (Err refusal) = no_leaves
+walk_after w (Err refusal) answer = no_leaves
+
+abbrev pub leaves_walk : List ℕ → images.Image → List SectionTable → ResourceLeaves → ResourceLeaves
+leaves_walk b image sections w = walk_after w (bytes_at b w.tree) (first_item (items_left b image sections w))
+
+-- a step: what it returns, the items that it leaves, and the walk after it
+abbrev pub StepsLeaves : List ℕ → images.Image → List SectionTable → ResourceLeaves → Result (Option ResourceLeaf) TreeRefusal → ResourceLeaves → Type 0
+StepsLeaves b image sections old answer new =
+    (answer ≡ first_item (items_left b image sections old))
+    × (items_left b image sections new ≡ after_item (items_left b image sections old))
+    × (new ≡ leaves_walk b image sections old)
+
+-- the walk before the first leaf of an image's resources; `None` where the directory is absent, or has no first directory
+abbrev pub leaves_start : List ℕ → images.Image → List SectionTable → Result (Option ResourceLeaves) Refusal
+leaves_start b image sections =
+    if is_absent (resource_directory image) then Ok None
+    else (leaf_start (options_of image.mode) b (resource_directory image) sections image.file_alignment >>= λ found. Ok (option_map (λ x. walk_at (range_of x.0) x.1) found))
 
 -- the tree of an image that has resources: its data, and the items of its leaves. `None` where the directory is absent, and in
 -- permissive mode where its data are shorter than a directory

@@ -3,6 +3,7 @@
 
 pub mod directories;
 pub mod version_blocks;
+pub mod walks;
 
 ghost use Rattle.pe_c.specs.Arm64.{StepsArm64Codes, arm64_function_in, arm64_walk_at, flat_arm64_item, flat_info, flat_scope_at, left_of_stream};
 ghost use Rattle.pe_c.specs.Certificates.{StepsCertificates, ReportsCertificate, listed};

@@ -5,7 +5,8 @@
 ghost use Rattle.std.specs.Prelude.{◌≡◌, ◌≤◌, ◌^◌};
 ghost use Rattle.pe_core.specs.Refusals.{answer_of};
 ghost use Rattle.pe_resource.specs.Leaves.{tree_answer};
-ghost use Rattle.pe_c.specs.ResourceLeaves.{StartsLeaves, TreeHandsOut, after_item, content_of, first_item, image_tree, items_left, leaf_reported, name_in, position_of};
+ghost use Rattle.pe_c.specs.HandsOut.{HandsOutIf};
+ghost use Rattle.pe_c.specs.ResourceLeaves.{StartsLeaves, TreeHandsOut, after_item, content_of, first_item, image_tree, items_left, leaf_reported, leaves_start, leaves_walk, name_in, position_of, walk_at};
 
 use crate::image::{Image, RESOURCE_TABLE, directory, is_absent};
 use crate::ranges::{NO_BYTES, Range, range_of, slice_of};
@@ -91,6 +92,7 @@ fn position_of(walk: &ResourceLeaves) -> LeafPosition
 fn walk_at(tree: Range, position: &LeafPosition) -> ResourceLeaves
     ensures position { position_of result ≡ position.now }
     ensures tree { result.tree ≡ tree }
+    ensures value { result ≡ walk_at tree position.now }
 {
     ResourceLeaves {
         tree,
@@ -195,8 +197,10 @@ pub extern "C" fn pe_c_resource_leaves(
     sections: &[SectionTable],
     out: &mut ResourceLeaves,
 ) -> u32
-    ensures { StartsLeaves bytes.now image.now sections.now result out.old out.new
+    ensures tree { StartsLeaves bytes.now image.now sections.now result out.old out.new
         (image_tree bytes.now image.now sections.now) }
+    ensures walk { HandsOutIf result out.old out.new
+        (leaves_start bytes.now image.now sections.now) }
 {
     let directory = directory(image, RESOURCE_TABLE);
     if is_absent(directory) {
@@ -224,8 +228,9 @@ fn next_leaf(
 ) -> std::result::Result<Option<ResourceLeaf>, ResourceTreeError>
     ensures leaf { tree_answer result
         ≡ first_item (items_left bytes.now image.now sections.now walk.old) }
-    ensures walk { items_left bytes.now image.now sections.now walk.new
+    ensures left { items_left bytes.now image.now sections.now walk.new
         ≡ after_item (items_left bytes.now image.now sections.now walk.old) }
+    ensures walk { walk.new ≡ leaves_walk bytes.now image.now sections.now walk.old }
 {
     let tree = walk.tree;
     let mut position = position_of(walk);
@@ -253,8 +258,9 @@ pub extern "C" fn pe_c_next_resource_leaf(
 ) -> u32
     ensures leaf { TreeHandsOut result out.old out.new
         (first_item (items_left bytes.now image.now sections.now walk.old)) }
-    ensures walk { items_left bytes.now image.now sections.now walk.new
+    ensures left { items_left bytes.now image.now sections.now walk.new
         ≡ after_item (items_left bytes.now image.now sections.now walk.old) }
+    ensures walk { walk.new ≡ leaves_walk bytes.now image.now sections.now walk.old }
 {
     hand_out_leaf(next_leaf(bytes, image, sections, walk), out)
 }

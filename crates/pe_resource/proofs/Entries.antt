@@ -26,6 +26,9 @@ entries_none b h = are_whole b ∙ whole_entries-none entry_at 8 b h
 abbrev items : List ResourceEntry → List (Result ResourceEntry Refusal)
 items es = map (λ e. Ok e) es
 
+pub entries_count : (b : List ℕ) → length (entries b) ≡ length b / 8
+entries_count b = ap (λ (es : List ResourceEntry). length es) (are_whole b) ∙ length-whole_entries entry_at 8 b
+
 -- the same of items
 pub items_more : (b : List ℕ) → 8 ≤ length b → map {B = Result ResourceEntry Refusal} (λ e. Ok e) (entries b) ≡ Ok (entry_at b 0) ∷ map (λ e. Ok e) (entries (drop 8 b))
 items_more b h = ap items (entries_more b h)
@@ -34,7 +37,7 @@ pub items_none : (b : List ℕ) → length b < 8 → map {B = Result ResourceEnt
 items_none b h = ap items (entries_none b h)
 
 pub items_count : (b : List ℕ) → length (map {B = Result ResourceEntry Refusal} (λ e. Ok e) (entries b)) ≡ length b / 8
-items_count b = simp length-map (ap (λ (es : List ResourceEntry). length es) (are_whole b) ∙ length-whole_entries entry_at 8 b)
+items_count b = simp length-map (entries_count b)
 
 pub entries_empty : entries [] ≡ []
 entries_empty = entries_none [] (omega arith)

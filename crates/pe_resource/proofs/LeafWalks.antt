@@ -1,12 +1,15 @@
 -- The leaves that a walk has left, by what it takes next: a language, a name, a type.
-use Rattle.std.proofs.Common.{◌≡◌, ℕ, ◌+◌, ◌-◌, ◌<◌, ◌≤◌, List, [], ◌∷◌, ◌++◌, length, drop, map, Result, refl, sym, ap, ◌∙◌, arith}
+use Rattle.std.proofs.Common.{◌≡◌, ℕ, ◌+◌, ◌-◌, ◌*◌, ◌<◌, ◌≤◌, Bool, true, false, List, [], ◌∷◌, ◌++◌, length, drop, map, Result, Ok, Err, refl, sym, ap, subst, ◌∙◌, arith}
+use Rattle.std.specs.Prelude.{if◌then◌else◌}
 use Rattle.std.specs.List.{flat_map}
 use Rattle.std.proofs.lemmas.List.{append_assoc, places, same_lists}
-use Rattle.pe_core.specs.Bytes.{range}
+use Rattle.std.proofs.lemmas.Bool.Decides.{nat_tests}
+use Rattle.pe_core.specs.Bytes.{holds, range, record_at}
+use Rattle.pe_core.specs.Refusals.{Refusal, Short}
 use Rattle.pe_resource.specs.declared.entry.ResourceEntry.{ResourceEntry}
 use Rattle.pe_resource.specs.declared.leaves.ResourceLeaf.{ResourceLeaf}
 use Rattle.pe_resource.specs.ResourceEntries.{entry_at, entries}
-use Rattle.pe_resource.proofs.Entries.{entries_more, entries_none}
+use Rattle.pe_resource.proofs.Entries.{entries_count, entries_more, entries_none}
 use Rattle.pe_resource.specs.Leaves.{TreeRefusal, leaf_of, leaves_of_name, leaves_of_type, tree_leaves, leaves_from}
 
 abbrev Item : Type 0
@@ -45,3 +48,15 @@ entries_of_range b p n h some =
 
 pub no_entry_in_range : (b : List ℕ) (p n : ℕ) → p + n ≤ length b → n < 8 → entries (range b p n) ≡ []
 no_entry_in_range b p n h few = entries_none (range b p n) (let size : length (range b p n) ≡ n = long b p n h in omega (arith, size))
+
+-- a table of n entries has nothing else
+whole_by : (b t : List ℕ) (p n : ℕ) (inside : Bool) → holds b p (8 * n) ≡ inside → ◌≡◌ {A = Result (List ℕ) Refusal} (if inside then Ok (range b p (8 * n)) else Err Short) (Ok t) → 8 * length (entries t) ≡ length t
+whole_by b t p n false h e = absurd cc
+whole_by b t p n true h e =
+    let same : range b p (8 * n) ≡ t = cc in
+    let there : p + 8 * n ≤ length b = grind (arith, nat_tests) in
+    let size : length t ≡ 8 * n = ap length (sym same) ∙ long b p (8 * n) there in
+    omega (arith, size, entries_count t)
+
+pub whole_table : (b t : List ℕ) (p n : ℕ) → record_at b p (8 * n) (range b p (8 * n)) ≡ Ok t → 8 * length (entries t) ≡ length t
+whole_table b t p n e = whole_by b t p n (holds b p (8 * n)) refl e

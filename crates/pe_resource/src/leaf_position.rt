@@ -6,7 +6,7 @@ ghost use Rattle.std.specs.Option.{MatchOption};
 ghost use Rattle.std.specs.Iterator.{YieldsFirstBy};
 ghost use Rattle.pe_core.specs.Offsets.{IsWithin, bytes_in};
 ghost use Rattle.pe_core.specs.Refusals.{Returns};
-ghost use Rattle.pe_resource.specs.LeafPositions.{IsPosition, leaves_after, leaves_at, position_test};
+ghost use Rattle.pe_resource.specs.LeafPositions.{IsPosition, after_languages, first_in, leaves_after, leaves_at, position_after, position_test};
 ghost use Rattle.pe_resource.specs.Leaves.{tree_answer};
 ghost use Rattle.pe_resource.specs.ResourceEntries.{entries};
 
@@ -54,6 +54,7 @@ fn first_in(data: &[u8], table: ByteRange) -> Option<(ResourceEntry, ByteRange)>
     ensures first { MatchOption result (entries (bytes_in data.now table) ≡ [])
         (λ x. entries (bytes_in data.now table) ≡ x.0 ∷ entries (bytes_in data.now x.1)) }
     ensures within { IfSome result (λ x. IsWithin data.now x.1) }
+    ensures value { result ≡ first_in data.now table }
 {
     if table.length < RESOURCE_ENTRY_SIZE {
         return None;
@@ -77,6 +78,8 @@ impl LeafPosition {
         requires { IsPosition data.now self.old }
         ensures item { YieldsFirstBy tree_answer (leaves_after data.now) self.old result self.new }
         ensures there { IsPosition data.now self.new }
+        ensures position { self.new
+            ≡ after_languages data.now self.old (first_in data.now self.old.languages) }
     {
         if let Some((language, languages)) = first_in(data, self.languages) {
             self.languages = languages;
@@ -109,7 +112,8 @@ impl LeafPosition {
         &mut self,
         data: &[u8],
     ) -> Option<std::result::Result<ResourceLeaf, ResourceTreeError>>
-        ensures { YieldsFirstBy tree_answer (leaves_at data.now) self.old result self.new }
+        ensures item { YieldsFirstBy tree_answer (leaves_at data.now) self.old result self.new }
+        ensures position { self.new ≡ position_after data.now self.old }
     {
         if let Err(error) = self.check(data) {
             *self = END;

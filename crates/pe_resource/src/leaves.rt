@@ -14,7 +14,9 @@ ghost use Rattle.std.specs.Option.{MatchOption, option_map};
 ghost use Rattle.std.specs.Iterator.{YieldsFirstBy, item_count};
 ghost use Rattle.pe_core.specs.Offsets.{IsWithin, bytes_in};
 ghost use Rattle.pe_core.specs.Refusals.{Returns, ReturnsAs};
+ghost use Rattle.pe_core.specs.declared.byte_range.ByteRange.{ByteRange};
 ghost use Rattle.pe_resource.specs.Contents.{map_of, file_range};
+ghost use Rattle.pe_resource.specs.LeafPositions.{first_below, in_type, others, range_below, split_table};
 ghost use Rattle.pe_resource.specs.ResourceEntries.{entries, entries_left};
 ghost use Rattle.pe_resource.specs.Leaves.{TreeReturns, tree_answer, table_below, leaf_of, leaves_of_name, leaves_of_type, tree_leaves, leaves_left, walk_view, name_units, content_of_type, leaf_version};
 ghost use Rattle.pe_resource.specs.VersionBlocks.{BlockReturns, block_view, leaf_block};
@@ -175,6 +177,7 @@ fn table_below(
     ensures table { TreeReturns (bytes_in data.now) result (table_below data.now entry) }
     ensures within { IfOk result (IsWithin data.now) }
     ensures some { IfOk result (λ r. 8 ≤ r.length) }
+    ensures place { IfOk result (λ r. r ≡ range_below data.now entry) }
 {
     let offset = entry.offset_to_directory();
     if !entry.data_is_directory() {
@@ -201,6 +204,7 @@ pub(crate) fn split_range(data: &[u8], table: ByteRange) -> (ResourceEntry, Byte
     requires some { 8 ≤ table.length }
     ensures entries { entries (bytes_in data.now table) ≡ result.0 ∷ entries (bytes_in data.now result.1) }
     ensures within { IsWithin data.now result.1 }
+    ensures value { result ≡ split_table data.now table }
 {
     (
         ResourceEntry::at(table.of(data), 0),
@@ -252,6 +256,7 @@ pub(crate) fn first_of_name(
     ensures items { leaves_of_name data.now resource_type name ≡ tree_answer result.item
         ∷ map (leaf_of data.now resource_type name) (entries (bytes_in data.now result.languages)) }
     ensures within { IsWithin data.now result.languages }
+    ensures place { result.languages ≡ others (first_below data.now name) }
 {
     match table_below(data, name) {
         Err(error) => FirstOfName {
@@ -285,6 +290,14 @@ pub(crate) fn first_of_type(data: &[u8], resource_type: ResourceEntry) -> FirstO
         ++ flat_map (leaves_of_name data.now resource_type) (entries (bytes_in data.now result.names))) }
     ensures languages { IsWithin data.now result.languages }
     ensures names { IsWithin data.now result.names }
+    ensures place { (types : ByteRange) → in_type data.now types resource_type
+        (first_below data.now resource_type) ≡ record {
+          types = types;
+          resource_type = resource_type;
+          names = result.names;
+          name = result.name;
+          languages = result.languages;
+        } }
 {
     match table_below(data, resource_type) {
         Err(error) => FirstOfType {

@@ -2,14 +2,14 @@
 //! want another resource take its file range from `ResourceData::content_range`. Layout:
 //! <https://learn.microsoft.com/windows/win32/debug/pe-format#the-rsrc-section>.
 
-ghost use Rattle.std.specs.Prelude.{◌≡◌, ◌≢◌, Err, Ok, IfOk, IfSome};
+ghost use Rattle.std.specs.Prelude.{◌≡◌, ◌≢◌, ◌*◌, Err, Ok, IfOk, IfSome, length};
 ghost use Rattle.std.specs.Option.{option_map};
 ghost use Rattle.pe_core.specs.Options.{default_options};
 ghost use Rattle.pe_core.specs.Offsets.{IsWithin, StandAt};
-ghost use Rattle.pe_core.specs.Refusals.{ReturnsAs, Memory, answer_of, answer_by};
+ghost use Rattle.pe_core.specs.Refusals.{Returns, ReturnsAs, Memory, answer_of, answer_by};
 ghost use Rattle.pe_resource.specs.Contents.{map_of, file_range};
 ghost use Rattle.pe_resource.specs.Directories.{count};
-ghost use Rattle.pe_resource.specs.LeafPositions.{IsPlaced, leaves_at, tree_at, tree_view};
+ghost use Rattle.pe_resource.specs.LeafPositions.{IsPlaced, first_position, leaf_start, leaves_at, tree_at, tree_view};
 ghost use Rattle.pe_resource.specs.Leaves.{walk_view, resource_tree, tree_leaves};
 ghost use Rattle.pe_resource.specs.ResourceEntries.{entries, entries_left};
 ghost use Rattle.pe_resource.specs.Resources.{resource_view, first_entries_in, first_directory_view, first_directory, AreResources, IsResource, IsResourceRange};
@@ -57,7 +57,7 @@ impl<'a> Default for ResourceData<'a> {
 
 /// The bytes of the entries of the first directory. `data` is the data of the resource directory, at file offset
 /// `start`. `None` if the data is shorter than a directory.
-#[tactic(auto, unfolding(crate::specs::Resources::first_entries_in))]
+#[tactic(auto, using(crate::proofs::Entries::entries_empty), unfolding(crate::specs::Resources::first_entries_in))]
 fn first_entries<'a>(
     data: &'a [u8],
     start: usize,
@@ -67,6 +67,7 @@ fn first_entries<'a>(
     ensures entries { ReturnsAs
         (option_map (λ s. s.now)) result (first_entries_in mode data.entry.now directory.now) }
     ensures place { IfOk result (λ t. IfSome t (λ s. StandAt data.entry.now 16 s.now)) }
+    ensures whole { IfOk result (λ t. IfSome t (λ s. 8 * length (entries s.now) ≡ length s.now)) }
 {
     let fits = SIZE_OF_DIRECTORY <= data.len();
     let size = directory.entries_size();
@@ -142,9 +143,11 @@ impl<'a> FirstDirectory<'a> {
     /// The position before the first leaf of its tree.
     #[tactic(auto, using(crate::proofs::Entries::entries_empty))]
     fn position(&self) -> LeafPosition
-        requires { StandAt self.now.bytes.now 16 self.now.table.now }
-        ensures { leaves_at self.now.bytes.now result
+        requires there { StandAt self.now.bytes.now 16 self.now.table.now }
+        requires whole { 8 * length (entries self.now.table.now) ≡ length self.now.table.now }
+        ensures leaves { leaves_at self.now.bytes.now result
             ≡ tree_leaves self.now.bytes.now (first_directory_view self.now).entries }
+        ensures value { result ≡ first_position (first_directory_view self.now) }
     {
         LeafPosition {
             types: ByteRange {
@@ -269,6 +272,8 @@ impl<'a> ResourceData<'a> {
         ensures place { IfOk result (λ x. IfSome x (λ x. file_range bytes.now data_directory.size
             (map_of opts.now sections.now file_alignment data_directory.virtual_address) ≡ Ok x.0)) }
         ensures within { IfOk result (λ x. IfSome x (λ x. IsWithin bytes.now x.0)) }
+        ensures value { Returns result
+            (leaf_start opts.now bytes.now data_directory sections.now file_alignment) }
     {
         match FirstDirectory::parse(bytes, data_directory, sections, file_alignment, opts)? {
             None => Ok(None),

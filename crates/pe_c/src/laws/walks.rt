@@ -1,0 +1,194 @@
+//! Laws of whole walks over directories and resource trees: what calls one after the other return, as C callers get it, is the
+//! list that the crates below define, and then nothing. An error is the last item. Each walk has a clause for the walk that a
+//! call starts for an image, one for any walk over some bytes, and one for a walk that is not inside the bytes.
+
+ghost use Rattle.std.specs.Prelude.{◌≡◌, ◌+◌, ◌<◌, ◌==◌, ◌∷◌, List, Ok, Err, Result, Some, [], length, map, ℕ};
+ghost use Rattle.pe_core.specs.Refusals.{Refusal};
+ghost use Rattle.pe_core.specs.Rows.{entry_items};
+ghost use Rattle.pe_core.specs.declared.section_table.SectionTable.{SectionTable};
+ghost use Rattle.pe_directories.specs.BaseRelocations.{Block, first_block, first_relocation, relocation_table};
+ghost use Rattle.pe_directories.specs.BoundImports.{Bound, bound_forwarder_at, bound_table, first_bound_import};
+ghost use Rattle.pe_directories.specs.Clr.{Stream, clr_metadata, first_stream};
+ghost use Rattle.pe_directories.specs.Clr as roots;
+ghost use Rattle.pe_directories.specs.DelayImports.{delay_import_table, first_delay_import, lookup_table};
+ghost use Rattle.pe_directories.specs.DirectoryRefusals.{DirectoryRefusal};
+ghost use Rattle.pe_directories.specs.DirectoryRefusals as refusals;
+ghost use Rattle.pe_directories.specs.ImageParts.{ImageView};
+ghost use Rattle.pe_directories.specs.Tls.{callback_table};
+ghost use Rattle.pe_directories.specs.VaTables.{first_va};
+ghost use Rattle.pe_directories.specs.Walks.{Items};
+ghost use Rattle.pe_directories.specs.declared.base_relocation.BaseRelocation.{BaseRelocation};
+ghost use Rattle.pe_directories.specs.declared.clr.ClrHeader.{ClrHeader};
+ghost use Rattle.pe_directories.specs.declared.delay_import.DelayImport.{DelayImport};
+ghost use Rattle.pe_directories.specs.declared.tls.TlsDirectory.{TlsDirectory};
+ghost use Rattle.pe_resource.specs.Leaves.{TreeRefusal};
+ghost use Rattle.pe_resource.specs.declared.leaves.ResourceLeaf as trees;
+ghost use Rattle.pe_c.specs.BoundImports.{bound_imports_at};
+ghost use Rattle.pe_c.specs.Clr.{clr_metadata_at, streams_in};
+ghost use Rattle.pe_c.specs.DelayImports.{entry_with, function_of, functions_of, library_of};
+ghost use Rattle.pe_c.specs.DirectoryRuns.{HasBlock, HasBound, HasStream, StepsBlocks, StepsBoundImports, StepsCallbacks, StepsDelayLibraries, StepsDelayedFunctions, StepsForwarders, StepsRelocations, StepsStreams, blocks_reported, bounds_reported, forwarders_reported, relocations_reported, streams_reported};
+ghost use Rattle.pe_c.specs.Directories.{callbacks_at, image_parts, table_at};
+ghost use Rattle.pe_c.specs.Images.{directory};
+ghost use Rattle.pe_c.specs.Ranges.{bytes_at};
+ghost use Rattle.pe_c.specs.ResourceLeaves.{StartsTree, StepsLeaves, item_reported, items_left};
+ghost use Rattle.pe_c.specs.Runs.{EachHas, ReturnsItems, read_items};
+ghost use Rattle.pe_c.specs.declared.base_relocations.RelocationBlock.{RelocationBlock};
+ghost use Rattle.pe_c.specs.declared.bound_imports.BoundImport.{BoundImport};
+ghost use Rattle.pe_c.specs.declared.clr.Metadata.{Metadata};
+ghost use Rattle.pe_c.specs.declared.clr.MetadataStreams.{MetadataStreams};
+ghost use Rattle.pe_c.specs.declared.delay_imports.DelayedFunctions.{DelayedFunctions};
+ghost use Rattle.pe_c.specs.declared.image.Image.{Image};
+ghost use Rattle.pe_c.specs.declared.ranges.Range.{Range};
+ghost use Rattle.pe_c.specs.declared.resource_leaves.ResourceLeaves.{ResourceLeaves};
+
+/// A walk over TLS callbacks returns the numbers of its table up to the first zero, and `SHORT` where the bytes end before that.
+/// The range without bytes at offset 0 stands for a walk that is over.
+pub fn walks_give_the_callbacks()
+    ensures of_image { (b : List ℕ) (image : Image) (sections : List SectionTable)
+        (tls : TlsDirectory) (walk : Range) (table : List ℕ)
+        (items : List (Result ℕ DirectoryRefusal)) → 0 < length b →
+        callbacks_at b image sections tls ≡ Ok (Some walk) →
+        callback_table (image_parts b image sections) tls ≡ Ok (Some table) →
+        Items (first_va (image.width == 64)) table items →
+        ReturnsItems (StepsCallbacks image b) walk items }
+    ensures numbers { (b : List ℕ) (image : Image) (walk : Range) (bytes : List ℕ)
+        (items : List (Result ℕ DirectoryRefusal)) → 0 < walk.offset + walk.length →
+        bytes_at b walk ≡ Ok bytes → Items (first_va (image.width == 64)) bytes items →
+        ReturnsItems (StepsCallbacks image b) walk items }
+    ensures outside { (b : List ℕ) (image : Image) (walk : Range) (refusal : Refusal) →
+        0 < walk.offset + walk.length → bytes_at b walk ≡ Err refusal →
+        ReturnsItems (StepsCallbacks image b) walk (Err (refusals.Image refusal) ∷ []) }
+{}
+
+/// A walk over base relocations returns the blocks of its bytes, each with its page and the range of its entries. A walk over
+/// the entries of a block returns its relocations.
+pub fn walks_give_the_relocations()
+    ensures of_image { (b : List ℕ) (image : Image) (sections : List SectionTable) (walk : Range)
+        (table : List ℕ) (items : List (Result Block DirectoryRefusal)) →
+        table_at 5 b image sections ≡ Ok (Some walk) →
+        relocation_table (image_parts b image sections) (directory image 5) ≡ Ok (Some table) →
+        Items first_block table items →
+        ReturnsItems (StepsBlocks b) walk (blocks_reported walk items)
+        × EachHas (HasBlock b) (blocks_reported walk items) items }
+    ensures blocks { (b : List ℕ) (walk : Range) (bytes : List ℕ)
+        (items : List (Result Block DirectoryRefusal)) → bytes_at b walk ≡ Ok bytes →
+        Items first_block bytes items →
+        ReturnsItems (StepsBlocks b) walk (blocks_reported walk items)
+        × EachHas (HasBlock b) (blocks_reported walk items) items }
+    ensures blocks_outside { (b : List ℕ) (walk : Range) (refusal : Refusal) →
+        bytes_at b walk ≡ Err refusal →
+        ReturnsItems (StepsBlocks b) walk (Err (refusals.Image refusal) ∷ []) }
+    ensures of_block { (b : List ℕ) (returned : RelocationBlock) (block : Block)
+        (items : List (Result BaseRelocation DirectoryRefusal)) → HasBlock b returned block →
+        Items (first_relocation block.page_rva) block.entries items →
+        ReturnsItems (StepsRelocations returned.page_rva b) returned.entries
+        (relocations_reported items) }
+    ensures relocations { (page : ℕ) (b : List ℕ) (walk : Range) (bytes : List ℕ)
+        (items : List (Result BaseRelocation DirectoryRefusal)) → bytes_at b walk ≡ Ok bytes →
+        Items (first_relocation page) bytes items →
+        ReturnsItems (StepsRelocations page b) walk (relocations_reported items) }
+    ensures relocations_outside { (page : ℕ) (b : List ℕ) (walk : Range) (refusal : Refusal) →
+        bytes_at b walk ≡ Err refusal → ReturnsItems (StepsRelocations page b) walk
+        (Err (refusals.Image refusal) ∷ []) }
+{}
+
+/// A walk over the streams of CLR metadata returns the streams of its headers, as many as are counted, each with the ranges of
+/// its name and its bytes.
+pub fn walks_give_the_streams()
+    ensures of_image { (b : List ℕ) (image : Image) (sections : List SectionTable)
+        (header : ClrHeader) (root : Metadata) (metadata : roots.Metadata)
+        (items : List (Result Stream DirectoryRefusal)) →
+        clr_metadata_at b image sections header ≡ Ok (Some root) →
+        clr_metadata (image_parts b image sections) header ≡ Ok metadata →
+        Items first_stream (metadata.number_of_streams, metadata.stream_headers) items →
+        ReturnsItems (StepsStreams b) root.streams (streams_reported root.streams items)
+        × EachHas (HasStream b metadata.bytes) (streams_reported root.streams items) items }
+    ensures streams { (b : List ℕ) (walk : MetadataStreams) (metadata headers : List ℕ)
+        (items : List (Result Stream DirectoryRefusal)) → bytes_at b walk.metadata ≡ Ok metadata →
+        bytes_at b walk.headers ≡ Ok headers → Items first_stream (walk.count, headers) items →
+        ReturnsItems (StepsStreams b) walk (streams_reported walk items)
+        × EachHas (HasStream b metadata) (streams_reported walk items) items }
+    ensures outside { (b : List ℕ) (walk : MetadataStreams) (refusal : DirectoryRefusal) →
+        streams_in b walk ≡ Err refusal →
+        ReturnsItems (StepsStreams b) walk (Err refusal ∷ []) }
+{}
+
+/// A walk over delay imports returns the entries of its bytes up to one without a name, each with the range of its DLL's name
+/// and a walk over what is imported of it, up to the first entry of which one of them is refused. That walk returns what the
+/// numbers of the DLL's table import, up to the first zero, and to the first that is refused.
+pub fn walks_give_the_delay_imports()
+    ensures of_image { (b : List ℕ) (image : Image) (sections : List SectionTable) (walk : Range)
+        (table : List ℕ) (items : List (Result DelayImport DirectoryRefusal)) →
+        table_at 13 b image sections ≡ Ok (Some walk) →
+        delay_import_table (image_parts b image sections) (directory image 13) ≡ Ok (Some table) →
+        Items first_delay_import table items →
+        ReturnsItems (StepsDelayLibraries (image_parts b image sections)) walk
+        (read_items (library_of (image_parts b image sections)) items) }
+    ensures libraries { (image : ImageView) (walk : Range) (bytes : List ℕ)
+        (items : List (Result DelayImport DirectoryRefusal)) →
+        bytes_at image.bytes walk ≡ Ok bytes → Items first_delay_import bytes items →
+        ReturnsItems (StepsDelayLibraries image) walk (read_items (library_of image) items) }
+    ensures libraries_outside { (image : ImageView) (walk : Range) (refusal : Refusal) →
+        bytes_at image.bytes walk ≡ Err refusal → ReturnsItems (StepsDelayLibraries image) walk
+        (Err (refusals.Image refusal) ∷ []) }
+    ensures of_library { (b : List ℕ) (image : Image) (sections : List SectionTable)
+        (entry : DelayImport) (walk : DelayedFunctions) (table : List ℕ)
+        (items : List (Result ℕ DirectoryRefusal)) → 0 < length b →
+        functions_of (image_parts b image sections) entry ≡ Ok walk →
+        lookup_table (image_parts b image sections) entry ≡ Ok (Some table) →
+        Items (first_va (image.width == 64)) table items →
+        ReturnsItems (StepsDelayedFunctions image (image_parts b image sections)) walk
+        (read_items (function_of (image_parts b image sections) entry) items) }
+    ensures functions { (image : Image) (i : ImageView) (walk : DelayedFunctions) (bytes : List ℕ)
+        (items : List (Result ℕ DirectoryRefusal)) → 0 < walk.left.offset + walk.left.length →
+        bytes_at i.bytes walk.left ≡ Ok bytes → Items (first_va (image.width == 64)) bytes items →
+        ReturnsItems (StepsDelayedFunctions image i) walk
+        (read_items (function_of i (entry_with walk.attributes)) items) }
+    ensures functions_outside { (image : Image) (i : ImageView) (walk : DelayedFunctions)
+        (refusal : Refusal) → 0 < walk.left.offset + walk.left.length →
+        bytes_at i.bytes walk.left ≡ Err refusal →
+        ReturnsItems (StepsDelayedFunctions image i) walk (Err (refusals.Image refusal) ∷ []) }
+{}
+
+/// A walk over bound imports returns the DLLs of its bytes up to one without a name, each with the ranges of its name and of
+/// its forwarders, up to the first whose name is refused. A walk over forwarders returns each of them in the same way.
+pub fn walks_give_the_bound_imports()
+    ensures of_image { (b : List ℕ) (image : Image) (walk : Range) (table : List ℕ)
+        (items : List (Result Bound DirectoryRefusal)) →
+        bound_imports_at b image ≡ Ok (Some walk) →
+        bound_table b (directory image 11) ≡ Ok table → Items first_bound_import table items →
+        ReturnsItems (StepsBoundImports b walk) walk (bounds_reported b walk walk items)
+        × EachHas (HasBound b table) (bounds_reported b walk walk items) items }
+    ensures imports { (b : List ℕ) (table : Range) (directory : List ℕ) (walk : Range)
+        (bytes : List ℕ) (items : List (Result Bound DirectoryRefusal)) →
+        bytes_at b table ≡ Ok directory → bytes_at b walk ≡ Ok bytes →
+        Items first_bound_import bytes items →
+        ReturnsItems (StepsBoundImports b table) walk (bounds_reported b table walk items)
+        × EachHas (HasBound b directory) (bounds_reported b table walk items) items }
+    ensures imports_outside { (b : List ℕ) (table walk : Range) (refusal : Refusal) →
+        bytes_at b walk ≡ Err refusal → ReturnsItems (StepsBoundImports b table) walk
+        (Err (refusals.Image refusal) ∷ []) }
+    ensures of_import { (b : List ℕ) (table : Range) (directory : List ℕ) (returned : BoundImport)
+        (bound : Bound) → HasBound b directory returned bound →
+        ReturnsItems (StepsForwarders b table) returned.forwarders
+        (forwarders_reported b table (entry_items bound_forwarder_at 8 bound.forwarders)) }
+    ensures forwarders { (b : List ℕ) (table walk : Range) (bytes : List ℕ) →
+        bytes_at b walk ≡ Ok bytes → ReturnsItems (StepsForwarders b table) walk
+        (forwarders_reported b table (entry_items bound_forwarder_at 8 bytes)) }
+    ensures forwarders_outside { (b : List ℕ) (table walk : Range) (refusal : Refusal) →
+        bytes_at b walk ≡ Err refusal →
+        ReturnsItems (StepsForwarders b table) walk (Err (refusals.Image refusal) ∷ []) }
+{}
+
+/// A walk over the leaves of a resource tree returns the leaves that it has left, up to the first error. So the walk that
+/// `pe_c_resource_leaves` starts returns those of the tree.
+pub fn walks_give_the_leaves()
+    ensures of_tree { (b : List ℕ) (image : Image) (sections : List SectionTable)
+        (tree : List ℕ × List (Result trees.ResourceLeaf TreeRefusal)) (walk : ResourceLeaves) →
+        StartsTree b image sections tree walk → ReturnsItems (StepsLeaves b image sections) walk
+        (read_items (λ x. Ok x)
+        (map (item_reported b image sections walk.tree.offset tree.0) tree.1)) }
+    ensures leaves { (b : List ℕ) (image : Image) (sections : List SectionTable)
+        (walk : ResourceLeaves) → ReturnsItems (StepsLeaves b image sections) walk
+        (read_items (λ x. Ok x) (items_left b image sections walk)) }
+{}
