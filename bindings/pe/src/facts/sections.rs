@@ -36,12 +36,12 @@ impl Section {
 }
 
 pub fn of(image: &Image<'_>) -> Vec<Section> {
-    let counts = ByteCounts::of(image.bytes());
+    let mut counts = ByteCounts::of(image.bytes());
     let sections = image.sections().iter().enumerate();
-    sections.map(|(index, section)| section_of(image, section, index < LONG_NAMES, &counts)).collect()
+    sections.map(|(index, section)| section_of(image, section, index < LONG_NAMES, &mut counts)).collect()
 }
 
-fn section_of(image: &Image<'_>, section: &pe_c::Section, is_looked_up: bool, counts: &ByteCounts<'_>) -> Section {
+fn section_of(image: &Image<'_>, section: &pe_c::Section, is_looked_up: bool, counts: &mut ByteCounts<'_>) -> Section {
     // Without a string table, or one that is refused, the name of the header is what there is.
     let long_name = if is_looked_up { image.long_section_name(section).ok().flatten() } else { None };
     Section {
