@@ -198,6 +198,11 @@ impl<T> List<T> {
         count_of(self.entries.len(), self.is_limited)
     }
 
+    /// Whether there is more of the list, or of a list that an entry has.
+    pub fn is_limited_in<U>(&self, list_of: impl Fn(&T) -> &List<U>) -> bool {
+        self.is_limited || self.entries.iter().any(|it| list_of(it).is_limited)
+    }
+
     /// The items up to the first error, or up to the first that `of` does not show.
     pub fn limited<I>(items: impl Iterator<Item = Result<I, Error>>, mut of: impl FnMut(I) -> Option<T>) -> List<T> {
         let mut list = List { entries: Vec::new(), error: None, is_limited: false };
@@ -448,6 +453,18 @@ impl Facts {
             found.extend(refusal.map(|it| ("resources", it)));
         }
         found
+    }
+
+    /// The parts of which more is in the image than stands here.
+    pub fn limited(&self) -> Vec<&'static str> {
+        let parts = [
+            ("imports", self.imports.as_ref().and_then(Part::present).map(imports::is_limited)),
+            ("exports", self.exports.as_ref().and_then(Part::present).map(|it| it.is_limited)),
+            ("delay imports", self.delay_imports.as_ref().and_then(Part::present).map(delay_imports::is_limited)),
+            ("bound imports", self.bound_imports.as_ref().and_then(Part::present).map(bound_imports::is_limited)),
+            ("resources", self.resources.as_ref().and_then(Part::present).map(|it| it.is_limited)),
+        ];
+        parts.into_iter().filter(|(_, is_limited)| *is_limited == Some(true)).map(|(part, _)| part).collect()
     }
 
     pub fn is_refused(&self) -> bool {

@@ -32,6 +32,10 @@ fn bound_of(found: BoundImport<'_>, budget: &mut Budget) -> Option<Bound> {
     })
 }
 
+pub fn is_limited(bound: &List<Bound>) -> bool {
+    bound.is_limited_in(|it| &it.forwarders)
+}
+
 pub fn of(image: &Image<'_>) -> Part<List<Bound>> {
     let mut budget = Budget::of(image);
     let bound_imports_of = |bound| List::limited(bound, |found| bound_of(found, &mut budget));

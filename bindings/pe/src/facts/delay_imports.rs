@@ -40,6 +40,10 @@ fn library_of(found: DelayImport<'_, '_>, budget: &mut Budget) -> Option<Library
     })
 }
 
+pub fn is_limited(libraries: &List<Library>) -> bool {
+    libraries.is_limited_in(|library| &library.imports)
+}
+
 pub fn of(image: &Image<'_>) -> Part<List<Library>> {
     let mut budget = Budget::of(image);
     let libraries_of = |libraries| List::limited(libraries, |found| library_of(found, &mut budget));

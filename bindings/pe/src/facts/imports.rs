@@ -40,6 +40,10 @@ fn import_of(import: pe_c::Import<'_>, budget: &mut Budget) -> Option<Import> {
     })
 }
 
+pub fn is_limited(libraries: &List<Library>) -> bool {
+    libraries.is_limited_in(|library| &library.imports)
+}
+
 pub fn of(image: &Image<'_>) -> Part<List<Library>> {
     let mut budget = Budget::of(image);
     let library_of = |library: pe_c::Library<'_, '_>| {
