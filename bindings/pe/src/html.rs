@@ -30,18 +30,12 @@ const WARNINGS: usize = 100;
 
 /// Writes the page of a file. One of a file that is no image says why.
 pub fn write_to(path: &Path, bytes: &[u8], reading: &Reading, to: &Path) -> Report {
-    let (facts, page) = match Image::parse_as(bytes, reading.mode(), reading.layout()) {
-        Ok(image) => {
-            let facts = Facts::of(path, &image, &[Topic::All]);
-            let page = page_of(&facts, Some(&image));
-            (facts, page)
-        }
-        Err(error) => {
-            let facts = Facts::refused(path, bytes.len(), error);
-            let page = page_of(&facts, None);
-            (facts, page)
-        }
+    let image = Image::parse_as(bytes, reading.mode(), reading.layout());
+    let facts = match &image {
+        Ok(image) => Facts::of(path, image, &[Topic::All]),
+        Err(error) => Facts::refused(path, bytes.len(), *error),
     };
+    let page = page_of(&facts, image.as_ref().ok());
     let status = if facts.is_refused() { Status::Refused } else { Status::Done };
     files::deliver(page.as_bytes(), to, status)
 }

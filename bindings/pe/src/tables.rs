@@ -302,9 +302,9 @@ fn label(label: &Label) -> String {
 
 /// The version of a leaf, or why its content is missing.
 fn remark(leaf: &Leaf) -> String {
-    let version = leaf.version.as_ref().and_then(|it| it.fixed.present());
+    let version = leaf.version.as_ref().map(|it| it.fixed());
     let refused = leaf.error.as_ref().map(|it| it.text.clone());
-    refused.or(version.map(|it| it.file_version.clone())).unwrap_or_default()
+    refused.or(version.as_ref().and_then(Part::present).map(|it| it.file_version.clone())).unwrap_or_default()
 }
 
 pub fn resources(resources: &Resources) -> Table {
