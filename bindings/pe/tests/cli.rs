@@ -289,6 +289,29 @@ fn folders_are_read_in_order_and_other_files_skipped() {
     assert_eq!(files.iter().map(name).collect::<Vec<_>>(), wanted);
 }
 
+/// What `sha256sum` says of some bytes.
+fn sha256_of(folder: &Folder, bytes: &[u8]) -> String {
+    let ran = Command::new("sha256sum").arg(folder.file("summed", bytes)).output().unwrap();
+    String::from_utf8(ran.stdout).unwrap().split(' ').next().unwrap().to_string()
+}
+
+/// A file of some megabytes is read into memory of its own kind, and two files are read side by side.
+#[test]
+fn large_files_are_read_whole() {
+    let folder = Folder::new("large");
+    let mut bytes = made::with_exports();
+    bytes.extend((0..5_000_000u32).map(|it| (it.wrapping_mul(0x9E37_79B1) >> 24) as u8));
+    bytes.resize(bytes.len().next_multiple_of(8), 1);
+    let (large, small) = (folder.file("a.dll", &bytes), folder.file("b.dll", &made::with_exports()));
+    let (one, _, _) = run(&["--json", &large]);
+    let all: Value = serde_json::from_str(&one).unwrap();
+    assert_eq!(all["file_size"], bytes.len());
+    assert_eq!(run(&["--json", &large, &small]).0, one + &run(&["--json", &small]).0);
+    // The digest leaves out the checksum at 0x98 and the entry of the certificate directory at 0xE8.
+    let covered = [&bytes[..0x98], &bytes[0x9C..0xE8], &bytes[0xF0..]].concat();
+    assert_eq!(run(&["digest", &large]).0, format!("{}  {large}\n", sha256_of(&folder, &covered)));
+}
+
 #[test]
 fn many_sections_over_the_whole_file_cost_little() {
     // 50,000 section headers of 40 bytes from 0x148 on, each of the whole file: 100 GB, were each read by itself.
