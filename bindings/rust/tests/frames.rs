@@ -85,6 +85,9 @@ fn a_leaf_function_is_the_top_frame_alone() {
     registers.rip = BASE + 0x6000;
     registers.set_rsp(ENTRY);
     assert_eq!(walk(registers, 100, &bytes), (vec![(BASE + 0x6000, ENTRY, Way::Top)], Some(End::NoFunction)));
+    // No RVA is that large, though its low 32 bits are one of the leaf function.
+    registers.rip = BASE + 0x1100 + (1 << 32);
+    assert_eq!(walk(registers, 100, &bytes), (vec![(registers.rip, ENTRY, Way::Top)], Some(End::NoFunction)));
 }
 
 #[test]
@@ -391,6 +394,10 @@ fn an_arm64_leaf_function_is_the_top_frame_alone() {
     assert_eq!((arm64_pointers(&frames), end), (both.to_vec(), Some(End::NoFunction)));
     // The image has no byte there, though its module was named.
     registers.pc = OTHERS + 0x6000;
+    let (frames, end) = arm64_walk(registers, 100, &words);
+    assert_eq!((frames.len(), end), (1, Some(End::NoFunction)));
+    // No RVA is that large, though its low 32 bits are one of the leaf function.
+    registers.pc = OTHERS + 0x1100 + (1 << 32);
     let (frames, end) = arm64_walk(registers, 100, &words);
     assert_eq!((frames.len(), end), (1, Some(End::NoFunction)));
     // No module has it.
