@@ -1,7 +1,7 @@
 //! Stack walks on x64 and ARM64: step after step, through all modules of a process, from the innermost frame outwards.
 //!
-//! A return address may be the end of its function, if the call before it is the last instruction, so a walk looks up that call.
-//! The top frame alone, and on x64 one that an interrupt stopped, can be in a prolog or an epilog, or in a leaf function, which
+//! A return address may be the end of its function, and of its module, if the call before it is the last instruction, so a walk
+//! looks up that call. The top frame alone, and on x64 one that an interrupt stopped, can be in a prolog or an epilog, or in a leaf function, which
 //! has no unwind data.
 
 use crate::frames::{Stack, StepError};
@@ -60,11 +60,14 @@ pub enum End {
     Step(StepError),
 }
 
-/// Where the function of a frame is: its module, and its instruction pointer less the module's base.
+/// Where the function of a frame is.
 #[derive(Clone, Copy)]
 pub struct Position<'m> {
     module: Module<'m>,
+    /// The instruction pointer less the module's base.
     rva: u32,
+    /// The same, or of a return address a byte of the call before it: the RVA to look up.
+    inside: u32,
 }
 
 impl Position<'_> {
@@ -109,6 +112,9 @@ mod sealed {
     use super::{End, Frame, Pieces, Position};
 
     pub trait Machine: Copy {
+        /// How many bytes before a return address the call is looked up.
+        const CALL: u64;
+
         fn instruction_pointer(&self) -> u64;
 
         /// The frame of the caller of a frame, or why there is none.
@@ -122,6 +128,8 @@ pub trait MachineRegisters: sealed::Machine {}
 impl MachineRegisters for Registers {}
 
 impl sealed::Machine for Registers {
+    const CALL: u64 = 1;
+
     fn instruction_pointer(&self) -> u64 {
         self.rip
     }
@@ -130,9 +138,8 @@ impl sealed::Machine for Registers {
         let Frame { registers, way } = frame;
         let (rsp, image) = (registers.rsp(), at.module.image);
         let functions = image.functions().map_err(refused)?;
-        let inside = at.rva.saturating_sub(u32::from(way.is_call()));
         let found = match &functions {
-            Some(functions) => functions.find(inside).map_err(refused)?.map(|function| (functions, function)),
+            Some(functions) => functions.find(at.inside).map_err(refused)?.map(|function| (functions, function)),
             None => None,
         };
         let Some((functions, function)) = found else {
@@ -149,10 +156,9 @@ impl sealed::Machine for Registers {
 
 impl MachineRegisters for Arm64Registers {}
 
-/// The bytes of an instruction on ARM64.
-const INSTRUCTION: u32 = 4;
-
 impl sealed::Machine for Arm64Registers {
+    const CALL: u64 = 4;
+
     fn instruction_pointer(&self) -> u64 {
         self.pc
     }
@@ -160,9 +166,8 @@ impl sealed::Machine for Arm64Registers {
     fn caller_of(frame: &Frame<Self>, at: Position<'_>, memory: Pieces<'_, '_>) -> Result<Frame<Self>, End> {
         let Frame { registers, way } = frame;
         let functions = at.module.image.arm64_functions().map_err(refused)?;
-        let inside = at.rva.saturating_sub(if way.is_call() { INSTRUCTION } else { 0 });
         let found = match &functions {
-            Some(functions) => functions.find(inside).map_err(refused)?.map(|function| (functions, function)),
+            Some(functions) => functions.find(at.inside).map_err(refused)?.map(|function| (functions, function)),
             None => None,
         };
         let Some((functions, function)) = found else {
@@ -181,7 +186,7 @@ impl sealed::Machine for Arm64Registers {
 /// A stack walk: the frames of a thread, from the top frame outwards, through all modules of a process. The registers that it
 /// starts with say on which machine: [`Registers`] on x64, [`Arm64Registers`] on ARM64.
 ///
-/// `modules` returns the module that has an address, and `memory` a piece of memory that has the eight bytes at an address.
+/// `modules` returns the module that has an address, which is that of a call where a frame waits for one, and `memory` a piece of memory that has the eight bytes at an address.
 /// A step reads one piece: that of the stack pointer, or if an address is missing there, the piece of that address alone.
 ///
 /// The walk is over at a frame that is in no function of a module, at memory that is missing, where the stack pointer does
@@ -266,9 +271,10 @@ where
     /// The frame of the caller of a frame, or why there is none.
     fn caller(&mut self, frame: &Frame<R>) -> Result<Frame<R>, End> {
         let address = frame.registers.instruction_pointer();
-        let module = (self.modules)(address).ok_or(End::NoFunction)?;
-        let rva = u32::try_from(address.wrapping_sub(module.base)).map_err(|_| End::NoFunction)?;
-        R::caller_of(frame, Position { module, rva }, &mut self.memory)
+        let inside = address.saturating_sub(if frame.way.is_call() { R::CALL } else { 0 });
+        let module = (self.modules)(inside).ok_or(End::NoFunction)?;
+        let rva_of = |address: u64| u32::try_from(address.wrapping_sub(module.base)).map_err(|_| End::NoFunction);
+        R::caller_of(frame, Position { module, rva: rva_of(address)?, inside: rva_of(inside)? }, &mut self.memory)
     }
 }
 

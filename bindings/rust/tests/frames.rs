@@ -429,6 +429,36 @@ fn an_arm64_walk_ends_where_the_stack_does_not_rise() {
     assert_eq!((frames.len(), end), (3, Some(End::Step(StepError::NotRising(SP + 24)))));
 }
 
+/// Two modules side by side: one at `BASE`, and one at `next`.
+fn side_by_side<'m>(first: &'m Image<'m>, second: &'m Image<'m>, next: u64) -> impl Fn(u64) -> Option<Module<'m>> {
+    move |address| match address {
+        _ if address < BASE => None,
+        _ if address < next => Some(Module { image: first, base: BASE }),
+        _ => Some(Module { image: second, base: next }),
+    }
+}
+
+/// A module may end with a call, so that the return address is the start of the next module.
+#[test]
+fn a_call_may_be_the_end_of_its_module() {
+    let (x64, arm64) = (made::with_functions(), made::with_arm64_calls());
+    let (x64, arm64) = (image_of(&x64), image_of(&arm64));
+    // The outer frame's function ends at 0x5020.
+    let bytes = stack_bytes();
+    let frames = Frames::new(registers(), 9, side_by_side(&x64, &arm64, BASE + 0x5020), |_| Some(stack_of(&bytes)));
+    assert_eq!(frames.map(|it| it.registers.rip).collect::<Vec<_>>(), [BASE + 0x500C, BASE + 0x5020, 0]);
+    // The second function ends at 0x5040, and called the first one.
+    let next = BASE + 0x5040;
+    let mut registers = Arm64Registers { pc: BASE + 0x5000, sp: SP, ..Arm64Registers::default() };
+    registers.set_lr(next);
+    registers.general[29] = SP + 32;
+    let bytes = bytes_of(&[0; 6]);
+    let stack = Stack { start: SP, bytes: &bytes };
+    let frames = Frames::new(registers, 9, side_by_side(&arm64, &x64, next), |_| Some(stack));
+    let found: Vec<_> = frames.map(|it| (it.registers.pc, it.registers.sp)).collect();
+    assert_eq!(found, [(BASE + 0x5000, SP), (next, SP), (0, SP + 48)]);
+}
+
 #[test]
 fn an_arm64_walk_says_which_unwind_data_are_refused() {
     // The function at 0x5300 of OTHERS has packed data without a canonical prolog.
