@@ -11,9 +11,9 @@ const SUMMED: usize = 1 << 28;
 /// How often each value of a byte occurs.
 type Counts = [u64; 256];
 
-/// The bytes of a file, to be counted by parts. Sections side by side are no longer together than the file, and each is counted by
-/// itself. But each of many sections may be the whole file: parts past the length of the file take the counts before blocks, by
-/// which a part costs two blocks, however long it is.
+/// The bytes of a file, to be counted by parts. Sections side by side are no longer together than the file, and each is counted
+/// by itself. But each of many sections may be the whole file: parts past the length of the file take the counts before
+/// blocks, by which a part costs two blocks, however long it is.
 pub struct ByteCounts<'a> {
     bytes: &'a [u8],
     /// How many bytes are still counted in parts by themselves.
@@ -22,8 +22,8 @@ pub struct ByteCounts<'a> {
     before: Vec<Counts>,
 }
 
-/// Adds the counts of some bytes. Eight tables by turns, since a count that was just changed is slow to read; bytes that are all
-/// equal, as zeros between sections are, change one.
+/// Adds the counts of some bytes. Eight tables by turns, since a count that was just changed is slow to read; bytes that are
+/// all equal, as zeros between sections are, change one.
 fn add(counts: &mut Counts, bytes: &[u8]) {
     for piece in bytes.chunks(SUMMED) {
         let mut tables = [[0u32; 256]; 8];

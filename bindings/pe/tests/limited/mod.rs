@@ -50,8 +50,8 @@ pub fn bound_imports_of_one_name(count: usize) -> Vec<u8> {
     made.image()
 }
 
-/// A tree of resources that has one directory of types, one of names and one of languages, each of `count` entries that lead to the
-/// same one.
+/// A tree of resources that has one directory of types, one of names and one of languages, each of `count` entries that lead to
+/// the same one.
 pub fn resources_of_shared_directories(count: u32) -> Vec<u8> {
     let mut made = made::Made::new(made::X64);
     let size = 16 + 8 * count;
