@@ -198,6 +198,11 @@ impl<T> List<T> {
         count_of(self.entries.len(), self.is_limited)
     }
 
+    /// Whether there is more of the list, or of a list that an entry has.
+    pub fn is_limited_in<U>(&self, list_of: impl Fn(&T) -> &List<U>) -> bool {
+        self.is_limited || self.entries.iter().any(|it| list_of(it).is_limited)
+    }
+
     /// The items up to the first error, or up to the first that `of` does not show.
     pub fn limited<I>(items: impl Iterator<Item = Result<I, Error>>, mut of: impl FnMut(I) -> Option<T>) -> List<T> {
         let mut list = List { entries: Vec::new(), error: None, is_limited: false };
@@ -221,12 +226,12 @@ pub fn count_of(count: usize, is_limited: bool) -> String {
 }
 
 /// A name in an image. In JSON its text, or an object with the one field `hex` where it is not UTF-8.
-#[derive(Clone, Debug, PartialEq, Eq)]
-pub struct Name(pub Vec<u8>);
+#[derive(Clone, Copy, Debug, PartialEq, Eq)]
+pub struct Name<'a>(pub &'a [u8]);
 
-impl fmt::Display for Name {
+impl fmt::Display for Name<'_> {
     fn fmt(&self, f: &mut fmt::Formatter<'_>) -> fmt::Result {
-        f.pad(&crate::escape::Escaped(&self.0).to_string())
+        f.pad(&crate::escape::Escaped(self.0).to_string())
     }
 }
 
@@ -235,11 +240,11 @@ struct Hex {
     hex: String,
 }
 
-impl Serialize for Name {
+impl Serialize for Name<'_> {
     fn serialize<S: Serializer>(&self, serializer: S) -> Result<S::Ok, S::Error> {
-        match std::str::from_utf8(&self.0) {
+        match std::str::from_utf8(self.0) {
             Ok(text) => text.serialize(serializer),
-            Err(_) => Hex { hex: hex_of(&self.0) }.serialize(serializer),
+            Err(_) => Hex { hex: hex_of(self.0) }.serialize(serializer),
         }
     }
 }
@@ -296,7 +301,7 @@ impl fmt::Display for Flags {
 
 /// What is said of a file.
 #[derive(Debug, Serialize)]
-pub struct Facts {
+pub struct Facts<'a> {
     pub json_version: u32,
     pub file: String,
     pub file_size: usize,
@@ -306,13 +311,13 @@ pub struct Facts {
     #[serde(skip_serializing_if = "Option::is_none")]
     pub headers: Option<headers::Headers>,
     #[serde(skip_serializing_if = "Option::is_none")]
-    pub sections: Option<Vec<sections::Section>>,
+    pub sections: Option<Vec<sections::Section<'a>>>,
     #[serde(skip_serializing_if = "Option::is_none")]
-    pub imports: Option<Part<List<imports::Library>>>,
+    pub imports: Option<Part<List<imports::Library<'a>>>>,
     #[serde(skip_serializing_if = "Option::is_none")]
-    pub exports: Option<Part<exports::Exports>>,
+    pub exports: Option<Part<exports::Exports<'a>>>,
     #[serde(skip_serializing_if = "Option::is_none")]
-    pub debug: Option<debug::Debug>,
+    pub debug: Option<debug::Debug<'a>>,
     #[serde(skip_serializing_if = "Option::is_none")]
     pub certificates: Option<List<certificates::Certificate>>,
     #[serde(skip_serializing_if = "Option::is_none")]
@@ -324,21 +329,21 @@ pub struct Facts {
     #[serde(skip_serializing_if = "Option::is_none")]
     pub relocations: Option<Part<List<relocations::Page>>>,
     #[serde(skip_serializing_if = "Option::is_none")]
-    pub delay_imports: Option<Part<List<delay_imports::Library>>>,
+    pub delay_imports: Option<Part<List<delay_imports::Library<'a>>>>,
     #[serde(skip_serializing_if = "Option::is_none")]
-    pub bound_imports: Option<Part<List<bound_imports::Bound>>>,
+    pub bound_imports: Option<Part<List<bound_imports::Bound<'a>>>>,
     #[serde(skip_serializing_if = "Option::is_none")]
     pub load_config: Option<Part<load_config::LoadConfig>>,
     #[serde(skip_serializing_if = "Option::is_none")]
-    pub clr: Option<Part<clr::Clr>>,
+    pub clr: Option<Part<clr::Clr<'a>>>,
     #[serde(skip_serializing_if = "Option::is_none")]
     pub rich: Option<Part<rich::Rich>>,
     #[serde(skip_serializing_if = "Option::is_none")]
-    pub resources: Option<Part<resources::Resources>>,
+    pub resources: Option<Part<resources::Resources<'a>>>,
 }
 
-impl Facts {
-    fn empty(path: &Path, file_size: usize) -> Facts {
+impl<'a> Facts<'a> {
+    fn empty(path: &Path, file_size: usize) -> Facts<'a> {
         Facts {
             json_version: JSON_VERSION,
             file: path.to_string_lossy().into_owned(),
@@ -364,12 +369,12 @@ impl Facts {
     }
 
     /// Of a file that is no image.
-    pub fn refused(path: &Path, file_size: usize, error: Error) -> Facts {
+    pub fn refused(path: &Path, file_size: usize, error: Error) -> Facts<'a> {
         Facts { error: Some(error.into()), ..Facts::empty(path, file_size) }
     }
 
     /// Of an image the parts that are wanted.
-    pub fn of(path: &Path, image: &Image<'_>, topics: &[Topic]) -> Facts {
+    pub fn of(path: &Path, image: &'a Image<'_>, topics: &[Topic]) -> Facts<'a> {
         let is_wanted = |topic| topics.contains(&topic) || topics.contains(&Topic::All);
         let name = path.file_name().map(|name| name.to_string_lossy()).unwrap_or_default();
         Facts {
@@ -448,6 +453,18 @@ impl Facts {
             found.extend(refusal.map(|it| ("resources", it)));
         }
         found
+    }
+
+    /// The parts of which more is in the image than stands here.
+    pub fn limited(&self) -> Vec<&'static str> {
+        let parts = [
+            ("imports", self.imports.as_ref().and_then(Part::present).map(imports::is_limited)),
+            ("exports", self.exports.as_ref().and_then(Part::present).map(|it| it.is_limited)),
+            ("delay imports", self.delay_imports.as_ref().and_then(Part::present).map(delay_imports::is_limited)),
+            ("bound imports", self.bound_imports.as_ref().and_then(Part::present).map(bound_imports::is_limited)),
+            ("resources", self.resources.as_ref().and_then(Part::present).map(|it| it.is_limited)),
+        ];
+        parts.into_iter().filter(|(_, is_limited)| *is_limited == Some(true)).map(|(part, _)| part).collect()
     }
 
     pub fn is_refused(&self) -> bool {

@@ -8,7 +8,7 @@ mod markup;
 use crate::escape::escaped;
 use crate::facts::debug::Debug;
 use crate::facts::regions::{self, Region};
-use crate::facts::{Facts, Part, Topic};
+use crate::facts::{count_of, Facts, Part, Topic};
 use crate::files::{self, Report};
 use crate::summary::kind_of;
 use crate::tables::{self, Row, Table};
@@ -30,18 +30,12 @@ const WARNINGS: usize = 100;
 
 /// Writes the page of a file. One of a file that is no image says why.
 pub fn write_to(path: &Path, bytes: &[u8], reading: &Reading, to: &Path) -> Report {
-    let (facts, page) = match Image::parse_as(bytes, reading.mode(), reading.layout()) {
-        Ok(image) => {
-            let facts = Facts::of(path, &image, &[Topic::All]);
-            let page = page_of(&facts, Some(&image));
-            (facts, page)
-        }
-        Err(error) => {
-            let facts = Facts::refused(path, bytes.len(), error);
-            let page = page_of(&facts, None);
-            (facts, page)
-        }
+    let image = Image::parse_as(bytes, reading.mode(), reading.layout());
+    let facts = match &image {
+        Ok(image) => Facts::of(path, image, &[Topic::All]),
+        Err(error) => Facts::refused(path, bytes.len(), *error),
     };
+    let page = page_of(&facts, image.as_ref().ok());
     let status = if facts.is_refused() { Status::Refused } else { Status::Done };
     files::deliver(page.as_bytes(), to, status)
 }
@@ -96,22 +90,30 @@ fn head(name: &str, html: &mut Html) {
     html.text(name).markup(": pe</title><style>").markup(STYLE).markup("</style></head><body>");
 }
 
-/// What is refused comes first, each with its reason.
+/// What is refused comes first, each with its reason, and the parts of which the page does not have all.
 fn warnings(facts: &Facts, html: &mut Html) {
-    let refusals = facts.refusals();
+    let (refusals, limited) = (facts.refusals(), facts.limited());
     if refusals.is_empty() {
         html.markup("<p class=accepted>Nothing is refused.</p>");
+    }
+    let counts = [(refusals.len(), "refused"), (limited.len(), "not shown whole")];
+    let counts: Vec<String> =
+        counts.iter().filter(|(count, _)| *count > 0).map(|(count, what)| format!("{count} {what}")).collect();
+    if counts.is_empty() {
         return;
     }
     html.markup("<section class=warnings aria-labelledby=warnings><h2 id=warnings>");
-    html.text(refusals.len()).markup(" refused</h2><ul>");
+    html.text(counts.join(", ")).markup("</h2><ul>");
     for (part, refusal) in refusals.iter().take(WARNINGS) {
         html.markup("<li><b>").text(part).markup("</b> ").text(&refusal.text).markup(" <code>");
         html.text(refusal.name).markup("</code></li>");
     }
+    for part in limited {
+        html.markup("<li><b>").text(part).markup("</b> not shown whole: the image has more</li>");
+    }
     html.markup("</ul>");
     if refusals.len() > WARNINGS {
-        html.markup("<p>The first ").text(WARNINGS).markup(" are listed.</p>");
+        html.markup("<p>Of what is refused the first ").text(WARNINGS).markup(" are listed.</p>");
     }
     html.markup("</section>");
 }
@@ -221,12 +223,16 @@ fn list(id: &'static str, title: &'static str, rows: Vec<Row>, html: &mut Html) 
 }
 
 fn table(id: &'static str, title: &'static str, table: &Table, html: &mut Html) {
-    if table.rows.is_empty() {
+    if table.rows.is_empty() && !table.is_limited {
         return;
     }
     let is_open = if table.rows.len() <= OPEN_ROWS { " open" } else { "" };
     html.markup("<details id=").markup(id).markup(is_open).markup("><summary><h2>").markup(title);
-    html.markup("</h2> <span class=count>").text(table.rows.len()).markup("</span></summary>");
+    html.markup("</h2> <span class=count>").text(count_of(table.rows.len(), table.is_limited));
+    html.markup("</span></summary>");
+    if table.is_limited {
+        html.markup("<p>Not shown whole: the image has more.</p>");
+    }
     if table.rows.len() > ROWS {
         html.markup("<p>Only the first ").text(ROWS).markup(" rows are on this page.</p>");
     }

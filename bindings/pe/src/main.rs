@@ -88,9 +88,10 @@ fn run(arguments: &Arguments, out: &mut dyn Write) -> io::Result<Status> {
 
 /// What is said of an image, as text or JSON. It is refused where one of its parts is.
 fn report(path: &Path, bytes: &[u8], reading: &Reading, topics: &[Topic], text: show::Writer) -> Report {
-    let (facts, is_image) = match parsed(bytes, reading) {
-        Ok(image) => (Facts::of(path, &image, topics), true),
-        Err(error) => (Facts::refused(path, bytes.len(), error), error != Error::BAD_MAGIC && error != Error::SHORT),
+    let image = parsed(bytes, reading);
+    let (facts, is_image) = match &image {
+        Ok(image) => (Facts::of(path, image, topics), true),
+        Err(error) => (Facts::refused(path, bytes.len(), *error), ![Error::BAD_MAGIC, Error::SHORT].contains(error)),
     };
     let status = if facts.is_refused() { Status::Refused } else { Status::Done };
     let text = if reading.json { json(&facts) } else { text(&facts, Style::of_stdout()) };

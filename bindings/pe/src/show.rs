@@ -1,7 +1,7 @@
 //! Parts of an image, whole, as tables.
 
 use crate::escape::escaped;
-use crate::facts::bound_imports::Bound;
+use crate::facts::bound_imports::{self, Bound};
 use crate::facts::certificates::Certificate;
 use crate::facts::clr::Clr;
 use crate::facts::debug::Debug;
@@ -172,7 +172,7 @@ fn delay_imports_of(libraries: &List<delay_imports::Library>, page: &mut Page) {
 fn bound_imports_of(bound: &List<Bound>, page: &mut Page) {
     page.heading("Bound imports");
     page.table(&tables::bound_imports(bound));
-    more(bound.is_limited || bound.entries.iter().any(|it| it.forwarders.is_limited), page);
+    more(bound_imports::is_limited(bound), page);
 }
 
 fn load_config_of(config: &LoadConfig, page: &mut Page) {

@@ -1,13 +1,13 @@
 //! The parts of an image as rows and tables of text. `show` lays them out as text, and `html` on its page.
 
-use crate::facts::bound_imports::Bound;
+use crate::facts::bound_imports::{self, Bound};
 use crate::facts::certificates::Certificate;
 use crate::facts::clr::{Clr, Metadata};
 use crate::facts::debug::{Debug, Entry, Pogo};
 use crate::facts::exports::Exports;
 use crate::facts::functions::Functions;
 use crate::facts::headers::Headers;
-use crate::facts::imports::Library;
+use crate::facts::imports::{self, Library};
 use crate::facts::load_config::LoadConfig;
 use crate::facts::relocations::Page;
 use crate::facts::resources::{Label, Leaf, Resources};
@@ -39,11 +39,17 @@ pub const fn number(head: &'static str) -> Column {
 pub struct Table {
     pub columns: Vec<Column>,
     pub rows: Vec<Vec<String>>,
+    /// Whether the image has more than the rows.
+    pub is_limited: bool,
 }
 
 impl Table {
     pub fn new(columns: &[Column], rows: impl Iterator<Item = Vec<String>>) -> Table {
-        Table { columns: columns.to_vec(), rows: rows.collect() }
+        Table { columns: columns.to_vec(), rows: rows.collect(), is_limited: false }
+    }
+
+    fn limited(self, is_limited: bool) -> Table {
+        Table { is_limited, ..self }
     }
 }
 
@@ -120,6 +126,7 @@ pub fn imports(libraries: &List<Library>) -> Table {
         })
     });
     Table::new(&[text("DLL"), text("name or ordinal"), number("hint"), number("slot RVA")], rows)
+        .limited(imports::is_limited(libraries))
 }
 
 /// What the export directory says of the DLL.
@@ -134,7 +141,7 @@ pub fn exports(exports: &Exports) -> Table {
         let forwarder = it.forwarder.as_ref().map_or(String::new(), |to| format!("to {to}"));
         vec![it.ordinal.to_string(), format!("{:#x}", it.rva), names.join(" "), forwarder]
     });
-    Table::new(&[number("ordinal"), number("RVA"), text("name"), text("forwarder")], rows)
+    Table::new(&[number("ordinal"), number("RVA"), text("name"), text("forwarder")], rows).limited(exports.is_limited)
 }
 
 pub fn debug(entries: &List<Entry>) -> Table {
@@ -210,6 +217,7 @@ pub fn delay_imports(libraries: &List<delay_imports::Library>) -> Table {
         imports.map(|it| vec![library.name.to_string(), import(it.name.as_ref(), it.ordinal), hint(it.hint)])
     });
     Table::new(&[text("DLL"), text("name or ordinal"), number("hint")], rows)
+        .limited(delay_imports::is_limited(libraries))
 }
 
 /// The DLLs that the image is bound to, each with those that it forwards to.
@@ -222,6 +230,7 @@ pub fn bound_imports(bound: &List<Bound>) -> Table {
         [of_dll].into_iter().chain(forwarders)
     });
     Table::new(&[text("DLL"), text("time stamp"), text("forwarded to by")], rows)
+        .limited(bound_imports::is_limited(bound))
 }
 
 /// What the load configuration has, without fields that are 0.
@@ -293,9 +302,9 @@ fn label(label: &Label) -> String {
 
 /// The version of a leaf, or why its content is missing.
 fn remark(leaf: &Leaf) -> String {
-    let version = leaf.version.as_ref().and_then(|it| it.fixed.present());
+    let version = leaf.version.as_ref().map(|it| it.fixed());
     let refused = leaf.error.as_ref().map(|it| it.text.clone());
-    refused.or(version.map(|it| it.file_version.clone())).unwrap_or_default()
+    refused.or(version.as_ref().and_then(Part::present).map(|it| it.file_version.clone())).unwrap_or_default()
 }
 
 pub fn resources(resources: &Resources) -> Table {
@@ -306,7 +315,7 @@ pub fn resources(resources: &Resources) -> Table {
     });
     let columns =
         &[text("type"), text("name"), text("language"), number("RVA"), number("bytes"), number("code page"), text("")];
-    Table::new(columns, rows)
+    Table::new(columns, rows).limited(resources.is_limited)
 }
 
 /// The two versions of the fixed file information.

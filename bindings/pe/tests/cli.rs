@@ -1,5 +1,6 @@
 //! The program as it is run, over images that are made by hand: what is expected stands in how they are made.
 
+mod limited;
 #[path = "../../rust/tests/made/mod.rs"]
 mod made;
 
@@ -288,6 +289,29 @@ fn folders_are_read_in_order_and_other_files_skipped() {
     assert_eq!(files.iter().map(name).collect::<Vec<_>>(), wanted);
 }
 
+/// What `sha256sum` says of some bytes.
+fn sha256_of(folder: &Folder, bytes: &[u8]) -> String {
+    let ran = Command::new("sha256sum").arg(folder.file("summed", bytes)).output().unwrap();
+    String::from_utf8(ran.stdout).unwrap().split(' ').next().unwrap().to_string()
+}
+
+/// A file of some megabytes is read into memory of its own kind, and two files are read side by side.
+#[test]
+fn large_files_are_read_whole() {
+    let folder = Folder::new("large");
+    let mut bytes = made::with_exports();
+    bytes.extend((0..5_000_000u32).map(|it| (it.wrapping_mul(0x9E37_79B1) >> 24) as u8));
+    bytes.resize(bytes.len().next_multiple_of(8), 1);
+    let (large, small) = (folder.file("a.dll", &bytes), folder.file("b.dll", &made::with_exports()));
+    let (one, _, _) = run(&["--json", &large]);
+    let all: Value = serde_json::from_str(&one).unwrap();
+    assert_eq!(all["file_size"], bytes.len());
+    assert_eq!(run(&["--json", &large, &small]).0, one + &run(&["--json", &small]).0);
+    // The digest leaves out the checksum at 0x98 and the entry of the certificate directory at 0xE8.
+    let covered = [&bytes[..0x98], &bytes[0x9C..0xE8], &bytes[0xF0..]].concat();
+    assert_eq!(run(&["digest", &large]).0, format!("{}  {large}\n", sha256_of(&folder, &covered)));
+}
+
 #[test]
 fn many_sections_over_the_whole_file_cost_little() {
     // 50,000 section headers of 40 bytes from 0x148 on, each of the whole file: 100 GB, were each read by itself.
@@ -308,33 +332,12 @@ fn many_sections_over_the_whole_file_cost_little() {
     assert!(start.elapsed().as_secs() < 30, "{:?}", start.elapsed());
 }
 
-/// An image of so many exports, whose names all lead into one text of as many bytes, each to another one.
-fn exports_in_one_text(count: u32) -> Vec<u8> {
-    let mut made = made::Made::new(made::X64);
-    let text = made.put(&[vec![b'a'; count as usize], vec![0]].concat());
-    let names = made.put_words(&(text..text + count).collect::<Vec<_>>());
-    let ordinals = made.put(&(0..count as u16).flat_map(u16::to_le_bytes).collect::<Vec<_>>());
-    let addresses = made.put_words(&vec![0x1000; count as usize]);
-    let directory = made.put_words(&[0, 0, 0, text, 1, count, count, addresses, names, ordinals]);
-    made.directory(made::EXPORTS, directory, 40);
-    made.image()
-}
-
-/// An image that imports from so many DLLs, each the same list of as many ordinals.
-fn libraries_of_one_list(count: usize) -> Vec<u8> {
-    let mut made = made::Made::new(made::X64);
-    let name = made.put(b"a.dll\0");
-    let list =
-        made.put(&(1..=count as u64).map(|it| 1 << 63 | it).chain([0]).flat_map(u64::to_le_bytes).collect::<Vec<_>>());
-    let directory = made.put_words(&[[list, 0, 0, name, list].repeat(count), vec![0; 5]].concat());
-    made.directory(made::IMPORTS, directory, 20 * (count as u32 + 1));
-    made.image()
-}
-
 #[test]
 fn names_and_lists_that_entries_share_are_shown_up_to_a_bound() {
     let folder = Folder::new("shared");
-    for (part, bytes) in [("exports", exports_in_one_text(4000)), ("imports", libraries_of_one_list(1000))] {
+    for (part, bytes) in
+        [("exports", limited::exports_in_one_text(4000)), ("imports", limited::libraries_of_one_list(1000))]
+    {
         let file = folder.file(part, &bytes);
         let (out, _, status) = run(&["show", "--json", &file, part]);
         assert_eq!(status, 0, "{part}");
@@ -347,7 +350,7 @@ fn names_and_lists_that_entries_share_are_shown_up_to_a_bound() {
         assert!(run(&["show", &file, part]).0.ends_with("  and more\n"), "{part}");
     }
     // a file of the same sizes in which nothing is shared is shown whole
-    let (out, _, _) = run(&["show", "--json", &folder.file("few", &exports_in_one_text(20)), "exports"]);
+    let (out, _, _) = run(&["show", "--json", &folder.file("few", &limited::exports_in_one_text(20)), "exports"]);
     let shown: Value = serde_json::from_str(&out).unwrap();
     assert_eq!(shown["exports"]["entries"].as_array().unwrap().len(), 20);
     assert_eq!(shown["exports"]["is_limited"], Value::Null);

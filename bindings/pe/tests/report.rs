@@ -1,5 +1,6 @@
 //! The page of `pe report`: by its text, and in Chromium where that is installed.
 
+mod limited;
 #[path = "../../rust/tests/made/mod.rs"]
 mod made;
 mod running;
@@ -158,6 +159,53 @@ fn what_is_refused_comes_first() {
     let (page, status) = page_of(&folder, &folder.file("b.exe", b"MZ"));
     assert_well_formed(&page);
     assert!(page.contains("<li><b>image</b> truncated <code>SHORT</code></li>"));
+    assert_eq!(status, 1);
+}
+
+/// The table of each part on the page.
+fn table_id(part: &str) -> &str {
+    match part {
+        "delay_imports" => "delayed",
+        "bound_imports" => "bound",
+        it => it,
+    }
+}
+
+#[test]
+fn what_is_not_shown_whole_says_so_on_top_and_beside_its_table() {
+    let folder = Folder::new("report-limited");
+    for (part, name, bytes) in limited::all() {
+        let file = folder.file(part, &bytes);
+        assert!(json_of(&file)[part].to_string().contains("\"is_limited\":true"), "{part}");
+        let (page, status) = page_of(&folder, &file);
+        assert_well_formed(&page);
+        assert_eq!(status, 0, "{part}");
+        let (before, after) = page.split_once("<main>").unwrap();
+        assert!(before.contains("Nothing is refused."), "{part}");
+        let warning = format!(
+            "<h2 id=warnings>1 not shown whole</h2><ul><li><b>{name}</b> not shown whole: the image has more</li></ul>"
+        );
+        assert!(before.contains(&warning), "{part}");
+        let (_, table) = after.split_once(&format!("<details id={}", table_id(part))).unwrap();
+        let (head, _) = table.split_once("<div").unwrap();
+        assert!(head.contains("+</span></summary><p>Not shown whole: the image has more.</p>"), "{part}: {head}");
+        // No other table says it.
+        assert_eq!(page.matches("Not shown whole").count(), 1, "{part}");
+    }
+    let (page, _) = page_of(&folder, &folder.file("few", &limited::exports_in_one_text(20)));
+    assert!(!page.contains("hown whole"));
+    assert!(page.contains("<h2>Exports</h2> <span class=count>20</span>"));
+}
+
+#[test]
+fn an_image_may_be_refused_in_part_and_not_shown_whole() {
+    let folder = Folder::new("report-both");
+    let mut bytes = limited::exports_in_one_text(4000);
+    // A debug directory that no section maps: the seventh, of directories from 0xC8 on.
+    let entry = 0xC8 + 8 * made::DEBUG;
+    bytes[entry..entry + 8].copy_from_slice(&[0, 0, 0, 0x70, 28, 0, 0, 0]);
+    let (page, status) = page_of(&folder, &folder.file("a.exe", &bytes));
+    assert!(page.contains("<h2 id=warnings>1 refused, 1 not shown whole</h2><ul><li><b>debug data</b> "));
     assert_eq!(status, 1);
 }
 

@@ -1,16 +1,20 @@
-use pe_c::{End, Frames, Image, Module, Registers, Stack};
+use pe_c::{End, Frame, Frames, Image, MachineRegisters, Module, Stack};
 
-/// The instruction pointers of a thread's frames, from the top frame outwards, at most 1,000, and why there are no more. The
-/// images are those of the thread's process, each with the address where it is loaded, in ascending order.
-pub fn backtrace(images: &[(u64, Image<'_>)], registers: Registers, stack: Stack<'_>) -> (Vec<u64>, Option<End>) {
+/// The frames of a thread, from the top frame outwards, at most 1,000, and why there are no more: on x64 by `Registers`, on ARM64
+/// by `Arm64Registers`. The images are those of the thread's process, each with the address where it is loaded, in ascending
+/// order.
+pub fn backtrace<R: MachineRegisters>(
+    images: &[(u64, Image<'_>)],
+    registers: R,
+    stack: Stack<'_>,
+) -> (Vec<Frame<R>>, Option<End>) {
     let module = |address| {
         let index = images.partition_point(|(base, _)| *base <= address).checked_sub(1)?;
         let (base, image) = images.get(index)?;
         Some(Module { image, base: *base })
     };
     let mut frames = Frames::new(registers, 1000, module, |_| Some(stack));
-    let pointers = frames.by_ref().map(|frame| frame.registers.rip).collect();
-    (pointers, frames.end())
+    (frames.by_ref().collect(), frames.end())
 }
 
 fn main() -> Result<(), Box<dyn std::error::Error>> {
@@ -23,11 +27,11 @@ fn main() -> Result<(), Box<dyn std::error::Error>> {
     let image = Image::parse(&data, pe_c::Mode::Permissive)?;
     let bytes: Vec<u8> = words.iter().flat_map(|word| word.to_le_bytes()).collect();
     let stack = Stack { start: 0x2_0000, bytes: &bytes };
-    let mut registers = Registers { rip: *rip, ..Registers::default() };
+    let mut registers = pe_c::Registers { rip: *rip, ..Default::default() };
     registers.set_rsp(stack.start);
-    let (pointers, end) = backtrace(&[(*base, image)], registers, stack);
-    for pointer in pointers {
-        println!("{pointer:x}");
+    let (frames, end) = backtrace(&[(*base, image)], registers, stack);
+    for frame in frames {
+        println!("{:x}", frame.registers.rip);
     }
     println!("{end:?}");
     Ok(())

@@ -1,11 +1,7 @@
-//! Stack walks on x64, and steps of them on ARM64. A step finds the registers of a function's caller: in the table of functions it looks up the one that
-//! the instruction pointer is in, and undoes what that function's prolog did. A walk makes step after step, through all
-//! modules, from the innermost frame outwards. See Microsoft's pages on
-//! [x64](https://learn.microsoft.com/cpp/build/exception-handling-x64) and
+//! Steps of stack walks on x64 and ARM64. A step finds the registers of a function's caller: in the table of functions the
+//! caller looks up the one that the instruction pointer is in, and the step undoes what that function's prolog did. See
+//! Microsoft's pages on [x64](https://learn.microsoft.com/cpp/build/exception-handling-x64) and
 //! [ARM64](https://learn.microsoft.com/cpp/build/arm64-exception-handling).
-//!
-//! A return address may be the end of its function, if the call before it is the last instruction, so a walk looks up the
-//! byte before it. The top frame alone, and one that an interrupt stopped, can be in an epilog, which its code tells.
 
 use crate::arm64::Arm64Functions;
 use crate::image::{Error, Image};
@@ -30,7 +26,7 @@ pub enum StepError {
     Missing(u64),
     /// This address and the offset of an unwind code do not fit 64 bits, or it is that of a frame register below its offset.
     Address(u64),
-    /// This stack pointer of the caller is not above that of the function; on ARM64 it is below that.
+    /// This stack pointer of the caller is not above that of the function. On ARM64 a step takes one that is equal.
     NotRising(u64),
     /// The function's records: they cannot be read, a code of theirs is truncated, invalid or cannot be undone, more than
     /// 32 of them are chained, or packed unwind data have no canonical prolog.
@@ -141,7 +137,7 @@ impl Functions<'_, '_> {
     }
 
     /// Whether an interrupt entered the function: one of its records has `UWOP_PUSH_MACHFRAME`.
-    fn is_interrupted(&self, function: Function) -> bool {
+    pub(crate) fn is_interrupted(&self, function: Function) -> bool {
         self.plan(function)
             .flatten()
             .any(|record| record.codes().flatten().any(|code| matches!(code.operation, Operation::MachineFrame { .. })))
@@ -178,7 +174,7 @@ impl Arm64Functions<'_, '_> {
     /// A signature is taken off the return address.
     ///
     /// A step may leave the stack pointer where it is, before a prolog has moved it. End a walk where one does so in any
-    /// frame but the top one: a function that calls has stored the link register.
+    /// frame but the top one: a function that calls has stored the link register. [`Frames`](crate::Frames) does all this.
     ///
     /// ```
     /// # #[path = "../tests/made/mod.rs"] mod made;
@@ -224,189 +220,4 @@ impl<'a> Image<'a> {
         };
         part().unwrap_or_default()
     }
-}
-
-/// A module of a process: its image, and the address where it is loaded.
-#[derive(Clone, Copy)]
-pub struct Module<'m> {
-    /// The image, a file or as loaded.
-    pub image: &'m Image<'m>,
-    /// The address where it is loaded.
-    pub base: u64,
-}
-
-/// How a frame was found.
-#[derive(Clone, Copy, Debug, PartialEq, Eq)]
-#[non_exhaustive]
-pub enum Way {
-    /// It is the top frame.
-    Top,
-    /// By the unwind records of the frame below it.
-    Records,
-    /// The frame below it is one of a leaf function.
-    Leaf,
-    /// An interrupt stopped it: the frame below it has the frame that the processor pushed.
-    Interrupt,
-}
-
-/// A frame of a stack walk.
-#[derive(Clone, Copy, Debug, PartialEq, Eq)]
-pub struct Frame {
-    /// The registers in its function. In the frame of a call `rip` is the return address.
-    pub registers: Registers,
-    /// How they were found.
-    pub way: Way,
-}
-
-/// Why a stack walk is over.
-#[derive(Clone, Copy, Debug, PartialEq, Eq)]
-#[non_exhaustive]
-pub enum End {
-    /// No module has the instruction pointer of the last frame, or none of its functions has: only the top frame, and one
-    /// that an interrupt stopped, can be that of a leaf function, and only where the image has a byte of code.
-    NoFunction,
-    /// As many frames were returned as the caller wants.
-    Bound,
-    /// The caller of the last frame is not found.
-    Step(StepError),
-}
-
-/// A stack walk: the frames of a thread, from the top frame outwards, through all modules of a process.
-///
-/// `modules` returns the module that has an address, and `memory` a piece of memory that has the eight bytes at an address.
-/// A step reads one piece: that of the stack pointer, or if an address is missing there, the piece of that address alone.
-///
-/// The walk is over at a frame that is in no function of a module, at memory that is missing, where the stack pointer does
-/// not rise, at any other error, and after `most` frames. [`Frames::end`] says which. Only past an interrupt does the stack
-/// pointer not have to rise.
-///
-/// ```
-/// # #[path = "../tests/made/mod.rs"] mod made;
-/// # let bytes = made::with_functions();
-/// use pe_c::{End, Frames, Image, Mode, Module, Registers, Stack, StepError};
-///
-/// let image = Image::parse(&bytes, Mode::Permissive)?;
-/// let module = Module { image: &image, base: 0x1_8000_0000 };
-/// let mut registers = Registers { rip: module.base + 0x5000, ..Registers::default() };
-/// registers.set_rsp(0x2_0000);
-/// let stack = Stack { start: 0x2_0000, bytes: &[0; 8] }; // its last return address is 0
-/// let modules = |address| (address >= module.base).then_some(module);
-/// let mut frames = Frames::new(registers, 100, modules, |address| (address >= stack.start).then_some(stack));
-/// assert_eq!(frames.by_ref().count(), 2);
-/// assert_eq!(frames.end(), Some(End::NoFunction));
-/// # Ok::<(), pe_c::Error>(())
-/// ```
-#[derive(Clone, Debug)]
-pub struct Frames<M, S> {
-    modules: M,
-    memory: S,
-    last: Option<Frame>,
-    top: Registers,
-    left: usize,
-    end: Option<End>,
-}
-
-impl<'m, 's, M, S> Frames<M, S>
-where
-    M: FnMut(u64) -> Option<Module<'m>>,
-    S: FnMut(u64) -> Option<Stack<'s>>,
-{
-    /// A walk of at most `most` frames, from the registers of a thread.
-    pub fn new(registers: Registers, most: usize, modules: M, memory: S) -> Self {
-        Frames { modules, memory, last: None, top: registers, left: most, end: None }
-    }
-
-    /// Why the walk is over, or `None` before its end.
-    pub fn end(&self) -> Option<End> {
-        self.end
-    }
-
-    /// A step over the piece of memory at the stack pointer, and if it misses an address there over the piece of that.
-    fn over_memory(
-        &mut self,
-        rsp: u64,
-        step: impl Fn(Stack<'_>) -> Result<Registers, StepError>,
-    ) -> Result<Registers, StepError> {
-        let first = (self.memory)(rsp).unwrap_or(Stack { start: rsp, bytes: &[] });
-        match step(first) {
-            Err(StepError::Missing(address)) => match (self.memory)(address) {
-                Some(other) => step(other),
-                None => Err(StepError::Missing(address)),
-            },
-            found => found,
-        }
-    }
-
-    /// The frame of the caller of a frame, or why there is none.
-    fn caller(&mut self, frame: Frame) -> Result<Frame, End> {
-        let registers = frame.registers;
-        let is_return_address = !matches!(frame.way, Way::Top | Way::Interrupt);
-        let module = (self.modules)(registers.rip).ok_or(End::NoFunction)?;
-        let rva = u32::try_from(registers.rip.wrapping_sub(module.base)).map_err(|_| End::NoFunction)?;
-        let inside = rva.saturating_sub(u32::from(is_return_address));
-        let refused = |error| End::Step(StepError::Records(error));
-        let functions = module.image.functions().map_err(refused)?;
-        let found = match &functions {
-            Some(functions) => functions.find(inside).map_err(refused)?.map(|function| (functions, function)),
-            None => None,
-        };
-        let rsp = registers.rsp();
-        match found {
-            Some((functions, function)) => {
-                let code: &[u8] = if is_return_address { &[] } else { module.image.code(rva, function.end) };
-                let step = |stack: Stack<'_>| functions.step(function, rva, code, &registers, stack);
-                let registers = self.over_memory(rsp, step).map_err(End::Step)?;
-                let way = if functions.is_interrupted(function) { Way::Interrupt } else { Way::Records };
-                Ok(Frame { registers, way })
-            }
-            // A module after which no other is loaded may be named for every address above it.
-            None if is_return_address || module.image.code(rva, rva.saturating_add(1)).is_empty() => {
-                Err(End::NoFunction)
-            }
-            None => {
-                let registers = self.over_memory(rsp, |stack| registers.leaf(stack)).map_err(End::Step)?;
-                Ok(Frame { registers, way: Way::Leaf })
-            }
-        }
-    }
-}
-
-impl<'m, 's, M, S> Iterator for Frames<M, S>
-where
-    M: FnMut(u64) -> Option<Module<'m>>,
-    S: FnMut(u64) -> Option<Stack<'s>>,
-{
-    type Item = Frame;
-
-    fn next(&mut self) -> Option<Frame> {
-        if self.end.is_some() {
-            return None;
-        }
-        if self.left == 0 {
-            self.end = Some(End::Bound);
-            return None;
-        }
-        let next = match self.last {
-            None => Ok(Frame { registers: self.top, way: Way::Top }),
-            Some(frame) => self.caller(frame),
-        };
-        match next {
-            Ok(frame) => {
-                self.last = Some(frame);
-                self.left -= 1;
-                Some(frame)
-            }
-            Err(end) => {
-                self.end = Some(end);
-                None
-            }
-        }
-    }
-}
-
-impl<'m, 's, M, S> core::iter::FusedIterator for Frames<M, S>
-where
-    M: FnMut(u64) -> Option<Module<'m>>,
-    S: FnMut(u64) -> Option<Stack<'s>>,
-{
 }

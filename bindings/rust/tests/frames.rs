@@ -2,7 +2,7 @@
 
 mod made;
 
-use pe_c::{sys, Arm64Registers, End, Error, Frames, Image, Mode, Module, Registers, Stack, StepError, Way};
+use pe_c::{sys, Arm64Registers, End, Error, Frame, Frames, Image, Mode, Module, Registers, Stack, StepError, Way};
 
 /// Where the image is loaded.
 const BASE: u64 = 0x1_8000_0000;
@@ -85,6 +85,9 @@ fn a_leaf_function_is_the_top_frame_alone() {
     registers.rip = BASE + 0x6000;
     registers.set_rsp(ENTRY);
     assert_eq!(walk(registers, 100, &bytes), (vec![(BASE + 0x6000, ENTRY, Way::Top)], Some(End::NoFunction)));
+    // No RVA is that large, though its low 32 bits are one of the leaf function.
+    registers.rip = BASE + 0x1100 + (1 << 32);
+    assert_eq!(walk(registers, 100, &bytes), (vec![(registers.rip, ENTRY, Way::Top)], Some(End::NoFunction)));
 }
 
 #[test]
@@ -285,6 +288,217 @@ fn an_arm64_step_says_why_there_is_no_caller() {
     let elsewhere = sys::Arm64Function { begin: 0x5000, unwind: 0x7000_0000 };
     let stack = Stack { start: 0, bytes: &[] };
     assert_eq!(functions.step(elsewhere, 0x5000, &caller, stack), Err(StepError::Records(Error::UNMAPPED)));
+}
+
+/// Where the three modules of the walks on ARM64 are loaded: two with the image of `made::with_arm64_calls`, and one with that of
+/// `arm64_bytes`.
+const CALLS: u64 = 0x1_8000_0000;
+const MORE_CALLS: u64 = 0x1_9000_0000;
+const OTHERS: u64 = 0x1_A000_0000;
+
+/// The stack pointer of the top frame, and from there on the words of its callers' frames.
+const SP: u64 = 0x2_0000;
+
+/// Of the frames, from the innermost: x29, the return address, and what is saved above them.
+fn arm64_stack() -> Vec<u64> {
+    let mut words = vec![0; 114];
+    // The first function of CALLS called, by its last instruction: x29 and lr, 16 bytes of its own, x19 and x20.
+    words[..6].copy_from_slice(&[SP + 80, MORE_CALLS + 0x5034, 1, 2, 19, 20]);
+    // The second one of MORE_CALLS: 32 bytes of its own, x29 and a signed lr.
+    words[6..12].copy_from_slice(&[3, 4, 5, 6, SP + 608, (OTHERS + 0x5118) | 0xAB5A << 48]);
+    // The function at 0x5100 of OTHERS: 512 bytes of its own, x29 and lr, space up to d8, d9, x19 and x20.
+    words[76..78].copy_from_slice(&[SP + 864, CALLS + 0x5010]);
+    words[104..108].copy_from_slice(&[80, 90, 190, 200]);
+    // The first one of CALLS, whose return address is 0.
+    words[108..].copy_from_slice(&[0, 0, 7, 8, 1900, 2000]);
+    words
+}
+
+/// The registers in a leaf function of OTHERS, which the first function of CALLS called by its last instruction.
+fn arm64_registers() -> Arm64Registers {
+    let mut registers = Arm64Registers { pc: OTHERS + 0x1100, sp: SP, ..Arm64Registers::default() };
+    registers.set_lr(CALLS + 0x5020);
+    registers.general[29] = SP;
+    registers
+}
+
+/// All frames of a walk on ARM64 over the words from `SP` on, and why it ended.
+fn arm64_walk(registers: Arm64Registers, most: usize, words: &[u64]) -> (Vec<Frame<Arm64Registers>>, Option<End>) {
+    let (calls, others, bytes) = (made::with_arm64_calls(), arm64_bytes(), bytes_of(words));
+    let images = [(CALLS, image_of(&calls)), (MORE_CALLS, image_of(&calls)), (OTHERS, image_of(&others))];
+    let module = |address: u64| {
+        let (base, image) = images.iter().rev().find(|(base, _)| *base <= address)?;
+        Some(Module { image, base: *base })
+    };
+    let mut frames = Frames::new(registers, most, module, |_| Some(Stack { start: SP, bytes: &bytes }));
+    let found = frames.by_ref().collect();
+    assert_eq!(frames.next(), None);
+    (found, frames.end())
+}
+
+/// Of each frame the instruction pointer, the stack pointer and the way.
+fn arm64_pointers(frames: &[Frame<Arm64Registers>]) -> Vec<(u64, u64, Way)> {
+    frames.iter().map(|it| (it.registers.pc, it.registers.sp, it.way)).collect()
+}
+
+#[test]
+fn an_arm64_walk_comes_through_three_modules_to_its_end() {
+    let words = arm64_stack();
+    let all = [
+        (OTHERS + 0x1100, SP, Way::Top),
+        (CALLS + 0x5020, SP, Way::Leaf),
+        (MORE_CALLS + 0x5034, SP + 48, Way::Records),
+        (OTHERS + 0x5118, SP + 96, Way::Records),
+        (CALLS + 0x5010, SP + 864, Way::Records),
+        (0, SP + 912, Way::Records),
+    ];
+    let (frames, end) = arm64_walk(arm64_registers(), 100, &words);
+    assert_eq!((arm64_pointers(&frames), end), (all.to_vec(), Some(End::NoFunction)));
+    // x19, x20 and x29, and d8 and d9, in each frame.
+    let saved = |frame: &Frame<Arm64Registers>| {
+        let registers = frame.registers;
+        (registers.general[19], registers.general[20], registers.general[29], registers.floats[0], registers.floats[1])
+    };
+    let restored = [
+        (0, 0, SP, 0, 0),
+        (0, 0, SP, 0, 0),
+        (19, 20, SP + 80, 0, 0),
+        (19, 20, SP + 608, 0, 0),
+        (190, 200, SP + 864, 80, 90),
+        (1900, 2000, 0, 80, 90),
+    ];
+    assert_eq!(frames.iter().map(saved).collect::<Vec<_>>(), restored);
+    for most in 0..6 {
+        let (frames, end) = arm64_walk(arm64_registers(), most, &words);
+        assert_eq!((arm64_pointers(&frames), end), (all[..most].to_vec(), Some(End::Bound)));
+    }
+    // The stack ends inside of what each function saved.
+    for (length, count) in [(5, 2), (1, 2), (11, 3), (107, 4), (109, 5)] {
+        let (frames, end) = arm64_walk(arm64_registers(), 100, &words[..length]);
+        let missing = SP + 8 * length as u64;
+        assert_eq!(
+            (arm64_pointers(&frames), end),
+            (all[..count].to_vec(), Some(End::Step(StepError::Missing(missing))))
+        );
+    }
+}
+
+#[test]
+fn an_arm64_leaf_function_is_the_top_frame_alone() {
+    let words = arm64_stack();
+    let mut registers = arm64_registers();
+    // The leaf function returns to another one.
+    registers.set_lr(OTHERS + 0x1104);
+    let both = [(OTHERS + 0x1100, SP, Way::Top), (OTHERS + 0x1104, SP, Way::Leaf)];
+    let (frames, end) = arm64_walk(registers, 100, &words);
+    assert_eq!((arm64_pointers(&frames), end), (both.to_vec(), Some(End::NoFunction)));
+    // The image has no byte there, though its module was named.
+    registers.pc = OTHERS + 0x6000;
+    let (frames, end) = arm64_walk(registers, 100, &words);
+    assert_eq!((frames.len(), end), (1, Some(End::NoFunction)));
+    // No RVA is that large, though its low 32 bits are one of the leaf function.
+    registers.pc = OTHERS + 0x1100 + (1 << 32);
+    let (frames, end) = arm64_walk(registers, 100, &words);
+    assert_eq!((frames.len(), end), (1, Some(End::NoFunction)));
+    // No module has it.
+    registers.pc = CALLS - 4;
+    assert_eq!(arm64_walk(registers, 100, &words).1, Some(End::NoFunction));
+}
+
+/// The first frame alone may leave the stack pointer where it is.
+#[test]
+fn an_arm64_walk_ends_where_the_stack_does_not_rise() {
+    let mut words = arm64_stack();
+    // After the first instruction of the second function, which signs lr: a thread that was stopped there, and a call from there.
+    let mut stopped = Arm64Registers { pc: CALLS + 0x5024, ..arm64_registers() };
+    stopped.set_lr((CALLS + 0x5020) | 0xFF5A << 48);
+    let (frames, end) = arm64_walk(stopped, 100, &words);
+    assert_eq!(arm64_pointers(&frames)[..2], [(CALLS + 0x5024, SP, Way::Top), (CALLS + 0x5020, SP, Way::Records)]);
+    assert_eq!((frames.len(), end), (6, Some(End::NoFunction)));
+    let mut called = arm64_registers();
+    called.set_lr(CALLS + 0x5024);
+    let (frames, end) = arm64_walk(called, 100, &words);
+    assert_eq!((frames.len(), end), (2, Some(End::Step(StepError::NotRising(SP)))));
+    // A saved x29 below the frame, by which the next step takes a lower stack pointer.
+    words[0] = SP - 64;
+    let (frames, end) = arm64_walk(arm64_registers(), 100, &words);
+    assert_eq!(frames.len(), 3);
+    assert!(matches!(end, Some(End::Step(StepError::Missing(address))) if address < SP), "{end:?}");
+    words[0] = SP + 8;
+    let (frames, end) = arm64_walk(arm64_registers(), 100, &words);
+    assert_eq!((frames.len(), end), (3, Some(End::Step(StepError::NotRising(SP + 24)))));
+}
+
+/// Two modules side by side: one at `BASE`, and one at `next`.
+fn side_by_side<'m>(first: &'m Image<'m>, second: &'m Image<'m>, next: u64) -> impl Fn(u64) -> Option<Module<'m>> {
+    move |address| match address {
+        _ if address < BASE => None,
+        _ if address < next => Some(Module { image: first, base: BASE }),
+        _ => Some(Module { image: second, base: next }),
+    }
+}
+
+/// A module may end with a call, so that the return address is the start of the next module.
+#[test]
+fn a_call_may_be_the_end_of_its_module() {
+    let (x64, arm64) = (made::with_functions(), made::with_arm64_calls());
+    let (x64, arm64) = (image_of(&x64), image_of(&arm64));
+    // The outer frame's function ends at 0x5020.
+    let bytes = stack_bytes();
+    let frames = Frames::new(registers(), 9, side_by_side(&x64, &arm64, BASE + 0x5020), |_| Some(stack_of(&bytes)));
+    assert_eq!(frames.map(|it| it.registers.rip).collect::<Vec<_>>(), [BASE + 0x500C, BASE + 0x5020, 0]);
+    // The second function ends at 0x5040, and called the first one.
+    let next = BASE + 0x5040;
+    let mut registers = Arm64Registers { pc: BASE + 0x5000, sp: SP, ..Arm64Registers::default() };
+    registers.set_lr(next);
+    registers.general[29] = SP + 32;
+    let bytes = bytes_of(&[0; 6]);
+    let stack = Stack { start: SP, bytes: &bytes };
+    let frames = Frames::new(registers, 9, side_by_side(&arm64, &x64, next), |_| Some(stack));
+    let found: Vec<_> = frames.map(|it| (it.registers.pc, it.registers.sp)).collect();
+    assert_eq!(found, [(BASE + 0x5000, SP), (next, SP), (0, SP + 48)]);
+}
+
+#[test]
+fn an_arm64_walk_says_which_unwind_data_are_refused() {
+    // The function at 0x5300 of OTHERS has packed data without a canonical prolog.
+    let registers = Arm64Registers { pc: OTHERS + 0x5304, ..arm64_registers() };
+    let (frames, end) = arm64_walk(registers, 100, &arm64_stack());
+    assert_eq!((frames.len(), end), (1, Some(End::Step(StepError::Records(Error::BAD_OPERATION)))));
+}
+
+/// A step whose piece misses an address is made again over the piece of that address alone.
+#[test]
+fn an_arm64_walk_reads_the_piece_that_is_asked_for() {
+    let (file, words) = (made::with_arm64_calls(), arm64_stack());
+    let image = image_of(&file);
+    let module = |address: u64| address.checked_sub(MORE_CALLS).map(|_| Module { image: &image, base: MORE_CALLS });
+    let bytes = bytes_of(&words[10..]);
+    let mut asked = Vec::new();
+    let memory = |address| {
+        asked.push(address);
+        (address >= SP + 80).then_some(Stack { start: SP + 80, bytes: &bytes })
+    };
+    let mut registers = Arm64Registers { pc: MORE_CALLS + 0x5034, sp: SP + 48, ..Arm64Registers::default() };
+    registers.general[29] = SP + 80;
+    let frames: Vec<_> = Frames::new(registers, 2, module, memory).collect();
+    assert_eq!(arm64_pointers(&frames)[1], (OTHERS + 0x5118, SP + 96, Way::Records));
+    assert_eq!(asked[0], SP + 48);
+    assert!(asked.len() == 2 && (SP + 80..SP + 96).contains(&asked[1]), "{asked:x?}");
+}
+
+/// An image of one machine has no functions of the other.
+#[test]
+fn walks_on_the_other_machine_find_no_function() {
+    let (x64, arm64) = (made::with_functions(), made::with_arm64_calls());
+    let (x64, arm64) = (image_of(&x64), image_of(&arm64));
+    let memory = |_| Some(Stack { start: SP, bytes: &[0; 64] });
+    let module = |address| (address == BASE + 0x5004).then_some(Module { image: &arm64, base: BASE });
+    let mut frames = Frames::new(Registers { rip: BASE + 0x5004, ..Registers::default() }, 9, module, memory);
+    assert_eq!((frames.by_ref().count(), frames.end()), (1, Some(End::NoFunction)));
+    let module = |address| (address == BASE + 0x5004).then_some(Module { image: &x64, base: BASE });
+    let mut frames = Frames::new(Arm64Registers { pc: BASE + 0x5004, ..Arm64Registers::default() }, 9, module, memory);
+    assert_eq!((frames.by_ref().count(), frames.end()), (1, Some(End::NoFunction)));
 }
 
 /// Any numbers in a frame on ARM64 are legal.

@@ -5,7 +5,7 @@ mod reading;
 
 use made::*;
 use pe_c::{sys, Image, Layout, Mode};
-use reading::read_all;
+use reading::{read_all, Seen};
 
 const WAYS: [(Mode, Layout); 4] = [
     (Mode::Strict, Layout::File),
@@ -14,32 +14,43 @@ const WAYS: [(Mode, Layout); 4] = [
     (Mode::Permissive, Layout::Mapped),
 ];
 
+/// Fails unless something of each kind was read and something was refused: what does not read an image does not crash on it.
+fn assert_read(seen: Seen) {
+    let counts = [seen.images, seen.records, seen.codes, seen.slices, seen.refusals];
+    assert!(counts.iter().all(|count| *count > 0), "{seen:?}");
+}
+
 #[test]
 fn every_beginning_of_an_image_is_read_or_refused() {
-    for (_, image) in made::all() {
+    let mut seen = Seen::up_to(0);
+    for (name, image) in made::all() {
+        assert_eq!(read_all(&image, Mode::Permissive, Layout::File, 64).images, 1, "{name}");
         for length in 0..image.len() {
             // an allocation of its own, so that a memory checker sees a read past its end
             let bytes = image[..length].to_vec();
             for (mode, layout) in WAYS {
-                read_all(&bytes, mode, layout, 64);
+                seen.add(read_all(&bytes, mode, layout, 64));
             }
         }
     }
+    assert_read(seen);
 }
 
 #[test]
 fn every_byte_of_an_image_may_change() {
+    let mut seen = Seen::up_to(0);
     for (_, image) in made::all() {
         for offset in 0..image.len() {
             for value in [0, 1, 0x7F, 0x80, 0xFF] {
                 let mut bytes = image.clone();
                 bytes[offset] = value;
                 for (mode, layout) in WAYS {
-                    read_all(&bytes, mode, layout, 64);
+                    seen.add(read_all(&bytes, mode, layout, 64));
                 }
             }
         }
     }
+    assert_read(seen);
 }
 
 /// Numbers at the ends of their ranges, and near the length of the bytes.

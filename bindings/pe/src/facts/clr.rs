@@ -6,7 +6,7 @@ use pe_c::{Image, Metadata as FoundMetadata, MetadataStream};
 use serde::Serialize;
 
 #[derive(Clone, Debug, Serialize)]
-pub struct Clr {
+pub struct Clr<'a> {
     /// Of the header in bytes, as it says itself.
     pub size: u32,
     /// The version of the runtime that is needed, such as `2.5`.
@@ -17,7 +17,7 @@ pub struct Clr {
     pub entry_point_token: u32,
     /// Those that are not absent.
     pub directories: Vec<Directory>,
-    pub metadata: Part<Metadata>,
+    pub metadata: Part<Metadata<'a>>,
 }
 
 /// A directory of the header.
@@ -29,17 +29,17 @@ pub struct Directory {
 }
 
 #[derive(Clone, Debug, Serialize)]
-pub struct Metadata {
+pub struct Metadata<'a> {
     /// Of the runtime that the image was made for, such as `v4.0.30319`.
-    pub version: Name,
+    pub version: Name<'a>,
     /// Of the format of the metadata, such as `1.1`.
     pub format_version: String,
-    pub streams: List<Stream>,
+    pub streams: List<Stream<'a>>,
 }
 
 #[derive(Clone, Debug, Serialize)]
-pub struct Stream {
-    pub name: Name,
+pub struct Stream<'a> {
+    pub name: Name<'a>,
     /// From the start of the metadata.
     pub offset: u32,
     pub size: u32,
@@ -47,20 +47,20 @@ pub struct Stream {
     pub is_there: bool,
 }
 
-fn stream_of(stream: MetadataStream<'_>) -> Stream {
+fn stream_of(stream: MetadataStream<'_>) -> Stream<'_> {
     let MetadataStream { name, content, offset, size } = stream;
-    Stream { name: Name(name.to_vec()), offset, size, is_there: content.is_some() }
+    Stream { name: Name(name), offset, size, is_there: content.is_some() }
 }
 
-fn metadata_of(found: FoundMetadata<'_>) -> Metadata {
+fn metadata_of(found: FoundMetadata<'_>) -> Metadata<'_> {
     Metadata {
-        version: Name(found.version().to_vec()),
+        version: Name(found.version()),
         format_version: format!("{}.{}", found.major_version, found.minor_version),
         streams: List::of(found.streams(), stream_of),
     }
 }
 
-fn clr_of(clr: pe_c::Clr<'_, '_>) -> Clr {
+fn clr_of<'a>(clr: pe_c::Clr<'_, 'a>) -> Clr<'a> {
     let header = clr.header();
     let directories = [
         ("metadata", header.metadata),
@@ -82,6 +82,6 @@ fn clr_of(clr: pe_c::Clr<'_, '_>) -> Clr {
     }
 }
 
-pub fn of(image: &Image<'_>) -> Part<Clr> {
+pub fn of<'a>(image: &'a Image<'_>) -> Part<Clr<'a>> {
     image.clr().map(|found| found.map(clr_of)).into()
 }

@@ -6,14 +6,14 @@ use pe_c::{Image, Repro};
 use serde::Serialize;
 
 #[derive(Clone, Debug, Serialize)]
-pub struct Debug {
+pub struct Debug<'a> {
     pub entries: Part<List<Entry>>,
     /// The PDB of the CodeView record, if that is one of PDB 7.0.
-    pub pdb: Part<Pdb>,
+    pub pdb: Part<Pdb<'a>>,
     /// The PDB of a CodeView record of PDB 2.0.
-    pub pdb20: Part<Pdb20>,
+    pub pdb20: Part<Pdb20<'a>>,
     pub repro: Part<ReproRecord>,
-    pub pogo: Part<Pogo>,
+    pub pogo: Part<Pogo<'a>>,
     pub vc_features: Part<VcFeatures>,
     /// `IMAGE_DLLCHARACTERISTICS_EX_` flags.
     pub extended_dll_characteristics: Part<u32>,
@@ -29,8 +29,8 @@ pub struct Entry {
 }
 
 #[derive(Clone, Debug, Serialize)]
-pub struct Pdb {
-    pub name: Name,
+pub struct Pdb<'a> {
+    pub name: Name<'a>,
     pub guid: String,
     pub age: u32,
     /// The GUID's digits and the age.
@@ -40,8 +40,8 @@ pub struct Pdb {
 }
 
 #[derive(Clone, Debug, Serialize)]
-pub struct Pdb20 {
-    pub name: Name,
+pub struct Pdb20<'a> {
+    pub name: Name<'a>,
     pub time_date_stamp: u32,
     pub age: u32,
 }
@@ -53,15 +53,15 @@ pub struct ReproRecord {
 }
 
 #[derive(Clone, Debug, Serialize)]
-pub struct Pogo {
+pub struct Pogo<'a> {
     /// `LTCG` or `PGU`.
     pub signature: &'static str,
-    pub parts: List<PogoPart>,
+    pub parts: List<PogoPart<'a>>,
 }
 
 #[derive(Clone, Debug, Serialize)]
-pub struct PogoPart {
-    pub name: Name,
+pub struct PogoPart<'a> {
+    pub name: Name<'a>,
     pub rva: u32,
     pub size: u32,
 }
@@ -76,7 +76,7 @@ pub struct VcFeatures {
     pub guard_n: u32,
 }
 
-impl Debug {
+impl Debug<'_> {
     /// The directory's refusal, or else that of the records, which all six share.
     pub fn refusals(&self) -> Vec<&Refusal> {
         let entries = self.entries.refusal().or(self.entries.present().and_then(|it| it.error.as_ref()));
@@ -87,18 +87,14 @@ impl Debug {
 /// `LTCG`, the other signature of POGO records is `PGU`.
 const LTCG: u32 = 0x4C54_4347;
 
-pub fn of(image: &Image<'_>) -> Debug {
+pub fn of<'a>(image: &'a Image<'_>) -> Debug<'a> {
     Debug {
         entries: entries_of(image),
         pdb: pdb_of(image),
         pdb20: image
             .pdb20()
             .map(|it| {
-                it.map(|record| Pdb20 {
-                    name: Name(record.name().to_vec()),
-                    time_date_stamp: record.signature,
-                    age: record.age,
-                })
+                it.map(|record| Pdb20 { name: Name(record.name()), time_date_stamp: record.signature, age: record.age })
             })
             .into(),
         repro: image.repro().map(|it| it.map(repro_of)).into(),
@@ -123,10 +119,10 @@ fn entries_of(image: &Image<'_>) -> Part<List<Entry>> {
     entries.into()
 }
 
-fn pdb_of(image: &Image<'_>) -> Part<Pdb> {
+fn pdb_of<'a>(image: &'a Image<'_>) -> Part<Pdb<'a>> {
     let key = image.symbol_key().map(|found| {
         found.map(|key| Pdb {
-            name: Name(key.name().to_vec()),
+            name: Name(key.name()),
             guid: key.guid.to_string(),
             age: key.age,
             key: key.to_string(),
@@ -143,11 +139,11 @@ fn repro_of(record: Repro<'_>) -> ReproRecord {
     }
 }
 
-fn pogo_of(record: pe_c::Pogo<'_>) -> Pogo {
+fn pogo_of(record: pe_c::Pogo<'_>) -> Pogo<'_> {
     Pogo {
         signature: if record.signature == LTCG { "LTCG" } else { "PGU" },
         parts: List::of(record.entries(), |entry| PogoPart {
-            name: Name(entry.name().to_vec()),
+            name: Name(entry.name()),
             rva: entry.rva,
             size: entry.size,
         }),

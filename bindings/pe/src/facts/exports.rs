@@ -3,74 +3,81 @@
 use super::{Budget, Name, Part, ENTRY};
 use pe_c::{Error, Image};
 use serde::Serialize;
-use std::collections::BTreeMap;
+use std::iter;
 use std::ops::Not;
 
 #[derive(Clone, Debug, Serialize)]
-pub struct Exports {
+pub struct Exports<'a> {
     /// What the DLL calls itself.
-    pub name: Option<Name>,
+    pub name: Option<Name<'a>>,
     pub ordinal_base: u32,
     /// In the order of their ordinals; ordinals that are not used are left out.
-    pub entries: Vec<Export>,
+    pub entries: Vec<Export<'a>>,
     /// Whether there are more names or entries, and what they share is too long to be shown as often.
     #[serde(skip_serializing_if = "Not::not")]
     pub is_limited: bool,
 }
 
 #[derive(Clone, Debug, Serialize)]
-pub struct Export {
+pub struct Export<'a> {
     pub ordinal: u64,
     pub rva: u32,
-    pub names: Vec<Name>,
+    pub names: Vec<Name<'a>>,
     /// `DLL.NAME` where another DLL has it.
     #[serde(skip_serializing_if = "Option::is_none")]
-    pub forwarder: Option<Name>,
+    pub forwarder: Option<Name<'a>>,
 }
 
-impl Exports {
+impl Exports<'_> {
     pub fn forwarders(&self) -> usize {
         self.entries.iter().filter(|export| export.forwarder.is_some()).count()
     }
 }
 
-pub fn of(image: &Image<'_>) -> Part<Exports> {
+pub fn of<'a>(image: &'a Image<'_>) -> Part<Exports<'a>> {
     exports_of(image).into()
 }
 
-fn exports_of(image: &Image<'_>) -> Result<Option<Exports>, Error> {
+fn exports_of<'a>(image: &'a Image<'_>) -> Result<Option<Exports<'a>>, Error> {
     let (Some(table), Some(named)) = (image.export_addresses()?, image.exports()?) else {
         return Ok(None);
     };
-    let (mut names, mut is_limited) = names_of(named, Budget::of(image))?;
+    let (names, mut is_limited) = names_of(named, Budget::of(image))?;
+    let mut names = names.into_iter().peekable();
     let (mut entries, mut budget) = (Vec::new(), Budget::of(image));
-    for (index, entry) in table.iter().enumerate().filter(|(_, entry)| entry.rva != 0) {
+    for (index, entry) in (0..).zip(table.iter()).filter(|(_, entry)| entry.rva != 0) {
         if !budget.takes(ENTRY + entry.forwarder.map_or(0, <[u8]>::len)) {
             is_limited = true;
             break;
         }
+        // Names may lead to ordinals that are not used.
+        while names.next_if(|(it, _)| *it < index).is_some() {}
+        let own = iter::from_fn(|| names.next_if(|(it, _)| *it == index));
         entries.push(Export {
             ordinal: entry.ordinal,
             rva: entry.rva,
-            names: names.remove(&(index as u64)).unwrap_or_default(),
-            forwarder: entry.forwarder.map(|text| Name(text.to_vec())),
+            names: own.map(|(_, name)| name).collect(),
+            forwarder: entry.forwarder.map(Name),
         });
     }
-    let name = table.name().map(|name| Name(name.to_vec()));
+    let name = table.name().map(Name);
     Ok(Some(Exports { name, ordinal_base: table.ordinal_base(), entries, is_limited }))
 }
 
-/// The names of exports by their index, and whether there are more.
-type Names = (BTreeMap<u64, Vec<Name>>, bool);
+/// The names of exports in the order of their indexes, each with its index, and whether there are more.
+type Names<'a> = (Vec<(u32, Name<'a>)>, bool);
 
-fn names_of(exports: pe_c::Exports<'_, '_>, mut budget: Budget) -> Result<Names, Error> {
-    let mut names: BTreeMap<u64, Vec<Name>> = BTreeMap::new();
+fn names_of<'a>(exports: pe_c::Exports<'_, 'a>, mut budget: Budget) -> Result<Names<'a>, Error> {
+    let (mut names, mut is_limited) = (Vec::new(), false);
     for export in exports {
         let export = export?;
-        if !budget.takes(ENTRY + export.name.len()) {
-            return Ok((names, true));
+        is_limited = !budget.takes(ENTRY + export.name.len());
+        if is_limited {
+            break;
         }
-        names.entry(export.index.into()).or_default().push(Name(export.name.to_vec()));
+        names.push((export.index, Name(export.name)));
     }
-    Ok((names, false))
+    // Names of one entry stay in their order.
+    names.sort_by_key(|(index, _)| *index);
+    Ok((names, is_limited))
 }

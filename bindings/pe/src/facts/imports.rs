@@ -5,15 +5,15 @@ use pe_c::Image;
 use serde::Serialize;
 
 #[derive(Clone, Debug, Serialize)]
-pub struct Library {
-    pub name: Name,
-    pub imports: List<Import>,
+pub struct Library<'a> {
+    pub name: Name<'a>,
+    pub imports: List<Import<'a>>,
 }
 
 /// An import by name, with its hint, or by ordinal.
 #[derive(Clone, Debug, Serialize)]
-pub struct Import {
-    pub name: Option<Name>,
+pub struct Import<'a> {
+    pub name: Option<Name<'a>>,
     #[serde(skip_serializing_if = "Option::is_none")]
     pub hint: Option<u32>,
     #[serde(skip_serializing_if = "Option::is_none")]
@@ -30,21 +30,25 @@ pub fn hint_or_ordinal(name: Option<&[u8]>, number: u32) -> (Option<u32>, Option
     }
 }
 
-fn import_of(import: pe_c::Import<'_>, budget: &mut Budget) -> Option<Import> {
+fn import_of<'a>(import: pe_c::Import<'a>, budget: &mut Budget) -> Option<Import<'a>> {
     let (hint, ordinal) = hint_or_ordinal(import.name, import.ordinal);
     budget.takes(ENTRY + import.name.map_or(0, <[u8]>::len)).then(|| Import {
-        name: import.name.map(|name| Name(name.to_vec())),
+        name: import.name.map(Name),
         hint,
         ordinal,
         slot_rva: import.rva,
     })
 }
 
-pub fn of(image: &Image<'_>) -> Part<List<Library>> {
+pub fn is_limited(libraries: &List<Library>) -> bool {
+    libraries.is_limited_in(|library| &library.imports)
+}
+
+pub fn of<'a>(image: &'a Image<'_>) -> Part<List<Library<'a>>> {
     let mut budget = Budget::of(image);
-    let library_of = |library: pe_c::Library<'_, '_>| {
+    let library_of = |library: pe_c::Library<'a, 'a>| {
         budget.takes(ENTRY + library.name.len()).then(|| Library {
-            name: Name(library.name.to_vec()),
+            name: Name(library.name),
             imports: List::limited(library.imports(), |import| import_of(import, &mut budget)),
         })
     };

@@ -4,15 +4,15 @@ use super::version::{fixed_of, strings_of, Fixed};
 use super::{Budget, Part, Refusal};
 use crate::names::{name_of, RESOURCE_TYPES};
 use pe_c::{Image, ResourceLeaf, ResourceLeaves, ResourceName};
-use serde::Serialize;
+use serde::{Serialize, Serializer};
 use std::collections::{BTreeMap, BTreeSet};
 
 /// How many leaves are shown. Directories of a tree may be shared, so a small file can have more leaves than anyone reads.
 const LEAVES: usize = 65_536;
 
 #[derive(Clone, Debug, Serialize)]
-pub struct Resources {
-    pub entries: Vec<Leaf>,
+pub struct Resources<'a> {
+    pub entries: Vec<Leaf<'a>>,
     /// Why there are no more.
     #[serde(skip_serializing_if = "Option::is_none")]
     pub error: Option<Refusal>,
@@ -22,7 +22,7 @@ pub struct Resources {
 
 /// A resource in one language.
 #[derive(Clone, Debug, Serialize)]
-pub struct Leaf {
+pub struct Leaf<'a> {
     pub r#type: Label,
     pub name: Label,
     pub language: Label,
@@ -30,7 +30,7 @@ pub struct Leaf {
     pub size: u32,
     pub code_page: u32,
     /// Of version information what it says, null of other types.
-    pub version: Option<Version>,
+    pub version: Option<Version<'a>>,
     /// Why its content is not in the file.
     #[serde(skip_serializing_if = "Option::is_none")]
     pub error: Option<Refusal>,
@@ -43,17 +43,37 @@ pub struct Label {
     pub name: Option<String>,
 }
 
-/// The version information of one language.
-#[derive(Clone, Debug, Serialize)]
-pub struct Version {
-    pub fixed: Part<Fixed>,
-    pub strings: Part<BTreeMap<String, String>>,
+/// The version information of one language: it is read where it is shown, which a summary does not.
+#[derive(Clone, Debug)]
+pub struct Version<'a>(ResourceLeaf<'a>);
+
+impl Version<'_> {
+    pub fn fixed(&self) -> Part<Fixed> {
+        self.0.version().map(|found| found.map(fixed_of)).into()
+    }
+
+    fn strings(&self) -> Part<BTreeMap<String, String>> {
+        strings_of(|name| self.0.version_text(name)).into()
+    }
+}
+
+/// The same as it stands in JSON.
+#[derive(Serialize)]
+struct Shown {
+    fixed: Part<Fixed>,
+    strings: Part<BTreeMap<String, String>>,
+}
+
+impl Serialize for Version<'_> {
+    fn serialize<S: Serializer>(&self, serializer: S) -> Result<S::Ok, S::Error> {
+        Shown { fixed: self.fixed(), strings: self.strings() }.serialize(serializer)
+    }
 }
 
 /// `RT_VERSION`
 const VERSION: ResourceName<'_> = ResourceName::Id(16);
 
-impl Resources {
+impl Resources<'_> {
     /// How many types there are.
     pub fn type_count(&self) -> usize {
         self.entries.iter().map(|it| &it.r#type).collect::<BTreeSet<_>>().len()
@@ -73,14 +93,7 @@ fn type_of(name: ResourceName<'_>) -> Label {
     Label { name: label.name.or(known.map(str::to_string)), ..label }
 }
 
-fn version_of(leaf: &ResourceLeaf<'_>) -> Version {
-    Version {
-        fixed: leaf.version().map(|found| found.map(fixed_of)).into(),
-        strings: strings_of(|name| leaf.version_text(name)).into(),
-    }
-}
-
-fn leaf_of(leaf: &ResourceLeaf<'_>) -> Leaf {
+fn leaf_of(leaf: ResourceLeaf<'_>) -> Leaf<'_> {
     Leaf {
         r#type: type_of(leaf.resource_type),
         name: label_of(leaf.name),
@@ -88,7 +101,7 @@ fn leaf_of(leaf: &ResourceLeaf<'_>) -> Leaf {
         rva: leaf.rva,
         size: leaf.size,
         code_page: leaf.code_page,
-        version: (leaf.resource_type == VERSION).then(|| version_of(leaf)),
+        version: (leaf.resource_type == VERSION).then_some(Version(leaf)),
         error: leaf.content().err().map(Refusal::from),
     }
 }
@@ -103,12 +116,12 @@ fn cost_of(leaf: &ResourceLeaf<'_>) -> usize {
     length(leaf.resource_type) + length(leaf.name) + length(leaf.language) + content
 }
 
-fn resources_of(leaves: ResourceLeaves<'_, '_>, mut budget: Budget) -> Resources {
+fn resources_of<'a>(leaves: ResourceLeaves<'_, 'a>, mut budget: Budget) -> Resources<'a> {
     let mut resources = Resources { entries: Vec::new(), error: None, is_limited: false };
     for leaf in leaves {
         match leaf {
             Ok(leaf) if resources.entries.len() < LEAVES && budget.takes(cost_of(&leaf)) => {
-                resources.entries.push(leaf_of(&leaf));
+                resources.entries.push(leaf_of(leaf));
             }
             Ok(_) => {
                 resources.is_limited = true;
@@ -120,6 +133,6 @@ fn resources_of(leaves: ResourceLeaves<'_, '_>, mut budget: Budget) -> Resources
     resources
 }
 
-pub fn of(image: &Image<'_>) -> Part<Resources> {
+pub fn of<'a>(image: &'a Image<'_>) -> Part<Resources<'a>> {
     image.resource_leaves().map(|found| found.map(|leaves| resources_of(leaves, Budget::of(image)))).into()
 }

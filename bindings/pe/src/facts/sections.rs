@@ -8,11 +8,11 @@ use serde::Serialize;
 use std::ops::Range;
 
 #[derive(Clone, Debug, Serialize)]
-pub struct Section {
+pub struct Section<'a> {
     /// As the header has it.
-    pub name: Name,
+    pub name: Name<'a>,
     /// The name in the string table to which a name such as `/4` leads.
-    pub long_name: Option<Name>,
+    pub long_name: Option<Name<'a>>,
     pub rva: u32,
     pub virtual_size: u32,
     pub file_offset: u32,
@@ -28,25 +28,30 @@ pub struct Section {
 /// How many sections are looked up in the string table: as many as Windows loads. Many could lead to one long string.
 const LONG_NAMES: usize = 96;
 
-impl Section {
+impl<'a> Section<'a> {
     /// The name for people: the long one, if it has one.
-    pub fn shown_name(&self) -> &Name {
+    pub fn shown_name(&self) -> &Name<'a> {
         self.long_name.as_ref().unwrap_or(&self.name)
     }
 }
 
-pub fn of(image: &Image<'_>) -> Vec<Section> {
-    let counts = ByteCounts::of(image.bytes());
+pub fn of<'a>(image: &'a Image<'_>) -> Vec<Section<'a>> {
+    let mut counts = ByteCounts::of(image.bytes());
     let sections = image.sections().iter().enumerate();
-    sections.map(|(index, section)| section_of(image, section, index < LONG_NAMES, &counts)).collect()
+    sections.map(|(index, section)| section_of(image, section, index < LONG_NAMES, &mut counts)).collect()
 }
 
-fn section_of(image: &Image<'_>, section: &pe_c::Section, is_looked_up: bool, counts: &ByteCounts<'_>) -> Section {
+fn section_of<'a>(
+    image: &'a Image<'_>,
+    section: &'a pe_c::Section,
+    is_looked_up: bool,
+    counts: &mut ByteCounts<'_>,
+) -> Section<'a> {
     // Without a string table, or one that is refused, the name of the header is what there is.
     let long_name = if is_looked_up { image.long_section_name(section).ok().flatten() } else { None };
     Section {
-        name: Name(section.name().to_vec()),
-        long_name: long_name.map(|name| Name(name.to_vec())),
+        name: Name(section.name()),
+        long_name: long_name.map(Name),
         rva: section.virtual_address,
         virtual_size: section.virtual_size,
         file_offset: section.pointer_to_raw_data,

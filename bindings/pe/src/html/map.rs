@@ -121,7 +121,7 @@ fn title_of(region: &Region) -> String {
 
 /// The entropy of equal parts of the file, as an area.
 fn entropy(image: &Image<'_>, html: &mut Html) {
-    let counts = ByteCounts::of(image.bytes());
+    let mut counts = ByteCounts::of(image.bytes());
     let length = image.bytes().len() as u64;
     let steps = STEPS.min(length.max(1));
     let mut path = String::from("M0 8");

@@ -2,8 +2,9 @@
 #![allow(dead_code)]
 
 use pe_c::{
-    Arm64Record, Arm64Unwinding, Error, Frames, Function, Functions, Handler, Image, Layout, Mode, Module, Placement,
-    Registers, ResourceName, Stack, StepError, UnwindRecord, VersionBlocks, VersionName,
+    Arm64Function, Arm64Functions, Arm64Record, Arm64Registers, Arm64Unwinding, Error, Frames, Function, Functions,
+    Handler, Image, Layout, Mode, Module, Placement, Registers, ResourceName, Stack, StepError, UnwindRecord,
+    VersionBlocks, VersionName,
 };
 
 /// What was read.
@@ -204,6 +205,23 @@ fn read_arm64_codes(record: &Arm64Record, start: u32, seen: &mut Seen) {
     }
 }
 
+/// Steps out of a function on ARM64, from its start and from further on; and a walk from there.
+fn step_out_arm64(image: &Image, functions: &Arm64Functions, function: Arm64Function, seen: &mut Seen) {
+    let stack = Stack { start: 0x2_0000, bytes: &STACK };
+    let mut registers = Arm64Registers { general: [0x2_0080; 31], sp: 0x2_0010, ..Arm64Registers::default() };
+    for offset in [0, 8, 64] {
+        let rva = function.begin.wrapping_add(offset);
+        let answer = functions.step(function, rva, &registers, stack);
+        if let Err(StepError::NotRising(sp)) = answer {
+            assert!(sp < registers.sp);
+        }
+        seen.item(answer.map_err(StepError::error));
+        registers.pc = rva.into();
+        let module = Module { image, base: 0 };
+        assert!(Frames::new(registers, 4, |_| Some(module), |_| Some(stack)).count() <= 4);
+    }
+}
+
 fn read_arm64_functions(image: &Image, seen: &mut Seen) {
     let Some(functions) = seen.keep(image.arm64_functions()) else {
         return;
@@ -213,6 +231,7 @@ fn read_arm64_functions(image: &Image, seen: &mut Seen) {
         if let Some(found) = seen.keep(functions.find(function.begin)) {
             assert!(found.begin <= function.begin);
         }
+        step_out_arm64(image, &functions, function, seen);
         let answer = functions.unwinding(function);
         let Some(Arm64Unwinding::Record(record)) = seen.item(answer) else {
             continue;

@@ -1,0 +1,78 @@
+//! Images of which a part has more than is shown, since its entries share names or lists.
+#![allow(dead_code)]
+
+use crate::made;
+
+/// An image of so many exports, whose names all lead into one text of as many bytes, each to another one.
+pub fn exports_in_one_text(count: u32) -> Vec<u8> {
+    let mut made = made::Made::new(made::X64);
+    let text = made.put(&[vec![b'a'; count as usize], vec![0]].concat());
+    let names = made.put_words(&(text..text + count).collect::<Vec<_>>());
+    let ordinals = made.put(&(0..count as u16).flat_map(u16::to_le_bytes).collect::<Vec<_>>());
+    let addresses = made.put_words(&vec![0x1000; count as usize]);
+    let directory = made.put_words(&[0, 0, 0, text, 1, count, count, addresses, names, ordinals]);
+    made.directory(made::EXPORTS, directory, 40);
+    made.image()
+}
+
+/// A list of so many ordinals.
+fn ordinals(count: usize, made: &mut made::Made) -> u32 {
+    made.put(&(1..=count as u64).map(|it| 1 << 63 | it).chain([0]).flat_map(u64::to_le_bytes).collect::<Vec<_>>())
+}
+
+/// An image that imports from so many DLLs, each the same list of as many ordinals.
+pub fn libraries_of_one_list(count: usize) -> Vec<u8> {
+    let mut made = made::Made::new(made::X64);
+    let name = made.put(b"a.dll\0");
+    let list = ordinals(count, &mut made);
+    let directory = made.put_words(&[[list, 0, 0, name, list].repeat(count), vec![0; 5]].concat());
+    made.directory(made::IMPORTS, directory, 20 * (count as u32 + 1));
+    made.image()
+}
+
+/// The same of delay imports.
+pub fn delay_imports_of_one_list(count: usize) -> Vec<u8> {
+    let mut made = made::Made::new(made::X64);
+    let name = made.put(b"a.dll\0");
+    let list = ordinals(count, &mut made);
+    let directory = made.put_words(&[[1, name, 0, 0, list, 0, 0, 0].repeat(count), vec![0; 8]].concat());
+    made.directory(made::DELAY_IMPORTS, directory, 32 * (count as u32 + 1));
+    made.image()
+}
+
+/// So many bound imports, whose names are all one text of 20 times as many bytes.
+pub fn bound_imports_of_one_name(count: usize) -> Vec<u8> {
+    let mut made = made::Made::new(made::X64);
+    let entry = [1, 8 * (count as u32 + 1)];
+    made.put_words(&[entry.repeat(count), vec![0; 2]].concat());
+    made.put(&[vec![b'a'; 20 * count], vec![0]].concat());
+    made.directory(made::BOUND_IMPORTS, made::OFFSET, made.content.len() as u32);
+    made.image()
+}
+
+/// A tree of resources that has one directory of types, one of names and one of languages, each of `count` entries that lead to
+/// the same one.
+pub fn resources_of_shared_directories(count: u32) -> Vec<u8> {
+    let mut made = made::Made::new(made::X64);
+    let size = 16 + 8 * count;
+    let mut tree = Vec::new();
+    for target in [1 << 31 | size, 1 << 31 | 2 * size, 3 * size] {
+        tree.extend([0, 0, 0, count << 16]);
+        tree.extend((1..=count).flat_map(|id| [id, target]));
+    }
+    tree.extend([made::ADDRESS, 4, 0, 0]);
+    let root = made.put_words(&tree);
+    made.directory(made::RESOURCES, root, 4 * tree.len() as u32);
+    made.image()
+}
+
+/// Of each part that may have more than is shown: its name in JSON, its name in text, and an image.
+pub fn all() -> [(&'static str, &'static str, Vec<u8>); 5] {
+    [
+        ("imports", "imports", libraries_of_one_list(1000)),
+        ("exports", "exports", exports_in_one_text(4000)),
+        ("delay_imports", "delay imports", delay_imports_of_one_list(1000)),
+        ("bound_imports", "bound imports", bound_imports_of_one_name(1000)),
+        ("resources", "resources", resources_of_shared_directories(41)),
+    ]
+}
