@@ -3,7 +3,7 @@
 //! ([`IMAGE_BOUND_IMPORT_DESCRIPTOR`]), each followed by one for each DLL that it forwards to, up to an entry without a name.
 //!
 //! The directory stands in the headers, which are loaded as they are in the file, so its RVA is a file offset. The offsets of
-//! names count from its start.
+//! names count from its start; names may overlap, so a caller that looks up many takes them from `BoundImportDirectory::names`.
 //!
 //! [`IMAGE_BOUND_IMPORT_DESCRIPTOR`]: https://learn.microsoft.com/windows/win32/api/winnt/
 
@@ -106,7 +106,7 @@ impl<'a> BoundImportDirectory<'a> {
     }
 
     /// The name at an offset from the start of the directory. Error: `BoundImportName` if it is not NUL-terminated in the
-    /// directory or not UTF-8.
+    /// directory or not UTF-8. It is read to its end: a caller that looks up many takes them from `names`.
     #[tactic(auto, unfolding(crate::specs::BoundImports::bound_name))]
     pub fn name(&self, offset: u16) -> Result<&'a str>
         ensures { DirectoryReturns (λ s. s.now) result (bound_name self.now.bytes.now offset) }

@@ -163,8 +163,8 @@ impl DelayImport {
         Ok(VaTable::new(image.from_offset(offset), image.is_64))
     }
 
-    /// What a number of `lookups` imports. Errors, in order: `VaBelowBase`, `Image` with `Unmapped`, `Image` with `Short`,
-    /// `DelayImportName`.
+    /// What a number of `lookups` imports; `functions` reads all of them together. Errors, in order: `VaBelowBase`, `Image` with
+    /// `Unmapped`, `Image` with `Short`, `DelayImportName`.
     #[tactic(auto, unfolding(crate::specs::DelayImports::imported_by))]
     pub fn imported<'a>(&self, image: &ImageBytes<'a>, lookup: u64) -> Result<DelayedFunction<'a>>
         ensures { DirectoryReturns function_view result
