@@ -7,7 +7,7 @@
 //! the DLLs, and what is imported of each, by `DelayImports::dlls` and `DelayImport::functions`. Linkers before Visual C++ 7
 //! wrote virtual addresses instead of RVAs, and left bit 0 of the attributes clear.
 
-ghost use Rattle.std.specs.Prelude.{◌≡◌, ◌+◌, ◌%◌, ◌^◌, ◌≤◌, length, IfOk};
+ghost use Rattle.std.specs.Prelude.{◌≡◌, ◌==◌, ◌+◌, ◌%◌, ◌^◌, ◌≤◌, length, IfOk};
 ghost use Rattle.std.specs.Iterator.{at_most};
 ghost use Rattle.pe_directories.specs.DelayImports.{delay_import_at, first_delay_import, delay_import_table, delay_imports_left, offset_in_entry, delay_name, delay_dll, lookup_table, function_view, hint_and_name, imported_by};
 ghost use Rattle.pe_directories.specs.DelayImportSteps.{ordinal_of};
@@ -116,13 +116,20 @@ impl DelayImport {
         }
     }
 
+    /// Whether its addresses are RVAs, and not virtual addresses.
+    fn has_rvas(&self) -> bool
+        ensures { result ≡ (self.now.attributes % 2 == 1) }
+    {
+        self.attributes % 2 == 1
+    }
+
     /// The offset of an address of the entry in the bytes. Errors, in order: `VaBelowBase` of a virtual address; `Image` with
     /// `Unmapped`.
     #[tactic(auto, unfolding(crate::specs::DelayImports::offset_in_entry))]
     pub fn offset_of(&self, image: &ImageBytes<'_>, address: u32) -> Result<usize>
         ensures { DirectoryReturns (λ p. p) result (offset_in_entry (image_view image.now) self.now address) }
     {
-        if self.attributes % 2 == 1 {
+        if self.has_rvas() {
             image.offset_of_rva(address)
         } else {
             image.offset_of_va(u64::from(address))
@@ -138,7 +145,7 @@ impl DelayImport {
     ) -> Result<usize>
         ensures { DirectoryReturns (λ p. p) result (offset_in_entry image.now self.now address) }
     {
-        if self.attributes % 2 == 1 {
+        if self.has_rvas() {
             image.offset_of_rva(address)
         } else {
             image.offset_of_va(u64::from(address))
