@@ -43,6 +43,7 @@ ghost use Rattle.pe_c.specs.declared.resource_leaves.ResourceLeaves.{ResourceLea
 
 /// A walk over TLS callbacks returns the numbers of its table up to the first zero, and `SHORT` where the bytes end before that.
 /// The range without bytes at offset 0 stands for a walk that is over.
+#[tactic(auto, using(crate::proofs::NumberLists::callbacks_in_turn))]
 pub fn walks_give_the_callbacks()
     ensures of_image { (b : List ℕ) (image : Image) (sections : List SectionTable)
         (tls : TlsDirectory) (walk : Range) (table : List ℕ)
@@ -62,6 +63,7 @@ pub fn walks_give_the_callbacks()
 
 /// A walk over base relocations returns the blocks of its bytes, each with its page and the range of its entries. A walk over
 /// the entries of a block returns its relocations.
+#[tactic(auto, using(crate::proofs::DirectoryLists::relocations_of_block))]
 pub fn walks_give_the_relocations()
     ensures of_image { (b : List ℕ) (image : Image) (sections : List SectionTable) (walk : Range)
         (table : List ℕ) (items : List (Result Block DirectoryRefusal)) →
@@ -116,6 +118,7 @@ pub fn walks_give_the_streams()
 /// A walk over delay imports returns the entries of its bytes up to one without a name, each with the range of its DLL's name
 /// and a walk over what is imported of it, up to the first entry of which one of them is refused. That walk returns what the
 /// numbers of the DLL's table import, up to the first zero, and to the first that is refused.
+#[tactic(auto, using(crate::proofs::NumberLists::functions_in_turn))]
 pub fn walks_give_the_delay_imports()
     ensures of_image { (b : List ℕ) (image : Image) (sections : List SectionTable) (walk : Range)
         (table : List ℕ) (items : List (Result DelayImport DirectoryRefusal)) →
@@ -152,6 +155,7 @@ pub fn walks_give_the_delay_imports()
 
 /// A walk over bound imports returns the DLLs of its bytes up to one without a name, each with the ranges of its name and of
 /// its forwarders, up to the first whose name is refused. A walk over forwarders returns each of them in the same way.
+#[tactic(auto, using(crate::proofs::DirectoryLists::forwarders_in_turn))]
 pub fn walks_give_the_bound_imports()
     ensures of_image { (b : List ℕ) (image : Image) (walk : Range) (table : List ℕ)
         (items : List (Result Bound DirectoryRefusal)) →
@@ -182,6 +186,7 @@ pub fn walks_give_the_bound_imports()
 
 /// A walk over the leaves of a resource tree returns the leaves that it has left, up to the first error. So the walk that
 /// `pe_c_resource_leaves` starts returns those of the tree.
+#[tactic(auto, using(crate::proofs::LeafRuns::leaves_of_tree))]
 pub fn walks_give_the_leaves()
     ensures of_tree { (b : List ℕ) (image : Image) (sections : List SectionTable)
         (tree : List ℕ × List (Result trees.ResourceLeaf TreeRefusal)) (walk : ResourceLeaves) →

@@ -1,4 +1,4 @@
-use Rattle.pe_c.proofs.DirectoryLists.{bounds_in_turn, bounds_outside, forwarders_in_turn, forwarders_of_import, forwarders_outside}
+use Rattle.pe_c.proofs.DirectoryLists.{bounds_in_turn, bounds_outside, forwarders_of_import, forwarders_outside}
 use Rattle.pe_c.proofs.ListStarts.{bounds_of_image}
 use Rattle.pe_c.proofs.laws.walks.walks_give_the_bound_imports.Goals as goal
 
@@ -10,9 +10,6 @@ returns-clause-imports_outside c = bounds_outside
 
 pub returns-clause-of_import : goal.returns-clause-of_import
 returns-clause-of_import c = forwarders_of_import
-
-pub returns-clause-forwarders : goal.returns-clause-forwarders
-returns-clause-forwarders c = forwarders_in_turn
 
 pub returns-clause-forwarders_outside : goal.returns-clause-forwarders_outside
 returns-clause-forwarders_outside c = forwarders_outside

@@ -1,11 +1,8 @@
-use Rattle.pe_c.proofs.NumberLists.{callbacks_in_turn, callbacks_of_image, callbacks_outside}
+use Rattle.pe_c.proofs.NumberLists.{callbacks_of_image, callbacks_outside}
 use Rattle.pe_c.proofs.laws.walks.walks_give_the_callbacks.Goals as goal
 
 pub returns-clause-of_image : goal.returns-clause-of_image
 returns-clause-of_image c = callbacks_of_image
-
-pub returns-clause-numbers : goal.returns-clause-numbers
-returns-clause-numbers c = callbacks_in_turn
 
 pub returns-clause-outside : goal.returns-clause-outside
 returns-clause-outside c = callbacks_outside

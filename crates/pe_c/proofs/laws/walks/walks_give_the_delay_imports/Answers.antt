@@ -1,6 +1,6 @@
 use Rattle.pe_c.proofs.DirectoryLists.{libraries_in_turn, libraries_outside}
 use Rattle.pe_c.proofs.ListStarts.{libraries_of_image}
-use Rattle.pe_c.proofs.NumberLists.{functions_in_turn, functions_of_library, functions_outside}
+use Rattle.pe_c.proofs.NumberLists.{functions_of_library, functions_outside}
 use Rattle.pe_c.proofs.laws.walks.walks_give_the_delay_imports.Goals as goal
 
 pub returns-clause-libraries : goal.returns-clause-libraries
@@ -14,9 +14,6 @@ returns-clause-of_image c = libraries_of_image
 
 pub returns-clause-of_library : goal.returns-clause-of_library
 returns-clause-of_library c = functions_of_library
-
-pub returns-clause-functions : goal.returns-clause-functions
-returns-clause-functions c = functions_in_turn
 
 pub returns-clause-functions_outside : goal.returns-clause-functions_outside
 returns-clause-functions_outside c = functions_outside

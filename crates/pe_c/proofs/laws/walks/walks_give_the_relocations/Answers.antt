@@ -1,4 +1,4 @@
-use Rattle.pe_c.proofs.DirectoryLists.{blocks_in_turn, blocks_outside, relocations_in_turn, relocations_of_block, relocations_outside}
+use Rattle.pe_c.proofs.DirectoryLists.{blocks_in_turn, blocks_outside, relocations_in_turn, relocations_outside}
 use Rattle.pe_c.proofs.ListStarts.{blocks_of_image}
 use Rattle.pe_c.proofs.laws.walks.walks_give_the_relocations.Goals as goal
 
@@ -7,9 +7,6 @@ returns-clause-blocks c = blocks_in_turn
 
 pub returns-clause-blocks_outside : goal.returns-clause-blocks_outside
 returns-clause-blocks_outside c = blocks_outside
-
-pub returns-clause-of_block : goal.returns-clause-of_block
-returns-clause-of_block c = relocations_of_block
 
 pub returns-clause-relocations : goal.returns-clause-relocations
 returns-clause-relocations c = relocations_in_turn
