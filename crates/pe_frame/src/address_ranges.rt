@@ -45,6 +45,7 @@ fn count_up_to<R: AddressRange>(ranges: &[R], address: u64) -> usize
 }
 
 /// The range that has an address, by binary search.
+#[tactic(auto, using(crate::proofs::Lookups::last_starts, crate::proofs::Lookups::none_starts, crate::proofs::Lookups::range_found, crate::proofs::Lookups::range_missed))]
 pub(crate) fn range_with<R: AddressRange>(ranges: &[R], address: u64) -> Option<&R>
     requires { AreAscending R.start_of R.size_of ranges.now }
     ensures { option_map (λ r. r.now) result

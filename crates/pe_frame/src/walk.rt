@@ -299,6 +299,7 @@ impl<'a, M: Memory> Iterator for StackFrames<'a, M> {
 
     ghost remaining = { λ s. at_most s.remaining };
 
+    #[tactic(auto, using(crate::proofs::WholeWalks::advanced))]
     fn next(&mut self) -> Option<StackFrame> {
         if self.remaining == 0 {
             return None;
