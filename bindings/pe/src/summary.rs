@@ -158,6 +158,6 @@ fn version_of(facts: &Facts, page: &mut Page) {
 
 fn symbols_of(facts: &Facts, page: &mut Page) {
     let Some(pdb) = facts.debug.as_ref().and_then(|it| it.pdb.present()) else { return };
-    page.row("PDB", &pdb.name);
+    page.row("PDB", pdb.name);
     page.row("symbol key", &pdb.key);
 }

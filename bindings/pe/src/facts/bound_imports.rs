@@ -22,10 +22,10 @@ fn bound_of<'a>(found: BoundImport<'a>, budget: &mut Budget) -> Option<Bound<'a>
     let mut forwarder_of = |it: BoundForwarder<'a>| {
         budget
             .takes(ENTRY + it.name.len())
-            .then(|| Forwarder { name: Name(it.name), time_date_stamp: it.time_date_stamp })
+            .then_some(Forwarder { name: Name(it.name), time_date_stamp: it.time_date_stamp })
     };
     let forwarders = List::limited(found.forwarders(), &mut forwarder_of);
-    budget.takes(ENTRY + found.name.len()).then(|| Bound {
+    budget.takes(ENTRY + found.name.len()).then_some(Bound {
         name: Name(found.name),
         time_date_stamp: found.time_date_stamp,
         forwarders,

@@ -56,7 +56,7 @@ pub fn resources_of_shared_directories(count: u32) -> Vec<u8> {
     let mut made = made::Made::new(made::X64);
     let size = 16 + 8 * count;
     let mut tree = Vec::new();
-    for target in [1 << 31 | size, 1 << 31 | 2 * size, 3 * size] {
+    for target in [(1 << 31) | size, (1 << 31) | (2 * size), 3 * size] {
         tree.extend([0, 0, 0, count << 16]);
         tree.extend((1..=count).flat_map(|id| [id, target]));
     }
