@@ -17,7 +17,11 @@ ghost use Rattle.pe_image.specs.LayoutParts.{layout_of};
 ghost use Rattle.pe_image.specs.Memory.{AsksForMemory, HasExports, HasImports, MemoryOnlyIf};
 
 use crate::layout::Layout;
-use pe_core::{Export, ExportData, Header, Import, ImportData, ParseOptions, Result, SectionTable};
+use pe_core::laws::names_of_records_are_read_again;
+use pe_core::{
+    Export, ExportData, Header, Import, ImportData, ParseOptions, Result, SectionIndex,
+    SectionTable,
+};
 use std::alloc::Allocator;
 
 /// The core of an image. The fields but `layout` are those of `PE` with the same names.
@@ -147,17 +151,29 @@ fn imports<'a, A: Allocator + Copy + Drop>(
 /// The names of the DLLs in the import directory, if there is one: sorted by their bytes, each once.
 fn libraries<'a, A: Allocator + Copy + Drop>(
     alloc: A,
+    bytes: &'a [u8],
+    opts: &ParseOptions,
+    sections: &[SectionTable],
+    layout: &Layout,
     import_data: &Option<ImportData<'a, A>>,
 ) -> Result<Vec<&'a str, A>>
+    requires { import_data_of (section_map opts.now sections.now layout.now.file_alignment)
+        (entry_size layout.now.is_64) bytes.now
+        (if opts.now.parse_imports then layout.now.imports else None)
+        ≡ Ok (option_map import_data_view import_data.now) }
     ensures listed { IfOk result (λ v.
         AreLibrariesOf (option_map import_data_view import_data.now) (map (λ s. s.now) v.items)) }
     ensures refused { IfErr result (λ error. error ≡ Memory record {}) }
     ensures memory { MemoryOnlyIf (IsSome (option_map import_data_view import_data.now)) result }
 {
-    match import_data {
-        None => Ok(Vec::new(alloc)),
-        Some(data) => data.libraries(alloc),
-    }
+    let Some(data) = import_data else {
+        return Ok(Vec::new(alloc));
+    };
+    // By the map: names at one offset are compared once.
+    let index = SectionIndex::new(alloc, sections, layout.file_alignment, opts)?;
+    names_of_records_are_read_again();
+    let libraries = data.libraries_with_map(alloc, bytes, &index.map())?;
+    Ok(libraries)
 }
 
 impl<'a, A: Allocator + Copy + Drop> Core<'a, A> {
@@ -185,7 +201,7 @@ impl<'a, A: Allocator + Copy + Drop> Core<'a, A> {
         let exports = exports(alloc, bytes, opts, &sections, alignment, &export_data)?;
         let import_data = import_data(alloc, bytes, opts, &sections, &layout)?;
         let imports = imports(alloc, bytes, opts, &sections, &layout, &import_data)?;
-        let libraries = libraries(alloc, &import_data)?;
+        let libraries = libraries(alloc, bytes, opts, &sections, &layout, &import_data)?;
         Ok(Core {
             header,
             sections,
