@@ -80,8 +80,8 @@ impl Symbol {
     }
 
     /// The name: that in the 8 bytes themselves, or, if they start with a zero, the string of `strings` at the offset
-    /// in the last 4 of them, which is read to its end. `SymbolTable::names` returns the names of all symbols. Error: `StringTable` if no string is there, if it is not NUL-terminated, or if the name
-    /// is not UTF-8.
+    /// in the last 4 of them, which is read to its end. `SymbolTable::names` returns the names of all symbols. Error:
+    /// `StringTable` if no string is there, if it is not NUL-terminated, or if the name is not UTF-8.
     #[tactic(auto, unfolding(crate::specs::Symbols::symbol_name))]
     pub fn name<'a>(&'a self, strings: &Strtab<'a>) -> Result<&'a str>
         ensures { ReturnsAs (λ s. s.now) result (symbol_name self.entry.now strings.now.bytes.now) }
