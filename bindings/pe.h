@@ -258,6 +258,14 @@ uint32_t pe_c_sections(const uint8_t *bytes, size_t length, const pe_c_image_inf
 uint32_t pe_c_offset(const pe_c_image_info *image, const pe_c_section *sections, size_t count, uint32_t rva,
                      uint64_t *out) PE_C_RESULT(1, 5);
 
+/* ---- the overlay */
+
+/* Returns the range of the bytes after the headers and the raw data of all sections, which no loader reads: where installers
+ * keep their archives, and signed images their certificates. It may hold what headers lead to: the certificate table, COFF
+ * symbols. PE_C_NOTHING where no byte follows, and in an image as loaded. It never returns an error. */
+uint32_t pe_c_overlay(const uint8_t *bytes, size_t length, const pe_c_image_info *image, const pe_c_section *sections,
+                      size_t count, pe_c_range *out) PE_C_RESULT(3, 6);
+
 /* ---- section names
  *
  * A section's name that is longer than 8 bytes is a string of the COFF string table, and its header has a slash and the offset

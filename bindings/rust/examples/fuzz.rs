@@ -226,6 +226,7 @@ fn read_by_lies(bytes: &[u8], random: &mut Random, seen: &mut Seen) {
     call_of_image!(pe_c_symbol_key(), Key);
     call_of_image!(pe_c_debug_repro(), Repro);
     call_of_image!(pe_c_debug_pogo(), Pogo);
+    call_of_image!(pe_c_overlay(), Range);
     call_of_image!(pe_c_function_table(), Range);
     call_of_image!(pe_c_arm64_table(), Range);
     call_of_image!(pe_c_unwind_record(&range, directory.virtual_address ^ (few & 1)), Record);

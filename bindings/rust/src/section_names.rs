@@ -22,6 +22,14 @@ impl<'a> Image<'a> {
         ask_of_bytes(self.bytes(), sys::pe_c_string_table, self.info())
     }
 
+    /// The overlay: the bytes after the headers and the raw data of all sections, which no loader reads. Installers keep their
+    /// archives there, and signed images their certificates; it may hold what headers lead to, as the certificate table and
+    /// COFF symbols. Empty where no byte follows, and in an image as loaded.
+    pub fn overlay(&self) -> &'a [u8] {
+        let found = self.ask(sys::pe_c_overlay).ok().flatten();
+        found.and_then(|range| bytes_of(range, self.bytes()).ok()).unwrap_or_default()
+    }
+
     /// The name of a section in the string table: UTF-8, without its final zero. `None` where the header has the name itself,
     /// [`Section::name`]; where the image has no string table; and where no string is at the offset, NUL-terminated and UTF-8.
     ///

@@ -1128,6 +1128,8 @@ calls_of_an_image! {
     pe_c_debug_repro() -> Repro;
     /// Returns the POGO record.
     pe_c_debug_pogo() -> Pogo;
+    /// Returns the range of the overlay.
+    pe_c_overlay() -> Range;
     /// Returns the range of the x64 function table.
     pe_c_function_table() -> Range;
     /// Returns the x64 unwind record of an unwind RVA.

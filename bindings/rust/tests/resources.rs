@@ -155,6 +155,19 @@ fn damaged_bound_imports_are_refused() {
 }
 
 #[test]
+fn overlays_follow_the_sections() {
+    // A COFF symbol, and the string table.
+    let symbols = [&[0; 18], b"\x1C\0\0\0.debug_info\0.debug_line\0".as_slice()].concat();
+    assert_eq!(strict(&with_long_section_name()).overlay(), symbols);
+    let dll = x86_dll();
+    assert_eq!(strict(&dll).overlay(), b"");
+    let appended = [dll.as_slice(), b"appended"].concat();
+    assert_eq!(strict(&appended).overlay(), b"appended");
+    let module = Image::parse_as(&appended, Mode::Strict, Layout::Mapped).unwrap();
+    assert_eq!(module.overlay(), b"");
+}
+
+#[test]
 fn long_section_names_are_read() {
     let name_of = |bytes: &[u8]| {
         let image = strict(bytes);

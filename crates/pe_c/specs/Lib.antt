@@ -29,3 +29,4 @@ pub mod RichHeaders
 pub mod BoundImports
 pub mod SectionNames
 pub mod VersionBlocks
+pub mod Overlays

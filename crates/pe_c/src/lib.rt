@@ -26,6 +26,7 @@ mod image;
 mod imports;
 pub mod laws;
 mod load_config;
+mod overlay;
 mod plan;
 mod ranges;
 mod resource_leaves;

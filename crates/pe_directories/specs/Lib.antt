@@ -13,3 +13,4 @@ pub mod LoadConfig
 pub mod Chosen
 pub mod RichHeader
 pub mod SectionNames
+pub mod Overlays
