@@ -189,7 +189,7 @@ fn read_by_lies(bytes: &[u8], random: &mut Random, seen: &mut Seen) {
         }};
     }
     macro_rules! walk_of_image {
-        ($name:ident($($more:expr,)? $walk:expr), $out:ident) => {{
+        ($name:ident($walk:expr $(; $more:expr)?), $out:ident) => {{
             let mut walk = $walk;
             for _ in 0..MOST {
                 let mut out = sys::$out::default();
@@ -328,10 +328,10 @@ fn read_by_lies(bytes: &[u8], random: &mut Random, seen: &mut Seen) {
         limit: range.length,
         ..sys::Plan::default()
     };
-    walk_of_image!(pe_c_next_record(&range, plan), Record);
+    walk_of_image!(pe_c_next_record(plan; &range), Record);
     let mut started = sys::Plan::default();
     unsafe { sys::pe_c_plan_from(few, &mut started) };
-    walk_of_image!(pe_c_next_record(&range, started), Record);
+    walk_of_image!(pe_c_next_record(started; &range), Record);
     let mut frame = sys::Frame {
         registers: sys::Registers { general: [random.edge(number); 16], xmm: [index; 32], rip: few.into() },
         stack_start: random.edge(number),
