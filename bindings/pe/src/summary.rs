@@ -45,6 +45,9 @@ fn headers_of(headers: &Headers, page: &mut Page) {
     page.row("built", built(headers));
     page.row("entry point", format_args!("{:#x}, image base {:#x}", headers.entry_rva, headers.image_base_va));
     page.row("in memory", format_args!("{} bytes", headers.size_of_image));
+    if let Some(overlay) = headers.overlay_beside_certificates() {
+        page.row("overlay", overlay);
+    }
 }
 
 /// When the image was built. The time stamp of a reproducible build is none.

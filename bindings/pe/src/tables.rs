@@ -57,7 +57,7 @@ impl Table {
 pub type Row = (&'static str, String);
 
 pub fn headers(headers: &Headers) -> Vec<Row> {
-    vec![
+    let mut rows = vec![
         ("format", headers.format.unwrap_or("no optional header").to_string()),
         ("machine", headers.machine.to_string()),
         ("subsystem", headers.subsystem.to_string()),
@@ -69,7 +69,9 @@ pub fn headers(headers: &Headers) -> Vec<Row> {
         ("checksum", format!("{:#010x}", headers.checksum)),
         ("flags", headers.characteristics.join(", ")),
         ("DLL flags", headers.dll_characteristics.join(", ")),
-    ]
+    ];
+    rows.extend(headers.overlay.iter().map(|it| ("overlay", it.to_string())));
+    rows
 }
 
 pub fn directories(headers: &Headers) -> Table {

@@ -234,6 +234,9 @@ const MADE: &[(&str, &[&str])] = &[
         &[
             "  sections      .debug_info",
             "\"name\":\"/4\",\"long_name\":\".debug_info\",",
+            // One symbol of 18 bytes and the string table follow the section.
+            "  overlay       46 bytes at file offset 0x600\n",
+            "\"overlay\":{\"file_offset\":1536,\"size\":46},",
         ],
     ),
     (

@@ -4,6 +4,7 @@ use super::Named;
 use crate::names::{flags_of, CHARACTERISTICS, DIRECTORIES, DLL_CHARACTERISTICS, MACHINES, SUBSYSTEMS};
 use pe_c::Image;
 use serde::Serialize;
+use std::fmt;
 
 /// `IMAGE_FILE_DLL`
 const IS_DLL: u16 = 0x2000;
@@ -30,6 +31,8 @@ pub struct Headers {
     pub characteristics: Vec<&'static str>,
     pub dll_characteristics: Vec<&'static str>,
     pub directories: Vec<Directory>,
+    /// `None` where nothing follows the headers and the raw data of the sections.
+    pub overlay: Option<Overlay>,
     /// Where a symbol server has the image, if this file has its name.
     pub symbol_server_path: Option<String>,
 }
@@ -45,6 +48,19 @@ pub struct Directory {
     #[serde(skip_serializing_if = "Option::is_none")]
     pub file_offset: Option<u32>,
     pub size: u32,
+}
+
+/// The bytes of the file after the headers and the raw data of all sections, which no loader reads.
+#[derive(Clone, Debug, Serialize)]
+pub struct Overlay {
+    pub file_offset: usize,
+    pub size: usize,
+}
+
+impl fmt::Display for Overlay {
+    fn fmt(&self, f: &mut fmt::Formatter<'_>) -> fmt::Result {
+        write!(f, "{} bytes at file offset {:#x}", self.size, self.file_offset)
+    }
 }
 
 pub fn of(image: &Image<'_>, file_name: &str) -> Headers {
@@ -70,8 +86,25 @@ pub fn of(image: &Image<'_>, file_name: &str) -> Headers {
         characteristics: flags_of(info.characteristics.into(), CHARACTERISTICS),
         dll_characteristics: flags_of(info.dll_characteristics.into(), DLL_CHARACTERISTICS),
         directories: directories_of(image),
+        overlay: overlay_of(image),
         symbol_server_path: info.symbol_path(file_name).map(|path| path.to_string()),
     }
+}
+
+impl Headers {
+    /// The overlay, unless it is the certificate table and nothing else, as of most signed images.
+    pub fn overlay_beside_certificates(&self) -> Option<&Overlay> {
+        let is_table = |overlay: &Overlay, table: &Directory| {
+            table.file_offset.map(|it| it as usize) == Some(overlay.file_offset) && table.size as usize == overlay.size
+        };
+        self.overlay.as_ref().filter(|overlay| !self.directories.iter().any(|it| is_table(overlay, it)))
+    }
+}
+
+/// The overlay, which ends with the file.
+fn overlay_of(image: &Image<'_>) -> Option<Overlay> {
+    let size = image.overlay().len();
+    (size > 0).then(|| Overlay { file_offset: image.bytes().len() - size, size })
 }
 
 fn directories_of(image: &Image<'_>) -> Vec<Directory> {
