@@ -113,7 +113,7 @@ start_holds : (placement : Placement) (l : LeftOut) (n : ℕ) → Fits l n → u
 start_holds After l n f = start_after (is_signed l) l.certificates.offset n f.inside
 start_holds InPlace l n f = omega arith
 
-holds_start : (placement : Placement) (l : LeftOut) (b : List ℕ) → Fits l (length b) → Holds l (table_start placement l (length b))
+pub holds_start : (placement : Placement) (l : LeftOut) (b : List ℕ) → Fits l (length b) → Holds l (table_start placement l (length b))
 holds_start placement l b f = holds_more l (unsigned_length l (length b)) (table_start placement l (length b)) (holds_unsigned l (length b) f) (start_holds placement l (length b) f)
 
 pub detached_again : (placement : Placement) (l : LeftOut) (c b : List ℕ) → Fits l (length b) →
