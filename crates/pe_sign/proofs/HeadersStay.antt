@@ -38,12 +38,12 @@ first f b c e n s p w h = le-same f b p p w (λ k lt. s.before (p + k) (omega ar
 second : (f b : List ℕ) (c e n : ℕ) → Stays f b c e n → (p w : ℕ) → c + 4 ≤ p → p + w ≤ e → le f p w ≡ le b p w
 second f b c e n s p w h i = le-same f b p p w (λ k lt. s.between (p + k) (omega arith) (omega arith))
 
-third : (f b : List ℕ) (c e n : ℕ) → Stays f b c e n → (p w : ℕ) → e + 8 ≤ p → p + w ≤ n → le f p w ≡ le b p w
+pub third : (f b : List ℕ) (c e n : ℕ) → Stays f b c e n → (p w : ℕ) → e + 8 ≤ p → p + w ≤ n → le f p w ≡ le b p w
 third f b c e n s p w h i = le-same f b p p w (λ k lt. s.after (p + k) (omega arith) (omega arith))
 
-same_range : (f b : List ℕ) (p q : ℕ) → q ≤ length f → q ≤ length b → ((k : ℕ) → k < q → get_or f k 0 ≡ get_or b k 0) → slice_range f p q ≡ slice_range b p q
+pub same_range : (f b : List ℕ) (p q : ℕ) → q ≤ length f → q ≤ length b → ((k : ℕ) → p ≤ k → k < q → get_or f k 0 ≡ get_or b k 0) → slice_range f p q ≡ slice_range b p q
 same_range f b p q h i same =
-    ext_get_or 0 (slice_range f p q) (slice_range b p q) (grind (arith, places)) (λ k lt. let at : p + k < q = grind (arith, places) in let byte : get_or f (p + k) 0 ≡ get_or b (p + k) 0 = same (p + k) at in grind (arith, places))
+    ext_get_or 0 (slice_range f p q) (slice_range b p q) (grind (arith, places)) (λ k lt. let at : p + k < q = grind (arith, places) in let byte : get_or f (p + k) 0 ≡ get_or b (p + k) 0 = same (p + k) (omega arith) at in grind (arith, places))
 
 -- ---- records
 
@@ -52,7 +52,7 @@ unfolding dos_header
 dos_stays f b c e n s h =
     rw (
       first f b c e n s 0 2 (omega arith),
-      same_range f b 2 60 (omega (arith, s.apart, s.entry, s.inside)) (omega (arith, s.apart, s.entry, s.inside_before)) (λ k lt. s.before k (omega arith)),
+      same_range f b 2 60 (omega (arith, s.apart, s.entry, s.inside)) (omega (arith, s.apart, s.entry, s.inside_before)) (λ k from lt. s.before k (omega arith)),
       first f b c e n s 60 4 (omega arith),
     ) refl
 
@@ -353,7 +353,7 @@ again f b mode h l entry a e eight s is =
     let at_e : at ≡ q + directories_offset (is_pe32_plus b q) + 32 = fields.entry ∙ ap (λ (m : ℕ). p + 24 + directories_offset (m == 0x20B) + 32) (magic_is b q) in
     let at_c : c ≡ q + 64 = omega (arith, fields.checksum) in
     let optional : IsAgain f b q (le f c 4) entry = is_again f b c at n s q entry at_c at_e to is magic.magic in
-    let stub : slice_range f 64 p ≡ slice_range b 64 p = same_range f b 64 p (omega (arith, at_c, s.apart, s.entry, s.inside)) (omega (arith, at_c, s.apart, s.entry, s.inside_before)) (λ k lt. s.before k (omega (arith, at_c))) in
+    let stub : slice_range f 64 p ≡ slice_range b 64 p = same_range f b 64 p (omega (arith, at_c, s.apart, s.entry, s.inside)) (omega (arith, at_c, s.apart, s.entry, s.inside_before)) (λ k from lt. s.before k (omega (arith, at_c))) in
     rw (
       dos_stays f b c at n s (omega (arith, at_c)),
       stub,

@@ -15,3 +15,4 @@ pub mod Entries
 pub mod HeadersStay
 pub mod WrittenHeaders
 pub mod WrittenTables
+pub mod DetachedAgain

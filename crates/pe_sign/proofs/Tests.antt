@@ -89,16 +89,19 @@ image_fits b h l e =
       table_end = λ s. let t = implied (is_signed l) (nat_le n end) three.0 s in grind (arith, nat_tests, t, within);
     }
 
--- the section table of such an image starts before its certificates
-pub headers_before : (b : List ℕ) (h : HeaderView) (l : LeftOut) → changeable_parts b h ≡ Ok l → sections_offset h ≤ unsigned_length l (length b)
-headers_before b h l e =
+-- headers and sections of such an image end before its certificates
+pub layout_passed : (b : List ℕ) (h : HeaderView) (l : LeftOut) → changeable_parts b h ≡ Ok l → (headers_end_by h l (unsigned_length l (length b)) ≡ true) × (sections_end_by b h (unsigned_length l (length b)) ≡ true)
+layout_passed b h l e =
     let n : ℕ = length b in
     let end : ℕ = l.certificates.offset + l.certificates.length in
     let one = passed (l.directory_entry.length == 8) _ _ l (parts_of_image b h l e).1 in
     let two = passed (nat_le end n) _ _ l one.1 in
     let three = passed (not (is_signed l) || nat_le n end) _ _ l two.1 in
     let four = passed (headers_end_by h l (unsigned_length l n)) _ _ l three.1 in
-    grind (arith, nat_tests, four.0)
+    (four.0, (passed (sections_end_by b h (unsigned_length l n)) _ _ l four.1).0)
+
+pub headers_before : (b : List ℕ) (h : HeaderView) (l : LeftOut) → changeable_parts b h ≡ Ok l → sections_offset h ≤ unsigned_length l (length b)
+headers_before b h l e = let passes : headers_end_by h l (unsigned_length l (length b)) ≡ true = (layout_passed b h l e).0 in grind (arith, nat_tests)
 
 -- ---- a certificate that can be attached
 

@@ -8,6 +8,7 @@ use Rattle.pe_core.specs.Directories.{absent_directory, present}
 use Rattle.pe_core.specs.Header.{HeaderView, OptionalHeaderView, directories_offset, header_at}
 use Rattle.pe_core.specs.Records.{data_directory}
 use Rattle.pe_core.specs.Refusals.{Refusal, ◌>>=◌}
+use Rattle.pe_core.specs.SectionMap.{rounded_up}
 use Rattle.pe_core.specs.Sections.{sections_offset}
 use Rattle.pe_core.specs.declared.byte_range.ByteRange.{ByteRange}
 use Rattle.pe_core.specs.declared.data_directories.DataDirectory.{DataDirectory}
@@ -43,7 +44,7 @@ ends_before : (p : ℕ) (o : Option OptionalHeaderView) → EndsBy (directories_
 ends_before p None = tt
 ends_before p (Some o) = λ e. entry_within (nat_lt 4 (length o.data_directories)) (o.standard_fields.magic == 0x20B) (length o.data_directories) p refl e
 
-entry_ends : (h : HeaderView) (l : LeftOut) → left_out_of h ≡ Ok l → l.directory_entry.length ≡ 8 → l.directory_entry.offset + 8 ≤ directories_end h
+pub entry_ends : (h : HeaderView) (l : LeftOut) → left_out_of h ≡ Ok l → l.directory_entry.length ≡ 8 → l.directory_entry.offset + 8 ≤ directories_end h
 entry_ends h l e = subst (λ (r : Result LeftOut Refusal). EndsBy (directories_end h) r) e (ends_before h.dos_header.pe_pointer h.optional_header)
 
 -- ---- what stays
@@ -51,7 +52,7 @@ entry_ends h l e = subst (λ (r : Result LeftOut Refusal). EndsBy (directories_e
 in_neither : (l : LeftOut) (k : ℕ) → is_in l.checksum k ≡ false → is_in l.directory_entry k ≡ false → in_fields l k ≡ false
 in_neither l k h i = ap (λ t. t || is_in l.directory_entry k) h ∙ i
 
-stays_if : (l : LeftOut) (f x b : List ℕ) (n : ℕ) → l.checksum.length ≡ 4 → l.directory_entry.length ≡ 8 → l.checksum.offset + 4 ≤ l.directory_entry.offset → l.directory_entry.offset + 8 ≤ n →
+pub stays_if : (l : LeftOut) (f x b : List ℕ) (n : ℕ) → l.checksum.length ≡ 4 → l.directory_entry.length ≡ 8 → l.checksum.offset + 4 ≤ l.directory_entry.offset → l.directory_entry.offset + 8 ≤ n →
     Agree (in_fields l) f x → n ≤ length x → n ≤ length b → ((k : ℕ) → k < n → get_or x k 0 ≡ get_or b k 0) → Stays f b l.checksum.offset l.directory_entry.offset n
 stays_if l f x b n four eight apart within a h i same =
     let c : ℕ = l.checksum.offset in
@@ -80,24 +81,27 @@ row_of f p entry r = rw (r.offset, r.size) refl
 
 -- ---- the headers are parsed
 
+pub stays_attached : (placement : Placement) (b : List ℕ) (h : HeaderView) (c f : List ℕ) (l : LeftOut) (n : ℕ) → left_out_of h ≡ Ok l → attached_of placement b h c ≡ Ok f →
+    l.directory_entry.offset + 8 ≤ n → n ≤ kept_length placement l (length b) → Stays f b l.checksum.offset l.directory_entry.offset n
+stays_attached placement b h c f l n i j within room =
+    let is = attached_is placement b h c f l i j in
+    let fits : Fits l (length b) = is.fits in
+    let kept : ℕ = kept_length placement l (length b) in
+    let x : List ℕ = joined_file placement l c b in
+    let agree : Agree (in_fields l) f x =
+    subst (λ (g : List ℕ). Agree (in_fields l) g x) (sym is.is_file) (agree_fields l (entry_to (table_start placement l (length b)) (length x)) x (holds_joined placement l c b fits)) in
+    let size : length x ≡ rounded_up kept 8 + rounded_up (length c) 8 = length-joined_file placement l c b fits in
+    let front : length (take kept b) ≡ kept = length-kept placement l b fits in
+    let same : (k : ℕ) → k < n → get_or x k 0 ≡ get_or b k 0 = λ k lt. front_same (take kept b) (padded c) k (omega (arith, front)) ∙ take_same kept b k (omega arith) in
+    stays_if l f x b n fits.checksum_size fits.entry_size (apart_of h l i fits.entry_size) within agree (omega (arith, size)) (omega (arith, length-take kept b, front)) same
+
 pub attached_header : (mode : ParseMode) (placement : Placement) (b : List ℕ) (h : HeaderView) (c f : List ℕ) (l : LeftOut) → header_at b mode ≡ Ok h → left_out_of h ≡ Ok l → attached_of placement b h c ≡ Ok f →
     directories_end h ≤ kept_length placement l (length b) →
     header_at f mode ≡ Ok (headers_with (entry_to (table_start placement l (length b)) (length f)) (checksum_of f l.checksum.offset) h)
 attached_header mode placement b h c f l e i j room =
-    let is = attached_is placement b h c f l i j in
-    let fits : Fits l (length b) = is.fits in
-    let n : ℕ = directories_end h in
-    let kept : ℕ = kept_length placement l (length b) in
-    let x : List ℕ = joined_file placement l c b in
-    let start : ℕ = table_start placement l (length b) in
-    let entry : DataDirectory = entry_to start (length f) in
-    let agree : Agree (in_fields l) f x = subst (λ (g : List ℕ). Agree (in_fields l) g x) (sym is.is_file) (agree_fields l (entry_to start (length x)) x (holds_joined placement l c b fits)) in
-    let size : length x ≡ _ = length-joined_file placement l c b fits in
-    let front : length (take kept b) ≡ kept = length-kept placement l b fits in
-    let same : (k : ℕ) → k < n → get_or x k 0 ≡ get_or b k 0 = λ k lt. front_same (take kept b) (padded c) k (omega (arith, front)) ∙ take_same kept b k (omega arith) in
-    let stays : Stays f b l.checksum.offset l.directory_entry.offset n =
-    stays_if l f x b n fits.checksum_size fits.entry_size (apart_of h l i fits.entry_size) (entry_ends h l i fits.entry_size) agree (omega (arith, size)) (omega (arith, length-take kept b, front)) same in
-    headers_stay f b mode h l entry e i fits.entry_size stays (row_of f l.directory_entry.offset entry (attached_entry placement b h c f l i j))
+    let eight : l.directory_entry.length ≡ 8 = (attached_is placement b h c f l i j).fits.entry_size in
+    let entry : DataDirectory = entry_to (table_start placement l (length b)) (length f) in
+    headers_stay f b mode h l entry e i eight (stays_attached placement b h c f l (directories_end h) i j (entry_ends h l i eight) room) (row_of f l.directory_entry.offset entry (attached_entry placement b h c f l i j))
     ∙ ap (λ (m : ℕ). Ok (headers_with entry m h)) (attached_sum placement b h c f l i j)
 
 pub detached_header : (mode : ParseMode) (b : List ℕ) (h : HeaderView) (f : List ℕ) (l : LeftOut) → header_at b mode ≡ Ok h → left_out_of h ≡ Ok l → detached_of b h ≡ Ok f →
@@ -168,7 +172,7 @@ detached_parts b h f l sum e i =
 
 -- ---- by the headers that are parsed
 
-same_headers : (x : Result HeaderView Refusal) (h k : HeaderView) → x ≡ Ok h → x ≡ Ok k → h ≡ k
+pub same_headers : (x : Result HeaderView Refusal) (h k : HeaderView) → x ≡ Ok h → x ≡ Ok k → h ≡ k
 same_headers x h k e i = cc
 
 pub attached_parsed : (mode : ParseMode) (placement : Placement) (b : List ℕ) (h k : HeaderView) (c f : List ℕ) (l : LeftOut) → header_at b mode ≡ Ok h → left_out_of h ≡ Ok l → attached_of placement b h c ≡ Ok f →

@@ -128,6 +128,17 @@ pub fn parsed_certificates_are_detached()
         detached_of f k ≡ Ok g → g ≡ with_both_fields l absent_directory (before_table placement l b) }
 {}
 
+/// What is attached can be detached, by the headers that are parsed of it, if the data directories end before the section
+/// table: `detach` does not refuse it, and leaves the image as it was, but for zeros at its end, the entry and the checksum;
+/// without any certificate that it had.
+pub fn attached_images_can_be_detached()
+    ensures { (mode : ParseMode) (placement : Placement) (b : List ℕ) (h k : HeaderView)
+        (certificate f : List ℕ) (l : LeftOut) → header_at b mode ≡ Ok h → left_out_of h ≡ Ok l →
+        attached_of placement b h certificate ≡ Ok f → directories_end h ≤ sections_offset h →
+        header_at f mode ≡ Ok k →
+        detached_of f k ≡ Ok (with_both_fields l absent_directory (before_table placement l b)) }
+{}
+
 /// When the data directories stay. They lie in the file, so they do where all of it is kept. Where they end before the
 /// section table, as `SizeOfOptionalHeader` says in every image of a linker, they stay in all that is written. In a hostile
 /// image the certificate table starts inside of them: the parser does not compare the two, and neither do `attach` and
