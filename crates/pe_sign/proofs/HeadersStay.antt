@@ -1,5 +1,5 @@
 -- The headers of a file that differs from another one in the checksum and in the entry of the certificate directory.
-use Rattle.std.proofs.Common.{◌≡◌, ℕ, ◌+◌, ◌*◌, ◌<◌, ◌≤◌, ◌≢◌, ◌==◌, ◌||◌, Bool, true, false, List, [], length, get_or, set, Ok, Some, None, refl, ap, sym, ◌∙◌, subst, ⊎_elim, arith}
+use Rattle.std.proofs.Common.{◌≡◌, ℕ, ◌+◌, ◌*◌, ◌<◌, ◌≤◌, ◌≢◌, ◌==◌, ◌||◌, Bool, true, false, List, [], length, get_or, set, Ok, Err, Some, None, refl, ap, sym, ◌∙◌, subst, ⊎_elim, arith}
 use Rattle.std.specs.Prelude.{nat_le, nat_lt, slice_range, if◌then◌else◌}
 use Rattle.std.proofs.lemmas.Bool.{cases_lt}
 use Rattle.std.proofs.lemmas.Bool.Decides.{nat_tests}
@@ -376,6 +376,74 @@ headers_stay f b mode h l entry e i eight s is =
     let a : Parsed b mode h = parsed b mode h e in
     subst (λ (k : HeaderView). left_out_of k ≡ Ok l → Stays f b l.checksum.offset l.directory_entry.offset (directories_end k) → header_at f mode ≡ Ok (headers_with entry (le f l.checksum.offset 4) k)) a.value
     (λ j r. again f b mode h l entry a j eight r is) i s
+
+-- ---- a file that ends inside its directories is refused
+
+not_held : (f : List ℕ) (q n : ℕ) → length f < q + n → holds f q n ≡ false
+not_held f q n h = grind (arith, nat_tests)
+
+number_by : (w : Bool) (f b : List ℕ) (c e n : ℕ) → Stays f b c e n → (q : ℕ) → is_pe32_plus b q ≡ w → c ≡ q + 64 → e ≡ q + directories_offset (is_pe32_plus b q) + 32 →
+    (optional_header f q).windows_fields.number_of_rva_and_sizes ≡ (optional_header b q).windows_fields.number_of_rva_and_sizes
+unfolding optional_header
+number_by true f b c e n s q w at_c at =
+    let at_e : e ≡ q + 144 = at ∙ (rw w (omega arith)) in
+    let magic : is_pe32_plus f q ≡ true = ap (λ (m : ℕ). m == 0x20B) (first f b c e n s q 2 (omega arith)) ∙ w in
+    rw (magic, w, windows_stay_64 f b c e n s (q + 24) (omega arith) (omega arith)) refl
+number_by false f b c e n s q w at_c at =
+    let at_e : e ≡ q + 128 = at ∙ (rw w (omega arith)) in
+    let magic : is_pe32_plus f q ≡ false = ap (λ (m : ℕ). m == 0x20B) (first f b c e n s q 2 (omega arith)) ∙ w in
+    rw (magic, w, windows_stay_32 f b c e n s (q + 28) (omega arith) (omega arith)) refl
+
+optional_refused : (f b : List ℕ) (q : ℕ) → le f q 2 ≡ le b q 2 → (optional_header f q).windows_fields.number_of_rva_and_sizes ≡ (optional_header b q).windows_fields.number_of_rva_and_sizes →
+    (le b q 2 == 0x10B || is_pe32_plus b q) ≡ true → q + directories_offset (is_pe32_plus b q) ≤ length f →
+    length f < q + directories_offset (is_pe32_plus b q) + 8 * kept (optional_header b q).windows_fields.number_of_rva_and_sizes → (y : HeaderView) → outcome (optional_header_tests f q) y ≡ Err Short
+unfolding optional_header_tests
+optional_refused f b q two number magic room less y =
+    let d : ℕ = directories_offset (is_pe32_plus b q) in
+    rw (
+      two,
+      number,
+      magic,
+      yes (q + 2) (length f) (omega (arith, wide (is_pe32_plus b q))),
+      yes (q + d) (length f) room,
+      not_held f (q + d) (8 * kept (optional_header b q).windows_fields.number_of_rva_and_sizes) less,
+    ) refl
+
+lost : (f b : List ℕ) (mode : ParseMode) (h : HeaderView) (l : LeftOut) → Parsed b mode h → left_out_of (header b) ≡ Ok l → l.directory_entry.length ≡ 8 →
+    Stays f b l.checksum.offset l.directory_entry.offset (length f) → length f < directories_end (header b) → header_at f mode ≡ Err Short
+unfolding header_at header_tests header
+lost f b mode h l a e eight s less =
+    let p : ℕ = (dos_header b 0).pe_pointer in
+    let q : ℕ = p + 24 in
+    let c : ℕ = l.checksum.offset in
+    let at : ℕ = l.directory_entry.offset in
+    let n : ℕ = length f in
+    let t : Bool = (coff_header b (p + 4)).size_of_optional_header == 0 in
+    let fields : Fields t p (optional_header b q) l = fields_at t p (optional_header b q) l e eight in
+    let to = end_is t b p fields.some in
+    let parsed = optional_parsed t b q (header b) h fields.some a.optional in
+    let at_e : at ≡ q + directories_offset (is_pe32_plus b q) + 32 = fields.entry ∙ ap (λ (m : ℕ). p + 24 + directories_offset (m == 0x20B) + 32) (magic_is b q) in
+    let at_c : c ≡ q + 64 = omega (arith, fields.checksum) in
+    let number = number_by (is_pe32_plus b q) f b c at n s q refl at_c at_e in
+    let refused = optional_refused f b q (first f b c at n s q 2 (omega (arith, at_c))) number parsed.magic (omega (arith, at_e, s.entry)) (omega (arith, to, less)) in
+    rw (
+      dos_stays f b c at n s (omega (arith, at_c)),
+      first f b c at n s p 4 (omega (arith, at_c)),
+      coff_stays f b c at n s (p + 4) (omega (arith, at_c)),
+      fields.some,
+      yes 64 n (omega (arith, at_c, s.apart, s.entry)),
+      a.magic,
+      a.pointer,
+      yes (p + 4) n (omega (arith, at_c, s.apart, s.entry)),
+      a.signature,
+      yes (p + 4 + 20) n (omega (arith, at_c, s.apart, s.entry)),
+    ) (refused _)
+
+pub headers_lost : (f b : List ℕ) (mode : ParseMode) (h : HeaderView) (l : LeftOut) → header_at b mode ≡ Ok h → left_out_of h ≡ Ok l → l.directory_entry.length ≡ 8 →
+    Stays f b l.checksum.offset l.directory_entry.offset (length f) → length f < directories_end h → header_at f mode ≡ Err Short
+headers_lost f b mode h l e i eight s less =
+    let a : Parsed b mode h = parsed b mode h e in
+    subst (λ (k : HeaderView). left_out_of k ≡ Ok l → length f < directories_end k → header_at f mode ≡ Err Short) a.value (λ j r. lost f b mode h l a j eight s r) i less
 
 -- ---- the directories of a file that is parsed lie in it
 

@@ -7,7 +7,7 @@ use Rattle.std.proofs.lemmas.List.{places, length-set, length-take, length-take-
 use Rattle.pe_core.specs.Directories.{absent_directory, present}
 use Rattle.pe_core.specs.Header.{HeaderView, OptionalHeaderView, directories_offset, header_at}
 use Rattle.pe_core.specs.Records.{data_directory}
-use Rattle.pe_core.specs.Refusals.{Refusal, ◌>>=◌}
+use Rattle.pe_core.specs.Refusals.{Refusal, Short, ◌>>=◌}
 use Rattle.pe_core.specs.SectionMap.{rounded_up}
 use Rattle.pe_core.specs.Sections.{sections_offset}
 use Rattle.pe_core.specs.declared.byte_range.ByteRange.{ByteRange}
@@ -24,10 +24,10 @@ use Rattle.pe_sign.proofs.Agreement.{Agree}
 use Rattle.pe_sign.proofs.Detaching.{attached_sum, detached_again_of, detached_sum, holds_start}
 use Rattle.pe_sign.proofs.Digests.{Holds, agree_fields, in_fields, holds_joined, holds_more, holds_unsigned, range_below, range_past}
 use Rattle.pe_sign.proofs.Entries.{Reads, apart_of, attached_entry, image_at, reads_fields}
-use Rattle.pe_sign.proofs.HeadersStay.{Stays, headers_stay}
+use Rattle.pe_sign.proofs.HeadersStay.{Stays, headers_lost, headers_stay}
 use Rattle.pe_sign.proofs.Tests.{headers_before}
 use Rattle.pe_sign.proofs.WrittenImages.{attached_digest_of, attached_is, bare_image_at, detached_digest_of, detached_is}
-use Rattle.pe_sign.proofs.Writes.{kept_holds, length-kept, length-joined_file}
+use Rattle.pe_sign.proofs.Writes.{kept_holds, length-detached, length-kept, length-joined_file}
 
 -- ---- the entry is one of the directories
 
@@ -104,23 +104,43 @@ attached_header mode placement b h c f l e i j room =
     headers_stay f b mode h l entry e i eight (stays_attached placement b h c f l (directories_end h) i j (entry_ends h l i eight) room) (row_of f l.directory_entry.offset entry (attached_entry placement b h c f l i j))
     ∙ ap (λ (m : ℕ). Ok (headers_with entry m h)) (attached_sum placement b h c f l i j)
 
-pub detached_header : (mode : ParseMode) (b : List ℕ) (h : HeaderView) (f : List ℕ) (l : LeftOut) → header_at b mode ≡ Ok h → left_out_of h ≡ Ok l → detached_of b h ≡ Ok f →
-    directories_end h ≤ unsigned_length l (length b) → header_at f mode ≡ Ok (headers_with absent_directory (checksum_of f l.checksum.offset) h)
-detached_header mode b h f l e i j room =
+pub stays_detached : (b : List ℕ) (h : HeaderView) (f : List ℕ) (l : LeftOut) (n : ℕ) → left_out_of h ≡ Ok l → detached_of b h ≡ Ok f →
+    l.directory_entry.offset + 8 ≤ n → n ≤ unsigned_length l (length b) → Stays f b l.checksum.offset l.directory_entry.offset n
+stays_detached b h f l n i j within room =
     let is = detached_is b h f l i j in
     let fits : Fits l (length b) = is.fits in
-    let n : ℕ = directories_end h in
     let u : ℕ = unsigned_length l (length b) in
     let x : List ℕ = unsigned_file l b in
     let size : length x ≡ u = length-take-le u b fits.inside in
     let holds : Holds l (length x) = holds_more l u (length x) (holds_unsigned l (length b) fits) (omega (arith, size)) in
-    let apart : l.checksum.offset + 4 ≤ l.directory_entry.offset = apart_of h l i fits.entry_size in
     let agree : Agree (in_fields l) f x = subst (λ (g : List ℕ). Agree (in_fields l) g x) (sym is.is_file) (agree_fields l absent_directory x holds) in
-    let read : Reads f l.directory_entry.offset absent_directory = subst (λ (g : List ℕ). Reads g l.directory_entry.offset absent_directory) (sym is.is_file) (reads_fields l absent_directory x holds apart (omega arith) (omega arith)) in
-    let stays : Stays f b l.checksum.offset l.directory_entry.offset n =
-    stays_if l f x b n fits.checksum_size fits.entry_size apart (entry_ends h l i fits.entry_size) agree (omega (arith, size)) (omega (arith, fits.inside)) (λ k lt. take_same u b k (omega arith)) in
-    headers_stay f b mode h l absent_directory e i fits.entry_size stays (row_of f l.directory_entry.offset absent_directory read)
+    stays_if l f x b n fits.checksum_size fits.entry_size (apart_of h l i fits.entry_size) within agree (omega (arith, size)) (omega (arith, fits.inside)) (λ k lt. take_same u b k (omega arith))
+
+detached_entry : (b : List ℕ) (h : HeaderView) (f : List ℕ) (l : LeftOut) → left_out_of h ≡ Ok l → detached_of b h ≡ Ok f → Reads f l.directory_entry.offset absent_directory
+detached_entry b h f l i j =
+    let is = detached_is b h f l i j in
+    let fits : Fits l (length b) = is.fits in
+    let u : ℕ = unsigned_length l (length b) in
+    let x : List ℕ = unsigned_file l b in
+    let holds : Holds l (length x) = holds_more l u (length x) (holds_unsigned l (length b) fits) (omega (arith, length-take-le u b fits.inside)) in
+    subst (λ (g : List ℕ). Reads g l.directory_entry.offset absent_directory) (sym is.is_file) (reads_fields l absent_directory x holds (apart_of h l i fits.entry_size) (omega arith) (omega arith))
+
+pub detached_header : (mode : ParseMode) (b : List ℕ) (h : HeaderView) (f : List ℕ) (l : LeftOut) → header_at b mode ≡ Ok h → left_out_of h ≡ Ok l → detached_of b h ≡ Ok f →
+    directories_end h ≤ unsigned_length l (length b) → header_at f mode ≡ Ok (headers_with absent_directory (checksum_of f l.checksum.offset) h)
+detached_header mode b h f l e i j room =
+    let eight : l.directory_entry.length ≡ 8 = (detached_is b h f l i j).fits.entry_size in
+    headers_stay f b mode h l absent_directory e i eight (stays_detached b h f l (directories_end h) i j (entry_ends h l i eight) room) (row_of f l.directory_entry.offset absent_directory (detached_entry b h f l i j))
     ∙ ap (λ (m : ℕ). Ok (headers_with absent_directory m h)) (detached_sum b h f l i j)
+
+-- without all of its directories
+pub detached_lost : (mode : ParseMode) (b : List ℕ) (h : HeaderView) (f : List ℕ) (l : LeftOut) → header_at b mode ≡ Ok h → left_out_of h ≡ Ok l → detached_of b h ≡ Ok f →
+    unsigned_length l (length b) < directories_end h → header_at f mode ≡ Err Short
+detached_lost mode b h f l e i j less =
+    let is = detached_is b h f l i j in
+    let u : ℕ = unsigned_length l (length b) in
+    let size : length f ≡ u = ap (λ (g : List ℕ). length g) is.is_file ∙ length-detached l b is.fits in
+    let stays : Stays f b l.checksum.offset l.directory_entry.offset (length f) = stays_detached b h f l (length f) i j (omega (arith, size, is.fits.entry)) (omega (arith, size)) in
+    headers_lost f b mode h l e i is.fits.entry_size stays (omega (arith, size))
 
 -- ---- their parts
 

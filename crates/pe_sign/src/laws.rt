@@ -1,10 +1,11 @@
 //! Laws over the definitions. Each is the contract of a function that does nothing.
 
-ghost use Rattle.std.specs.Prelude.{◌≡◌, ℕ, ◌+◌, ◌-◌, ◌≤◌, List, Ok, false, true, flat_map, length};
+ghost use Rattle.std.specs.Prelude.{◌≡◌, ℕ, ◌+◌, ◌-◌, ◌<◌, ◌≤◌, List, Ok, Err, false, true, flat_map, length};
 ghost use Rattle.pe_core.specs.Bytes.{le};
 ghost use Rattle.pe_core.specs.Directories.{absent_directory};
 ghost use Rattle.pe_core.specs.Header.{HeaderView, header_at};
 ghost use Rattle.pe_core.specs.Offsets.{bytes_in};
+ghost use Rattle.pe_core.specs.Refusals.{Short};
 ghost use Rattle.pe_core.specs.Sections.{sections_offset};
 ghost use Rattle.pe_core.specs.declared.options.ParseMode.{ParseMode};
 ghost use Rattle.pe_sign.specs.Attaching.{is_signed, unsigned_length, kept_length, entry_to, table_start, attached_of, detached_of, with_both_fields, with_table, without_table, before_table};
@@ -74,8 +75,9 @@ pub fn entries_name_the_table()
 
 /// What `attach` and `detach` write is parsed: to the headers of the image, with the entry that the certificate directory
 /// has now and with the checksum of what was written, and nothing else changes. The data directories have to stay: they end
-/// at or before what is kept of the file. `directories_stay` says when they do.
-#[tactic(auto, using(crate::proofs::WrittenHeaders::attached_header, crate::proofs::WrittenHeaders::detached_header))]
+/// at or before what is kept of the file, and `directories_stay` says when. Where `detach` leaves a part of them out, the
+/// parser refuses what it wrote.
+#[tactic(auto, using(crate::proofs::WrittenHeaders::attached_header, crate::proofs::WrittenHeaders::detached_header, crate::proofs::WrittenHeaders::detached_lost))]
 pub fn written_headers_are_parsed()
     ensures attached { (mode : ParseMode) (placement : Placement) (b : List ℕ) (h : HeaderView)
         (certificate f : List ℕ) (l : LeftOut) → header_at b mode ≡ Ok h → left_out_of h ≡ Ok l →
@@ -87,6 +89,9 @@ pub fn written_headers_are_parsed()
         header_at b mode ≡ Ok h → left_out_of h ≡ Ok l → detached_of b h ≡ Ok f →
         directories_end h ≤ unsigned_length l (length b) → header_at f mode
         ≡ Ok (headers_with absent_directory (checksum_of f l.checksum.offset) h) }
+    ensures truncated { (mode : ParseMode) (b : List ℕ) (h : HeaderView) (f : List ℕ) (l : LeftOut) →
+        header_at b mode ≡ Ok h → left_out_of h ≡ Ok l → detached_of b h ≡ Ok f →
+        unsigned_length l (length b) < directories_end h → header_at f mode ≡ Err Short }
 {}
 
 /// By the headers that are parsed of what was written, the parts that a digest leaves out are those of the image with the
