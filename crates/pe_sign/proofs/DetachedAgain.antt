@@ -22,9 +22,9 @@ use Rattle.pe_sign.specs.declared.digest.LeftOut.{LeftOut}
 use Rattle.pe_sign.proofs.Detaching.{detached_again, is_table, start_holds, holds_start}
 use Rattle.pe_sign.proofs.Digests.{start_inside}
 use Rattle.pe_sign.proofs.Entries.{image_at}
-use Rattle.pe_sign.proofs.HeadersStay.{Stays, same_range, third}
+use Rattle.pe_sign.proofs.HeadersStay.{Stays, same_range, third, up_to}
 use Rattle.pe_sign.proofs.Tests.{layout_passed}
-use Rattle.pe_sign.proofs.WrittenHeaders.{attached_header, attached_keeps, attached_parts, entry_ends, same_headers, stays_attached}
+use Rattle.pe_sign.proofs.WrittenHeaders.{attached_header, attached_keeps, attached_parts, entry_ends, same_ok, stays_attached}
 use Rattle.pe_sign.proofs.WrittenImages.{attached_is}
 use Rattle.pe_sign.proofs.Writes.{kept_holds, length-attached, length-joined_file}
 
@@ -81,9 +81,6 @@ five_pass t u v w x l g h i j k m = rw (h, i, j, k, m) refl
 same_number : (m n : ℕ) → m ≡ n → (m == n) ≡ true
 same_number m n h = grind (arith, nat_tests)
 
-up_to : (m n : ℕ) → m ≤ n → nat_le m n ≡ true
-up_to m n h = grind (arith, nat_tests)
-
 or_true : (a b : Bool) → b ≡ true → (a || b) ≡ true
 or_true true b h = refl
 or_true false b h = h
@@ -122,6 +119,6 @@ is_detached mode placement b h k c f l e i j small m =
     let start : ℕ = table_start placement l (length b) in
     let sum : ℕ = checksum_of f l.checksum.offset in
     let parsed = attached_header mode placement b h c f l e i j (attached_keeps placement b h c f l i j small) in
-    let same : headers_with (entry_to start (length f)) sum h ≡ k = same_headers (header_at f mode) (headers_with (entry_to start (length f)) sum h) k parsed m in
+    let same : headers_with (entry_to start (length f)) sum h ≡ k = same_ok (header_at f mode) (headers_with (entry_to start (length f)) sum h) k parsed m in
     subst (λ (x : HeaderView). detached_of f x ≡ Ok (with_both_fields l absent_directory (before_table placement l b))) same
     (accepted placement b h c f l sum i j small ∙ ap (λ (x : List ℕ). Ok (detached_file (with_table l start (length x)) x)) is.is_file ∙ ap (λ (x : List ℕ). Ok x) (detached_again placement l c b is.fits))

@@ -206,8 +206,8 @@ optional_32 f b c e n s q entry at_c at_e w to is =
 
 -- ---- the tests
 
-yes : (m n : ℕ) → m ≤ n → nat_le m n ≡ true
-yes m n h = grind (arith, nat_tests)
+pub up_to : (m n : ℕ) → m ≤ n → nat_le m n ≡ true
+up_to m n h = grind (arith, nat_tests)
 
 wide : (w : Bool) → 96 ≤ directories_offset w
 wide true = omega arith
@@ -218,7 +218,7 @@ optional_accepted : (f b : List ℕ) (q : ℕ) (entry : DataDirectory) (sum : �
     (y : HeaderView) → outcome (optional_header_tests f q) y ≡ Ok y
 unfolding optional_header_tests
 optional_accepted f b q entry sum two same magic room y =
-    rw (two, same, magic, yes (q + 2) (length f) (omega (arith, wide (is_pe32_plus b q))), yes (q + directories_offset (is_pe32_plus b q)) (length f) (omega arith), yes (q + directories_offset (is_pe32_plus b q) + 8 * kept (optional_header b q).windows_fields.number_of_rva_and_sizes) (length f) room) refl
+    rw (two, same, magic, up_to (q + 2) (length f) (omega (arith, wide (is_pe32_plus b q))), up_to (q + directories_offset (is_pe32_plus b q)) (length f) (omega arith), up_to (q + directories_offset (is_pe32_plus b q) + 8 * kept (optional_header b q).windows_fields.number_of_rva_and_sizes) (length f) room) refl
 
 -- the optional header by its width: it is accepted again, and is the same but for the two fields
 pub record IsAgain (f b : List ℕ) (q sum : ℕ) (entry : DataDirectory) : Type 0 where
@@ -360,12 +360,12 @@ again f b mode h l entry a e eight s is =
       first f b c at n s p 4 (omega (arith, at_c)),
       coff_stays f b c at n s (p + 4) (omega (arith, at_c)),
       fields.some,
-      yes 64 (length f) (omega (arith, at_c, s.apart, s.entry, s.inside)),
+      up_to 64 (length f) (omega (arith, at_c, s.apart, s.entry, s.inside)),
       a.magic,
       a.pointer,
-      yes (p + 4) (length f) (omega (arith, at_c, s.apart, s.entry, s.inside)),
+      up_to (p + 4) (length f) (omega (arith, at_c, s.apart, s.entry, s.inside)),
       a.signature,
-      yes (p + 4 + 20) (length f) (omega (arith, at_c, s.apart, s.entry, s.inside)),
+      up_to (p + 4 + 20) (length f) (omega (arith, at_c, s.apart, s.entry, s.inside)),
       optional.value,
     ) (optional.accepted _)
 
@@ -404,8 +404,8 @@ optional_refused f b q two number magic room less y =
       two,
       number,
       magic,
-      yes (q + 2) (length f) (omega (arith, wide (is_pe32_plus b q))),
-      yes (q + d) (length f) room,
+      up_to (q + 2) (length f) (omega (arith, wide (is_pe32_plus b q))),
+      up_to (q + d) (length f) room,
       not_held f (q + d) (8 * kept (optional_header b q).windows_fields.number_of_rva_and_sizes) less,
     ) refl
 
@@ -431,12 +431,12 @@ lost f b mode h l a e eight s less =
       first f b c at n s p 4 (omega (arith, at_c)),
       coff_stays f b c at n s (p + 4) (omega (arith, at_c)),
       fields.some,
-      yes 64 n (omega (arith, at_c, s.apart, s.entry)),
+      up_to 64 n (omega (arith, at_c, s.apart, s.entry)),
       a.magic,
       a.pointer,
-      yes (p + 4) n (omega (arith, at_c, s.apart, s.entry)),
+      up_to (p + 4) n (omega (arith, at_c, s.apart, s.entry)),
       a.signature,
-      yes (p + 4 + 20) n (omega (arith, at_c, s.apart, s.entry)),
+      up_to (p + 4 + 20) n (omega (arith, at_c, s.apart, s.entry)),
     ) (refused _)
 
 pub headers_lost : (f b : List ℕ) (mode : ParseMode) (h : HeaderView) (l : LeftOut) → header_at b mode ≡ Ok h → left_out_of h ≡ Ok l → l.directory_entry.length ≡ 8 →

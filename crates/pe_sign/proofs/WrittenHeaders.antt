@@ -192,21 +192,22 @@ detached_parts b h f l sum e i =
 
 -- ---- by the headers that are parsed
 
-pub same_headers : (x : Result HeaderView Refusal) (h k : HeaderView) → x ≡ Ok h → x ≡ Ok k → h ≡ k
-same_headers x h k e i = cc
+-- a result has one value
+pub same_ok : {X R : Type 0} (r : Result X R) (x y : X) → r ≡ Ok x → r ≡ Ok y → x ≡ y
+same_ok r x y e i = cc
 
 pub attached_parsed : (mode : ParseMode) (placement : Placement) (b : List ℕ) (h k : HeaderView) (c f : List ℕ) (l : LeftOut) → header_at b mode ≡ Ok h → left_out_of h ≡ Ok l → attached_of placement b h c ≡ Ok f →
     directories_end h ≤ kept_length placement l (length b) → header_at f mode ≡ Ok k → left_out_of k ≡ Ok (with_table l (table_start placement l (length b)) (length f))
 attached_parsed mode placement b h k c f l e i j room m =
     let sum : ℕ = checksum_of f l.checksum.offset in
-    subst (λ (x : HeaderView). left_out_of x ≡ Ok (with_table l (table_start placement l (length b)) (length f))) (same_headers (header_at f mode) (headers_with (entry_to (table_start placement l (length b)) (length f)) sum h) k (attached_header mode placement b h c f l e i j room) m)
+    subst (λ (x : HeaderView). left_out_of x ≡ Ok (with_table l (table_start placement l (length b)) (length f))) (same_ok (header_at f mode) (headers_with (entry_to (table_start placement l (length b)) (length f)) sum h) k (attached_header mode placement b h c f l e i j room) m)
     (attached_parts placement b h c f l sum i j)
 
 pub detached_parsed : (mode : ParseMode) (b : List ℕ) (h k : HeaderView) (f : List ℕ) (l : LeftOut) → header_at b mode ≡ Ok h → left_out_of h ≡ Ok l → detached_of b h ≡ Ok f →
     directories_end h ≤ unsigned_length l (length b) → header_at f mode ≡ Ok k → left_out_of k ≡ Ok (without_table l)
 detached_parsed mode b h k f l e i j room m =
     let sum : ℕ = checksum_of f l.checksum.offset in
-    subst (λ (x : HeaderView). left_out_of x ≡ Ok (without_table l)) (same_headers (header_at f mode) (headers_with absent_directory sum h) k (detached_header mode b h f l e i j room) m) (detached_parts b h f l sum i j)
+    subst (λ (x : HeaderView). left_out_of x ≡ Ok (without_table l)) (same_ok (header_at f mode) (headers_with absent_directory sum h) k (detached_header mode b h f l e i j room) m) (detached_parts b h f l sum i j)
 
 pub detached_by_headers : (mode : ParseMode) (placement : Placement) (b : List ℕ) (h k : HeaderView) (c f g : List ℕ) (l : LeftOut) → header_at b mode ≡ Ok h → left_out_of h ≡ Ok l → attached_of placement b h c ≡ Ok f →
     directories_end h ≤ kept_length placement l (length b) → header_at f mode ≡ Ok k → detached_of f k ≡ Ok g → g ≡ with_both_fields l absent_directory (before_table placement l b)
@@ -215,15 +216,12 @@ detached_by_headers mode placement b h k c f g l e i j room m d = detached_again
 digest_by : (b : List ℕ) (h : HeaderView) (l : LeftOut) → left_out_of h ≡ Ok l → digest_of b h ≡ Ok (covered l b)
 digest_by b h l e = ap (λ (r : Result LeftOut Refusal). r >>= λ k. Ok (covered k b)) e
 
-same_covered : (x : Result Covered Refusal) (c d : Covered) → x ≡ Ok c → x ≡ Ok d → c ≡ d
-same_covered x c d e i = cc
-
 pub attached_digest_parsed : (mode : ParseMode) (placement : Placement) (b : List ℕ) (h k : HeaderView) (certificate f : List ℕ) (l : LeftOut) (c d : Covered) → header_at b mode ≡ Ok h → left_out_of h ≡ Ok l →
     attached_of placement b h certificate ≡ Ok f → directories_end h ≤ kept_length placement l (length b) → header_at f mode ≡ Ok k → digest_of b h ≡ Ok c → digest_of f k ≡ Ok d → covered_bytes d ≡ covered_bytes c
 attached_digest_parsed mode placement b h k certificate f l c d e i j room m x y =
     let now : LeftOut = with_table l (table_start placement l (length b)) (length f) in
-    let old : covered l b ≡ c = same_covered (digest_of b h) (covered l b) c (digest_by b h l i) x in
-    let new : covered now f ≡ d = same_covered (digest_of f k) (covered now f) d (digest_by f k now (attached_parsed mode placement b h k certificate f l e i j room m)) y in
+    let old : covered l b ≡ c = same_ok (digest_of b h) (covered l b) c (digest_by b h l i) x in
+    let new : covered now f ≡ d = same_ok (digest_of f k) (covered now f) d (digest_by f k now (attached_parsed mode placement b h k certificate f l e i j room m)) y in
     ap (λ (z : Covered). covered_bytes z) (sym new) ∙ attached_digest_of placement b h certificate f l i j ∙ ap (λ (z : Covered). covered_bytes z) old
 
 pub detached_digest_parsed : (mode : ParseMode) (b : List ℕ) (h k : HeaderView) (f : List ℕ) (l : LeftOut) → header_at b mode ≡ Ok h → left_out_of h ≡ Ok l → detached_of b h ≡ Ok f →

@@ -14,6 +14,7 @@ use Rattle.pe_sign.specs.WrittenTables.{TableIs, TableContinues}
 use Rattle.pe_sign.specs.declared.attachment.Placement.{Placement}
 use Rattle.pe_sign.specs.declared.attachment.Placement.TheVariants.{After, InPlace}
 use Rattle.pe_sign.specs.declared.digest.LeftOut.{LeftOut}
+use Rattle.pe_core.proofs.SpelledOptional.{length-range}
 use Rattle.pe_sign.proofs.Digests.{agree_fields, holds_joined, holds_unsigned, past_fields}
 use Rattle.pe_sign.proofs.Entries.{image_at, tests_at}
 use Rattle.pe_sign.proofs.Splices.{length-padded}
@@ -58,9 +59,6 @@ new_stands placement l c b f =
 
 range_byte : (b : List ℕ) (p n k : ℕ) → k < n → get_or b (p + k) 0 ≡ get_or (range b p n) k 0
 range_byte b p n k h = grind (arith, places)
-
-length-range : (b : List ℕ) (p n : ℕ) → p + n ≤ length b → length (range b p n) ≡ n
-length-range b p n h = grind (arith, places)
 
 old_stands : (l : LeftOut) (c b : List ℕ) → Fits l (length b) → unsigned_length l (length b) ≡ l.certificates.offset → l.certificates.offset + l.certificates.length ≡ length b →
     StandAt (attached_file After l c b) l.certificates.offset (bytes_in b l.certificates)
