@@ -1,5 +1,5 @@
 -- The bytes of the number that stands at a place are the bytes of that place.
-use Rattle.std.proofs.Common.{rules, ◌≡◌, ℕ, zero, suc, ◌+◌, ◌-◌, ◌*◌, ◌/◌, ◌%◌, ◌^◌, ◌≤◌, List, ◌∷◌, ◌++◌, length, refl, sym, arith, drop-cons}
+use Rattle.std.proofs.Common.{rules, ◌≡◌, ℕ, zero, suc, ◌+◌, ◌-◌, ◌*◌, ◌/◌, ◌%◌, ◌^◌, ◌<◌, ◌≤◌, List, ◌∷◌, ◌++◌, length, refl, ap, sym, ◌∙◌, arith, drop-cons}
 use Rattle.std.specs.Prelude.{slice_index, slice_range}
 use Rattle.std.proofs.lemmas.List.{places, same_lists}
 use native.Mathlib.Numerals.{unary_clauses}
@@ -12,6 +12,13 @@ le-zero b p = refl
 le-suc : (b : List ℕ) (p n : ℕ) → le b p (suc n) ≡ le b p n + slice_index b (p + n) * 256 ^ n
 unfolding le
 le-suc b p n = refl
+
+-- numbers whose bytes are the same, each from its place on
+pub le-same : (b c : List ℕ) (p q n : ℕ) → ((k : ℕ) → k < n → slice_index b (p + k) ≡ slice_index c (q + k)) → le b p n ≡ le c q n
+unfolding le
+le-same b c p q zero h = refl
+le-same b c p q (suc n) h =
+    ap (λ m. m + slice_index b (p + n) * 256 ^ n) (le-same b c p q n (λ k lt. h k (omega arith))) ∙ ap (λ m. le c q n + m * 256 ^ n) (h n (omega arith))
 
 times_pow : (s n : ℕ) → s * 256 ^ suc n ≡ 256 * (s * 256 ^ n)
 times_pow s n = simp unary_clauses (grind arith)

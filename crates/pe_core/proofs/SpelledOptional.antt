@@ -89,7 +89,7 @@ accepted b p o e =
     let inside = held b (p + directories_offset (is_pe32_plus b p)) (8 * kept (optional_header b p).windows_fields.number_of_rva_and_sizes) last.0 in
     (omega (arith, inside), last.1)
 
-length-range : (b : List ℕ) (p n : ℕ) → p + n ≤ length b → length (slice_range b p (p + n)) ≡ n
+pub length-range : (b : List ℕ) (p n : ℕ) → p + n ≤ length b → length (slice_range b p (p + n)) ≡ n
 length-range b p n h = grind (arith, places)
 
 -- its spelling stands at the place

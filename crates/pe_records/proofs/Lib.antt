@@ -11,3 +11,4 @@ pub mod CertificatesReadAgain
 pub mod FirstEntries
 pub mod PartsInOffset
 pub mod DebugEquality
+pub mod JoinedListings

@@ -102,18 +102,18 @@ fields_of_table : (l : LeftOut) (start end : ℕ) (row : DataDirectory) (b : Lis
 unfolding with_entry with_checksum
 fields_of_table l start end row b = refl
 
-is_table : (start end : ℕ) → 0 < start → not (start == 0 && end - start == 0) ≡ true
+pub is_table : (start end : ℕ) → 0 < start → not (start == 0 && end - start == 0) ≡ true
 is_table start end h = grind (arith, nat_tests)
 
 start_after : (s : Bool) (o n : ℕ) → (if s then o else n) ≤ n → (if s then o else n) ≤ (if s then o else rounded_up n 8)
 start_after true o n h = omega arith
 start_after false o n h = omega arith
 
-start_holds : (placement : Placement) (l : LeftOut) (n : ℕ) → Fits l n → unsigned_length l n ≤ table_start placement l n
+pub start_holds : (placement : Placement) (l : LeftOut) (n : ℕ) → Fits l n → unsigned_length l n ≤ table_start placement l n
 start_holds After l n f = start_after (is_signed l) l.certificates.offset n f.inside
 start_holds InPlace l n f = omega arith
 
-holds_start : (placement : Placement) (l : LeftOut) (b : List ℕ) → Fits l (length b) → Holds l (table_start placement l (length b))
+pub holds_start : (placement : Placement) (l : LeftOut) (b : List ℕ) → Fits l (length b) → Holds l (table_start placement l (length b))
 holds_start placement l b f = holds_more l (unsigned_length l (length b)) (table_start placement l (length b)) (holds_unsigned l (length b) f) (start_holds placement l (length b) f)
 
 pub detached_again : (placement : Placement) (l : LeftOut) (c b : List ℕ) → Fits l (length b) →

@@ -61,13 +61,13 @@ covered_at l b u h below above =
     ∙ ap (λ (n : ℕ). covered_by (kept_bytes (in_fields l) 0 xs) (lacking_to_eight n)) (ap (λ (zs : List ℕ). length zs) rest ∙ size)
 
 -- before the start of a range, in it, and nowhere in an empty one
-range_below : (start size k : ℕ) → k < start → (nat_le start k && nat_lt k (start + size)) ≡ false
+pub range_below : (start size k : ℕ) → k < start → (nat_le start k && nat_lt k (start + size)) ≡ false
 range_below start size k h = grind (arith, nat_tests)
 
 range_above : (start size k : ℕ) → start ≤ k → k < start + size → (nat_le start k && nat_lt k (start + size)) ≡ true
 range_above start size k h i = grind (arith, nat_tests)
 
-range_past : (start size k : ℕ) → start + size ≤ k → (nat_le start k && nat_lt k (start + size)) ≡ false
+pub range_past : (start size k : ℕ) → start + size ≤ k → (nat_le start k && nat_lt k (start + size)) ≡ false
 range_past start size k h = grind (arith, nat_tests)
 
 no_table : (o n : ℕ) → not (o == 0 && n == 0) ≡ false → (o ≡ 0) × (n ≡ 0)
@@ -203,7 +203,7 @@ holds_joined placement l c b f =
 
 -- ---- the digest stays
 
-past_fields : (l : LeftOut) (n k : ℕ) → Holds l n → n ≤ k → in_fields l k ≡ false
+pub past_fields : (l : LeftOut) (n k : ℕ) → Holds l n → n ≤ k → in_fields l k ≡ false
 past_fields l n k h e =
     ap (λ t. t || is_in l.directory_entry k) (range_past l.checksum.offset l.checksum.length k (omega (arith, h.checksum_size, h.checksum, e)))
     ∙ range_past l.directory_entry.offset l.directory_entry.length k (omega (arith, h.entry_size, h.entry, e))

@@ -1,6 +1,6 @@
 -- The entry of the certificate directory is read again where it was written.
-use Rattle.std.proofs.Common.{◌≡◌, ℕ, zero, suc, ◌+◌, ◌-◌, ◌*◌, ◌^◌, ◌<◌, ◌≤◌, ◌==◌, ◌&&◌, Bool, true, false, cond, List, length, get_or, Result, Ok, Err, Option, Some, None, refl, ap, sym, ◌∙◌, subst, arith}
-use Rattle.std.specs.Prelude.{nat_le, nat_lt, slice_index, if◌then◌else◌}
+use Rattle.std.proofs.Common.{◌≡◌, ℕ, ◌+◌, ◌-◌, ◌^◌, ◌<◌, ◌≤◌, ◌==◌, ◌&&◌, Bool, true, false, cond, List, length, get_or, Result, Ok, Err, Option, Some, None, ap, sym, ◌∙◌, subst, arith}
+use Rattle.std.specs.Prelude.{nat_le, nat_lt, if◌then◌else◌}
 use Rattle.std.proofs.lemmas.Bool.Decides.{nat_tests}
 use Rattle.pe_core.specs.Bytes.{le, bytes_of, splice}
 use Rattle.pe_core.specs.Header.{HeaderView, OptionalHeaderView, directories_offset}
@@ -13,19 +13,13 @@ use Rattle.pe_sign.specs.Digest.{left_out_before, left_out_of, nothing}
 use Rattle.pe_sign.specs.SignRefusals.{SignRefusal}
 use Rattle.pe_sign.specs.declared.attachment.Placement.{Placement}
 use Rattle.pe_sign.specs.declared.digest.LeftOut.{LeftOut}
+use Rattle.pe_core.proofs.NumberBytes.{le-same}
 use Rattle.pe_sign.proofs.Detaching.{read_again}
 use Rattle.pe_sign.proofs.Digests.{Holds, holds_joined, start_inside}
 use Rattle.pe_core.proofs.Splices.{get_or-splice, length-splice, length-bytes_of}
 use Rattle.pe_sign.proofs.Tests.{other_value, certified_fits}
 use Rattle.pe_sign.proofs.WrittenImages.{attached_is, file_at, same_parts}
 use Rattle.pe_sign.proofs.Writes.{length-entry, length-joined_file, length-attached}
-
-le_same : (b c : List ℕ) (p n : ℕ) → ((k : ℕ) → p ≤ k → k < p + n → get_or b k 0 ≡ get_or c k 0) → le b p n ≡ le c p n
-unfolding le
-le_same b c p zero h = refl
-le_same b c p (suc n) h =
-    ap (λ m. m + slice_index b (p + n) * 256 ^ n) (le_same b c p n (λ k i j. h k i (omega arith)))
-    ∙ ap (λ m. le c p n + m * 256 ^ n) (h (p + n) (omega arith) (omega arith))
 
 outside : (p n q k : ℕ) → q ≤ k → k < q + 4 → (q + 4 ≤ p) → (nat_le p k && nat_lt k (p + n)) ≡ false
 outside p n q k h i j = grind (arith, nat_tests)
@@ -37,12 +31,16 @@ past p q k h i = grind (arith, nat_tests)
 le_before : (b : List ℕ) (p q m : ℕ) → p + 4 ≤ length b → q + 4 ≤ p → le (splice b p (bytes_of 4 m)) q 4 ≡ le b q 4
 le_before b p q m h i =
     let s : List ℕ = bytes_of 4 m in
-    le_same (splice b p s) b q 4 (λ k from to. get_or-splice b p s k (omega (arith, length-bytes_of 4 m)) ∙ ap (λ t. cond t (get_or s (k - p) 0) (get_or b k 0)) (outside p (length s) q k from to i))
+    le-same (splice b p s) b q q 4
+    (λ k lt. get_or-splice b p s (q + k) (omega (arith, length-bytes_of 4 m)) ∙ ap (λ t. cond t (get_or s (q + k - p) 0) (get_or b (q + k) 0)) (outside p (length s) q (q + k) (omega arith) (omega arith) i))
 
 le_after : (b : List ℕ) (p q m : ℕ) → p + 4 ≤ length b → p + 4 ≤ q → le (splice b p (bytes_of 4 m)) q 4 ≡ le b q 4
 le_after b p q m h i =
     let s : List ℕ = bytes_of 4 m in
-    le_same (splice b p s) b q 4 (λ k from to. get_or-splice b p s k (omega (arith, length-bytes_of 4 m)) ∙ ap (λ n. cond (nat_le p k && nat_lt k (p + n)) (get_or s (k - p) 0) (get_or b k 0)) (length-bytes_of 4 m) ∙ ap (λ t. cond t (get_or s (k - p) 0) (get_or b k 0)) (past p q k from i))
+    le-same (splice b p s) b q q 4
+    (λ k lt. get_or-splice b p s (q + k) (omega (arith, length-bytes_of 4 m))
+    ∙ ap (λ n. cond (nat_le p (q + k) && nat_lt (q + k) (p + n)) (get_or s (q + k - p) 0) (get_or b (q + k) 0)) (length-bytes_of 4 m)
+    ∙ ap (λ t. cond t (get_or s (q + k - p) 0) (get_or b (q + k) 0)) (past p q (q + k) (omega arith) i))
 
 -- what an entry of these two numbers reads
 pub record Reads (b : List ℕ) (p : ℕ) (entry : DataDirectory) : Type 0 where
@@ -87,16 +85,20 @@ apart_before : (p : ℕ) (o : Option OptionalHeaderView) → IsApart (left_out_b
 apart_before p None = tt
 apart_before p (Some o) = λ e. entry_by (nat_lt 4 (length o.data_directories)) (o.standard_fields.magic == 0x20B) p e
 
-apart_of : (h : HeaderView) (l : LeftOut) → left_out_of h ≡ Ok l → l.directory_entry.length ≡ 8 → l.checksum.offset + 4 ≤ l.directory_entry.offset
+pub apart_of : (h : HeaderView) (l : LeftOut) → left_out_of h ≡ Ok l → l.directory_entry.length ≡ 8 → l.checksum.offset + 4 ≤ l.directory_entry.offset
 apart_of h l e = subst (λ (r : Result LeftOut Refusal). IsApart r) e (apart_before h.dos_header.pe_pointer h.optional_header)
+
+-- such an image passed the tests of attaching
+pub tests_at : (placement : Placement) (b : List ℕ) (h : HeaderView) (c f : List ℕ) (l : LeftOut) → changeable_parts b h ≡ Ok l → attached_of placement b h c ≡ Ok f → outcome (attach_tests placement l c (length b)) (attached_file placement l c b) ≡ Ok f
+tests_at placement b h c f l e i = subst (λ (x : Result LeftOut SignRefusal). (x >>= λ k. outcome (attach_tests placement k c (length b)) (attached_file placement k c b)) ≡ Ok f) e i
 
 certified_at : (placement : Placement) (b : List ℕ) (h : HeaderView) (c f : List ℕ) (l : LeftOut) → changeable_parts b h ≡ Ok l → attached_of placement b h c ≡ Ok f → FitsWith placement l (length b) (length c)
 certified_at placement b h c f l e i =
     let tests : LeftOut → List (Bool × SignRefusal) = λ k. attach_tests placement k c (length b) in
-    let after : outcome (tests l) (attached_file placement l c b) ≡ Ok f = subst (λ (x : Result LeftOut SignRefusal). (x >>= λ k. outcome (tests k) (attached_file placement k c b)) ≡ Ok f) e i in
+    let after : outcome (tests l) (attached_file placement l c b) ≡ Ok f = tests_at placement b h c f l e i in
     certified_fits placement b h c l (ap (λ (x : Result LeftOut SignRefusal). x >>= λ k. outcome (tests k) k) e ∙ other_value (tests l) (attached_file placement l c b) f l after)
 
-image_at : (placement : Placement) (b : List ℕ) (h : HeaderView) (c f : List ℕ) (l : LeftOut) → left_out_of h ≡ Ok l → attached_of placement b h c ≡ Ok f → changeable_parts b h ≡ Ok l
+pub image_at : (placement : Placement) (b : List ℕ) (h : HeaderView) (c f : List ℕ) (l : LeftOut) → left_out_of h ≡ Ok l → attached_of placement b h c ≡ Ok f → changeable_parts b h ≡ Ok l
 image_at placement b h c f l e i =
     let p = file_at (changeable_parts b h) (λ k. attach_tests placement k c (length b)) (λ k. attached_file placement k c b) f i in
     p.1.0 ∙ ap (λ (k : LeftOut). Ok k) (same_parts b h p.0 l p.1.0 e)

@@ -12,3 +12,7 @@ pub mod Digests
 pub mod WrittenImages
 pub mod Detaching
 pub mod Entries
+pub mod HeadersStay
+pub mod WrittenHeaders
+pub mod WrittenTables
+pub mod DetachedAgain

@@ -5,6 +5,7 @@ use Rattle.std.proofs.lemmas.Bool.Decides.{nat_tests}
 use Rattle.pe_core.specs.Bytes.{le, fit_at}
 use Rattle.pe_core.specs.Refusals.{Refusal, WriteFit, outcome, ◌>>=◌}
 use Rattle.pe_core.specs.SectionMap.{rounded_up}
+use Rattle.pe_core.specs.Sections.{sections_offset}
 use Rattle.pe_core.specs.Header.{HeaderView, OptionalHeaderView}
 use Rattle.pe_sign.specs.Attaching.{is_signed, unsigned_length, kept_length, headers_end_by, sections_end_by, layout_tests, changeable_parts, attach_tests, is_aligned, attached_of, attached_file, detached_of, detached_file, length_of, written}
 use Rattle.pe_sign.specs.AttachingSteps.{Fits, FitsWith, certified_of, table_tests}
@@ -14,12 +15,12 @@ use Rattle.pe_sign.specs.declared.attachment.Placement.{Placement}
 use Rattle.pe_sign.specs.declared.digest.LeftOut.{LeftOut}
 
 -- a test that an accepted value passed, and what came after it
-passed : {Y : Type 0} (t : Bool) (r : SignRefusal) (rest : Result Y SignRefusal) (y : Y) → (if t then rest else Err r) ≡ Ok y → (t ≡ true) × (rest ≡ Ok y)
+pub passed : {Y R : Type 0} (t : Bool) (r : R) (rest : Result Y R) (y : Y) → (if t then rest else Err r) ≡ Ok y → (t ≡ true) × (rest ≡ Ok y)
 passed true r rest y h = (refl, h)
 passed false r rest y h = absurd cc
 
 -- all tests passed: the value is the accepted one, and any other value would be accepted too
-pub value_is : {Y : Type 0} (tests : List (Bool × SignRefusal)) (x y : Y) → outcome tests x ≡ Ok y → x ≡ y
+pub value_is : {Y R : Type 0} (tests : List (Bool × R)) (x y : Y) → outcome tests x ≡ Ok y → x ≡ y
 value_is [] x y h = cc
 value_is (test ∷ tests) x y h = value_is tests x y (passed test.0 test.1 (outcome tests x) y h).1
 
@@ -87,6 +88,20 @@ image_fits b h l e =
       inside = not_past (is_signed l) l.certificates.offset n (omega arith);
       table_end = λ s. let t = implied (is_signed l) (nat_le n end) three.0 s in grind (arith, nat_tests, t, within);
     }
+
+-- headers and sections of such an image end before its certificates
+pub layout_passed : (b : List ℕ) (h : HeaderView) (l : LeftOut) → changeable_parts b h ≡ Ok l → (headers_end_by h l (unsigned_length l (length b)) ≡ true) × (sections_end_by b h (unsigned_length l (length b)) ≡ true)
+layout_passed b h l e =
+    let n : ℕ = length b in
+    let end : ℕ = l.certificates.offset + l.certificates.length in
+    let one = passed (l.directory_entry.length == 8) _ _ l (parts_of_image b h l e).1 in
+    let two = passed (nat_le end n) _ _ l one.1 in
+    let three = passed (not (is_signed l) || nat_le n end) _ _ l two.1 in
+    let four = passed (headers_end_by h l (unsigned_length l n)) _ _ l three.1 in
+    (four.0, (passed (sections_end_by b h (unsigned_length l n)) _ _ l four.1).0)
+
+pub headers_before : (b : List ℕ) (h : HeaderView) (l : LeftOut) → changeable_parts b h ≡ Ok l → sections_offset h ≤ unsigned_length l (length b)
+headers_before b h l e = let passes : headers_end_by h l (unsigned_length l (length b)) ≡ true = (layout_passed b h l e).0 in grind (arith, nat_tests)
 
 -- ---- a certificate that can be attached
 

@@ -46,6 +46,11 @@ detached_is b h f l e i =
       is_file = p.1.1 ∙ ap (λ (k : LeftOut). detached_file k b) same;
     }
 
+pub bare_image_at : (b : List ℕ) (h : HeaderView) (f : List ℕ) (l : LeftOut) → left_out_of h ≡ Ok l → detached_of b h ≡ Ok f → changeable_parts b h ≡ Ok l
+bare_image_at b h f l e i =
+    let p = bare_at (changeable_parts b h) (λ k. detached_file k b) f i in
+    p.1.0 ∙ ap (λ (k : LeftOut). Ok k) (same_parts b h p.0 l p.1.0 e)
+
 pub attached_digest_of : (placement : Placement) (b : List ℕ) (h : HeaderView) (c f : List ℕ) (l : LeftOut) → left_out_of h ≡ Ok l → attached_of placement b h c ≡ Ok f →
     covered_bytes (covered (with_table l (table_start placement l (length b)) (length f)) f) ≡ covered_bytes (covered l b)
 attached_digest_of placement b h c f l e i =

@@ -5,3 +5,5 @@ pub mod DigestSteps
 pub mod SignRefusals
 pub mod Attaching
 pub mod AttachingSteps
+pub mod WrittenHeaders
+pub mod WrittenTables

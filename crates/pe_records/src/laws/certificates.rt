@@ -1,8 +1,9 @@
 //! Laws of attribute certificates.
 
-ghost use Rattle.std.specs.Prelude.{◌≡◌, ℕ, ◌+◌, ◌%◌, ◌≤◌, ◌↔◌, List, ◌∷◌, Ok, Err, length};
-ghost use Rattle.pe_core.specs.Bytes.{AreBytes, splice};
+ghost use Rattle.std.specs.Prelude.{◌≡◌, ℕ, ◌+◌, ◌%◌, ◌≤◌, ◌↔◌, List, [], ◌∷◌, ◌++◌, Ok, Err, length};
+ghost use Rattle.pe_core.specs.Bytes.{AreBytes, range, splice};
 ghost use Rattle.pe_core.specs.Refusals.{Refusal};
+ghost use Rattle.pe_core.specs.SectionMap.{rounded_up};
 ghost use Rattle.pe_records.specs.Certificates.{CertificateView, certificate_at, certificates_at, IsListing, IsRefused};
 ghost use Rattle.pe_core.specs.Offsets.{StandAt};
 ghost use Rattle.pe_records.specs.CertificateWriting.{IsWhole, spell_certificate, padding, written_length, written_certificate, written_certificates};
@@ -65,4 +66,25 @@ pub fn written_listings_are_listed_again()
     ensures in_turn { (b : List ℕ) (p : ℕ) (c : CertificateView) (cs : List CertificateView) →
         p ≤ length b → splice b p (written_certificates (c ∷ cs)) ≡ splice
         (splice b p (written_certificate c)) (p + written_length c) (written_certificates cs) }
+{}
+
+/// A table that ends its file stays a part of a longer one: where other certificates follow it, with its padding before
+/// them, its own are listed first and then the others, all unchanged. The others are those of bytes that are a table by
+/// themselves, and stand in the file at a multiple of eight, where they are listed alone too. One certificate whose length
+/// reaches the end of its bytes is such a table.
+#[tactic(auto, using(crate::proofs::JoinedListings::joined_listing, crate::proofs::JoinedListings::moved_listing, crate::proofs::JoinedListings::one_listing))]
+pub fn joined_tables_are_listed()
+    ensures joined { (b more file : List ℕ)
+        (address size n : ℕ) (cs ds : List CertificateView) → address % 8 ≡ 0 →
+        length b ≡ address + size → IsListing b address size cs →
+        IsListing more 0 (length more) ds → StandAt file address (range b address size) →
+        StandAt file (address + rounded_up size 8) more →
+        n ≡ rounded_up size 8 + rounded_up (length more) 8 → address + n ≤ length file →
+        IsListing file address n (cs ++ ds) }
+    ensures moved { (more file : List ℕ) (p n : ℕ) (ds : List CertificateView) → p % 8 ≡ 0 →
+        IsListing more 0 (length more) ds → StandAt file p more →
+        n ≡ rounded_up (length more) 8 → p + n ≤ length file → IsListing file p n ds }
+    ensures one { (more : List ℕ) (c : CertificateView) (next : ℕ) →
+        certificate_at more 0 ≡ Ok (c, next) → length more ≤ next →
+        IsListing more 0 (length more) (c ∷ []) }
 {}

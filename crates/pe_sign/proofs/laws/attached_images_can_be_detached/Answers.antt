@@ -1,0 +1,5 @@
+use Rattle.pe_sign.proofs.DetachedAgain.{is_detached}
+use Rattle.pe_sign.proofs.laws.attached_images_can_be_detached.Goals as goal
+
+pub returns : goal.returns
+returns c = is_detached

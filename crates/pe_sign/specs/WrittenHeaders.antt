@@ -1,0 +1,26 @@
+-- The headers of a file whose certificates change. (PE format: optional header, optional header data directories.)
+use Rattle.std.specs.Prelude.{ℕ, ◌+◌, ◌*◌, ◌==◌, length, slice_set, Option, Some, None}
+use Rattle.std.specs.Option.{option_map}
+use Rattle.pe_core.specs.Header.{HeaderView, OptionalHeaderView, directories_offset}
+use Rattle.pe_core.specs.declared.data_directories.DataDirectory.{DataDirectory}
+
+-- the optional header with this entry for the certificates, which is the fifth, and with this checksum
+abbrev pub optional_with : DataDirectory → ℕ → OptionalHeaderView → OptionalHeaderView
+optional_with entry sum o = record {
+  standard_fields = o.standard_fields;
+  windows_fields = record o.windows_fields { check_sum = sum };
+  data_directories = slice_set o.data_directories 4 entry;
+}
+
+-- the headers with both; nothing else in them changes
+abbrev pub headers_with : DataDirectory → ℕ → HeaderView → HeaderView
+headers_with entry sum h = record h { optional_header = option_map (optional_with entry sum) h.optional_header }
+
+-- the file offset at which the data directories end, in an image with this PE pointer
+abbrev pub directories_end_after : ℕ → Option OptionalHeaderView → ℕ
+directories_end_after pointer None = pointer + 24
+directories_end_after pointer (Some o) =
+    pointer + 24 + directories_offset (o.standard_fields.magic == 0x20B) + 8 * length o.data_directories
+
+abbrev pub directories_end : HeaderView → ℕ
+directories_end h = directories_end_after h.dos_header.pe_pointer h.optional_header
