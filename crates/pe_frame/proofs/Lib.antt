@@ -10,6 +10,7 @@ pub mod Saved
 pub mod Undone
 pub mod Begun
 pub mod PiecesShow
+pub mod ListsShow
 pub mod NoCode
 pub mod FrameSteps
 pub mod OneShortPlan

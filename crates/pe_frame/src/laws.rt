@@ -10,7 +10,9 @@ ghost use Rattle.pe_frame.specs.declared.error.FrameError.{FrameError};
 ghost use Rattle.pe_frame.specs.declared.registers.Registers.{Registers};
 ghost use Rattle.pe_frame.specs.Memory.{stack_word};
 ghost use Rattle.pe_frame.specs.MemoryPieces.{ArePiecesOf, have_byte, pieces_word};
+ghost use Rattle.pe_frame.specs.MemoryLists.{AreListed, ArePieces, list_byte, listed_word};
 ghost use Rattle.pe_frame.specs.declared.memory.Stack.{Stack};
+ghost use Rattle.pe_frame.specs.declared.memory_list.MemoryPiece.{MemoryPiece};
 ghost use Rattle.pe_frame.specs.Machine.{loaded};
 ghost use Rattle.pe_frame.specs.Frames.{Part, infos, left, registers_of, AreFrames, IsCaller};
 ghost use Rattle.pe_frame.specs.Samples.{all_known, home_part, inner_part, framed_part, interrupt_part, pushed_part};
@@ -128,6 +130,16 @@ pub fn pieces_show_memory()
         a + 8 ≤ 2 ^ 64 → pieces_word pieces a ≡ Some (loaded memory a) }
     ensures one { (s : Stack) (a : ℕ) →
         pieces_word (s ∷ []) a ≡ stack_word s.bytes.now s.start a }
+{}
+
+/// A list of pieces in some bytes shows what a machine's memory has in the same way. It is the memory of the pieces that it
+/// lists.
+pub fn memory_lists_show_memory()
+    ensures shown { (bytes : List ℕ) (pieces : List MemoryPiece) (a : ℕ) (memory : ℕ → ℕ) →
+        AreListed memory bytes pieces → ((i : ℕ) → i < 8 → list_byte (a + i) pieces ≡ true) →
+        a + 8 ≤ 2 ^ 64 → listed_word bytes pieces a ≡ Some (loaded memory a) }
+    ensures pieces { (bytes : List ℕ) (listed : List MemoryPiece) (pieces : List Stack) (a : ℕ) →
+        ArePieces bytes listed pieces → listed_word bytes listed a ≡ pieces_word pieces a }
 {}
 
 /// There are such frames: of a part in the body of a function, of one with a frame register, after its prolog and inside of
