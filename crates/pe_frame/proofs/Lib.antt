@@ -15,6 +15,10 @@ pub mod NoCode
 pub mod FrameSteps
 pub mod OneShortPlan
 pub mod OneWalk
+pub mod SomeError
+pub mod SomeFunction
+pub mod SomeShortPlan
+pub mod SomeWalk
 pub mod WholeWalks
 pub mod Frames
 pub mod Tails
