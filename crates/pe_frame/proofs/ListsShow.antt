@@ -1,7 +1,5 @@
 -- Memory by a list of pieces shows what a machine's memory has, and is the memory of the pieces.
-use Rattle.std.proofs.Common.{◌≡◌, ℕ, zero, suc, ◌+◌, ◌-◌, ◌^◌, ◌<◌, ◌≤◌, Bool, true, false, nat_le, nat_lt, ◌&&◌, List, [], ◌∷◌, length, drop, get_or, Option, Some, None, refl, ap, subst, sym, ◌∙◌, arith, length-drop}
-use Rattle.std.specs.List.{find}
-use Rattle.std.specs.Option.{option_map, option_and_then}
+use Rattle.std.proofs.Common.{◌≡◌, ℕ, zero, suc, ◌+◌, ◌-◌, ◌^◌, ◌<◌, ◌≤◌, Bool, true, false, List, [], ◌∷◌, length, drop, get_or, Option, Some, refl, ap, sym, ◌∙◌, arith, length-drop}
 use Rattle.std.proofs.lemmas.List.{get_or-drop, get_or-take, length-take-le}
 use Rattle.pe_core.specs.Bytes.{range}
 use Rattle.pe_frame.specs.Machine.{loaded}

@@ -1,12 +1,12 @@
 -- Lookup has a result in any table: that of a linear scan.
-use Rattle.std.proofs.Common.{◌≡◌, ℕ, ◌+◌, ◌<◌, ◌≤◌, ◌⊎◌, inl, inr, Bool, true, false, cond, leb, List, [], ◌∷◌, ◌++◌, length, get_or, Option, Some, None, refl, ap, sym, ◌∙◌, subst, arith, append_assoc}
+use Rattle.std.proofs.Common.{◌≡◌, ℕ, ◌+◌, ◌≤◌, ◌⊎◌, inl, inr, Bool, true, false, leb, List, [], ◌∷◌, ◌++◌, Option, Some, None, refl, ap, sym, ◌∙◌, subst, arith, append_assoc}
 use Rattle.std.specs.List.{Contains, filter, last_or}
 use Rattle.std.proofs.lemmas.Bool.{cases_lt}
 use Rattle.std.proofs.lemmas.Bool.Decides.{nat_tests}
 use Rattle.std.proofs.lemmas.List.Elements.{Contains-append_right}
 use Rattle.pe_core.specs.Rows.{whole_entries}
 use Rattle.pe_unwind.specs.FunctionTable.{Finds, function_at, functions}
-use Rattle.pe_unwind.specs.Lookup.{FindsStart, StartsAfter, StopsAfter, last_start}
+use Rattle.pe_unwind.specs.Lookup.{FindsStart, StartsAfter, StopsAfter}
 use Rattle.pe_unwind.specs.declared.function_table.RuntimeFunction.{RuntimeFunction}
 use Rattle.pe_unwind.proofs.Searches.{finds_inside, finds_none, finds_past, last_or-append}
 

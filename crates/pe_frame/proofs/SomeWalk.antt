@@ -1,14 +1,13 @@
 -- There is a walk from each state.
-use Rattle.std.proofs.Common.{◌≡◌, ◌≢◌, ℕ, zero, suc, ◌-◌, Bool, true, false, List, [], ◌∷◌, Option, Some, None, Result, Ok, Err, refl, ap}
+use Rattle.std.proofs.Common.{◌≢◌, ℕ, zero, suc, ◌-◌, Bool, true, false, List, [], ◌∷◌, Option, Some, None, Result, Ok, Err, refl, ap}
 use Rattle.std.specs.Option.{option_map}
 use Rattle.pe_core.specs.Refusals.{Refusal, Memory}
 use Rattle.pe_unwind.specs.ExceptionTable.{ExceptionView, table_of}
 use Rattle.pe_unwind.specs.Links.{links_of}
 use Rattle.pe_unwind.specs.UnwindRecord.{UnwindInfoView}
 use Rattle.pe_unwind.specs.declared.function_table.RuntimeFunction.{RuntimeFunction}
-use Rattle.pe_plan.specs.ShortPlans.{PlansShort}
 use Rattle.pe_plan.proofs.RecordLaw.{RecordLaw}
-use Rattle.pe_frame.specs.Epilogs.{StepsOutFrom, StepsOutWithCode, epilog_at, executed_all}
+use Rattle.pe_frame.specs.Epilogs.{StepsOutFrom, epilog_at, executed_all}
 use Rattle.pe_frame.specs.Modules.{module_at}
 use Rattle.pe_frame.specs.Steps.{StepsOut, limit_of, returned_out, rising}
 use Rattle.pe_frame.specs.Undoing.{◌>>=◌, pointer}

@@ -1,6 +1,6 @@
-use Rattle.std.proofs.Common.{◌≡◌, rules, Bool, true, false, [], ◌∷◌, Result, Ok, refl, sym}
+use Rattle.std.proofs.Common.{◌≡◌, rules, Bool, true, false, [], ◌∷◌, Ok, refl, sym}
 use Rattle.std.specs.Option.{is_none}
-use Rattle.pe_core.specs.Refusals.{Refusal, Short, outcome}
+use Rattle.pe_core.specs.Refusals.{Short, outcome}
 use Rattle.pe_frame.specs.MemoryLists.{are_inside}
 use Rattle.pe_frame.proofs.Lookups.{ascends}
 use Rattle.pe_frame.proofs.memory_list.MemoryList.new.Goals as goal
