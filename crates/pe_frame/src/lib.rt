@@ -31,7 +31,7 @@ mod walk;
 
 pub use arm64::{Arm64Registers, leaf_arm64, step_arm64, step_arm64_packed};
 pub use error::FrameError;
-pub use frame::{leaf, step, step_with_code};
+pub use frame::{leaf, step, step_out, step_with_code};
 pub use memory::{Memory, Stack};
 pub use memory_list::{MemoryList, MemoryPiece};
 pub use memory_pieces::StackPieces;
