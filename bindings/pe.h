@@ -554,8 +554,8 @@ uint32_t pe_c_detach(const uint8_t *bytes, size_t length, const pe_c_image_info 
  * https://learn.microsoft.com/cpp/build/exception-handling-x64
  *
  * For the registers of the caller: pe_c_function_table, pe_c_find_function, then pe_c_step, or pe_c_leaf where it returned
- * PE_C_NOTHING. For the records and codes themselves: pe_c_plan_from, then pe_c_next_record until PE_C_NOTHING, and
- * pe_c_next_code for each record. */
+ * PE_C_NOTHING; over memory in pieces pe_c_step_pieces and pe_c_leaf_pieces. For the records and codes themselves:
+ * pe_c_plan_from, then pe_c_next_record until PE_C_NOTHING, and pe_c_next_code for each record. */
 
 /* RUNTIME_FUNCTION. */
 typedef struct {
@@ -645,6 +645,13 @@ typedef struct {
     uint32_t rva;                   /* rip less the address where the image is loaded; pe_c_leaf does not read it */
 } pe_c_frame;
 
+/* A piece of memory, as MINIDUMP_MEMORY_DESCRIPTOR and _DESCRIPTOR64 say it. */
+typedef struct {
+    uint64_t start;                 /* address of the first byte */
+    uint64_t offset;                /* of the first byte in the memory that is passed, as a minidump file */
+    uint64_t length;                /* bytes; those past the last address have none */
+} pe_c_memory_piece;
+
 PE_C_SIZE(pe_c_function, 12);
 PE_C_SIZE(pe_c_walk, 24);
 PE_C_SIZE(pe_c_record, 72);
@@ -653,6 +660,7 @@ PE_C_SIZE(pe_c_scope, 16);
 PE_C_SIZE(pe_c_plan, 32);
 PE_C_SIZE(pe_c_registers, 392);
 PE_C_SIZE(pe_c_frame, 424);
+PE_C_SIZE(pe_c_memory_piece, 24);
 
 /* Returns the range of the function table, entries of 12 bytes. PE_C_NOTHING without one, or for a machine other than
  * x64.
@@ -732,6 +740,26 @@ uint32_t pe_c_step(const uint8_t *bytes, size_t length, const pe_c_image_info *i
  * rsp. It writes them over those of the frame. The stack is as in pe_c_step.
  * Errors: PE_C_MISSING of the return address; PE_C_BAD_ADDRESS where it is the last word below 2^64. */
 uint32_t pe_c_leaf(const uint8_t *stack, size_t stack_length, pe_c_frame *frame) PE_C_RESULT(3);
+
+/* As pe_c_step, over memory in pieces, and says whether an interrupt stopped the caller.
+ *
+ * `memory` has the bytes of all pieces, as a minidump file has, and `pieces` says where each is; frame->stack_start is not read.
+ * The byte at an address is that of the first piece that has it, so eight bytes may stand in pieces that touch. Pieces in
+ * ascending order that do not overlap are searched by halving, any others in turn for each byte. Each call tests all pieces
+ * once, so of thousands pass those of the thread's stack.
+ *
+ * `interrupted` is set to 1 where a record with PE_C_MACHINE_FRAME was undone, so that the caller's rip is the instruction
+ * which is about to run; else to 0: it is a return address. An error leaves it unchanged.
+ * Errors: PE_C_SHORT where a piece is not inside the memory, before anything is read; then those of pe_c_step. */
+uint32_t pe_c_step_pieces(const uint8_t *bytes, size_t length, const pe_c_image_info *image, const pe_c_section *sections,
+                          size_t count, const uint8_t *code, size_t code_length, const uint8_t *memory,
+                          size_t memory_length, const pe_c_memory_piece *pieces, size_t piece_count, pe_c_frame *frame,
+                          uint32_t *interrupted) PE_C_RESULT(3, 12, 13);
+
+/* As pe_c_leaf, over memory in pieces, as in pe_c_step_pieces. The caller is not interrupted.
+ * Errors: PE_C_SHORT where a piece is not inside the memory; then those of pe_c_leaf. */
+uint32_t pe_c_leaf_pieces(const uint8_t *memory, size_t memory_length, const pe_c_memory_piece *pieces,
+                          size_t piece_count, pe_c_frame *frame) PE_C_RESULT(5);
 
 /* ---- ARM64 functions and unwind records
  *
@@ -931,6 +959,13 @@ uint32_t pe_c_next_arm64_code(const uint8_t *bytes, size_t length, pe_c_arm64_wa
 uint32_t pe_c_step_arm64(const uint8_t *bytes, size_t length, const pe_c_image_info *image, const pe_c_section *sections,
                          size_t count, const uint8_t *stack, size_t stack_length, pe_c_arm64_frame *frame)
     PE_C_RESULT(3, 8);
+
+/* As pe_c_step_arm64, over memory in pieces, as in pe_c_step_pieces: frame->stack_start is not read.
+ * Errors: PE_C_SHORT where a piece is not inside the memory, before anything is read; then those of pe_c_step_arm64. */
+uint32_t pe_c_step_arm64_pieces(const uint8_t *bytes, size_t length, const pe_c_image_info *image,
+                                const pe_c_section *sections, size_t count, const uint8_t *memory, size_t memory_length,
+                                const pe_c_memory_piece *pieces, size_t piece_count, pe_c_arm64_frame *frame)
+    PE_C_RESULT(3, 10);
 
 /* Finds the registers of the caller of a leaf function, one that no function of the table covers, and writes them over those
  * of the frame: the caller goes on at the link register. It always returns PE_C_DONE. */

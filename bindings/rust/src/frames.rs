@@ -5,8 +5,9 @@
 
 use crate::arm64::Arm64Functions;
 use crate::image::{Error, Image};
-use crate::sys::{self, Arm64Function, Arm64Registers, Function, Registers};
-use crate::x64::{Functions, Operation};
+use crate::stack_walk::{Frame, Way};
+use crate::sys::{self, Arm64Function, Arm64Registers, Function, MemoryPiece, Registers};
+use crate::x64::Functions;
 use core::fmt;
 
 /// A piece of a thread's memory: bytes, and the address of the first.
@@ -18,11 +19,48 @@ pub struct Stack<'s> {
     pub bytes: &'s [u8],
 }
 
+/// Memory of a thread in pieces, as a minidump lists it: the bytes of the file, and for each piece its address and where in the
+/// file it is. Nothing is copied.
+///
+/// The byte at an address is that of the first piece that has it, so eight bytes may stand in pieces that touch. Pieces in
+/// ascending order that do not overlap are searched by halving, any others in turn for each byte. Each step tests all pieces
+/// once, so of thousands pass those of the thread's stack.
+#[derive(Clone, Copy, Debug)]
+pub struct MemoryList<'s> {
+    bytes: &'s [u8],
+    pieces: &'s [MemoryPiece],
+}
+
+impl<'s> MemoryList<'s> {
+    /// Memory by a list of its pieces in these bytes.
+    ///
+    /// # Errors
+    ///
+    /// [`Error::SHORT`] where a piece does not lie in the bytes.
+    pub fn new(bytes: &'s [u8], pieces: &'s [MemoryPiece]) -> Result<Self, Error> {
+        let length = bytes.len() as u64;
+        let is_inside = |piece: &MemoryPiece| piece.offset.checked_add(piece.length).is_some_and(|end| end <= length);
+        if pieces.iter().all(is_inside) {
+            Ok(MemoryList { bytes, pieces })
+        } else {
+            Err(Error::SHORT)
+        }
+    }
+
+    pub(crate) fn bytes(&self) -> &'s [u8] {
+        self.bytes
+    }
+
+    pub(crate) fn pieces(&self) -> &'s [MemoryPiece] {
+        self.pieces
+    }
+}
+
 /// Why the registers of the caller are not found.
 #[derive(Clone, Copy, Debug, PartialEq, Eq)]
 #[non_exhaustive]
 pub enum StepError {
-    /// The eight bytes at this address are not in the piece of memory.
+    /// The eight bytes at this address are not all in the memory.
     Missing(u64),
     /// This address and the offset of an unwind code do not fit 64 bits, or it is that of a frame register below its offset.
     Address(u64),
@@ -108,6 +146,20 @@ impl Registers {
         let number = unsafe { sys::pe_c_leaf(stack.bytes.as_ptr(), stack.bytes.len(), &mut frame) };
         stepped(number, frame.registers, frame.address)
     }
+
+    /// The same over memory in pieces.
+    ///
+    /// # Errors
+    ///
+    /// Those of [`leaf`](Registers::leaf).
+    pub fn leaf_pieces(&self, memory: MemoryList<'_>) -> Result<Registers, StepError> {
+        let mut frame = sys::Frame { registers: *self, ..Default::default() };
+        let (bytes, pieces) = (memory.bytes, memory.pieces);
+        // SAFETY: the pointers and the lengths are those of two slices, and the frame is lent for the call.
+        let number =
+            unsafe { sys::pe_c_leaf_pieces(bytes.as_ptr(), bytes.len(), pieces.as_ptr(), pieces.len(), &mut frame) };
+        stepped(number, frame.registers, frame.address)
+    }
 }
 
 impl Functions<'_, '_> {
@@ -136,11 +188,27 @@ impl Functions<'_, '_> {
         stepped(number, frame.registers, frame.address)
     }
 
-    /// Whether an interrupt entered the function: one of its records has `UWOP_PUSH_MACHFRAME`.
-    pub(crate) fn is_interrupted(&self, function: Function) -> bool {
-        self.plan(function)
-            .flatten()
-            .any(|record| record.codes().flatten().any(|code| matches!(code.operation, Operation::MachineFrame { .. })))
+    /// The frame of a function's caller over memory in pieces: its registers, as [`step`](Functions::step) returns them, and how
+    /// they were found, by [`Way::Interrupt`] where the frame that the processor pushed was undone, else by [`Way::Records`].
+    ///
+    /// # Errors
+    ///
+    /// Those of [`step`](Functions::step).
+    pub fn step_pieces(
+        &self,
+        function: Function,
+        rva: u32,
+        code: &[u8],
+        registers: &Registers,
+        memory: MemoryList<'_>,
+    ) -> Result<Frame, StepError> {
+        let registers = *registers;
+        let mut frame = sys::Frame { registers, stack_start: 0, address: 0, function, rva };
+        let mut interrupted = 0;
+        let number = self.image().step_pieces(code, memory, &mut frame, &mut interrupted);
+        let registers = stepped(number, frame.registers, frame.address)?;
+        let way = if interrupted == 0 { Way::Records } else { Way::Interrupt };
+        Ok(Frame { registers, way })
     }
 }
 
@@ -206,6 +274,24 @@ impl Arm64Functions<'_, '_> {
         let registers = *registers;
         let mut frame = sys::Arm64Frame { registers, stack_start: stack.start, function, rva, ..Default::default() };
         let number = self.image().step_arm64_frame(stack.bytes, &mut frame);
+        stepped(number, frame.registers, frame.address)
+    }
+
+    /// The same over memory in pieces.
+    ///
+    /// # Errors
+    ///
+    /// Those of [`step`](Arm64Functions::step).
+    pub fn step_pieces(
+        &self,
+        function: Arm64Function,
+        rva: u32,
+        registers: &Arm64Registers,
+        memory: MemoryList<'_>,
+    ) -> Result<Arm64Registers, StepError> {
+        let registers = *registers;
+        let mut frame = sys::Arm64Frame { registers, function, rva, ..Default::default() };
+        let number = self.image().step_arm64_pieces(memory, &mut frame);
         stepped(number, frame.registers, frame.address)
     }
 }

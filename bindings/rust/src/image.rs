@@ -5,6 +5,7 @@
 //! those of Microsoft's [PE Format](https://learn.microsoft.com/windows/win32/debug/pe-format). All calls of the library
 //! are made here, in `walk` and in `signing`.
 
+use crate::frames::MemoryList;
 use crate::sys::{self, Directory, ImageInfo, Section};
 use alloc::vec::Vec;
 use core::fmt;
@@ -523,6 +524,57 @@ impl<'a> Image<'a> {
                 code_length,
                 stack,
                 stack_length,
+                frame,
+            )
+        }
+    }
+
+    /// Makes a step of a stack walk over memory in pieces, and returns its number.
+    pub(crate) fn step_pieces(
+        &self,
+        code: &[u8],
+        memory: MemoryList<'_>,
+        frame: &mut sys::Frame,
+        interrupted: &mut u32,
+    ) -> u32 {
+        let (bytes, sections) = (self.bytes, &self.sections);
+        let (memory, pieces) = (memory.bytes(), memory.pieces());
+        // SAFETY: as above; the three further slices, the frame and the number are lent for the call.
+        unsafe {
+            sys::pe_c_step_pieces(
+                bytes.as_ptr(),
+                bytes.len(),
+                &self.info,
+                sections.as_ptr(),
+                sections.len(),
+                code.as_ptr(),
+                code.len(),
+                memory.as_ptr(),
+                memory.len(),
+                pieces.as_ptr(),
+                pieces.len(),
+                frame,
+                interrupted,
+            )
+        }
+    }
+
+    /// Makes a step of a stack walk on ARM64 over memory in pieces, and returns its number.
+    pub(crate) fn step_arm64_pieces(&self, memory: MemoryList<'_>, frame: &mut sys::Arm64Frame) -> u32 {
+        let (bytes, sections) = (self.bytes, &self.sections);
+        let (memory, pieces) = (memory.bytes(), memory.pieces());
+        // SAFETY: as above; the two further slices and the frame are lent for the call.
+        unsafe {
+            sys::pe_c_step_arm64_pieces(
+                bytes.as_ptr(),
+                bytes.len(),
+                &self.info,
+                sections.as_ptr(),
+                sections.len(),
+                memory.as_ptr(),
+                memory.len(),
+                pieces.as_ptr(),
+                pieces.len(),
                 frame,
             )
         }

@@ -14,7 +14,7 @@
 //! | certificates | [`certificates`](Image::certificates) | [certificate table] |
 //! | signing | [`digest_ranges`](Image::digest_ranges), [`checksum`](Image::checksum), [`attach`](Image::attach), [`detach`](Image::detach) | [image hash] |
 //! | unwind data | [`functions`](Image::functions), [`arm64_functions`](Image::arm64_functions) | [x64], [ARM64] |
-//! | a stack walk | [`Frames`], on x64 and ARM64; one step of it [`Functions::step`], [`Registers::leaf`] | [x64] |
+//! | a stack walk | [`Frames`], on x64 and ARM64; one step of it [`Functions::step`], [`Registers::leaf`], over memory in pieces [`Functions::step_pieces`] | [x64] |
 //! | | one step of it on ARM64 [`Arm64Functions::step`], [`Arm64Registers::leaf`] | [ARM64] |
 //! | exports, imports | [`exports`](Image::exports), [`export_addresses`](Image::export_addresses), [`libraries`](Image::libraries) | [.edata], [.idata] |
 //! | delay imports | [`delay_imports`](Image::delay_imports) | [delay load] |
@@ -115,7 +115,7 @@ pub use clr::{Clr, Metadata, MetadataStream, MetadataStreams};
 pub use debug::{DebugEntries, Pdb20, Pogo, PogoEntries, PogoEntry, Repro, SymbolKey};
 pub use delay_imports::{DelayImport, DelayImports, DelayedFunction, DelayedFunctions};
 pub use exports::{AddressTable, Export, Exported, Exports};
-pub use frames::{Stack, StepError};
+pub use frames::{MemoryList, Stack, StepError};
 pub use image::{DirectoryIndex, Error, Image, Layout, Mode};
 pub use imports::{Import, Imports, Libraries, Library};
 pub use load_config::LoadConfig;
@@ -123,11 +123,11 @@ pub use relocations::{Relocation, RelocationBlock, RelocationBlocks, Relocations
 pub use resources::{ResourceLeaf, ResourceLeaves, ResourceName};
 pub use rich_header::{RichEntries, RichEntry, RichHeader};
 pub use signing::{Checksum, DigestRanges, Placement};
-pub use stack_walk::{End, Frame, Frames, MachineRegisters, Module, Way};
+pub use stack_walk::{End, Frame, Frames, MachineRegisters, Module, WalkMemory, Way};
 pub use symbol_server::{Guid, SymbolPath};
 pub use sys::{
-    Arm64Function, Arm64Packed, Arm64Registers, Arm64Scope, DebugEntry, Directory, Function, ImageInfo, Registers,
-    Scope, Section, VcFeatures,
+    Arm64Function, Arm64Packed, Arm64Registers, Arm64Scope, DebugEntry, Directory, Function, ImageInfo, MemoryPiece,
+    Registers, Scope, Section, VcFeatures,
 };
 pub use tls::{Tls, TlsCallbacks};
 pub use version::{FixedVersion, Text, VersionName};

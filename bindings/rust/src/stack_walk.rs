@@ -4,9 +4,9 @@
 //! looks up that call. The top frame alone, and on x64 one that an interrupt stopped, can be in a prolog or an epilog, or in a leaf function, which
 //! has no unwind data.
 
-use crate::frames::{Stack, StepError};
+use crate::frames::{MemoryList, Stack, StepError};
 use crate::image::{Error, Image};
-use crate::sys::{Arm64Registers, Registers};
+use crate::sys::{Arm64Registers, MemoryPiece, Registers};
 
 /// A module of a process: its image, and the address where it is loaded.
 #[derive(Clone, Copy)]
@@ -27,7 +27,7 @@ pub enum Way {
     Records,
     /// The frame below it is one of a leaf function.
     Leaf,
-    /// An interrupt stopped it: the frame below it has the frame that the processor pushed. On x64 alone.
+    /// An interrupt stopped it: in the frame below it the frame was undone that the processor pushed. On x64 alone.
     Interrupt,
 }
 
@@ -83,24 +83,11 @@ impl Position<'_> {
     }
 }
 
-/// Returns the piece of memory that has an address.
-type Pieces<'f, 's> = &'f mut dyn FnMut(u64) -> Option<Stack<'s>>;
-
-/// A step over the piece of memory at the stack pointer, and if it misses an address there over the piece of that.
-fn over_memory<R>(
-    memory: Pieces<'_, '_>,
-    stack_pointer: u64,
-    step: impl Fn(Stack<'_>) -> Result<R, StepError>,
-) -> Result<R, End> {
-    let first = memory(stack_pointer).unwrap_or(Stack { start: stack_pointer, bytes: &[] });
-    let found = match step(first) {
-        Err(StepError::Missing(address)) => match memory(address) {
-            Some(other) => step(other),
-            None => Err(StepError::Missing(address)),
-        },
-        found => found,
-    };
-    found.map_err(End::Step)
+/// A step over one piece of memory.
+fn over_piece<R>(piece: Stack<'_>, step: impl Fn(MemoryList<'_>) -> Result<R, StepError>) -> Result<R, StepError> {
+    let Stack { start, bytes } = piece;
+    let pieces = [MemoryPiece { start, offset: 0, length: bytes.len() as u64 }];
+    MemoryList::new(bytes, &pieces).map_err(StepError::Records).and_then(step)
 }
 
 /// The records cannot be read.
@@ -109,7 +96,17 @@ fn refused(error: Error) -> End {
 }
 
 mod sealed {
-    use super::{End, Frame, Pieces, Position};
+    use super::{End, Frame, MemoryList, Position, StepError};
+
+    /// What a walk reads.
+    pub trait Memory {
+        /// A step over this memory, in a frame with this stack pointer.
+        fn step<R>(
+            &mut self,
+            stack_pointer: u64,
+            step: impl Fn(MemoryList<'_>) -> Result<R, StepError>,
+        ) -> Result<R, StepError>;
+    }
 
     pub trait Machine: Copy {
         /// How many bytes before a return address the call is looked up.
@@ -118,7 +115,43 @@ mod sealed {
         fn instruction_pointer(&self) -> u64;
 
         /// The frame of the caller of a frame, or why there is none.
-        fn caller_of(frame: &Frame<Self>, at: Position<'_>, memory: Pieces<'_, '_>) -> Result<Frame<Self>, End>;
+        fn caller_of(frame: &Frame<Self>, at: Position<'_>, memory: &mut impl Memory) -> Result<Frame<Self>, End>;
+    }
+}
+
+/// The memory that [`Frames`] reads: a [`MemoryList`], or a closure that returns a piece of memory that has the eight bytes at an
+/// address. Over pieces that a closure returns a step reads one: that of the stack pointer, or if an address is missing there,
+/// the piece of that address alone.
+pub trait WalkMemory: sealed::Memory {}
+
+impl WalkMemory for MemoryList<'_> {}
+
+impl sealed::Memory for MemoryList<'_> {
+    fn step<R>(
+        &mut self,
+        _stack_pointer: u64,
+        step: impl Fn(MemoryList<'_>) -> Result<R, StepError>,
+    ) -> Result<R, StepError> {
+        step(*self)
+    }
+}
+
+impl<'s, S: FnMut(u64) -> Option<Stack<'s>>> WalkMemory for S {}
+
+impl<'s, S: FnMut(u64) -> Option<Stack<'s>>> sealed::Memory for S {
+    fn step<R>(
+        &mut self,
+        stack_pointer: u64,
+        step: impl Fn(MemoryList<'_>) -> Result<R, StepError>,
+    ) -> Result<R, StepError> {
+        let first = self(stack_pointer).unwrap_or(Stack { start: stack_pointer, bytes: &[] });
+        match over_piece(first, &step) {
+            Err(StepError::Missing(address)) => match self(address) {
+                Some(other) => over_piece(other, &step),
+                None => Err(StepError::Missing(address)),
+            },
+            found => found,
+        }
     }
 }
 
@@ -134,7 +167,7 @@ impl sealed::Machine for Registers {
         self.rip
     }
 
-    fn caller_of(frame: &Frame, at: Position<'_>, memory: Pieces<'_, '_>) -> Result<Frame, End> {
+    fn caller_of(frame: &Frame, at: Position<'_>, memory: &mut impl sealed::Memory) -> Result<Frame, End> {
         let Frame { registers, way } = frame;
         let (rsp, image) = (registers.rsp(), at.module.image);
         let functions = image.functions().map_err(refused)?;
@@ -144,13 +177,11 @@ impl sealed::Machine for Registers {
         };
         let Some((functions, function)) = found else {
             at.leaf(*way)?;
-            let registers = over_memory(memory, rsp, |stack| registers.leaf(stack))?;
+            let registers = memory.step(rsp, |list| registers.leaf_pieces(list)).map_err(End::Step)?;
             return Ok(Frame { registers, way: Way::Leaf });
         };
         let code: &[u8] = if way.is_call() { &[] } else { image.code(at.rva, function.end) };
-        let registers = over_memory(memory, rsp, |stack| functions.step(function, at.rva, code, registers, stack))?;
-        let way = if functions.is_interrupted(function) { Way::Interrupt } else { Way::Records };
-        Ok(Frame { registers, way })
+        memory.step(rsp, |list| functions.step_pieces(function, at.rva, code, registers, list)).map_err(End::Step)
     }
 }
 
@@ -163,7 +194,7 @@ impl sealed::Machine for Arm64Registers {
         self.pc
     }
 
-    fn caller_of(frame: &Frame<Self>, at: Position<'_>, memory: Pieces<'_, '_>) -> Result<Frame<Self>, End> {
+    fn caller_of(frame: &Frame<Self>, at: Position<'_>, memory: &mut impl sealed::Memory) -> Result<Frame<Self>, End> {
         let Frame { registers, way } = frame;
         let functions = at.module.image.arm64_functions().map_err(refused)?;
         let found = match &functions {
@@ -174,7 +205,8 @@ impl sealed::Machine for Arm64Registers {
             at.leaf(*way)?;
             return Ok(Frame { registers: registers.leaf(), way: Way::Leaf });
         };
-        let caller = over_memory(memory, registers.sp, |stack| functions.step(function, at.rva, registers, stack))?;
+        let step = |list: MemoryList<'_>| functions.step_pieces(function, at.rva, registers, list);
+        let caller = memory.step(registers.sp, step).map_err(End::Step)?;
         // A function that calls has stored the link register, so a walk in which the stack pointer stays may have no end.
         if way.is_call() && caller.sp == registers.sp {
             return Err(End::Step(StepError::NotRising(caller.sp)));
@@ -186,8 +218,9 @@ impl sealed::Machine for Arm64Registers {
 /// A stack walk: the frames of a thread, from the top frame outwards, through all modules of a process. The registers that it
 /// starts with say on which machine: [`Registers`] on x64, [`Arm64Registers`] on ARM64.
 ///
-/// `modules` returns the module that has an address, which is that of a call where a frame waits for one, and `memory` a piece of memory that has the eight bytes at an address.
-/// A step reads one piece: that of the stack pointer, or if an address is missing there, the piece of that address alone.
+/// `modules` returns the module that has an address, which is that of a call where a frame waits for one. `memory` is a
+/// [`MemoryList`], by [`Frames::over`], or a closure that returns a piece of memory that has the eight bytes at an address: of
+/// these a step reads one, that of the stack pointer, or if an address is missing there, the piece of that address alone.
 ///
 /// The walk is over at a frame that is in no function of a module, at memory that is missing, where the stack pointer does
 /// not rise, at any other error, and after `most` frames. [`Frames::end`] says which. Only past an interrupt on x64, and past
@@ -262,7 +295,25 @@ where
     pub fn new(registers: R, most: usize, modules: M, memory: S) -> Self {
         Frames { modules, memory, last: None, top: registers, left: most, end: None }
     }
+}
 
+impl<'m, 's, M, R> Frames<M, MemoryList<'s>, R>
+where
+    M: FnMut(u64) -> Option<Module<'m>>,
+    R: MachineRegisters,
+{
+    /// A walk of at most `most` frames over memory in pieces, from the registers of a thread.
+    pub fn over(registers: R, most: usize, modules: M, memory: MemoryList<'s>) -> Self {
+        Frames { modules, memory, last: None, top: registers, left: most, end: None }
+    }
+}
+
+impl<'m, M, S, R> Frames<M, S, R>
+where
+    M: FnMut(u64) -> Option<Module<'m>>,
+    S: WalkMemory,
+    R: MachineRegisters,
+{
     /// Why the walk is over, or `None` before its end.
     pub fn end(&self) -> Option<End> {
         self.end
@@ -278,10 +329,10 @@ where
     }
 }
 
-impl<'m, 's, M, S, R> Iterator for Frames<M, S, R>
+impl<'m, M, S, R> Iterator for Frames<M, S, R>
 where
     M: FnMut(u64) -> Option<Module<'m>>,
-    S: FnMut(u64) -> Option<Stack<'s>>,
+    S: WalkMemory,
     R: MachineRegisters,
 {
     type Item = Frame<R>;
@@ -312,10 +363,10 @@ where
     }
 }
 
-impl<'m, 's, M, S, R> core::iter::FusedIterator for Frames<M, S, R>
+impl<'m, M, S, R> core::iter::FusedIterator for Frames<M, S, R>
 where
     M: FnMut(u64) -> Option<Module<'m>>,
-    S: FnMut(u64) -> Option<Stack<'s>>,
+    S: WalkMemory,
     R: MachineRegisters,
 {
 }

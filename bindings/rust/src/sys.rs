@@ -351,6 +351,16 @@ Frame, 424 {
     rva: u32,
 });
 record!(
+/// A piece of memory: its address, and where in a memory that is passed its bytes are, as a minidump has it.
+MemoryPiece, 24 {
+    /// Address of the first byte.
+    start: u64,
+    /// Of the first byte, from the start of the memory that is passed.
+    offset: u64,
+    /// In bytes.
+    length: u64,
+});
+record!(
 /// An entry of the ARM64 function table.
 Arm64Function, 8 {
     /// RVA of its first byte.
@@ -1012,6 +1022,22 @@ extern "C" {
         stack_length: usize,
         frame: *mut Frame,
     ) -> u32;
+    /// The same over memory in pieces, and whether an interrupt stopped the caller.
+    pub fn pe_c_step_pieces(
+        bytes: *const u8,
+        length: usize,
+        image: *const ImageInfo,
+        sections: *const Section,
+        count: usize,
+        code: *const u8,
+        code_length: usize,
+        memory: *const u8,
+        memory_length: usize,
+        pieces: *const MemoryPiece,
+        piece_count: usize,
+        frame: *mut Frame,
+        interrupted: *mut u32,
+    ) -> u32;
     /// Finds the registers of an ARM64 function's caller, and writes them over those of the frame.
     pub fn pe_c_step_arm64(
         bytes: *const u8,
@@ -1023,9 +1049,30 @@ extern "C" {
         stack_length: usize,
         frame: *mut Arm64Frame,
     ) -> u32;
+    /// The same over memory in pieces.
+    pub fn pe_c_step_arm64_pieces(
+        bytes: *const u8,
+        length: usize,
+        image: *const ImageInfo,
+        sections: *const Section,
+        count: usize,
+        memory: *const u8,
+        memory_length: usize,
+        pieces: *const MemoryPiece,
+        piece_count: usize,
+        frame: *mut Arm64Frame,
+    ) -> u32;
     /// Finds the registers of the caller of a leaf function, by the bytes of its stack, and writes them over those of the
     /// frame.
     pub fn pe_c_leaf(stack: *const u8, stack_length: usize, frame: *mut Frame) -> u32;
+    /// The same over memory in pieces.
+    pub fn pe_c_leaf_pieces(
+        memory: *const u8,
+        memory_length: usize,
+        pieces: *const MemoryPiece,
+        piece_count: usize,
+        frame: *mut Frame,
+    ) -> u32;
     /// Writes the file with a certificate to the start of an array, and returns its length.
     pub fn pe_c_attach(
         bytes: *const u8,

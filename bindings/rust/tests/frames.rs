@@ -2,7 +2,10 @@
 
 mod made;
 
-use pe_c::{sys, Arm64Registers, End, Error, Frame, Frames, Image, Mode, Module, Registers, Stack, StepError, Way};
+use pe_c::{
+    sys, Arm64Registers, End, Error, Frame, Frames, Function, Image, MemoryList, MemoryPiece, Mode, Module, Registers,
+    Stack, StepError, Way,
+};
 
 /// Where the image is loaded.
 const BASE: u64 = 0x1_8000_0000;
@@ -522,5 +525,214 @@ fn arm64_frames_that_lie() {
                 }
             }
         }
+    }
+}
+
+/// A piece of memory.
+fn piece(start: u64, offset: usize, length: usize) -> MemoryPiece {
+    MemoryPiece { start, offset: offset as u64, length: length as u64 }
+}
+
+/// The bytes of a stack from `start` on, cut into pieces of these lengths in turn, which stand in the memory the last one first,
+/// with a byte between them: the memory, and the pieces in ascending order.
+fn cut(bytes: &[u8], start: u64, lengths: &[usize]) -> (Vec<u8>, Vec<MemoryPiece>) {
+    let (mut parts, mut from) = (Vec::new(), 0);
+    for length in lengths.iter().cycle() {
+        let end = bytes.len().min(from + length);
+        parts.push((from, &bytes[from..end]));
+        from = end;
+        if from == bytes.len() {
+            break;
+        }
+    }
+    let (mut memory, mut pieces) = (Vec::new(), Vec::new());
+    for (from, part) in parts.into_iter().rev() {
+        memory.push(0xEE);
+        pieces.push(piece(start + from as u64, memory.len(), part.len()));
+        memory.extend_from_slice(part);
+    }
+    pieces.reverse();
+    (memory, pieces)
+}
+
+/// All frames of a walk over memory in pieces, and why it ended.
+fn walk_over(registers: Registers, memory: MemoryList<'_>) -> (Vec<(u64, u64, Way)>, Option<End>) {
+    let file = made::with_functions();
+    let image = image_of(&file);
+    let module = |address: u64| address.checked_sub(BASE).map(|_| Module { image: &image, base: BASE });
+    let mut frames = Frames::over(registers, 100, module, memory);
+    let found = frames.by_ref().map(|it| (it.registers.rip, it.registers.rsp(), it.way)).collect();
+    assert_eq!(frames.next(), None);
+    (found, frames.end())
+}
+
+/// Words stand in pieces that touch inside of them, in any order.
+#[test]
+fn a_walk_reads_memory_in_pieces() {
+    let bytes = stack_bytes();
+    let whole = walk(registers(), 100, &bytes);
+    assert_eq!(whole.0.len(), 3);
+    for lengths in [&[120][..], &[8], &[1], &[3, 5, 11], &[13, 2]] {
+        let (memory, mut pieces) = cut(&bytes, ENTRY - 8, lengths);
+        assert_eq!(walk_over(registers(), MemoryList::new(&memory, &pieces).unwrap()), whole);
+        pieces.reverse();
+        assert_eq!(walk_over(registers(), MemoryList::new(&memory, &pieces).unwrap()), whole);
+        // Without the last byte, that of rbx in the outer frame; and without any piece.
+        pieces[0].length -= 1;
+        let missing = |address| Some(End::Step(StepError::Missing(address)));
+        let (found, end) = walk_over(registers(), MemoryList::new(&memory, &pieces).unwrap());
+        assert_eq!((&found[..], end), (&whole.0[..2], missing(OUTER + 64)));
+        let (found, end) = walk_over(registers(), MemoryList::new(&memory, &[]).unwrap());
+        assert_eq!((&found[..], end), (&whole.0[..1], missing(ENTRY - 8)));
+    }
+}
+
+/// Of pieces that overlap the first has a byte.
+#[test]
+fn the_first_piece_has_the_byte() {
+    let mut memory = stack_bytes();
+    let length = memory.len();
+    memory.extend_from_slice(&[0xAA; 4]);
+    let all = piece(ENTRY - 8, 0, length);
+    // Over the return address of the innermost frame.
+    let over = piece(ENTRY + 4, length, 4);
+    let walked = |pieces: &[MemoryPiece]| walk_over(registers(), MemoryList::new(&memory, pieces).unwrap());
+    assert_eq!(walked(&[all, over]), walked(&[all]));
+    let address = 0xAAAA_AAAA_8000_5020;
+    let found = vec![(BASE + 0x500C, ENTRY - 40, Way::Top), (address, ENTRY + 8, Way::Records)];
+    assert_eq!(walked(&[over, all]), (found, Some(End::NoFunction)));
+}
+
+#[test]
+fn pieces_lie_in_the_memory() {
+    let memory = [0; 16];
+    for (offset, length) in [(17, 0), (16, 1), (1, 16), (u64::MAX, 1), (1, u64::MAX), (u64::MAX, u64::MAX)] {
+        let pieces = [piece(0, 0, 16), MemoryPiece { start: 0, offset, length }];
+        assert_eq!(MemoryList::new(&memory, &pieces).unwrap_err(), Error::SHORT);
+        // The library says so too, and reads nothing.
+        let mut frame = sys::Frame::default();
+        // SAFETY: the pointers and the lengths are those of two slices, and the frame is lent for the call.
+        let number =
+            unsafe { sys::pe_c_leaf_pieces(memory.as_ptr(), memory.len(), pieces.as_ptr(), pieces.len(), &mut frame) };
+        assert_eq!((number, frame), (Error::SHORT.number(), sys::Frame::default()));
+    }
+    for (offset, length) in [(16, 0), (0, 16), (15, 1)] {
+        assert!(MemoryList::new(&memory, &[MemoryPiece { start: u64::MAX, offset, length }]).is_ok());
+    }
+    assert!(MemoryList::new(&[], &[]).is_ok());
+}
+
+/// Bytes past the last address have none.
+#[test]
+fn pieces_end_at_the_last_address() {
+    let mut registers = registers();
+    let pieces = [piece(u64::MAX - 15, 0, 40)];
+    let memory = [7; 40];
+    let memory = MemoryList::new(&memory, &pieces).unwrap();
+    registers.set_rsp(u64::MAX - 15);
+    let caller = registers.leaf_pieces(memory).unwrap();
+    assert_eq!((caller.rip, caller.rsp()), (0x0707_0707_0707_0707, u64::MAX - 7));
+    assert_eq!(caller.leaf_pieces(memory), Err(StepError::Address(u64::MAX - 7)));
+    registers.set_rsp(u64::MAX - 6);
+    assert_eq!(registers.leaf_pieces(memory), Err(StepError::Missing(u64::MAX - 6)));
+}
+
+/// A stack in 50,000 pieces of a byte each.
+#[test]
+fn words_of_many_pieces_are_found() {
+    let bytes: Vec<u8> = (0..50_000u32).map(|it| it as u8).collect();
+    let pieces: Vec<_> = (0..50_000).map(|it| piece(0x1_0000 + it as u64, it, 1)).collect();
+    let memory = MemoryList::new(&bytes, &pieces).unwrap();
+    let mut registers = Registers::default();
+    for at in [0usize, 1, 255, 25_000, 49_992] {
+        registers.set_rsp(0x1_0000 + at as u64);
+        let word = u64::from_le_bytes(bytes[at..at + 8].try_into().unwrap());
+        assert_eq!(registers.leaf_pieces(memory).map(|it| it.rip), Ok(word));
+    }
+    registers.set_rsp(0x1_0000 + 49_993);
+    assert_eq!(registers.leaf_pieces(memory), Err(StepError::Missing(0x1_0000 + 49_993)));
+}
+
+/// The steps of the two ways to pass memory are the same.
+#[test]
+fn a_step_over_a_piece_is_one_over_pieces() {
+    let file = made::with_functions();
+    let image = image_of(&file);
+    let functions = image.functions().unwrap().unwrap();
+    let bytes = stack_bytes();
+    let (memory, pieces) = cut(&bytes, ENTRY - 8, &[5]);
+    let list = MemoryList::new(&memory, &pieces).unwrap();
+    let same = |function: Function, rva: u32, registers: &Registers, code: &[u8]| {
+        let over = functions.step_pieces(function, rva, code, registers, list);
+        assert_eq!(over.map(|it| it.registers), functions.step(function, rva, code, registers, stack_of(&bytes)));
+        assert!(over.is_err() || over.is_ok_and(|it| it.way == Way::Records));
+    };
+    let mut low = registers();
+    low.general[RBP] = 31;
+    let mut sinking = registers();
+    sinking.set_rsp(ENTRY + 8);
+    for function in (0..4).map(|index| functions.get(index).unwrap()) {
+        for rva in [0x5000, 0x5001, 0x500C, 0x500E, 0x5010, 0x5020] {
+            for registers in [registers(), low, sinking, Registers::default()] {
+                same(function, rva, &registers, &[]);
+                same(function, rva, &registers, &[0x5D, 0xC3]);
+            }
+        }
+    }
+    assert_eq!(registers().leaf_pieces(list), registers().leaf(stack_of(&bytes)));
+}
+
+/// An ARM64 walk over the words from `SP` on, in pieces.
+#[test]
+fn an_arm64_walk_reads_memory_in_pieces() {
+    let (calls, others) = (made::with_arm64_calls(), arm64_bytes());
+    let images = [(CALLS, image_of(&calls)), (MORE_CALLS, image_of(&calls)), (OTHERS, image_of(&others))];
+    let module = |address: u64| {
+        let (base, image) = images.iter().rev().find(|(base, _)| *base <= address)?;
+        Some(Module { image, base: *base })
+    };
+    let words = arm64_stack();
+    let whole = arm64_walk(arm64_registers(), 100, &words);
+    for lengths in [&[912][..], &[1], &[7, 30]] {
+        let (memory, mut pieces) = cut(&bytes_of(&words), SP, lengths);
+        let walk = |pieces: &[MemoryPiece]| {
+            let list = MemoryList::new(&memory, pieces).unwrap();
+            let mut frames = Frames::over(arm64_registers(), 100, module, list);
+            (frames.by_ref().collect::<Vec<_>>(), frames.end())
+        };
+        assert_eq!(walk(&pieces), whole);
+        pieces.reverse();
+        assert_eq!(walk(&pieces), whole);
+        assert_eq!(walk(&[]).0.len(), 2);
+    }
+}
+
+/// A frame is called interrupted only where the frame that the processor pushed was undone, which in an epilog it is not.
+#[test]
+fn an_interrupt_is_one_that_was_undone() {
+    let mut made = made::Made::new(made::X64);
+    let table = made.next();
+    made.content.resize(12, 0);
+    // inc rax; ret
+    let start = made.put(&[0x48, 0xFF, 0xC0, 0xC3]);
+    // The processor's frame without an error code.
+    let record = made.put(&[1, 0, 1, 0, 0, 0x0A, 0, 0]);
+    let entry: Vec<u8> = [start, start + 4, record].iter().flat_map(|word| word.to_le_bytes()).collect();
+    made.content[..12].copy_from_slice(&entry);
+    made.directory(made::EXCEPTIONS, table, 12);
+    let file = made.image();
+    let image = image_of(&file);
+    let module = |address: u64| address.checked_sub(BASE).map(|_| Module { image: &image, base: BASE });
+    // rip, cs, the flags, rsp, ss.
+    let bytes = bytes_of(&[0x1234, 0x33, 0, 0x100, 0x2B]);
+    let pieces = [piece(ENTRY, 0, 40)];
+    let list = MemoryList::new(&bytes, &pieces).unwrap();
+    for (offset, found) in [(0, (0x1234, 0x100, Way::Interrupt)), (3, (0x1234, ENTRY + 8, Way::Records))] {
+        let mut registers = Registers { rip: BASE + u64::from(start + offset), ..Registers::default() };
+        registers.set_rsp(ENTRY);
+        let stack = Stack { start: ENTRY, bytes: &bytes };
+        let of = |frame: Frame| (frame.registers.rip, frame.registers.rsp(), frame.way);
+        assert_eq!(Frames::new(registers, 9, module, |_| Some(stack)).nth(1).map(of), Some(found));
+        assert_eq!(Frames::over(registers, 9, module, list).nth(1).map(of), Some(found));
     }
 }

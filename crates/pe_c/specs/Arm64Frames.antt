@@ -10,12 +10,14 @@ use Rattle.pe_frame.specs.Arm64Packed.{stepped_packed}
 use Rattle.pe_frame.specs.Arm64Steps.{StepsArm64}
 use Rattle.pe_frame.specs.Arm64Undoing.{put_pc, link_register}
 use Rattle.pe_frame.specs.Memory.{stack_word}
+use Rattle.pe_frame.specs.MemoryLists.{memory_of}
 use Rattle.pe_frame.specs.declared.arm64.registers.Arm64Registers.{Arm64Registers}
 use Rattle.pe_frame.specs.declared.error.FrameError.{FrameError}
+use Rattle.pe_frame.specs.declared.memory_list.MemoryPiece.{MemoryPiece}
 use Rattle.pe_c.specs.HandsOut.{result_number}
 use Rattle.pe_c.specs.Images.{exception_directory}
 use Rattle.pe_c.specs.Modes.{options_of}
-use Rattle.pe_c.specs.StackFrames.{error_number, error_address}
+use Rattle.pe_c.specs.StackFrames.{OverPieces, error_number, error_address}
 use Rattle.pe_c.specs.declared.arm64.frames.Arm64FrameRegisters.{Arm64FrameRegisters}
 use Rattle.pe_c.specs.declared.arm64.frames.Arm64StackFrame.{Arm64StackFrame}
 use Rattle.pe_c.specs.declared.image.Image.{Image}
@@ -60,21 +62,28 @@ HandsOutArm64Caller number old new (Err e) = (number ≡ error_number e) × (new
 abbrev pub place_of : Arm64StackFrame → ℕ
 place_of frame = (frame.rva - (frame.function).begin_address) / 4
 
--- the same by the unwind data of the frame's function: a step of pe_frame over one piece of memory
-abbrev pub HandsOutArm64By : List ℕ → ℕ → Arm64StackFrame → Arm64StackFrame → Result (Option Arm64InfoView) Refusal → Type 0
-HandsOutArm64By stack number old new (Err refusal) = (number ≡ result_number refusal) × (new ≡ old)
-HandsOutArm64By stack number old new (Ok None) =
+-- the same by the unwind data of the frame's function: a step of pe_frame over this memory
+abbrev pub HandsOutArm64By : (ℕ → Option ℕ) → ℕ → Arm64StackFrame → Arm64StackFrame → Result (Option Arm64InfoView) Refusal → Type 0
+HandsOutArm64By memory number old new (Err refusal) = (number ≡ result_number refusal) × (new ≡ old)
+HandsOutArm64By memory number old new (Ok None) =
     HandsOutArm64Caller number old new
-    (stepped_packed (stack_word stack old.stack_start) (old.function).unwind_data (place_of old) (arm64_registers_of old.registers))
-HandsOutArm64By stack number old new (Ok (Some info)) =
+    (stepped_packed memory (old.function).unwind_data (place_of old) (arm64_registers_of old.registers))
+HandsOutArm64By memory number old new (Ok (Some info)) =
     (caller : Result Arm64Registers FrameError)
-    × StepsArm64 (stack_word stack old.stack_start) info (place_of old) (arm64_registers_of old.registers) caller
+    × StepsArm64 memory info (place_of old) (arm64_registers_of old.registers) caller
     × HandsOutArm64Caller number old new caller
 
--- what a call for a step returns, and the frame after it
+-- what a call for a step returns, and the frame after it, over one piece of memory
 abbrev pub HandsOutArm64Step : List ℕ → Image → List SectionTable → List ℕ → ℕ → Arm64StackFrame → Arm64StackFrame → Type 0
 HandsOutArm64Step b image sections stack number old new =
-    HandsOutArm64By stack number old new (arm64_info_of b image sections image.mode old.function)
+    HandsOutArm64By (stack_word stack old.stack_start) number old new (arm64_info_of b image sections image.mode old.function)
+
+-- the same over pieces of memory
+abbrev pub HandsOutArm64StepPieces : List ℕ → Image → List SectionTable → List ℕ → List MemoryPiece → ℕ → Arm64StackFrame → Arm64StackFrame → Type 0
+HandsOutArm64StepPieces b image sections memory pieces number old new =
+    OverPieces (new ≡ old) number
+    (λ word. HandsOutArm64By word number old new (arm64_info_of b image sections image.mode old.function))
+    (memory_of memory pieces)
 
 -- a frame after a leaf function has returned: its caller goes on at the link register
 abbrev pub left_arm64 : Arm64StackFrame → Arm64StackFrame

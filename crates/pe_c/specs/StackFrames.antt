@@ -1,5 +1,5 @@
 -- One step of a stack walk: the registers of a function's caller, by the function's records in an image.
-use Rattle.std.specs.Prelude.{◌≡◌, ℕ, ◌+◌, ◌*◌, ◌/◌, ◌%◌, ◌^◌, ◌==◌, if◌then◌else◌, List, slice_index, Option, Some, None, Result, Ok, Err}
+use Rattle.std.specs.Prelude.{◌≡◌, ℕ, ◌+◌, ◌*◌, ◌/◌, ◌%◌, ◌^◌, ◌==◌, if◌then◌else◌, Bool, List, slice_index, Option, Some, None, Result, Ok, Err}
 use Rattle.pe_core.specs.Refusals.{Refusal, kind_of}
 use Rattle.pe_core.specs.Rows.{each}
 use Rattle.pe_core.specs.declared.section_table.SectionTable.{SectionTable}
@@ -8,10 +8,13 @@ use Rattle.pe_unwind.specs.Links.{links_of}
 use Rattle.pe_unwind.specs.UnwindRecord.{UnwindInfoView}
 use Rattle.pe_unwind.specs.declared.function_table.RuntimeFunction.{RuntimeFunction}
 use Rattle.pe_plan.specs.ShortPlans.{PlansShort}
-use Rattle.pe_frame.specs.Epilogs.{StepsWithCode}
+use Rattle.pe_frame.specs.Epilogs.{StepsOutWithCode, StepsWithCode}
 use Rattle.pe_frame.specs.Memory.{stack_word}
+use Rattle.pe_frame.specs.MemoryLists.{listed_word, memory_of}
+use Rattle.pe_frame.specs.Undoing.{popped}
 use Rattle.pe_frame.specs.declared.error.FrameError.{FrameError}
 use Rattle.pe_frame.specs.declared.error.FrameError.TheVariants.{Codes, Memory, Address, Operation, Arm64Code, Packed, NotRising}
+use Rattle.pe_frame.specs.declared.memory_list.MemoryPiece.{MemoryPiece}
 use Rattle.pe_frame.specs.declared.registers.Registers.{Registers}
 use Rattle.pe_c.specs.HandsOut.{result_number}
 use Rattle.pe_c.specs.Modes.{options_of}
@@ -92,3 +95,45 @@ HandsOutStep b image sections code stack number old new =
     (plan : Result (Option (List UnwindInfoView)) Refusal)
     × PlansShortIn (image_exceptions b image sections image.mode) sections image.mode old.function plan
     × HandsOutBy code stack number old new plan
+
+-- ---- steps over pieces of memory
+
+-- What a step returns over the memory of these pieces. Where one of them does not lie in it, the step returns that, and nothing
+-- changes.
+abbrev pub OverPieces : Type 0 → ℕ → ((ℕ → Option ℕ) → Type 0) → Result (List ℕ × List MemoryPiece) Refusal → Type 0
+OverPieces unchanged number steps (Err refusal) = (number ≡ result_number refusal) × unchanged
+OverPieces unchanged number steps (Ok parts) = steps (listed_word parts.0 parts.1)
+
+-- what a step returns that also says whether an interrupt left the registers: 1 where one did, else 0
+abbrev pub HandsOutLeft : ℕ → StackFrame → StackFrame → ℕ → ℕ → Result (Registers × Bool) FrameError → Type 0
+HandsOutLeft number old new before after (Ok u) = HandsOutCaller number old new (Ok u.0) × (after ≡ (if u.1 then 1 else 0))
+HandsOutLeft number old new before after (Err e) = HandsOutCaller number old new (Err e) × (after ≡ before)
+
+-- the same by the records of the frame's function: a step of pe_frame with the code from the frame's RVA on
+abbrev pub HandsOutLeftBy : List ℕ → (ℕ → Option ℕ) → ℕ → StackFrame → StackFrame → ℕ → ℕ → Result (Option (List UnwindInfoView)) Refusal → Type 0
+HandsOutLeftBy code memory number old new before after (Err refusal) = (number ≡ result_number refusal) × (new ≡ old) × (after ≡ before)
+HandsOutLeftBy code memory number old new before after (Ok None) = (number ≡ 106) × (new ≡ old) × (after ≡ before)
+HandsOutLeftBy code memory number old new before after (Ok (Some plan)) =
+    (left : Result (Registers × Bool) FrameError)
+    × StepsOutWithCode memory plan (old.function).begin_address old.rva code (registers_of old.registers) left
+    × HandsOutLeft number old new before after left
+
+-- what a step over this memory returns, the frame after it, and what it says of an interrupt
+abbrev pub HandsOutLeftStep : List ℕ → Image → List SectionTable → List ℕ → (ℕ → Option ℕ) → ℕ → StackFrame → StackFrame → ℕ → ℕ → Type 0
+HandsOutLeftStep b image sections code memory number old new before after =
+    (plan : Result (Option (List UnwindInfoView)) Refusal)
+    × PlansShortIn (image_exceptions b image sections image.mode) sections image.mode old.function plan
+    × HandsOutLeftBy code memory number old new before after plan
+
+-- what a call for a step over pieces returns
+abbrev pub HandsOutStepPieces : List ℕ → Image → List SectionTable → List ℕ → List ℕ → List MemoryPiece → ℕ → StackFrame → StackFrame → ℕ → ℕ → Type 0
+HandsOutStepPieces b image sections code memory pieces number old new before after =
+    OverPieces ((new ≡ old) × (after ≡ before)) number
+    (λ word. HandsOutLeftStep b image sections code word number old new before after)
+    (memory_of memory pieces)
+
+-- the same of the caller of a leaf function
+abbrev pub HandsOutLeafPieces : List ℕ → List MemoryPiece → ℕ → StackFrame → StackFrame → Type 0
+HandsOutLeafPieces memory pieces number old new =
+    OverPieces (new ≡ old) number (λ word. HandsOutCaller number old new (popped word (registers_of old.registers)))
+    (memory_of memory pieces)

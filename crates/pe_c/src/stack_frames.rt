@@ -10,14 +10,16 @@ ghost use Rattle.pe_plan.specs.ShortPlans.{records_of};
 ghost use Rattle.pe_frame.specs.Memory.{stack_word};
 ghost use Rattle.pe_frame.specs.Undoing.{popped};
 ghost use Rattle.pe_c.specs.Unwinding.{image_exceptions};
-ghost use Rattle.pe_c.specs.StackFrames.{whole_xmm, half_xmm, registers_of, flat_registers, error_number, error_address, PlansShortIn, HandsOutCaller, HandsOutStep};
+ghost use Rattle.pe_c.specs.StackFrames.{whole_xmm, half_xmm, registers_of, flat_registers, error_number, error_address, PlansShortIn, HandsOutCaller, HandsOutLeafPieces, HandsOutLeft, HandsOutLeftStep, HandsOutStep, HandsOutStepPieces};
 
 use crate::image::{EXCEPTION_TABLE, Image, directory};
 use crate::results::{
     BAD_ADDRESS, BAD_OPERATION, DONE, LONG_CHAIN, MISSING, NOT_RISING, number_of, options,
 };
 use pe_core::{Error, SectionTable};
-use pe_frame::{FrameError, Registers, Stack, leaf, step_with_code};
+use pe_frame::{
+    FrameError, Memory, MemoryList, MemoryPiece, Registers, Stack, leaf, step_out, step_with_code,
+};
 use pe_plan::ShortPlan;
 use pe_unwind::{ExceptionData, RuntimeFunction};
 
@@ -217,4 +219,90 @@ pub extern "C" fn pe_c_leaf(stack: &[u8], frame: &mut StackFrame) -> u32
     };
     let caller = leaf(registers_of(&frame.registers), &memory);
     hand_out_caller(caller, frame)
+}
+
+/// Writes the caller's registers to a frame, and whether an interrupt left them, or the address that an error speaks of.
+fn hand_out_left(
+    left: Result<(Registers, bool), FrameError>,
+    frame: &mut StackFrame,
+    interrupted: &mut u32,
+) -> u32
+    ensures { HandsOutLeft result frame.old frame.new interrupted.old interrupted.new left }
+{
+    match left {
+        Ok((caller, is_interrupted)) => {
+            *interrupted = u32::from(is_interrupted);
+            hand_out_caller(Ok(caller), frame)
+        }
+        Err(error) => hand_out_caller(Err(error), frame),
+    }
+}
+
+/// A step over the stack of a frame by the records of its function: its number, and whether an interrupt left the registers.
+fn step_over<M: Memory>(
+    bytes: &[u8],
+    image: &Image,
+    sections: &[SectionTable],
+    code: &[u8],
+    memory: &M,
+    frame: &mut StackFrame,
+    interrupted: &mut u32,
+) -> u32
+    ensures { HandsOutLeftStep bytes.now image.now sections.now code.now
+        (M.word memory.now) result frame.old frame.new interrupted.old interrupted.new }
+{
+    let plan = match plan_in(bytes, image, sections, frame.function) {
+        Ok(Some(plan)) => plan,
+        Ok(None) => return LONG_CHAIN,
+        Err(error) => return number_of(&error),
+    };
+    let (start, rva) = (frame.function.begin_address, frame.rva);
+    let registers = registers_of(&frame.registers);
+    let left = step_out(plan.records(), start, rva, code, registers, memory);
+    hand_out_left(left, frame, interrupted)
+}
+
+/// As `pe_c_step`, over memory in pieces: `memory` has their bytes, as a minidump file has, and `pieces` says where each is.
+/// `stack_start` is not read. A byte is that of the first piece that has its address: by binary search in pieces in ascending
+/// order that do not overlap, in any others in turn. `interrupted` is set to 1 if an interrupt left the registers of the
+/// caller, which is then at the instruction that is about to run, else to 0.
+///
+/// Errors: first `SHORT` if a piece does not lie in `memory`, then those of `pe_c_step`. They leave `interrupted` unchanged.
+#[unsafe(no_mangle)]
+pub extern "C" fn pe_c_step_pieces(
+    bytes: &[u8],
+    image: &Image,
+    sections: &[SectionTable],
+    code: &[u8],
+    memory: &[u8],
+    pieces: &[MemoryPiece],
+    frame: &mut StackFrame,
+    interrupted: &mut u32,
+) -> u32
+    ensures { HandsOutStepPieces bytes.now image.now sections.now code.now memory.now
+        pieces.now result frame.old frame.new interrupted.old interrupted.new }
+{
+    match MemoryList::new(memory, pieces) {
+        Ok(memory) => step_over(bytes, image, sections, code, &memory, frame, interrupted),
+        Err(error) => number_of(&error),
+    }
+}
+
+/// As `pe_c_leaf`, over memory in pieces, as in `pe_c_step_pieces`.
+///
+/// Errors: first `SHORT` if a piece does not lie in `memory`, then those of `pe_c_leaf`.
+#[unsafe(no_mangle)]
+pub extern "C" fn pe_c_leaf_pieces(
+    memory: &[u8],
+    pieces: &[MemoryPiece],
+    frame: &mut StackFrame,
+) -> u32
+    ensures { HandsOutLeafPieces memory.now pieces.now result frame.old frame.new }
+{
+    let memory = match MemoryList::new(memory, pieces) {
+        Ok(memory) => memory,
+        Err(error) => return number_of(&error),
+    };
+    let registers = registers_of(&frame.registers);
+    hand_out_caller(leaf(registers, &memory), frame)
 }

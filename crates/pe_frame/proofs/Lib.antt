@@ -10,10 +10,15 @@ pub mod Saved
 pub mod Undone
 pub mod Begun
 pub mod PiecesShow
+pub mod ListsShow
 pub mod NoCode
 pub mod FrameSteps
 pub mod OneShortPlan
 pub mod OneWalk
+pub mod SomeError
+pub mod SomeFunction
+pub mod SomeShortPlan
+pub mod SomeWalk
 pub mod WholeWalks
 pub mod Frames
 pub mod Tails

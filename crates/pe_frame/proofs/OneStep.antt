@@ -68,7 +68,7 @@ some_then : (m : ℕ → Option ℕ) (is : List UnwindInfoView) (b : Bool) (e : 
 some_then m is b (Ok u) next = next u
 some_then m is b (Err e) next = (Err e, refl)
 
-some_undoing : (m : ℕ → Option ℕ) (is : List UnwindInfoView) (limit : Option ℕ) (b : Bool) (g : Registers) → (x : Result (Registers × Bool) FrameError) × Undoes m is limit b g x
+pub some_undoing : (m : ℕ → Option ℕ) (is : List UnwindInfoView) (limit : Option ℕ) (b : Bool) (g : Registers) → (x : Result (Registers × Bool) FrameError) × Undoes m is limit b g x
 some_undoing m [] limit b g = (Ok (g, b), refl)
 some_undoing m (i ∷ is) limit b g =
     let items = some_items (code_stream i) in

@@ -1,5 +1,7 @@
 -- Memory in pieces shows what a machine's memory has.
 use Rattle.std.proofs.Common.{◌≡◌, ℕ, zero, suc, ◌+◌, ◌-◌, ◌^◌, ◌<◌, ◌≤◌, ◌⊎◌, inl, inr, Bool, true, false, ◌&&◌, ◌||◌, nat_le, List, [], ◌∷◌, get_or, Option, Some, None, refl, ap, subst, sym, ◌∙◌, arith, add-one}
+use Rattle.std.specs.List.{AllByRecursion, find, list_any}
+use Rattle.std.specs.Option.{option_map}
 use Rattle.std.proofs.lemmas.Bool.{cases_lt}
 use Rattle.std.proofs.lemmas.Bool.Decides.{nat_tests}
 use Rattle.pe_core.specs.Bytes.{holds}
@@ -7,7 +9,7 @@ use Rattle.pe_core.specs.Rows.{each}
 use Rattle.pe_core.proofs.EntryItems.{get_or-each}
 use Rattle.pe_frame.specs.Machine.{loaded}
 use Rattle.pe_frame.specs.Memory.{stack_word}
-use Rattle.pe_frame.specs.MemoryPieces.{ArePiecesOf, byte_in, has_byte, have_byte, known_bytes, piece_size, pieces_word}
+use Rattle.pe_frame.specs.MemoryPieces.{ArePiecesOf, byte_in, has_byte, have_byte, known_bytes, known_word, piece_size, pieces_word}
 use Rattle.pe_frame.specs.declared.memory.Stack.{Stack}
 use Rattle.pe_frame.proofs.Begun.{number_shown, word_shown}
 use Rattle.pe_frame.proofs.Lookups.{ends_before, has_it, is_within, starts_after}
@@ -21,34 +23,43 @@ byte_here memory b s shows has =
     let same : s.start + (b - s.start) ≡ b = omega (arith, within.0) in
     shows (b - s.start) (omega (arith, within.0, within.1)) ∙ ap memory same
 
-byte_by : (memory : ℕ → ℕ) (b : ℕ) (s : Stack) (ss : List Stack) (has : Bool) → has_byte b s ≡ has → ((i : ℕ) → i < piece_size s → get_or s.bytes.now i 0 ≡ memory (s.start + i)) → (have_byte b ss ≡ true → byte_in ss b ≡ Some (memory b)) → have_byte b (s ∷ ss) ≡ true → byte_in (s ∷ ss) b ≡ Some (memory b)
-byte_by memory b s ss true has shows more one = rw has (ap (λ (v : ℕ). Some v) (byte_here memory b s shows has))
-byte_by memory b s ss false has shows more one =
-    let others : have_byte b ss ≡ true = subst (λ (t : Bool). (t || have_byte b ss) ≡ true) has one in
-    rw has (more others)
+module _ {X : Type 0} (Shows : X → Type 0) (has : X → Bool) (value : X → ℕ) (v : ℕ) where
+  abbrev pub HasValue : Type 0
+  HasValue = (x : X) → Shows x → has x ≡ true → value x ≡ v
+
+  first_by : HasValue → (x : X) (xs : List X) (t : Bool) → has x ≡ t → Shows x → (list_any has xs ≡ true → option_map value (find has xs) ≡ Some v) → list_any has (x ∷ xs) ≡ true → option_map value (find has (x ∷ xs)) ≡ Some v
+  first_by is x xs true h shows more one = rw h (ap (λ (n : ℕ). Some n) (is x shows h))
+  first_by is x xs false h shows more one =
+      let others : list_any has xs ≡ true = subst (λ (t : Bool). (t || list_any has xs) ≡ true) h one in
+      rw h (more others)
+
+  -- what the first shows that has an address
+  pub first_shown : HasValue → (xs : List X) → AllByRecursion Shows xs → list_any has xs ≡ true → option_map value (find has xs) ≡ Some v
+  first_shown is [] shows one = absurd (cc one)
+  first_shown is (x ∷ xs) shows one = first_by is x xs (has x) refl shows.0 (first_shown is xs shows.1) one
 
 byte_shown : (memory : ℕ → ℕ) (b : ℕ) (pieces : List Stack) → ArePiecesOf memory pieces → have_byte b pieces ≡ true → byte_in pieces b ≡ Some (memory b)
-byte_shown memory b [] shows one = absurd (cc one)
-byte_shown memory b (s ∷ ss) shows one =
-    byte_by memory b s ss (has_byte b s) refl shows.0 (byte_shown memory b ss shows.1) one
+byte_shown memory b pieces shows one =
+    first_shown (λ s. (i : ℕ) → i < piece_size s → get_or s.bytes.now i 0 ≡ memory (s.start + i)) (has_byte b) (λ s. get_or s.bytes.now (b - s.start) 0) (memory b) (byte_here memory b) pieces shows one
 
 -- ---- a word
 
-bytes_shown : (memory : ℕ → ℕ) (a : ℕ) (pieces : List Stack) (n : ℕ) → n ≤ 8 → ((i : ℕ) → i < 8 → byte_in pieces (a + i) ≡ Some (memory (a + i))) → known_bytes (byte_in pieces) a n ≡ Some (each (λ i. memory (a + i)) n)
-unfolding each
-bytes_shown memory a pieces zero small known = refl
-bytes_shown memory a pieces (suc n) small known =
-    rw (bytes_shown memory a pieces n (omega (arith, small)) known, known n (omega (arith, small))) refl
+module _ (byte : ℕ → Option ℕ) (memory : ℕ → ℕ) (a : ℕ) where
+  bytes_shown : (n : ℕ) → n ≤ 8 → ((i : ℕ) → i < 8 → byte (a + i) ≡ Some (memory (a + i))) → known_bytes byte a n ≡ Some (each (λ i. memory (a + i)) n)
+  unfolding each
+  bytes_shown zero small known = refl
+  bytes_shown (suc n) small known = rw (bytes_shown n (omega (arith, small)) known, known n (omega (arith, small))) refl
 
-word_known : (memory : ℕ → ℕ) (a : ℕ) (pieces : List Stack) → a + 8 ≤ 2 ^ 64 → ((i : ℕ) → i < 8 → byte_in pieces (a + i) ≡ Some (memory (a + i))) → pieces_word pieces a ≡ Some (loaded memory a)
-word_known memory a pieces fits known =
-    let test : nat_le (a + 8) (2 ^ 64) ≡ true = grind (arith, nat_tests) in
-    rw (test, bytes_shown memory a pieces 8 (omega arith) known)
-    (ap (λ (v : ℕ). Some v) (number_shown (each (λ i. memory (a + i)) 8) 0 a 8 memory (omega arith) (λ i small. let same : 0 + i ≡ i = omega arith in rw same (get_or-each (λ i. memory (a + i)) 8 i 0 small))))
+  -- the word of eight bytes that are known
+  pub word_known : a + 8 ≤ 2 ^ 64 → ((i : ℕ) → i < 8 → byte (a + i) ≡ Some (memory (a + i))) → known_word byte a ≡ Some (loaded memory a)
+  word_known fits known =
+      let test : nat_le (a + 8) (2 ^ 64) ≡ true = grind (arith, nat_tests) in
+      rw (test, bytes_shown 8 (omega arith) known)
+      (ap (λ (v : ℕ). Some v) (number_shown (each (λ i. memory (a + i)) 8) 0 a 8 memory (omega arith) (λ i small. let same : 0 + i ≡ i = omega arith in rw same (get_or-each (λ i. memory (a + i)) 8 i 0 small))))
 
 pub word_of_pieces : (pieces : List Stack) (a : ℕ) (memory : ℕ → ℕ) → ArePiecesOf memory pieces → ((i : ℕ) → i < 8 → have_byte (a + i) pieces ≡ true) → a + 8 ≤ 2 ^ 64 → pieces_word pieces a ≡ Some (loaded memory a)
 word_of_pieces pieces a memory shows one fits =
-    word_known memory a pieces fits (λ i small. byte_shown memory (a + i) pieces shows (one i small))
+    word_known (byte_in pieces) memory a fits (λ i small. byte_shown memory (a + i) pieces shows (one i small))
 
 -- ---- one piece
 

@@ -1,10 +1,10 @@
 -- What is left of an epilog leads to the caller.
 use Rattle.std.specs.Prelude.{if◌then◌else◌, IsSome}
-use Rattle.std.proofs.Common.{◌≡◌, ◌≢◌, ℕ, ◌+◌, ◌-◌, ◌%◌, ◌/◌, ◌^◌, ◌<◌, ◌≤◌, ◌⊎◌, ◌||◌, inl, inr, Bool, true, false, ltb, eqb, List, [], ◌∷◌, ◌++◌, length, get_or, Option, Some, None, Result, Ok, Err, refl, ap, sym, ◌∙◌, subst, arith}
+use Rattle.std.proofs.Common.{◌≡◌, ◌≢◌, ℕ, ◌+◌, ◌-◌, ◌%◌, ◌/◌, ◌^◌, ◌<◌, ◌≤◌, ◌⊎◌, ◌||◌, inl, inr, Bool, true, false, ltb, eqb, List, [], ◌∷◌, ◌++◌, length, get_or, set, Option, Some, None, Result, Ok, Err, refl, ap, sym, ◌∙◌, subst, arith}
 use Rattle.std.specs.List.{AllByRecursion}
 use Rattle.std.proofs.lemmas.Bool.{lt-ltb}
 use Rattle.std.proofs.lemmas.Bool.Decides.{nat_tests}
-use Rattle.std.proofs.lemmas.List.{get_or-set_other, length-set, set-get_or, set-set}
+use Rattle.std.proofs.lemmas.List.{get_or-set_other, get_or-set_same, length-set, set-get_or, set-set}
 use Rattle.pe_unwind.specs.declared.register.Register.{Register}
 use Rattle.pe_unwind.specs.declared.unwind_code.UnwindOperation.{UnwindOperation}
 use Rattle.pe_unwind.specs.declared.unwind_code.UnwindOperation.TheVariants.{PushNonVolatile, Alloc, SetFPRegister, SaveNonVolatile, SaveXMM, Epilog, SaveXMM128, PushMachineFrame, Noop}
@@ -16,14 +16,14 @@ use Rattle.pe_frame.specs.declared.registers.Registers.{Registers}
 use Rattle.pe_frame.specs.Undoing.{◌>>=◌, Frame, offset_number, pointer, put_register, put_xmm, put_rip, number, above, require_integer, raised, undone, undone_all, popped, is_framed, is_interrupted, ran}
 use Rattle.pe_unwind.specs.UnwindRecord.{UnwindInfoView}
 use Rattle.pe_frame.specs.Steps.{frame_of, rising}
-use Rattle.pe_frame.specs.Machine.{Machine, top, base, run, SavesNone, MayMove, IsProlog, KeepsFrame, saves, saves_xmm, chosen}
+use Rattle.pe_frame.specs.Machine.{Machine, top, base, run, IsProlog, KeepsFrame, saves, saves_xmm, chosen}
 use Rattle.pe_frame.specs.Frames.{Part, infos, left, registers_of, SavesOrKeeps, AreFrames, restored, restored_xmm, IsCaller}
 use Rattle.pe_frame.specs.Epilogs.{moved, epilog_at, executed, executed_all, StepsFrom, StepsWithCode}
 use Rattle.pe_frame.specs.EpilogFrames.{Exits, Pops, moves, allocated, pushes, Leads, Frees, FreesAndPops, AreRestored, IsBack, IsEpilogOfParts, AreReady}
-use Rattle.pe_frame.proofs.Runs.{count, pointer_set, pointer_other}
+use Rattle.pe_frame.proofs.Runs.{count, entered, pointer_set, pointer_other, sinks}
 use Rattle.pe_frame.proofs.Saved.{Holds, holds, known}
 use Rattle.pe_frame.proofs.Frames.{entry_of, frames_also, called}
-use Rattle.pe_frame.proofs.Tails.{then_same, then_then, then_ok, executed_append}
+use Rattle.pe_frame.proofs.Tails.{then_ok, executed_append}
 use Rattle.pe_frame.proofs.Undone as undone
 
 exit_pops : (m : ℕ → Option ℕ) (i : Instruction) (g : Registers) → Exits i → executed m i g ≡ popped m g
@@ -33,24 +33,6 @@ exit_pops m JumpByMemory g e = refl
 exit_pops m (Add n) g e = absurd e
 exit_pops m (Lea r n) g e = absurd e
 exit_pops m (Pop r) g e = absurd e
-
--- one step, and then the same steps of either kind
-joined : {A B C : Type 0} (x : Result A FrameError) (f : A → Result C FrameError) (h : A → Result B FrameError) (k : B → Result C FrameError) → ((v : A) → f v ≡ (h v >>= k)) → (x >>= f) ≡ ((x >>= h) >>= k)
-joined x f h k same = then_same x f (λ v. h v >>= k) same ∙ sym (then_then x h k)
-
--- pops and the exit undo the pushes and pop the return address
-pops_undo : (m : ℕ → Option ℕ) (b : ℕ) (codes : List UnwindOperation) (is : List Instruction) (g : Registers) → Pops codes is → executed_all m is g ≡ (undone_all m b codes g >>= popped m)
-pops_undo m b [] is g p = rw p.2 (then_ok (executed m p.0 g) ∙ exit_pops m p.0 g p.1)
-pops_undo m b (PushNonVolatile r ∷ before) is g p =
-    rw p.1 (joined (undone m b (PushNonVolatile r) g) (executed_all m p.0) (undone_all m b before) (popped m) (λ v. pops_undo m b before p.0 v p.2))
-pops_undo m b (Alloc n ∷ before) is g p = absurd p
-pops_undo m b (SetFPRegister ∷ before) is g p = absurd p
-pops_undo m b (SaveNonVolatile r o ∷ before) is g p = absurd p
-pops_undo m b (SaveXMM r o ∷ before) is g p = absurd p
-pops_undo m b (Epilog x y ∷ before) is g p = absurd p
-pops_undo m b (SaveXMM128 r o ∷ before) is g p = absurd p
-pops_undo m b (PushMachineFrame e ∷ before) is g p = absurd p
-pops_undo m b (Noop ∷ before) is g p = absurd p
 
 -- what a step that succeeded was
 record Went {A B : Type 0} (x : Result A FrameError) (f : A → Result B FrameError) (y : B) : Type 0 where
@@ -106,6 +88,47 @@ all_of m is js g u e h = ap (λ (ks : List Instruction). executed_all m ks g) (s
 
 put_same : (g : Registers) → put_register g 4 (pointer g) ≡ g
 put_same g = ap (λ (xs : List ℕ). record { general = xs; xmm = g.xmm; rip = g.rip }) (set-get_or g.general 4 0)
+
+-- pops of an epilog pop no stack pointer
+abbrev Spares : List UnwindOperation → Type 0
+Spares [] = Unit {0}
+Spares (PushNonVolatile r ∷ before) = (r.0 ≢ 4) × Spares before
+Spares (other ∷ before) = Spares before
+
+-- where the frame register was set the stack pointer has come to the base of the frame
+abbrev Reaches : ℕ → ℕ → List UnwindOperation → Type 0
+Reaches b p [] = Unit {0}
+Reaches b p (PushNonVolatile r ∷ before) = Reaches b (p + 8) before
+Reaches b p (SetFPRegister ∷ before) = (p ≡ b) × Reaches b b before
+Reaches b p (other ∷ before) = Unit {0}
+
+exit_alone : (m : ℕ → Option ℕ) (is : List Instruction) (g : Registers) → Pops [] is → executed_all m is g ≡ popped m g
+exit_alone m is g p = rw p.2 (then_ok (executed m p.0 g) ∙ exit_pops m p.0 g p.1)
+
+-- where undoing the pushes and popping the return address comes to the caller, pops and the exit do
+pops_come : (m : ℕ → Option ℕ) (b : ℕ) (codes : List UnwindOperation) (is : List Instruction) (g e u : Registers) → Spares codes → Reaches b (pointer g) codes → length g.general ≡ 16 →
+    undone_all m b codes g ≡ Ok e → popped m e ≡ Ok u → Pops codes is → executed_all m is g ≡ Ok u
+pops_come m b [] is g e u spares reaches len un up p =
+    let same : g ≡ e = cc in
+    exit_alone m is g p ∙ (ap (λ (x : Registers). popped m x) same ∙ up)
+pops_come m b (PushNonVolatile r ∷ before) is g e u spares reaches len un up p =
+    let w = went (undone m b (PushNonVolatile r) g) (undone_all m b before) e un in
+    let rose = push_rose m b r g w.value spares.0 len w.first in
+    let on : Reaches b (pointer w.value) before = subst (λ (k : ℕ). Reaches b k before) (sym rose.pointer_is) reaches in
+    let rest = pops_come m b before p.0 w.value e u spares.1 on rose.count w.next up p.2 in
+    rw p.1 (ap (λ (x : Result Registers FrameError). x >>= executed_all m p.0) w.first ∙ rest)
+pops_come m b (SetFPRegister ∷ before) is g e u spares reaches len un up p =
+    let same : put_register g 4 b ≡ g = ap (λ (k : ℕ). put_register g 4 k) (sym reaches.0) ∙ put_same g in
+    let here : undone_all m b before g ≡ Ok e = ap (λ (x : Registers). undone_all m b before x) (sym same) ∙ un in
+    let on : Reaches b (pointer g) before = subst (λ (k : ℕ). Reaches b k before) (sym reaches.0) reaches.1 in
+    pops_come m b before is g e u spares on len here up p
+pops_come m b (Alloc n ∷ before) is g e u spares reaches len un up p = absurd p
+pops_come m b (SaveNonVolatile r o ∷ before) is g e u spares reaches len un up p = absurd p
+pops_come m b (SaveXMM r o ∷ before) is g e u spares reaches len un up p = absurd p
+pops_come m b (Epilog x y ∷ before) is g e u spares reaches len un up p = absurd p
+pops_come m b (SaveXMM128 r o ∷ before) is g e u spares reaches len un up p = absurd p
+pops_come m b (PushMachineFrame x ∷ before) is g e u spares reaches len un up p = absurd p
+pops_come m b (Noop ∷ before) is g e u spares reaches len un up p = absurd p
 
 put_put : (g : Registers) (a b : ℕ) → put_register (put_register g 4 a) 4 b ≡ put_register g 4 b
 put_put g a b = ap (λ (xs : List ℕ). record { general = xs; xmm = g.xmm; rip = g.rip }) (set-set g.general 4 a b)
@@ -197,6 +220,53 @@ trail_sum c f (SaveXMM128 r o ∷ before) s b p q h = trail_sum c f before s b p
 trail_sum c f (PushMachineFrame x ∷ before) s b p q h = omega arith
 trail_sum c f (Noop ∷ before) s b p q h = trail_sum c f before s b p q.1 h
 
+-- from the last push on the pops come to the base of the frame
+reaches_pops : (c : Bool) (f : Frame) (codes : List UnwindOperation) (s : Machine) (b p : ℕ) → IsProlog c f codes s → IsExact (run f codes s).frame b p (top (run f codes s)) → Reaches b p (moves codes)
+reaches_pops c f [] s b p q h = tt
+reaches_pops c f (PushNonVolatile r ∷ before) s b p q h =
+    let t = top (run f before s) in
+    let set_top : top (run f (PushNonVolatile r ∷ before) s) ≡ t - 8 = pointer_set (run f before s).general (t - 8) (count c f before s q.1) in
+    reaches_pops c f before s b (p + 8) q.1 (exact_alloc (run f before s).frame b p 8 t (top (run f (PushNonVolatile r ∷ before) s)) set_top q.0.3 h)
+reaches_pops c f (SetFPRegister ∷ before) s b p q h =
+    let t : top (run f (SetFPRegister ∷ before) s) ≡ top (run f before s) = pointer_other (run f before s).general f.register (top (run f before s) + f.offset) q.0.0.savable.other in
+    (h.0 ∙ (t ∙ h.1), reaches_pops c f before s b b q.1 (exact_none (run f before s).frame b b (top (run f before s)) q.0.1))
+reaches_pops c f (Alloc n ∷ before) s b p q h = tt
+reaches_pops c f (SaveNonVolatile r o ∷ before) s b p q h = reaches_pops c f before s b p q.1 h
+reaches_pops c f (SaveXMM r o ∷ before) s b p q h = absurd q.0
+reaches_pops c f (Epilog x y ∷ before) s b p q h = reaches_pops c f before s b p q.1 h
+reaches_pops c f (SaveXMM128 r o ∷ before) s b p q h = reaches_pops c f before s b p q.1 h
+reaches_pops c f (PushMachineFrame x ∷ before) s b p q h = tt
+reaches_pops c f (Noop ∷ before) s b p q h = reaches_pops c f before s b p q.1 h
+
+-- so they do from where what was allocated is freed
+reaches_of : (c : Bool) (f : Frame) (codes : List UnwindOperation) (s : Machine) (b p : ℕ) → IsProlog c f codes s → IsExact (run f codes s).frame b p (top (run f codes s)) → Reaches b (trail b p (moves codes)) (pushes (moves codes))
+reaches_of c f [] s b p q h = tt
+reaches_of c f (Alloc n ∷ before) s b p q h =
+    let t = top (run f before s) in
+    let set_top : top (run f (Alloc n ∷ before) s) ≡ t - n = pointer_set (run f before s).general (t - n) (count c f before s q.1) in
+    reaches_of c f before s b (p + n) q.1 (exact_alloc (run f before s).frame b p n t (top (run f (Alloc n ∷ before) s)) set_top q.0.1 h)
+reaches_of c f (SetFPRegister ∷ before) s b p q h = reaches_of c f before s b b q.1 (exact_none (run f before s).frame b b (top (run f before s)) q.0.1)
+reaches_of c f (PushNonVolatile r ∷ before) s b p q h = reaches_pops c f (PushNonVolatile r ∷ before) s b p q h
+reaches_of c f (SaveNonVolatile r o ∷ before) s b p q h = reaches_of c f before s b p q.1 h
+reaches_of c f (SaveXMM r o ∷ before) s b p q h = absurd q.0
+reaches_of c f (Epilog x y ∷ before) s b p q h = reaches_of c f before s b p q.1 h
+reaches_of c f (SaveXMM128 r o ∷ before) s b p q h = reaches_of c f before s b p q.1 h
+reaches_of c f (PushMachineFrame x ∷ before) s b p q h = tt
+reaches_of c f (Noop ∷ before) s b p q h = reaches_of c f before s b p q.1 h
+
+-- and from where `lea` leads
+reaches_led : (c : Bool) (f : Frame) (codes : List UnwindOperation) (s : Machine) (d b p : ℕ) → IsProlog c f codes s → Leads f d (moves codes) → Reaches b (trail b p (moves codes)) (pushes (moves codes))
+reaches_led c f [] s d b p q h = absurd h
+reaches_led c f (Alloc n ∷ before) s d b p q h = reaches_led c f before s d b (p + n) q.1 h
+reaches_led c f (SetFPRegister ∷ before) s d b p q h = reaches_of c f before s b b q.1 (exact_none (run f before s).frame b b (top (run f before s)) q.0.1)
+reaches_led c f (PushNonVolatile r ∷ before) s d b p q h = absurd h
+reaches_led c f (SaveNonVolatile r o ∷ before) s d b p q h = reaches_led c f before s d b p q.1 h
+reaches_led c f (SaveXMM r o ∷ before) s d b p q h = absurd h
+reaches_led c f (Epilog x y ∷ before) s d b p q h = reaches_led c f before s d b p q.1 h
+reaches_led c f (SaveXMM128 r o ∷ before) s d b p q h = reaches_led c f before s d b p q.1 h
+reaches_led c f (PushMachineFrame x ∷ before) s d b p q h = absurd h
+reaches_led c f (Noop ∷ before) s d b p q h = reaches_led c f before s d b p q.1 h
+
 -- `lea` leads there
 record IsLed (f : Frame) (d b p : ℕ) (codes : List UnwindOperation) (frame : Option ℕ) : Type 0 where
   pub framed : IsSome frame
@@ -241,31 +311,40 @@ restored_moved c f (SaveXMM128 r o ∷ before) s g x p h = (h.0, restored_moved 
 restored_moved c f (PushMachineFrame e ∷ before) s g x p h = restored_moved c f before s g x p.1 h
 restored_moved c f (Noop ∷ before) s g x p h = restored_moved c f before s g x p.1 h
 
--- without saves an epilog undoes all
-without_saves : (m : ℕ → Option ℕ) (b : ℕ) (codes : List UnwindOperation) (g : Registers) → SavesNone codes → undone_all m b codes g ≡ undone_all m b (moves codes) g
-without_saves m b [] g h = refl
-without_saves m b (PushNonVolatile r ∷ before) g h = then_same (undone m b (PushNonVolatile r) g) (undone_all m b before) (undone_all m b (moves before)) (λ v. without_saves m b before v h)
-without_saves m b (Alloc n ∷ before) g h = then_same (undone m b (Alloc n) g) (undone_all m b before) (undone_all m b (moves before)) (λ v. without_saves m b before v h)
-without_saves m b (SetFPRegister ∷ before) g h = without_saves m b before (put_register g 4 b) h
-without_saves m b (SaveNonVolatile r o ∷ before) g h = absurd h
-without_saves m b (SaveXMM r o ∷ before) g h = refl
-without_saves m b (Epilog x y ∷ before) g h = without_saves m b before g h
-without_saves m b (SaveXMM128 r o ∷ before) g h = absurd h
-without_saves m b (PushMachineFrame e ∷ before) g h = then_same (undone m b (PushMachineFrame e) g) (undone_all m b before) (undone_all m b (moves before)) (λ v. without_saves m b before v h)
-without_saves m b (Noop ∷ before) g h = without_saves m b before g h
+same_or_other : (r q v : ℕ) (b : Bool) (xs old : List ℕ) → eqb r q ≡ b → length xs ≡ 16 → q < 16 → v ≡ get_or old q 0 → get_or xs r 0 ≡ get_or old r 0 → get_or (set xs q v) r 0 ≡ get_or old r 0
+same_or_other r q v true xs old e len small is h =
+    let same : r ≡ q = grind (arith, nat_tests) in
+    ap (λ (k : ℕ). get_or (set xs q v) k 0) same ∙ (get_or-set_same xs q v 0 (omega arith) ∙ (is ∙ ap (λ (k : ℕ). get_or old k 0) (sym same)))
+same_or_other r q v false xs old e len small is h =
+    let other : r ≢ q = grind (arith, nat_tests) in
+    get_or-set_other xs q r v 0 other ∙ h
 
--- up to the last push no frame register was set
-frame_none : (c : Bool) (f : Frame) (codes : List UnwindOperation) (s : Machine) (is : List Instruction) → IsProlog c f codes s → Pops (moves codes) is → (run f codes s).frame ≡ None
-frame_none c f [] s is p q = p.frame
-frame_none c f (PushNonVolatile r ∷ before) s is p q = frame_none c f before s q.0 p.1 q.2
-frame_none c f (Alloc n ∷ before) s is p q = absurd q
-frame_none c f (SetFPRegister ∷ before) s is p q = absurd q
-frame_none c f (SaveNonVolatile r o ∷ before) s is p q = frame_none c f before s is p.1 q
-frame_none c f (SaveXMM r o ∷ before) s is p q = absurd q
-frame_none c f (Epilog x y ∷ before) s is p q = frame_none c f before s is p.1 q
-frame_none c f (SaveXMM128 r o ∷ before) s is p q = frame_none c f before s is p.1 q
-frame_none c f (PushMachineFrame e ∷ before) s is p q = absurd q
-frame_none c f (Noop ∷ before) s is p q = frame_none c f before s is p.1 q
+-- nor does a register that has its value from the entry
+restored_put : (codes : List UnwindOperation) (s : Machine) (g : Registers) (q : ℕ) → length g.general ≡ 16 → q < 16 → AreRestored codes s g → AreRestored codes s (put_register g q (get_or s.general q 0))
+restored_put [] s g q len small h = tt
+restored_put (PushNonVolatile r ∷ before) s g q len small h = restored_put before s g q len small h
+restored_put (Alloc n ∷ before) s g q len small h = restored_put before s g q len small h
+restored_put (SetFPRegister ∷ before) s g q len small h = restored_put before s g q len small h
+restored_put (SaveNonVolatile r o ∷ before) s g q len small h =
+    (same_or_other r.0 q (get_or s.general q 0) (eqb r.0 q) g.general s.general refl len small refl h.0, restored_put before s g q len small h.1)
+restored_put (SaveXMM r o ∷ before) s g q len small h = restored_put before s g q len small h
+restored_put (Epilog x y ∷ before) s g q len small h = restored_put before s g q len small h
+restored_put (SaveXMM128 r o ∷ before) s g q len small h = (h.0, restored_put before s g q len small h.1)
+restored_put (PushMachineFrame x ∷ before) s g q len small h = restored_put before s g q len small h
+restored_put (Noop ∷ before) s g q len small h = restored_put before s g q len small h
+
+-- pops that undo pushes undo the pushes below a frame register that is set
+pops_pushes : (codes : List UnwindOperation) (is : List Instruction) → Pops codes is → Pops (pushes codes) is
+pops_pushes [] is p = p
+pops_pushes (PushNonVolatile r ∷ before) is p = p
+pops_pushes (SetFPRegister ∷ before) is p = pops_pushes before is p
+pops_pushes (Alloc n ∷ before) is p = absurd p
+pops_pushes (SaveNonVolatile r o ∷ before) is p = absurd p
+pops_pushes (SaveXMM r o ∷ before) is p = absurd p
+pops_pushes (Epilog x y ∷ before) is p = absurd p
+pops_pushes (SaveXMM128 r o ∷ before) is p = absurd p
+pops_pushes (PushMachineFrame x ∷ before) is p = absurd p
+pops_pushes (Noop ∷ before) is p = absurd p
 
 -- a step that changes nothing can be left out
 stays_then : (m : ℕ → Option ℕ) (b : ℕ) (o : UnwindOperation) (before : List UnwindOperation) (g v e : Registers) → undone m b o g ≡ Ok v → v ≡ g → undone_all m b (o ∷ before) g ≡ Ok e → undone_all m b before g ≡ Ok e
@@ -275,23 +354,42 @@ stays_then m b o before g v e step same h =
 
 -- where saved registers are restored, undoing their saves changes nothing
 unsaved : (m : ℕ → Option ℕ) (b : ℕ) (c : Bool) (f : Frame) (codes : List UnwindOperation) (s : Machine) (g e : Registers) (is : List Instruction) → IsProlog c f codes s → Holds (λ a v. m a ≡ Some v) c f codes s →
-    undone.HasBase (run f codes s).frame codes (top (run f codes s)) b → AreRestored codes s g → Pops (pushes (moves codes)) is → length g.general ≡ 16 → undone_all m b codes g ≡ Ok e → undone_all m b (moves codes) g ≡ Ok e
-unsaved m b c f [] s g e is p k hb r q len h = h
-unsaved m b c f (PushNonVolatile i ∷ before) s g e is p k hb r q len h =
-    let none = frame_none c f before s q.0 p.1 q.2 in
-    let may : SavesNone before = subst (λ (x : Option ℕ). MayMove x before) none p.0.2 in
-    sym (then_same (undone m b (PushNonVolatile i) g) (undone_all m b before) (undone_all m b (moves before)) (λ v. without_saves m b before v may)) ∙ h
-unsaved m b c f (Alloc n ∷ before) s g e is p k hb r q len h =
+    undone.HasBase (run f codes s).frame codes (top (run f codes s)) b → undone.Points (run f codes s).frame codes (top (run f codes s)) (pointer g) → AreRestored codes s g → Pops (pushes (moves codes)) is → length g.general ≡ 16 → undone_all m b codes g ≡ Ok e → undone_all m b (moves codes) g ≡ Ok e
+unsaved m b c f [] s g e is p k hb pt r q len h = h
+unsaved m b c f (PushNonVolatile i ∷ before) s g e is p k hb pt r q len h =
+    let t = top (run f before s) in
+    let set_top = pointer_set (run f before s).general (t - 8) (count c f before s p.1) in
+    let at : pointer g ≡ t - 8 = undone.pushed_points (run f before s).frame i before _ (pointer g) pt ∙ set_top in
+    let low = sinks c f before s p.1 in
+    let room = (entered c f before s p.1).values 4 in
+    let v = get_or s.general i.0 0 in
+    let next : Registers = put_register (put_register g i.0 v) 4 (pointer g + 8) in
+    let step = undone.pop_ok m b i g v p.0.0.number p.0.0.other (ap m at ∙ k.0) (omega (arith, p.0.3)) in
+    let len_set : length (set g.general i.0 v) ≡ 16 = length-set g.general i.0 v ∙ len in
+    let len_next : length next.general ≡ 16 = length-set (set g.general i.0 v) 4 (pointer g + 8) ∙ len_set in
+    let stack : pointer next ≡ t = pointer_set (set g.general i.0 v) (pointer g + 8) len_set ∙ omega (arith, p.0.3) in
+    let still : AreRestored before s next = restored_moved c f before s (put_register g i.0 v) (pointer g + 8) p.1 (restored_put before s g i.0 len p.0.0.number r) in
+    let hb_next = undone.base_moved (run f before s).frame (PushNonVolatile i ∷ before) before _ t b p.0.2 hb in
+    let after : undone_all m b before next ≡ Ok e = ap (λ (x : Result Registers FrameError). x >>= undone_all m b before) (sym step) ∙ h in
+    let rest = unsaved m b c f before s next e q.0 p.1 k.1 hb_next (undone.points_exact _ before t (pointer next) stack) still (pops_pushes (moves before) q.0 q.2) len_next after in
+    ap (λ (x : Result Registers FrameError). x >>= undone_all m b (moves before)) step ∙ rest
+unsaved m b c f (Alloc n ∷ before) s g e is p k hb pt r q len h =
+    let t = top (run f before s) in
+    let set_top : top (run f (Alloc n ∷ before) s) ≡ t - n = pointer_set (run f before s).general (t - n) (count c f before s p.1) in
     let w = went (raised n g) (undone_all m b before) e h in
     let a = raised_is n g w.value len w.first in
     let still : AreRestored before s w.value = subst (λ (x : Registers). AreRestored before s x) a.same (restored_moved c f before s g (pointer g + n) p.1 r) in
     let hb_next = undone.base_moved (run f before s).frame (Alloc n ∷ before) before (top (run f (Alloc n ∷ before) s)) (top (run f before s)) b p.0.0 hb in
-    let rest = unsaved m b c f before s w.value e is p.1 k hb_next still q a.count w.next in
+    let here : undone.Points (run f before s).frame (Alloc n ∷ before) (t - n) (pointer g) = subst (λ (x : ℕ). undone.Points (run f before s).frame (Alloc n ∷ before) x (pointer g)) set_top pt in
+    let pt_next : undone.Points (run f before s).frame before t (pointer w.value) = subst (λ (x : ℕ). undone.Points (run f before s).frame before t x) (sym a.pointer_is) (undone.points_raised (run f before s).frame before t (pointer g) n p.0.1 here) in
+    let rest = unsaved m b c f before s w.value e is p.1 k hb_next pt_next still q a.count w.next in
     ap (λ (x : Result Registers FrameError). x >>= undone_all m b (moves before)) w.first ∙ rest
-unsaved m b c f (SetFPRegister ∷ before) s g e is p k hb r q len h =
+unsaved m b c f (SetFPRegister ∷ before) s g e is p k hb pt r q len h =
     let hb_next = undone.base_none (run f before s).frame before (top (run f before s)) b p.0.1 (inr hb) in
-    unsaved m b c f before s (put_register g 4 b) e is p.1 k hb_next (restored_moved c f before s g b p.1 r) q (length-set g.general 4 b ∙ len) h
-unsaved m b c f (SaveNonVolatile i o ∷ before) s g e is p k hb r q len h =
+    let stack : pointer (put_register g 4 b) ≡ top (run f before s) = pointer_set g.general b len ∙ sym hb in
+    let pt_next = undone.points_exact (run f before s).frame before (top (run f before s)) (pointer (put_register g 4 b)) stack in
+    unsaved m b c f before s (put_register g 4 b) e is p.1 k hb_next pt_next (restored_moved c f before s g b p.1 r) q (length-set g.general 4 b ∙ len) h
+unsaved m b c f (SaveNonVolatile i o ∷ before) s g e is p k hb pt r q len h =
     let t = top (run f before s) in
     let v = get_or s.general i.0 0 in
     let is_base : base (run f before s) ≡ b = undone.base_saved (run f before s).frame i o before t b hb in
@@ -300,11 +398,11 @@ unsaved m b c f (SaveNonVolatile i o ∷ before) s g e is p k hb r q len h =
     let same : put_register g i.0 v ≡ g =
     ap (λ (x : ℕ). put_register g i.0 x) (sym r.0) ∙ ap (λ (xs : List ℕ). record { general = xs; xmm = g.xmm; rip = g.rip }) (set-get_or g.general i.0 0) in
     let hb_next = undone.base_saved_rest (run f before s).frame i o before t b hb in
-    unsaved m b c f before s g e is p.1 k.1 hb_next r.1 q len (stays_then m b (SaveNonVolatile i o) before g (put_register g i.0 v) e step same h)
-unsaved m b c f (SaveXMM i o ∷ before) s g e is p k hb r q len h = absurd p.0
-unsaved m b c f (Epilog x y ∷ before) s g e is p k hb r q len h =
-    unsaved m b c f before s g e is p.1 k (undone.base_weaker (run f before s).frame (Epilog x y ∷ before) before (top (run f before s)) b (λ z. z) hb) r q len h
-unsaved m b c f (SaveXMM128 i o ∷ before) s g e is p k hb r q len h =
+    unsaved m b c f before s g e is p.1 k.1 hb_next (undone.points_weaker (run f before s).frame (SaveNonVolatile i o ∷ before) before (top (run f before s)) (pointer g) (λ z. z) pt) r.1 q len (stays_then m b (SaveNonVolatile i o) before g (put_register g i.0 v) e step same h)
+unsaved m b c f (SaveXMM i o ∷ before) s g e is p k hb pt r q len h = absurd p.0
+unsaved m b c f (Epilog x y ∷ before) s g e is p k hb pt r q len h =
+    unsaved m b c f before s g e is p.1 k (undone.base_weaker (run f before s).frame (Epilog x y ∷ before) before (top (run f before s)) b (λ z. z) hb) (undone.points_weaker (run f before s).frame (Epilog x y ∷ before) before (top (run f before s)) (pointer g) (λ z. z) pt) r q len h
+unsaved m b c f (SaveXMM128 i o ∷ before) s g e is p k hb pt r q len h =
     let t = top (run f before s) in
     let v = get_or s.xmm (i.0 - 17) 0 in
     let is_base : base (run f before s) ≡ b = undone.base_xmm (run f before s).frame i o before t b hb in
@@ -314,10 +412,10 @@ unsaved m b c f (SaveXMM128 i o ∷ before) s g e is p k hb r q len h =
     let same : put_xmm g (i.0 - 17) v ≡ g =
     ap (λ (x : ℕ). put_xmm g (i.0 - 17) x) (sym r.0) ∙ ap (λ (xs : List ℕ). record { general = g.general; xmm = xs; rip = g.rip }) (set-get_or g.xmm (i.0 - 17) 0) in
     let hb_next = undone.base_wide_rest (run f before s).frame i o before t b hb in
-    unsaved m b c f before s g e is p.1 k.1.1 hb_next r.1 q len (stays_then m b (SaveXMM128 i o) before g (put_xmm g (i.0 - 17) v) e step same h)
-unsaved m b c f (PushMachineFrame x ∷ before) s g e is p k hb r q len h = absurd q
-unsaved m b c f (Noop ∷ before) s g e is p k hb r q len h =
-    unsaved m b c f before s g e is p.1 k (undone.base_weaker (run f before s).frame (Noop ∷ before) before (top (run f before s)) b (λ z. z) hb) r q len h
+    unsaved m b c f before s g e is p.1 k.1.1 hb_next (undone.points_weaker (run f before s).frame (SaveXMM128 i o ∷ before) before (top (run f before s)) (pointer g) (λ z. z) pt) r.1 q len (stays_then m b (SaveXMM128 i o) before g (put_xmm g (i.0 - 17) v) e step same h)
+unsaved m b c f (PushMachineFrame x ∷ before) s g e is p k hb pt r q len h = absurd q
+unsaved m b c f (Noop ∷ before) s g e is p k hb pt r q len h =
+    unsaved m b c f before s g e is p.1 k (undone.base_weaker (run f before s).frame (Noop ∷ before) before (top (run f before s)) b (λ z. z) hb) (undone.points_weaker (run f before s).frame (Noop ∷ before) before (top (run f before s)) (pointer g) (λ z. z) pt) r q len h
 
 -- the frame register has its value from the prolog
 value_of : (c : Bool) (f : Frame) (codes : List UnwindOperation) (s : Machine) (b : ℕ) (g : Registers) (frame : Option ℕ) → IsProlog c f codes s → (run f codes s).frame ≡ frame → IsSome frame →
@@ -348,7 +446,7 @@ pops_no_lea : (codes : List UnwindOperation) (is : List Instruction) → Pops co
 pops_no_lea [] is p = subst HasNoLea (sym p.2) (exit_no_lea p.0 p.1)
 pops_no_lea (PushNonVolatile r ∷ before) is p = subst HasNoLea (sym p.1) tt
 pops_no_lea (Alloc n ∷ before) is p = absurd p
-pops_no_lea (SetFPRegister ∷ before) is p = absurd p
+pops_no_lea (SetFPRegister ∷ before) is p = pops_no_lea before is p
 pops_no_lea (SaveNonVolatile r o ∷ before) is p = absurd p
 pops_no_lea (SaveXMM r o ∷ before) is p = absurd p
 pops_no_lea (Epilog x y ∷ before) is p = absurd p
@@ -364,12 +462,6 @@ back_of (Pop r ∷ is) left g none h = h
 back_of (Return n ∷ is) left g none h = h
 back_of (Jump a ∷ is) left g none h = h
 back_of (JumpByMemory ∷ is) left g none h = h
-
--- pops of an epilog pop no stack pointer
-abbrev Spares : List UnwindOperation → Type 0
-Spares [] = Unit {0}
-Spares (PushNonVolatile r ∷ before) = (r.0 ≢ 4) × Spares before
-Spares (other ∷ before) = Spares before
 
 spares_moves : (c : Bool) (f : Frame) (codes : List UnwindOperation) (s : Machine) → IsProlog c f codes s → Spares (moves codes)
 spares_moves c f [] s p = tt
@@ -400,7 +492,7 @@ plain_moves : (codes : List UnwindOperation) (is : List Instruction) → Pops (m
 plain_moves [] is p = refl
 plain_moves (PushNonVolatile r ∷ before) is p = plain_moves before p.0 p.2
 plain_moves (Alloc n ∷ before) is p = absurd p
-plain_moves (SetFPRegister ∷ before) is p = absurd p
+plain_moves (SetFPRegister ∷ before) is p = plain_moves before is p
 plain_moves (SaveNonVolatile r o ∷ before) is p = plain_moves before is p
 plain_moves (SaveXMM r o ∷ before) is p = absurd p
 plain_moves (Epilog x y ∷ before) is p = plain_moves before is p
@@ -423,7 +515,7 @@ plain (Noop ∷ before) is p = plain before is p
 all_rise : (m : ℕ → Option ℕ) (codes : List UnwindOperation) (is : List Instruction) (g u : Registers) → Spares codes → Pops codes is → length g.general ≡ 16 →
     executed_all m is g ≡ Ok u → pointer g < pointer u
 all_rise m [] is g u p q len e =
-    let rose = popped_rose m g u len (sym (pops_undo m 0 [] is g q) ∙ e) in
+    let rose = popped_rose m g u len (sym (exit_alone m is g q) ∙ e) in
     omega (arith, rose.pointer_is)
 all_rise m (PushNonVolatile r ∷ before) is g u p q len e =
     let w = went (executed m (Pop r.0) g) (executed_all m q.0) u (ap (λ (js : List Instruction). executed_all m js g) (sym q.1) ∙ e) in
@@ -431,7 +523,7 @@ all_rise m (PushNonVolatile r ∷ before) is g u p q len e =
     let rest = all_rise m before q.0 w.value u p.1 q.2 rose.count w.next in
     omega (arith, rose.pointer_is)
 all_rise m (Alloc n ∷ before) is g u p q len e = absurd q
-all_rise m (SetFPRegister ∷ before) is g u p q len e = absurd q
+all_rise m (SetFPRegister ∷ before) is g u p q len e = all_rise m before is g u p q len e
 all_rise m (SaveNonVolatile r o ∷ before) is g u p q len e = absurd q
 all_rise m (SaveXMM r o ∷ before) is g u p q len e = absurd q
 all_rise m (Epilog x y ∷ before) is g u p q len e = absurd q
@@ -464,7 +556,7 @@ rises m (PushNonVolatile r ∷ codes) is (j ∷ before) rest i g h u p q at len 
     let rose = push_rose m 0 r g x.value p.0 len x.first in
     rises m codes q.0 before rest i x.value h u p.1 q.2 others rose.count (subst (λ (y : Registers). executed_all m before y ≡ Ok h) same w.next) x.next
 rises m (Alloc n ∷ codes) is (j ∷ before) rest i g h u p q at len ran all = absurd q
-rises m (SetFPRegister ∷ codes) is (j ∷ before) rest i g h u p q at len ran all = absurd q
+rises m (SetFPRegister ∷ codes) is (j ∷ before) rest i g h u p q at len ran all = rises m codes is (j ∷ before) rest i g h u p q at len ran all
 rises m (SaveNonVolatile r o ∷ codes) is (j ∷ before) rest i g h u p q at len ran all = absurd q
 rises m (SaveXMM r o ∷ codes) is (j ∷ before) rest i g h u p q at len ran all = absurd q
 rises m (Epilog x y ∷ codes) is (j ∷ before) rest i g h u p q at len ran all = absurd q
@@ -553,8 +645,20 @@ freed_below m codes t is (j ∷ before) rest i g v h u p q at step len ran all l
     trimmed m codes t j is before rest i g h u p q at (λ w x. let both : Ok v ≡ Ok w = sym step ∙ x in let same : v ≡ w = cc in ap (λ (y : Registers). length y.general) (sym same) ∙ len) ran all
 
 -- the pops, from the last push on
-popped_rest : (m : ℕ → Option ℕ) (b t : ℕ) (codes : List UnwindOperation) (is : List Instruction) (g e u : Registers) → undone_all m b codes (put_register g 4 t) ≡ Ok e → popped m e ≡ Ok u → Pops codes is → executed_all m is (put_register g 4 t) ≡ Ok u
-popped_rest m b t codes is g e u un up q = pops_undo m b codes is (put_register g 4 t) q ∙ rw un up
+popped_rest : (m : ℕ → Option ℕ) (b t : ℕ) (codes : List UnwindOperation) (is : List Instruction) (g e u : Registers) → Spares codes → Reaches b t codes → length g.general ≡ 16 → undone_all m b codes (put_register g 4 t) ≡ Ok e → popped m e ≡ Ok u → Pops codes is → executed_all m is (put_register g 4 t) ≡ Ok u
+popped_rest m b t codes is g e u spares reaches len un up q =
+    let at : pointer (put_register g 4 t) ≡ t = pointer_set g.general t len in
+    pops_come m b codes is (put_register g 4 t) e u spares (subst (λ (k : ℕ). Reaches b k codes) (sym at) reaches) (length-set g.general 4 t ∙ len) un up q
+
+-- the instruction that frees stack leads where the pops come to the base of the frame
+reaches_freed : (b : ℕ) (c : Bool) (f : Frame) (codes : List UnwindOperation) (s : Machine) (g : Registers) (i : Instruction) (is : List Instruction) → IsProlog c f codes s → Frees f (moves codes) i →
+    undone.HasBase (run f codes s).frame codes (top (run f codes s)) b → IsBack (i ∷ is) (run f codes s) g → Reaches b (trail b (pointer g) (moves codes)) (pushes (moves codes))
+reaches_freed b c f codes s g (Add n) is p e hb back = reaches_of c f codes s b (pointer g) p (exact_of (run f codes s).frame codes (top (run f codes s)) b (pointer g) hb back)
+reaches_freed b c f codes s g (Lea r d) is p e hb back = reaches_led c f codes s d b (pointer g) p e.1
+reaches_freed b c f codes s g (Pop r) is p e hb back = absurd e
+reaches_freed b c f codes s g (Return n) is p e hb back = absurd e
+reaches_freed b c f codes s g (Jump a) is p e hb back = absurd e
+reaches_freed b c f codes s g JumpByMemory is p e hb back = absurd e
 
 last_push_fits : (m : ℕ → Option ℕ) (t : ℕ) (codes : List UnwindOperation) (is : List Instruction) (g u : Registers) → Spares codes → Pops codes is → length g.general ≡ 16 → executed_all m is (put_register g 4 t) ≡ Ok u → pointer u < 2 ^ 64 → t < 2 ^ 64
 last_push_fits m t codes is g u p q len all small =
@@ -568,16 +672,18 @@ ends_of m b c f codes s g h e u is before rest i p hb k back len (inl (none, pop
     let exact = exact_of (run f codes s).frame codes (top (run f codes s)) b (pointer g) hb (back_of is (run f codes s) g (pops_no_lea (pushes (moves codes)) is pops) back) in
     let sum : trail b (pointer g) (moves codes) ≡ pointer g = trail_sum c f codes s b (pointer g) p exact ∙ omega (arith, none) in
     let same : put_register g 4 (trail b (pointer g) (moves codes)) ≡ g = ap (λ (x : ℕ). put_register g 4 x) sum ∙ put_same g in
-    let there = popped_rest m b (trail b (pointer g) (moves codes)) (pushes (moves codes)) is g e u un up pops in
+    let spares = spares_pushes (moves codes) (spares_moves c f codes s p) in
+    let there = popped_rest m b (trail b (pointer g) (moves codes)) (pushes (moves codes)) is g e u spares (reaches_of c f codes s b (pointer g) p exact) len un up pops in
     let all : executed_all m is g ≡ Ok u = subst (λ (x : Registers). executed_all m is x ≡ Ok u) same there in
-    let below = rises m (pushes (moves codes)) is before rest i g h u (spares_pushes (moves codes) (spares_moves c f codes s p)) pops at len ran all in
+    let below = rises m (pushes (moves codes)) is before rest i g h u spares pops at len ran all in
     ends_by m before rest i g h u ran (all_of m is (before ++ (i ∷ rest)) g u at all) below
 ends_of m b c f codes s g h e u is before rest i p hb k back len (inr (j, js, first, frees, pops)) at ran un up small low =
     let t = trail b (pointer g) (moves codes) in
     let spares = spares_pushes (moves codes) (spares_moves c f codes s p) in
-    let there = popped_rest m b t (pushes (moves codes)) js g e u un up pops in
+    let back_first = subst (λ (x : List Instruction). IsBack x (run f codes s) g) first back in
+    let there = popped_rest m b t (pushes (moves codes)) js g e u spares (reaches_freed b c f codes s g j js p frees hb back_first) len un up pops in
     let fits = last_push_fits m t (pushes (moves codes)) js g u spares pops len there small in
-    let step = freed m b c f codes s g j js p frees hb k (subst (λ (x : List Instruction). IsBack x (run f codes s) g) first back) fits in
+    let step = freed m b c f codes s g j js p frees hb k back_first fits in
     let all : executed_all m (j ∷ js) g ≡ Ok u = rw step there in
     let below = freed_below m (pushes (moves codes)) j js before rest i g (put_register g 4 t) h u spares pops (sym first ∙ at) step (length-set g.general 4 t ∙ len) ran all low in
     ends_by m before rest i g h u ran (all_of m (j ∷ js) (before ++ (i ∷ rest)) g u (sym first ∙ at) all) below
@@ -613,7 +719,7 @@ comes_alone m p before rest i g h frames epilog ready ran_so_far =
     let in_base : (undone_all m b.base codes g >>= with_kind (is_interrupted codes)) ≡ with_kind (is_interrupted codes) e.entry = rw b.is at e.is in
     let undoes = entry_same (undone_all m b.base codes g) (is_interrupted codes) e.entry in_base in
     let held = known m (run f codes p.entry).memory true f codes p.entry body.memory (holds true f codes p.entry prolog) in
-    let moves_undone = unsaved m b.base true f codes p.entry g e.entry pops.0 prolog held b.saves ready.restored pops.1 body.count undoes in
+    let moves_undone = unsaved m b.base true f codes p.entry g e.entry pops.0 prolog held b.saves b.points ready.restored pops.1 body.count undoes in
     let trail_undone = trails m b.base (moves codes) g e.entry body.count moves_undone in
     let above_return = popped_rose m e.entry last.0 e.count to_caller in
     let at_entry : pointer e.entry ≡ top p.entry = undone.left_plain codes p.entry e.entry calm e.leaves in

@@ -8,7 +8,7 @@ use Rattle.pe_frame.specs.Machine.{IsProlog, IsBody}
 use Rattle.pe_frame.specs.Frames.{Part, left, registers_of, IsRecord, SavesOrKeeps, AreFrames}
 use Rattle.pe_frame.specs.EpilogFrames.{IsReady, AreReady}
 use Rattle.pe_frame.specs.declared.epilog.Instruction.TheVariants.{Add, Lea, Pop, Return}
-use Rattle.pe_frame.specs.Samples.{all_known, home_part, inner_part, framed_part, interrupt_part, pushed_part}
+use Rattle.pe_frame.specs.Samples.{all_known, home_part, inner_part, framed_part, interrupt_part, late_part, pushed_part}
 
 abbrev HasItems : Part → Type 0
 HasItems p = AreItems (code_stream p.info) (map Ok p.codes)
@@ -109,3 +109,22 @@ framed_ready = record { restored = (refl, tt); back = tt }
 
 pub chained_ready : AreReady (inner_part ∷ home_part ∷ []) (Add 32 ∷ Pop 7 ∷ Return 0 ∷ []) (registers_of (left None inner_part))
 chained_ready = ((refl, tt), record { restored = (refl, tt); back = λ h. cc })
+
+late_items : HasItems late_part
+late_items = (
+  2,
+  (omega arith, (refl, inr (inl (refl, refl)))),
+  (2, (omega arith, (refl, inl (refl, refl))), (2, (omega arith, (refl, inr (inr (inl (refl, refl))))), (2, (omega arith, (refl, inl (refl, refl))), refl))),
+)
+
+late_prolog : RunsProlog true late_part
+late_prolog = search rules
+
+late_body : IsBody true (frame_of late_part.info) (ran None late_part.codes) late_part.entry (all_known (left None late_part)) (registers_of (left None late_part))
+late_body = search rules
+
+pub late : AreFrames (all_known (left None late_part)) (late_part ∷ []) None (registers_of (left None late_part))
+late = (record { items = late_items; prolog = late_prolog; frame = inr refl }, omega arith, record { order = tt; body = late_body })
+
+pub late_ready : IsReady (frame_of late_part.info) (ran None late_part.codes) late_part.entry (Add 32 ∷ Pop 3 ∷ Pop 5 ∷ Return 0 ∷ []) (registers_of (left None late_part))
+late_ready = record { restored = tt; back = λ h. refl }

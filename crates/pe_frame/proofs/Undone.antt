@@ -57,7 +57,7 @@ base_saved_rest None r o before t b (inl h) = absurd h
 base_saved_rest None r o before t b (inr h) = inr h
 base_saved_rest (Some c) r o before t b h = h
 
-points_exact : (frame : Option ℕ) (codes : List UnwindOperation) (t p : ℕ) → p ≡ t → Points frame codes t p
+pub points_exact : (frame : Option ℕ) (codes : List UnwindOperation) (t p : ℕ) → p ≡ t → Points frame codes t p
 points_exact None codes t p h = h
 points_exact (Some b) codes t p h = (omega arith, λ _. h)
 
@@ -65,7 +65,7 @@ none_points : (frame : Option ℕ) (codes : List UnwindOperation) (t p : ℕ) �
 none_points None codes t p e h = h
 none_points (Some b) codes t p e h = cc
 
-pushed_points : (frame : Option ℕ) (r : Register) (before : List UnwindOperation) (t p : ℕ) → Points frame (PushNonVolatile r ∷ before) t p → p ≡ t
+pub pushed_points : (frame : Option ℕ) (r : Register) (before : List UnwindOperation) (t p : ℕ) → Points frame (PushNonVolatile r ∷ before) t p → p ≡ t
 pushed_points None r before t p h = h
 pushed_points (Some b) r before t p h = h.1 tt
 
@@ -73,11 +73,11 @@ points_le : (frame : Option ℕ) (codes : List UnwindOperation) (t p : ℕ) → 
 points_le None codes t p h = omega arith
 points_le (Some b) codes t p h = h.0
 
-points_weaker : (frame : Option ℕ) (codes rest : List UnwindOperation) (t p : ℕ) → (PushesLate rest → PushesLate codes) → Points frame codes t p → Points frame rest t p
+pub points_weaker : (frame : Option ℕ) (codes rest : List UnwindOperation) (t p : ℕ) → (PushesLate rest → PushesLate codes) → Points frame codes t p → Points frame rest t p
 points_weaker None codes rest t p f h = h
 points_weaker (Some b) codes rest t p f h = (h.0, λ k. h.1 (f k))
 
-points_raised : (frame : Option ℕ) (before : List UnwindOperation) (t p n : ℕ) → n ≤ t → Points frame (Alloc n ∷ before) (t - n) p → Points frame before t (p + n)
+pub points_raised : (frame : Option ℕ) (before : List UnwindOperation) (t p n : ℕ) → n ≤ t → Points frame (Alloc n ∷ before) (t - n) p → Points frame before t (p + n)
 points_raised None before t p n small h = omega arith
 points_raised (Some b) before t p n small h = (let le : p ≤ t - n = h.0 in omega arith, λ k. let is : p ≡ t - n = h.1 k in omega arith)
 
@@ -109,7 +109,7 @@ raised_ok n g small = rw (above_ok (pointer g) n small) refl
 pub raised_at : (n p : ℕ) (g : Registers) → pointer g ≡ p → p + n < 2 ^ 64 → raised n g ≡ Ok (put_register g 4 (p + n))
 raised_at n p g e small = raised_ok n g (omega arith) ∙ ap (λ (k : ℕ). Ok (put_register g 4 (k + n))) e
 
-pop_ok : (m : ℕ → Option ℕ) (b : ℕ) (r : Register) (g : Registers) (v : ℕ) → r.0 < 16 → r.0 ≢ 4 → m (pointer g) ≡ Some v → pointer g + 8 < 2 ^ 64 →
+pub pop_ok : (m : ℕ → Option ℕ) (b : ℕ) (r : Register) (g : Registers) (v : ℕ) → r.0 < 16 → r.0 ≢ 4 → m (pointer g) ≡ Some v → pointer g + 8 < 2 ^ 64 →
     undone m b (PushNonVolatile r) g ≡ Ok (put_register (put_register g r.0 v) 4 (pointer g + 8))
 pop_ok m b r g v small other e room =
     let raise = raised_at 8 (pointer g) (put_register g r.0 v) (pointer_other g.general r.0 v other) room in

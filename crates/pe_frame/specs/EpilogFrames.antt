@@ -1,4 +1,5 @@
--- The epilog of a prolog that pushes registers first, and then allocates stack, sets a frame register and saves registers.
+-- The epilog of a prolog that pushes registers, and may set a frame register in between, before it allocates stack and saves
+-- registers. A register that is pushed after an allocation has no epilog: that would pop before it frees stack.
 use Rattle.std.specs.Prelude.{◌≡◌, ℕ, ◌+◌, ◌-◌, ◌⊎◌, IsSome, List, [], ◌∷◌, slice_index, None}
 use Rattle.pe_unwind.specs.declared.unwind_code.UnwindOperation.{UnwindOperation}
 use Rattle.pe_unwind.specs.declared.unwind_code.UnwindOperation.TheVariants.{PushNonVolatile, Alloc, SetFPRegister, SaveNonVolatile, Epilog, SaveXMM128, Noop}
@@ -18,10 +19,12 @@ Exits (Jump a) = Unit {0}
 Exits JumpByMemory = Unit {0}
 Exits other = ⊥
 
--- pops undo these pushes, and an instruction leaves the function after them
+-- Pops undo these pushes, and an instruction leaves the function after them. A frame register that was set between two pushes
+-- needs no instruction: there the stack pointer is where it was then.
 abbrev pub Pops : List UnwindOperation → List Instruction → Type 0
 Pops [] is = (i : Instruction) × Exits i × (is ≡ i ∷ [])
 Pops (PushNonVolatile r ∷ before) is = (rest : List Instruction) × (is ≡ Pop r.0 ∷ rest) × Pops before rest
+Pops (SetFPRegister ∷ before) is = Pops before is
 Pops (other ∷ before) is = ⊥
 
 -- What an epilog undoes. Registers that were saved by stores are restored before it.

@@ -1,6 +1,7 @@
 pub mod AddressRanges
 pub mod Memory
 pub mod MemoryPieces
+pub mod MemoryLists
 pub mod Undoing
 pub mod Steps
 pub mod Survey

@@ -23,10 +23,14 @@ abbrev pub known_bytes : (ℕ → Option ℕ) → ℕ → ℕ → Option (List �
 known_bytes byte a zero = Some []
 known_bytes byte a (suc n) = option_and_then (λ before. option_map (λ b. before ++ b ∷ []) (byte (a + n))) (known_bytes byte a n)
 
--- the number of the eight bytes at an address, of which none passes the last address
+-- the number of the eight bytes at an address, if each of them is known, and none passes the last address
+abbrev pub known_word : (ℕ → Option ℕ) → ℕ → Option ℕ
+known_word byte a =
+    if nat_le (a + 8) (2 ^ 64) then option_map (λ bytes. le bytes 0 8) (known_bytes byte a 8) else None
+
+-- the word of pieces
 abbrev pub pieces_word : List Stack → ℕ → Option ℕ
-pieces_word pieces a =
-    if nat_le (a + 8) (2 ^ 64) then option_map (λ bytes. le bytes 0 8) (known_bytes (byte_in pieces) a 8) else None
+pieces_word pieces a = known_word (byte_in pieces) a
 
 -- the pieces show what a memory has
 abbrev pub ArePiecesOf : (ℕ → ℕ) → List Stack → Type 0

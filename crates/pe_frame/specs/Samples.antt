@@ -74,6 +74,15 @@ pushed_part = record {
   entry = sample_machine;
 }
 
+-- push rbp; mov rbp,rsp; push rbx; sub rsp,32
+abbrev pub late_part : Part
+late_part = record {
+  info = sample_info 9 5 0 (9 ∷ 50 ∷ 5 ∷ 48 ∷ 4 ∷ 3 ∷ 1 ∷ 80 ∷ []);
+  codes =
+      code 9 (Alloc 32) ∷ code 5 (PushNonVolatile (register 3)) ∷ code 4 SetFPRegister ∷ code 1 (PushNonVolatile (register 5)) ∷ [];
+  entry = sample_machine;
+}
+
 -- an interrupt with an error code; sub rsp,64; mov [rsp+32],rbx, which lies below the machine frame
 abbrev pub interrupt_part : Part
 interrupt_part = record {

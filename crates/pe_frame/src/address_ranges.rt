@@ -1,6 +1,6 @@
 //! Tables of address ranges, as of the modules of a process or of pieces of memory, and lookup of an address in them.
 
-ghost use Rattle.std.specs.Prelude.{◌≡◌, ℕ};
+ghost use Rattle.std.specs.Prelude.{◌≡◌, ℕ, IsTrue};
 ghost use Rattle.std.specs.List.{find};
 ghost use Rattle.std.specs.Option.{option_map};
 ghost use Rattle.pe_frame.specs.AddressRanges.{AreAscending, IsCountUpTo, Overlaps, has_address};
@@ -60,5 +60,37 @@ pub(crate) fn range_with<R: AddressRange>(ranges: &[R], address: u64) -> Option<
         Some(range)
     } else {
         None
+    }
+}
+
+/// Whether a range has an address.
+fn has_address<R: AddressRange>(range: &R, address: u64) -> bool
+    ensures { result ≡ has_address R.start_of R.size_of address range.now }
+{
+    range.start() <= address && address - range.start() < range.size()
+}
+
+/// The first range that has an address. They are tested in turn.
+fn first_in_turn<R: AddressRange>(ranges: &[R], address: u64) -> Option<&R>
+    ensures { option_map (λ r. r.now) result
+        ≡ find (has_address R.start_of R.size_of address) ranges.now }
+{
+    ranges.iter().find(|range| has_address(*range, address))
+}
+
+/// The first range that has an address: by binary search in ranges in ascending order, in any others in turn.
+pub(crate) fn first_with<R: AddressRange>(
+    ranges: &[R],
+    is_ascending: bool,
+    address: u64,
+) -> Option<&R>
+    requires { IsTrue is_ascending → AreAscending R.start_of R.size_of ranges.now }
+    ensures { option_map (λ r. r.now) result
+        ≡ find (has_address R.start_of R.size_of address) ranges.now }
+{
+    if is_ascending {
+        range_with(ranges, address)
+    } else {
+        first_in_turn(ranges, address)
     }
 }

@@ -151,8 +151,9 @@ pub fn step<M: Memory>(
     caller(plan, rva.saturating_sub(start), registers, memory)
 }
 
-/// The registers of a function's caller, as [`step_with_code`] returns them, and whether an interrupt left them.
-pub(crate) fn step_out<M: Memory>(
+/// The registers of a function's caller, as [`step_with_code`] returns them, and whether an interrupt left them: a machine
+/// frame was undone, as none is in an epilog. Then `rip` is that of the instruction that is about to run, and no return address.
+pub fn step_out<M: Memory>(
     plan: &[UnwindInfo<'_>],
     start: u32,
     rva: u32,

@@ -10,10 +10,12 @@ ghost use Rattle.pe_frame.specs.declared.error.FrameError.{FrameError};
 ghost use Rattle.pe_frame.specs.declared.registers.Registers.{Registers};
 ghost use Rattle.pe_frame.specs.Memory.{stack_word};
 ghost use Rattle.pe_frame.specs.MemoryPieces.{ArePiecesOf, have_byte, pieces_word};
+ghost use Rattle.pe_frame.specs.MemoryLists.{AreListed, ArePieces, list_byte, listed_word};
 ghost use Rattle.pe_frame.specs.declared.memory.Stack.{Stack};
+ghost use Rattle.pe_frame.specs.declared.memory_list.MemoryPiece.{MemoryPiece};
 ghost use Rattle.pe_frame.specs.Machine.{loaded};
 ghost use Rattle.pe_frame.specs.Frames.{Part, infos, left, registers_of, AreFrames, IsCaller};
-ghost use Rattle.pe_frame.specs.Samples.{all_known, home_part, inner_part, framed_part, interrupt_part, pushed_part};
+ghost use Rattle.pe_frame.specs.Samples.{all_known, home_part, inner_part, framed_part, interrupt_part, late_part, pushed_part};
 ghost use Rattle.pe_frame.specs.Steps.{Steps, frame_of, by_kind};
 ghost use Rattle.pe_frame.specs.declared.epilog.Instruction.TheVariants.{Add, Lea, Pop, Return, Jump};
 ghost use Rattle.pe_frame.specs.declared.epilog.Instruction.{Instruction};
@@ -45,8 +47,9 @@ pub fn one_result_of_steps_with_code()
 {}
 
 /// There are such epilogs: one that frees stack by `add`; one that does by `lea` from the frame register, after a prolog that
-/// allocated stack before and after it set that register, and saved a register in between; and one in a part of a function.
-/// Their prologs are those of frames. In the prolog there is no epilog, nor where a jump stays in the function; one to its start leaves it.
+/// allocated stack before and after it set that register, and saved a register in between; one in a part of a function; and one
+/// that pops a register which was pushed after the frame register was set. Their prologs are those of frames. In the prolog
+/// there is no epilog, nor where a jump stays in the function; one to its start leaves it.
 pub fn epilogs_are_there()
     ensures added { epilog_at (infos (pushed_part ∷ [])) 0x1000 0x1040
         (0x48 ∷ 0x83 ∷ 0xC4 ∷ 0x20 ∷ 0x5B ∷ 0xC3 ∷ []) ≡ Some (Add 32 ∷ Pop 3 ∷ Return 0 ∷ []) }
@@ -71,6 +74,16 @@ pub fn epilogs_are_there()
         (Add 32 ∷ Pop 7 ∷ Return 0 ∷ []) (registers_of (left None inner_part)) }
     ensures parts { AreFrames (all_known (left None inner_part))
         (inner_part ∷ home_part ∷ []) None (registers_of (left None inner_part)) }
+    ensures after_the_frame { epilog_at (infos (late_part ∷ [])) 0x1000 0x1040
+        (0x48 ∷ 0x83 ∷ 0xC4 ∷ 0x20 ∷ 0x5B ∷ 0x5D ∷ 0xC3 ∷ [])
+        ≡ Some (Add 32 ∷ Pop 3 ∷ Pop 5 ∷ Return 0 ∷ []) }
+    ensures of_late { IsEpilogOf (frame_of late_part.info)
+        (ran None late_part.codes) (Add 32 ∷ Pop 3 ∷ Pop 5 ∷ Return 0 ∷ []) }
+    ensures late_ready { IsReady (frame_of late_part.info)
+        (ran None late_part.codes) late_part.entry (Add 32 ∷ Pop 3 ∷ Pop 5 ∷ Return 0 ∷ [])
+        (registers_of (left None late_part)) }
+    ensures late { AreFrames (all_known (left None late_part))
+        (late_part ∷ []) None (registers_of (left None late_part)) }
     ensures in_the_prolog { epilog_at
         (infos (pushed_part ∷ [])) 0x1000 0x1004 (0x5B ∷ 0xC3 ∷ []) ≡ None }
     ensures jumped { epilog_at (infos (pushed_part ∷ [])) 0x1000 0x1040 (0xEB ∷ 0xBF ∷ []) ≡ None }
@@ -80,10 +93,12 @@ pub fn epilogs_are_there()
         (infos (pushed_part ∷ [])) 0x1000 0x1040 (0xEB ∷ 0xBD ∷ []) ≡ Some (Jump 0xFFF ∷ []) }
 {}
 
-/// What is left of an epilog leads to the caller. A machine ran the prolog of a function, which pushed registers first, and then in
-/// any order allocated stack, set a frame register and saved registers by stores, each of which it may not do. It may have come
-/// to parts of the function that only saved registers. What stores saved was restored. From there on the first instructions of
-/// the epilog ran, and the code has the others: a step with the code then returns the registers of the caller.
+/// What is left of an epilog leads to the caller. A machine ran the prolog of a function, which pushed registers before it
+/// allocated stack, and in any order set a frame register, allocated stack and saved registers by stores, each of which it may not
+/// do. It may have come to parts of the function that only saved registers. What stores saved was restored. From there on the
+/// first instructions of the epilog ran, and the code has the others: a step with the code then returns the registers of the
+/// caller. A register that is pushed after an allocation has no epilog of the forms that a step knows: its pop would come
+/// before the instruction that frees stack.
 pub fn epilogs_return_to_the_caller()
     ensures { (m : ℕ → Option ℕ) (p : Part) (parts : List Part)
         (before rest : List Instruction) (i : Instruction)
@@ -128,6 +143,16 @@ pub fn pieces_show_memory()
         a + 8 ≤ 2 ^ 64 → pieces_word pieces a ≡ Some (loaded memory a) }
     ensures one { (s : Stack) (a : ℕ) →
         pieces_word (s ∷ []) a ≡ stack_word s.bytes.now s.start a }
+{}
+
+/// A list of pieces in some bytes shows what a machine's memory has in the same way. It is the memory of the pieces that it
+/// lists.
+pub fn memory_lists_show_memory()
+    ensures shown { (bytes : List ℕ) (pieces : List MemoryPiece) (a : ℕ) (memory : ℕ → ℕ) →
+        AreListed memory bytes pieces → ((i : ℕ) → i < 8 → list_byte (a + i) pieces ≡ true) →
+        a + 8 ≤ 2 ^ 64 → listed_word bytes pieces a ≡ Some (loaded memory a) }
+    ensures pieces { (bytes : List ℕ) (listed : List MemoryPiece) (pieces : List Stack) (a : ℕ) →
+        ArePieces bytes listed pieces → listed_word bytes listed a ≡ pieces_word pieces a }
 {}
 
 /// There are such frames: of a part in the body of a function, of one with a frame register, after its prolog and inside of

@@ -21,6 +21,7 @@ mod error;
 mod frame;
 pub mod laws;
 mod memory;
+mod memory_list;
 mod memory_pieces;
 mod modules;
 mod record;
@@ -30,8 +31,9 @@ mod walk;
 
 pub use arm64::{Arm64Registers, leaf_arm64, step_arm64, step_arm64_packed};
 pub use error::FrameError;
-pub use frame::{leaf, step, step_with_code};
+pub use frame::{leaf, step, step_out, step_with_code};
 pub use memory::{Memory, Stack};
+pub use memory_list::{MemoryList, MemoryPiece};
 pub use memory_pieces::StackPieces;
 pub use modules::{Module, ModuleOrder, Modules};
 pub use registers::Registers;

@@ -2,6 +2,7 @@
 
 ghost use Rattle.std.specs.Prelude.{◌≡◌, ℕ, Option};
 ghost use Rattle.pe_frame.specs.Memory.{stack_word};
+ghost use Rattle.pe_frame.specs.MemoryPieces.{known_word};
 
 use crate::address_ranges::AddressRange;
 use pe_core::u64_at;
@@ -17,6 +18,30 @@ pub trait Memory {
     /// The little-endian number of the eight bytes at this address. `None` if they are not all known.
     fn u64_at(&self, address: u64) -> Option<u64>
         ensures { result ≡ word self.now address };
+}
+
+/// Memory that is known byte by byte.
+pub(crate) trait KnownBytes {
+    // The byte at an address, if it is known.
+    ghost byte: { Self → ℕ → Option ℕ };
+
+    /// The byte at this address. `None` if it is not known.
+    fn byte_at(&self, address: u64) -> Option<u8>
+        ensures { result ≡ byte self.now address };
+}
+
+/// The little-endian number of the eight bytes at an address. `None` if they are not all known.
+pub(crate) fn known_word<B: KnownBytes>(memory: &B, address: u64) -> Option<u64>
+    ensures { result ≡ known_word (B.byte memory.now) address }
+{
+    if address > u64::MAX - (SIZE_OF_WORD - 1) {
+        return None;
+    }
+    let mut bytes = [0; SIZE_OF_WORD as usize];
+    for index in 0..SIZE_OF_WORD as usize {
+        bytes[index] = memory.byte_at(address + index as u64)?;
+    }
+    u64_at(&bytes, 0).ok()
 }
 
 /// A part of memory as minidumps hold it: bytes, and the address of the first.

@@ -6,9 +6,8 @@ ghost use Rattle.std.specs.List.{find};
 ghost use Rattle.pe_frame.specs.AddressRanges.{AreAscending};
 ghost use Rattle.pe_frame.specs.MemoryPieces.{piece_size, has_byte, byte_in};
 
-use crate::address_ranges::{first_overlap, range_with};
-use crate::memory::{Memory, SIZE_OF_WORD, Stack};
-use pe_core::u64_at;
+use crate::address_ranges::{first_overlap, first_with};
+use crate::memory::{KnownBytes, Memory, Stack, known_word};
 
 /// Memory in pieces. The byte at an address is that of the first piece that has one there, and a word is known if each of its
 /// eight bytes is: pieces that touch hold a word together.
@@ -22,13 +21,6 @@ pub struct StackPieces<'a> {
     ghost ascending: { IsTrue is_ascending → AreAscending (λ s. s.start) piece_size pieces.now },
 }
 
-/// Whether a piece has a byte at an address.
-fn has_byte(piece: &Stack<'_>, address: u64) -> bool
-    ensures { result ≡ has_byte address piece.now }
-{
-    piece.start <= address && address - piece.start < piece.bytes.len() as u64
-}
-
 /// The byte of a piece at an address that it has.
 fn byte_of(piece: &Stack<'_>, address: u64) -> Option<u8>
     requires { IsTrue (has_byte address piece.now) }
@@ -38,16 +30,7 @@ fn byte_of(piece: &Stack<'_>, address: u64) -> Option<u8>
     Some(piece.bytes[index])
 }
 
-/// The first piece that has a byte at an address. The pieces are tested in turn.
-fn first_piece_with<'a, 'b>(pieces: &'b [Stack<'a>], address: u64) -> Option<&'b Stack<'a>>
-    ensures { option_map (λ s. s.now) result ≡ find (has_byte address) pieces.now }
-{
-    pieces.iter().find(|piece| has_byte(piece, address))
-}
-
 impl<'a> StackPieces<'a> {
-    ghost use Rattle.pe_frame.specs.MemoryPieces.{pieces_word};
-
     /// Memory in these pieces.
     pub fn new(pieces: &'a [Stack<'a>]) -> StackPieces<'a>
         ensures { result.pieces.now ≡ pieces.entry.now }
@@ -63,17 +46,14 @@ impl<'a> StackPieces<'a> {
     fn piece_at(&self, address: u64) -> Option<&'a Stack<'a>>
         ensures { option_map (λ s. s.now) result ≡ find (has_byte address) self.now.pieces.now }
     {
-        if self.is_ascending {
-            range_with(self.pieces, address)
-        } else {
-            first_piece_with(self.pieces, address)
-        }
+        first_with(self.pieces, self.is_ascending, address)
     }
+}
 
-    /// The byte at an address.
-    fn byte_at(&self, address: u64) -> Option<u8>
-        ensures { result ≡ byte_in self.now.pieces.now address }
-    {
+impl<'a> KnownBytes for StackPieces<'a> {
+    ghost byte = { λ s. byte_in s.pieces.now };
+
+    fn byte_at(&self, address: u64) -> Option<u8> {
         match self.piece_at(address) {
             Some(piece) => byte_of(piece, address),
             None => None,
@@ -87,13 +67,6 @@ impl<'a> Memory for StackPieces<'a> {
     ghost word = { λ s. pieces_word s.pieces.now };
 
     fn u64_at(&self, address: u64) -> Option<u64> {
-        if address > u64::MAX - (SIZE_OF_WORD - 1) {
-            return None;
-        }
-        let mut bytes = [0; SIZE_OF_WORD as usize];
-        for index in 0..SIZE_OF_WORD as usize {
-            bytes[index] = self.byte_at(address + index as u64)?;
-        }
-        u64_at(&bytes, 0).ok()
+        known_word(self, address)
     }
 }

@@ -27,7 +27,7 @@ pub fn module_of<'a>(
 
 /// The instruction pointers of a thread's frames, from the top frame outwards, at most so many. `modules` are those of its
 /// process, in ascending order of their addresses: `None` if they are not, or overlap. `memory` has its stack, as `Stack` of
-/// one piece or `StackPieces` of several.
+/// one piece, `StackPieces` of several or `MemoryList` of those that a minidump lists.
 pub fn backtrace<M: Memory>(
     alloc: Global,
     modules: &[Module<'_>],

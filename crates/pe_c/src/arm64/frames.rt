@@ -6,13 +6,16 @@ ghost use Rattle.std.specs.Prelude.{◌≡◌};
 ghost use Rattle.std.specs.Option.{option_map};
 ghost use Rattle.pe_core.specs.Refusals.{answer_by};
 ghost use Rattle.pe_unwind.specs.Arm64Record.{info_view};
-ghost use Rattle.pe_c.specs.Arm64Frames.{arm64_registers_of, flat_arm64_registers, arm64_info_of, HandsOutArm64Caller, HandsOutArm64Step, left_arm64};
+ghost use Rattle.pe_c.specs.Arm64Frames.{arm64_registers_of, flat_arm64_registers, arm64_info_of, HandsOutArm64By, HandsOutArm64Caller, HandsOutArm64Step, HandsOutArm64StepPieces, left_arm64};
 
 use crate::image::{EXCEPTION_TABLE, Image, directory};
 use crate::results::{DONE, number_of, options};
 use crate::stack_frames::reported;
 use pe_core::{Error, SectionTable};
-use pe_frame::{Arm64Registers, FrameError, Stack, leaf_arm64, step_arm64, step_arm64_packed};
+use pe_frame::{
+    Arm64Registers, FrameError, Memory, MemoryList, MemoryPiece, Stack, leaf_arm64, step_arm64,
+    step_arm64_packed,
+};
 use pe_unwind::{Arm64RuntimeFunction, Arm64UnwindInfo, ExceptionData};
 
 /// The registers of a thread that unwinding restores.
@@ -113,6 +116,31 @@ fn hand_out_caller(caller: Result<Arm64Registers, FrameError>, frame: &mut Arm64
     }
 }
 
+/// A step over the stack of a frame by the unwind data of its function, and its number.
+fn step_over<M: Memory>(
+    bytes: &[u8],
+    image: &Image,
+    sections: &[SectionTable],
+    memory: &M,
+    frame: &mut Arm64StackFrame,
+) -> u32
+    ensures { HandsOutArm64By (M.word memory.now) result frame.old frame.new
+        (arm64_info_of bytes.now image.now sections.now image.now.mode frame.old.function) }
+{
+    let function = frame.function;
+    let info = match info_of(bytes, image, sections, function) {
+        Ok(info) => info,
+        Err(error) => return number_of(&error),
+    };
+    let (start, rva) = (function.begin_address, frame.rva);
+    let registers = registers_of(&frame.registers);
+    let caller = match info {
+        Some(info) => step_arm64(&info, start, rva, registers, memory),
+        None => step_arm64_packed(&function, rva, registers, memory),
+    };
+    hand_out_caller(caller, frame)
+}
+
 /// Finds the registers of a function's caller, from those inside the function, and writes them over those of `frame`. It is
 /// `step_arm64` of pe_frame by the unwind record of the frame's function, or `step_arm64_packed` where its unwind data are
 /// packed. The function is the one that lookup found: by the RVA in the top frame and after an interrupt, by the RVA less
@@ -132,22 +160,32 @@ pub extern "C" fn pe_c_step_arm64(
     ensures { HandsOutArm64Step
         bytes.now image.now sections.now stack.now result frame.old frame.new }
 {
-    let function = frame.function;
-    let info = match info_of(bytes, image, sections, function) {
-        Ok(info) => info,
-        Err(error) => return number_of(&error),
-    };
     let memory = Stack {
         start: frame.stack_start,
         bytes: stack,
     };
-    let (start, rva) = (function.begin_address, frame.rva);
-    let registers = registers_of(&frame.registers);
-    let caller = match info {
-        Some(info) => step_arm64(&info, start, rva, registers, &memory),
-        None => step_arm64_packed(&function, rva, registers, &memory),
-    };
-    hand_out_caller(caller, frame)
+    step_over(bytes, image, sections, &memory, frame)
+}
+
+/// As `pe_c_step_arm64`, over memory in pieces, as in `pe_c_step_pieces`: `stack_start` is not read.
+///
+/// Errors: first `SHORT` if a piece does not lie in `memory`, then those of `pe_c_step_arm64`.
+#[unsafe(no_mangle)]
+pub extern "C" fn pe_c_step_arm64_pieces(
+    bytes: &[u8],
+    image: &Image,
+    sections: &[SectionTable],
+    memory: &[u8],
+    pieces: &[MemoryPiece],
+    frame: &mut Arm64StackFrame,
+) -> u32
+    ensures { HandsOutArm64StepPieces bytes.now image.now
+        sections.now memory.now pieces.now result frame.old frame.new }
+{
+    match MemoryList::new(memory, pieces) {
+        Ok(memory) => step_over(bytes, image, sections, &memory, frame),
+        Err(error) => number_of(&error),
+    }
 }
 
 /// Finds the registers of the caller of a leaf function, which no function of the table covers, and writes them over those

@@ -25,10 +25,12 @@ pub fn walks_return_the_frames<M: Memory + 'static>()
         × (u.remaining ≡ 0) }
 {}
 
-/// There is one walk, up to the numbers in a refusal, where the function tables of the modules are sorted: the frames from a
-/// state on, and why it is over after them.
+/// There is a walk from each state (`exists`), whatever the function tables of the modules are: the frames from the state on, and
+/// why it is over after them. Where the tables are sorted there is one alone, up to the numbers in a refusal (`one`).
 pub fn one_result_of_walks()
-    ensures { (w : WalkState) (frames others : List StackFrame) (end other : WalkEnd) →
+    ensures exists { (w : WalkState) →
+        (frames : List StackFrame) × (end : WalkEnd) × IsWalk w frames end }
+    ensures one { (w : WalkState) (frames others : List StackFrame) (end other : WalkEnd) →
         AreSortedModules w.modules → IsWalk w frames end → IsWalk w others other →
         (frames ≡ others) × (end_kind end ≡ end_kind other) }
 {

@@ -1,7 +1,7 @@
 use Rattle.std.proofs.Common.{refl}
 use Rattle.pe_core.specs.Bytes.{le}
 use Rattle.pe_frame.specs.Epilogs.{operand, add_form, lea_form, pop_form, popped_first, after_pops, jump_form, exit_form}
-use Rattle.pe_frame.proofs.Samples.{chained, chained_ready, pushed, framed, framed_ready}
+use Rattle.pe_frame.proofs.Samples.{chained, chained_ready, pushed, framed, framed_ready, late, late_ready}
 use Rattle.pe_frame.proofs.laws.epilogs_are_there.Goals as goal
 
 pub returns-clause-added : goal.returns-clause-added
@@ -45,3 +45,13 @@ returns-clause-framed c = framed
 
 pub returns-clause-ready : goal.returns-clause-ready
 returns-clause-ready c = framed_ready
+
+pub returns-clause-after_the_frame : goal.returns-clause-after_the_frame
+unfolding le operand add_form lea_form pop_form popped_first after_pops jump_form exit_form
+returns-clause-after_the_frame c = refl
+
+pub returns-clause-late : goal.returns-clause-late
+returns-clause-late c = late
+
+pub returns-clause-late_ready : goal.returns-clause-late_ready
+returns-clause-late_ready c = late_ready

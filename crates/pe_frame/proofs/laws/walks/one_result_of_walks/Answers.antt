@@ -1,5 +1,6 @@
 use Rattle.pe_plan.proofs.RecordLaw.{RecordLaw}
 use Rattle.pe_frame.proofs.OneWalk.{one_walk}
+use Rattle.pe_frame.proofs.SomeWalk.{some_walk}
 use Rattle.pe_frame.proofs.laws.walks.one_result_of_walks.Goals as goal
 
 pub returns : goal.returns
@@ -10,4 +11,4 @@ returns c =
       cycle = c.one_record_of_addresses.ensures.cycle;
       no_memory = c.one_record_of_addresses.ensures.no_memory;
     } in
-    one_walk law
+    record { exists = some_walk law; one = one_walk law }

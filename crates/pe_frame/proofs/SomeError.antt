@@ -1,0 +1,46 @@
+-- Each refusal but `Memory`, of which the allocator makes the error, is that of an error.
+use Rattle.std.proofs.Common.{◌≡◌, ◌≢◌, refl}
+use Rattle.pe_core.specs.Refusals as refusals
+use Rattle.pe_core.specs.Refusals.{Refusal, kind_of}
+use Rattle.pe_core.specs.declared.error.Error.{Error}
+use Rattle.pe_core.specs.declared.error.Error.TheVariants as errors
+use Rattle.pe_core.specs.declared.error.Reason.TheVariants as reasons
+
+pub some_error : (r : Refusal) → (r ≢ refusals.Memory) → (e : Error) × (kind_of e ≡ r)
+some_error refusals.Memory other = absurd (other refl)
+some_error refusals.Short other = (errors.Short 0 0, refl)
+some_error refusals.BadMagic other = (errors.BadMagic 0, refl)
+some_error refusals.HeaderPointer other = (errors.Malformed (reasons.HeaderPointer 0), refl)
+some_error refusals.ImportName other = (errors.Malformed (reasons.ImportName 0), refl)
+some_error refusals.StringTable other = (errors.Malformed (reasons.StringTable 0), refl)
+some_error refusals.CertificateRevision other = (errors.Malformed (reasons.CertificateRevision 0), refl)
+some_error refusals.CertificateType other = (errors.Malformed (reasons.CertificateType 0), refl)
+some_error refusals.CertificateSize other = (errors.Malformed (reasons.CertificateSize 0), refl)
+some_error refusals.CertificateTable other = (errors.Malformed (reasons.CertificateTable 0), refl)
+some_error refusals.Unmapped other = (errors.Malformed (reasons.Unmapped 0), refl)
+some_error refusals.DebugBounds other = (errors.Malformed (reasons.DebugBounds 0), refl)
+some_error refusals.DebugSize other = (errors.Malformed (reasons.DebugSize 0), refl)
+some_error refusals.DebugData other = (errors.Malformed (reasons.DebugData 0), refl)
+some_error refusals.PogoSize other = (errors.Malformed (reasons.PogoSize 0), refl)
+some_error refusals.PogoName other = (errors.Malformed (reasons.PogoName 0 0), refl)
+some_error refusals.ExceptionSize other = (errors.Malformed (reasons.ExceptionSize 0), refl)
+some_error refusals.ExceptionOffset other = (errors.Malformed (reasons.ExceptionOffset 0), refl)
+some_error refusals.ExceptionBounds other = (errors.Malformed (reasons.ExceptionBounds 0), refl)
+some_error refusals.FunctionIndex other = (errors.Malformed (reasons.FunctionIndex 0), refl)
+some_error refusals.FunctionLink other = (errors.Malformed (reasons.FunctionLink 0), refl)
+some_error refusals.FunctionCycle other = (errors.Malformed (reasons.FunctionCycle 0), refl)
+some_error refusals.UnwindVersion other = (errors.Malformed (reasons.UnwindVersion 0), refl)
+some_error refusals.UnwindCode other = (errors.Malformed (reasons.UnwindCode 0), refl)
+some_error refusals.Arm64Version other = (errors.Malformed (reasons.Arm64Version 0), refl)
+some_error refusals.Arm64Stream other = (errors.Malformed (reasons.Arm64Stream 0 0), refl)
+some_error refusals.Arm64Cut other = (errors.Malformed (reasons.Arm64Cut 0), refl)
+some_error refusals.ResourceBounds other = (errors.Malformed (reasons.ResourceBounds 0), refl)
+some_error refusals.ResourceCycle other = (errors.Malformed (reasons.ResourceCycle 0), refl)
+some_error refusals.ResourceString other = (errors.Malformed (reasons.ResourceString 0), refl)
+some_error refusals.TeSize other = (errors.Malformed (reasons.TeSize 0), refl)
+some_error refusals.NoOptionalHeader other = (errors.Malformed reasons.NoOptionalHeader, refl)
+some_error refusals.WriteAlignment other = (errors.Malformed (reasons.WriteAlignment 0), refl)
+some_error refusals.WriteSymbols other = (errors.Malformed (reasons.WriteSymbols 0), refl)
+some_error refusals.WriteOverlap other = (errors.Malformed (reasons.WriteOverlap 0 0), refl)
+some_error refusals.WriteSection other = (errors.Malformed (reasons.WriteSection 0), refl)
+some_error refusals.WriteFit other = (errors.Malformed (reasons.WriteFit 0 0), refl)

@@ -1,0 +1,19 @@
+use Rattle.std.proofs.Common.{◌≡◌, rules, Bool, true, false, [], ◌∷◌, Ok, refl, sym}
+use Rattle.std.specs.Option.{is_none}
+use Rattle.pe_core.specs.Refusals.{Short, outcome}
+use Rattle.pe_frame.specs.MemoryLists.{are_inside}
+use Rattle.pe_frame.proofs.Lookups.{ascends}
+use Rattle.pe_frame.proofs.memory_list.MemoryList.new.Goals as goal
+
+passed : (t : Bool) (x : Unit {0}) → outcome ((t, Short) ∷ []) x ≡ Ok x → t ≡ true
+passed true x e = refl
+passed false x e = absurd (cc e)
+
+pub invariant_of-result : goal.invariant_of-result
+invariant_of-result c =
+    record {
+      ascending = λ is.
+          let none : is_none c.first_overlap.result ≡ true = search rules in
+          ascends (λ p. p.start) (λ p. p.length) c.args.pieces.now c.first_overlap.result c.first_overlap.ensures none;
+      inside = passed (are_inside c.args.bytes.now c.args.pieces.now) tt (sym c.in_ok-require_inside.ensures);
+    }

@@ -1,0 +1,118 @@
+//! Memory as a minidump lists it: the bytes of the file, and of each piece of memory its address and where in the file it is.
+//! https://learn.microsoft.com/windows/win32/api/minidumpapiset/ns-minidumpapiset-minidump_memory_descriptor
+
+ghost use Rattle.std.specs.Prelude.{◌≡◌, ◌+◌, ◌-◌, ℕ, List, ◌∷◌, [], Some, IsTrue, slice_index};
+ghost use Rattle.std.specs.Option.{option_map};
+ghost use Rattle.std.specs.List.{find};
+ghost use Rattle.pe_core.specs.Bytes.{holds};
+ghost use Rattle.pe_core.specs.Refusals.{Short, answer_by, answer_of, outcome};
+ghost use Rattle.pe_frame.specs.AddressRanges.{AreAscending};
+ghost use Rattle.pe_frame.specs.MemoryLists.{are_inside, listed_byte, lists_byte, memory_of};
+ghost use Rattle.pe_frame.specs.declared.memory_list.MemoryPiece.{MemoryPiece};
+
+use crate::address_ranges::{AddressRange, first_overlap, first_with};
+use crate::memory::{KnownBytes, Memory, known_word};
+use pe_core::{Result, slice_at};
+
+/// A piece of memory: its address, and where its bytes are.
+#[repr(C)]
+#[derive(Clone, Copy, Debug, Default, PartialEq)]
+pub struct MemoryPiece {
+    /// The address of the first byte.
+    pub start: u64,
+    /// Where the first byte is, from the start of the bytes that the list is of.
+    pub offset: u64,
+    /// In bytes. Those past address 2^64 - 1 have no address.
+    pub length: u64,
+}
+
+impl AddressRange for MemoryPiece {
+    ghost start_of = { λ p. p.start };
+
+    ghost size_of = { λ p. p.length };
+
+    fn start(&self) -> u64 {
+        self.start
+    }
+
+    fn size(&self) -> u64 {
+        self.length
+    }
+}
+
+/// Memory by a list of its pieces in some bytes, as those of a minidump file. The byte at an address is that of the first
+/// piece that has one there, and a word is known if each of its eight bytes is, as in [`StackPieces`](crate::StackPieces).
+/// Nothing is copied.
+#[derive(Clone, Copy, Debug)]
+pub struct MemoryList<'a> {
+    bytes: &'a [u8],
+    pieces: &'a [MemoryPiece],
+    /// Whether they are in ascending order and do not overlap.
+    is_ascending: bool,
+    ghost ascending: { IsTrue is_ascending → AreAscending (λ p. p.start) (λ p. p.length) pieces.now },
+    ghost inside: { IsTrue (are_inside bytes.now pieces.now) },
+}
+
+/// Error: `Short` if one of the pieces does not lie in the bytes.
+fn require_inside(bytes: &[u8], pieces: &[MemoryPiece]) -> Result<()>
+    ensures { answer_of result ≡ outcome ((are_inside bytes.now pieces.now, Short) ∷ []) tt }
+{
+    for piece in pieces {
+        slice_at(bytes, piece.offset as usize, piece.length as usize)?;
+    }
+    Ok(())
+}
+
+impl<'a> MemoryList<'a> {
+    /// Memory by a list of its pieces in these bytes. Error: `Short` if a piece does not lie in the bytes.
+    pub fn new(bytes: &'a [u8], pieces: &'a [MemoryPiece]) -> Result<MemoryList<'a>>
+        ensures { answer_by {Y = List ℕ × List MemoryPiece} (λ s. (s.bytes.now, s.pieces.now)) result
+            ≡ memory_of bytes.entry.now pieces.entry.now }
+    {
+        require_inside(bytes, pieces)?;
+        let is_ascending = first_overlap(pieces).is_none();
+        Ok(MemoryList {
+            bytes,
+            pieces,
+            is_ascending,
+        })
+    }
+
+    /// The first piece that has a byte at an address.
+    fn piece_at(&self, address: u64) -> Option<&'a MemoryPiece>
+        ensures { option_map (λ p. p.now) result ≡ find (lists_byte address) self.now.pieces.now }
+    {
+        first_with(self.pieces, self.is_ascending, address)
+    }
+}
+
+/// The byte of a piece at an address that it has.
+fn byte_of(bytes: &[u8], piece: &MemoryPiece, address: u64) -> Option<u8>
+    requires has { IsTrue (lists_byte address piece.now) }
+    requires inside { IsTrue (holds bytes.now piece.now.offset piece.now.length) }
+    ensures { result ≡ Some (slice_index bytes.now (piece.now.offset + (address - piece.now.start))) }
+{
+    let index = piece.offset + (address - piece.start);
+    Some(bytes[index as usize])
+}
+
+impl<'a> KnownBytes for MemoryList<'a> {
+    ghost byte = { λ s. listed_byte s.bytes.now s.pieces.now };
+
+    fn byte_at(&self, address: u64) -> Option<u8> {
+        match self.piece_at(address) {
+            Some(piece) => byte_of(self.bytes, piece, address),
+            None => None,
+        }
+    }
+}
+
+impl<'a> Memory for MemoryList<'a> {
+    ghost use Rattle.pe_frame.specs.MemoryLists.{listed_word};
+
+    ghost word = { λ s. listed_word s.bytes.now s.pieces.now };
+
+    fn u64_at(&self, address: u64) -> Option<u64> {
+        known_word(self, address)
+    }
+}
