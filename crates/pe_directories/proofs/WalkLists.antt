@@ -4,7 +4,7 @@ use Rattle.std.proofs.lemmas.List.{append-nil, map-append}
 use Rattle.pe_core.specs.Gathered.{all_or_refusal, with_rest}
 use Rattle.pe_core.specs.Refusals.{◌>>=◌}
 use Rattle.pe_core.proofs.Gathering.{with_none, with_one}
-use Rattle.pe_core.specs.declared.error.Error.TheVariants as image
+use Rattle.pe_core.proofs.ImportLists.{unless_memory}
 use Rattle.pe_directories.specs.DirectoryRefusals.{DirectoryRefusal, UnlessNoMemory, directory_answer, directory_kind_of}
 use Rattle.pe_directories.specs.Walks.{First, Items, ItemsLeft, Steps, with_more, first_items, all_items, each_read}
 use Rattle.pe_directories.specs.declared.error.DirectoryError.{DirectoryError}
@@ -49,10 +49,7 @@ none_left view first shrinks left after h = only_items first shrinks left [] (en
 -- ---- errors
 
 unless_no_memory : (e : DirectoryError) (P : Type 0) → P → UnlessNoMemory e P
-unless_no_memory (errors.Image (image.Malformed reason)) P x = x
-unless_no_memory (errors.Image (image.BadMagic magic)) P x = x
-unless_no_memory (errors.Image (image.Short at needed)) P x = x
-unless_no_memory (errors.Image (image.Memory m)) P x = tt
+unless_no_memory (errors.Image error) P x = unless_memory error P x
 unless_no_memory (errors.BlockSize size) P x = x
 unless_no_memory (errors.BlockTruncated size length) P x = x
 unless_no_memory (errors.NoArgument rva) P x = x

@@ -1,9 +1,9 @@
 -- Parts of an image, by their RVAs and virtual addresses.
-use Rattle.std.specs.Prelude.{◌==◌, ℕ, ◌-◌, List, drop, Bool, Result, Ok, Err, nat_le, if◌then◌else◌}
+use Rattle.std.specs.Prelude.{◌≡◌, ◌==◌, ℕ, ◌-◌, List, drop, Bool, Result, Ok, Err, nat_le, if◌then◌else◌}
 use Rattle.pe_core.specs.Bytes.{range, record_at}
 use Rattle.pe_core.specs.Header.{OptionalHeaderView}
 use Rattle.pe_core.specs.Refusals.{◌>>=◌}
-use Rattle.pe_core.specs.SectionMap.{section_map, mapped}
+use Rattle.pe_core.specs.SectionMap.{SectionMapView, map_view, section_map, mapped}
 use Rattle.pe_core.specs.declared.byte_range.ByteRange.{ByteRange}
 use Rattle.pe_core.specs.declared.data_directories.DataDirectory.{DataDirectory}
 use Rattle.pe_core.specs.declared.options.ParseOptions.{ParseOptions}
@@ -42,6 +42,10 @@ image_with b h headers o = record {
   is_64 = h.standard_fields.magic == 0x20B;
   opts = o;
 }
+
+-- this is the section map of the image
+abbrev pub IsMapOf : ImageView → SectionMapView → Type 0
+IsMapOf i m = m ≡ map_view i.opts i.sections i.file_alignment
 
 -- the offset of an RVA in the bytes
 abbrev pub offset_of_rva : ImageView → ℕ → Result ℕ DirectoryRefusal

@@ -12,7 +12,7 @@ ghost use Rattle.std.specs.Iterator.{at_most};
 ghost use Rattle.pe_directories.specs.DelayImports.{delay_import_at, first_delay_import, delay_import_table, delay_imports_left, offset_in_entry, delay_name, delay_dll, lookup_table, function_view, hint_and_name, imported_by};
 ghost use Rattle.pe_directories.specs.DelayImportSteps.{ordinal_of};
 ghost use Rattle.pe_directories.specs.DirectoryRefusals.{DirectoryReturns};
-ghost use Rattle.pe_directories.specs.ImageParts.{image_view};
+ghost use Rattle.pe_directories.specs.ImageParts.{IsMapOf, image_view};
 ghost use Rattle.pe_directories.specs.VaTables.{vas_left, vas_are_64};
 ghost use Rattle.pe_directories.specs.Walks.{ReturnsFirst, LeavesFewer, Steps, most_left, rest_of};
 
@@ -20,7 +20,7 @@ use crate::error::{DirectoryError, Result};
 use crate::image_bytes::ImageBytes;
 use crate::indexed_image::IndexedImage;
 use crate::va_table::VaTable;
-use pe_core::{DataDirectory, read_u32, require_bytes, text_at, u16_at};
+use pe_core::{DataDirectory, SectionMap, read_u32, require_bytes, text_at, u16_at};
 use std::alloc::Allocator;
 
 /// The size of an entry in bytes.
@@ -125,19 +125,13 @@ impl DelayImport {
 
     /// The offset of an address of the entry in the bytes. Errors, in order: `VaBelowBase` of a virtual address; `Image` with
     /// `Unmapped`.
-    #[tactic(auto, unfolding(crate::specs::DelayImports::offset_in_entry))]
     pub fn offset_of(&self, image: &ImageBytes<'_>, address: u32) -> Result<usize>
         ensures { DirectoryReturns (λ p. p) result (offset_in_entry (image_view image.now) self.now address) }
     {
-        if self.has_rvas() {
-            image.offset_of_rva(address)
-        } else {
-            image.offset_of_va(u64::from(address))
-        }
+        self.offset_by(image, &image.section_map(), address)
     }
 
     /// The same by an index of the sections.
-    #[tactic(auto, unfolding(crate::specs::DelayImports::offset_in_entry))]
     pub(crate) fn offset_by_index<A: Allocator>(
         &self,
         image: &IndexedImage<'_, A>,
@@ -145,10 +139,24 @@ impl DelayImport {
     ) -> Result<usize>
         ensures { DirectoryReturns (λ p. p) result (offset_in_entry image.now self.now address) }
     {
+        self.offset_by(image.image(), &image.section_map(), address)
+    }
+
+    /// The same by a section map of the image.
+    #[tactic(auto, unfolding(crate::specs::DelayImports::offset_in_entry))]
+    fn offset_by(
+        &self,
+        image: &ImageBytes<'_>,
+        sections: &SectionMap<'_>,
+        address: u32,
+    ) -> Result<usize>
+        requires { IsMapOf (image_view image.now) sections.now }
+        ensures { DirectoryReturns (λ p. p) result (offset_in_entry (image_view image.now) self.now address) }
+    {
         if self.has_rvas() {
-            image.offset_of_rva(address)
+            Ok(sections.offset_of(address)?)
         } else {
-            image.offset_of_va(u64::from(address))
+            image.offset_of_va_by(sections, u64::from(address))
         }
     }
 

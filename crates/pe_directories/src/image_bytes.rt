@@ -4,12 +4,12 @@
 ghost use Rattle.std.specs.Prelude.{◌≡◌, ◌+◌, ◌≤◌, drop, length, IfOk};
 ghost use Rattle.pe_core.specs.Header.{optional_header_view};
 ghost use Rattle.pe_directories.specs.DirectoryRefusals.{DirectoryReturns};
-ghost use Rattle.pe_directories.specs.ImageParts.{image_view, image_with, offset_of_rva, offset_of_va, table_at_va, range_of, record_of, table_of, size_of_va};
+ghost use Rattle.pe_directories.specs.ImageParts.{IsMapOf, image_view, image_with, offset_of_rva, offset_of_va, table_at_va, range_of, record_of, table_of, size_of_va};
 
 use crate::error::{DirectoryError, Result};
 use pe_core::{
-    ByteRange, DataDirectory, Error, MAGIC_64, OptionalHeader, ParseOptions, Reason, SectionTable,
-    find_offset, mapped_offset, require_bytes,
+    ByteRange, DataDirectory, Error, MAGIC_64, OptionalHeader, ParseOptions, Reason, SectionMap,
+    SectionTable, mapped_offset, require_bytes,
 };
 
 /// An image: its bytes, and what its headers say of them.
@@ -89,17 +89,32 @@ impl<'a> ImageBytes<'a> {
         Ok(&self.bytes[range.offset..range.offset + range.length])
     }
 
+    /// The section map of the image, which tests the sections in turn.
+    pub(crate) fn section_map(&self) -> SectionMap<'a>
+        ensures { IsMapOf (image_view self.now) result }
+    {
+        SectionMap::new(self.sections, self.file_alignment, &self.opts)
+    }
+
     /// The offset of a virtual address in the bytes, which may be past their end. Errors, in order: `VaBelowBase`; `Image`
     /// with `Unmapped`.
-    #[tactic(auto, unfolding(crate::specs::ImageParts::offset_of_va))]
     pub fn offset_of_va(&self, va: u64) -> Result<usize>
+        ensures { DirectoryReturns (λ p. p) result (offset_of_va (image_view self.now) va) }
+    {
+        self.offset_of_va_by(&self.section_map(), va)
+    }
+
+    /// The same by a section map of the image, which may have an index.
+    #[tactic(auto, unfolding(crate::specs::ImageParts::offset_of_va))]
+    pub(crate) fn offset_of_va_by(&self, sections: &SectionMap<'_>, va: u64) -> Result<usize>
+        requires { IsMapOf (image_view self.now) sections.now }
         ensures { DirectoryReturns (λ p. p) result (offset_of_va (image_view self.now) va) }
     {
         if va < self.image_base {
             return Err(DirectoryError::VaBelowBase(va));
         }
         let rva = va - self.image_base;
-        match find_offset(rva as usize, self.sections, self.file_alignment, &self.opts) {
+        match sections.find(rva as usize) {
             Some(offset) => Ok(offset),
             None => Err(DirectoryError::Image(Error::Malformed(Reason::Unmapped(rva)))),
         }

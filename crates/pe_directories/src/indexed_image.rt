@@ -3,13 +3,12 @@
 
 ghost use Rattle.std.specs.Prelude.{◌≡◌, drop, IfOk, IfErr};
 ghost use Rattle.pe_core.specs.declared.error.Error.TheVariants.{Memory};
-ghost use Rattle.pe_directories.specs.DirectoryRefusals.{DirectoryReturns};
-ghost use Rattle.pe_directories.specs.ImageParts.{image_view, offset_of_rva, offset_of_va};
+ghost use Rattle.pe_directories.specs.ImageParts.{IsMapOf, image_view};
 ghost use Rattle.pe_directories.specs.declared.error.DirectoryError.TheVariants.{Image};
 
-use crate::error::{DirectoryError, Result};
+use crate::error::Result;
 use crate::image_bytes::ImageBytes;
-use pe_core::{Error, Reason, SectionIndex};
+use pe_core::{SectionIndex, SectionMap};
 use std::alloc::Allocator;
 use std::marker::Model;
 
@@ -69,26 +68,17 @@ impl<'a, A: Allocator> IndexedImage<'a, A> {
         self.image.is_64
     }
 
-    /// The offset of an RVA in the bytes. Error: `Image` with `Unmapped`.
-    pub(crate) fn offset_of_rva(&self, rva: u32) -> Result<usize>
-        ensures { DirectoryReturns (λ p. p) result (offset_of_rva self.now rva) }
+    /// The image without the index.
+    pub(crate) fn image(&self) -> &ImageBytes<'a>
+        ensures { image_view result.now ≡ self.now }
     {
-        Ok(self.index.map().offset_of(rva)?)
+        &self.image
     }
 
-    /// The offset of a virtual address in the bytes, which may be past their end. Errors, in order: `VaBelowBase`; `Image`
-    /// with `Unmapped`.
-    #[tactic(auto, unfolding(crate::specs::ImageParts::offset_of_va))]
-    pub(crate) fn offset_of_va(&self, va: u64) -> Result<usize>
-        ensures { DirectoryReturns (λ p. p) result (offset_of_va self.now va) }
+    /// The section map of the image, by the index.
+    pub(crate) fn section_map(&self) -> SectionMap<'_>
+        ensures { IsMapOf self.now result }
     {
-        if va < self.image.image_base {
-            return Err(DirectoryError::VaBelowBase(va));
-        }
-        let rva = va - self.image.image_base;
-        match self.index.map().find(rva as usize) {
-            Some(offset) => Ok(offset),
-            None => Err(DirectoryError::Image(Error::Malformed(Reason::Unmapped(rva)))),
-        }
+        self.index.map()
     }
 }

@@ -44,3 +44,4 @@ some_error refusals.WriteSymbols other = (errors.Malformed (reasons.WriteSymbols
 some_error refusals.WriteOverlap other = (errors.Malformed (reasons.WriteOverlap 0 0), refl)
 some_error refusals.WriteSection other = (errors.Malformed (reasons.WriteSection 0), refl)
 some_error refusals.WriteFit other = (errors.Malformed (reasons.WriteFit 0 0), refl)
+some_error refusals.ImportsLimit other = (errors.Malformed (reasons.ImportsLimit 0 0), refl)

@@ -60,6 +60,14 @@ unfolding layout_of
 asks_for_exports e b o sections h layout found lay is asked =
     if_more e (IsSome found) (HasExports b o sections h ⊎ HasImports o sections h) (λ some. inl (subst IsSome (rw lay at is) some)) asked
 
+pub asks_for_index : (e : Error) (b : List ℕ) (o : ParseOptions) (sections : List SectionTable) (h : Option OptionalHeaderView) (layout : Layout) (found : Option ExportDataView) → layout ≡ layout_of h →
+    found ≡ export_data_of (section_map o sections layout.file_alignment) b layout.exports →
+    IfMemory e (IsSome found ⊎ IsSomeAnd (if o.parse_imports then layout.imports else None) (λ d. IsSome (section_map o sections layout.file_alignment d.virtual_address))) → IfMemory e (HasExports b o sections h ⊎ HasImports o sections h)
+unfolding layout_of
+asks_for_index e b o sections h layout found lay is asked =
+    if_more e (IsSome found ⊎ HasImports o sections h) (HasExports b o sections h ⊎ HasImports o sections h)
+    (λ some. ⊎_elim (λ (x : IsSome found). inl (subst IsSome (rw lay at is) x)) (λ (x : HasImports o sections h). inr x) some) (rw lay at asked)
+
 pub asks_for_directory : (e : Error) (b : List ℕ) (o : ParseOptions) (sections : List SectionTable) (h : Option OptionalHeaderView) (layout : Layout) → layout ≡ layout_of h →
     IfMemory e (IsSomeAnd (if o.parse_imports then layout.imports else None) (λ d. IsSome (section_map o sections layout.file_alignment d.virtual_address))) → IfMemory e (HasExports b o sections h ⊎ HasImports o sections h)
 unfolding layout_of

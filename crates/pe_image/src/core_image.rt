@@ -2,25 +2,27 @@
 //! error, but for an invalid export directory, which counts as absent. `PE` adds the other directories to it. Layout:
 //! <https://learn.microsoft.com/windows/win32/debug/pe-format>.
 
-ghost use Rattle.std.specs.Prelude.{◌≡◌, ◌<◌, ◌⊎◌, map, IfErr, IfOk, IsSome, IsSomeAnd, None, Ok, if◌then◌else◌};
+ghost use Rattle.std.specs.Prelude.{◌≡◌, ◌<◌, ◌⊎◌, map, IfErr, IfOk, IfSome, IsSome, IsSomeAnd, None, Ok, if◌then◌else◌};
 ghost use Rattle.pe_core.specs.declared.error.Error.TheVariants.{Memory};
 ghost use Rattle.std.specs.Option.{option_map};
 ghost use Rattle.pe_core.specs.Exports.{export_data_view, export_view};
 ghost use Rattle.pe_core.specs.Header.{header_view};
 ghost use Rattle.pe_core.specs.Imports.{entry_size, import_data_view, import_view};
-ghost use Rattle.pe_core.specs.Refusals.{ReturnsUnlessMemory, ReturnsUnlessMemoryAfter};
-ghost use Rattle.pe_core.specs.SectionMap.{section_map};
+ghost use Rattle.pe_core.specs.Refusals.{Returns, ReturnsUnlessMemory, ReturnsUnlessMemoryAfter};
+ghost use Rattle.pe_core.specs.SectionMap.{map_view, offset_in, section_map};
 ghost use Rattle.pe_core.specs.Sections.{sections_of};
 ghost use Rattle.pe_image.specs.Core.{export_data_of, exports_of, import_data_of, imports_of, core_with, sections_read, core_of, AreLibrariesOf};
 ghost use Rattle.pe_image.specs.CoreParts.{core_view, CoreHasLayout, CoreHasLibraries};
 ghost use Rattle.pe_image.specs.LayoutParts.{layout_of};
+ghost use Rattle.pe_image.specs.Limits.{entry_count, import_count, imports_with, number_or_0};
+ghost use Rattle.pe_image.specs.LimitSteps.{unless_above};
 ghost use Rattle.pe_image.specs.Memory.{AsksForMemory, HasExports, HasImports, MemoryOnlyIf};
 
 use crate::layout::Layout;
 use pe_core::laws::names_of_records_are_read_again;
 use pe_core::{
-    Export, ExportData, Header, Import, ImportData, ParseOptions, Result, SectionIndex,
-    SectionTable,
+    DataDirectory, Error, Export, ExportData, Header, Import, ImportData, ParseOptions, Reason,
+    Result, SectionIndex, SectionMap, SectionTable, find_offset,
 };
 use std::alloc::Allocator;
 
@@ -70,23 +72,79 @@ fn export_data<'a>(
     ExportData::parse_with_opts(bytes, layout.exports?, sections, alignment, opts).ok()
 }
 
+/// The data directory of the imports. `None` if `parse_imports` is off.
+fn import_directory(opts: &ParseOptions, layout: &Layout) -> Option<DataDirectory>
+    ensures { result ≡ (if opts.now.parse_imports then layout.now.imports else None) }
+{
+    if opts.parse_imports {
+        layout.imports
+    } else {
+        None
+    }
+}
+
+/// The index of the sections, by which exports and imports are read. `None` if there are neither, so that no memory is
+/// asked for.
+fn index<'s, A: Allocator + Copy>(
+    alloc: A,
+    opts: &ParseOptions,
+    sections: &'s [SectionTable],
+    layout: &Layout,
+    export_data: &Option<ExportData<'_>>,
+) -> Result<Option<SectionIndex<'s, A>>>
+    ensures index { IfOk result (λ found. IfSome found
+        (λ index. index ≡ map_view opts.now sections.entry.now layout.now.file_alignment)) }
+    ensures refused { IfErr result (λ error. error ≡ Memory record {}) }
+    ensures memory { MemoryOnlyIf (IsSome (option_map export_data_view export_data.now)
+        ⊎ IsSomeAnd (if opts.now.parse_imports then layout.now.imports else None) (λ d. IsSome
+        (section_map opts.now sections.entry.now layout.now.file_alignment d.virtual_address)))
+        result }
+{
+    let alignment = layout.file_alignment;
+    if export_data.is_none() {
+        let Some(imports) = import_directory(opts, layout) else {
+            return Ok(None);
+        };
+        let rva = imports.virtual_address as usize;
+        if find_offset(rva, sections, alignment, opts).is_none() {
+            return Ok(None);
+        }
+    }
+    Ok(Some(SectionIndex::new(alloc, sections, alignment, opts)?))
+}
+
+/// The section map, by this index if there is one.
+fn map_by<'s, A: Allocator>(
+    index: &'s Option<SectionIndex<'s, A>>,
+    opts: &ParseOptions,
+    sections: &'s [SectionTable],
+    file_alignment: u32,
+) -> SectionMap<'s>
+    requires { IfSome index.now
+        (λ index. index ≡ map_view opts.now sections.now file_alignment) }
+    ensures { result ≡ map_view opts.now sections.entry.now file_alignment }
+{
+    match index {
+        Some(index) => index.map(),
+        None => SectionMap::new(sections, file_alignment, opts),
+    }
+}
+
 /// The exports of the export directory, if there is one.
 fn exports<'a, A: Allocator + Copy + Drop>(
     alloc: A,
     bytes: &'a [u8],
-    opts: &ParseOptions,
-    sections: &[SectionTable],
-    file_alignment: u32,
     export_data: &Option<ExportData<'a>>,
+    sections: &SectionMap<'_>,
 ) -> Result<Vec<Export<'a>, A>>
     ensures exports { ReturnsUnlessMemory (λ v. map export_view v.items) result
-        (Ok (exports_of (section_map opts.now sections.now file_alignment) bytes.entry.now
+        (Ok (exports_of (offset_in sections.now) bytes.entry.now
         (option_map export_data_view export_data.now))) }
     ensures memory { MemoryOnlyIf (IsSome (option_map export_data_view export_data.now)) result }
 {
     match export_data {
         None => Ok(Vec::new(alloc)),
-        Some(data) => Export::parse_with_opts(alloc, bytes, data, sections, file_alignment, opts),
+        Some(data) => Export::parse_with_map(alloc, bytes, data, sections),
     }
 }
 
@@ -95,57 +153,63 @@ fn import_data<'a, A: Allocator + Copy + Drop>(
     alloc: A,
     bytes: &'a [u8],
     opts: &ParseOptions,
-    sections: &[SectionTable],
     layout: &Layout,
+    sections: &SectionMap<'_>,
 ) -> Result<Option<ImportData<'a, A>>>
     ensures directory { ReturnsUnlessMemory (option_map import_data_view) result (import_data_of
-        (section_map opts.now sections.now layout.now.file_alignment) (entry_size layout.now.is_64)
-        bytes.entry.now (if opts.now.parse_imports then layout.now.imports else None)) }
+        (offset_in sections.now) (entry_size layout.now.is_64) bytes.entry.now
+        (if opts.now.parse_imports then layout.now.imports else None)) }
     ensures memory { MemoryOnlyIf
-        (IsSomeAnd (if opts.now.parse_imports then layout.now.imports else None) (λ d. IsSome
-        (section_map opts.now sections.now layout.now.file_alignment d.virtual_address))) result }
+        (IsSomeAnd (if opts.now.parse_imports then layout.now.imports else None)
+        (λ d. IsSome (offset_in sections.now d.virtual_address))) result }
 {
-    if !opts.parse_imports {
-        return Ok(None);
-    }
-    let Some(directory) = layout.imports else {
+    let Some(directory) = import_directory(opts, layout) else {
         return Ok(None);
     };
-    let Layout {
-        file_alignment,
-        is_64,
-        ..
-    } = *layout;
-    Ok(Some(ImportData::parse_with_opts(
-        alloc,
-        bytes,
-        directory,
-        sections,
-        file_alignment,
-        opts,
-        is_64,
-    )?))
+    let data = ImportData::parse_with_map(alloc, bytes, directory, sections, layout.is_64)?;
+    Ok(Some(data))
 }
 
 /// The imports of the import directory, if there is one.
 fn imports<'a, A: Allocator + Copy + Drop>(
     alloc: A,
     bytes: &'a [u8],
-    opts: &ParseOptions,
-    sections: &[SectionTable],
-    layout: &Layout,
     import_data: &Option<ImportData<'a, A>>,
+    sections: &SectionMap<'_>,
+    is_64: bool,
 ) -> Result<Vec<Import<'a>, A>>
     ensures imports { ReturnsUnlessMemory (λ v. map import_view v.items) result
-        (imports_of (section_map opts.now sections.now layout.now.file_alignment) (entry_size
-        layout.now.is_64) bytes.entry.now (option_map import_data_view import_data.now)) }
+        (imports_of (offset_in sections.now) (entry_size is_64) bytes.entry.now
+        (option_map import_data_view import_data.now)) }
     ensures memory { MemoryOnlyIf (IsSome (option_map import_data_view import_data.now)) result }
 {
-    let Some(data) = import_data else {
-        return Ok(Vec::new(alloc));
+    match import_data {
+        None => Ok(Vec::new(alloc)),
+        Some(data) => Import::parse_with_map(alloc, bytes, data, sections, is_64),
+    }
+}
+
+/// Tests how many imports the import directory has. Error: `ImportsLimit` if there is a limit and they are more.
+#[tactic(auto, using(crate::proofs::Limited::above_greatest))]
+fn require_within<A: Allocator + Copy + Drop>(
+    import_data: &Option<ImportData<'_, A>>,
+    is_64: bool,
+    most: Option<u32>,
+) -> Result<()>
+    ensures { Returns result (unless_above most
+        (entry_count (entry_size is_64) (option_map import_data_view import_data.now)) (Ok tt)) }
+{
+    let Some(limit) = most else {
+        return Ok(());
     };
-    let alignment = layout.file_alignment;
-    Import::parse_with_opts(alloc, bytes, data, sections, alignment, opts, layout.is_64)
+    let count = match import_data {
+        None => 0,
+        Some(data) => data.import_count(is_64),
+    };
+    if count > limit as usize {
+        return Err(Error::Malformed(Reason::ImportsLimit { count, limit }));
+    }
+    Ok(())
 }
 
 /// The names of the DLLs in the import directory, if there is one: sorted by their bytes, each once.
@@ -153,12 +217,11 @@ fn libraries<'a, A: Allocator + Copy + Drop>(
     alloc: A,
     bytes: &'a [u8],
     opts: &ParseOptions,
-    sections: &[SectionTable],
     layout: &Layout,
     import_data: &Option<ImportData<'a, A>>,
+    sections: &SectionMap<'_>,
 ) -> Result<Vec<&'a str, A>>
-    requires { import_data_of (section_map opts.now sections.now layout.now.file_alignment)
-        (entry_size layout.now.is_64) bytes.now
+    requires { import_data_of (offset_in sections.now) (entry_size layout.now.is_64) bytes.now
         (if opts.now.parse_imports then layout.now.imports else None)
         ≡ Ok (option_map import_data_view import_data.now) }
     ensures listed { IfOk result (λ v.
@@ -170,25 +233,26 @@ fn libraries<'a, A: Allocator + Copy + Drop>(
         return Ok(Vec::new(alloc));
     };
     // By the map: names at one offset are compared once.
-    let index = SectionIndex::new(alloc, sections, layout.file_alignment, opts)?;
     names_of_records_are_read_again();
-    let libraries = data.libraries_with_map(alloc, bytes, &index.map())?;
-    Ok(libraries)
+    data.libraries_with_map(alloc, bytes, sections)
 }
 
 impl<'a, A: Allocator + Copy + Drop> Core<'a, A> {
-    /// Reads the core of an image with these headers and sections. Errors: those of the import directory, then those of
-    /// its imports; `Memory`.
-    #[tactic(auto, using(crate::proofs::Requests::asks_for_exports, crate::proofs::Requests::asks_for_directory, crate::proofs::Requests::asks_for_imports), unfolding(crate::specs::Core::core_with, crate::specs::LayoutParts::layout_of))]
+    /// Reads the core of an image with these headers and sections. Errors: those of the import directory; `ImportsLimit`
+    /// if there is a limit and it has more imports; those of its imports; `Memory`.
+    #[tactic(auto, using(crate::proofs::Limited::limited_core, crate::proofs::Requests::asks_for_index, crate::proofs::Requests::asks_for_exports, crate::proofs::Requests::asks_for_directory, crate::proofs::Requests::asks_for_imports), unfolding(crate::specs::LayoutParts::layout_of))]
     fn with(
         alloc: A,
         bytes: &'a [u8],
         opts: &ParseOptions,
         header: Header<'a>,
         sections: Vec<SectionTable, A>,
+        most: Option<u32>,
     ) -> Result<Core<'a, A>>
         ensures core { ReturnsUnlessMemory core_view result
-            (core_with bytes.entry.now opts.now (header_view header.entry) sections.items) }
+            (unless_above most (number_or_0 (imports_with bytes.entry.now opts.now
+            (header_view header.entry).optional_header sections.items))
+            (core_with bytes.entry.now opts.now (header_view header.entry) sections.items)) }
         ensures memory { MemoryOnlyIf (HasExports bytes.entry.now opts.now sections.items
             (header_view header.entry).optional_header ⊎ HasImports opts.now sections.items
             (header_view header.entry).optional_header) result }
@@ -196,12 +260,18 @@ impl<'a, A: Allocator + Copy + Drop> Core<'a, A> {
         ensures layout { IfOk result CoreHasLayout }
     {
         let layout = Layout::of(&header.optional_header);
-        let alignment = layout.file_alignment;
         let export_data = export_data(bytes, opts, &sections, &layout);
-        let exports = exports(alloc, bytes, opts, &sections, alignment, &export_data)?;
-        let import_data = import_data(alloc, bytes, opts, &sections, &layout)?;
-        let imports = imports(alloc, bytes, opts, &sections, &layout, &import_data)?;
-        let libraries = libraries(alloc, bytes, opts, &sections, &layout, &import_data)?;
+        // One index for all: making it costs more than most searches by it.
+        let index = index(alloc, opts, &sections, &layout, &export_data)?;
+        let map = map_by(&index, opts, &sections, layout.file_alignment);
+        let exports = exports(alloc, bytes, &export_data, &map)?;
+        let import_data = import_data(alloc, bytes, opts, &layout, &map)?;
+        require_within(&import_data, layout.is_64, most)?;
+        let imports = imports(alloc, bytes, &import_data, &map, layout.is_64)?;
+        let libraries = libraries(alloc, bytes, opts, &layout, &import_data, &map)?;
+        // They borrow the sections, which the core takes.
+        drop(map);
+        drop(index);
         Ok(Core {
             header,
             sections,
@@ -216,7 +286,6 @@ impl<'a, A: Allocator + Copy + Drop> Core<'a, A> {
 
     /// Reads the core of an image. The first error is returned, in this order: of the headers, the section headers, the
     /// import directory, the imports. Memory is asked for only if the headers and the section headers are valid.
-    #[tactic(auto, using(crate::proofs::NoMemory::header_owes_nothing, crate::proofs::Requests::asks_for_sections, crate::proofs::Requests::asks_for_core), unfolding(crate::specs::Core::core_of))]
     pub fn read(alloc: A, bytes: &'a [u8], opts: &ParseOptions) -> Result<Core<'a, A>>
         ensures core { ReturnsUnlessMemoryAfter (sections_read bytes.entry.now opts.now)
             core_view result (core_of bytes.entry.now opts.now) }
@@ -224,8 +293,27 @@ impl<'a, A: Allocator + Copy + Drop> Core<'a, A> {
         ensures libraries { IfOk result CoreHasLibraries }
         ensures layout { IfOk result CoreHasLayout }
     {
+        Core::read_within(alloc, bytes, opts, None)
+    }
+
+    /// Reads the core of an image, as `read` does, unless there is a limit and it has more imports. `ImportsLimit` comes
+    /// after the errors of the import directory, and before those of its imports.
+    #[tactic(auto, using(crate::proofs::NoMemory::header_owes_nothing, crate::proofs::Requests::asks_for_sections, crate::proofs::Requests::asks_for_core), unfolding(crate::specs::Core::core_of, crate::specs::Limits::import_count))]
+    pub fn read_within(
+        alloc: A,
+        bytes: &'a [u8],
+        opts: &ParseOptions,
+        most: Option<u32>,
+    ) -> Result<Core<'a, A>>
+        ensures core { ReturnsUnlessMemoryAfter (sections_read bytes.entry.now opts.now)
+            core_view result (unless_above most (import_count bytes.entry.now opts.now)
+            (core_of bytes.entry.now opts.now)) }
+        ensures memory { MemoryOnlyIf (AsksForMemory bytes.entry.now opts.now) result }
+        ensures libraries { IfOk result CoreHasLibraries }
+        ensures layout { IfOk result CoreHasLayout }
+    {
         let header = Header::parse_with_opts(bytes, opts)?;
         let sections = sections(alloc, bytes, &header)?;
-        Core::with(alloc, bytes, opts, header, sections)
+        Core::with(alloc, bytes, opts, header, sections, most)
     }
 }
