@@ -125,6 +125,7 @@ enum {
     PE_C_WRITE_OVERLAP = 35,        /* sections overlap in the file; never returned */
     PE_C_WRITE_SECTION = 36,        /* section data is not in the source bytes; never returned */
     PE_C_WRITE_FIT = 37,            /* write does not fit the buffer */
+    PE_C_IMPORTS_LIMIT = 38,        /* image has more imports than the limit; never returned */
     PE_C_NOTHING = 100,             /* there is nothing of the kind, or the walk is over */
     PE_C_ROOM = 101,                /* the array is too small */
     PE_C_MISSING = 102,             /* eight bytes of memory are missing, at the frame's address */

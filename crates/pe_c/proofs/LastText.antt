@@ -4,7 +4,7 @@ use Rattle.std.specs.Prelude.{codes}
 use Rattle.std.proofs.lemmas.List.{get_or_past}
 use Rattle.pe_c.specs.Texts.{texts, refusal_text, other_texts, other_text, sign_texts, sign_text}
 
-pub text_past : (n : ℕ) → 38 ≤ n → codes "unknown result" ≡ refusal_text n
+pub text_past : (n : ℕ) → 39 ≤ n → codes "unknown result" ≡ refusal_text n
 unfolding refusal_text
 text_past n h = sym (get_or_past texts n (codes "unknown result") (omega arith))
 

@@ -1,6 +1,6 @@
 -- The result of a call: a number, and a value at `out`. 0 means that the value is there, others say why it is not.
 use Rattle.std.specs.Prelude.{◌≡◌, ℕ, Option, Some, None, Result, Ok, Err}
-use Rattle.pe_core.specs.Refusals.{Refusal, Memory, Short, BadMagic, HeaderPointer, ImportName, StringTable, CertificateRevision, CertificateType, CertificateSize, CertificateTable, Unmapped, DebugBounds, DebugSize, DebugData, PogoSize, PogoName, ExceptionSize, ExceptionOffset, ExceptionBounds, FunctionIndex, FunctionLink, FunctionCycle, UnwindVersion, UnwindCode, Arm64Version, Arm64Stream, Arm64Cut, ResourceBounds, ResourceCycle, ResourceString, TeSize, NoOptionalHeader, WriteAlignment, WriteSymbols, WriteOverlap, WriteSection, WriteFit}
+use Rattle.pe_core.specs.Refusals.{Refusal, Memory, Short, BadMagic, HeaderPointer, ImportName, StringTable, CertificateRevision, CertificateType, CertificateSize, CertificateTable, Unmapped, DebugBounds, DebugSize, DebugData, PogoSize, PogoName, ExceptionSize, ExceptionOffset, ExceptionBounds, FunctionIndex, FunctionLink, FunctionCycle, UnwindVersion, UnwindCode, Arm64Version, Arm64Stream, Arm64Cut, ResourceBounds, ResourceCycle, ResourceString, TeSize, NoOptionalHeader, WriteAlignment, WriteSymbols, WriteOverlap, WriteSection, WriteFit, ImportsLimit}
 
 -- the number of a refusal, written by tools/make_errors
 abbrev pub result_number : Refusal → ℕ
@@ -41,6 +41,7 @@ result_number WriteSymbols = 34
 result_number WriteOverlap = 35
 result_number WriteSection = 36
 result_number WriteFit = 37
+result_number ImportsLimit = 38
 
 -- 0 and the value; else the number of the refusal, and `out` is unchanged
 abbrev pub HandsOut : {Y : Type 0} → ℕ → Y → Y → Result Y Refusal → Type 0

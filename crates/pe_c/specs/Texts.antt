@@ -43,6 +43,7 @@ texts =
     codes "sections overlap in the file" ∷
     codes "section data is not in the source bytes" ∷
     codes "write does not fit the buffer" ∷
+    codes "image has more imports than the limit" ∷
     []
 
 -- the text of 0 or of the number of a refusal

@@ -92,6 +92,7 @@ fn number_of_reason(reason: Reason) -> u32
         Reason::WriteOverlap(..) => 35,
         Reason::WriteSection(_) => 36,
         Reason::WriteFit { .. } => 37,
+        Reason::ImportsLimit { .. } => 38,
     }
 }
 

@@ -58,6 +58,7 @@ fn refusal_text(number: u32) -> &'static str
         35 => "sections overlap in the file",
         36 => "section data is not in the source bytes",
         37 => "write does not fit the buffer",
+        38 => "image has more imports than the limit",
         _ => "unknown result",
     }
 }

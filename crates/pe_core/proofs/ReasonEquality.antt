@@ -22,10 +22,10 @@ two = next nat_eq one_equal number one
 
 -- the test of each kind's fields, in the order of the kinds
 abbrev each : Each Bool enum.parts
-each = (one_equal, (one_equal, (one_equal, (one_equal, (one_equal, (one_equal, (one_equal, (one_equal, (one_equal, (one_equal, (one_equal, (one_equal, (two_equal, (one_equal, (one_equal, (one_equal, (one_equal, (one_equal, (one_equal, (one_equal, (one_equal, (one_equal, (two_equal, (one_equal, (one_equal, (one_equal, (one_equal, (one_equal, (none_equal, (one_equal, (one_equal, (two_equal, (one_equal, (two_equal, tt))))))))))))))))))))))))))))))))))
+each = (one_equal, (one_equal, (one_equal, (one_equal, (one_equal, (one_equal, (one_equal, (one_equal, (one_equal, (one_equal, (one_equal, (one_equal, (two_equal, (one_equal, (one_equal, (one_equal, (one_equal, (one_equal, (one_equal, (one_equal, (one_equal, (one_equal, (two_equal, (one_equal, (one_equal, (one_equal, (one_equal, (one_equal, (none_equal, (one_equal, (one_equal, (two_equal, (one_equal, (two_equal, (two_equal, tt)))))))))))))))))))))))))))))))))))
 
 fields : EachDecides enum.parts each
-fields = (one, (one, (one, (one, (one, (one, (one, (one, (one, (one, (one, (one, (two, (one, (one, (one, (one, (one, (one, (one, (one, (one, (two, (one, (one, (one, (one, (one, (none, (one, (one, (two, (one, (two, tt))))))))))))))))))))))))))))))))))
+fields = (one, (one, (one, (one, (one, (one, (one, (one, (one, (one, (one, (one, (two, (one, (one, (one, (one, (one, (one, (one, (one, (one, (two, (one, (one, (one, (one, (one, (none, (one, (one, (two, (one, (two, (two, tt)))))))))))))))))))))))))))))))))))
 
 pub reasons_equal : (x y : Reason) → IsTrue (by false false enum.parts each (enum.as_values x) (enum.as_values y)) ↔ (x ≡ y)
 reasons_equal = variants_equal enum each fields

@@ -1,7 +1,7 @@
 -- The name of each error, for logs and bindings.
 -- The list of errors is written by tools/make_errors.
 use Rattle.std.specs.Prelude.{ℕ, List, codes}
-use Rattle.pe_core.specs.Refusals.{Refusal, Memory, Short, BadMagic, HeaderPointer, ImportName, StringTable, CertificateRevision, CertificateType, CertificateSize, CertificateTable, Unmapped, DebugBounds, DebugSize, DebugData, PogoSize, PogoName, ExceptionSize, ExceptionOffset, ExceptionBounds, FunctionIndex, FunctionLink, FunctionCycle, UnwindVersion, UnwindCode, Arm64Version, Arm64Stream, Arm64Cut, ResourceBounds, ResourceCycle, ResourceString, TeSize, NoOptionalHeader, WriteAlignment, WriteSymbols, WriteOverlap, WriteSection, WriteFit}
+use Rattle.pe_core.specs.Refusals.{Refusal, Memory, Short, BadMagic, HeaderPointer, ImportName, StringTable, CertificateRevision, CertificateType, CertificateSize, CertificateTable, Unmapped, DebugBounds, DebugSize, DebugData, PogoSize, PogoName, ExceptionSize, ExceptionOffset, ExceptionBounds, FunctionIndex, FunctionLink, FunctionCycle, UnwindVersion, UnwindCode, Arm64Version, Arm64Stream, Arm64Cut, ResourceBounds, ResourceCycle, ResourceString, TeSize, NoOptionalHeader, WriteAlignment, WriteSymbols, WriteOverlap, WriteSection, WriteFit, ImportsLimit}
 
 -- the name of an error
 abbrev pub name_of : Refusal → List ℕ
@@ -42,3 +42,4 @@ name_of WriteSymbols = codes "WriteSymbols"
 name_of WriteOverlap = codes "WriteOverlap"
 name_of WriteSection = codes "WriteSection"
 name_of WriteFit = codes "WriteFit"
+name_of ImportsLimit = codes "ImportsLimit"

@@ -46,6 +46,7 @@ pub data Refusal : Type 0 where
   WriteOverlap : Refusal
   WriteSection : Refusal
   WriteFit : Refusal
+  ImportsLimit : Refusal
 
 -- the kind of a reason
 abbrev pub kind_of_reason : Reason → Refusal
@@ -83,6 +84,7 @@ kind_of_reason (reasons.WriteSymbols offset) = WriteSymbols
 kind_of_reason (reasons.WriteOverlap first second) = WriteOverlap
 kind_of_reason (reasons.WriteSection index) = WriteSection
 kind_of_reason (reasons.WriteFit end length) = WriteFit
+kind_of_reason (reasons.ImportsLimit count limit) = ImportsLimit
 
 -- the kind of an error
 abbrev pub kind_of : Error → Refusal

@@ -87,6 +87,8 @@ pub enum Reason {
     /// The end of what was to be written, or the greatest u64 if that is greater, and the length of the buffer in
     /// bytes.
     WriteFit { end: u64, length: usize },
+    /// The number of imports of an image, or the greatest usize if there are more, and the limit of the call.
+    ImportsLimit { count: usize, limit: u32 },
 }
 
 impl Reason {
@@ -133,6 +135,7 @@ impl Reason {
             Reason::WriteOverlap(..) => "WriteOverlap",
             Reason::WriteSection(..) => "WriteSection",
             Reason::WriteFit { .. } => "WriteFit",
+            Reason::ImportsLimit { .. } => "ImportsLimit",
         }
     }
 }
@@ -303,6 +306,7 @@ impl Reason {
             | Reason::Arm64Stream { .. }
             | Reason::WriteOverlap(..)
             | Reason::WriteFit { .. }
+            | Reason::ImportsLimit { .. }
             | Reason::NoOptionalHeader => {
                 return None;
             }
@@ -331,6 +335,10 @@ impl fmt::Display for Reason {
             Reason::WriteFit { end, length } => write!(
                 f,
                 "write ends at offset {end:#x}, past a buffer of {length} bytes"
+            ),
+            Reason::ImportsLimit { count, limit } => write!(
+                f,
+                "image has {count} imports, more than the limit of {limit}"
             ),
             _ => write!(f, "image has no optional header"),
         }

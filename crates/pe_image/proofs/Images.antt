@@ -108,7 +108,7 @@ accepted b opts c first f resources h are given =
 
 -- ---- from the core on
 
-core_refused : (b : List ℕ) (opts : ParseOptions) (e : Refusal) → core_of b opts ≡ Err e → IsImage b opts (Err e)
+pub core_refused : (b : List ℕ) (opts : ParseOptions) (e : Refusal) → core_of b opts ≡ Err e → IsImage b opts (Err e)
 unfolding before_resources
 core_refused b opts e h = after_refusal b opts (core_of b opts >>= λ c. unless_refused b opts c) e (rw h refl)
 

@@ -8,6 +8,7 @@ pub mod LibraryLists
 pub mod Requests
 pub mod Headline
 pub mod SectionsFirst
+pub mod Limited
 pub mod ExceptionFields
 pub mod Overlays
 pub mod Rows

@@ -8,6 +8,8 @@ pub mod LayoutParts
 pub mod CoreParts
 pub mod FieldSteps
 pub mod ImageSteps
+pub mod Limits
+pub mod LimitSteps
 pub mod Te
 pub mod Objects
 pub mod Overlay

@@ -8,19 +8,21 @@ ghost use Rattle.std.specs.Option.{option_map};
 ghost use Rattle.pe_core.specs.Exports.{export_data_view, export_view};
 ghost use Rattle.pe_core.specs.Header.{header_view};
 ghost use Rattle.pe_core.specs.Imports.{entry_size, import_data_view, import_view};
-ghost use Rattle.pe_core.specs.Refusals.{ReturnsUnlessMemory, ReturnsUnlessMemoryAfter};
+ghost use Rattle.pe_core.specs.Refusals.{Returns, ReturnsUnlessMemory, ReturnsUnlessMemoryAfter};
 ghost use Rattle.pe_core.specs.SectionMap.{map_view, offset_in, section_map};
 ghost use Rattle.pe_core.specs.Sections.{sections_of};
 ghost use Rattle.pe_image.specs.Core.{export_data_of, exports_of, import_data_of, imports_of, core_with, sections_read, core_of, AreLibrariesOf};
 ghost use Rattle.pe_image.specs.CoreParts.{core_view, CoreHasLayout, CoreHasLibraries};
 ghost use Rattle.pe_image.specs.LayoutParts.{layout_of};
+ghost use Rattle.pe_image.specs.Limits.{entry_count, import_count, imports_with, number_or_0};
+ghost use Rattle.pe_image.specs.LimitSteps.{unless_above};
 ghost use Rattle.pe_image.specs.Memory.{AsksForMemory, HasExports, HasImports, MemoryOnlyIf};
 
 use crate::layout::Layout;
 use pe_core::laws::names_of_records_are_read_again;
 use pe_core::{
-    DataDirectory, Export, ExportData, Header, Import, ImportData, ParseOptions, Result,
-    SectionIndex, SectionMap, SectionTable, find_offset,
+    DataDirectory, Error, Export, ExportData, Header, Import, ImportData, ParseOptions, Reason,
+    Result, SectionIndex, SectionMap, SectionTable, find_offset,
 };
 use std::alloc::Allocator;
 
@@ -187,6 +189,29 @@ fn imports<'a, A: Allocator + Copy + Drop>(
     }
 }
 
+/// Tests how many imports the import directory has. Error: `ImportsLimit` if there is a limit and they are more.
+#[tactic(auto, using(crate::proofs::Limited::above_greatest))]
+fn require_within<A: Allocator + Copy + Drop>(
+    import_data: &Option<ImportData<'_, A>>,
+    is_64: bool,
+    most: Option<u32>,
+) -> Result<()>
+    ensures { Returns result (unless_above most
+        (entry_count (entry_size is_64) (option_map import_data_view import_data.now)) (Ok tt)) }
+{
+    let Some(limit) = most else {
+        return Ok(());
+    };
+    let count = match import_data {
+        None => 0,
+        Some(data) => data.import_count(is_64),
+    };
+    if count > limit as usize {
+        return Err(Error::Malformed(Reason::ImportsLimit { count, limit }));
+    }
+    Ok(())
+}
+
 /// The names of the DLLs in the import directory, if there is one: sorted by their bytes, each once.
 fn libraries<'a, A: Allocator + Copy + Drop>(
     alloc: A,
@@ -213,18 +238,21 @@ fn libraries<'a, A: Allocator + Copy + Drop>(
 }
 
 impl<'a, A: Allocator + Copy + Drop> Core<'a, A> {
-    /// Reads the core of an image with these headers and sections. Errors: those of the import directory, then those of
-    /// its imports; `Memory`.
-    #[tactic(auto, using(crate::proofs::Requests::asks_for_index, crate::proofs::Requests::asks_for_exports, crate::proofs::Requests::asks_for_directory, crate::proofs::Requests::asks_for_imports), unfolding(crate::specs::Core::core_with, crate::specs::LayoutParts::layout_of))]
+    /// Reads the core of an image with these headers and sections. Errors: those of the import directory; `ImportsLimit`
+    /// if there is a limit and it has more imports; those of its imports; `Memory`.
+    #[tactic(auto, using(crate::proofs::Limited::limited_core, crate::proofs::Requests::asks_for_index, crate::proofs::Requests::asks_for_exports, crate::proofs::Requests::asks_for_directory, crate::proofs::Requests::asks_for_imports), unfolding(crate::specs::LayoutParts::layout_of))]
     fn with(
         alloc: A,
         bytes: &'a [u8],
         opts: &ParseOptions,
         header: Header<'a>,
         sections: Vec<SectionTable, A>,
+        most: Option<u32>,
     ) -> Result<Core<'a, A>>
         ensures core { ReturnsUnlessMemory core_view result
-            (core_with bytes.entry.now opts.now (header_view header.entry) sections.items) }
+            (unless_above most (number_or_0 (imports_with bytes.entry.now opts.now
+            (header_view header.entry).optional_header sections.items))
+            (core_with bytes.entry.now opts.now (header_view header.entry) sections.items)) }
         ensures memory { MemoryOnlyIf (HasExports bytes.entry.now opts.now sections.items
             (header_view header.entry).optional_header ⊎ HasImports opts.now sections.items
             (header_view header.entry).optional_header) result }
@@ -238,6 +266,7 @@ impl<'a, A: Allocator + Copy + Drop> Core<'a, A> {
         let map = map_by(&index, opts, &sections, layout.file_alignment);
         let exports = exports(alloc, bytes, &export_data, &map)?;
         let import_data = import_data(alloc, bytes, opts, &layout, &map)?;
+        require_within(&import_data, layout.is_64, most)?;
         let imports = imports(alloc, bytes, &import_data, &map, layout.is_64)?;
         let libraries = libraries(alloc, bytes, opts, &layout, &import_data, &map)?;
         // They borrow the sections, which the core takes.
@@ -257,7 +286,6 @@ impl<'a, A: Allocator + Copy + Drop> Core<'a, A> {
 
     /// Reads the core of an image. The first error is returned, in this order: of the headers, the section headers, the
     /// import directory, the imports. Memory is asked for only if the headers and the section headers are valid.
-    #[tactic(auto, using(crate::proofs::NoMemory::header_owes_nothing, crate::proofs::Requests::asks_for_sections, crate::proofs::Requests::asks_for_core), unfolding(crate::specs::Core::core_of))]
     pub fn read(alloc: A, bytes: &'a [u8], opts: &ParseOptions) -> Result<Core<'a, A>>
         ensures core { ReturnsUnlessMemoryAfter (sections_read bytes.entry.now opts.now)
             core_view result (core_of bytes.entry.now opts.now) }
@@ -265,8 +293,27 @@ impl<'a, A: Allocator + Copy + Drop> Core<'a, A> {
         ensures libraries { IfOk result CoreHasLibraries }
         ensures layout { IfOk result CoreHasLayout }
     {
+        Core::read_within(alloc, bytes, opts, None)
+    }
+
+    /// Reads the core of an image, as `read` does, unless there is a limit and it has more imports. `ImportsLimit` comes
+    /// after the errors of the import directory, and before those of its imports.
+    #[tactic(auto, using(crate::proofs::NoMemory::header_owes_nothing, crate::proofs::Requests::asks_for_sections, crate::proofs::Requests::asks_for_core), unfolding(crate::specs::Core::core_of, crate::specs::Limits::import_count))]
+    pub fn read_within(
+        alloc: A,
+        bytes: &'a [u8],
+        opts: &ParseOptions,
+        most: Option<u32>,
+    ) -> Result<Core<'a, A>>
+        ensures core { ReturnsUnlessMemoryAfter (sections_read bytes.entry.now opts.now)
+            core_view result (unless_above most (import_count bytes.entry.now opts.now)
+            (core_of bytes.entry.now opts.now)) }
+        ensures memory { MemoryOnlyIf (AsksForMemory bytes.entry.now opts.now) result }
+        ensures libraries { IfOk result CoreHasLibraries }
+        ensures layout { IfOk result CoreHasLayout }
+    {
         let header = Header::parse_with_opts(bytes, opts)?;
         let sections = sections(alloc, bytes, &header)?;
-        Core::with(alloc, bytes, opts, header, sections)
+        Core::with(alloc, bytes, opts, header, sections, most)
     }
 }

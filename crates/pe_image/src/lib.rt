@@ -12,11 +12,13 @@ mod core_image;
 mod fields;
 pub mod laws;
 mod layout;
+mod limits;
 mod pe;
 mod te;
 mod write;
 
 pub use coff::Coff;
+pub use limits::Limits;
 pub use pe::PE;
 pub use pe_core::ByteRange;
 pub use pe_core::COFF_MACHINE_ARM64;

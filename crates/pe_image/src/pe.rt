@@ -14,11 +14,13 @@ ghost use Rattle.pe_image.specs.CoreParts.{core_view, CoreHasLayout, CoreHasLibr
 ghost use Rattle.pe_image.specs.Image.{exceptions_on, image_of, image_view, source_of, HasLibraries, ReturnsImage};
 ghost use Rattle.pe_image.specs.ImageSteps.{ReturnsAfterCore};
 ghost use Rattle.pe_image.specs.LayoutParts.{layout_of};
+ghost use Rattle.pe_image.specs.Limits.{ReturnsImageWithin};
 ghost use Rattle.pe_image.specs.Memory.{AsksForMemory, HasCertificates, MemoryOnlyIf};
 
 use crate::core_image::Core;
 use crate::fields::{FirstFields, resource_data};
 use crate::layout::is_library;
+use crate::limits::Limits;
 use pe_core::{
     COFF_MACHINE_ARM64, COFF_MACHINE_X86_64, Export, ExportData, Header, Import, ImportData,
     ParseOptions, RelocationData, Result, SectionTable,
@@ -219,6 +221,27 @@ impl<'a, A: Allocator + Copy + Drop> PE<'a, A> {
         ensures source { IfOk result (λ p. source_of p ≡ bytes.entry.now) }
     {
         let core = Core::read(alloc, bytes, opts)?;
+        PE::with_core(alloc, bytes, opts, core)
+    }
+
+    /// Reads the image in `bytes`, a whole file, as `parse_with_opts` does, unless it has more than a limit allows.
+    /// Import records may share their lookup entries, so the imports of a file of 1 MiB may not fit in memory. An image
+    /// with more of them than `limits.imports` is refused as `ImportsLimit`, in both modes, after the errors of its
+    /// import directory and before those of its imports, of which none is listed.
+    pub fn parse_with_limits(
+        alloc: A,
+        bytes: &'a [u8],
+        opts: &ParseOptions,
+        limits: &Limits,
+    ) -> Result<PE<'a, A>>
+        ensures image { ReturnsImageWithin limits.now.imports bytes.entry.now opts.now result }
+        ensures memory { MemoryOnlyIf (AsksForMemory bytes.entry.now opts.now) result }
+        ensures sections { IfOk result
+            (λ p. sections_read bytes.entry.now opts.now ≡ Ok (image_view p).sections) }
+        ensures libraries { IfOk result HasLibraries }
+        ensures source { IfOk result (λ p. source_of p ≡ bytes.entry.now) }
+    {
+        let core = Core::read_within(alloc, bytes, opts, Some(limits.imports))?;
         PE::with_core(alloc, bytes, opts, core)
     }
 

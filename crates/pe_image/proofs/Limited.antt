@@ -1,0 +1,128 @@
+-- An image within a limit of imports.
+use Rattle.std.proofs.Common.{◌≡◌, ℕ, ◌-◌, ◌^◌, ◌<◌, ◌≤◌, Bool, true, false, List, Option, None, Some, Result, Ok, Err, refl, ap, arith}
+use Rattle.std.specs.Prelude.{min, nat_lt, IsOk, if◌then◌else◌}
+use Rattle.std.proofs.lemmas.Bool.Decides.{nat_tests}
+use Rattle.pe_core.specs.Header.{HeaderView, header_at}
+use Rattle.pe_core.specs.Imports.{ImportRecordView, ImportView, entry_size}
+use Rattle.pe_core.specs.Refusals.{Refusal, ImportsLimit, UnlessMemory, IfMemory, kind_of, ◌>>=◌}
+use Rattle.pe_core.specs.SectionMap.{section_map}
+use Rattle.pe_core.specs.declared.error.Error.{Error}
+use Rattle.pe_core.specs.declared.options.ParseOptions.{ParseOptions}
+use Rattle.pe_core.specs.declared.section_table.SectionTable.{SectionTable}
+use Rattle.pe_image.specs.Core.{CoreView, core_of, core_with, export_data_of, exports_of, import_data_of, import_directory, imports_of, sections_read}
+use Rattle.pe_image.specs.Image.{ImageView, IsImage, ReturnsImage}
+use Rattle.pe_image.specs.Layout.{alignment, directory, is_64}
+use Rattle.pe_image.specs.Limits.{IsImageWithin, ReturnsImageWithin, entry_count, import_count, imports_with, number_or_0}
+use Rattle.pe_image.specs.LimitSteps.{unless_above}
+use Rattle.pe_image.specs.declared.pe.PE.{PE}
+use Rattle.pe_image.proofs.Images.{core_refused}
+use Rattle.pe_image.proofs.NoMemory.{header_owes_nothing}
+use Rattle.pe_image.proofs.Steps.{unless, unless_memory}
+
+yes : (m n : ℕ) → m < n → nat_lt m n ≡ true
+yes m n h = grind (arith, nat_tests)
+
+no : (m n : ℕ) → n ≤ m → nat_lt m n ≡ false
+no m n h = grind (arith, nat_tests)
+
+-- ---- the test
+
+-- a number up to the greatest usize is above a limit of 32 bits exactly if the number itself is
+pub is_above : (most n count : ℕ) → count ≡ min n (2 ^ 64 - 1) → most < count → nat_lt most n ≡ true
+is_above most n count is h = yes most n (omega (arith, is, h))
+
+pub not_above : (most n count : ℕ) → most < 2 ^ 32 → count ≡ min n (2 ^ 64 - 1) → count ≤ most → nat_lt most n ≡ false
+not_above most n count small is h = no most n (omega (arith, small, is, h))
+
+pub ruleset above_greatest = (is_above, not_above)
+
+-- ---- the core
+
+none_above : {X : Type 0} (most : Option ℕ) (r : Result X Refusal) → unless_above most 0 r ≡ r
+none_above None r = refl
+none_above (Some most) r = ap (λ (t : Bool). if t then Err ImportsLimit else r) (no most 0 (omega arith))
+
+-- to test first and to go on is to test all of it
+tested_first : {X Y : Type 0} (most : Option ℕ) (n : ℕ) (r : Result X Refusal) (f : X → Result Y Refusal) → unless_above most n (r >>= f) ≡ (unless_above most n (Ok (tt {0})) >>= λ u. r >>= f)
+tested_first None n r f = refl
+tested_first (Some most) n r f = by_test (nat_lt most n) (r >>= f)
+  where
+    by_test : {Y : Type 0} (t : Bool) (r : Result Y Refusal) → (if t then Err ImportsLimit else r) ≡ ((if t then Err ImportsLimit else Ok (tt {0})) >>= λ u. r)
+    by_test true r = refl
+    by_test false r = refl
+
+in_turn : {X Y : Type 0} (most : Option ℕ) (count : X → ℕ) (found : Result X Refusal) (f : X → Result Y Refusal) (make : X → Y → CoreView)
+    → unless_above most (number_or_0 (found >>= λ x. Ok (count x))) (found >>= λ x. f x >>= λ y. Ok (make x y)) ≡ (found >>= λ x. unless_above most (count x) (Ok (tt {0})) >>= λ u. f x >>= λ y. Ok (make x y))
+in_turn most count (Err e) f make = none_above most (Err e)
+in_turn most count (Ok x) f make = tested_first most (count x) (f x) (λ y. Ok (make x y))
+
+-- the core within the limit, as it is read: the import directory, the test of its number, the imports
+pub limited_core : (most : Option ℕ) (b : List ℕ) (o : ParseOptions) (header : HeaderView) (sections : List SectionTable)
+    → unless_above most (number_or_0 (imports_with b o header.optional_header sections)) (core_with b o header sections)
+    ≡ (import_data_of (section_map o sections (alignment header.optional_header)) (entry_size (is_64 header.optional_header)) b (import_directory o header.optional_header) >>= λ found.
+    unless_above most (entry_count (entry_size (is_64 header.optional_header)) found) (Ok (tt {0})) >>= λ u.
+    imports_of (section_map o sections (alignment header.optional_header)) (entry_size (is_64 header.optional_header)) b found >>= λ list.
+    Ok (record {
+      header = header;
+      sections = sections;
+      export_data = export_data_of (section_map o sections (alignment header.optional_header)) b (directory 0 header.optional_header);
+      exports = exports_of (section_map o sections (alignment header.optional_header)) b (export_data_of (section_map o sections (alignment header.optional_header)) b (directory 0 header.optional_header));
+      import_data = found;
+      imports = list;
+    }))
+unfolding core_with
+limited_core most b o header sections =
+    let offset = section_map o sections (alignment header.optional_header) in
+    let width = entry_size (is_64 header.optional_header) in
+    let data_found = export_data_of offset b (directory 0 header.optional_header) in
+    in_turn {X = Option (List ImportRecordView)} {Y = List ImportView} most (entry_count width) (import_data_of offset width b (import_directory o header.optional_header)) (imports_of offset width b)
+    (λ found list. record { header = header; sections = sections; export_data = data_found; exports = exports_of offset b data_found; import_data = found; imports = list })
+
+-- an image whose headers are refused has no imports, and is refused for its headers before memory is asked for
+header_refused : (most : Option ℕ) (b : List ℕ) (o : ParseOptions) (e : Refusal) → header_at b o.parse_mode ≡ Err e → unless_above most (import_count b o) (core_of b o) ≡ Err e
+unfolding import_count core_of
+header_refused most b o e h = rw h (none_above most (Err e))
+
+pub refused_by_header : (most : Option ℕ) (b : List ℕ) (o : ParseOptions) (e : Error) → header_at b o.parse_mode ≡ Err (kind_of e) →
+    UnlessMemory e (unless_above most (import_count b o) (core_of b o) ≡ Err (kind_of e)) × IfMemory e (IsOk (sections_read b o))
+refused_by_header most b o e h =
+    (unless e (unless_above most (import_count b o) (core_of b o) ≡ Err (kind_of e)) (header_refused most b o (kind_of e) h), header_owes_nothing b o.parse_mode e (IsOk (sections_read b o)) h)
+
+-- ---- the image
+
+-- where there is a core within the limit, there is that core, and no more imports
+within_limit : (most n : ℕ) (r : Result CoreView Refusal) (c : CoreView) → unless_above (Some most) n r ≡ Ok c → (n ≤ most) × (r ≡ Ok c)
+within_limit most n r c h = by_test (nat_lt most n) refl h
+  where
+    by_test : (t : Bool) → nat_lt most n ≡ t → (if t then Err ImportsLimit else r) ≡ Ok c → (n ≤ most) × (r ≡ Ok c)
+    by_test true is h = absurd cc
+    by_test false is h = (grind (arith, nat_tests, is), h)
+
+pub core_within : (most : ℕ) (b : List ℕ) (o : ParseOptions) (c : CoreView) → unless_above (Some most) (import_count b o) (core_of b o) ≡ Ok c → core_of b o ≡ Ok c
+core_within most b o c h = (within_limit most (import_count b o) (core_of b o) c h).1
+
+-- the same of a refusal
+refused_within : (most : ℕ) (b : List ℕ) (o : ParseOptions) (e : Refusal) → unless_above (Some most) (import_count b o) (core_of b o) ≡ Err e → IsImageWithin most b o (Err e)
+refused_within most b o e h = record {
+  within = λ few. core_refused b o e (subst-test false (no most (import_count b o) few) h);
+  over = λ many. ap (λ (e : Refusal). Err e) (limit_is e (subst-test true (yes most (import_count b o) many) h));
+}
+  where
+    subst-test : (t : Bool) → nat_lt most (import_count b o) ≡ t → unless_above (Some most) (import_count b o) (core_of b o) ≡ Err e → (if t then Err ImportsLimit else core_of b o) ≡ Err e
+    subst-test t is h = rw is at h
+
+    limit_is : (e : Refusal) → Path (Result CoreView Refusal) (Err ImportsLimit) (Err e) → e ≡ ImportsLimit
+    limit_is e h = cc
+
+pub refused_within_unless : (most : ℕ) (b : List ℕ) (o : ParseOptions) (e : Error) → UnlessMemory e (unless_above (Some most) (import_count b o) (core_of b o) ≡ Err (kind_of e)) → UnlessMemory e (IsImageWithin most b o (Err (kind_of e)))
+refused_within_unless most b o e h =
+    unless_memory e (unless_above (Some most) (import_count b o) (core_of b o) ≡ Err (kind_of e)) (IsImageWithin most b o (Err (kind_of e))) (refused_within most b o (kind_of e)) h
+
+-- an image that has no more imports than the limit is one within it
+few_within : (most : ℕ) (b : List ℕ) (o : ParseOptions) (r : Result ImageView Refusal) → import_count b o ≤ most → IsImage b o r → IsImageWithin most b o r
+few_within most b o r few is = record { within = λ h. is; over = λ many. absurd (omega (arith, few, many)) }
+
+pub image_within : {Z : Type 0} (most : ℕ) (b : List ℕ) (o : ParseOptions) (c : CoreView) (r : Result (PE Z) Error) → unless_above (Some most) (import_count b o) (core_of b o) ≡ Ok c → ReturnsImage b o r → ReturnsImageWithin most b o r
+image_within most b o c (Ok p) h is = few_within most b o (Ok _) (within_limit most (import_count b o) (core_of b o) c h).0 is
+image_within most b o c (Err e) h is =
+    (unless_memory e (IsImage b o (Err (kind_of e))) (IsImageWithin most b o (Err (kind_of e))) (few_within most b o (Err (kind_of e)) (within_limit most (import_count b o) (core_of b o) c h).0) is.0, is.1)
