@@ -27,6 +27,7 @@ pub mod EntryLists
 pub mod SymbolNames
 pub mod Libraries
 pub mod NamesRead
+pub mod HexDigits
 pub mod Equality
 pub mod VariantEquality
 pub mod Reaches

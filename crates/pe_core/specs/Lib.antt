@@ -5,6 +5,7 @@ pub mod Bytes
 pub mod Offsets
 pub mod CountedTable
 pub mod Text
+pub mod HexDigits
 pub mod TextRuns
 pub mod Options
 pub mod Modes

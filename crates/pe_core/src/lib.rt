@@ -15,6 +15,7 @@ mod export;
 mod export_addresses;
 mod first_zero;
 mod header;
+mod hex_digits;
 mod import;
 mod import_list;
 pub mod laws;
@@ -52,6 +53,7 @@ pub use header::{
     COFF_MACHINE_ARM64, COFF_MACHINE_X86_64, CoffHeader, DOS_MAGIC, DosHeader, Header,
     IMAGE_FILE_DLL, PE_MAGIC, SIZE_OF_DOS_HEADER, SIZE_OF_TE_HEADER, TE_MAGIC, TeHeader,
 };
+pub use hex_digits::hex_digit;
 pub use import::{
     ImportData, ImportDirectoryEntry, SyntheticImportDirectoryEntry, lookup_number, lookup_size,
     lookups_at,

@@ -1,10 +1,11 @@
 -- Version information as the tree of blocks that it is: each block inside the length of the one that it belongs to.
 -- (Microsoft: VS_VERSIONINFO, StringFileInfo, StringTable, String, VarFileInfo, Var. What a wrong length costs is this
 -- project's profile.)
-use Rattle.std.specs.Prelude.{◌≡◌, ℕ, zero, suc, ◌+◌, ◌-◌, ◌*◌, ◌/◌, ◌%◌, ◌^◌, ◌==◌, ◌&&◌, ◌||◌, List, [], ◌∷◌, length, take, drop, Bool, true, false, Option, Some, None, Result, Ok, Err, codes, nat_le, if◌then◌else◌}
-use Rattle.std.specs.Option.{option_map, option_and_then}
+use Rattle.std.specs.Prelude.{◌≡◌, ℕ, zero, suc, ◌+◌, ◌/◌, ◌%◌, ◌^◌, ◌==◌, ◌&&◌, ◌||◌, List, [], ◌∷◌, length, take, drop, Bool, true, false, Option, Some, None, Result, Ok, Err, codes, nat_le, if◌then◌else◌}
+use Rattle.std.specs.Option.{option_map}
 use Rattle.std.specs.Str.{bytes_eq}
 use Rattle.pe_core.specs.Bytes.{le, range, holds}
+use Rattle.pe_core.specs.HexDigits.{number_after}
 use Rattle.pe_core.specs.Refusals.{Refusal, Short, outcome, kind_of, ◌>>=◌}
 use Rattle.pe_resource.specs.Leaves.{content_of_type}
 use Rattle.pe_resource.specs.VersionFields.{fixed_info_at}
@@ -207,22 +208,6 @@ abbrev pub translation_at : List ℕ → ℕ → Translation
 translation_at b p = record { language = le b p 2; code_page = le b (p + 2) 2 }
 
 -- ---- the language and the code page of a string table
-
--- the code unit is at least the first of these, and at most the last
-abbrev pub is_between : ℕ → ℕ → ℕ → Bool
-is_between first last unit = nat_le first unit && nat_le unit last
-
--- the value of a hexadecimal digit of either case: 48 is `0`, 65 is `A`, 97 is `a`
-unfoldable pub digit_of : ℕ → Option ℕ
-digit_of unit =
-    if is_between 48 57 unit then Some (unit - 48)
-    else (if is_between 65 70 unit then Some (unit - 55)
-    else (if is_between 97 102 unit then Some (unit - 87) else None))
-
--- the number of these digits, after others that make the number `front`
-unfoldable pub number_after : ℕ → List ℕ → Option ℕ
-number_after front [] = Some front
-number_after front (unit ∷ units) = option_and_then (λ digit. number_after (16 * front + digit) units) (digit_of unit)
 
 -- the language and the code page of a key of eight digits, four for each
 unfoldable pub translation_of_key : List ℕ → Option Translation

@@ -17,7 +17,8 @@ ghost use Rattle.std.specs.Option.{option_map};
 ghost use Rattle.std.specs.Str.{bytes_eq};
 ghost use Rattle.std.proofs.Common.{arith};
 ghost use Rattle.pe_core.specs.EntriesLeft.{bytes_left};
-ghost use Rattle.pe_resource.specs.VersionBlocks.{BlockReturns, block_answer, block_view, whole_block, own_bytes, first_block, blocks, rest_of, ReturnsBlock, block_with_key, children_of, value_of, version_block, fixed_info_of_value, children_with_key, value_with_key, value_below, string_tables, translations, translation_at, digit_of, number_after, translation_of_key, block_of_content};
+ghost use Rattle.pe_core.specs.HexDigits.{number_after};
+ghost use Rattle.pe_resource.specs.VersionBlocks.{BlockReturns, block_answer, block_view, whole_block, own_bytes, first_block, blocks, rest_of, ReturnsBlock, block_with_key, children_of, value_of, version_block, fixed_info_of_value, children_with_key, value_with_key, value_below, string_tables, translations, translation_at, translation_of_key, block_of_content};
 ghost use Rattle.pe_resource.specs.TranslationsAfter.{translations_after};
 ghost use Rattle.pe_resource.specs.VersionFields.{ReturnsText};
 ghost use Rattle.pe_resource.specs.VersionStrings.{units};
@@ -26,7 +27,7 @@ use crate::constants::RESOURCE_STRING_FIELD_ALIGNMENT;
 use crate::string::{SIZE_OF_HEAD, SIZE_OF_UNIT, key_length, same_units, size_of_value, text_of};
 use crate::version::{SIZE_OF_FIXED_INFO, VsFixedFileInfo};
 use crate::version_block_error::VersionBlockError;
-use pe_core::{TableEntries, TableEntry, read_u16, require_bytes, rounded_up};
+use pe_core::{TableEntries, TableEntry, hex_digit, read_u16, require_bytes, rounded_up};
 use std::alloc::{AllocError, Allocator};
 
 /// The key of the block that contains the string tables.
@@ -158,20 +159,6 @@ fn first_block(bytes: &[u8]) -> Option<(Result<VersionBlock<'_>>, &[u8])>
     }
 }
 
-/// The value of a hexadecimal digit of either case.
-#[tactic(auto, unfolding(crate::specs::VersionBlocks::digit_of))]
-fn digit_of(unit: u16) -> Option<u16>
-    ensures value { result ≡ digit_of unit }
-    ensures small { IfSome result (λ digit. digit < 16) }
-{
-    match unit {
-        0x30..=0x39 => Some(unit - 0x30),
-        0x41..=0x46 => Some(unit - 0x41 + 10),
-        0x61..=0x66 => Some(unit - 0x61 + 10),
-        _ => None,
-    }
-}
-
 /// The number of eight hexadecimal digits in UTF-16.
 #[tactic(auto, using(crate::proofs::Digits::steps))]
 fn number_of(digits: &[u8]) -> Option<u32>
@@ -180,7 +167,7 @@ fn number_of(digits: &[u8]) -> Option<u32>
 {
     let mut number = 0u64;
     for i in 0..8 {
-        let digit = digit_of(read_u16(digits, SIZE_OF_UNIT * i))?;
+        let digit = hex_digit(read_u16(digits, SIZE_OF_UNIT * i))?;
         number = 16 * number + u64::from(digit);
     }
     // Eight digits fit 32 bits.

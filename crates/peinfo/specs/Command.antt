@@ -1,7 +1,8 @@
 -- What the arguments of the command line ask for.
-use Rattle.std.specs.Prelude.{ℕ, ◌+◌, ◌-◌, ◌*◌, ◌&&◌, Bool, List, [], ◌∷◌, length, Option, Some, None, codes, nat_le, option_and_then, if◌then◌else◌}
+use Rattle.std.specs.Prelude.{ℕ, ◌&&◌, List, [], ◌∷◌, length, Option, Some, None, codes, nat_le, if◌then◌else◌}
 use Rattle.std.specs.Option.{option_map}
 use Rattle.std.specs.Str.{bytes_eq}
+use Rattle.pe_core.specs.HexDigits.{number_after}
 use Rattle.pe_core.specs.declared.options.ParseMode.{ParseMode}
 use Rattle.pe_core.specs.declared.options.ParseMode.TheVariants.{Strict, Permissive}
 use Rattle.peinfo.specs.declared.command.Command.{Command}
@@ -34,22 +35,6 @@ abbrev pub flag_mode : List (List ℕ) → Option ParseMode
 flag_mode [] = Some Strict
 flag_mode (argument ∷ []) = if bytes_eq argument (codes "--permissive") then Some Permissive else None
 flag_mode (argument ∷ more ∷ rest) = None
-
--- the code is at least the first of these, and at most the last
-abbrev pub is_between : ℕ → ℕ → ℕ → Bool
-is_between first last code = nat_le first code && nat_le code last
-
--- the value of a hexadecimal digit of either case: 48 is `0`, 65 is `A`, 97 is `a`
-unfoldable pub digit_of : ℕ → Option ℕ
-digit_of code =
-    if is_between 48 57 code then Some (code - 48)
-    else (if is_between 65 70 code then Some (code - 55)
-    else (if is_between 97 102 code then Some (code - 87) else None))
-
--- the number of these digits, after others that make the number `front`
-unfoldable pub number_after : ℕ → List ℕ → Option ℕ
-number_after front [] = Some front
-number_after front (code ∷ codes) = option_and_then (λ digit. number_after (16 * front + digit) codes) (digit_of code)
 
 -- the RVA of one to eight hexadecimal digits
 abbrev pub rva_of : List ℕ → Option ℕ

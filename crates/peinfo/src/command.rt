@@ -1,9 +1,11 @@
 //! The arguments of the command line: which command they ask for, if any.
 
-ghost use Rattle.std.specs.Prelude.{◌≡◌, ◌*◌, ◌<◌, ◌≤◌, ◌^◌, length, map, IfSome};
+ghost use Rattle.std.specs.Prelude.{◌≡◌, ◌≤◌, length, map};
 ghost use Rattle.std.specs.Option.{option_map};
 ghost use Rattle.std.specs.String.{string_bytes};
+ghost use Rattle.pe_core.specs.HexDigits.{number_after};
 
+use pe_core::hex_digit;
 use pe_image::ParseMode;
 
 /// A command of `peinfo`.
@@ -35,7 +37,7 @@ impl<'a> Command<'a> {
     }
 }
 
-ghost use Rattle.peinfo.specs.Command.{flag_mode, asked_at, asked_of, asked_by, digit_of, number_after, rva_of, one_argument};
+ghost use Rattle.peinfo.specs.Command.{flag_mode, asked_at, asked_of, asked_by, rva_of, one_argument};
 
 /// The mode that the arguments after the file ask for.
 #[tactic(auto, using(crate::proofs::Words::shapes))]
@@ -49,29 +51,15 @@ fn mode_of(arguments: &[String]) -> Option<ParseMode>
     }
 }
 
-/// The value of a hexadecimal digit of either case.
-#[tactic(auto, unfolding(crate::specs::Command::digit_of))]
-fn digit_of(code: u8) -> Option<u8>
-    ensures value { result ≡ digit_of code }
-    ensures small { IfSome result (λ digit. digit < 16) }
-{
-    match code {
-        b'0'..=b'9' => Some(code - b'0'),
-        b'A'..=b'F' => Some(code - b'A' + 10),
-        b'a'..=b'f' => Some(code - b'a' + 10),
-        _ => None,
-    }
-}
-
 /// The number of at most eight hexadecimal digits.
-#[tactic(auto, using(crate::proofs::Numbers::steps), unfolding(crate::specs::Command::number_after))]
+#[tactic(auto, using(crate::proofs::Numbers::steps), unfolding(pe_core::specs::HexDigits::number_after))]
 fn number_of(digits: &[u8]) -> Option<u32>
     requires { length digits.now ≤ 8 }
     ensures { result ≡ number_after 0 digits.now }
 {
     let mut number = 0u64;
     for code in digits {
-        let digit = digit_of(*code)?;
+        let digit = hex_digit(u16::from(*code))?;
         number = 16 * number + u64::from(digit);
     }
     // Eight digits fit 32 bits.

@@ -1,7 +1,8 @@
 use Rattle.std.proofs.Common.{◌≡◌, ℕ, ◌<◌, ◌*◌, ◌^◌, Some, ap, sym, ◌∙◌, arith}
 use Rattle.pe_core.specs.Bytes.{le}
-use Rattle.pe_resource.specs.VersionBlocks.{digit_of}
-use Rattle.pe_resource.proofs.Digits.{power_more, power_small, digit_more, digit_small}
+use Rattle.pe_core.specs.HexDigits.{digit_of}
+use Rattle.pe_core.proofs.HexDigits.{power_more, power_small, digit_small}
+use Rattle.pe_resource.proofs.Digits.{digit_more}
 use Rattle.pe_resource.proofs.version_block.number_of.Goals as goal
 
 pub overflow_mul-number : goal.overflow_mul-number
@@ -17,7 +18,7 @@ overflow_add-number c =
 pub loop-i-preserved : goal.loop-i-preserved
 loop-i-preserved c =
     let digit : digit_of (le c.args.digits.now (2 * c.loop-i.i) 2) ≡ Some c.from.result =
-    ap digit_of (sym c.read_u16.ensures) ∙ sym c.digit_of.ensures.value ∙ c.in_ok-digit.was ∙ ap (λ (n : ℕ). Some n) (sym c.from.ensures) in
+    ap digit_of (sym c.read_u16.ensures) ∙ sym c.hex_digit.ensures.value ∙ c.in_ok-digit.was ∙ ap (λ (n : ℕ). Some n) (sym c.from.ensures) in
     let below : c.from.result < 16 = digit_small (le c.args.digits.now (2 * c.loop-i.i) 2) c.from.result digit in
     record {
       rest = sym (digit_more c.loop-i.number c.loop-i.i c.from.result c.args.digits.now (omega arith) digit) ∙ c.loop-i.invariant.rest;

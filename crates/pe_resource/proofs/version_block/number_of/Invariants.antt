@@ -1,5 +1,5 @@
 use Rattle.std.proofs.Common.{◌≡◌, ◌^◌, ◌<◌, drop}
-use Rattle.pe_resource.specs.VersionBlocks.{number_after}
+use Rattle.pe_core.specs.HexDigits.{number_after}
 use Rattle.pe_resource.specs.VersionStrings.{units}
 use Rattle.pe_resource.proofs.version_block.number_of.Given as goal
 

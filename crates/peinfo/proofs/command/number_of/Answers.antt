@@ -1,5 +1,5 @@
 use Rattle.std.proofs.Common.{◌<◌, ◌^◌, arith}
-use Rattle.peinfo.proofs.Numbers.{power_small}
+use Rattle.pe_core.proofs.HexDigits.{power_small}
 use Rattle.peinfo.proofs.command.number_of.Goals as goal
 
 pub overflow_cast-result : goal.overflow_cast-result

@@ -1,5 +1,5 @@
 use Rattle.std.proofs.Common.{◌≡◌, ◌^◌, ◌<◌, drop}
-use Rattle.peinfo.specs.Command.{number_after}
+use Rattle.pe_core.specs.HexDigits.{number_after}
 use Rattle.peinfo.proofs.command.number_of.Given as goal
 
 -- the digits that are left make the whole number after the one that the others made
