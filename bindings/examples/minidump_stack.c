@@ -55,6 +55,10 @@ static size_t read_all(const char *name, uint8_t *room, size_t size)
         exit(2);
     size_t count = fread(room, 1, size, file);
     fclose(file);
+    if (count == size) {
+        fprintf(stderr, "%s is too large\n", name);
+        exit(2);
+    }
     return count;
 }
 

@@ -4,7 +4,7 @@ mod made;
 
 use pe_c::{
     sys, Arm64Registers, End, Error, Frame, Frames, Function, Image, MemoryList, MemoryPiece, Mode, Module, Registers,
-    Stack, StepError, Way,
+    Stack, StepError, WalkMemory, Way,
 };
 
 /// Where the image is loaded.
@@ -45,15 +45,21 @@ fn stack_of(bytes: &[u8]) -> Stack<'_> {
     Stack { start: ENTRY - 8, bytes }
 }
 
+/// All frames of a walk, and why it ended.
+fn all_of<'m>(
+    mut frames: Frames<impl FnMut(u64) -> Option<Module<'m>>, impl WalkMemory>,
+) -> (Vec<(u64, u64, Way)>, Option<End>) {
+    let found = frames.by_ref().map(|it| (it.registers.rip, it.registers.rsp(), it.way)).collect();
+    assert_eq!(frames.next(), None);
+    (found, frames.end())
+}
+
 /// All frames of a walk over the bytes of a stack from `ENTRY - 8` on, and why it ended.
 fn walk(registers: Registers, most: usize, bytes: &[u8]) -> (Vec<(u64, u64, Way)>, Option<End>) {
     let file = made::with_functions();
     let image = image_of(&file);
     let module = |address: u64| address.checked_sub(BASE).map(|_| Module { image: &image, base: BASE });
-    let mut frames = Frames::new(registers, most, module, |_| Some(stack_of(bytes)));
-    let found = frames.by_ref().map(|it| (it.registers.rip, it.registers.rsp(), it.way)).collect();
-    assert_eq!(frames.next(), None);
-    (found, frames.end())
+    all_of(Frames::new(registers, most, module, |_| Some(stack_of(bytes))))
 }
 
 #[test]
@@ -560,10 +566,7 @@ fn walk_over(registers: Registers, memory: MemoryList<'_>) -> (Vec<(u64, u64, Wa
     let file = made::with_functions();
     let image = image_of(&file);
     let module = |address: u64| address.checked_sub(BASE).map(|_| Module { image: &image, base: BASE });
-    let mut frames = Frames::over(registers, 100, module, memory);
-    let found = frames.by_ref().map(|it| (it.registers.rip, it.registers.rsp(), it.way)).collect();
-    assert_eq!(frames.next(), None);
-    (found, frames.end())
+    all_of(Frames::over(registers, 100, module, memory))
 }
 
 /// Words stand in pieces that touch inside of them, in any order.

@@ -36,17 +36,11 @@ fn every_beginning_of_an_image_is_read_or_refused() {
     assert_read(seen);
 }
 
-/// Whether a byte is other than zero, or near one that is: all else is padding.
-fn is_near_content(image: &[u8], offset: usize) -> bool {
-    let near = offset.saturating_sub(8)..image.len().min(offset + 9);
-    image[near].iter().any(|it| *it != 0)
-}
-
 #[test]
 fn every_byte_of_an_image_may_change() {
     let mut seen = Seen::up_to(0);
     for (_, image) in made::all() {
-        for offset in (0..image.len()).filter(|offset| is_near_content(&image, *offset)) {
+        for offset in 0..image.len() {
             for value in [0, 1, 0x7F, 0x80, 0xFF] {
                 let mut bytes = image.clone();
                 bytes[offset] = value;
