@@ -16,10 +16,10 @@ use Rattle.pe_frame.specs.declared.registers.Registers.{Registers}
 use Rattle.pe_frame.specs.Undoing.{◌>>=◌, Frame, offset_number, pointer, put_register, put_xmm, put_rip, number, above, require_integer, raised, undone, undone_all, popped, is_framed, is_interrupted, ran}
 use Rattle.pe_unwind.specs.UnwindRecord.{UnwindInfoView}
 use Rattle.pe_frame.specs.Steps.{frame_of, rising}
-use Rattle.pe_frame.specs.Machine.{Machine, top, base, run, IsProlog, KeepsFrame, saves, saves_xmm, chosen}
+use Rattle.pe_frame.specs.Machine.{Machine, top, base, run, IsProlog, PushesLate, KeepsFrame, saves, saves_xmm, chosen}
 use Rattle.pe_frame.specs.Frames.{Part, infos, left, registers_of, SavesOrKeeps, AreFrames, restored, restored_xmm, IsCaller}
 use Rattle.pe_frame.specs.Epilogs.{moved, epilog_at, executed, executed_all, StepsFrom, StepsWithCode}
-use Rattle.pe_frame.specs.EpilogFrames.{Exits, Pops, moves, allocated, pushes, Leads, Frees, FreesAndPops, AreRestored, IsBack, IsEpilogOfParts, AreReady}
+use Rattle.pe_frame.specs.EpilogFrames.{Exits, Pops, moves, allocated, pushes, LeadsBack, Leads, Frees, FreesAndPops, AreRestored, IsBack, IsEpilogOfParts, AreReady}
 use Rattle.pe_frame.proofs.Runs.{count, entered, pointer_set, pointer_other, sinks}
 use Rattle.pe_frame.proofs.Saved.{Holds, holds, known}
 use Rattle.pe_frame.proofs.Frames.{entry_of, frames_also, called}
@@ -254,49 +254,70 @@ reaches_of c f (SaveXMM128 r o ∷ before) s b p q h = reaches_of c f before s b
 reaches_of c f (PushMachineFrame x ∷ before) s b p q h = tt
 reaches_of c f (Noop ∷ before) s b p q h = reaches_of c f before s b p q.1 h
 
--- and from where `lea` leads
-reaches_led : (c : Bool) (f : Frame) (codes : List UnwindOperation) (s : Machine) (d b p : ℕ) → IsProlog c f codes s → Leads f d (moves codes) → Reaches b (trail b p (moves codes)) (pushes (moves codes))
-reaches_led c f [] s d b p q h = absurd h
-reaches_led c f (Alloc n ∷ before) s d b p q h = reaches_led c f before s d b (p + n) q.1 h
-reaches_led c f (SetFPRegister ∷ before) s d b p q h = reaches_of c f before s b b q.1 (exact_none (run f before s).frame b b (top (run f before s)) q.0.1)
-reaches_led c f (PushNonVolatile r ∷ before) s d b p q h = absurd h
-reaches_led c f (SaveNonVolatile r o ∷ before) s d b p q h = reaches_led c f before s d b p q.1 h
-reaches_led c f (SaveXMM r o ∷ before) s d b p q h = absurd h
-reaches_led c f (Epilog x y ∷ before) s d b p q h = reaches_led c f before s d b p q.1 h
-reaches_led c f (SaveXMM128 r o ∷ before) s d b p q h = reaches_led c f before s d b p q.1 h
-reaches_led c f (PushMachineFrame x ∷ before) s d b p q h = absurd h
-reaches_led c f (Noop ∷ before) s d b p q h = reaches_led c f before s d b p q.1 h
-
--- `lea` leads there
+-- `lea` leads there, and from there the pops come to the base of the frame
 record IsLed (f : Frame) (d b p : ℕ) (codes : List UnwindOperation) (frame : Option ℕ) : Type 0 where
   pub framed : IsSome frame
-  pub offset : ℕ
-  pub wants : moved f.offset d ≡ offset
-  pub is : trail b p codes ≡ b + offset
-
-led_by : (c : Bool) (f : Frame) (codes : List UnwindOperation) (s : Machine) (d b p : ℕ) → IsProlog c f codes s → Leads f d (moves codes) → IsLed f d b p (moves codes) (run f codes s).frame
-led_by c f [] s d b p q h = absurd h
-led_by c f (Alloc n ∷ before) s d b p q h =
-    let next = led_by c f before s d b (p + n) q.1 h in
-    record { framed = next.framed; offset = next.offset; wants = next.wants; is = next.is }
-led_by c f (SetFPRegister ∷ before) s d b p q h =
-    record {
-      framed = refl;
-      offset = allocated (moves before);
-      wants = h;
-      is = trail_sum c f before s b b q.1 (exact_none (run f before s).frame b b (top (run f before s)) q.0.1);
-    }
-led_by c f (PushNonVolatile r ∷ before) s d b p q h = absurd h
-led_by c f (SaveNonVolatile r o ∷ before) s d b p q h = led_by c f before s d b p q.1 h
-led_by c f (SaveXMM r o ∷ before) s d b p q h = absurd h
-led_by c f (Epilog x y ∷ before) s d b p q h = led_by c f before s d b p q.1 h
-led_by c f (SaveXMM128 r o ∷ before) s d b p q h = led_by c f before s d b p q.1 h
-led_by c f (PushMachineFrame x ∷ before) s d b p q h = absurd h
-led_by c f (Noop ∷ before) s d b p q h = led_by c f before s d b p q.1 h
+  pub reaches : Reaches b (trail b p codes) (pushes codes)
+  pub is : trail b p codes < 2 ^ 64 → moved (b + f.offset) d ≡ trail b p codes
 
 -- the frame register leads where `lea` wants
 led : (b o d n : ℕ) → moved o d ≡ n → b + n < 2 ^ 64 → moved (b + o) d ≡ b + n
 led b o d n e small = omega arith
+
+led_here : (b o d p size : ℕ) → p + size ≡ b → moved o (d + size) ≡ 0 → p < 2 ^ 64 → moved (b + o) d ≡ p
+led_here b o d p size at h small = omega arith
+
+-- it does so back over registers that were pushed since it was set
+led_back : (f : Frame) (codes : List UnwindOperation) (d b p size : ℕ) → LeadsBack f d size codes → Reaches b (p + size) codes → p < 2 ^ 64 → moved (b + f.offset) d ≡ p
+led_back f [] d b p size h reaches small = absurd h
+led_back f (PushNonVolatile r ∷ before) d b p size h reaches small =
+    let sum : p + size + 8 ≡ p + (size + 8) = omega arith in
+    led_back f before d b p (size + 8) h (subst (λ (k : ℕ). Reaches b k before) sum reaches) small
+led_back f (SetFPRegister ∷ before) d b p size h reaches small =
+    let at : p + size ≡ b = reaches.0 in
+    led_here b f.offset d p size at h small
+led_back f (Alloc n ∷ before) d b p size h reaches small = absurd h
+led_back f (SaveNonVolatile r o ∷ before) d b p size h reaches small = absurd h
+led_back f (SaveXMM r o ∷ before) d b p size h reaches small = absurd h
+led_back f (Epilog x y ∷ before) d b p size h reaches small = absurd h
+led_back f (SaveXMM128 r o ∷ before) d b p size h reaches small = absurd h
+led_back f (PushMachineFrame x ∷ before) d b p size h reaches small = absurd h
+led_back f (Noop ∷ before) d b p size h reaches small = absurd h
+
+-- such a prolog set a frame register
+set_before : (c : Bool) (f : Frame) (codes : List UnwindOperation) (s : Machine) (d size : ℕ) → IsProlog c f codes s → LeadsBack f d size (moves codes) → IsSome (run f codes s).frame
+set_before c f [] s d size q h = absurd h
+set_before c f (PushNonVolatile r ∷ before) s d size q h = set_before c f before s d (size + 8) q.1 h
+set_before c f (Alloc n ∷ before) s d size q h = absurd h
+set_before c f (SetFPRegister ∷ before) s d size q h = refl
+set_before c f (SaveNonVolatile r o ∷ before) s d size q h = set_before c f before s d size q.1 h
+set_before c f (SaveXMM r o ∷ before) s d size q h = absurd q.0
+set_before c f (Epilog x y ∷ before) s d size q h = set_before c f before s d size q.1 h
+set_before c f (SaveXMM128 r o ∷ before) s d size q h = set_before c f before s d size q.1 h
+set_before c f (PushMachineFrame x ∷ before) s d size q h = absurd h
+set_before c f (Noop ∷ before) s d size q h = set_before c f before s d size q.1 h
+
+led_by : (c : Bool) (f : Frame) (codes : List UnwindOperation) (s : Machine) (d b p : ℕ) → IsProlog c f codes s → Leads f d (moves codes) → (PushesLate codes → IsExact (run f codes s).frame b p (top (run f codes s))) →
+    IsLed f d b p (moves codes) (run f codes s).frame
+led_by c f [] s d b p q h exact = absurd h
+led_by c f (Alloc n ∷ before) s d b p q h exact =
+    let t = top (run f before s) in
+    let set_top : top (run f (Alloc n ∷ before) s) ≡ t - n = pointer_set (run f before s).general (t - n) (count c f before s q.1) in
+    let next = led_by c f before s d b (p + n) q.1 h (λ late. exact_alloc (run f before s).frame b p n t (top (run f (Alloc n ∷ before) s)) set_top q.0.1 (exact late)) in
+    record { framed = next.framed; reaches = next.reaches; is = next.is }
+led_by c f (SetFPRegister ∷ before) s d b p q h exact =
+    let none = exact_none (run f before s).frame b b (top (run f before s)) q.0.1 in
+    let sum = trail_sum c f before s b b q.1 none in
+    record { framed = refl; reaches = reaches_of c f before s b b q.1 none; is = λ small. led b f.offset d (allocated (moves before)) h (omega (arith, sum)) ∙ sym sum }
+led_by c f (PushNonVolatile r ∷ before) s d b p q h exact =
+    let reaches = reaches_pops c f (PushNonVolatile r ∷ before) s b p q (exact tt) in
+    record { framed = set_before c f before s d 8 q.1 h; reaches = reaches; is = led_back f (moves before) d b p 8 h reaches }
+led_by c f (SaveNonVolatile r o ∷ before) s d b p q h exact = led_by c f before s d b p q.1 h exact
+led_by c f (SaveXMM r o ∷ before) s d b p q h exact = absurd q.0
+led_by c f (Epilog x y ∷ before) s d b p q h exact = led_by c f before s d b p q.1 h exact
+led_by c f (SaveXMM128 r o ∷ before) s d b p q h exact = led_by c f before s d b p q.1 h exact
+led_by c f (PushMachineFrame x ∷ before) s d b p q h exact = absurd h
+led_by c f (Noop ∷ before) s d b p q h exact = led_by c f before s d b p q.1 h exact
 
 -- writing the stack pointer changes no register that was saved
 restored_moved : (c : Bool) (f : Frame) (codes : List UnwindOperation) (s : Machine) (g : Registers) (x : ℕ) → IsProlog c f codes s → AreRestored codes s g → AreRestored codes s (put_register g 4 x)
@@ -428,6 +449,11 @@ value_of c f codes s b g (Some x) p e some hb k =
 exact_of : (frame : Option ℕ) (codes : List UnwindOperation) (t b p : ℕ) → undone.HasBase frame codes t b → (IsSome frame → p ≡ t) → IsExact frame b p t
 exact_of None codes t b p hb back = tt
 exact_of (Some c) codes t b p hb back = (back refl, hb)
+
+-- with a register that was pushed late, a body keeps it so
+kept_late : (f : Frame) (codes : List UnwindOperation) (frame : Option ℕ) (there : List ℕ) (b : ℕ) (g : Registers) → undone.HasBase frame codes (get_or there 4 0) b → KeepsFrame f codes frame there g → PushesLate codes → IsExact frame b (pointer g) (get_or there 4 0)
+kept_late f codes None there b g hb k late = tt
+kept_late f codes (Some c) there b g hb k late = (k.1 late, hb)
 
 -- no list of pops starts with `lea`
 abbrev HasNoLea : List Instruction → Type 0
@@ -618,10 +644,10 @@ freed m b c f codes s g (Add n) is p e hb k back small =
     let at : pointer g + n ≡ trail b (pointer g) (moves codes) = ap (λ (x : ℕ). pointer g + x) e ∙ sym sum in
     undone.raised_at n (pointer g) g refl (omega (arith, at)) ∙ ap (λ (x : ℕ). Ok (put_register g 4 x)) at
 freed m b c f codes s g (Lea r d) is p e hb k back small =
-    let l = led_by c f codes s d b (pointer g) p e.1 in
+    let l = led_by c f codes s d b (pointer g) p e.1 (kept_late f codes (run f codes s).frame (run f codes s).general b g hb k) in
     let value = value_of c f codes s b g (run f codes s).frame p refl l.framed hb k in
     let at : moved (get_or g.general r 0) d ≡ trail b (pointer g) (moves codes) =
-    ap (λ (x : ℕ). moved (get_or g.general x 0) d) e.0 ∙ (ap (λ (x : ℕ). moved x d) value ∙ (led b f.offset d l.offset l.wants (omega (arith, l.is)) ∙ sym l.is)) in
+    ap (λ (x : ℕ). moved (get_or g.general x 0) d) e.0 ∙ (ap (λ (x : ℕ). moved x d) value ∙ l.is small) in
     ap (λ (x : ℕ). Ok (put_register g 4 x)) at
 freed m b c f codes s g (Pop r) is p e hb k back small = absurd e
 freed m b c f codes s g (Return n) is p e hb k back small = absurd e
@@ -652,13 +678,14 @@ popped_rest m b t codes is g e u spares reaches len un up q =
 
 -- the instruction that frees stack leads where the pops come to the base of the frame
 reaches_freed : (b : ℕ) (c : Bool) (f : Frame) (codes : List UnwindOperation) (s : Machine) (g : Registers) (i : Instruction) (is : List Instruction) → IsProlog c f codes s → Frees f (moves codes) i →
-    undone.HasBase (run f codes s).frame codes (top (run f codes s)) b → IsBack (i ∷ is) (run f codes s) g → Reaches b (trail b (pointer g) (moves codes)) (pushes (moves codes))
-reaches_freed b c f codes s g (Add n) is p e hb back = reaches_of c f codes s b (pointer g) p (exact_of (run f codes s).frame codes (top (run f codes s)) b (pointer g) hb back)
-reaches_freed b c f codes s g (Lea r d) is p e hb back = reaches_led c f codes s d b (pointer g) p e.1
-reaches_freed b c f codes s g (Pop r) is p e hb back = absurd e
-reaches_freed b c f codes s g (Return n) is p e hb back = absurd e
-reaches_freed b c f codes s g (Jump a) is p e hb back = absurd e
-reaches_freed b c f codes s g JumpByMemory is p e hb back = absurd e
+    undone.HasBase (run f codes s).frame codes (top (run f codes s)) b → KeepsFrame f codes (run f codes s).frame (run f codes s).general g → IsBack (i ∷ is) (run f codes s) g → Reaches b (trail b (pointer g) (moves codes)) (pushes (moves codes))
+reaches_freed b c f codes s g (Add n) is p e hb k back = reaches_of c f codes s b (pointer g) p (exact_of (run f codes s).frame codes (top (run f codes s)) b (pointer g) hb back)
+reaches_freed b c f codes s g (Lea r d) is p e hb k back =
+    (led_by c f codes s d b (pointer g) p e.1 (kept_late f codes (run f codes s).frame (run f codes s).general b g hb k)).reaches
+reaches_freed b c f codes s g (Pop r) is p e hb k back = absurd e
+reaches_freed b c f codes s g (Return n) is p e hb k back = absurd e
+reaches_freed b c f codes s g (Jump a) is p e hb k back = absurd e
+reaches_freed b c f codes s g JumpByMemory is p e hb k back = absurd e
 
 last_push_fits : (m : ℕ → Option ℕ) (t : ℕ) (codes : List UnwindOperation) (is : List Instruction) (g u : Registers) → Spares codes → Pops codes is → length g.general ≡ 16 → executed_all m is (put_register g 4 t) ≡ Ok u → pointer u < 2 ^ 64 → t < 2 ^ 64
 last_push_fits m t codes is g u p q len all small =
@@ -681,7 +708,7 @@ ends_of m b c f codes s g h e u is before rest i p hb k back len (inr (j, js, fi
     let t = trail b (pointer g) (moves codes) in
     let spares = spares_pushes (moves codes) (spares_moves c f codes s p) in
     let back_first = subst (λ (x : List Instruction). IsBack x (run f codes s) g) first back in
-    let there = popped_rest m b t (pushes (moves codes)) js g e u spares (reaches_freed b c f codes s g j js p frees hb back_first) len un up pops in
+    let there = popped_rest m b t (pushes (moves codes)) js g e u spares (reaches_freed b c f codes s g j js p frees hb k back_first) len un up pops in
     let fits = last_push_fits m t (pushes (moves codes)) js g u spares pops len there small in
     let step = freed m b c f codes s g j js p frees hb k back_first fits in
     let all : executed_all m (j ∷ js) g ≡ Ok u = rw step there in

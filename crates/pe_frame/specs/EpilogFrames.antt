@@ -47,10 +47,18 @@ pushes (Alloc n ∷ before) = pushes before
 pushes (SetFPRegister ∷ before) = pushes before
 pushes codes = codes
 
--- `lea` leads from the frame register to the last push, past what was allocated before the frame register was set
+-- `lea` leads back from where the frame register was set, over so many bytes of registers that were pushed since
+abbrev pub LeadsBack : Frame → ℕ → ℕ → List UnwindOperation → Type 0
+LeadsBack f d size (PushNonVolatile r ∷ before) = LeadsBack f d (size + 8) before
+LeadsBack f d size (SetFPRegister ∷ before) = moved f.offset (d + size) ≡ 0
+LeadsBack f d size codes = ⊥
+
+-- `lea` leads from the frame register to the last push: past what was allocated before the frame register was set, or back
+-- over the registers that were pushed after that
 abbrev pub Leads : Frame → ℕ → List UnwindOperation → Type 0
 Leads f d (Alloc n ∷ before) = Leads f d before
 Leads f d (SetFPRegister ∷ before) = moved f.offset d ≡ allocated before
+Leads f d (PushNonVolatile r ∷ before) = LeadsBack f d 8 before
 Leads f d codes = ⊥
 
 -- an instruction frees what was allocated: `add` all of it, from where the prolog left the stack pointer

@@ -47,8 +47,8 @@ pub fn one_result_of_steps_with_code()
 {}
 
 /// There are such epilogs: one that frees stack by `add`; one that does by `lea` from the frame register, after a prolog that
-/// allocated stack before and after it set that register, and saved a register in between; one in a part of a function; and one
-/// that pops a register which was pushed after the frame register was set. Their prologs are those of frames. In the prolog
+/// allocated stack before and after it set that register, and saved a register in between; one in a part of a function; and two
+/// that pop a register which was pushed after the frame register was set, by `add` and by `lea`. Their prologs are those of frames. In the prolog
 /// there is no epilog, nor where a jump stays in the function; one to its start leaves it.
 pub fn epilogs_are_there()
     ensures added { epilog_at (infos (pushed_part ∷ [])) 0x1000 0x1040
@@ -84,6 +84,14 @@ pub fn epilogs_are_there()
         (registers_of (left None late_part)) }
     ensures late { AreFrames (all_known (left None late_part))
         (late_part ∷ []) None (registers_of (left None late_part)) }
+    ensures led_back { epilog_at (infos (late_part ∷ [])) 0x1000 0x1040 (0x48 ∷ 0x8D
+        ∷ 0x65 ∷ 0xF8 ∷ 0x5B ∷ 0x5D ∷ 0xC3 ∷ [])
+        ≡ Some (Lea 5 0xFFFFFFFFFFFFFFF8 ∷ Pop 3 ∷ Pop 5 ∷ Return 0 ∷ []) }
+    ensures of_led_back { IsEpilogOf (frame_of late_part.info) (ran None late_part.codes)
+        (Lea 5 0xFFFFFFFFFFFFFFF8 ∷ Pop 3 ∷ Pop 5 ∷ Return 0 ∷ []) }
+    ensures led_back_ready { IsReady (frame_of late_part.info)
+        (ran None late_part.codes) late_part.entry
+        (Lea 5 0xFFFFFFFFFFFFFFF8 ∷ Pop 3 ∷ Pop 5 ∷ Return 0 ∷ []) (registers_of (left None late_part)) }
     ensures in_the_prolog { epilog_at
         (infos (pushed_part ∷ [])) 0x1000 0x1004 (0x5B ∷ 0xC3 ∷ []) ≡ None }
     ensures jumped { epilog_at (infos (pushed_part ∷ [])) 0x1000 0x1040 (0xEB ∷ 0xBF ∷ []) ≡ None }
@@ -95,8 +103,9 @@ pub fn epilogs_are_there()
 
 /// What is left of an epilog leads to the caller. A machine ran the prolog of a function, which pushed registers before it
 /// allocated stack, and in any order set a frame register, allocated stack and saved registers by stores, each of which it may not
-/// do. It may have come to parts of the function that only saved registers. What stores saved was restored. From there on the
-/// first instructions of the epilog ran, and the code has the others: a step with the code then returns the registers of the
+/// do. It may have come to parts of the function that only saved registers. What stores saved was restored. The instruction that
+/// frees stack is `add`, or `lea` from the frame register, past what was allocated before that was set or back over what was
+/// pushed since. From there on the first instructions of the epilog ran, and the code has the others: a step with the code then returns the registers of the
 /// caller. A register that is pushed after an allocation has no epilog of the forms that a step knows: its pop would come
 /// before the instruction that frees stack.
 pub fn epilogs_return_to_the_caller()

@@ -50,6 +50,10 @@ pub returns-clause-after_the_frame : goal.returns-clause-after_the_frame
 unfolding le operand add_form lea_form pop_form popped_first after_pops jump_form exit_form
 returns-clause-after_the_frame c = refl
 
+pub returns-clause-led_back : goal.returns-clause-led_back
+unfolding le operand add_form lea_form pop_form popped_first after_pops jump_form exit_form
+returns-clause-led_back c = refl
+
 pub returns-clause-late : goal.returns-clause-late
 returns-clause-late c = late
 
