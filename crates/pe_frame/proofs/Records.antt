@@ -1,5 +1,5 @@
 -- A record undone, by what its codes say at once.
-use Rattle.std.proofs.Common.{◌≡◌, ℕ, Bool, List, [], ◌∷◌, map, Option, Result, Ok, Err, refl, ap, sym, ◌∙◌, subst}
+use Rattle.std.proofs.Common.{◌≡◌, ℕ, Bool, ◌||◌, List, [], ◌∷◌, map, Option, None, Result, Ok, Err, refl, ap, sym, ◌∙◌, subst}
 use Rattle.pe_core.specs.declared.error.Error.{Error}
 use Rattle.pe_unwind.specs.declared.unwind_code.UnwindCode.{UnwindCode}
 use Rattle.pe_unwind.specs.CodeStream.{AreItems}
@@ -8,7 +8,7 @@ use Rattle.pe_frame.specs.declared.error.FrameError.{FrameError}
 use Rattle.pe_frame.specs.declared.record.Survey.{Survey}
 use Rattle.pe_frame.specs.declared.registers.Registers.{Registers}
 use Rattle.pe_frame.specs.Undoing.{◌>>=◌, ran, undone_all, base_of, entered}
-use Rattle.pe_frame.specs.Steps.{known_codes, frame_of, Enters}
+use Rattle.pe_frame.specs.Steps.{known_codes, frame_of, Enters, Undoes}
 use Rattle.pe_frame.specs.Survey.{surveyed, Surveys}
 
 all_before : (c : UnwindCode) (items : List (Result UnwindCode Error)) (cs : List UnwindCode) (x : Result (List UnwindCode) FrameError) →
@@ -44,3 +44,13 @@ pub enters : (m : ℕ → Option ℕ) (limit : Option ℕ) (i : UnwindInfoView) 
     Surveys limit i (Ok s) → base_of (frame_of i) s.sets_frame s.has_set_frame g ≡ Ok base → UndoesCodes m base limit i g r →
     Enters m limit i g (r >>= λ u. Ok (u, s.is_interrupted))
 enters m limit i g s base r known at undoes = (known.0, known.1, enters_by m limit i g s base r known.1.0 known.0 known.1.1 known.1.2 known.2 at undoes)
+
+-- records undone, by the first of them and those after it
+pub more_undone : (m : ℕ → Option ℕ) (limit : Option ℕ) (i : UnwindInfoView) (rows is : List UnwindInfoView) (b c : Bool) (g u : Registers) (answer : Result (Registers × Bool) FrameError) →
+    rows ≡ i ∷ is → Enters m limit i g (Ok (u, c)) → Undoes m is None (b || c) u answer → Undoes m rows limit b g answer
+more_undone m limit i rows is b c g u answer at entry rest = rw at (Ok (u, c), entry, rest)
+
+-- by the first, if it is refused
+pub none_undone : (m : ℕ → Option ℕ) (limit : Option ℕ) (i : UnwindInfoView) (rows is : List UnwindInfoView) (b : Bool) (g : Registers) (e : FrameError) →
+    rows ≡ i ∷ is → Enters m limit i g (Err e) → Undoes m rows limit b g (Err e)
+none_undone m limit i rows is b g e at entry = rw at (Err e, entry, refl)

@@ -4,6 +4,7 @@ pub mod MemoryPieces
 pub mod MemoryLists
 pub mod Undoing
 pub mod Steps
+pub mod InPlace
 pub mod Survey
 pub mod Epilogs
 pub mod Modules

@@ -12,6 +12,7 @@ ghost use Rattle.pe_frame.specs.declared.epilog.Instruction.TheVariants.{Pop};
 ghost use Rattle.pe_frame.specs.Epilogs.{widened, moved, operand, add_form, lea_form, trim_form, pop_of, pop_form, popped_first, most_pops, after_pops, jump_of, jump_by_memory, jump_form, exit_form, lies_in_parents, function_start, leaves, frame_register_of, with_rest, tail, executed, executed_all};
 ghost use Rattle.pe_frame.specs.Undoing.{put_register};
 ghost use Rattle.pe_frame.specs.Tails.{alone, instructions_of};
+ghost use Rattle.pe_frame.specs.InPlace.{changed};
 
 use crate::error::FrameError;
 use crate::memory::Memory;
@@ -406,31 +407,33 @@ pub(crate) fn tail_at<'a>(
     }
 }
 
-/// The registers with the stack pointer so far from a register, of which each `lea` names one that there is.
-fn loaded(register: u8, number: u64, registers: Registers) -> Registers
-    ensures { result ≡ put_register registers 4
-        (moved (slice_index registers.general register) number) }
+/// Moves the stack pointer so far from a register, of which each `lea` names one that there is.
+fn load(register: u8, number: u64, registers: &mut Registers)
+    ensures { registers.new ≡ put_register registers.old 4
+        (moved (slice_index registers.old.general register) number) }
 {
     let value = match registers.general.get(usize::from(register)) {
         Some(value) => *value,
         None => 0,
     };
-    let mut registers = registers;
     registers.general[RSP] = value.wrapping_add(number);
-    registers
 }
 
-/// The registers after an instruction.
+/// Runs an instruction.
 fn execute<M: Memory>(
     instruction: Instruction,
-    registers: Registers,
+    registers: &mut Registers,
     memory: &M,
-) -> Result<Registers, FrameError>
-    ensures { result ≡ executed (M.word memory.now) instruction registers }
+) -> Result<(), FrameError>
+    ensures { changed result registers.new
+        ≡ executed (M.word memory.now) instruction registers.old }
 {
     match instruction {
         Instruction::Add(number) => raise(u64::from(number), registers),
-        Instruction::Lea(register, number) => Ok(loaded(register, number, registers)),
+        Instruction::Lea(register, number) => {
+            load(register, number, registers);
+            Ok(())
+        }
         Instruction::Pop(register) => {
             let push = UnwindOperation::PushNonVolatile(Register(register));
             undo(push, 0, registers, memory)
@@ -454,10 +457,7 @@ fn execute_pops<M: Memory>(
     for _ in 0..MOST_POPS {
         match pop_at(rest) {
             Some((register, size)) => {
-                match execute(Instruction::Pop(register), current, memory) {
-                    Ok(popped) => current = popped,
-                    Err(error) => return Err(error),
-                }
+                execute(Instruction::Pop(register), &mut current, memory)?;
                 rest = &rest[size..];
             }
             None => return Ok(current),
@@ -466,17 +466,18 @@ fn execute_pops<M: Memory>(
     Ok(current)
 }
 
-/// The registers once the stack is freed, if it is still to be.
+/// Frees the stack, if it is still to be.
 fn execute_trim<M: Memory>(
     trim: Option<Instruction>,
-    registers: Registers,
+    registers: &mut Registers,
     memory: &M,
-) -> Result<Registers, FrameError>
-    ensures { result ≡ executed_all (M.word memory.now) (alone trim) registers }
+) -> Result<(), FrameError>
+    ensures { changed result registers.new
+        ≡ executed_all (M.word memory.now) (alone trim) registers.old }
 {
     match trim {
         Some(instruction) => execute(instruction, registers, memory),
-        None => Ok(registers),
+        None => Ok(()),
     }
 }
 
@@ -489,7 +490,9 @@ pub(crate) fn execute_tail<M: Memory>(
 ) -> Result<Registers, FrameError>
     ensures { result ≡ executed_all (M.word memory.now) (instructions_of tail.entry) registers }
 {
-    let freed = execute_trim(tail.trim, registers, memory)?;
-    let popped = execute_pops(tail.pops, freed, memory)?;
-    execute(tail.exit, popped, memory)
+    let mut freed = registers;
+    execute_trim(tail.trim, &mut freed, memory)?;
+    let mut caller = execute_pops(tail.pops, freed, memory)?;
+    execute(tail.exit, &mut caller, memory)?;
+    Ok(caller)
 }

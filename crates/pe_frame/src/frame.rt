@@ -8,6 +8,7 @@ ghost use Rattle.pe_frame.specs.declared.registers.Registers.{Registers};
 ghost use Rattle.pe_frame.specs.Frames.{Part, infos, AreFrames, IsCaller};
 ghost use Rattle.pe_frame.specs.Steps.{Steps, StepsOut, Undoes, limit_of, registers_alone, rising};
 ghost use Rattle.pe_frame.specs.Epilogs.{epilog_at, StepsWithCode, StepsOutWithCode};
+ghost use Rattle.pe_frame.specs.InPlace.{changed_with};
 ghost use Rattle.pe_frame.specs.Tails.{instructions_of};
 
 use crate::epilog::{Tail, execute_tail, tail_at};
@@ -29,26 +30,24 @@ fn limit_of(plan: &[UnwindInfo<'_>], offset: u32) -> Option<u32>
     }
 }
 
-/// The registers where a function was entered, and whether an interrupt entered it: its records are undone, the first up to
-/// a limit and the others whole.
+/// Makes the registers those where a function was entered: its records are undone, the first up to a limit and the others
+/// whole. Returns whether an interrupt entered it.
 fn undo_records<M: Memory>(
     plan: &[UnwindInfo<'_>],
     limit: Option<u32>,
-    registers: Registers,
+    registers: &mut Registers,
     memory: &M,
-) -> Result<(Registers, bool), FrameError>
-    ensures { Undoes (M.word memory.now) (map unwind_view plan.now) limit false registers result }
+) -> Result<bool, FrameError>
+    ensures { Undoes (M.word memory.now) (map unwind_view plan.now) limit false registers.old
+        (changed_with result registers.new) }
 {
-    let mut current = registers;
     let mut is_interrupted = false;
     let mut limit = limit;
     for info in plan {
-        let (entry, interrupts) = enter(info, limit, current, memory)?;
-        current = entry;
-        is_interrupted = is_interrupted || interrupts;
+        is_interrupted |= enter(info, limit, registers, memory)?;
         limit = None;
     }
-    Ok((current, is_interrupted))
+    Ok(is_interrupted)
 }
 
 /// The registers of the caller, if its stack pointer is above this one.
@@ -72,12 +71,12 @@ fn undo_function<M: Memory>(
     ensures { StepsOut (M.word memory.now) (map unwind_view plan.now) offset registers result }
 {
     let limit = limit_of(plan, offset);
-    let (entry, is_interrupted) = undo_records(plan, limit, registers, memory)?;
-    if is_interrupted {
-        return Ok((entry, true));
+    let mut current = registers;
+    if undo_records(plan, limit, &mut current, memory)? {
+        return Ok((current, true));
     }
-    let caller = rising(registers.general[RSP], pop(entry, memory)?)?;
-    Ok((caller, false))
+    pop(&mut current, memory)?;
+    Ok((rising(registers.general[RSP], current)?, false))
 }
 
 /// The registers alone.
@@ -218,5 +217,7 @@ pub fn step_with_code<M: Memory>(
 pub fn leaf<M: Memory>(registers: Registers, memory: &M) -> Result<Registers, FrameError>
     ensures { result ≡ popped (M.word memory.now) registers }
 {
-    pop(registers, memory)
+    let mut caller = registers;
+    pop(&mut caller, memory)?;
+    Ok(caller)
 }

@@ -6,6 +6,7 @@ ghost use Rattle.pe_unwind.specs.CodeStream.{AreItems};
 ghost use Rattle.pe_unwind.specs.UnwindRecord.{code_stream, unwind_view};
 ghost use Rattle.pe_frame.specs.Undoing.{has_run, sets_frame, interrupts, ran, undone_all, base_of};
 ghost use Rattle.pe_frame.specs.Steps.{Enters, frame_of};
+ghost use Rattle.pe_frame.specs.InPlace.{changed, changed_with};
 ghost use Rattle.pe_frame.specs.Survey.{Surveys, noted, undone_code};
 
 use crate::error::FrameError;
@@ -92,10 +93,10 @@ fn survey_codes(info: &UnwindInfo<'_>, limit: Option<u32>) -> Result<Survey, Fra
 fn frame_base(
     info: &UnwindInfo<'_>,
     survey: Survey,
-    registers: Registers,
+    registers: &Registers,
 ) -> Result<u64, FrameError>
-    ensures { result ≡ base_of
-        (frame_of (unwind_view info.now)) survey.sets_frame survey.has_set_frame registers }
+    ensures { result ≡ base_of (frame_of (unwind_view info.now))
+        survey.sets_frame survey.has_set_frame registers.now }
 {
     let register = info.frame_register.0;
     if !survey.has_set_frame && (survey.sets_frame || register == 0) {
@@ -111,61 +112,58 @@ fn frame_base(
     }
 }
 
-/// The registers before a code, if it has run.
+/// Makes the registers those before a code, if it has run.
 fn undo_code<M: Memory>(
     code: UnwindCode,
     limit: Option<u32>,
     base: u64,
-    registers: Registers,
+    registers: &mut Registers,
     memory: &M,
-) -> Result<Registers, FrameError>
-    ensures { result ≡ undone_code (M.word memory.now) base limit code registers }
+) -> Result<(), FrameError>
+    ensures { changed result registers.new
+        ≡ undone_code (M.word memory.now) base limit code registers.old }
 {
     if has_run(limit, code) {
         undo(code.operation, base, registers, memory)
     } else {
-        Ok(registers)
+        Ok(())
     }
 }
 
-/// The registers before the codes of a record that have run. The survey has found that none is invalid.
+/// Makes the registers those before the codes of a record that have run. The survey has found that none is invalid.
 fn undo_codes<M: Memory>(
     info: &UnwindInfo<'_>,
     limit: Option<u32>,
     base: u64,
-    registers: Registers,
+    registers: &mut Registers,
     memory: &M,
-) -> Result<Registers, FrameError>
+) -> Result<(), FrameError>
     ensures { (codes : List UnwindCode) → AreItems (code_stream (unwind_view info.now))
-        (map Ok codes) → result ≡ undone_all (M.word memory.now) base (ran limit codes) registers }
+        (map Ok codes) → changed result registers.new
+        ≡ undone_all (M.word memory.now) base (ran limit codes) registers.old }
 {
-    let mut current = registers;
     for item in info.unwind_codes() {
         let code = match item {
             Ok(code) => code,
             Err(refusal) => return Err(FrameError::Codes(refusal)),
         };
-        match undo_code(code, limit, base, current, memory) {
-            Ok(before) => current = before,
-            Err(error) => return Err(error),
-        }
+        undo_code(code, limit, base, registers, memory)?;
     }
-    Ok(current)
+    Ok(())
 }
 
-/// The registers where the code of a record was entered, and whether an interrupt entered it.
+/// Makes the registers those where the code of a record was entered. Returns whether an interrupt entered it.
 pub(crate) fn enter<M: Memory>(
     info: &UnwindInfo<'_>,
     limit: Option<u32>,
-    registers: Registers,
+    registers: &mut Registers,
     memory: &M,
-) -> Result<(Registers, bool), FrameError>
-    ensures { Enters (M.word memory.now) limit (unwind_view info.now) registers result }
+) -> Result<bool, FrameError>
+    ensures { Enters (M.word memory.now) limit (unwind_view info.now) registers.old
+        (changed_with result registers.new) }
 {
     let survey = survey_codes(info, limit)?;
     let base = frame_base(info, survey, registers)?;
-    match undo_codes(info, limit, base, registers, memory) {
-        Ok(entry) => Ok((entry, survey.is_interrupted)),
-        Err(error) => Err(error),
-    }
+    undo_codes(info, limit, base, registers, memory)?;
+    Ok(survey.is_interrupted)
 }

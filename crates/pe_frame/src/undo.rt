@@ -2,6 +2,7 @@
 
 ghost use Rattle.std.specs.Prelude.{◌≡◌};
 ghost use Rattle.pe_frame.specs.Undoing.{offset_number, number, above, raised, require_integer, require_xmm, xmm_number, interrupted_at, undone, popped, dropped};
+ghost use Rattle.pe_frame.specs.InPlace.{changed};
 
 use crate::error::FrameError;
 use crate::memory::{Memory, SIZE_OF_WORD};
@@ -42,13 +43,12 @@ pub(crate) fn above(address: u64, offset: u64) -> Result<u64, FrameError>
     }
 }
 
-/// The registers with the stack pointer raised.
-pub(crate) fn raise(by: u64, registers: Registers) -> Result<Registers, FrameError>
-    ensures { result ≡ raised by registers }
+/// Raises the stack pointer.
+pub(crate) fn raise(by: u64, registers: &mut Registers) -> Result<(), FrameError>
+    ensures { changed result registers.new ≡ raised by registers.old }
 {
-    let mut registers = registers;
     registers.general[RSP] = above(registers.general[RSP], by)?;
-    Ok(registers)
+    Ok(())
 }
 
 /// The index of an integer register of an operation.
@@ -91,30 +91,30 @@ fn xmm_number<M: Memory>(memory: &M, address: u64) -> Result<u128, FrameError>
     Ok(u128::from(low) + u128::from(high) * NUMBERS_OF_A_WORD)
 }
 
-/// The registers before an interrupt, whose machine frame has the instruction pointer at this address.
-fn interrupted<M: Memory>(
+/// Makes the registers those before an interrupt, whose machine frame has the instruction pointer at this address.
+fn leave_interrupt<M: Memory>(
     address: u64,
-    registers: Registers,
+    registers: &mut Registers,
     memory: &M,
-) -> Result<Registers, FrameError>
-    ensures { result ≡ interrupted_at (M.word memory.now) address registers }
+) -> Result<(), FrameError>
+    ensures { changed result registers.new
+        ≡ interrupted_at (M.word memory.now) address registers.old }
 {
-    let mut registers = registers;
     registers.rip = number(memory, address)?;
     registers.general[RSP] = number(memory, above(address, RSP_OF_MACHINE_FRAME)?)?;
-    Ok(registers)
+    Ok(())
 }
 
-/// The registers before an operation, from those after it. Saved registers lie above the base.
+/// Makes the registers those before an operation. Saved registers lie above the base.
 pub(crate) fn undo<M: Memory>(
     operation: UnwindOperation,
     base: u64,
-    registers: Registers,
+    registers: &mut Registers,
     memory: &M,
-) -> Result<Registers, FrameError>
-    ensures { result ≡ undone (M.word memory.now) base operation registers }
+) -> Result<(), FrameError>
+    ensures { changed result registers.new
+        ≡ undone (M.word memory.now) base operation registers.old }
 {
-    let mut registers = registers;
     match operation {
         UnwindOperation::PushNonVolatile(register) => {
             let index = integer(operation, register)?;
@@ -124,44 +124,45 @@ pub(crate) fn undo<M: Memory>(
         UnwindOperation::Alloc(size) => raise(u64::from(size), registers),
         UnwindOperation::SetFPRegister => {
             registers.general[RSP] = base;
-            Ok(registers)
+            Ok(())
         }
         UnwindOperation::SaveNonVolatile(register, offset) => {
             let index = integer(operation, register)?;
             registers.general[index] = number(memory, above(base, bytes_above(offset))?)?;
-            Ok(registers)
+            Ok(())
         }
         UnwindOperation::SaveXMM128(register, offset) => {
             let index = xmm(operation, register)?;
             registers.xmm[index] = xmm_number(memory, above(base, bytes_above(offset))?)?;
-            Ok(registers)
+            Ok(())
         }
         UnwindOperation::PushMachineFrame(has_error_code) => {
             let skipped = if has_error_code { SIZE_OF_WORD } else { 0 };
-            interrupted(above(registers.general[RSP], skipped)?, registers, memory)
+            leave_interrupt(above(registers.general[RSP], skipped)?, registers, memory)
         }
-        UnwindOperation::Epilog { .. } | UnwindOperation::Noop => Ok(registers),
+        UnwindOperation::Epilog { .. } | UnwindOperation::Noop => Ok(()),
         UnwindOperation::SaveXMM(_, _) => Err(FrameError::Operation(operation)),
     }
 }
 
-/// The caller's registers, where the stack pointer points at the return address and so many bytes after it are dropped.
+/// Makes the registers those of the caller, where the stack pointer points at the return address and so many bytes after it
+/// are dropped.
 pub(crate) fn pop_and_drop<M: Memory>(
     bytes: u16,
-    registers: Registers,
+    registers: &mut Registers,
     memory: &M,
-) -> Result<Registers, FrameError>
-    ensures { result ≡ dropped (M.word memory.now) bytes registers }
+) -> Result<(), FrameError>
+    ensures { changed result registers.new ≡ dropped (M.word memory.now) bytes registers.old }
 {
     let address = number(memory, registers.general[RSP])?;
-    let mut caller = raise(SIZE_OF_WORD + u64::from(bytes), registers)?;
-    caller.rip = address;
-    Ok(caller)
+    raise(SIZE_OF_WORD + u64::from(bytes), registers)?;
+    registers.rip = address;
+    Ok(())
 }
 
-/// The caller's registers, where the stack pointer points at the return address.
-pub(crate) fn pop<M: Memory>(registers: Registers, memory: &M) -> Result<Registers, FrameError>
-    ensures { result ≡ popped (M.word memory.now) registers }
+/// Makes the registers those of the caller, where the stack pointer points at the return address.
+pub(crate) fn pop<M: Memory>(registers: &mut Registers, memory: &M) -> Result<(), FrameError>
+    ensures { changed result registers.new ≡ popped (M.word memory.now) registers.old }
 {
     pop_and_drop(0, registers, memory)
 }

@@ -6,6 +6,7 @@ ghost use Rattle.pe_frame.specs.Arm64Operations.{is_save_next};
 ghost use Rattle.pe_frame.specs.Arm64Undoing.{undone_codes};
 ghost use Rattle.pe_frame.specs.Arm64Steps.{is_end_c, CodesThen, AreOver, prolog_length};
 ghost use Rattle.pe_frame.specs.Arm64Reading.{IsFirstCode, ReadsCodes, with_nexts};
+ghost use Rattle.pe_frame.specs.InPlace.{changed};
 
 use super::operation::{is_save_next, operation_of};
 use super::registers::Arm64Registers;
@@ -95,27 +96,24 @@ pub(crate) fn after_codes(codes: &[u8], count: usize) -> &[u8]
     rest
 }
 
-/// The registers before what the instruction of a code did, and those of so many `save_next` that stand before it.
+/// Makes the registers those before what the instruction of a code did, and those of so many `save_next` that stand before it.
 fn undo_code<M: Memory>(
     nexts: usize,
     code: Arm64UnwindCode,
-    registers: Arm64Registers,
+    registers: &mut Arm64Registers,
     memory: &M,
-) -> Result<Arm64Registers, FrameError>
+) -> Result<(), FrameError>
     requires { is_save_next code ≡ false }
-    ensures { result ≡ undone_codes (M.word memory.now) (with_nexts nexts (code ∷ [])) registers }
+    ensures { changed result registers.new
+        ≡ undone_codes (M.word memory.now) (with_nexts nexts (code ∷ [])) registers.old }
 {
-    let mut current = registers;
     let mut count = nexts;
     while count > 0 {
-        match undo_save_next(count, code, current, memory) {
-            Ok(before) => current = before,
-            Err(error) => return Err(error),
-        }
+        undo_save_next(count, code, registers, memory)?;
         count -= 1;
     }
     match operation_of(code) {
-        Some(operation) => undo_operation(operation, current, memory),
+        Some(operation) => undo_operation(operation, registers, memory),
         None => Err(FrameError::Arm64Code(code)),
     }
 }
@@ -137,10 +135,7 @@ pub(crate) fn undo_codes<M: Memory>(
         if is_save_next(code) {
             nexts += 1;
         } else {
-            match undo_code(nexts, code, current, memory) {
-                Ok(before) => current = before,
-                Err(error) => return Err(error),
-            }
+            undo_code(nexts, code, &mut current, memory)?;
             nexts = 0;
         }
     }
@@ -161,10 +156,7 @@ pub(crate) fn undo_each<M: Memory>(
 {
     let mut current = registers;
     for code in codes {
-        match undo_code(0, *code, current, memory) {
-            Ok(before) => current = before,
-            Err(error) => return Err(error),
-        }
+        undo_code(0, *code, &mut current, memory)?;
     }
     Ok(current)
 }

@@ -41,10 +41,7 @@ fn caller_by<M: Memory>(
     ensures { (cs : List Arm64UnwindCode) → CodesThen AreOver codes.now cs →
         result ≡ caller_by (M.word memory.now) cs registers }
 {
-    match undo_codes(codes, registers, memory) {
-        Ok(entry) => leave(registers.sp, entry),
-        Err(error) => Err(error),
-    }
+    leave(registers.sp, undo_codes(codes, registers, memory)?)
 }
 
 /// The registers of the caller after the prolog, if the instruction pointer may be in this epilog.
@@ -141,10 +138,7 @@ fn caller_by_list<M: Memory>(
     requires { All (λ c. is_save_next c ≡ false) codes.now }
     ensures { result ≡ caller_by (M.word memory.now) codes.now registers }
 {
-    match undo_each(codes, registers, memory) {
-        Ok(entry) => leave(registers.sp, entry),
-        Err(error) => Err(error),
-    }
+    leave(registers.sp, undo_each(codes, registers, memory)?)
 }
 
 /// The registers of the caller after the prolog of a function with packed unwind data, whose codes these are.

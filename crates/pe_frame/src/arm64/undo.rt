@@ -6,6 +6,7 @@ ghost use Rattle.pe_unwind.specs.declared.arm64.codes.Arm64UnwindCode.TheVariant
 ghost use Rattle.pe_frame.specs.Arm64Operations.{Lower, Store, PointFrame, pair_after, operation_of, effects_of};
 ghost use Rattle.pe_frame.specs.Arm64Undoing.{stripped, put_saved, reverted, reverted_all, undone_as};
 ghost use Rattle.pe_frame.specs.Arm64Reading.{pair_registers};
+ghost use Rattle.pe_frame.specs.InPlace.{changed};
 
 use super::operation::{Arm64Operation, Arm64Register, operation_of, register_after};
 use super::registers::{Arm64Registers, FRAME_POINTER, LINK_REGISTER};
@@ -44,35 +45,34 @@ fn stripped(address: u64) -> u64
     }
 }
 
-/// The registers with the stack pointer raised.
-fn raise(by: u32, registers: Arm64Registers) -> Result<Arm64Registers, FrameError>
-    ensures { (m : ℕ → Option ℕ) → result ≡ reverted_all m (Lower by ∷ []) registers }
+/// Raises the stack pointer.
+fn raise(by: u32, registers: &mut Arm64Registers) -> Result<(), FrameError>
+    ensures { (m : ℕ → Option ℕ) →
+        changed result registers.new ≡ reverted_all m (Lower by ∷ []) registers.old }
 {
-    let mut registers = registers;
     registers.sp = above(registers.sp, u64::from(by))?;
-    Ok(registers)
+    Ok(())
 }
 
-/// The registers with the stack pointer so far below x29.
-fn lower_to_frame(offset: u32, registers: Arm64Registers) -> Result<Arm64Registers, FrameError>
-    ensures { (m : ℕ → Option ℕ) → result ≡ reverted_all m (PointFrame offset ∷ []) registers }
+/// Moves the stack pointer so far below x29.
+fn lower_to_frame(offset: u32, registers: &mut Arm64Registers) -> Result<(), FrameError>
+    ensures { (m : ℕ → Option ℕ) →
+        changed result registers.new ≡ reverted_all m (PointFrame offset ∷ []) registers.old }
 {
     let frame = registers.general[FRAME_POINTER];
     match frame.checked_sub(u64::from(offset)) {
         Some(address) => {
-            let mut registers = registers;
             registers.sp = address;
-            Ok(registers)
+            Ok(())
         }
         None => Err(FrameError::Address(frame)),
     }
 }
 
-/// The registers with another value in one of them.
-fn put(register: Arm64Register, value: u64, registers: Arm64Registers) -> Arm64Registers
-    ensures { result ≡ put_saved registers register value }
+/// Writes one of the registers.
+fn put(register: Arm64Register, value: u64, registers: &mut Arm64Registers)
+    ensures { registers.new ≡ put_saved registers.old register value }
 {
-    let mut registers = registers;
     match register {
         Arm64Register::X(number) => {
             let index = usize::from(number);
@@ -87,46 +87,49 @@ fn put(register: Arm64Register, value: u64, registers: Arm64Registers) -> Arm64R
             }
         }
     }
-    registers
 }
 
-/// The registers with one of them as it was stored, so many bytes above the stack pointer.
+/// Loads a register from where it was stored, so many bytes above the stack pointer.
 fn load<M: Memory>(
     register: Arm64Register,
     offset: u64,
-    registers: Arm64Registers,
+    registers: &mut Arm64Registers,
     memory: &M,
-) -> Result<Arm64Registers, FrameError>
-    ensures { result ≡ reverted (M.word memory.now) (Store register offset) registers }
+) -> Result<(), FrameError>
+    ensures { changed result registers.new
+        ≡ reverted (M.word memory.now) (Store register offset) registers.old }
 {
     let value = number(memory, above(registers.sp, offset)?)?;
-    Ok(put(register, value, registers))
+    put(register, value, registers);
+    Ok(())
 }
 
-/// The registers before two of them were stored, the second eight bytes above the first, after the stack pointer moved.
+/// Makes the registers those before two of them were stored, the second eight bytes above the first, after the stack pointer
+/// moved.
 fn undo_pair<M: Memory>(
     pair: (Arm64Register, Arm64Register),
     offset: u64,
     moved: u32,
-    registers: Arm64Registers,
+    registers: &mut Arm64Registers,
     memory: &M,
-) -> Result<Arm64Registers, FrameError>
+) -> Result<(), FrameError>
     requires { offset < 2 ^ 40 }
-    ensures { result ≡ reverted_all (M.word memory.now)
-        (Store pair.0 offset ∷ Store pair.1 (offset + 8) ∷ Lower moved ∷ []) registers }
+    ensures { changed result registers.new ≡ reverted_all (M.word memory.now)
+        (Store pair.0 offset ∷ Store pair.1 (offset + 8) ∷ Lower moved ∷ []) registers.old }
 {
-    let one = load(pair.0, offset, registers, memory)?;
-    let both = load(pair.1, offset + SIZE_OF_WORD, one, memory)?;
-    raise(moved, both)
+    load(pair.0, offset, registers, memory)?;
+    load(pair.1, offset + SIZE_OF_WORD, registers, memory)?;
+    raise(moved, registers)
 }
 
-/// The registers before an operation, from those after it.
+/// Makes the registers those before an operation.
 pub(crate) fn undo_operation<M: Memory>(
     operation: Arm64Operation,
-    registers: Arm64Registers,
+    registers: &mut Arm64Registers,
     memory: &M,
-) -> Result<Arm64Registers, FrameError>
-    ensures { result ≡ reverted_all (M.word memory.now) (effects_of operation) registers }
+) -> Result<(), FrameError>
+    ensures { changed result registers.new
+        ≡ reverted_all (M.word memory.now) (effects_of operation) registers.old }
 {
     match operation {
         Arm64Operation::Allocate(size) => raise(size, registers),
@@ -135,8 +138,8 @@ pub(crate) fn undo_operation<M: Memory>(
             offset,
             moved,
         } => {
-            let loaded = load(register, u64::from(offset), registers, memory)?;
-            raise(moved, loaded)
+            load(register, u64::from(offset), registers, memory)?;
+            raise(moved, registers)
         }
         Arm64Operation::SavePair {
             first,
@@ -150,11 +153,10 @@ pub(crate) fn undo_operation<M: Memory>(
         }
         Arm64Operation::SetFrame(offset) => lower_to_frame(offset, registers),
         Arm64Operation::Sign => {
-            let mut registers = registers;
             registers.general[LINK_REGISTER] = stripped(registers.general[LINK_REGISTER]);
-            Ok(registers)
+            Ok(())
         }
-        Arm64Operation::Nothing => Ok(registers),
+        Arm64Operation::Nothing => Ok(()),
     }
 }
 
@@ -171,15 +173,15 @@ fn pair_registers(count: usize, first: Arm64Register) -> Option<(Arm64Register, 
     Some((first, second))
 }
 
-/// The registers before the n-th `save_next` in a row, by the code after all of these.
+/// Makes the registers those before the n-th `save_next` in a row, by the code after all of these.
 pub(crate) fn undo_save_next<M: Memory>(
     count: usize,
     code: Arm64UnwindCode,
-    registers: Arm64Registers,
+    registers: &mut Arm64Registers,
     memory: &M,
-) -> Result<Arm64Registers, FrameError>
-    ensures { result ≡ undone_as (M.word memory.now) SaveNext
-        (option_and_then (pair_after count) (operation_of code)) registers }
+) -> Result<(), FrameError>
+    ensures { changed result registers.new ≡ undone_as (M.word memory.now) SaveNext
+        (option_and_then (pair_after count) (operation_of code)) registers.old }
 {
     let refused = FrameError::Arm64Code(Arm64UnwindCode::SaveNext);
     let Some(Arm64Operation::SavePair { first, offset, .. }) = operation_of(code) else {

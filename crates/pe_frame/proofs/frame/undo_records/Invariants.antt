@@ -9,5 +9,5 @@ use Rattle.pe_frame.proofs.frame.undo_records.Given as goal
 abbrev pub invariant-loop-info : goal.invariant-loop-info
 invariant-loop-info g l =
     (answer : Result (Registers × Bool) FrameError) →
-    Undoes (g.M.Memory.word l.memory) (map unwind_view (drop l.info-index l.plan)) l.limit l.is_interrupted l.current answer →
+    Undoes (g.M.Memory.word l.memory) (map unwind_view (drop l.info-index l.plan)) l.limit l.is_interrupted l.registers answer →
     Undoes (g.M.Memory.word l.memory) (map unwind_view l.plan) l.fn.limit false l.fn.registers answer

@@ -1,5 +1,6 @@
 use Rattle.std.proofs.Common.{sym, ◌∙◌, arith}
 use Rattle.std.proofs.lemmas.List.{take_rest, length-drop}
+use Rattle.std.proofs.lemmas.Result.{err_from_is_err_and}
 use Rattle.pe_frame.proofs.Arm64Calls.{undoing_next, undoing_code, undoing_refused, undoing_never, undoing_none, undoing_nexts}
 use Rattle.pe_frame.proofs.arm64.record.undo_codes.Goals as goal
 
@@ -16,17 +17,18 @@ loop-code-preserved-then-is_save_next g c =
       few = omega (arith, c.loop-code.invariant.few, first.3, first.4, length-drop c.in-Some.size c.loop-code.rest.now);
     })
 
-pub returns-in-Err : goal.returns-in-Err
-returns-in-Err g c =
+pub returns-in_err-undo_code : goal.returns-in_err-undo_code
+returns-in_err-undo_code g c =
     let first = rw c.in-Some.is at c.in_ok-code.ensures in
-    undoing_refused (g.M.Memory.word c.args.memory.now) c.args.codes.now c.loop-code.rest.now c.in-Some.code c.in-Some.size c.loop-code.nexts c.loop-code.current c.args.registers c.in-Err.error first (sym c.is_save_next.ensures ∙ c.if-is_save_next.false) c.in-Err.ensures c.loop-code.invariant.undone
+    let p = err_from_is_err_and c.from_residual-in_err-undo_code.result c.from_residual-in_err-undo_code.ensures.1 in
+    rw (p.1, p.2) (undoing_refused (g.M.Memory.word c.args.memory.now) c.args.codes.now c.loop-code.rest.now c.in-Some.code c.in-Some.size c.loop-code.nexts c.loop-code.current c.args.registers c.in_err-undo_code.field-0.0 first (sym c.is_save_next.ensures ∙ c.if-is_save_next.false) c.in_err-undo_code.ensures c.loop-code.invariant.undone)
 
 pub loop-code-preserved : goal.loop-code-preserved
 loop-code-preserved g c =
     let first = rw c.in-Some.is at c.in_ok-code.ensures in
     rw (take_rest c.loop-code.rest.now c.in-Some.size)
     (record {
-      undone = undoing_code (g.M.Memory.word c.args.memory.now) c.args.codes.now c.loop-code.rest.now c.in-Some.code c.in-Some.size c.loop-code.nexts c.loop-code.current c.in-Ok.before c.args.registers first (sym c.is_save_next.ensures ∙ c.if-is_save_next.false) c.in-Ok.ensures c.loop-code.invariant.undone;
+      undone = undoing_code (g.M.Memory.word c.args.memory.now) c.args.codes.now c.loop-code.rest.now c.in-Some.code c.in-Some.size c.loop-code.nexts c.loop-code.current c.undo_code.new.registers c.args.registers first (sym c.is_save_next.ensures ∙ c.if-is_save_next.false) c.in_ok-undo_code.ensures c.loop-code.invariant.undone;
       few = omega (arith, c.loop-code.invariant.few, first.3, first.4, length-drop c.in-Some.size c.loop-code.rest.now);
     })
 
