@@ -1,9 +1,11 @@
 -- The address that a record goes on at is one of 32 bits.
 use Rattle.std.proofs.Common.{◌≡◌, ℕ, suc, ◌+◌, ◌<◌, Bool, true, false, List, Option, Some, None, Result, Ok, Err, refl, sym, subst, drop, arith}
 use Rattle.std.specs.Prelude.{if◌then◌else◌, IfSome}
+use Rattle.pe_core.proofs.Steps.{same_inside}
 use Rattle.pe_core.proofs.NumberBytes.{le-zero, le-cons}
 use Rattle.pe_core.specs.Bytes.{AreBytes, le}
 use Rattle.pe_core.specs.Refusals.{Refusal, outcome, ◌>>=◌}
+use Rattle.pe_unwind.proofs.ChainedAddresses.{IsSmall, small_record}
 use Rattle.pe_unwind.proofs.Offsets.{given}
 use Rattle.pe_unwind.specs.FunctionTable.{function_at}
 use Rattle.pe_unwind.specs.Links.{Table}
@@ -14,51 +16,9 @@ use Rattle.pe_c.specs.Unwinding.{or_no_function, flat_record, flat_record_at}
 use Rattle.pe_c.specs.declared.unwinding.UnwindRecord.{UnwindRecord}
 use Rattle.pe_c.proofs.Rings.{EndsBelow}
 
-pub number_small : (b : List ℕ) (p : ℕ) → AreBytes b → le b p 4 < 4294967296
-number_small b p small =
-    omega (
-      arith,
-      le-cons b p 3,
-      le-cons b (suc p) 2,
-      le-cons b (suc (suc p)) 1,
-      le-cons b (suc (suc (suc p))) 0,
-      le-zero b (suc (suc (suc (suc p)))),
-      small p,
-      small (suc p),
-      small (suc (suc p)),
-      small (suc (suc (suc p))),
-    )
-
-abbrev IsSmall : Option RuntimeFunction → Type 0
-IsSmall o = IfSome o (λ f. f.unwind_info_address < 4294967296)
-
-abbrev ending_by : List ℕ → ℕ → Bool → Bool → Bool → Ending
-ending_by b q chained exception termination =
-    if chained then record { chained = Some (function_at b q); handler = None }
-    else (if exception then record { chained = None; handler = Some (Exception (le b q 4) (drop (q + 4) b)) }
-    else (if termination then record { chained = None; handler = Some (Termination (le b q 4) (drop (q + 4) b)) }
-    else record { chained = None; handler = None }))
-
-small_by_flags : (b : List ℕ) (q : ℕ) (chained exception termination : Bool) → AreBytes b → IsSmall (ending_by b q chained exception termination).chained
-small_by_flags b q true exception termination small = number_small b (q + 8) small
-small_by_flags b q false true termination small = tt
-small_by_flags b q false false true small = tt
-small_by_flags b q false false false small = tt
-
-small_ending : (b : List ℕ) (q flags : ℕ) → AreBytes b → IsSmall (ending_at b q flags).chained
-unfolding ending_at
-small_ending b q flags small = small_by_flags b q (is_chained flags) (handles_exceptions flags) (handles_termination flags) small
-
-small_record : (b : List ℕ) (p : ℕ) → AreBytes b → IsSmall (unwind_record b p).chained_info
-unfolding unwind_record
-small_record b p small = small_ending b (after_codes b p) (flags_at b p) small
-
 small_or_none : (o : Option RuntimeFunction) → IsSmall o → (or_no_function o).unwind_info_address < 4294967296
 small_or_none None h = omega arith
 small_or_none (Some f) h = h
-
-same_inside : (x y : UnwindRecord) → ◌≡◌ {A = Result UnwindRecord Refusal} (Ok x) (Ok y) → x ≡ y
-same_inside x y e = cc
 
 by_record : (b : List ℕ) (p : ℕ) (r : UnwindRecord) (o : Result UnwindInfoView Refusal) → AreBytes b → outcome (unwind_tests b p) (unwind_record b p) ≡ o → Ok r ≡ (o >>= λ i. Ok (flat_record b p i)) →
     r.chained.unwind_info_address < 4294967296

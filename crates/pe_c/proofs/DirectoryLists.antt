@@ -2,6 +2,7 @@
 use Rattle.std.proofs.Common.{◌≡◌, ℕ, ◌+◌, ◌-◌, ◌*◌, ◌≤◌, ◌==◌, Bool, true, false, List, [], ◌∷◌, length, drop, Option, Some, None, Result, Ok, Err, refl, sym, ap, subst, ◌∙◌, arith}
 use Rattle.std.specs.Prelude.{if◌then◌else◌}
 use Rattle.std.proofs.lemmas.Bool.Decides.{nat_tests}
+use Rattle.pe_core.proofs.Ranges.{length_range, range_in_range}
 use Rattle.pe_core.specs.Bytes.{holds, le, range}
 use Rattle.pe_core.specs.Refusals.{Refusal, Short, outcome, ◌>>=◌}
 use Rattle.pe_core.specs.Rows.{entry_items}
@@ -16,13 +17,12 @@ use Rattle.pe_directories.specs.declared.base_relocation.BaseRelocation.{BaseRel
 use Rattle.pe_directories.specs.declared.delay_import.DelayImport.{DelayImport}
 use Rattle.pe_directories.specs.ForwardersAfter.{forwarders_after}
 use Rattle.pe_directories.specs.declared.bound_import.BoundForwarder as forwarders
-use Rattle.pe_c.proofs.DirectoryParts.{part}
 use Rattle.pe_c.proofs.EntryRuns.{gives_entries}
 use Rattle.pe_c.proofs.ExportParts.{text_stands}
 use Rattle.pe_c.proofs.Runs.{Makes, gives_first, gives_nothing, gives_refusal}
 use Rattle.pe_c.specs.Walks.{StepsEntries, next_of, walk_items, walk_of}
 use Rattle.pe_c.proofs.DirectoryRuns.{Read, Reported, Takes, each_has, in_turn, read_further, refused, reported, same_read, sees_refusal}
-use Rattle.pe_c.proofs.LeftBytes.{bytes_of_range, long, size_of, there}
+use Rattle.pe_c.proofs.LeftBytes.{bytes_of_range, size_of, there}
 use Rattle.pe_c.specs.BoundImports.{bound_name_at, bound_reported, forwarder_reported, next_forwarder, unless_refused}
 use Rattle.pe_c.specs.DelayImports.{library_of}
 use Rattle.pe_c.specs.DirectoryRuns.{HasBound, HasBlock, StepsBlocks, StepsBoundImports, StepsDelayLibraries, StepsForwarders, StepsRelocations, blocks_reported, bounds_reported, forwarders_reported, relocations_reported}
@@ -49,7 +49,7 @@ pub record HasTail (s t tail : List ℕ) : Type 0 where
 
 tail_is : (s t tail : List ℕ) (m : ℕ) → 8 + m ≤ length s → range s 8 m ≡ tail → drop (8 + m) s ≡ t → HasTail s t tail
 tail_is s t tail m h e f =
-    let size : length tail ≡ m = ap length (sym e) ∙ long s 8 m h in
+    let size : length tail ≡ m = ap length (sym e) ∙ length_range s 8 m h in
     record {
       taken = sym f ∙ ap (λ (k : ℕ). drop (8 + k) s) (sym size);
       inside = omega (arith, h, size);
@@ -64,7 +64,7 @@ tail_stands b w s t tail e has =
     let inside : 8 + length tail ≤ length s = has.inside in
     record {
       inside = omega (arith, in_b.0, size, inside);
-      same = part b w.offset w.length 8 (length tail) in_b.0 (omega (arith, size, inside)) ∙ ap (λ (d : List ℕ). range d 8 (length tail)) (sym in_b.1) ∙ has.same;
+      same = range_in_range b w.offset w.length 8 (length tail) in_b.0 (omega (arith, size, inside)) ∙ ap (λ (d : List ℕ). range d 8 (length tail)) (sym in_b.1) ∙ has.same;
     }
 
 block_by : (b : List ℕ) (empty head sized whole : Bool) (x : Block) (t : List ℕ) → is_block_size (le b 4 4) ≡ sized → holds b 0 (le b 4 4) ≡ whole →
@@ -220,7 +220,7 @@ name_by b table directory o (Some text) name e is f =
     let inside : o + length name ≤ length directory = stands.inside in
     record {
       inside = omega (arith, in_b.0, size, inside);
-      same = part b table.offset table.length o (length name) in_b.0 (omega (arith, size, inside)) ∙ ap (λ (d : List ℕ). range d o (length name)) (sym in_b.1) ∙ stands.same;
+      same = range_in_range b table.offset table.length o (length name) in_b.0 (omega (arith, size, inside)) ∙ ap (λ (d : List ℕ). range d o (length name)) (sym in_b.1) ∙ stands.same;
     }
 
 name_stands : (b : List ℕ) (table : Range) (directory : List ℕ) (o : ℕ) (name : List ℕ) → bytes_at b table ≡ Ok directory → bound_name directory o ≡ Ok name →

@@ -4,6 +4,7 @@ use Rattle.std.specs.Prelude.{◌==◌, IfSome, nat_le, position, if◌then◌el
 use Rattle.std.proofs.lemmas.List.Quantifiers.{position-Some}
 use Rattle.std.proofs.lemmas.Bool.Decides.{nat_tests}
 use Rattle.std.proofs.lemmas.List.{places, same_lists}
+use Rattle.pe_core.proofs.Ranges.{length_range, range_in_range, rest_of_range}
 use Rattle.pe_core.specs.Bytes.{holds, le, range, record_at}
 use Rattle.pe_core.specs.Refusals.{Short, BadMagic, Refusal, outcome, ◌>>=◌}
 use Rattle.pe_core.specs.Text.{text_at}
@@ -25,15 +26,6 @@ use Rattle.pe_c.specs.declared.ranges.Range.{Range}
 
 -- ---- the metadata root
 
-pub part : (b : List ℕ) (p n q k : ℕ) → p + n ≤ length b → q + k ≤ n → range b (p + q) k ≡ range (range b p n) q k
-part b p n q k h i = same_lists _ _ (grind (arith, places)) (λ j d lt. grind (arith, places))
-
-long : (b : List ℕ) (p n : ℕ) → p + n ≤ length b → length (range b p n) ≡ n
-long b p n h = grind (arith, places)
-
-rest : (b : List ℕ) (p n k : ℕ) → p + n ≤ length b → k ≤ n → range b (p + k) (n - k) ≡ drop k (range b p n)
-rest b p n k h i = same_lists _ _ (grind (arith, places)) (λ j d lt. grind (arith, places))
-
 -- a root that is not refused is there
 root_by : (b : List ℕ) (n : ℕ) (first magic whole : Bool) (m : Metadata) → holds b 16 (n + 4) ≡ whole →
     outcome {Y = Metadata} ((first, Image Short) ∷ (magic, Image BadMagic) ∷ (whole, Image Short) ∷ []) (metadata_at b n) ≡ Ok m →
@@ -47,25 +39,25 @@ version_of : (b : List ℕ) (o l n : ℕ) (m : Metadata) → o + l ≤ length b 
     IsRange b (record { offset = o + 16; length = length m.version }) m.version
 unfolding metadata_at
 version_of b o l n m h i e =
-    let size : length (range b o l) ≡ l = long b o l h in
+    let size : length (range b o l) ≡ l = length_range b o l h in
     let version : m.version ≡ range (range b o l) 16 n = ap (λ (x : Metadata). x.version) e in
-    let count : length m.version ≡ n = ap length version ∙ long (range b o l) 16 n (omega (arith, i)) in
+    let count : length m.version ≡ n = ap length version ∙ length_range (range b o l) 16 n (omega (arith, i)) in
     record {
       inside = omega (arith, h, i, size, count);
-      same = ap (λ (k : ℕ). range b (o + 16) k) count ∙ part b o l 16 n h (omega (arith, i, size)) ∙ sym version;
+      same = ap (λ (k : ℕ). range b (o + 16) k) count ∙ range_in_range b o l 16 n h (omega (arith, i, size)) ∙ sym version;
     }
 
 headers_of : (b : List ℕ) (o l n : ℕ) (m : Metadata) → o + l ≤ length b → 16 + (n + 4) ≤ length (range b o l) → m ≡ metadata_at (range b o l) n →
     IsRange b (record { offset = o + (l - length m.stream_headers); length = length m.stream_headers }) m.stream_headers
 unfolding metadata_at
 headers_of b o l n m h i e =
-    let size : length (range b o l) ≡ l = long b o l h in
+    let size : length (range b o l) ≡ l = length_range b o l h in
     let headers : m.stream_headers ≡ drop (20 + n) (range b o l) = ap (λ (x : Metadata). x.stream_headers) e in
     let count : length m.stream_headers ≡ l - (20 + n) = ap length headers ∙ length-drop (20 + n) (range b o l) ∙ ap (λ (k : ℕ). k - (20 + n)) size in
     let offset : o + (l - length m.stream_headers) ≡ o + (20 + n) = omega (arith, i, size, count) in
     record {
       inside = omega (arith, h, i, size, count);
-      same = ap (λ (p : ℕ). range b p (length m.stream_headers)) offset ∙ ap (λ (k : ℕ). range b (o + (20 + n)) k) count ∙ rest b o l (20 + n) h (omega (arith, i, size)) ∙ sym headers;
+      same = ap (λ (p : ℕ). range b p (length m.stream_headers)) offset ∙ ap (λ (k : ℕ). range b (o + (20 + n)) k) count ∙ rest_of_range b o l (20 + n) h (omega (arith, i, size)) ∙ sym headers;
     }
 
 bytes_of : (b : List ℕ) (o l n : ℕ) (m : Metadata) → o + l ≤ length b → m ≡ metadata_at (range b o l) n → IsRange b (record { offset = o; length = l }) m.bytes
@@ -109,7 +101,7 @@ front_of_part b p n q k h i = same_lists _ _ (grind (arith, places)) (λ j d lt.
 name_by : (b : List ℕ) (o l n : ℕ) (name : List ℕ) → o + l ≤ length b → n < length (take 32 (drop 8 (range b o l))) → name ≡ take n (take 32 (drop 8 (range b o l))) →
     IsRange b (record { offset = o + 8; length = length name }) name
 name_by b o l n name h i e =
-    let size : length (range b o l) ≡ l = long b o l h in
+    let size : length (range b o l) ≡ l = length_range b o l h in
     let after : length (drop 8 (range b o l)) ≡ l - 8 = length-drop 8 (range b o l) ∙ ap (λ (k : ℕ). k - 8) size in
     let field : (n < length (drop 8 (range b o l))) × (n ≤ 32) = within (drop 8 (range b o l)) n 32 i in
     let count : length name ≡ n = ap length e ∙ length-take-le n (take 32 (drop 8 (range b o l))) (omega (arith, i)) in
@@ -174,7 +166,7 @@ content_by : (b : List ℕ) (r : Range) (s : Stream) (inside : Bool) → r.offse
 content_by b r s false h e = rw e tt
 content_by b r s true h e =
     let short : s.offset + s.size ≤ r.length = grind (arith, nat_tests) in
-    rw e (record { inside = omega (arith, h, short); same = part b r.offset r.length s.offset s.size h short })
+    rw e (record { inside = omega (arith, h, short); same = range_in_range b r.offset r.length s.offset s.size h short })
 
 pub content_stands : (b metadata : List ℕ) (w : MetadataStreams) (s : Stream) → bytes_at b w.metadata ≡ Ok metadata →
     IfSome (content_of w.metadata s) (λ r. IsRange b r (range metadata s.offset s.size))

@@ -2,6 +2,7 @@
 use Rattle.std.proofs.Common.{◌≡◌, ℕ, zero, suc, ◌+◌, ◌-◌, ◌<◌, ◌≤◌, Bool, true, false, List, [], ◌∷◌, length, drop, Some, None, Result, Ok, Err, refl, sym, ap, subst, ◌∙◌, arith}
 use Rattle.std.specs.Prelude.{◌==◌, nat_lt, if◌then◌else◌}
 use Rattle.std.proofs.lemmas.Bool.Decides.{nat_tests}
+use Rattle.pe_core.proofs.Ranges.{length_range, rest_of_range}
 use Rattle.pe_core.specs.Rows.{ReadsAfter}
 use Rattle.pe_core.proofs.EntryItems.{le_after, entry_items_more, entry_items_none, entry_items_cut}
 use Rattle.std.proofs.lemmas.List.{drop-drop}
@@ -10,8 +11,8 @@ use Rattle.pe_core.specs.Refusals.{Refusal, Short}
 use Rattle.pe_core.specs.Rows.{entry_items}
 use Rattle.pe_directories.specs.RichHeader.{rich_entry}
 use Rattle.pe_records.specs.DebugDirectory.{debug_entry_at}
+use Rattle.pe_unwind.proofs.Entries.{scope_after}
 use Rattle.pe_unwind.specs.ScopeTable.{scope_at}
-use Rattle.pe_c.proofs.LeftBytes.{long, rest_of_range}
 use Rattle.pe_c.specs.Arm64.{flat_scope_at}
 use Rattle.pe_c.specs.Ranges.{no_bytes, range_after}
 use Rattle.pe_c.specs.RichHeaders.{rich_entry_at}
@@ -59,13 +60,13 @@ by_tests : {X : Type 0} (entry_at : List ℕ → ℕ → X) (width : ℕ) (b : L
     ReturnsItems (StepsEntries entry_at width b) r (entry_items entry_at width (range b r.offset r.length))
 by_tests {X} entry_at width b r true short reads some h e l more =
     let there : holds b r.offset r.length ≡ true = grind (arith, nat_tests) in
-    let none : length (range b r.offset r.length) ≡ 0 = (let zero : r.length ≡ 0 = grind (arith, nat_tests) in long b r.offset r.length h ∙ zero) in
+    let none : length (range b r.offset r.length) ≡ 0 = (let zero : r.length ≡ 0 = grind (arith, nat_tests) in length_range b r.offset r.length h ∙ zero) in
     let left : left_entry width b r ≡ Ok None = at_end width b r there e in
     subst (λ (items : List (Result X Refusal)). ReturnsItems (StepsEntries entry_at width b) r items) (sym (entry_items_none entry_at width (range b r.offset r.length) some none))
     (λ answer next s. (s.0 ∙ rw left refl, subst (λ (v : Range). IsOver (StepsEntries entry_at width b) v) (sym (s.1 ∙ rw left refl)) (end_is_over entry_at width b r left)))
 by_tests {X} entry_at width b r false true reads some h e l more =
     let there : holds b r.offset r.length ≡ true = grind (arith, nat_tests) in
-    let size : length (range b r.offset r.length) ≡ r.length = long b r.offset r.length h in
+    let size : length (range b r.offset r.length) ≡ r.length = length_range b r.offset r.length h in
     let filled : 0 < r.length = grind (arith, nat_tests) in
     let less : r.length < width = grind (arith, nat_tests) in
     let items : entry_items entry_at width (range b r.offset r.length) ≡ Err Short ∷ [] =
@@ -74,7 +75,7 @@ by_tests {X} entry_at width b r false true reads some h e l more =
     subst (λ (xs : List (Result X Refusal)). ReturnsItems (StepsEntries entry_at width b) r xs) (sym items) (refusal entry_at width b r (cut width b r there e l))
 by_tests {X} entry_at width b r false false reads some h e l more =
     let there : holds b r.offset r.length ≡ true = grind (arith, nat_tests) in
-    let size : length (range b r.offset r.length) ≡ r.length = long b r.offset r.length h in
+    let size : length (range b r.offset r.length) ≡ r.length = length_range b r.offset r.length h in
     let fits : width ≤ r.length = grind (arith, nat_tests) in
     let left : left_entry width b r ≡ Ok (Some (range b r.offset r.length)) = whole width b r there e l in
     let items : entry_items entry_at width (range b r.offset r.length) ≡ Ok (entry_at (range b r.offset r.length) 0) ∷ entry_items entry_at width (range b (r.offset + width) (r.length - width)) =
@@ -104,10 +105,6 @@ pub gives_entries : {X : Type 0} (entry_at : List ℕ → ℕ → X) (width : �
 gives_entries entry_at width reads some b r = by_offset entry_at width b r (holds b r.offset r.length) reads some refl
 
 -- ---- the walks
-
-scope_after : ReadsAfter scope_at 16
-scope_after b p q e =
-    simp (le_after b 16 p q 4 e, le_after b 16 (p + 4) (q + 4) 4 (omega arith), le_after b 16 (p + 8) (q + 8) 4 (omega arith), le_after b 16 (p + 12) (q + 12) 4 (omega arith))
 
 pub scopes_in_turn : (b : List ℕ) (r : Range) → ReturnsItems (StepsEntries scope_at 16 b) r (walk_items scope_at 16 b r)
 scopes_in_turn = gives_entries scope_at 16 scope_after (omega arith)

@@ -6,6 +6,8 @@ use Rattle.std.specs.Str.{is_utf8}
 use Rattle.std.proofs.lemmas.Bool.Decides.{nat_tests}
 use Rattle.std.proofs.lemmas.List.{places, same_lists}
 use Rattle.std.proofs.lemmas.List.Quantifiers.{position-Some}
+use Rattle.pe_core.proofs.Ranges.{length_range}
+use Rattle.pe_core.proofs.Steps.{given, same_inside}
 use Rattle.pe_core.specs.Bytes.{le, range, record_at}
 use Rattle.pe_core.specs.Exports.{ExportDataView, table_entry, export_at, export_data_at, named_export, table_at}
 use Rattle.pe_core.specs.Records.{export_directory}
@@ -16,9 +18,6 @@ use Rattle.pe_core.specs.declared.export.ExportDirectoryTable.{ExportDirectoryTa
 use Rattle.pe_c.specs.Exports.{export_reported, index_at, reported_entry, walk_over, with_tables}
 use Rattle.pe_c.specs.Parts.{HasTables, ReportsExport}
 use Rattle.pe_c.specs.Ranges.{IsRange, no_bytes, range_from}
-
-pub range_length : (b : List ℕ) (p n : ℕ) → p + n ≤ length b → length (slice_range b p (p + n)) ≡ n
-range_length b p n h = grind (arith, places)
 
 -- ---- a text stands where it is read
 
@@ -76,13 +75,6 @@ table_by : (offset : ℕ → Option ℕ) (b : List ℕ) (rva n : ℕ) (none : Bo
     IsRange b (if none then no_bytes else range_from n (offset rva)) t
 table_by offset b rva n true t e = let same : [] ≡ t = cc in subst (IsRange b no_bytes) same (record { inside = omega arith; same = refl })
 table_by offset b rva n false t e = table_mapped b n (offset rva) t e
-
-pub given : {X Y : Type 0} (r : Result X Refusal) (f : X → Result Y Refusal) (y : Y) → (r >>= f) ≡ Ok y → (x : X) × (r ≡ Ok x) × (f x ≡ Ok y)
-given (Ok x) f y e = (x, refl, e)
-given (Err r) f y e = absurd cc
-
-pub same_inside : {X : Type 0} (x y : X) → ◌≡◌ {A = Result X Refusal} (Ok x) (Ok y) → x ≡ y
-same_inside x y e = cc
 
 pub tables_stand : (offset : ℕ → Option ℕ) (b : List ℕ) (rva : ℕ) (d : ExportDataView) → export_data_at offset b rva ≡ Ok d → HasTables b (walk_over offset d) d
 unfolding export_data_at

@@ -18,7 +18,8 @@ use Rattle.pe_plan.proofs.OnePlan.{one_plan}
 use Rattle.pe_plan.proofs.RecordLaw.{RecordLaw}
 use Rattle.pe_plan.proofs.Walks.{counted}
 use Rattle.pe_c.specs.Plans.{HandsOutAfter, ReturnsInTurn, StepsIf, StepsPlan, ReportsUnwindRecord, ended, ending_of, plan_result, goes_on, leaves, plan_from}
-use Rattle.pe_c.specs.Unwinding.{FollowsToRecord, flat_record, flat_record_at, is_some_number, or_no_function}
+use Rattle.pe_c.specs.Exports.{one_if_some}
+use Rattle.pe_c.specs.Unwinding.{FollowsToRecord, flat_record, flat_record_at, or_no_function}
 use Rattle.pe_c.specs.declared.plan.Plan.{Plan}
 use Rattle.pe_c.specs.declared.unwinding.UnwindRecord.{UnwindRecord}
 use Rattle.pe_c.proofs.PlanSteps.{over_gives}
@@ -128,7 +129,7 @@ by_more t b f reported p r false false e cycle more = inl more
 
 -- a record that is told
 by_record : (t : Table) (b : List ℕ) (f : RuntimeFunction) (reported : List UnwindRecord) (p : Plan) (w : Stands t b f reported p) (r : UnwindRecord) (i : UnwindInfoView) (o : Option RuntimeFunction) →
-    Unwinds t b (w.current).unwind_info_address (Ok i) → ReportsUnwindRecord b r i → i.chained_info ≡ o → r.is_chained ≡ is_some_number o → r.chained ≡ or_no_function o →
+    Unwinds t b (w.current).unwind_info_address (Ok i) → ReportsUnwindRecord b r i → i.chained_info ≡ o → r.is_chained ≡ one_if_some o → r.chained ≡ or_no_function o →
     Steps t b f reported (plan_result p (Ok r)) (leaves p (Ok r))
 by_record t b f reported p w r i None u reports is flag chained =
     by_root t b f reported p r (r.is_chained == 0) (r.chained.unwind_info_address == p.saved) (grind (arith, nat_tests, flag))

@@ -7,8 +7,10 @@ use Rattle.std.proofs.lemmas.Bool.Decides.{nat_tests}
 use Rattle.std.proofs.lemmas.List.{append-nil, map-append, places}
 use Rattle.std.proofs.lemmas.Nat.{column_fits, div-mul-add}
 use Rattle.std.proofs.Math.Nat.{mul-suc}
+use Rattle.pe_core.proofs.NumberBytes.{le_small}
+use Rattle.pe_core.proofs.Ranges.{length_range}
 use Rattle.pe_core.proofs.Map.{offset_is}
-use Rattle.pe_core.proofs.EntryItems.{each_front}
+use Rattle.pe_core.proofs.EntryItems.{each_front, each_same}
 use Rattle.pe_core.specs.Bytes.{AreBytes, holds, le, range, record_at}
 use Rattle.pe_core.specs.Gathered.{all_or_refusal, up_to_none, with_rest}
 use Rattle.pe_core.specs.Imports.{EntryView, ImportRecordView, ImportView, import_entries, import_entry_at, entry_size, import_data_at, import_of, import_record, import_record_at, import_records, imports, is_last, lookup_at, lookup_entries, lookups_at, lookups_rva, name_or_refusal, named_import}
@@ -32,16 +34,10 @@ use Rattle.pe_c.specs.Ranges.{IsRange, no_bytes, range_from}
 use Rattle.pe_c.specs.Runs.{ReturnsItems, IsOver}
 use Rattle.pe_c.specs.Walks.{left_entry}
 use Rattle.pe_c.proofs.Runs.{ReturnsReported, makes_by, reports_more, reports_none, reports_refused}
-use Rattle.pe_c.proofs.Addresses.{number_small}
-use Rattle.pe_c.proofs.ExportParts.{given, range_length, same_inside, text_stands}
+use Rattle.pe_c.proofs.ExportParts.{text_stands}
+use Rattle.pe_core.proofs.Steps.{given, same_inside}
 
 -- ---- lists
-
-each_same : {X : Type 0} (f g : ℕ → X) (n : ℕ) → ((k : ℕ) → k < n → f k ≡ g k) → each f n ≡ each g n
-unfolding each
-each_same f g zero h = refl
-each_same {X} f g (suc n) h =
-    ap (λ (xs : List X). xs ++ f n ∷ []) (each_same f g n (λ k lt. h k (omega (arith, lt)))) ∙ ap (λ (x : X). each g n ++ x ∷ []) (h n (omega arith))
 
 none_of : {X : Type 0} (f : ℕ → X) → each f 0 ≡ []
 unfolding each
@@ -222,7 +218,7 @@ list_stands w b (Some q) list e =
     let list_entries = given (lookup_entries w b q) (λ es. Ok (range b q (w * length es))) list e in
     let same : range b q (w * length list_entries.0) ≡ list = same_inside (range b q (w * length list_entries.0)) list list_entries.2 in
     let within : q + w * length list_entries.0 ≤ length b = list_inside w b q list_entries.0 list_entries.1 in
-    record { count = length list_entries.0; long = ap length (sym same) ∙ range_length b q (w * length list_entries.0) within; within = within; same = same }
+    record { count = length list_entries.0; long = ap length (sym same) ∙ length_range b q (w * length list_entries.0) within; within = within; same = same }
 
 is_range : (w : ℕ) (b : List ℕ) (r : Range) (list : List ℕ) → ListStands w b r list → IsRange b r list
 is_range w b r list s = record { inside = omega (arith, s.long, s.within); same = ap (λ (n : ℕ). range b r.offset n) s.long ∙ s.same }
@@ -232,7 +228,7 @@ is_range w b r list s = record { inside = omega (arith, s.long, s.within); same 
 its_slots : (w : ℕ) (b : List ℕ) (r : ImportRecordView) (q n : ℕ) → 0 < w → q + w * n ≤ length b → range b q (w * n) ≡ r.lookups →
     each (import_entry_at w r) (length r.lookups / w) ≡ each (slots w b r.name q r.import_directory_entry.address_table_rva) n
 its_slots w b r q n some h same =
-    let long : length r.lookups ≡ n * w + 0 = ap length (sym same) ∙ range_length b q (w * n) h ∙ grind arith in
+    let long : length r.lookups ≡ n * w + 0 = ap length (sym same) ∙ length_range b q (w * n) h ∙ grind arith in
     let count : length r.lookups / w ≡ n = ap (λ (m : ℕ). m / w) long ∙ div-mul-add n w 0 some in
     ap (λ (m : ℕ). each (import_entry_at w r) m) count
     ∙ each_same (import_entry_at w r) (slots w b r.name q r.import_directory_entry.address_table_rva) n
@@ -272,7 +268,7 @@ not_last false r more e = e
 
 low_address : (b : List ℕ) (p : ℕ) → AreBytes b → (import_entry b p).address_table_rva < 4294967296
 unfolding import_entry
-low_address b p small = number_small b (p + 16) small
+low_address b p small = le_small b (p + 16) small
 
 entry_reports : (offset : ℕ → Option ℕ) (w : ℕ) (b : List ℕ) (e : ImportDirectoryEntry) (r : ImportRecordView) → 0 < w → length b ≤ 2 ^ 63 → e.address_table_rva < 4294967296 → import_record offset w b e ≡ Ok (Some r) →
     ReportsLibrary offset w b (library_reported offset r) r

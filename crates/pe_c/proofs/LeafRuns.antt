@@ -2,6 +2,7 @@
 use Rattle.std.proofs.Common.{◌≡◌, ℕ, ◌+◌, ◌*◌, ◌≤◌, Bool, true, false, List, [], ◌∷◌, length, map, Option, Some, None, Result, Ok, Err, refl, sym, ap, subst, ◌∙◌, arith}
 use Rattle.std.proofs.lemmas.Bool.Decides.{nat_tests}
 use Rattle.std.proofs.lemmas.List.{places, same_lists}
+use Rattle.pe_core.proofs.Ranges.{length_range}
 use Rattle.pe_core.specs.Bytes.{holds, le, range}
 use Rattle.pe_core.specs.Refusals.{Refusal, Short}
 use Rattle.pe_core.specs.declared.section_table.SectionTable.{SectionTable}
@@ -12,7 +13,7 @@ use Rattle.pe_resource.specs.ResourceEntries.{has_name, name_offset}
 use Rattle.pe_resource.specs.declared.entry.ResourceEntry.{ResourceEntry}
 use Rattle.pe_resource.specs.declared.leaf_position.LeafPosition.{LeafPosition}
 use Rattle.pe_resource.specs.declared.leaves.ResourceLeaf as trees
-use Rattle.pe_c.proofs.LeftBytes.{long, there}
+use Rattle.pe_c.proofs.LeftBytes.{there}
 use Rattle.pe_c.specs.ResourceLeaves.{IsNameOf, StartsTree, StepsLeaves, after_item, first_item, item_reported, items_left, leaf_reported, leaves_walk, name_reported, no_leaves, position_of, walk_after, walk_at}
 use Rattle.pe_c.specs.Ranges.{bytes_at}
 use Rattle.pe_c.specs.Runs.{IsOver, ReturnsItems, read_items}
@@ -124,8 +125,8 @@ names_are_theirs b tree d e (Some units) at is =
     let n : ℕ = 2 * le d (name_offset e) 2 in
     let in_b = there b tree d (holds b tree.offset tree.length) refl at in
     let in_d = units_there d e units (has_name e) (holds d (name_offset e) 2) (holds d p n) refl refl refl is in
-    let size : length d ≡ tree.length = ap length in_b.1 ∙ long b tree.offset tree.length in_b.0 in
+    let size : length d ≡ tree.length = ap length in_b.1 ∙ length_range b tree.offset tree.length in_b.0 in
     let fits : p + n ≤ tree.length = (let inside : p + n ≤ length d = in_d.0 in omega (arith, size)) in
-    let count : length units ≡ n = ap length in_d.1 ∙ long d p n in_d.0 in
+    let count : length units ≡ n = ap length in_d.1 ∙ length_range d p n in_d.0 in
     let here : range b (tree.offset + p) n ≡ units = sym (part_of_range b tree.offset tree.length p n in_b.0 fits) ∙ ap (λ (x : List ℕ). range x p n) (sym in_b.1) ∙ sym in_d.1 in
     (refl, record { inside = (let whole : tree.offset + tree.length ≤ length b = in_b.0 in omega (arith, count, fits)); same = rw count here })

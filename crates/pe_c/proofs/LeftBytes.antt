@@ -2,6 +2,7 @@
 use Rattle.std.proofs.Common.{◌≡◌, ℕ, ◌+◌, ◌-◌, ◌≤◌, Bool, true, false, List, [], length, drop, Result, Ok, Err, refl, sym, ap, ◌∙◌, arith}
 use Rattle.std.proofs.lemmas.Bool.Decides.{nat_tests}
 use Rattle.std.proofs.lemmas.List.{places, same_lists}
+use Rattle.pe_core.proofs.Ranges.{length_range, rest_of_range}
 use Rattle.pe_core.specs.Bytes.{holds, range}
 use Rattle.pe_core.specs.Refusals.{Refusal, Short}
 use Rattle.pe_c.specs.Ranges.{IsRange, bytes_at}
@@ -11,12 +12,6 @@ pub same_range : (r s : Range) → r.offset ≡ s.offset → r.length ≡ s.leng
 same_range r s offset size = ap (λ (p : ℕ). record { offset = p; length = r.length }) offset ∙ ap (λ (n : ℕ). record { offset = s.offset; length = n }) size
 
 -- what is left after n bytes of a range
-pub rest_of_range : (b : List ℕ) (p n k : ℕ) → p + n ≤ length b → k ≤ n → range b (p + k) (n - k) ≡ drop k (range b p n)
-rest_of_range b p n k h i = same_lists _ _ (grind (arith, places)) (λ j d lt. grind (arith, places))
-
-pub long : (b : List ℕ) (p n : ℕ) → p + n ≤ length b → length (range b p n) ≡ n
-long b p n h = grind (arith, places)
-
 pub nothing_there : (b : List ℕ) → range b 0 0 ≡ []
 nothing_there b = grind (arith, places)
 
@@ -31,7 +26,7 @@ bytes_there b r h = let inside : holds b r.offset r.length ≡ true = grind (ari
 pub left_after : (b : List ℕ) (w v : Range) (bytes : List ℕ) → bytes_at b w ≡ Ok bytes → v.length ≤ w.length → v.offset + v.length ≡ w.offset + w.length → bytes_at b v ≡ Ok (drop (length bytes - v.length) bytes)
 left_after b w v bytes e shorter same =
     let in_b = there b w bytes (holds b w.offset w.length) refl e in
-    let size : length bytes ≡ w.length = ap length in_b.1 ∙ long b w.offset w.length in_b.0 in
+    let size : length bytes ≡ w.length = ap length in_b.1 ∙ length_range b w.offset w.length in_b.0 in
     let offset : v.offset ≡ w.offset + (w.length - v.length) = omega (arith, shorter, same) in
     let count : v.length ≡ w.length - (w.length - v.length) = omega (arith, shorter) in
     let rest : range b v.offset v.length ≡ drop (w.length - v.length) (range b w.offset w.length) =
@@ -42,7 +37,7 @@ left_after b w v bytes e shorter same =
     ∙ ap (λ (x : List ℕ). Ok x) (rest ∙ ap (λ (x : List ℕ). drop (w.length - v.length) x) (sym in_b.1) ∙ ap (λ (n : ℕ). drop (n - v.length) bytes) (sym size))
 
 pub size_of : (b : List ℕ) (r : Range) (bytes : List ℕ) → bytes_at b r ≡ Ok bytes → length bytes ≡ r.length
-size_of b r bytes e = let in_b = there b r bytes (holds b r.offset r.length) refl e in ap length in_b.1 ∙ long b r.offset r.length in_b.0
+size_of b r bytes e = let in_b = there b r bytes (holds b r.offset r.length) refl e in ap length in_b.1 ∙ length_range b r.offset r.length in_b.0
 
 -- ---- the bytes of a part that a range is
 

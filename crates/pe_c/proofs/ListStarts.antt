@@ -2,6 +2,7 @@
 use Rattle.std.proofs.Common.{◌≡◌, ℕ, ◌+◌, ◌≤◌, Bool, true, false, List, [], ◌∷◌, length, Option, Some, None, Result, Ok, Err, refl, sym, ap, subst, ◌∙◌, arith}
 use Rattle.std.specs.Prelude.{if◌then◌else◌}
 use Rattle.std.proofs.lemmas.Bool.Decides.{nat_tests}
+use Rattle.pe_core.proofs.Ranges.{length_range}
 use Rattle.pe_core.specs.Bytes.{holds, range, record_at}
 use Rattle.pe_core.specs.Refusals.{Short, outcome, ◌>>=◌}
 use Rattle.pe_core.specs.declared.byte_range.ByteRange.{ByteRange}
@@ -18,7 +19,7 @@ use Rattle.pe_directories.specs.declared.clr.ClrHeader.{ClrHeader}
 use Rattle.pe_directories.specs.declared.delay_import.DelayImport.{DelayImport}
 use Rattle.pe_c.proofs.DirectoryLists.{BlocksOf, BoundsOf, blocks_in_turn, bounds_in_turn, libraries_in_turn}
 use Rattle.pe_c.proofs.DirectoryParts.{headers_stand, metadata_stand}
-use Rattle.pe_c.proofs.LeftBytes.{bytes_of_range, bytes_there, long}
+use Rattle.pe_c.proofs.LeftBytes.{bytes_of_range, bytes_there}
 use Rattle.pe_c.proofs.StreamLists.{StreamsOf, streams_in_turn}
 use Rattle.pe_c.specs.BoundImports.{bound_imports_at}
 use Rattle.pe_c.specs.Clr.{clr_metadata_at, metadata_reported}
@@ -83,7 +84,7 @@ bound_by b d true inside w table h e f = absurd (cc (e))
 bound_by b d false false w table h e f = absurd (cc (e))
 bound_by b d false true w table h e f =
     let room : d.virtual_address + d.size ≤ length b = grind (arith, nat_tests, h) in
-    let size : length (range b d.virtual_address d.size) ≡ d.size = long b d.virtual_address d.size room in
+    let size : length (range b d.virtual_address d.size) ≡ d.size = length_range b d.virtual_address d.size room in
     let walk : record { offset = d.virtual_address; length = length (range b d.virtual_address d.size) } ≡ w = cc (e) in
     let bytes : range b d.virtual_address d.size ≡ table = cc (f) in
     subst (λ (v : Range). bytes_at b v ≡ Ok table) (ap (λ (n : ℕ). record { offset = d.virtual_address; length = n }) (sym size) ∙ walk)

@@ -3,6 +3,7 @@ use Rattle.std.proofs.Common.{◌≡◌, ◌≢◌, ℕ, suc, ◌+◌, ◌-◌, 
 use Rattle.std.specs.Prelude.{◌==◌, if◌then◌else◌, nat_le, min}
 use Rattle.std.proofs.lemmas.Bool.{cases_Bool}
 use Rattle.std.proofs.lemmas.Bool.Decides.{nat_tests}
+use Rattle.pe_core.proofs.Steps.{same_inside}
 use Rattle.pe_core.specs.Bytes.{AreBytes}
 use Rattle.pe_core.specs.Refusals.{Refusal, ◌>>=◌}
 use Rattle.pe_core.specs.SectionMap.{mapped}
@@ -29,9 +30,6 @@ pub one_record : (b : List ℕ) (links : Result Table Refusal) (u : ℕ) (x y : 
 one_record b links u x y f g =
     let same : f.0 ≡ g.0 = one_offset links u f.0 g.0 f.1 g.1 in
     f.2 ∙ ap (λ (offset : Result ℕ Refusal). offset >>= flat_record_at b) same ∙ sym g.2
-
-same_inside : (x y : UnwindRecord) → ◌≡◌ {A = Result UnwindRecord Refusal} (Ok x) (Ok y) → x ≡ y
-same_inside x y e = cc
 
 pub goes_once : (b : List ℕ) (links : Result Table Refusal) → HasOneEnd (GoesTo b links)
 goes_once b links u v w p q =

@@ -5,6 +5,8 @@ use Rattle.std.proofs.lemmas.Bool.{cases_Bool, cases_eq, false≢true}
 use Rattle.std.proofs.lemmas.Bool.Decides.{nat_tests}
 use Rattle.std.proofs.lemmas.Map.Keys.{IsDistinct-cons}
 use Rattle.std.proofs.lemmas.Map.Steps.{length-le_from_distinct_below}
+use Rattle.pe_core.proofs.Pigeonhole.{or_second}
+use Rattle.pe_plan.proofs.Rings.{apart}
 use Rattle.pe_c.proofs.Ways.{LeadsIn, as_many, joined}
 
 -- a step has one end
@@ -46,10 +48,6 @@ length-stops : (goes : ℕ → ℕ → Type 0) (k u v : ℕ) (p : LeadsIn goes k
 length-stops goes zero u v p = refl
 length-stops goes (suc k) u v p = ap suc (length-stops goes k p.0 v p.2)
 
-or_second : (b c : Bool) → b ≡ false → (b || c) ≡ true → c ≡ true
-or_second false c e h = h
-or_second true c e h = absurd (false≢true (sym e))
-
 comes_to : (goes : ℕ → ℕ → Type 0) (k u v q : ℕ) (p : LeadsIn goes k u v) → list_any (eqb q) (stops goes k u v p) ≡ true → (j : ℕ) × (j ≤ k) × LeadsIn goes j u q
 comes_to goes zero u v q p e =
     ⊎_elim (λ (same : q ≡ u). (0, omega arith, sym same))
@@ -61,13 +59,6 @@ comes_to goes (suc k) u v q p e =
     let rest = comes_to goes k p.0 v q p.2 (or_second (eqb q u) _ (grind (arith, nat_tests)) e) in
     (suc rest.0, omega (arith, rest.1), (p.0, p.1, rest.2)))
     (cases_eq q u)
-
-apart : (q : ℕ) (xs : List ℕ) → list_any (eqb q) xs ≡ false → AllByRecursion (λ x. eqb q x ≡ false) xs
-apart q [] e = tt
-apart q (x ∷ xs) e =
-    ⊎_elim (λ (same : eqb q x ≡ true). absurd (false≢true (sym (rw same at e))))
-    (λ (other : eqb q x ≡ false). (other, apart q xs (rw other at e)))
-    (cases_Bool (eqb q x))
 
 distinct_or_ring : (goes : ℕ → ℕ → Type 0) (k u v : ℕ) (p : LeadsIn goes k u v) → IsDistinct eqb (stops goes k u v p) ⊎ Ring goes u k
 unfolding IsDistinct

@@ -2,6 +2,7 @@
 use Rattle.std.proofs.Common.{◌≡◌, ℕ, ◌+◌, ◌≤◌, Bool, true, false, List, [], ◌∷◌, length, None, Some, Result, Ok, Err, refl, sym, ap, subst, ◌∙◌, arith}
 use Rattle.std.proofs.lemmas.Bool.Decides.{nat_tests}
 use Rattle.std.specs.Prelude.{◌==◌, if◌then◌else◌}
+use Rattle.pe_c.proofs.LeftBytes.{bytes_there}
 use Rattle.pe_core.specs.Bytes.{holds, range}
 use Rattle.pe_core.specs.Refusals.{Refusal, Short, outcome, ◌>>=◌}
 use Rattle.pe_core.specs.SectionMap.{map_view, offset_in}
@@ -16,20 +17,11 @@ use Rattle.pe_c.specs.Unwinding.{exception_table_at, image_exceptions, links_at}
 use Rattle.pe_c.specs.declared.image.Image.{Image}
 use Rattle.pe_c.specs.declared.ranges.Range.{Range}
 
-bytes_by_test : (test : Bool) (bytes : List ℕ) → test ≡ true → outcome ((test, Short) ∷ []) bytes ≡ Ok bytes
-bytes_by_test true bytes e = refl
-bytes_by_test false bytes e = absurd cc
-
--- the bytes of a range that is inside
-bytes_inside : (b : List ℕ) (table : Range) → table.offset + table.length ≤ length b → bytes_at b table ≡ Ok (range b table.offset table.length)
-bytes_inside b table fits =
-    bytes_by_test (holds b table.offset table.length) (range b table.offset table.length) (grind (arith, nat_tests))
-
 links_of_view : (b : List ℕ) (image : Image) (s : List SectionTable) (v : ExceptionView) → v.content ≡ b → v.alignment ≡ image.file_alignment → v.start + v.size ≤ length v.content →
     links_at b image s (range_of (table_range v)) ≡ Ok (links_of v s (options_of image.mode))
 links_of_view b image s v content unit inside =
     let fits : v.start + v.size ≤ length b = subst (λ (c : List ℕ). v.start + v.size ≤ length c) content inside in
-    let there : bytes_at b (range_of (table_range v)) ≡ Ok (range b v.start v.size) = bytes_inside b (range_of (table_range v)) fits in
+    let there : bytes_at b (range_of (table_range v)) ≡ Ok (range b v.start v.size) = bytes_there b (range_of (table_range v)) fits in
     let links : links_at b image s (range_of (table_range v)) ≡ Ok (record { entries = range b v.start v.size; start = v.start; offset = map_of_image image s }) =
     ap (λ (x : Result (List ℕ) Refusal). x >>= λ entries. Ok (record { entries = entries; start = v.start; offset = map_of_image image s })) there in
     let of_content : ◌≡◌ {A = Result Table Refusal} (Ok (record { entries = range b v.start v.size; start = v.start; offset = map_of_image image s }))

@@ -4,10 +4,12 @@ use Rattle.std.proofs.lemmas.Bool.Decides.{nat_tests}
 use Rattle.std.proofs.lemmas.List.{places, same_lists, drop_all}
 use Rattle.std.specs.List.{AllZip}
 use Rattle.std.specs.Prelude.{nat_le}
+use Rattle.pe_core.proofs.Ranges.{length_range}
 use Rattle.pe_core.specs.Bytes.{le, range, holds}
 use Rattle.pe_core.specs.Refusals.{Refusal, Short, outcome, ◌>>=◌}
 use Rattle.pe_resource.specs.VersionBlocks.{BlockRefusal, Image, BelowHead, PastEnd, KeyEnd, Block, block_of, whole_block, own_bytes, blocks_end, block_and_rest, first_block, then_blocks, blocks}
 use Rattle.pe_resource.specs.VersionStrings.{key_length, value_offset, value_bytes, up_to_four}
+use Rattle.pe_resource.proofs.Keys.{le_two}
 use Rattle.pe_resource.proofs.BlockLists.{blocks_start, fewer}
 use Rattle.pe_c.proofs.LeftBytes.{there, left_after, size_of}
 use Rattle.pe_c.specs.Directories.{range_left}
@@ -63,10 +65,6 @@ whole x k h = whole_at (holds x (6 + key_length x 6) 2) x k refl h
 
 -- ---- its parts
 
-le_two : (b : List ℕ) (e : ℕ) → le b e 2 ≡ get_or b e 0 + 256 * get_or b (e + 1) 0
-unfolding le
-le_two b e = simp add-zero (omega arith)
-
 front_number : (left : List ℕ) (n : ℕ) → 6 ≤ n → n ≤ length left → le (range left 0 n) 0 2 ≡ le left 0 2
 front_number left n h i =
     let low : get_or (range left 0 n) 0 0 ≡ get_or left 0 0 = grind (arith, places) in
@@ -79,9 +77,6 @@ inner_range b p l n q m h i j = same_lists _ _ (grind (arith, places)) (λ k d l
 
 length_inner : (b : List ℕ) (p l n : ℕ) → p + l ≤ length b → n ≤ l → length (range (range b p l) 0 n) ≡ n
 length_inner b p l n h i = grind (arith, places)
-
-range_length : (x : List ℕ) (q m : ℕ) → q + m ≤ length x → length (range x q m) ≡ m
-range_length x q m h = grind (arith, places)
 
 -- a front of what follows v is a range from there on, and nothing from the end on if v is past it
 front_of_rest : (x : List ℕ) (v s : ℕ) → take s (drop v x) ≡ range x (min v (length x)) (length (take s (drop v x)))
@@ -114,7 +109,7 @@ value_starts x = ap up_to_four (omega arith)
 parts_of : (b : List ℕ) (r : Range) (n : ℕ) (x : List ℕ) → r.offset + r.length ≤ length b → n ≤ r.length → x ≡ range (range b r.offset r.length) 0 n → length x ≡ n → le x 0 2 ≡ n → 6 + key_length x 6 + 2 ≤ length x → ArePartsOf b (parts_reported r (block_of x)) (block_of x)
 unfolding block_of
 parts_of b r n x h i e size number ended =
-    let key : length (range x 6 (key_length x 6)) ≡ key_length x 6 = range_length x 6 (key_length x 6) (omega (arith, ended)) in
+    let key : length (range x 6 (key_length x 6)) ≡ key_length x 6 = length_range x 6 (key_length x 6) (omega (arith, ended)) in
     let offset : min (up_to_four (8 + length (range x 6 (key_length x 6)))) (le x 0 2) ≡ min (value_offset x 0) (length x) =
     ap (λ (m : ℕ). min (up_to_four (8 + m)) (le x 0 2)) key ∙ ap (λ (v : ℕ). min v (le x 0 2)) (value_starts x) ∙ ap (λ (m : ℕ). min (value_offset x 0) m) (number ∙ sym size) in
     let children : List ℕ = drop (up_to_four (value_bytes x 0)) (drop (value_offset x 0) x) in
@@ -139,9 +134,9 @@ parts b r left rest k e first =
     let found = first_own left k rest first in
     let mine = own left found.0 found.1 in
     let ended = whole found.0 k found.2 in
-    let all : length left ≡ r.length = ap length inside.1 ∙ range_length b r.offset r.length inside.0 in
+    let all : length left ≡ r.length = ap length inside.1 ∙ length_range b r.offset r.length inside.0 in
     let n : ℕ = le left 0 2 in
-    let size : length found.0 ≡ n = ap length mine.is ∙ range_length left 0 n (omega (arith, mine.inside)) in
+    let size : length found.0 ≡ n = ap length mine.is ∙ length_range left 0 n (omega (arith, mine.inside)) in
     let number : le found.0 0 2 ≡ n = ap (λ (z : List ℕ). le z 0 2) mine.is ∙ front_number left n mine.head mine.inside in
     let is : found.0 ≡ range (range b r.offset r.length) 0 n = mine.is ∙ ap (λ (z : List ℕ). range z 0 n) inside.1 in
     in_language b (parts_reported r k) k _

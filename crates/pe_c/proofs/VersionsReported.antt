@@ -1,6 +1,7 @@
 -- What is told of versions is what the resources hold.
 use Rattle.std.proofs.Common.{◌≡◌, ℕ, Bool, false, List, Option, Some, None, Result, Ok, Err, refl, ap, sym, ◌∙◌, subst}
 use Rattle.std.specs.Option.{option_map}
+use Rattle.pe_core.proofs.Steps.{same_inside}
 use Rattle.pe_core.specs.Offsets.{bytes_in, IsWithin}
 use Rattle.pe_core.specs.Refusals.{Refusal, ◌>>=◌}
 use Rattle.pe_core.specs.declared.byte_range.ByteRange.{ByteRange}
@@ -19,9 +20,6 @@ use Rattle.pe_c.specs.Ranges.{range_of, IsRange}
 use Rattle.pe_c.specs.Versions.{IsContentBy, IsContentOf, HandsOutManifest, fixed_at, HandsOutFixed, value_at, HandsOutText, AreImageResources, ReportsRange, fixed_of, version_value}
 use Rattle.pe_c.specs.declared.image.Image.{Image}
 use Rattle.pe_c.specs.declared.ranges.Range.{Range}
-
-ok_once : {X : Type 0} (x y : X) → Path (Result X Refusal) (Ok x) (Ok y) → x ≡ y
-ok_once x y e = cc
 
 content_range : (b : List ℕ) (image : Image) (sections : List SectionTable) (mode id : ℕ) (r : Result (Option ByteRange) Refusal) → is_absent (resource_directory image) ≡ false → IsContentOf b image sections mode id r → IsResourceRange (options_of mode) b (resource_directory image) id sections image.file_alignment r
 content_range b image sections mode id r there h = subst (λ (t : Bool). IsContentBy t (options_of mode) b image sections id r) there h
@@ -43,10 +41,10 @@ manifest_reported b image sections mode x number old new h k =
 -- ---- version information
 
 no_version : (v : Option VersionView) (bytes : Option (List ℕ)) → bytes ≡ None → version_of_content bytes ≡ Ok v → v ≡ None
-no_version v bytes is h = sym (ok_once None v (subst (λ (o : Option (List ℕ)). version_of_content o ≡ Ok v) is h))
+no_version v bytes is h = sym (same_inside None v (subst (λ (o : Option (List ℕ)). version_of_content o ≡ Ok v) is h))
 
 reads_as : (q : Result VersionView Refusal) (v : Option VersionView) → (q >>= λ w. Ok (Some w)) ≡ Ok v → (w : VersionView) × (q ≡ Ok w) × (v ≡ Some w)
-reads_as (Ok w) v h = (w, refl, sym (ok_once (Some w) v h))
+reads_as (Ok w) v h = (w, refl, sym (same_inside (Some w) v h))
 reads_as (Err e) v h = absurd cc
 
 a_version : (c : List ℕ) (v : Option VersionView) (bytes : Option (List ℕ)) → bytes ≡ Some c → version_of_content bytes ≡ Ok v → (w : VersionView) × (version_in c ≡ Ok w) × (v ≡ Some w)

@@ -13,7 +13,7 @@ use Rattle.pe_directories.specs.declared.clr.ClrHeader.{ClrHeader}
 use Rattle.pe_c.specs.Directories.{first_of, if_present, image_parts, range_left}
 use Rattle.pe_c.specs.Exports.{one_if_some}
 use Rattle.pe_c.specs.Images.{directory}
-use Rattle.pe_c.specs.Ranges.{bytes_at, no_bytes, range_of as reported}
+use Rattle.pe_c.specs.Ranges.{bytes_at, no_bytes, or_no_bytes, range_of as reported}
 use Rattle.pe_c.specs.declared.clr.Metadata.{Metadata}
 use Rattle.pe_c.specs.declared.clr.MetadataStream.{MetadataStream}
 use Rattle.pe_c.specs.declared.clr.MetadataStreams.{MetadataStreams}
@@ -58,10 +58,6 @@ clr_metadata_at b image sections h = range_of (image_parts b image sections) h.m
 -- the range of a stream's bytes, if they are all in the metadata at a range
 abbrev pub content_of : Range → Stream → Option Range
 content_of r s = if nat_le (s.offset + s.size) r.length then Some (record { offset = r.offset + s.offset; length = s.size }) else None
-
-abbrev pub or_no_bytes : Option Range → Range
-or_no_bytes None = no_bytes
-or_no_bytes (Some r) = r
 
 -- a stream as callers get it, the first of a walk: its name follows the 8 bytes of two numbers
 abbrev pub stream_reported : MetadataStreams → Stream → MetadataStream

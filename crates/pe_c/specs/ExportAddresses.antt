@@ -10,7 +10,7 @@ use Rattle.pe_core.specs.declared.export_addresses.ExportAddress.{ExportAddress}
 use Rattle.pe_core.specs.declared.section_table.SectionTable.{SectionTable}
 use Rattle.pe_c.specs.Exports.{export_table, one_if_some}
 use Rattle.pe_c.specs.Images.{export_directory, is_absent, map_of_image}
-use Rattle.pe_c.specs.Ranges.{bytes_at, no_bytes}
+use Rattle.pe_c.specs.Ranges.{bytes_at, no_bytes, or_no_bytes}
 use Rattle.pe_c.specs.declared.export_addresses.AddressTable.{AddressTable}
 use Rattle.pe_c.specs.declared.export_addresses.Exported.{Exported}
 use Rattle.pe_c.specs.declared.image.Image.{Image}
@@ -23,11 +23,6 @@ text_range offset b rva = option_and_then (λ p. option_map (λ text. record { o
 -- the range of the DLL's name; the RVA 0 is that of none
 abbrev pub dll_name : (ℕ → Option ℕ) → List ℕ → ℕ → Option Range
 dll_name offset b rva = if rva == 0 then None else text_range offset b rva
-
--- a range, the empty one without one
-abbrev pub or_no_bytes : Option Range → Range
-or_no_bytes None = no_bytes
-or_no_bytes (Some r) = r
 
 -- the address table of a directory's export data
 abbrev pub address_table : (ℕ → Option ℕ) → List ℕ → DataDirectory → ExportDataView → AddressTable

@@ -9,6 +9,11 @@ use Rattle.pe_c.specs.declared.ranges.Range.{Range}
 abbrev pub no_bytes : Range
 no_bytes = record { offset = 0; length = 0 }
 
+-- a range, the empty one without one
+abbrev pub or_no_bytes : Option Range → Range
+or_no_bytes None = no_bytes
+or_no_bytes (Some r) = r
+
 -- a range as callers get it
 abbrev pub range_of : ByteRange → Range
 range_of r = record { offset = r.offset; length = r.length }

@@ -18,6 +18,8 @@ use Rattle.pe_unwind.specs.declared.unwind_code.StackFrameOffset.TheVariants.{RS
 use Rattle.pe_unwind.specs.declared.unwind_code.UnwindCode.{UnwindCode}
 use Rattle.pe_unwind.specs.declared.unwind_code.UnwindOperation.{UnwindOperation}
 use Rattle.pe_unwind.specs.declared.unwind_code.UnwindOperation.TheVariants.{PushNonVolatile, Alloc, SetFPRegister, SaveNonVolatile, SaveXMM, Epilog, SaveXMM128, PushMachineFrame, Noop}
+use Rattle.pe_frame.specs.Undoing.{offset_number}
+use Rattle.pe_c.specs.Exports.{one_if_some}
 use Rattle.pe_c.specs.Images.{exception_directory, is_absent, map_of_image}
 use Rattle.pe_c.specs.HandsOut.{HandsOut, HandsOutIf}
 use Rattle.pe_c.specs.Modes.{options_of}
@@ -56,11 +58,6 @@ function_in b table index = bytes_at b table >>= λ entries. function_of entries
 
 -- ---- unwind records
 
--- 1 for a value, 0 without one
-abbrev pub is_some_number : {X : Type 0} → Option X → ℕ
-is_some_number None = 0
-is_some_number (Some x) = 1
-
 -- a function, or zeros without one
 abbrev pub or_no_function : Option RuntimeFunction → RuntimeFunction
 or_no_function None = record { begin_address = 0; end_address = 0; unwind_info_address = 0 }
@@ -98,7 +95,7 @@ flat_record b p i = record {
   handler_data = handler_range b i.handler;
   handler = handler_address i.handler;
   chained = or_no_function i.chained_info;
-  is_chained = is_some_number i.chained_info;
+  is_chained = one_if_some i.chained_info;
   frame_register_offset = i.frame_register_offset;
   size_of_prolog = i.size_of_prolog;
   handler_kind = handler_kind i.handler;
@@ -140,15 +137,10 @@ abbrev pub from_frame : StackFrameOffset → ℕ
 from_frame (RSP n) = 0
 from_frame (FP n) = 1
 
--- an offset in bytes
-abbrev pub bytes_from : StackFrameOffset → ℕ
-bytes_from (RSP n) = n
-bytes_from (FP n) = n
-
 -- a code that saves a register
 abbrev pub saving : ℕ → ℕ → Register → StackFrameOffset → Code
 saving code_offset operation register offset =
-    record { code_offset = code_offset; operation = operation; operand = register.0; from_frame = from_frame offset; value = bytes_from offset }
+    record { code_offset = code_offset; operation = operation; operand = register.0; from_frame = from_frame offset; value = offset_number offset }
 
 -- a code of another operation
 abbrev pub plain : ℕ → ℕ → ℕ → ℕ → Code

@@ -10,7 +10,9 @@ ghost use Rattle.pe_unwind.specs.ScopeTable.{scope_at};
 ghost use Rattle.pe_unwind.specs.UnwindRecord.{unwind_view};
 ghost use Rattle.pe_c.specs.HandsOut.{HandsOut, HandsOutIf};
 ghost use Rattle.pe_c.specs.Ranges.{bytes_at};
-ghost use Rattle.pe_c.specs.Unwinding.{exception_table_at, LocatesIn, HandsOutFound, function_in, is_some_number, or_no_function, handler_kind, handler_address, handler_range, flat_record, flat_record_at, FindsOffset, FollowsToRecord, HandsOutRecord, links_at, from_frame, bytes_from, saving, plain, flat, StepsOver, WalksIn, HandsOutCode, scopes_at};
+ghost use Rattle.pe_frame.specs.Undoing.{offset_number};
+ghost use Rattle.pe_c.specs.Exports.{one_if_some};
+ghost use Rattle.pe_c.specs.Unwinding.{exception_table_at, LocatesIn, HandsOutFound, function_in, or_no_function, handler_kind, handler_address, handler_range, flat_record, flat_record_at, FindsOffset, FollowsToRecord, HandsOutRecord, links_at, from_frame, saving, plain, flat, StepsOver, WalksIn, HandsOutCode, scopes_at};
 ghost use Rattle.pe_c.specs.Walks.{next_of, walk_of};
 
 use crate::image::{EXCEPTION_TABLE, Image, directory, is_absent};
@@ -184,7 +186,7 @@ const NO_FUNCTION: RuntimeFunction = RuntimeFunction {
 
 /// Whether a record is chained, and the function to which it is.
 fn chained_of(info: &UnwindInfo) -> (u32, RuntimeFunction)
-    ensures some { result.0 ≡ is_some_number (unwind_view info.now).chained_info }
+    ensures some { result.0 ≡ one_if_some (unwind_view info.now).chained_info }
     ensures function { result.1 ≡ or_no_function (unwind_view info.now).chained_info }
 {
     match info.chained_info {
@@ -330,7 +332,7 @@ pub extern "C" fn pe_c_unwind_record(
 
 /// Whether an offset counts from the frame register, and the offset in bytes.
 fn from_offset(offset: StackFrameOffset) -> (u8, u32)
-    ensures { result ≡ (from_frame offset, bytes_from offset) }
+    ensures { result ≡ (from_frame offset, offset_number offset) }
 {
     match offset {
         StackFrameOffset::RSP(value) => (0, value),

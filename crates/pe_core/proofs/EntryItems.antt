@@ -28,6 +28,12 @@ pub get_or-each : {X : Type 0} (f : ℕ → X) (n i : ℕ) (d : X) → i < n →
 get_or-each {X} f n i d h =
     ap (λ (xs : List X). get_or xs i d) (sym (each-as_map f n)) ∙ get_or-map-range_with_len f 0 n i i d h (omega arith)
 
+pub each_same : {X : Type 0} (f g : ℕ → X) (n : ℕ) → ((k : ℕ) → k < n → f k ≡ g k) → each f n ≡ each g n
+unfolding each
+each_same f g zero h = refl
+each_same {X} f g (suc n) h =
+    ap (λ (xs : List X). xs ++ f n ∷ []) (each_same f g n (λ k lt. h k (omega (arith, lt)))) ∙ ap (λ (x : X). each g n ++ x ∷ []) (h n (omega arith))
+
 pub each_front : {X : Type 0} (f g : ℕ → X) (n : ℕ) → ((i : ℕ) → f (suc i) ≡ g i) → each f (suc n) ≡ f 0 ∷ each g n
 unfolding each
 each_front f g zero h = refl

@@ -4,6 +4,7 @@ use Rattle.std.specs.List.{filter_map, cons_option}
 use Rattle.std.specs.Option.{option_and_then}
 use Rattle.std.proofs.lemmas.List.{drop_all, length-map, map-append}
 use Rattle.std.proofs.lemmas.List.Elements.{filter_map-append}
+use Rattle.pe_core.proofs.EntryItems.{length-each}
 use Rattle.pe_core.specs.Bytes.{le}
 use Rattle.pe_core.specs.Rows.{each}
 use Rattle.pe_core.specs.SectionIndex.{offset_or_end}
@@ -20,11 +21,6 @@ no_text b p le = ap text_to_zero (drop_all p b le) ∙ zero_missing [] refl
 pub text_or_end : (b : List ℕ) (offset : Option ℕ) → length b < 2 ^ 64 → text_at b (offset_or_end offset) ≡ option_and_then (text_at b) offset
 text_or_end b None lt = no_text b (2 ^ 64 - 1) (omega arith)
 text_or_end b (Some p) lt = refl
-
-pub each-length : {X : Type 0} (f : ℕ → X) (n : ℕ) → length (each f n) ≡ n
-unfolding each
-each-length f zero = refl
-each-length f (suc n) = length-append (each f n) (f n ∷ []) ∙ (omega (arith, each-length f n))
 
 consed : {X : Type 0} (o : Option X) (xs ys zs : List X) → zs ≡ xs ++ ys → cons_option o zs ≡ cons_option o xs ++ ys
 consed None xs ys zs e = e
@@ -45,7 +41,7 @@ from_table offset b d zero lt = refl
 from_table offset b d (suc n) lt =
     let offsets : ℕ → ℕ = λ i. offset_or_end (offset (le d.names (4 * i) 4)) in
     let texts : List (Option (List ℕ)) = map (text_at b) (each offsets n) in
-    let many : 0 + length texts ≡ n = omega (arith, length-map (each offsets n) (text_at b), each-length offsets n) in
+    let many : 0 + length texts ≡ n = omega (arith, length-map (each offsets n) (text_at b), length-each offsets n) in
     let text : text_at b (offsets n) ≡ text_at_address offset b (le d.names (4 * n) 4) = text_or_end b (offset (le d.names (4 * n) 4)) lt in
     ap (exports_from offset d 0) (map-append (text_at b) (each offsets n) (offsets n ∷ []))
     ∙ exports_from-append offset d 0 texts (text_at b (offsets n) ∷ [])

@@ -3,11 +3,11 @@ use Rattle.std.proofs.Common.{◌≡◌, ℕ, zero, suc, ◌+◌, ◌-◌, ◌/�
 use Rattle.std.specs.Prelude.{min}
 use Rattle.std.proofs.lemmas.Bool.{cases_lt}
 use Rattle.std.proofs.lemmas.List.{append-nil, drop_all, drop_more, take-append-le, take_all}
+use Rattle.pe_core.proofs.EntryItems.{length-each}
 use Rattle.pe_core.specs.Imports.{EntryView, ImportRecordView, first_imports, import_entries, import_entry_at, import_of, import_record_view, imports}
 use Rattle.pe_core.specs.Gathered.{all_or_refusal}
 use Rattle.pe_core.specs.Rows.{each}
 use Rattle.pe_core.specs.declared.import.SyntheticImportDirectoryEntry.{SyntheticImportDirectoryEntry}
-use Rattle.pe_core.proofs.ExportLists.{each-length}
 
 -- the entries of the records from record i on
 abbrev left : ℕ → List SyntheticImportDirectoryEntry → ℕ → List EntryView
@@ -42,7 +42,7 @@ pub counted-more : (w : ℕ) (records : List SyntheticImportDirectoryEntry) (i c
 counted-more w records i count sum n d c lt is more =
     let there : length (left w records i) ≡ n + length (left w records (i + 1)) =
     ap length (left-next w records i d lt) ∙ length-append (each (import_entry_at w (import_record_view (get_or records i d))) (many w (get_or records i d))) (left w records (i + 1))
-    ∙ ap (λ k. k + length (left w records (i + 1))) (each-length (import_entry_at w (import_record_view (get_or records i d))) (many w (get_or records i d)) ∙ sym is) in
+    ∙ ap (λ k. k + length (left w records (i + 1))) (length-each (import_entry_at w (import_record_view (get_or records i d))) (many w (get_or records i d)) ∙ sym is) in
     record { small = omega (arith, more); rest = omega (arith, c.rest, there, more) }
 
 pub counted-done : (w : ℕ) (records : List SyntheticImportDirectoryEntry) (i count : ℕ) → EntriesCounted w records i count → length records ≤ i
@@ -72,10 +72,10 @@ take-each f zero m le =
     let none : m ≡ 0 = omega arith in
     subst (λ i. take i (each f zero) ≡ each f i) (sym none) refl
 take-each f (suc n) m le = ⊎_elim
-    (λ (h : m < suc n). take-append-le m (each f n) (f n ∷ []) (omega (arith, h, each-length f n)) ∙ take-each f n m (omega (arith, h)))
+    (λ (h : m < suc n). take-append-le m (each f n) (f n ∷ []) (omega (arith, h, length-each f n)) ∙ take-each f n m (omega (arith, h)))
     (λ (h : suc n ≤ m).
     let all : suc n ≡ m = omega (arith, h, le) in
-    take_all m (each f (suc n)) (omega (arith, h, each-length f (suc n))) ∙ ap (each f) all)
+    take_all m (each f (suc n)) (omega (arith, h, length-each f (suc n))) ∙ ap (each f) all)
     (cases_lt m (suc n))
 
 take-past : {X : Type 0} (xs ys : List X) (m k : ℕ) → m ≡ length xs + k → take m (xs ++ ys) ≡ xs ++ take k ys
@@ -91,21 +91,21 @@ pub read-more : (w : ℕ) (records : List SyntheticImportDirectoryEntry) (most i
 read-more w records most i n entries pushed d r lt is more =
     let record_of : ImportRecordView = import_record_view (get_or records i d) in
     let room : ℕ = most - length entries in
-    let long : length pushed ≡ length entries + n = ap length more ∙ length-append entries (each (import_entry_at w record_of) n) ∙ ap (λ k. length entries + k) (each-length (import_entry_at w record_of) n) in
+    let long : length pushed ≡ length entries + n = ap length more ∙ length-append entries (each (import_entry_at w record_of) n) ∙ ap (λ k. length entries + k) (length-each (import_entry_at w record_of) n) in
     let split : take room (left w records i) ≡ each (import_entry_at w record_of) n ++ take (most - length pushed) (left w records (i + 1)) =
     ap (take room) (left-next w records i d lt)
     ∙ ⊎_elim
     (λ (h : room < many w (get_or records i d)).
     let all : n ≡ room = omega (arith, is, h) in
     let full : most - length pushed ≡ 0 = omega (arith, long, all, r.few) in
-    take-append-le room (each (import_entry_at w record_of) (many w (get_or records i d))) (left w records (i + 1)) (omega (arith, h, each-length (import_entry_at w record_of) (many w (get_or records i d))))
+    take-append-le room (each (import_entry_at w record_of) (many w (get_or records i d))) (left w records (i + 1)) (omega (arith, h, length-each (import_entry_at w record_of) (many w (get_or records i d))))
     ∙ take-each (import_entry_at w record_of) (many w (get_or records i d)) room (omega (arith, h))
     ∙ ap (each (import_entry_at w record_of)) (sym all)
     ∙ sym (append-nil (each (import_entry_at w record_of) n))
     ∙ ap (λ k. each (import_entry_at w record_of) n ++ take k (left w records (i + 1))) (sym full))
     (λ (h : many w (get_or records i d) ≤ room).
     let all : many w (get_or records i d) ≡ n = omega (arith, is, h) in
-    take-past (each (import_entry_at w record_of) (many w (get_or records i d))) (left w records (i + 1)) room (most - length pushed) (omega (arith, long, all, r.few, h, each-length (import_entry_at w record_of) (many w (get_or records i d))))
+    take-past (each (import_entry_at w record_of) (many w (get_or records i d))) (left w records (i + 1)) room (most - length pushed) (omega (arith, long, all, r.few, h, length-each (import_entry_at w record_of) (many w (get_or records i d))))
     ∙ ap (λ k. each (import_entry_at w record_of) k ++ take (most - length pushed) (left w records (i + 1))) all)
     (cases_lt room (many w (get_or records i d))) in
     record {

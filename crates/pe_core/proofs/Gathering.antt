@@ -3,24 +3,13 @@ use Rattle.std.proofs.Common.{◌≡◌, ℕ, zero, suc, ◌+◌, ◌<◌, ◌�
 use Rattle.std.proofs.Math.Seq.{drop-cons, get_or-append_seam}
 use Rattle.std.proofs.lemmas.Bool.{cases_lt}
 use Rattle.std.proofs.lemmas.List.{append-nil, get_or_append_left}
+use Rattle.pe_core.proofs.EntryItems.{length-each, get_or-each}
 use Rattle.pe_core.specs.Gathered.{with_rest, up_to_none}
 use Rattle.pe_core.specs.Refusals.{Refusal}
 use Rattle.pe_core.specs.Rows.{each}
-use Rattle.pe_core.proofs.ExportLists.{each-length}
-
-pub get_or-each : {X : Type 0} (f : ℕ → X) (n i : ℕ) (d : X) → i < n → get_or (each f n) i d ≡ f i
-unfolding each
-get_or-each f zero i d lt = absurd (omega arith)
-get_or-each f (suc n) i d lt = ⊎_elim
-    (λ (h : i < n). get_or_append_left (each f n) (f n ∷ []) d i (omega (arith, h, each-length f n)) ∙ get_or-each f n i d h)
-    (λ (h : n ≤ i).
-    let same : i ≡ length (each f n) = omega (arith, h, lt, each-length f n) in
-    let is : n ≡ i = omega (arith, h, lt) in
-    ap (λ k. get_or (each f n ++ f n ∷ []) k d) same ∙ get_or-append_seam (each f n) (f n) [] d ∙ ap f is)
-    (cases_lt i n)
 
 pub drop-each : {X : Type 0} (f : ℕ → X) (n i : ℕ) → i < n → drop i (each f n) ≡ f i ∷ drop (suc i) (each f n)
-drop-each f n i lt = drop-cons (each f n) i (f i) (omega (arith, lt, each-length f n)) ∙ ap (λ x. x ∷ drop (suc i) (each f n)) (get_or-each f n i (f i) lt)
+drop-each f n i lt = drop-cons (each f n) i (f i) (omega (arith, lt, length-each f n)) ∙ ap (λ x. x ∷ drop (suc i) (each f n)) (get_or-each f n i (f i) lt)
 
 pub with_none : {X R : Type 0} (r : Result (List X) R) → with_rest [] r ≡ r
 with_none (Ok xs) = refl

@@ -7,6 +7,7 @@ use Rattle.std.proofs.Math.Nat.{mul-suc, mul-le-mul_right}
 use Rattle.std.proofs.lemmas.Bool.Decides.{nat_tests}
 use Rattle.std.proofs.Math.Seq.{drop-cons}
 use Rattle.std.proofs.lemmas.List.{append-nil, drop_all, get_or-map, length-map, map-append}
+use Rattle.pe_core.proofs.EntryItems.{length-each, get_or-each}
 use Rattle.pe_core.specs.declared.error.Error.{Error}
 use Rattle.pe_core.specs.declared.error.Error.TheVariants as errors
 use Rattle.pe_core.specs.declared.import_list.Entry.{Entry}
@@ -22,8 +23,8 @@ use Rattle.pe_core.specs.Refusals.{Refusal, Short, UnlessMemory, kind_of, ◌>>=
 use Rattle.pe_core.specs.Rows.{each}
 use Rattle.pe_core.specs.SectionIndex.{offset_or_end}
 use Rattle.pe_core.specs.Text.{text_at, texts_of}
-use Rattle.pe_core.proofs.ExportLists.{each-length, text_or_end}
-use Rattle.pe_core.proofs.Gathering.{Gathered, gathered-start, gathered-more, gathered-done, gathered-refused, get_or-each, with_none, with_one}
+use Rattle.pe_core.proofs.ExportLists.{text_or_end}
+use Rattle.pe_core.proofs.Gathering.{Gathered, gathered-start, gathered-more, gathered-done, gathered-refused, with_none, with_one}
 
 -- the first k entries are there and none is zero
 pub record EntriesRead (w : ℕ) (b : List ℕ) (p k : ℕ) : Type 0 where
@@ -176,16 +177,16 @@ pub names_are : (offset : ℕ → Option ℕ) (b : List ℕ) (p n : ℕ) (offset
 names_are offset b p n offsets names small are texts = record {
   are = λ i d lt.
       let f : ℕ → ℕ = λ i. offset_or_end (offset (import_entry b (p + 20 * i)).name_rva) in
-      let many : length names ≡ n = sym (length-map names (option_map (λ (s : Bor (List ℕ)). s.now))) ∙ ap length texts ∙ length-map offsets (text_at b) ∙ ap length are ∙ each-length f n in
+      let many : length names ≡ n = sym (length-map names (option_map (λ (s : Bor (List ℕ)). s.now))) ∙ ap length texts ∙ length-map offsets (text_at b) ∙ ap length are ∙ length-each f n in
       sym (get_or-map (option_map (λ (s : Bor (List ℕ)). s.now)) names i d None lt)
       ∙ ap (λ (l : List (Option (List ℕ))). get_or l i None) (texts ∙ ap (map (text_at b)) are)
-      ∙ get_or-map (text_at b) (each f n) i 0 None (omega (arith, lt, many, each-length f n))
+      ∙ get_or-map (text_at b) (each f n) i 0 None (omega (arith, lt, many, length-each f n))
       ∙ ap (text_at b) (get_or-each f n i 0 (omega (arith, lt, many)))
       ∙ text_or_end b (offset (import_entry b (p + 20 * i)).name_rva) small;
 }
 
 pub as_many : (b : List ℕ) (n : ℕ) (f : ℕ → ℕ) (offsets : List ℕ) (names : List (Option (Bor (List ℕ)))) → offsets ≡ each f n → texts_of names ≡ map (text_at b) offsets → n ≡ length names
-as_many b n f offsets names are texts = sym (ap length are ∙ each-length f n) ∙ sym (length-map offsets (text_at b)) ∙ sym (ap length texts) ∙ length-map names (option_map (λ (s : Bor (List ℕ)). s.now))
+as_many b n f offsets names are texts = sym (ap length are ∙ length-each f n) ∙ sym (length-map offsets (text_at b)) ∙ sym (ap length texts) ∙ length-map names (option_map (λ (s : Bor (List ℕ)). s.now))
 
 pub ruleset all_named = (names_are, as_many)
 

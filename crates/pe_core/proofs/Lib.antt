@@ -1,4 +1,5 @@
 pub mod Steps
+pub mod Ranges
 pub mod Map
 pub mod SectionCuts
 pub mod SectionHalves

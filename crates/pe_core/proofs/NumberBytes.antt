@@ -57,3 +57,13 @@ bytes_of-le b p (suc n) small h =
 pub range_join : (b : List ℕ) (p q r : ℕ) → p ≤ q → q ≤ r → r ≤ length b → slice_range b p q ++ slice_range b q r ≡ slice_range b p r
 range_join b p q r h i l =
     same_lists _ _ (search (rules, places)) (λ k d lt. grind (arith, places))
+
+-- a number of four bytes
+pub le_small : (b : List ℕ) (p : ℕ) → AreBytes b → le b p 4 < 2 ^ 32
+unfolding le
+le_small b p small =
+    let b0 = small (p + 0) in
+    let b1 = small (p + 1) in
+    let b2 = small (p + 2) in
+    let b3 = small (p + 3) in
+    omega arith

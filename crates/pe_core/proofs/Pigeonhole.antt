@@ -51,7 +51,7 @@ keys_distinct step key follows x zero s = tt
 keys_distinct step key follows x (suc k) s =
     IsDistinct-cons eqb (key x) (keys step key s.0 k s.2) (keys_apart step key follows x s.0 k (suc k) s.2 s (omega arith)) (keys_distinct step key follows s.0 k s.2)
 
-or_second : (b c : Bool) → b ≡ false → (b || c) ≡ true → c ≡ true
+pub or_second : (b c : Bool) → b ≡ false → (b || c) ≡ true → c ≡ true
 or_second false c e h = h
 or_second true c e h = absurd (false≢true (sym e))
 
@@ -153,6 +153,13 @@ more_steps_than_keys {X} step key n x follows below more =
 pub key_comes_again : {X : Type 0} (step : X → Option X) (key : X → ℕ) (x y z : X) (i d : ℕ) → KeyDecides step key → after step i x ≡ Some y → after step (d + 1) y ≡ Some z → key y ≡ key z → NeverStops step x
 key_comes_again {X} step key x y z i d decides to_y to_z same =
     repeats step key decides x y z i d to_y (subst (λ (m : ℕ). after step m y ≡ Some z) (add-one d) to_z) same
+
+-- the last state
+pub last_state : {X : Type 0} (step : X → Option X) (j : ℕ) (x : X) → StopsAfter step x j → (y : X) × (after step j x ≡ Some y) × (step y ≡ None)
+last_state step zero x s = (x, refl, s)
+last_state step (suc j) x s =
+    let (y, to, none) = last_state step j s.0 s.2 in
+    (y, rw s.1 to, none)
 
 -- steps come to one last state
 stop_once_at : {X : Type 0} (step : X → Option X) (j k : ℕ) (o : Option X) (y z : X) → ((w : X) → after step j w ≡ Some y → after step k w ≡ Some z → y ≡ z) → option_and_then (after step j) o ≡ Some y → option_and_then (after step k) o ≡ Some z → y ≡ z

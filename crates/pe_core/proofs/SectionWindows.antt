@@ -9,11 +9,8 @@ use Rattle.pe_core.specs.SectionIndex.{Agrees}
 use Rattle.pe_core.specs.SectionMap.{SectionMapView}
 use Rattle.pe_core.specs.SectionPieces.{Rises}
 use Rattle.pe_core.specs.SectionWindow.{IsPieceOf, IsWindow}
-use Rattle.pe_core.proofs.SectionCuts.{last_starts}
+use Rattle.pe_core.proofs.SectionCuts.{last_starts, same_start}
 use Rattle.pe_core.proofs.SectionHalves.{found}
-
-same_start : (ps : List Piece) (i : ℕ) (d e : Piece) → i < length ps → (get_or ps i d).start ≡ (get_or ps i e).start
-same_start ps i d e h = ap (λ (y : Piece). y.start) (get_or_default ps i d e h)
 
 -- y is at or after the start of piece i - 1, and so of the pieces before it
 before_of : (ps : List Piece) (i y : ℕ) (d : Piece) → Rises ps → 0 < i → i ≤ length ps → (get_or ps (i - 1) d).start ≤ y → (k : ℕ) (e : Piece) → k < i → k < length ps → (get_or ps k e).start ≤ y

@@ -5,6 +5,7 @@ use Rattle.std.specs.List.{flat_map}
 use Rattle.std.proofs.lemmas.Bool.Decides.{nat_tests}
 use Rattle.std.proofs.lemmas.Grind.{flat_map-append}
 use Rattle.std.proofs.lemmas.List.{append-nil, places}
+use Rattle.pe_core.proofs.Ranges.{length_range, inside_if_held}
 use Rattle.pe_core.proofs.NumberBytes.{range_join}
 use Rattle.pe_core.proofs.SpelledRecords.{spelled_standard_fields_32, spelled_standard_fields_64, spelled_windows_fields_32, spelled_windows_fields_64, spelled_directory}
 use Rattle.pe_core.specs.Bytes.{AreBytes, le, holds, range}
@@ -72,9 +73,6 @@ by_width false b p small e h =
     let inside : p + 96 + 8 * n ≤ length b = rw e at h in
     simp (e, magic32 b p) (spelled_pe32 b p n small inside)
 
-held : (b : List ℕ) (p n : ℕ) → holds b p n ≡ true → p + n ≤ length b
-held b p n e = grind (arith, nat_tests)
-
 -- how long the optional header is that begins at p
 abbrev length_of : List ℕ → ℕ → ℕ
 length_of b p = directories_offset (is_pe32_plus b p) + 8 * kept (optional_header b p).windows_fields.number_of_rva_and_sizes
@@ -86,11 +84,8 @@ accepted b p o e =
     let last = passed_last (holds b p 2) (le b p 2 == 0x10B || is_pe32_plus b p) (holds b p (directories_offset (is_pe32_plus b p)))
     (holds b (p + directories_offset (is_pe32_plus b p)) (8 * kept (optional_header b p).windows_fields.number_of_rva_and_sizes))
     Short BadMagic Short Short (optional_header b p) o e in
-    let inside = held b (p + directories_offset (is_pe32_plus b p)) (8 * kept (optional_header b p).windows_fields.number_of_rva_and_sizes) last.0 in
+    let inside = inside_if_held b (p + directories_offset (is_pe32_plus b p)) (8 * kept (optional_header b p).windows_fields.number_of_rva_and_sizes) last.0 in
     (omega (arith, inside), last.1)
-
-pub length-range : (b : List ℕ) (p n : ℕ) → p + n ≤ length b → length (slice_range b p (p + n)) ≡ n
-length-range b p n h = grind (arith, places)
 
 -- its spelling stands at the place
 pub spelled_optional : (b : List ℕ) (p : ℕ) (o : OptionalHeaderView) → AreBytes b → optional_header_at b p ≡ Ok o → range b p (length (spell_optional o)) ≡ spell_optional o
@@ -101,5 +96,5 @@ spelled_optional b p o small e =
     let inside : p + directories_offset (is_pe32_plus b p) + n ≤ length b = omega (arith, found.0) in
     let spelled : spell_optional (optional_header b p) ≡ slice_range b p (p + directories_offset (is_pe32_plus b p) + n) = by_width (is_pe32_plus b p) b p small refl inside in
     let same : spell_optional o ≡ slice_range b p (p + length_of b p) = sym (ap spell_optional found.1) ∙ (rw end at spelled) in
-    let count : length (spell_optional o) ≡ length_of b p = ap length same ∙ length-range b p (length_of b p) found.0 in
+    let count : length (spell_optional o) ≡ length_of b p = ap length same ∙ length_range b p (length_of b p) found.0 in
     rw count (sym same)

@@ -1,5 +1,5 @@
 -- Steps from left to right are the first test that fails.
-use Rattle.std.proofs.Common.{◌≡◌, ℕ, ◌+◌, arith, Bool, true, false, cond, List, [], ◌∷◌, Option, Some, None, Ok, refl, ap, ◌∙◌}
+use Rattle.std.proofs.Common.{◌≡◌, ℕ, ◌+◌, arith, Bool, true, false, cond, List, [], ◌∷◌, Option, Some, None, Result, Ok, Err, refl, ap, ◌∙◌}
 use Rattle.std.specs.Prelude.{◌==◌, slice_range}
 use Rattle.pe_core.specs.Bytes.{le}
 use Rattle.pe_core.specs.Refusals.{Refusal, outcome, ◌>>=◌}
@@ -29,3 +29,23 @@ same b mode =
     let q = p + 24 in
     let e = last (coff.size_of_optional_header == 0) (optional_header_tests b q) (optional_header b q) make in
     grind (arith, e)
+
+-- what two steps give, each gives
+pub given : {X Y : Type 0} (r : Result X Refusal) (f : X → Result Y Refusal) (y : Y) → (r >>= f) ≡ Ok y → (x : X) × (r ≡ Ok x) × (f x ≡ Ok y)
+given (Ok x) f y e = (x, refl, e)
+given (Err r) f y e = absurd cc
+
+pub same_inside : {X : Type 0} (x y : X) → ◌≡◌ {A = Result X Refusal} (Ok x) (Ok y) → x ≡ y
+same_inside x y e = cc
+
+pub one_ok : {X : Type 0} (r : Result X Refusal) (x y : X) → r ≡ Ok x → r ≡ Ok y → x ≡ y
+one_ok r x y e f = cc
+
+pub one_err : {X : Type 0} (r : Result X Refusal) (x y : Refusal) → r ≡ Err x → r ≡ Err y → x ≡ y
+one_err r x y e f = cc
+
+pub not_both : {X : Type 0} (r : Result X Refusal) (x : X) (y : Refusal) → r ≡ Ok x → r ≡ Err y → ⊥
+not_both r x y e f = cc
+
+pub other_value : {X Y : Type 0} (j k : Refusal) → ◌≡◌ {A = Result X Refusal} (Err j) (Err k) → ◌≡◌ {A = Result Y Refusal} (Err j) (Err k)
+other_value j k h = let same : j ≡ k = cc in ap (λ (e : Refusal). Err e) same

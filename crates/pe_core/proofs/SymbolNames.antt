@@ -6,6 +6,7 @@ use Rattle.std.specs.Option.{option_map, option_and_then}
 use Rattle.std.proofs.lemmas.Bool.{cases_lt}
 use Rattle.std.proofs.lemmas.Bool.Decides.{nat_tests}
 use Rattle.std.proofs.lemmas.List.{get_or-map, length-map, map-append}
+use Rattle.pe_core.proofs.EntryItems.{get_or-each}
 use Rattle.pe_core.specs.declared.error.Error.{Error}
 use Rattle.pe_core.specs.Gathered.{all_or_refusal, with_rest, up_to_none}
 use Rattle.pe_core.specs.Refusals.{Refusal, UnlessMemory, kind_of, ◌>>=◌}
@@ -16,7 +17,7 @@ use Rattle.pe_core.specs.SymbolSteps.{AreStringOffsets, name_by_text, named_at}
 use Rattle.pe_core.specs.Text.{text_at, texts_of}
 use Rattle.pe_core.specs.declared.symbol.Symbol.{Symbol}
 use Rattle.pe_core.proofs.ExportLists.{text_or_end}
-use Rattle.pe_core.proofs.Gathering.{Gathered, drop-each, gathered-start, gathered-more, gathered-done, gathered-refused, get_or-each}
+use Rattle.pe_core.proofs.Gathering.{Gathered, drop-each, gathered-start, gathered-more, gathered-done, gathered-refused}
 use Rattle.pe_core.proofs.ImportLists.{unless_memory}
 use Rattle.pe_core.proofs.SymbolRows.{first, row_of-next}
 

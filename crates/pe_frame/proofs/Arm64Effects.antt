@@ -1,5 +1,6 @@
 -- Undoing codes is reverting the effects of what their instructions did.
 use Rattle.std.proofs.Common.{◌≡◌, ℕ, zero, suc, List, [], ◌∷◌, ◌++◌, drop, Option, Some, None, Result, Ok, Err, refl, ap, sym, ◌∙◌, option_map, option_and_then}
+use Rattle.pe_frame.proofs.Tails.{then_same}
 use Rattle.pe_unwind.specs.declared.arm64.codes.Arm64UnwindCode.{Arm64UnwindCode}
 use Rattle.pe_frame.specs.declared.arm64.operation.Arm64Operation.{Arm64Operation}
 use Rattle.pe_frame.specs.declared.arm64.registers.Arm64Registers.{Arm64Registers}
@@ -12,10 +13,6 @@ use Rattle.pe_frame.specs.Arm64Machine.{Arm64Machine, IsArm64Prolog}
 pub then_assoc : {A B C : Type 0} (x : Result A FrameError) (f : A → Result B FrameError) (k : B → Result C FrameError) → ((x >>= f) >>= k) ≡ (x >>= λ a. f a >>= k)
 then_assoc (Ok a) f k = refl
 then_assoc (Err e) f k = refl
-
-pub then_same : {A B : Type 0} (x : Result A FrameError) (f k : A → Result B FrameError) → ((a : A) → f a ≡ k a) → (x >>= f) ≡ (x >>= k)
-then_same (Ok a) f k h = h a
-then_same (Err e) f k h = refl
 
 pub reverted-append : (m : ℕ → Option ℕ) (a b : List Arm64Effect) (g : Arm64Registers) → reverted_all m (a ++ b) g ≡ (reverted_all m a g >>= reverted_all m b)
 reverted-append m [] b g = refl

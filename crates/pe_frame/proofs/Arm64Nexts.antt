@@ -1,6 +1,7 @@
 -- `save_next`, so many in a row before another code.
 use Rattle.std.proofs.Common.{◌≡◌, ℕ, zero, suc, ◌+◌, true, false, List, [], ◌∷◌, Option, None, Result, Ok, Err, refl, ap, sym, ◌∙◌, arith, option_and_then}
 use Rattle.std.proofs.lemmas.Grind.{common_steps}
+use Rattle.pe_frame.proofs.Tails.{then_same}
 use Rattle.pe_unwind.specs.declared.arm64.codes.Arm64UnwindCode.{Arm64UnwindCode}
 use Rattle.pe_unwind.specs.declared.arm64.codes.Arm64UnwindCode.TheVariants.{SaveNext}
 use Rattle.pe_frame.specs.declared.arm64.operation.Arm64Operation.{Arm64Operation}
@@ -11,7 +12,7 @@ use Rattle.pe_frame.specs.Undoing.{◌>>=◌}
 use Rattle.pe_frame.specs.Arm64Operations.{is_save_next, operation_of, operation_in, next_operation, pair_after}
 use Rattle.pe_frame.specs.Arm64Undoing.{undone_as, undone_codes}
 use Rattle.pe_frame.specs.Arm64Reading.{with_nexts}
-use Rattle.pe_frame.proofs.Arm64Effects.{then_assoc, then_same}
+use Rattle.pe_frame.proofs.Arm64Effects.{then_assoc}
 
 pub is_the_next : (c : Arm64UnwindCode) → is_save_next c ≡ true → c ≡ SaveNext
 is_the_next c e = grind (arith, common_steps)

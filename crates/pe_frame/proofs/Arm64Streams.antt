@@ -3,6 +3,7 @@ use Rattle.std.proofs.Common.{◌≡◌, ℕ, zero, suc, ◌<◌, ◌≤◌, inl
 use Rattle.std.proofs.lemmas.Grind.{common_steps}
 use Rattle.std.proofs.lemmas.List.{length-drop, nil_from_length}
 use Rattle.std.proofs.lemmas.List.Elements.{All-drop}
+use Rattle.pe_unwind.proofs.Arm64Streams.{starts_some}
 use Rattle.pe_core.specs.Refusals.{Arm64Cut}
 use Rattle.pe_core.specs.declared.error.Error.TheVariants.{Malformed}
 use Rattle.pe_core.specs.declared.error.Reason.TheVariants as reasons
@@ -27,10 +28,6 @@ use Rattle.pe_frame.proofs.OneStep.{same_then}
 -- no bytes are a truncated code, and start with none
 no_bytes : IsTruncatedArm64Code []
 no_bytes = record { code = Nop; missing = 0xE3 ∷ []; legal = tt; some = omega arith; spelled = refl }
-
-starts_some : (bytes : List ℕ) (c : Arm64UnwindCode) → StartsWithArm64Code bytes c → 0 < length bytes
-starts_some [] c h = absurd (cut_starts_none [] no_bytes c h)
-starts_some (x ∷ bytes) c h = omega arith
 
 -- what is read first stands before what is left
 more_codes : (R : List ℕ → Type 0) (bytes : List ℕ) (c : Arm64UnwindCode) (n : ℕ) (cs : List Arm64UnwindCode) → IsFirstCode bytes (Ok (Some (c, n))) → CodesThen R (drop n bytes) cs → CodesThen R bytes (c ∷ cs)

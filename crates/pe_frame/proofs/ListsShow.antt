@@ -1,6 +1,7 @@
 -- Memory by a list of pieces shows what a machine's memory has, and is the memory of the pieces.
 use Rattle.std.proofs.Common.{◌≡◌, ℕ, zero, suc, ◌+◌, ◌-◌, ◌^◌, ◌<◌, ◌≤◌, Bool, true, false, List, [], ◌∷◌, length, drop, get_or, Option, Some, refl, ap, sym, ◌∙◌, arith, length-drop}
 use Rattle.std.proofs.lemmas.List.{get_or-drop, get_or-take, length-take-le}
+use Rattle.pe_core.proofs.Ranges.{length_range}
 use Rattle.pe_core.specs.Bytes.{range}
 use Rattle.pe_frame.specs.Machine.{loaded}
 use Rattle.pe_frame.specs.MemoryLists.{AreListed, ArePieces, IsPiece, list_byte, listed_byte, listed_word, lists_byte}
@@ -28,18 +29,13 @@ word_of_list bytes pieces a memory shows one fits =
 
 -- ---- the memory of the pieces
 
-length_of_range : (bytes : List ℕ) (o n : ℕ) → o + n ≤ length bytes → length (range bytes o n) ≡ n
-length_of_range bytes o n inside =
-    let size : o + n - o ≡ n = omega arith in
-    length-take-le (o + n - o) (drop o bytes) (omega (arith, inside, length-drop o bytes)) ∙ size
-
 at_range : (bytes : List ℕ) (o n i : ℕ) → i < n → get_or (range bytes o n) i 0 ≡ get_or bytes (o + i) 0
 at_range bytes o n i small =
     let size : i < o + n - o = omega (arith, small) in
     get_or-take (o + n - o) (drop o bytes) i 0 size ∙ get_or-drop o bytes i 0
 
 same_size : (bytes : List ℕ) (p : MemoryPiece) (s : Stack) → IsPiece bytes p s → piece_size s ≡ p.length
-same_size bytes p s is = rw is.same (length_of_range bytes p.offset p.length is.inside)
+same_size bytes p s is = rw is.same (length_range bytes p.offset p.length is.inside)
 
 same_has : (bytes : List ℕ) (p : MemoryPiece) (s : Stack) (a : ℕ) → IsPiece bytes p s → has_byte a s ≡ lists_byte a p
 same_has bytes p s a is = rw (is.start, same_size bytes p s is) refl

@@ -6,6 +6,7 @@ use Rattle.std.proofs.lemmas.Bool.Decides.{nat_tests}
 use Rattle.std.specs.List.{find, list_all}
 use Rattle.std.specs.Option.{is_none}
 use Rattle.std.specs.List.Sorted.{IsNonDecreasingBy}
+use Rattle.pe_core.proofs.Equality.{both}
 use Rattle.pe_frame.specs.AddressRanges.{has_address, FirstAscend, AreAscending, IsCountUpTo, Overlaps}
 
 -- ---- the first element that passes
@@ -25,10 +26,6 @@ found_at p (x ∷ xs) (suc i) d lt none this =
     let first : p x ≡ false = none 0 (omega arith) in
     rw first (found_at p xs i d (omega (arith, lt)) (λ k h. none (suc k) (omega (arith, h))) this)
 
-both_true : (s t : Bool) → (s && t) ≡ true → (s ≡ true) × (t ≡ true)
-both_true true t h = (refl, h)
-both_true false t h = absurd (cc h)
-
 passes : {X : Type 0} (p : X → Bool) (y x : X) (t : Bool) (rest : Option X) → p y ≡ t → (rest ≡ Some x → p x ≡ true) → cond t (Some y) rest ≡ Some x → p x ≡ true
 passes {X} p y x true rest h more e = let same : y ≡ x = cc e in subst (λ (z : X). p z ≡ true) same h
 passes p y x false rest h more e = more e
@@ -46,7 +43,7 @@ all_by q y x false rest h more e = more e
 pub found_of_all : {X : Type 0} (p q : X → Bool) (xs : List X) (x : X) → list_all q xs ≡ true → find p xs ≡ Some x → q x ≡ true
 found_of_all p q [] x all e = absurd (cc e)
 found_of_all p q (y ∷ ys) x all e =
-    let both = both_true (q y) (list_all q ys) all in
+    let both = both (q y) (list_all q ys) all in
     all_by q y x (p y) (find p ys) both.0 (found_of_all p q ys x both.1) e
 
 -- ---- one range

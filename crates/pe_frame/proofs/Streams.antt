@@ -6,7 +6,7 @@ use Rattle.pe_unwind.specs.declared.unwind_code.UnwindCode.{UnwindCode}
 use Rattle.pe_unwind.specs.declared.unwind_code.UnwindOperation.{UnwindOperation}
 use Rattle.pe_unwind.specs.CodeStream.{CodeStream, AreItems, ReturnsCode, with_left}
 use Rattle.pe_unwind.specs.UnwindCodes.{StartsWithCode}
-use Rattle.pe_unwind.proofs.Streams.{one_code}
+use Rattle.pe_unwind.proofs.Streams.{one_code, starts_some}
 use Rattle.pe_frame.specs.declared.error.FrameError.{FrameError}
 use Rattle.pe_frame.specs.declared.record.Survey.{Survey}
 use Rattle.pe_frame.specs.declared.registers.Registers.{Registers}
@@ -64,11 +64,6 @@ surveyed_code limit a c rest = with_code limit a c (known_codes rest)
 
 pub surveyed_none : (limit : Option ℕ) (a : Survey) → all_surveyed limit a (known_codes []) ≡ Ok a
 surveyed_none limit a = ap Ok (same_survey (joined_surveys a (surveyed limit [])) a (or_none a.sets_frame) (or_none a.has_set_frame) (or_none a.is_interrupted))
-
-starts_some : (v f : ℕ) (b : List ℕ) (code : UnwindCode) (n : ℕ) → StartsWithCode v f b code n → 0 < length b
-starts_some v f [] code zero h = absurd h.1
-starts_some v f [] code (suc n) h = absurd h.1
-starts_some v f (x ∷ b) code n h = omega arith
 
 -- the codes of a stream, of which none is refused
 abbrev pub AreCodes : CodeStream → List UnwindCode → Type 0

@@ -5,6 +5,7 @@ use Rattle.std.specs.Prelude.{◌||◌, ◌==◌, not, min, max, nat_le, nat_lt}
 use Rattle.std.specs.List.{list_all}
 use Rattle.std.specs.Str.{bytes_eq}
 use Rattle.std.proofs.lemmas.Bool.Decides.{nat_tests}
+use Rattle.pe_core.proofs.Equality.{and_true}
 use Rattle.pe_core.proofs.FieldEquality.{sections_equal}
 use Rattle.pe_core.specs.Sections.{raw_end, SharesRawByte}
 use Rattle.pe_core.specs.declared.section_table.SectionTable.{SectionTable}
@@ -27,10 +28,6 @@ or_false false b h = refl
 pub or_right : (a b : Bool) → b ≡ true → (a || b) ≡ true
 or_right true b h = refl
 or_right false b h = h
-
-pub both : (a b : Bool) → a ≡ true → b ≡ true → (a && b) ≡ true
-both true b h k = k
-both false b h k = absurd cc
 
 not_both : (shared same : Bool) → same ≡ true → (shared && not same) ≡ false
 not_both true same h = ap not h
@@ -77,19 +74,19 @@ further s t u h k =
 
 all_so : {X : Type 0} (p q : X → Bool) → ((x : X) → p x ≡ true → q x ≡ true) → (xs : List X) → list_all p xs ≡ true → list_all q xs ≡ true
 all_so p q f [] h = refl
-all_so p q f (x ∷ xs) h = both (q x) (list_all q xs) (f x (and_left _ _ h)) (all_so p q f xs (and_right _ _ h))
+all_so p q f (x ∷ xs) h = and_true (q x) (list_all q xs) (f x (and_left _ _ h)) (all_so p q f xs (and_right _ _ h))
 
 in_front_of_all : (s : SectionTable) (after : List SectionTable) → rises (s ∷ after) ≡ true → list_all (in_front s) after ≡ true
 in_front_of_all s [] h = refl
 in_front_of_all s (t ∷ after) h =
     let here : in_front s t ≡ true = and_left _ _ h in
-    both (in_front s t) (list_all (in_front s) after) here
+    and_true (in_front s t) (list_all (in_front s) after) here
     (all_so (in_front t) (in_front s) (λ u e. further s t u here e) after (in_front_of_all t after (and_right _ _ h)))
 
 pub rising_is_free : (sections : List SectionTable) → rises sections ≡ true → clash_free sections ≡ true
 rising_is_free [] h = refl
 rising_is_free (s ∷ after) h =
-    both (list_all (λ t. not (clash s t)) after) (clash_free after)
+    and_true (list_all (λ t. not (clash s t)) after) (clash_free after)
     (all_so (in_front s) (λ t. not (clash s t)) (λ t e. free s t e) after (in_front_of_all s after h))
     (rising_is_free after (and_right _ _ h))
 
@@ -125,13 +122,13 @@ in_back_of_all : (s : SectionTable) (after : List SectionTable) → falls (s ∷
 in_back_of_all s [] h = refl
 in_back_of_all s (t ∷ after) h =
     let here : in_back s t ≡ true = and_left _ _ h in
-    both (in_back s t) (list_all (in_back s) after) here
+    and_true (in_back s t) (list_all (in_back s) after) here
     (all_so (in_back t) (in_back s) (λ u e. further_after s t u here e) after (in_back_of_all t after (and_right _ _ h)))
 
 pub falling_is_free : (sections : List SectionTable) → falls sections ≡ true → clash_free sections ≡ true
 falling_is_free [] h = refl
 falling_is_free (s ∷ after) h =
-    both (list_all (λ t. not (clash s t)) after) (clash_free after)
+    and_true (list_all (λ t. not (clash s t)) after) (clash_free after)
     (all_so (in_back s) (λ t. not (clash s t)) (λ t e. free_after s t e) after (in_back_of_all s after h))
     (falling_is_free after (and_right _ _ h))
 
@@ -183,4 +180,4 @@ clash_unequal s t h e =
 pub shares_clash : (s t : SectionTable) → SharesRawByte s t → s ≢ t → clash s t ≡ true
 shares_clash s t (q, ((a, b), (c, d))) unequal =
     let shared : nat_lt (max s.pointer_to_raw_data t.pointer_to_raw_data) (min (raw_end s) (raw_end t)) ≡ true = grind (arith, nat_tests) in
-    both _ _ shared (by_cases (same_section s t) (λ e. absurd (unequal (same s t e))) (λ e. ap not e))
+    and_true _ _ shared (by_cases (same_section s t) (λ e. absurd (unequal (same s t e))) (λ e. ap not e))

@@ -5,6 +5,7 @@ use Rattle.std.specs.Prelude.{◌==◌, Option, min, max, nat_le, nat_lt, slice_
 use Rattle.std.proofs.lemmas.List.{ext_get_or, length-replicate, places}
 use Rattle.std.proofs.lemmas.List.Edits.{length-between}
 use Rattle.std.proofs.lemmas.Bool.Decides.{nat_tests}
+use Rattle.pe_core.proofs.Equality.{and_true}
 use Rattle.pe_core.specs.Bytes.{holds, range}
 use Rattle.pe_core.specs.Sections.{raw_end}
 use Rattle.pe_core.specs.Spelling.{spell_section}
@@ -13,7 +14,7 @@ use Rattle.pe_image.specs.Overlay.{Piece, all_fit, byte_after, has_byte, piece}
 use Rattle.pe_image.specs.Pieces.{all_section_pieces, lacking, section_pieces}
 use Rattle.pe_image.specs.Writing.{all_in_source}
 use Rattle.pe_image.specs.WritingSteps.{covered, next_range, parts_outside, put_in_turn, section_parts}
-use Rattle.pe_image.proofs.Clashes.{both, by_cases, or_right}
+use Rattle.pe_image.proofs.Clashes.{by_cases, or_right}
 use Rattle.pe_image.proofs.Overlays.{byte_after_cons, get_or-put, length-put}
 use Rattle.pe_image.proofs.Rows.{and_left, and_right, all_fit_append}
 
@@ -103,7 +104,7 @@ section_parts_fit n c b unit offset s h =
     let e : raw_end s + length zeros ≤ n = grind (arith, nat_tests) in
     let m : nat_le (offset + length (spell_section s)) n ≡ true = and_left _ _ (and_right _ _ h) in
     all_fit_append n x (piece offset (spell_section s) ∷ z)
-    ∙ both _ _ (parts_fit n c s.pointer_to_raw_data raw a) (both _ _ m (parts_fit n c (raw_end s) zeros e))
+    ∙ and_true _ _ (parts_fit n c s.pointer_to_raw_data raw a) (and_true _ _ m (parts_fit n c (raw_end s) zeros e))
 
 -- ---- what the next section covers
 

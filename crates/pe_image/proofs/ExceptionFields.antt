@@ -2,6 +2,7 @@
 use Rattle.std.proofs.Common.{◌≡◌, ℕ, ◌+◌, ◌/◌, ◌≤◌, Bool, true, false, List, length, Option, None, Some, Result, Ok, Err, sym, ap, ◌∙◌, arith}
 use Rattle.std.specs.Prelude.{◌==◌, if◌then◌else◌}
 use Rattle.std.proofs.lemmas.List.{places}
+use Rattle.pe_core.proofs.Ranges.{length_range}
 use Rattle.pe_core.specs.Bytes.{range}
 use Rattle.pe_core.specs.Refusals.{Refusal}
 use Rattle.pe_core.specs.declared.data_directories.DataDirectory.{DataDirectory}
@@ -60,10 +61,7 @@ content_of_bytes law b o c x v h is given = (exceptions_of_bytes law b o c x v h
 pub alignment_of_image : (law : TableLaw) (b : List ℕ) (o : ParseOptions) (c : CoreView) (x : ImageView) (v : ExceptionView) → core_of b o ≡ Ok c → IsImage b o (Ok x) → x.exception_data ≡ Some v → v.alignment ≡ alignment c.header.optional_header
 alignment_of_image law b o c x v h is given = (exceptions_of_bytes law b o c x v h is given).1
 
-length_of_range : (b : List ℕ) (p n : ℕ) → p + n ≤ length b → length (range b p n) ≡ n
-length_of_range b p n h = grind (arith, places)
-
 -- its table has so many whole entries of x64
 pub entries_of_table : (law : TableLaw) (b : List ℕ) (o : ParseOptions) (c : CoreView) (x : ImageView) (v : ExceptionView) → core_of b o ≡ Ok c → IsImage b o (Ok x) → x.exception_data ≡ Some v → length (functions (table_of v)) ≡ v.size / 12
 entries_of_table law b o c x v h is given =
-    law.entries (table_of v) ∙ ap (λ n. n / 12) (length_of_range v.content v.start v.size (exceptions_of_bytes law b o c x v h is given).2)
+    law.entries (table_of v) ∙ ap (λ n. n / 12) (length_range v.content v.start v.size (exceptions_of_bytes law b o c x v h is given).2)

@@ -1,6 +1,7 @@
 -- What an image is where its core is known, and where that is refused.
 use Rattle.std.proofs.Common.{◌≡◌, ◌↔◌, ℕ, List, [], Option, None, Some, Result, Ok, Err, refl, sym, ap, ◌∙◌}
 use Rattle.std.specs.Prelude.{unwrap_or}
+use Rattle.pe_core.proofs.Steps.{not_both}
 use Rattle.pe_core.specs.Refusals.{Refusal, ◌>>=◌}
 use Rattle.pe_core.specs.declared.data_directories.DataDirectory.{DataDirectory}
 use Rattle.pe_core.specs.declared.options.ParseMode.{ParseMode}
@@ -93,13 +94,10 @@ four_never b o c h = rw (demanded_never o.parse_mode (debug_of b o c) h, demande
 same_kind : {X : Type 0} (k e : Refusal) → ◌≡◌ {A = Result X Refusal} (Err k) (Err e) → k ≡ e
 same_kind k e h = cc
 
-never_refused : {X : Type 0} (r : Result X Refusal) (x : X) (e : Refusal) → r ≡ Ok x → r ≡ Err e → ⊥
-never_refused r x e h g = absurd cc
-
 accepted_after : (b : List ℕ) (o : ParseOptions) (c : CoreView) (r : Result ImageView Refusal) (e : Refusal) → o.parse_mode ≡ Permissive → IsAfterCore b o (first_fields_demanded b o c >>= λ u. Ok c) r → r ≡ Err e → ⊥
 accepted_after b o c r e h is refused =
     let (f, are, given) : IsAfterCore b o (Ok c) r = rw (four_never b o c h) at is in
-    never_refused r (with_fields b o c f) e (rw (demanded_never o.parse_mode f h) at given) refused
+    not_both r (with_fields b o c f) e (rw (demanded_never o.parse_mode f h) at given) refused
 
 refused_after : (b : List ℕ) (o : ParseOptions) (q : Result CoreView Refusal) (r : Result ImageView Refusal) (e : Refusal) → o.parse_mode ≡ Permissive → IsAfterCore b o (q >>= λ c. first_fields_demanded b o c >>= λ u. Ok c) r → (r ≡ Err e) ↔ (q ≡ Err e)
 refused_after b o (Err k) r e h is = (λ refused. ap (λ e. Err e) (same_kind {X = ImageView} k e (sym is ∙ refused)), λ refused. is ∙ ap (λ e. Err e) (same_kind {X = CoreView} k e refused))

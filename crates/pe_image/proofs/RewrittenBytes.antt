@@ -4,6 +4,7 @@ use Rattle.std.specs.Prelude.{filter, max, slice_index, slice_range, unwrap_or, 
 use Rattle.std.specs.List.{last_or}
 use Rattle.std.proofs.lemmas.Bool.Decides.{nat_tests}
 use Rattle.std.proofs.lemmas.List.{places, length-replicate}
+use Rattle.pe_core.proofs.Ranges.{inside_if_held}
 use Rattle.pe_core.specs.Bytes.{AreBytes, le, bytes_of, holds, range}
 use Rattle.pe_core.specs.Header.{HeaderView, OptionalHeaderView, header, header_at, header_tests, optional_header, optional_header_tests, optional_header_at}
 use Rattle.pe_core.specs.Imports.{ImportRecordView, ImportView, entry_size}
@@ -38,7 +39,7 @@ use Rattle.pe_core.proofs.EntryItems.{get_or-each, length-each}
 use Rattle.pe_image.proofs.Overlays.{byte_after_cons}
 use Rattle.pe_image.proofs.Permissive.{certificates_alone, core_of_image}
 use Rattle.pe_image.proofs.Rows.{accepted_too}
-use Rattle.pe_image.proofs.SectionsFirst.{core_before, of_two, sections_of_core}
+use Rattle.pe_image.proofs.SectionsFirst.{core_before, of_two, sections_of_core, core_header}
 
 -- bytes that are to stand from place p on are those of b there
 abbrev AreThose : List ℕ → ℕ → List ℕ → Type 0
@@ -128,9 +129,6 @@ value_is [] v y h = cc
 value_is ((true, k) ∷ tests) v y h = value_is tests v y h
 value_is ((false, k) ∷ tests) v y h = absurd cc
 
-held : (b : List ℕ) (p n : ℕ) → holds b p n ≡ true → p + n ≤ length b
-held b p n e = grind (arith, nat_tests)
-
 -- an optional header that is there is accepted
 optional_given : (t : Bool) (tests : List (Bool × Refusal)) (v o : OptionalHeaderView) (w h : HeaderView) → cond t None (Some v) ≡ Some o → outcome (cond t [] tests) w ≡ Ok h → outcome tests v ≡ Ok o
 optional_given true tests v o w h e f = absurd cc
@@ -171,8 +169,8 @@ headers_kept z b mode h o small e f =
     let there : (header b).optional_header ≡ Some o = ap (λ (x : HeaderView). x.optional_header) same ∙ f in
     let given : optional_header_at b (p + 24) ≡ Ok o =
     optional_given ((coff_header b (p + 4)).size_of_optional_header == 0) (optional_header_tests b (p + 24)) (optional_header b (p + 24)) o (header b) h (optional_of b o there) coff.1 in
-    let long : p + 4 + 20 ≤ length b = held b (p + 4) 20 coff.0 in
-    subst (λ (x : HeaderView). AllKept z b (header_pieces x o)) same (parts_kept z b o small (held b 0 64 dos.0) (omega arith) given)
+    let long : p + 4 + 20 ≤ length b = inside_if_held b (p + 4) 20 coff.0 in
+    subst (λ (x : HeaderView). AllKept z b (header_pieces x o)) same (parts_kept z b o small (inside_if_held b 0 64 dos.0) (omega arith) given)
 
 -- ---- sections
 
@@ -297,16 +295,6 @@ field_kept z b false (Some d) cs may small m same = none_kept z b d.virtual_addr
 field_kept z b true (Some d) cs may small m same = read_kept z b d.virtual_address d.size cs (certificates_at b d.virtual_address d.size) may small (m d refl) refl same
 
 -- ---- the image
-
-core_header : (b : List ℕ) (o : ParseOptions) (header : HeaderView) (sections : List SectionTable) (c : CoreView) → core_with b o header sections ≡ Ok c → c.header ≡ header
-unfolding core_with
-core_header b o header sections c h =
-    let offset = section_map o sections (alignment header.optional_header) in
-    let width = entry_size (is_64 header.optional_header) in
-    let data_found = export_data_of offset b (directory 0 header.optional_header) in
-    of_two {X = Option (List ImportRecordView)} {Y = List ImportView} (import_data_of offset width b (import_directory o header.optional_header)) (λ found. imports_of offset width b found)
-    (λ found list. record { header = header; sections = sections; export_data = data_found; exports = exports_of offset b data_found; import_data = found; imports = list })
-    (λ (c : CoreView). c.header) header c (λ x y. refl) h
 
 header_then : (b : List ℕ) (o : ParseOptions) (header : HeaderView) (r : Result (List SectionTable) Refusal) (c : CoreView) → (r >>= λ sections. core_with b o header sections) ≡ Ok c → c.header ≡ header
 header_then b o header (Ok sections) c h = core_header b o header sections c h

@@ -36,7 +36,7 @@ core_sections b o header sections c h =
     (λ found list. record { header = header; sections = sections; export_data = data_found; exports = exports_of offset b data_found; import_data = found; imports = list })
     (λ (c : CoreView). c.sections) sections c (λ x y. refl) h
 
-core_header : (b : List ℕ) (o : ParseOptions) (header : HeaderView) (sections : List SectionTable) (c : CoreView) → core_with b o header sections ≡ Ok c → c.header ≡ header
+pub core_header : (b : List ℕ) (o : ParseOptions) (header : HeaderView) (sections : List SectionTable) (c : CoreView) → core_with b o header sections ≡ Ok c → c.header ≡ header
 unfolding core_with
 core_header b o header sections c h =
     let offset = section_map o sections (alignment header.optional_header) in

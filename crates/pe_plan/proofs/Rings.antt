@@ -5,6 +5,7 @@ use Rattle.std.proofs.lemmas.Bool.{cases_Bool, cases_eq, false≢true}
 use Rattle.std.proofs.lemmas.Bool.Decides.{nat_tests}
 use Rattle.std.proofs.lemmas.Map.Keys.{IsDistinct-cons}
 use Rattle.std.proofs.lemmas.Map.Steps.{length-le_from_distinct_below}
+use Rattle.pe_core.proofs.Pigeonhole.{or_second}
 use Rattle.pe_unwind.specs.declared.function_table.RuntimeFunction.{RuntimeFunction}
 use Rattle.pe_unwind.specs.Links.{Table}
 use Rattle.pe_unwind.specs.UnwindRecord.{UnwindInfoView}
@@ -61,10 +62,6 @@ length-addresses t b (Some f) g [] p = refl
 length-addresses t b None g (i ∷ is) p = absurd p
 length-addresses t b (Some f) g (i ∷ is) p = ap suc (length-addresses t b i.chained_info g is p.1)
 
-or_second : (b c : Bool) → b ≡ false → (b || c) ≡ true → c ≡ true
-or_second false c e h = h
-or_second true c e h = absurd (false≢true (sym e))
-
 -- the chain comes to each of its addresses
 comes_to : (t : Table) (b : List ℕ) (start : Option RuntimeFunction) (g : RuntimeFunction) (is : List UnwindInfoView) (q : ℕ) → IsChain t b start is (Some g) → list_any (eqb q) (addresses start is) ≡ true
     → (h : RuntimeFunction) × (js : List UnwindInfoView) × IsChain t b start js (Some h) × (h.unwind_info_address ≡ q)
@@ -80,7 +77,7 @@ comes_to t b (Some f) g (i ∷ is) q p e =
     (rest.0, i ∷ rest.1, (p.0, rest.2), rest.3))
     (cases_eq q f.unwind_info_address)
 
-apart : (q : ℕ) (xs : List ℕ) → list_any (eqb q) xs ≡ false → AllByRecursion (λ x. eqb q x ≡ false) xs
+pub apart : (q : ℕ) (xs : List ℕ) → list_any (eqb q) xs ≡ false → AllByRecursion (λ x. eqb q x ≡ false) xs
 apart q [] e = tt
 apart q (x ∷ xs) e =
     ⊎_elim (λ (same : eqb q x ≡ true). absurd (false≢true (sym (rw same at e))))

@@ -8,46 +8,11 @@ use Rattle.pe_unwind.specs.FunctionTable.{function_at}
 use Rattle.pe_unwind.specs.Links.{Table}
 use Rattle.pe_unwind.specs.UnwindRecord.{Exception, Termination, UnwindInfoView, Ending, after_codes, ending_at, flags_at, handles_exceptions, handles_termination, is_chained, unwind_record, unwind_tests}
 use Rattle.pe_unwind.specs.Unwinding.{Unwinds, record_at_address, record_at_offset}
+use Rattle.pe_unwind.proofs.ChainedAddresses.{IsSmall, small_record}
 use Rattle.pe_plan.specs.Plans.{IsChain, PlansFrom}
 use Rattle.pe_plan.proofs.Chains.{one_more}
 use Rattle.pe_plan.proofs.Rings.{AreBelow, below_more, many_go_on}
 use Rattle.pe_plan.proofs.RecordLaw.{RecordLaw}
-
--- ---- the unwind address of a chained function has four bytes
-
-number_small : (b : List ℕ) (p : ℕ) → AreBytes b → le b p 4 < 2 ^ 32
-unfolding le
-number_small b p small =
-    let b0 = small (p + 0) in
-    let b1 = small (p + 1) in
-    let b2 = small (p + 2) in
-    let b3 = small (p + 3) in
-    omega arith
-
-abbrev IsSmall : Option RuntimeFunction → Type 0
-IsSmall None = Unit {0}
-IsSmall (Some f) = f.unwind_info_address < 2 ^ 32
-
-abbrev ending_by : List ℕ → ℕ → Bool → Bool → Bool → Ending
-ending_by b q chained exception termination =
-    if chained then record { chained = Some (function_at b q); handler = None }
-    else (if exception then record { chained = None; handler = Some (Exception (le b q 4) (drop (q + 4) b)) }
-    else (if termination then record { chained = None; handler = Some (Termination (le b q 4) (drop (q + 4) b)) }
-    else record { chained = None; handler = None }))
-
-small_by_flags : (b : List ℕ) (q : ℕ) (chained exception termination : Bool) → AreBytes b → IsSmall (ending_by b q chained exception termination).chained
-small_by_flags b q true exception termination small = number_small b (q + 8) small
-small_by_flags b q false true termination small = tt
-small_by_flags b q false false true small = tt
-small_by_flags b q false false false small = tt
-
-small_ending : (b : List ℕ) (q flags : ℕ) → AreBytes b → IsSmall (ending_at b q flags).chained
-unfolding ending_at
-small_ending b q flags small = small_by_flags b q (is_chained flags) (handles_exceptions flags) (handles_termination flags) small
-
-small_record : (b : List ℕ) (p : ℕ) → AreBytes b → IsSmall (unwind_record b p).chained_info
-unfolding unwind_record
-small_record b p small = small_ending b (after_codes b p) (flags_at b p) small
 
 tested : (tests : List (Bool × Refusal)) (x v : UnwindInfoView) → outcome tests x ≡ Ok v → x ≡ v
 tested [] x v h = cc

@@ -2,6 +2,7 @@
 use Rattle.std.proofs.Common.{Bool, cond, ◌≡◌, ℕ, zero, suc, ◌+◌, ◌<◌, ◌≤◌, true, false, nat_lt, nat_le, inl, inr, length, map, slice_get, Some, List, [], ◌∷◌, ◌++◌, Result, Ok, Err, Vec, refl, ap, sym, ◌∙◌, subst, arith}
 use Rattle.std.proofs.lemmas.Bool.Decides.{nat_tests}
 use Rattle.std.proofs.lemmas.List.{length-append, map_push}
+use Rattle.pe_core.proofs.Steps.{one_ok, one_err, not_both}
 use Rattle.pe_core.specs.Refusals.{Refusal, Memory, CertificateTable, kind_of, IfMemory, ReturnsUnlessMemory, ◌>>=◌}
 use Rattle.pe_core.specs.declared.error.Error.{Error}
 use Rattle.pe_core.specs.declared.error.Error.TheVariants as errors
@@ -207,15 +208,6 @@ is_listing b address size cs e = subst (Answers b address size) e (answers b add
 
 pub is_refused : (b : List ℕ) (address size : ℕ) (r : Refusal) → certificates_at b address size ≡ Err r → IsRefused b address size r
 is_refused b address size r e = subst (Answers b address size) e (answers b address size)
-
-one_ok : {X : Type 0} (r : Result X Refusal) (x y : X) → r ≡ Ok x → r ≡ Ok y → x ≡ y
-one_ok r x y e f = cc
-
-one_err : {X : Type 0} (r : Result X Refusal) (x y : Refusal) → r ≡ Err x → r ≡ Err y → x ≡ y
-one_err r x y e f = cc
-
-not_both : {X : Type 0} (r : Result X Refusal) (x : X) (y : Refusal) → r ≡ Ok x → r ≡ Err y → ⊥
-not_both r x y e f = cc
 
 pub one_listing : (b : List ℕ) (address size : ℕ) (cs ds : List CertificateView) → IsListing b address size cs → IsListing b address size ds → cs ≡ ds
 one_listing b address size cs ds l m = one_ok (certificates_at b address size) cs ds (listing_is b address size cs l) (listing_is b address size ds m)

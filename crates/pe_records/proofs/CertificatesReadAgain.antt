@@ -2,6 +2,8 @@
 use Rattle.std.proofs.Common.{[], ◌∷◌, ◌≡◌, true, nat_le, ℕ, ◌+◌, ◌-◌, ◌/◌, ◌%◌, ◌^◌, ◌<◌, ◌≤◌, List, ◌++◌, length, take, drop, get_or, Ok, refl, ap, sym, ◌∙◌, subst, append_assoc, add-zero, length-append, length-take, length-drop, length-take-le, arith}
 use Rattle.std.proofs.lemmas.Bool.Decides.{nat_tests}
 use Rattle.std.proofs.lemmas.List.{take_at, drop_at, get_or-append-add}
+use Rattle.pe_core.proofs.NumberBytes.{le_small}
+use Rattle.pe_core.proofs.Ranges.{length_range}
 use Rattle.pe_core.specs.Bytes.{AreBytes, le, bytes_of, range, splice}
 use Rattle.pe_core.specs.SectionMap.{rounded_up}
 use Rattle.pe_records.specs.declared.certificate_table.AttributeCertificateRevision.{AttributeCertificateRevision}
@@ -96,18 +98,6 @@ read_again b p c w m room = read_after (take p b) (drop (p + length (written_cer
 
 -- ---- what is read is whole
 
-le_small : (b : List ℕ) (p : ℕ) → AreBytes b → le b p 4 < 2 ^ 32
-unfolding le
-le_small b p small =
-    let b0 = small (p + 0) in
-    let b1 = small (p + 1) in
-    let b2 = small (p + 2) in
-    let b3 = small (p + 3) in
-    omega arith
-
-pub range_length : (b : List ℕ) (p n : ℕ) → p + n ≤ length b → length (range b p n) ≡ n
-range_length b p n h = simp (length-take, length-drop) (omega arith)
-
 pub record Read (b : List ℕ) (p : ℕ) (c : CertificateView) (q : ℕ) : Type 0 where
   pub size : c.length ≡ le b p 4
   pub inside : p + 8 + (c.length - 8) ≤ length b
@@ -121,7 +111,7 @@ read b p c q e = record { size = grind (arith, nat_tests); inside = grind (arith
 pub whole : (b : List ℕ) (p : ℕ) (c : CertificateView) (q : ℕ) → AreBytes b → certificate_at b p ≡ Ok (c, q) → IsWhole c
 whole b p c q small e =
     let r : Read b p c q = read b p c q e in
-    record { fits = omega (arith, le_small b p small, r.size); body = ap length r.body ∙ range_length b (p + 8) (c.length - 8) r.inside }
+    record { fits = omega (arith, le_small b p small, r.size); body = ap length r.body ∙ length_range b (p + 8) (c.length - 8) r.inside }
 
 pub next_offset : (b : List ℕ) (p : ℕ) (c : CertificateView) (q : ℕ) → AreBytes b → p % 8 ≡ 0 → certificate_at b p ≡ Ok (c, q) → q ≡ p + written_length c
 next_offset b p c q small m e =

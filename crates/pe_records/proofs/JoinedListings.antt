@@ -2,6 +2,7 @@
 use Rattle.std.proofs.Common.{◌≡◌, ℕ, ◌+◌, ◌-◌, ◌%◌, ◌<◌, ◌≤◌, Bool, true, false, List, [], ◌∷◌, ◌++◌, length, get_or, Result, Ok, Err, refl, ap, sym, ◌∙◌, subst, arith}
 use Rattle.std.proofs.lemmas.Bool.Decides.{nat_tests}
 use Rattle.std.proofs.lemmas.List.{places, ext_get_or}
+use Rattle.pe_core.proofs.Ranges.{length_range, held_if_inside, byte_of_range}
 use Rattle.pe_core.specs.Bytes.{holds, le, range}
 use Rattle.pe_core.specs.Offsets.{StandAt}
 use Rattle.pe_core.specs.Refusals.{Refusal, Short, CertificateSize, CertificateRevision, CertificateType, outcome}
@@ -9,7 +10,7 @@ use Rattle.pe_core.specs.SectionMap.{rounded_up}
 use Rattle.pe_core.proofs.NumberBytes.{le-same}
 use Rattle.pe_records.specs.Certificates.{CertificateView, certificate_at, certificate, certificate_tests, body_length, is_revision, is_type, IsListing}
 use Rattle.pe_records.proofs.CertificateListings.{StandFrom, listing, next_above, unplaced}
-use Rattle.pe_records.proofs.CertificatesReadAgain.{Read, range_length, read}
+use Rattle.pe_records.proofs.CertificatesReadAgain.{Read, read}
 
 -- the bytes of b from offset a on stand in f, each s bytes later
 pub record StandLater (b f : List ℕ) (s a : ℕ) : Type 0 where
@@ -43,9 +44,6 @@ tests_later true true false w x c m next s e = absurd cc
 tests_later true false v w x c m next s e = absurd cc
 tests_later false u v w x c m next s e = absurd cc
 
-there : (f : List ℕ) (q n : ℕ) → q + n ≤ length f → holds f q n ≡ true
-there f q n h = grind (arith, nat_tests)
-
 rounded_later : (s n : ℕ) → s % 8 ≡ 0 → rounded_up (s + n) 8 ≡ s + rounded_up n 8
 rounded_later s n h = omega arith
 
@@ -61,8 +59,8 @@ read_later b f s a p c next l m from e =
       number_later b f s a (p + 4) (s + p + 4) 2 l (omega arith) (omega arith) (omega arith),
       number_later b f s a (p + 6) (s + p + 6) 2 l (omega arith) (omega arith) (omega arith),
       range_later b f s a (p + 8) (s + p + 8) n l (omega arith) (omega arith) room,
-      there f (s + p) 8 (omega (arith, l.inside)),
-      there f (s + p + 8) n (omega (arith, l.inside)),
+      held_if_inside f (s + p) 8 (omega (arith, l.inside)),
+      held_if_inside f (s + p + 8) n (omega (arith, l.inside)),
       end,
     ) (tests_later (holds b p 8) (holds b (p + 8) n) (is_revision (le b (p + 4) 2)) (is_type (le b (p + 6) 2)) _ c (rounded_up (p + 8 + n) 8) next s e)
 
@@ -91,11 +89,8 @@ last_end b end p (c ∷ cs) q h m i j =
 stand_of : (b : List ℕ) (address size : ℕ) (cs : List CertificateView) (l : IsListing b address size cs) → StandFrom b (address + size) address cs (l.offset (length cs))
 stand_of b address size cs l = rw l.first at (unplaced b (address + size) l.offset cs l.stand)
 
-byte_in : (f : List ℕ) (p n k : ℕ) → k < n → get_or f (p + k) 0 ≡ get_or (range f p n) k 0
-byte_in f p n k h = grind (arith, places)
-
 later_at : (f part : List ℕ) (p : ℕ) → StandAt f p part → StandLater part f p 0
-later_at f part p h = record { inside = h.inside; same = λ k from lt. byte_in f p (length part) k lt ∙ ap (λ (xs : List ℕ). get_or xs k 0) h.here }
+later_at f part p h = record { inside = h.inside; same = λ k from lt. byte_of_range f p (length part) k lt ∙ ap (λ (xs : List ℕ). get_or xs k 0) h.here }
 
 pub moved_listing : (more f : List ℕ) (p n : ℕ) (ds : List CertificateView) → p % 8 ≡ 0 → IsListing more 0 (length more) ds → StandAt f p more → n ≡ rounded_up (length more) 8 → p + n ≤ length f → IsListing f p n ds
 moved_listing more f p n ds m l at all room =
@@ -109,7 +104,7 @@ moved_listing more f p n ds m l at all room =
 -- the bytes of a table that ends its file, in place
 in_place : (b f : List ℕ) (address size : ℕ) → length b ≡ address + size → StandAt f address (range b address size) → StandLater b f 0 address
 in_place b f address size e h =
-    let count : length (range b address size) ≡ size = range_length b address size (omega arith) in
+    let count : length (range b address size) ≡ size = length_range b address size (omega arith) in
     record {
       inside = omega (arith, h.inside);
       same = λ k from lt.
@@ -118,7 +113,7 @@ in_place b f address size e h =
           let start : 0 + k ≡ k = omega arith in
           let small : i < size = omega arith in
           let here : range f address size ≡ range b address size = ap (λ (n : ℕ). range f address n) (sym count) ∙ h.here in
-          rw start (rw (← at) (byte_in f address size i small ∙ ap (λ (xs : List ℕ). get_or xs i 0) here ∙ sym (byte_in b address size i small)));
+          rw start (rw (← at) (byte_of_range f address size i small ∙ ap (λ (xs : List ℕ). get_or xs i 0) here ∙ sym (byte_of_range b address size i small)));
     }
 
 pub joined_listing : (b more f : List ℕ) (address size n : ℕ) (cs ds : List CertificateView) → address % 8 ≡ 0 → length b ≡ address + size → IsListing b address size cs → IsListing more 0 (length more) ds →

@@ -2,6 +2,8 @@
 use Rattle.std.proofs.Common.{◌≡◌, ℕ, ◌+◌, ◌-◌, ◌≤◌, List, length, Option, Some, None, Result, Ok, Err, refl, ap, sym, subst, inl, inr}
 use Rattle.std.specs.Prelude.{nat_lt, ◌==◌, ◌||◌}
 use Rattle.std.specs.Option.{option_map}
+use Rattle.pe_core.proofs.Ranges.{length_range, inside_if_held}
+use Rattle.pe_core.proofs.Steps.{given, same_inside}
 use Rattle.pe_core.specs.Bytes.{holds, le, range}
 use Rattle.pe_core.specs.Refusals.{Refusal, Short, DebugData, PogoSize, ◌>>=◌}
 use Rattle.pe_core.specs.declared.data_directories.DataDirectory.{DataDirectory}
@@ -14,12 +16,12 @@ use Rattle.pe_records.specs.DebugDirectory.{first_of_type, directory_table}
 use Rattle.pe_records.specs.DebugRecords.{DebugFields, Pdb70, Pdb20, Pogo, Repro, Stamp, Buffer, pdb70_at, pdb70_record, pdb20_at, pdb20_record, pogo_record, repro_record, pdb70_of, pdb20_of, features_of, characteristics_of, repro_of, pogo_of, of_entry, some_of_entry, record_offset, records, debug_data}
 use Rattle.pe_core.specs.Offsets.{StandAt}
 use Rattle.pe_records.specs.Parts.{StandsAfter, DebugPartsStand, hash_of}
-use Rattle.pe_records.proofs.CertificatesReadAgain.{Read, read, range_length}
-use Rattle.pe_records.proofs.SpelledDebug.{passed, passed_pogo, passed_repro, are_there}
+use Rattle.pe_records.proofs.CertificatesReadAgain.{Read, read}
+use Rattle.pe_records.proofs.SpelledDebug.{passed, passed_pogo, passed_repro}
 
 -- a range of n bytes that are there
 stand : (b : List ℕ) (p n : ℕ) (part : List ℕ) → p + n ≤ length b → range b p n ≡ part → StandAt b p part
-stand b p n part h e = subst (StandAt b p) e (record { inside = rw (range_length b p n h) h; here = rw (range_length b p n h) refl })
+stand b p n part h e = subst (StandAt b p) e (record { inside = rw (length_range b p n h) h; here = rw (length_range b p n h) refl })
 
 -- the body of a certificate stands behind its header
 pub body_stands : (b : List ℕ) (p : ℕ) (c : CertificateView) (next : ℕ) → certificate_at b p ≡ Ok (c, next) → StandAt b (p + 8) c.body
@@ -33,20 +35,20 @@ name70 : (mode : ParseMode) (b : List ℕ) (p size : ℕ) (r : Pdb70) → pdb70_
 unfolding pdb70_record pdb70_at
 name70 mode b p size r e =
     let tests = passed (nat_lt size 24) mode (holds b p 4) (le b p 4 == 0x53445352) (holds b (p + 4) 20) (holds b (p + 24) (size - 24)) Short DebugData (pdb70_at b p size) r e in
-    stand b (p + 24) (size - 24) r.filename (are_there b (p + 24) (size - 24) tests.1) (ap (λ (x : Pdb70). x.filename) tests.2)
+    stand b (p + 24) (size - 24) r.filename (inside_if_held b (p + 24) (size - 24) tests.1) (ap (λ (x : Pdb70). x.filename) tests.2)
 
 name20 : (mode : ParseMode) (b : List ℕ) (p size : ℕ) (r : Pdb20) → pdb20_record mode b p size ≡ Ok (Some r) → StandAt b (p + 16) r.filename
 unfolding pdb20_record pdb20_at
 name20 mode b p size r e =
     let tests = passed (nat_lt size 16) mode (holds b p 4) (le b p 4 == 0x3031424E) (holds b (p + 4) 12) (holds b (p + 16) (size - 16)) Short DebugData (pdb20_at b p size) r e in
-    stand b (p + 16) (size - 16) r.filename (are_there b (p + 16) (size - 16) tests.1) (ap (λ (x : Pdb20). x.filename) tests.2)
+    stand b (p + 16) (size - 16) r.filename (inside_if_held b (p + 16) (size - 16) tests.1) (ap (λ (x : Pdb20). x.filename) tests.2)
 
 pogo_entries : (b : List ℕ) (p size : ℕ) (r : Pogo) → pogo_record b p size ≡ Ok (Some r) → StandAt b (p + 4) r.bytes
 unfolding pogo_record
 pogo_entries b p size r e =
     let v : Pogo = record { signature = le b p 4; bytes = range b (p + 4) (size - 4) } in
     let tests = passed_pogo (holds b p 4) (le b p 4 == 0x4C544347 || le b p 4 == 0x50475500) (nat_lt 4 size) (holds b (p + 4) (size - 4)) PogoSize DebugData v r e in
-    stand b (p + 4) (size - 4) r.bytes (are_there b (p + 4) (size - 4) tests.1) (ap (λ (x : Pogo). x.bytes) tests.2)
+    stand b (p + 4) (size - 4) r.bytes (inside_if_held b (p + 4) (size - 4) tests.1) (ap (λ (x : Pogo). x.bytes) tests.2)
 
 abbrev HashStands : List ℕ → ℕ → Repro → Type 0
 HashStands b p (Stamp stamp) = Unit {0}
@@ -59,7 +61,7 @@ hash b p e r given =
     let tests = passed_repro (e.size_of_data == 0) (holds b p 4) (holds b (p + 4) n) Short DebugData (Stamp e.time_date_stamp) (Buffer n (range b (p + 4) n)) r given in
     elim tests as (λ t. HashStands b p r) [
       | inl is ↦ subst (HashStands b p) is tt
-      | inr both ↦ subst (HashStands b p) both.1 (stand b (p + 4) n (range b (p + 4) n) (are_there b (p + 4) n both.0) refl)
+      | inr both ↦ subst (HashStands b p) both.1 (stand b (p + 4) n (range b (p + 4) n) (inside_if_held b (p + 4) n both.0) refl)
     ]
 
 -- ---- the records of debug data
@@ -80,14 +82,6 @@ hash_after o b entry None e = tt
 hash_after o b entry (Some (Stamp stamp)) e = tt
 hash_after o b None (Some (Buffer count bytes)) e = absurd cc
 hash_after o b (Some entry) (Some (Buffer count bytes)) e = hash_given o b entry (repro_of o b entry) (Buffer count bytes) refl e
-
--- what two steps give, each gives
-given : {X Y : Type 0} (r : Result X Refusal) (f : X → Result Y Refusal) (y : Y) → (r >>= f) ≡ Ok y → (x : X) × (r ≡ Ok x) × (f x ≡ Ok y)
-given (Ok x) f y e = (x, refl, e)
-given (Err r) f y e = absurd cc
-
-same_inside : {X : Type 0} (x y : X) → ◌≡◌ {A = Result X Refusal} (Ok x) (Ok y) → x ≡ y
-same_inside x y e = cc
 
 parts_of_records : (o : ParseOptions) (b : List ℕ) (fixup : ℕ) (t : List ℕ) (d : DebugFields) → records o b fixup t ≡ Ok d → DebugPartsStand o b d
 unfolding records

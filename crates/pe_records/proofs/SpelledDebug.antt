@@ -2,6 +2,7 @@
 use Rattle.std.proofs.Common.{◌≡◌, ℕ, ◌+◌, ◌-◌, ◌≤◌, Bool, true, false, List, [], ◌∷◌, ◌++◌, length, Some, None, Ok, Err, refl, ap, sym, ◌∙◌, subst, ◌⊎◌, inl, inr, arith}
 use Rattle.std.specs.Prelude.{nat_lt, slice_range, ◌==◌, ◌||◌, if◌then◌else◌}
 use Rattle.std.proofs.lemmas.Bool.Decides.{nat_tests}
+use Rattle.pe_core.proofs.Ranges.{inside_if_held}
 use Rattle.pe_core.proofs.NumberBytes.{bytes_of-le, range_join}
 use Rattle.pe_core.specs.Bytes.{AreBytes, le, bytes_of, range, holds}
 use Rattle.pe_core.specs.Modes.{none_if_refused}
@@ -67,15 +68,12 @@ spelled_features b p small inside =
 not_below : (n k : ℕ) → nat_lt n k ≡ false → k ≤ n
 not_below n k e = grind (arith, nat_tests)
 
-pub are_there : (b : List ℕ) (p n : ℕ) → holds b p n ≡ true → p + n ≤ length b
-are_there b p n e = grind (arith, nat_tests)
-
 pub spelled_pdb70 : (mode : ParseMode) (b : List ℕ) (p size : ℕ) (r : Pdb70) → AreBytes b → pdb70_record mode b p size ≡ Ok (Some r) → spell_pdb70 r ≡ range b p size
 unfolding pdb70_record
 spelled_pdb70 mode b p size r small e =
     let tests = passed (nat_lt size 24) mode (holds b p 4) (le b p 4 == 0x53445352) (holds b (p + 4) 20) (holds b (p + 24) (size - 24)) Short DebugData (pdb70_at b p size) r e in
     let least : 24 ≤ size = not_below size 24 tests.0 in
-    let inside : p + 24 + (size - 24) ≤ length b = are_there b (p + 24) (size - 24) tests.1 in
+    let inside : p + 24 + (size - 24) ≤ length b = inside_if_held b (p + 24) (size - 24) tests.1 in
     ap spell_pdb70 (sym tests.2) ∙ spelled_pdb70_at b p size small least (omega arith)
 
 pub spelled_pdb20 : (mode : ParseMode) (b : List ℕ) (p size : ℕ) (r : Pdb20) → AreBytes b → pdb20_record mode b p size ≡ Ok (Some r) → spell_pdb20 r ≡ range b p size
@@ -83,7 +81,7 @@ unfolding pdb20_record
 spelled_pdb20 mode b p size r small e =
     let tests = passed (nat_lt size 16) mode (holds b p 4) (le b p 4 == 0x3031424E) (holds b (p + 4) 12) (holds b (p + 16) (size - 16)) Short DebugData (pdb20_at b p size) r e in
     let least : 16 ≤ size = not_below size 16 tests.0 in
-    let inside : p + 16 + (size - 16) ≤ length b = are_there b (p + 16) (size - 16) tests.1 in
+    let inside : p + 16 + (size - 16) ≤ length b = inside_if_held b (p + 16) (size - 16) tests.1 in
     ap spell_pdb20 (sym tests.2) ∙ spelled_pdb20_at b p size small least (omega arith)
 
 -- what is given passed its tests
@@ -105,7 +103,7 @@ spelled_pogo b p size r small e =
     let v : Pogo = record { signature = le b p 4; bytes = range b (p + 4) (size - 4) } in
     let tests = passed_pogo (holds b p 4) (le b p 4 == 0x4C544347 || le b p 4 == 0x50475500) (nat_lt 4 size) (holds b (p + 4) (size - 4)) PogoSize DebugData v r e in
     let least : 4 + 1 ≤ size = is_below 4 size tests.0 in
-    let inside : p + 4 + (size - 4) ≤ length b = are_there b (p + 4) (size - 4) tests.1 in
+    let inside : p + 4 + (size - 4) ≤ length b = inside_if_held b (p + 4) (size - 4) tests.1 in
     let end : p + 4 + (size - 4) ≡ p + size = omega arith in
     ap (λ (x : Pogo). bytes_of 4 x.signature ++ x.bytes) (sym tests.2)
     ∙ join b (bytes_of 4 (le b p 4)) (range b (p + 4) (size - 4)) p (p + 4) (p + size) (bytes_of-le b p 4 small (omega arith)) (ap (slice_range b (p + 4)) end) (omega arith) (omega arith) (omega arith)
@@ -136,5 +134,5 @@ spelled_repro b p e r small given =
     let tests = passed_repro (e.size_of_data == 0) (holds b p 4) (holds b (p + 4) n) Short DebugData (Stamp e.time_date_stamp) (Buffer n (range b (p + 4) n)) r given in
     elim tests as (λ t. spell_repro r ≡ range b p (size_of_repro r)) [
       | inl is ↦ subst (λ (x : Repro). spell_repro x ≡ range b p (size_of_repro x)) is (spelled_stamp b p e.time_date_stamp)
-      | inr both ↦ subst (λ (x : Repro). spell_repro x ≡ range b p (size_of_repro x)) both.1 (spelled_buffer b p n small refl (are_there b (p + 4) n both.0))
+      | inr both ↦ subst (λ (x : Repro). spell_repro x ≡ range b p (size_of_repro x)) both.1 (spelled_buffer b p n small refl (inside_if_held b (p + 4) n both.0))
     ]

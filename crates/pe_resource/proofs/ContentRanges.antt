@@ -1,6 +1,7 @@
 -- What the ranges of contents hold.
 use Rattle.std.proofs.Common.{◌≡◌, ℕ, ◌+◌, ◌≤◌, Bool, true, false, List, [], ◌∷◌, length, Option, Some, None, Result, Ok, Err, refl, ap, sym, ◌∙◌, subst, arith}
 use Rattle.std.proofs.lemmas.Bool.Decides.{nat_tests}
+use Rattle.pe_core.proofs.Steps.{same_inside}
 use Rattle.pe_core.specs.Bytes.{holds}
 use Rattle.pe_core.specs.Offsets.{IsWithin}
 use Rattle.pe_core.specs.Refusals.{Refusal, Short, ResourceBounds, outcome, ◌>>=◌}
@@ -20,9 +21,6 @@ use Rattle.pe_resource.specs.VersionStrings.{VersionString, strings, read, value
 use Rattle.pe_resource.proofs.OneAnswer.{one_content}
 use Rattle.pe_resource.proofs.ValueRanges.{value_there}
 
-ok_once : {X : Type 0} (x y : X) → Path (Result X Refusal) (Ok x) (Ok y) → x ≡ y
-ok_once x y e = cc
-
 ok_not_refused : {X : Type 0} (x : X) (e : Refusal) → Path (Result X Refusal) (Ok x) (Err e) → ⊥
 ok_not_refused x e h = cc
 
@@ -32,7 +30,7 @@ some_once x y e = cc
 -- ---- a range that is found lies in the file
 
 tested : (t : Bool) (e : Refusal) (r s : ByteRange) → outcome ((t, e) ∷ []) r ≡ Ok s → (t ≡ true) × (r ≡ s)
-tested true e r s h = (refl, ok_once r s h)
+tested true e r s h = (refl, same_inside r s h)
 tested false e r s h = absurd cc
 
 file_within : (f : List ℕ) (size : ℕ) (o : Option ℕ) (r : ByteRange) → file_range f size o ≡ Ok r → IsWithin f r
@@ -51,7 +49,7 @@ unfolding named_range
 named_within map f b p r h = named_by (holds b p 16) map f (data_entry_at b p) r h
 
 given_some : (q : Result ByteRange Refusal) (r : ByteRange) → (q >>= λ r. Ok (Some r)) ≡ Ok (Some r) → q ≡ Ok r
-given_some (Ok s) r h = ap (λ (x : ByteRange). Ok x) (some_once s r (ok_once (Some s) (Some r) h))
+given_some (Ok s) r h = ap (λ (x : ByteRange). Ok x) (some_once s r (same_inside (Some s) (Some r) h))
 given_some (Err e) r h = absurd cc
 
 range_within : (map : ℕ → Option ℕ) (f b : List ℕ) (leaf : Result (Option ℕ) Refusal) (r : ByteRange) → Ok (Some r) ≡ (leaf >>= range_in map f b) → IsWithin f r
@@ -72,13 +70,13 @@ given_by : (d : FirstDirectoryView) (v : Result (Option VersionView) Refusal) (m
 given_by d (Err e) m x h = absurd (ok_not_refused x e h)
 given_by d (Ok v) (Err e) x h = absurd (ok_not_refused x e h)
 given_by d (Ok v) (Ok m) x h =
-    let same = ok_once x (record { directory = d.directory; first_entries = d.entries; version = v; manifest = m }) h in
+    let same = same_inside x (record { directory = d.directory; first_entries = d.entries; version = v; manifest = m }) h in
     (ap (λ (y : ResourceView). Ok y.manifest) (sym same), ap (λ (y : ResourceView). Ok y.version) (sym same))
 
 in_range : (map : ℕ → Option ℕ) (f b : List ℕ) (es : List ResourceEntry) (id : ℕ) (r : Result (Option ByteRange) Refusal) (m : Option (List ℕ)) → IsContentRange map f b es id r → IsContent map f b es id (Ok m) → IsManifestIn f r m
 in_range map f b es id (Err e) m h k = absurd (ok_not_refused m e (one_content map f b es id (Ok m) (Err e) k (Err e, h, refl)))
 in_range map f b es id (Ok c) m h k =
-    let same : content_of f c ≡ m = ok_once (content_of f c) m (one_content map f b es id (Ok (content_of f c)) (Ok m) (Ok c, h, refl) k) in
+    let same : content_of f c ≡ m = same_inside (content_of f c) m (one_content map f b es id (Ok (content_of f c)) (Ok m) (Ok c, h, refl) k) in
     (c, refl, subst (IsThere f c) same (there map f b es id c h))
 
 version_by : (map : ℕ → Option ℕ) (f b : List ℕ) (es : List ResourceEntry) (r : Result (Option ByteRange) Refusal) (c : Result (Option (List ℕ)) Refusal) (v : Option VersionView) → IsContentRange map f b es 16 r → IsContent map f b es 16 c → Ok v ≡ (c >>= version_of_content) → IsVersionIn f r v
@@ -95,12 +93,12 @@ IsRangeOf map f id d r = IsContentRange map f d.bytes d.entries id r
 
 manifest_of_first : (map : ℕ → Option ℕ) (f : List ℕ) (q : Result (Option FirstDirectoryView) Refusal) (x : ResourceView) (r : Result (Option ByteRange) Refusal) → IsOfFirst no_resources (AreResources map f) q (Ok x) → IsOfFirst None (IsRangeOf map f 24) q r → IsManifestIn f r x.manifest
 manifest_of_first map f (Err e) x r h k = absurd (ok_not_refused x e h)
-manifest_of_first map f (Ok None) x r h k = (None, k, ap (λ (y : ResourceView). y.manifest) (ok_once x no_resources h))
+manifest_of_first map f (Ok None) x r h k = (None, k, ap (λ (y : ResourceView). y.manifest) (same_inside x no_resources h))
 manifest_of_first map f (Ok (Some d)) x r h k = in_range map f d.bytes d.entries 24 r x.manifest k (of_resources map f d x h).0
 
 version_of_first : (map : ℕ → Option ℕ) (f : List ℕ) (q : Result (Option FirstDirectoryView) Refusal) (x : ResourceView) (r : Result (Option ByteRange) Refusal) → IsOfFirst no_resources (AreResources map f) q (Ok x) → IsOfFirst None (IsRangeOf map f 16) q r → IsVersionIn f r x.version
 version_of_first map f (Err e) x r h k = absurd (ok_not_refused x e h)
-version_of_first map f (Ok None) x r h k = (None, None, k, refl, ap (λ (y : ResourceView). Ok y.version) (sym (ok_once x no_resources h)))
+version_of_first map f (Ok None) x r h k = (None, None, k, refl, ap (λ (y : ResourceView). Ok y.version) (sym (same_inside x no_resources h)))
 version_of_first map f (Ok (Some d)) x r h k =
     let is = (of_resources map f d x h).1 in
     version_by map f d.bytes d.entries r is.0 x.version k is.1 is.2
@@ -130,7 +128,7 @@ named names.SpecialBuild ss = refl
 parts_by : (b : List ℕ) (f : Result (Option VsFixedFileInfo) Refusal) (v : VersionView) → fixed_info_of b ≡ f → (f >>= λ f. Ok (record { fixed_info = f; strings = file_strings (read (strings b)) })) ≡ Ok v → (fixed_info_of b ≡ Ok v.fixed_info) × (file_strings (read (strings b)) ≡ v.strings)
 parts_by b (Err e) v is h = absurd cc
 parts_by b (Ok f) v is h =
-    let same : record { fixed_info = f; strings = file_strings (read (strings b)) } ≡ v = ok_once (record { fixed_info = f; strings = file_strings (read (strings b)) }) v h in
+    let same : record { fixed_info = f; strings = file_strings (read (strings b)) } ≡ v = same_inside (record { fixed_info = f; strings = file_strings (read (strings b)) }) v h in
     (is ∙ ap (λ (w : VersionView). Ok w.fixed_info) same, ap (λ (w : VersionView). w.strings) same)
 
 pub version_fixed : (b : List ℕ) (v : VersionView) → version_in b ≡ Ok v → fixed_info_of b ≡ Ok v.fixed_info

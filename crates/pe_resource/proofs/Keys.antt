@@ -12,7 +12,7 @@ front b = length (before_zero (units b))
 two_more : (b : List ℕ) (e : ℕ) → e + 1 < length b → drop e b ≡ get_or b e 0 ∷ get_or b (e + 1) 0 ∷ drop (e + 1 + 1) b
 two_more b e h = drop_more b e 0 (omega arith) ∙ ap (λ (r : List ℕ). get_or b e 0 ∷ r) (drop_more b (e + 1) 0 h)
 
-le_two : (b : List ℕ) (e : ℕ) → le b e 2 ≡ get_or b e 0 + 256 * get_or b (e + 1) 0
+pub le_two : (b : List ℕ) (e : ℕ) → le b e 2 ≡ get_or b e 0 + 256 * get_or b (e + 1) 0
 unfolding le
 le_two b e = simp add-zero (omega arith)
 

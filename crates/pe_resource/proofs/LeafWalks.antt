@@ -4,6 +4,7 @@ use Rattle.std.specs.Prelude.{if◌then◌else◌}
 use Rattle.std.specs.List.{flat_map}
 use Rattle.std.proofs.lemmas.List.{append_assoc, places, same_lists}
 use Rattle.std.proofs.lemmas.Bool.Decides.{nat_tests}
+use Rattle.pe_core.proofs.Ranges.{length_range, rest_of_range}
 use Rattle.pe_core.specs.Bytes.{holds, range, record_at}
 use Rattle.pe_core.specs.Refusals.{Refusal, Short}
 use Rattle.pe_resource.specs.declared.entry.ResourceEntry.{ResourceEntry}
@@ -35,19 +36,13 @@ next_type b t n e f x ls more ns names ts types l m k h =
 
 -- ---- entries in ranges of the data
 
-rest_of_range : (b : List ℕ) (p n k : ℕ) → p + n ≤ length b → k ≤ n → range b (p + k) (n - k) ≡ drop k (range b p n)
-rest_of_range b p n k h i = same_lists _ _ (grind (arith, places)) (λ j d lt. grind (arith, places))
-
-long : (b : List ℕ) (p n : ℕ) → p + n ≤ length b → length (range b p n) ≡ n
-long b p n h = grind (arith, places)
-
 pub entries_of_range : (b : List ℕ) (p n : ℕ) → p + n ≤ length b → 8 ≤ n → entries (range b p n) ≡ entry_at (range b p n) 0 ∷ entries (range b (p + 8) (n - 8))
 entries_of_range b p n h some =
-    entries_more (range b p n) (let size : length (range b p n) ≡ n = long b p n h in omega (arith, size))
+    entries_more (range b p n) (let size : length (range b p n) ≡ n = length_range b p n h in omega (arith, size))
     ∙ ap (λ (d : List ℕ). entry_at (range b p n) 0 ∷ entries d) (sym (rest_of_range b p n 8 h some))
 
 pub no_entry_in_range : (b : List ℕ) (p n : ℕ) → p + n ≤ length b → n < 8 → entries (range b p n) ≡ []
-no_entry_in_range b p n h few = entries_none (range b p n) (let size : length (range b p n) ≡ n = long b p n h in omega (arith, size))
+no_entry_in_range b p n h few = entries_none (range b p n) (let size : length (range b p n) ≡ n = length_range b p n h in omega (arith, size))
 
 -- a table of n entries has nothing else
 whole_by : (b t : List ℕ) (p n : ℕ) (inside : Bool) → holds b p (8 * n) ≡ inside → ◌≡◌ {A = Result (List ℕ) Refusal} (if inside then Ok (range b p (8 * n)) else Err Short) (Ok t) → 8 * length (entries t) ≡ length t
@@ -55,7 +50,7 @@ whole_by b t p n false h e = absurd cc
 whole_by b t p n true h e =
     let same : range b p (8 * n) ≡ t = cc in
     let there : p + 8 * n ≤ length b = grind (arith, nat_tests) in
-    let size : length t ≡ 8 * n = ap length (sym same) ∙ long b p (8 * n) there in
+    let size : length t ≡ 8 * n = ap length (sym same) ∙ length_range b p (8 * n) there in
     omega (arith, size, entries_count t)
 
 pub whole_table : (b t : List ℕ) (p n : ℕ) → record_at b p (8 * n) (range b p (8 * n)) ≡ Ok t → 8 * length (entries t) ≡ length t

@@ -3,6 +3,7 @@ use Rattle.std.proofs.Common.{◌≡◌, ℕ, zero, suc, get_or, ◌<◌, ◌+�
 use Rattle.std.proofs.lemmas.Bool.{false≢true}
 use Rattle.std.proofs.lemmas.Bool.Decides.{nat_tests}
 use Rattle.std.proofs.lemmas.List.{places}
+use Rattle.pe_core.proofs.Equality.{both}
 use Rattle.pe_core.specs.Bytes.{range}
 use Rattle.std.proofs.lemmas.Slice.Eq.{bytes_eq-Decides}
 use Rattle.std.proofs.lemmas.Str.{encode_ascii, encodes_same}
@@ -16,11 +17,6 @@ use Rattle.pe_resource.specs.VersionStrings.{units, before_zero, key_length, tex
 
 abbrev is_small : ℕ → Bool
 is_small c = nat_lt c 128
-
-both : (s t : Bool) → (s && t) ≡ true → (s ≡ true) × (t ≡ true)
-both true true e = (refl, refl)
-both true false e = cc
-both false t e = cc
 
 small_from_plain : (name : List ℕ) → IsPlain name → list_all is_small name ≡ true
 small_from_plain [] h = refl

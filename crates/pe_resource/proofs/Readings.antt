@@ -1,6 +1,7 @@
 -- The strings of a byte string.
 use Rattle.std.proofs.Common.{◌≡◌, ◌≢◌, ℕ, zero, suc, ◌<◌, ◌≤◌, ◌↔◌, length, length-drop, arith, ◌⊎◌, inl, inr, List, [], ◌∷◌, map, drop, Option, Some, None, Result, Ok, Err, refl, ap, sym, ◌∙◌, subst}
 use Rattle.std.specs.Iterator.{Yields}
+use Rattle.pe_core.proofs.Steps.{one_ok, one_err, not_both}
 use Rattle.pe_core.specs.Refusals.{Refusal}
 use Rattle.pe_core.specs.declared.error.Error.{Error}
 use Rattle.pe_resource.specs.declared.string.ResourceString.{ResourceString}
@@ -24,15 +25,6 @@ strings_from_yields s t u (Ok v ∷ xs) y end =
 strings_from_yields s t u (Err e ∷ xs) y end =
     (y.1.0, y.1.1, nothing_left (rest_of y.0) (map item_of xs) y.1.2 (strings_from_yields y.0 t u xs y.2 end))
 
-ok_once : {X : Type 0} (r : Result X Refusal) (x y : X) → r ≡ Ok x → r ≡ Ok y → x ≡ y
-ok_once r x y e f = cc
-
-err_once : {X : Type 0} (r : Result X Refusal) (x y : Refusal) → r ≡ Err x → r ≡ Err y → x ≡ y
-err_once r x y e f = cc
-
-not_both : {X : Type 0} (r : Result X Refusal) (x : X) (y : Refusal) → r ≡ Ok x → r ≡ Err y → ⊥
-not_both r x y e f = cc
-
 some_once : {X : Type 0} (x y : X) → Some x ≡ Some y → x ≡ y
 some_once x y e = cc
 
@@ -44,7 +36,7 @@ Pair = Option VersionString × ℕ
 
 ends_not : (b : List ℕ) (s : VersionString) (q : ℕ) → (b ≡ []) ⊎ ((r : ℕ) × (version_string_at b 0 ≡ Ok (None, r))) → (b ≡ [] → ⊥) → version_string_at b 0 ≡ Ok (Some s, q) → ⊥
 ends_not b s q (inl h) ne e = ne h
-ends_not b s q (inr h) ne e = not_none s (ap (λ (p : Pair). p.0) (ok_once (version_string_at b 0) (None, h.0) (Some s, q) h.1 e))
+ends_not b s q (inr h) ne e = not_none s (ap (λ (p : Pair). p.0) (one_ok (version_string_at b 0) (None, h.0) (Some s, q) h.1 e))
 
 ends_not_refused : (b : List ℕ) (x : Refusal) → (b ≡ []) ⊎ ((r : ℕ) × (version_string_at b 0 ≡ Ok (None, r))) → (b ≡ [] → ⊥) → version_string_at b 0 ≡ Err x → ⊥
 ends_not_refused b x (inl h) ne e = ne h
@@ -56,7 +48,7 @@ strings_once b [] (Ok d ∷ ys) h k = absurd (ends_not b d k.1 h k.0 k.2)
 strings_once b [] (Err e ∷ ys) h k = absurd (ends_not_refused b e h k.0 k.1)
 strings_once b (Ok c ∷ xs) [] h k = absurd (ends_not b c h.1 k h.0 h.2)
 strings_once b (Ok c ∷ xs) (Ok d ∷ ys) h k =
-    let e = ok_once (version_string_at b 0) (Some c, h.1) (Some d, k.1) h.2 k.2 in
+    let e = one_ok (version_string_at b 0) (Some c, h.1) (Some d, k.1) h.2 k.2 in
     let first : c ≡ d = some_once c d (ap (λ (p : Pair). p.0) e) in
     let next : h.1 ≡ k.1 = ap (λ (p : Pair). p.1) e in
     let rest : xs ≡ ys = strings_once (drop h.1 b) xs ys h.3 (subst (λ (n : ℕ). Strings (drop n b) ys) (sym next) k.3) in
@@ -65,7 +57,7 @@ strings_once b (Ok c ∷ xs) (Err f ∷ ys) h k = absurd (not_both (version_stri
 strings_once b (Err e ∷ xs) [] h k = absurd (ends_not_refused b e k h.0 h.1)
 strings_once b (Err e ∷ xs) (Ok d ∷ ys) h k = absurd (not_both (version_string_at b 0) (Some d, k.1) e k.2 h.1)
 strings_once b (Err e ∷ xs) (Err f ∷ ys) h k =
-    ap (λ (r : Refusal). Err r ∷ xs) (err_once (version_string_at b 0) e f h.1 k.1) ∙ ap (λ (zs : List (Result VersionString Refusal)). Err f ∷ zs) (h.2 ∙ sym k.2)
+    ap (λ (r : Refusal). Err r ∷ xs) (one_err (version_string_at b 0) e f h.1 k.1) ∙ ap (λ (zs : List (Result VersionString Refusal)). Err f ∷ zs) (h.2 ∙ sym k.2)
 
 -- the function of the bytes has the strings
 strings_at : (b : List ℕ) (r : Result (Option VersionString × ℕ) Refusal) → b ≢ [] → version_string_at b 0 ≡ r → ((q : ℕ) → 0 < q → Strings (drop q b) (strings (drop q b))) → Strings b (then_more strings b r)

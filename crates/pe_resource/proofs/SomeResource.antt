@@ -1,6 +1,6 @@
 -- A walk has an answer, and so has what stands on it.
 use Rattle.std.proofs.Common.{◌≡◌, ℕ, zero, suc, ◌<◌, Bool, true, false, List, length, Option, Some, None, Result, Ok, Err, IsSome, ⊎_elim, refl, ap, ◌∙◌}
-use Rattle.pe_core.proofs.Pigeonhole.{StopsAfter, follows_from_decides, goes_or_stops, never_stops}
+use Rattle.pe_core.proofs.Pigeonhole.{StopsAfter, follows_from_decides, goes_or_stops, last_state, never_stops}
 use Rattle.pe_core.specs.Chains.{after}
 use Rattle.pe_core.specs.Refusals.{Refusal, Short, ResourceCycle, ◌>>=◌}
 use Rattle.pe_core.specs.declared.byte_range.ByteRange.{ByteRange}
@@ -16,13 +16,6 @@ use Rattle.pe_resource.specs.VersionFields.{VersionView}
 use Rattle.pe_resource.proofs.Walks.{only_short, offset_decides, offsets_below}
 
 -- ---- walks
-
--- the last state
-last : {X : Type 0} (step : X → Option X) (j : ℕ) (x : X) → StopsAfter step x j → (y : X) × (after step j x ≡ Some y) × (step y ≡ None)
-last step zero x s = (x, refl, s)
-last step (suc j) x s =
-    let (y, to, none) = last step j s.0 s.2 in
-    (y, rw s.1 to, none)
 
 failing : (p : ResourceEntry → Bool) (v : ResourceEntry) (t : Bool) → p v ≡ t → passed_on p (Ok (Some v)) ≡ None → decided p v (Ok (Some v)) ≡ Some (Ok v)
 failing p v true is none = absurd (let more : passed_on p (Ok (Some v)) ≡ Some v = rw is refl in cc)
@@ -44,7 +37,7 @@ some_walk b p e =
     (λ (more : IsSome (after (passes b p) (suc (length b)) e)).
     (Err ResourceCycle, never_stops (passes b p) directory_offset (length b) (follows_from_decides (passes b p) directory_offset (offset_decides b p)) (offsets_below b p) e more))
     (λ (stops : (j : ℕ) × (j < suc (length b)) × StopsAfter (passes b p) e j).
-    let (w, to, none) = last (passes b p) stops.0 e stops.2 in at_last b p e stops.0 w (step b w) to refl none)
+    let (w, to, none) = last_state (passes b p) stops.0 e stops.2 in at_last b p e stops.0 w (step b w) to refl none)
     (goes_or_stops (passes b p) (suc (length b)) e)
 
 -- ---- contents

@@ -4,6 +4,7 @@ use Rattle.std.proofs.lemmas.Bool.Decides.{nat_tests}
 use Rattle.std.proofs.lemmas.List.{places, same_lists, get_or-map, length-map}
 use Rattle.std.specs.Option.{option_map, option_or}
 use Rattle.std.specs.Prelude.{nat_le}
+use Rattle.pe_core.proofs.Ranges.{length_range, range_in_range}
 use Rattle.pe_core.specs.Bytes.{range, holds}
 use Rattle.pe_core.specs.Offsets.{bytes_in, IsWithin}
 use Rattle.pe_core.specs.Refusals.{Refusal, ◌>>=◌}
@@ -18,20 +19,14 @@ use Rattle.pe_resource.proofs.Names.{whole_key}
 abbrev Pair : Type 0
 Pair = Option VersionString × ℕ
 
-length_of_range : (b : List ℕ) (p n : ℕ) → p + n ≤ length b → length (range b p n) ≡ n
-length_of_range b p n h = grind (arith, places)
-
 -- a range behind bytes that are dropped
 range_after : (b : List ℕ) (k p n : ℕ) → p + n ≤ length (drop k b) → range (drop k b) p n ≡ range b (k + p) n
 range_after b k p n h = same_lists _ _ (grind (arith, places)) (λ j d lt. grind (arith, places))
 
 -- a range of a range
-range_in_range : (b : List ℕ) (p n q m : ℕ) → p + n ≤ length b → q + m ≤ n → range b (p + q) m ≡ range (range b p n) q m
-range_in_range b p n q m h i = same_lists _ _ (grind (arith, places)) (λ j d lt. grind (arith, places))
-
 pub inner_bytes : (b : List ℕ) (outer r : ByteRange) → IsWithin b outer → IsWithin (bytes_in b outer) r → IsWithin b (inner outer r) × (bytes_in b (inner outer r) ≡ bytes_in (bytes_in b outer) r)
 inner_bytes b outer r h i =
-    let size : length (bytes_in b outer) ≡ outer.length = length_of_range b outer.offset outer.length h in
+    let size : length (bytes_in b outer) ≡ outer.length = length_range b outer.offset outer.length h in
     (omega (arith, size, i, h), range_in_range b outer.offset outer.length r.offset r.length h (omega (arith, size, i)))
 
 drop_after : (b : List ℕ) (k q : ℕ) → drop q (drop k b) ≡ drop (k + q) b
@@ -71,7 +66,7 @@ pub record IsPlaced (b : List ℕ) (s : VersionString) (q : ℕ) : Type 0 where
 
 placed : (b : List ℕ) (s : VersionString) (q v n : ℕ) → value_start s ≡ v → v + n ≡ q → v + n ≤ length b → s.value ≡ range b v n → IsPlaced b s q
 placed b s q v n begin next fits value =
-    let many : length s.value ≡ n = ap length value ∙ length_of_range b v n fits in
+    let many : length s.value ≡ n = ap length value ∙ length_range b v n fits in
     record {
       end = omega (arith, begin, many, next);
       within = omega (arith, next, fits);
@@ -86,7 +81,7 @@ string_placed b s q h =
     let key : range b 6 (key_length b 6) ≡ s.key = ap (λ (x : Pair). key_in x.0) reads.1 in
     let value : range b (value_offset b 0) (lengthened b 0) ≡ s.value = ap (λ (x : Pair). value_in x.0) reads.1 in
     let next : value_offset b 0 + lengthened b 0 ≡ q = ap (λ (x : Pair). x.1) reads.1 in
-    let many : length s.key ≡ key_length b 6 = ap length (sym key) ∙ length_of_range b 6 (key_length b 6) (key_fits b (lengthened b 0) fits) in
+    let many : length s.key ≡ key_length b 6 = ap length (sym key) ∙ length_range b 6 (key_length b 6) (key_fits b (lengthened b 0) fits) in
     placed b s q (value_offset b 0) (lengthened b 0) (ap (λ (n : ℕ). up_to_four (6 + n + 2)) many ∙ starts b) next fits (sym value)
 
 -- ---- all strings

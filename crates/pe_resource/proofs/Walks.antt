@@ -2,6 +2,7 @@
 use Rattle.std.proofs.Common.{◌≡◌, ℕ, suc, ◌+◌, ◌<◌, ◌≤◌, Bool, true, false, cond, List, length, Option, Some, None, Result, Ok, Err, ◌↔◌, refl, ap, sym, ◌∙◌, subst, [], ◌∷◌, arith, add-one, is_some, ⊎_elim}
 use Rattle.std.proofs.lemmas.Bool.{cases_lt}
 use Rattle.std.proofs.lemmas.Bool.Decides.{nat_tests}
+use Rattle.pe_core.proofs.Steps.{other_value}
 use Rattle.pe_core.specs.Chains.{after, KeyDecides, HasKeysBelow}
 use Rattle.pe_core.specs.Bytes.{holds}
 use Rattle.pe_core.specs.Refusals.{Refusal, Memory, Short, ResourceCycle, outcome}
@@ -122,9 +123,6 @@ pub decides_failing : (b : List ℕ) (p : ResourceEntry → Bool) (e : ResourceE
 decides_failing b p e k x w saved h is failed = (k, x, h.reached, ap (decided p x) is ∙ rw failed refl)
 
 -- the same of an answer that wraps the entry
-other_value : {X Y : Type 0} (j k : Refusal) → Path (Result X Refusal) (Err j) (Err k) → Path (Result Y Refusal) (Err j) (Err k)
-other_value j k h = let same : j ≡ k = cc in ap (λ (e : Refusal). Err e) same
-
 pub given_no_cycle : (b : List ℕ) (p : ResourceEntry → Bool) (e v : ResourceEntry) → Walks b p e (Ok v) → Path (Result (Option ResourceEntry) Refusal) (Ok (Some v)) (Err ResourceCycle) ↔ IsEndlessWalk b p e
 given_no_cycle b p e v d = (λ same. cc, λ never. absurd (decided_ends b p e (Ok v) d never))
 

@@ -3,6 +3,8 @@ use Rattle.std.proofs.Common.{◌≡◌, ℕ, zero, suc, ◌+◌, ◌-◌, ◌*�
 use Rattle.std.specs.Prelude.{not, nat_le, Result, if◌then◌else◌}
 use Rattle.std.specs.List.{list_all}
 use Rattle.std.proofs.lemmas.Bool.Decides.{nat_tests}
+use Rattle.pe_core.proofs.EntryItems.{each_same}
+use Rattle.pe_core.proofs.Equality.{both}
 use Rattle.pe_core.specs.Directories.{absent_directory}
 use Rattle.pe_core.specs.Header.{HeaderView, header_at}
 use Rattle.pe_core.specs.Records.{section_table}
@@ -46,19 +48,10 @@ section_stays f b c e n s p h i =
       third f b c e n s (p + 36) 4 (omega arith) (omega arith),
     ) refl
 
-each_below : {X : Type 0} (g h : ℕ → X) (n : ℕ) → ((i : ℕ) → i < n → g i ≡ h i) → each g n ≡ each h n
-unfolding each
-each_below g h zero e = refl
-each_below g h (suc n) e = rw (each_below g h n (λ i lt. e i (omega arith)), e n (omega arith)) refl
-
 sections_stay : (f b : List ℕ) (c e n : ℕ) → Stays f b c e n → (p m : ℕ) → e + 8 ≤ p → p + 40 * m ≤ n → rows (section_table f) 40 p m ≡ rows (section_table b) 40 p m
-sections_stay f b c e n s p m h i = each_below (λ k. section_table f (p + 40 * k)) (λ k. section_table b (p + 40 * k)) m (λ k lt. section_stays f b c e n s (p + 40 * k) (omega arith) (omega arith))
+sections_stay f b c e n s p m h i = each_same (λ k. section_table f (p + 40 * k)) (λ k. section_table b (p + 40 * k)) m (λ k lt. section_stays f b c e n s (p + 40 * k) (omega arith) (omega arith))
 
 -- ---- what ends by an offset ends by a later one
-
-both_of : (a b : Bool) → (a && b) ≡ true → (a ≡ true) × (b ≡ true)
-both_of true b h = (refl, h)
-both_of false b h = absurd cc
 
 data_later : (m n : ℕ) (s : SectionTable) → m ≤ n → data_ends_by m s ≡ true → data_ends_by n s ≡ true
 data_later m n s h e = grind (arith, nat_tests)
@@ -66,7 +59,7 @@ data_later m n s h e = grind (arith, nat_tests)
 all_later : (m n : ℕ) (xs : List SectionTable) → m ≤ n → list_all (data_ends_by m) xs ≡ true → list_all (data_ends_by n) xs ≡ true
 all_later m n [] h e = refl
 all_later m n (x ∷ xs) h e =
-    let both = both_of (data_ends_by m x) (list_all (data_ends_by m) xs) e in
+    let both = both (data_ends_by m x) (list_all (data_ends_by m) xs) e in
     rw (data_later m n x h both.0, all_later m n xs h both.1) refl
 
 three_later : (a b c m n : ℕ) → m ≤ n → (nat_le a m && nat_le b m && nat_le c m) ≡ true → (nat_le a n && nat_le b n && nat_le c n) ≡ true

@@ -3,6 +3,7 @@ use Rattle.std.proofs.Common.{◌≡◌, ℕ, ◌+◌, ◌%◌, ◌<◌, ◌≤�
 use Rattle.std.specs.Prelude.{if◌then◌else◌}
 use Rattle.std.proofs.lemmas.Bool.Decides.{nat_tests}
 use Rattle.std.proofs.lemmas.List.{places, ext_get_or, get_or-append-add}
+use Rattle.pe_core.proofs.Ranges.{length_range, byte_of_range}
 use Rattle.pe_core.specs.Bytes.{range}
 use Rattle.pe_core.specs.Header.{HeaderView}
 use Rattle.pe_core.specs.Offsets.{StandAt, bytes_in}
@@ -14,7 +15,6 @@ use Rattle.pe_sign.specs.WrittenTables.{TableIs, TableContinues}
 use Rattle.pe_sign.specs.declared.attachment.Placement.{Placement}
 use Rattle.pe_sign.specs.declared.attachment.Placement.TheVariants.{After, InPlace}
 use Rattle.pe_sign.specs.declared.digest.LeftOut.{LeftOut}
-use Rattle.pe_core.proofs.SpelledOptional.{length-range}
 use Rattle.pe_sign.proofs.Digests.{agree_fields, holds_joined, holds_unsigned, past_fields}
 use Rattle.pe_sign.proofs.Entries.{image_at, tests_at}
 use Rattle.pe_sign.proofs.Splices.{length-padded}
@@ -57,19 +57,16 @@ new_stands placement l c b f =
 
 -- ---- the table that is kept
 
-range_byte : (b : List ℕ) (p n k : ℕ) → k < n → get_or b (p + k) 0 ≡ get_or (range b p n) k 0
-range_byte b p n k h = grind (arith, places)
-
 old_stands : (l : LeftOut) (c b : List ℕ) → Fits l (length b) → unsigned_length l (length b) ≡ l.certificates.offset → l.certificates.offset + l.certificates.length ≡ length b →
     StandAt (attached_file After l c b) l.certificates.offset (bytes_in b l.certificates)
 old_stands l c b f u e =
     let p : ℕ = l.certificates.offset in
     let n : ℕ = l.certificates.length in
-    let count : length (range b p n) ≡ n = length-range b p n (omega arith) in
+    let count : length (range b p n) ≡ n = length_range b p n (omega arith) in
     let whole : length (take (length b) b) ≡ length b = length-kept After l b f in
     stands_if (attached_file After l c b) (range b p n) p (omega (arith, count, length-attached After l c b f))
     (λ k lt. let small : k < n = omega (arith, count) in
-    after_fields After l c b f (p + k) (omega arith) ∙ front_same (take (length b) b) (padded c) (p + k) (omega (arith, whole)) ∙ take_same (length b) b (p + k) (omega arith) ∙ range_byte b p n k small)
+    after_fields After l c b f (p + k) (omega arith) ∙ front_same (take (length b) b) (padded c) (p + k) (omega (arith, whole)) ∙ take_same (length b) b (p + k) (omega arith) ∙ byte_of_range b p n k small)
 
 -- ---- by the calls
 

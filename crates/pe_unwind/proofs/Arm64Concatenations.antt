@@ -4,13 +4,13 @@ use Rattle.std.specs.Prelude.{if◌then◌else◌, is_some, IfSome, ◌==◌}
 use Rattle.std.specs.Option.{option_map}
 use Rattle.std.proofs.lemmas.List.{length-drop, length-take-le, places, same_lists, take-append-drop}
 use Rattle.std.proofs.Math.Seq.{drop-append_seam}
+use Rattle.pe_core.proofs.Ranges.{held_if_inside}
 use Rattle.pe_core.proofs.PutNumbers.{le-after}
 use Rattle.pe_core.proofs.Splices.{length-bytes_of}
 use Rattle.pe_core.specs.Bytes.{le, bytes_of, holds, range}
 use Rattle.pe_core.specs.Refusals.{Refusal, Short, Arm64Version, outcome}
 use Rattle.pe_unwind.specs.Arm64Record.{Arm64HandlerView, Arm64InfoView, extension_size, extension_at, scope_count, code_words, handler_size, handler_at, info_with, info_tests, info_at, word_bytes, AreRecord, HasWords}
 use Rattle.pe_unwind.specs.Arm64Words.{bits, has_handler, has_extension}
-use Rattle.pe_unwind.proofs.Arm64Records.{held}
 
 length_word : (t : Bool) (o : Option ℕ) → is_some o ≡ t → length (word_bytes o) ≡ (if t then 4 else 0)
 length_word true (Some w) e = length-bytes_of 4 w
@@ -105,5 +105,5 @@ read b rest p i are words =
     let handler : handler_at b (p + 4 + x + s + c) i.header ≡ i.handler = ap (λ (l : List ℕ). handler_at l (p + 4 + x + s + c) i.header) at_handler ∙ read_handler (has_handler i.header) i.handler ((((f ++ h) ++ w) ++ i.scopes) ++ i.codes) rest (p + 4 + x + s + c) are.handler words.handler are.after before_handler in
     let value : info_with b p i.header i.extension ≡ i = same_info i (range b (p + 4 + x) s) (range b (p + 4 + x + s) c) (handler_at b (p + 4 + x + s + c) i.header) scopes codes handler in
     by_words b p i (le b p 4) (extension_at b (p + 4) (le b p 4)) first (ap (extension_at b (p + 4)) first ∙ second)
-    (all_pass (holds b p 4) (bits i.header 18 2 == 0) (holds b (p + 4) x) (holds b (p + 4 + x) s) (holds b (p + 4 + x + s) c) (holds b (p + 4 + x + s + c) n) Short Arm64Version Short Short Short Short (info_with b p i.header i.extension) (held b p 4 (omega (arith, total))) (ap (λ (k : ℕ). k == 0) are.version) (held b (p + 4) x (omega (arith, total))) (held b (p + 4 + x) s (omega (arith, total))) (held b (p + 4 + x + s) c (omega (arith, total))) (held b (p + 4 + x + s + c) n (omega (arith, total)))
+    (all_pass (holds b p 4) (bits i.header 18 2 == 0) (holds b (p + 4) x) (holds b (p + 4 + x) s) (holds b (p + 4 + x + s) c) (holds b (p + 4 + x + s + c) n) Short Arm64Version Short Short Short Short (info_with b p i.header i.extension) (held_if_inside b p 4 (omega (arith, total))) (ap (λ (k : ℕ). k == 0) are.version) (held_if_inside b (p + 4) x (omega (arith, total))) (held_if_inside b (p + 4 + x) s (omega (arith, total))) (held_if_inside b (p + 4 + x + s) c (omega (arith, total))) (held_if_inside b (p + 4 + x + s + c) n (omega (arith, total)))
     ∙ ap (λ (j : Arm64InfoView). Ok j) value)

@@ -4,6 +4,7 @@ use Rattle.std.specs.Prelude.{if◌then◌else◌, is_some, IfSome, ◌==◌}
 use Rattle.std.specs.Option.{option_map}
 use Rattle.std.proofs.lemmas.Bool.Decides.{nat_tests}
 use Rattle.std.proofs.lemmas.List.{take-append-drop, drop-drop, places}
+use Rattle.pe_core.proofs.Ranges.{length_range, inside_if_held, held_if_inside}
 use Rattle.pe_core.proofs.NumberBytes.{bytes_of-le}
 use Rattle.pe_core.specs.Bytes.{AreBytes, le, bytes_of, holds, range}
 use Rattle.std.proofs.lemmas.Bool.{eqb-true}
@@ -25,12 +26,6 @@ passed true true true false w x i j k l m n y o e = absurd cc
 passed true true false v w x i j k l m n y o e = absurd cc
 passed true false u v w x i j k l m n y o e = absurd cc
 passed false t u v w x i j k l m n y o e = absurd cc
-
-there : (b : List ℕ) (p n : ℕ) → holds b p n ≡ true → p + n ≤ length b
-there b p n e = grind (arith, nat_tests)
-
-pub held : (b : List ℕ) (p n : ℕ) → p + n ≤ length b → holds b p n ≡ true
-held b p n h = grind (arith, nat_tests)
 
 -- the bytes from p on are n of them, and those behind
 next_range : (b : List ℕ) (p n : ℕ) → drop p b ≡ range b p n ++ drop (p + n) b
@@ -60,9 +55,6 @@ data_after false b q = tt
 there_if : {X : Type 0} (t : Bool) (x : X) → is_some (if t then Some x else None) ≡ t
 there_if true x = refl
 there_if false x = refl
-
-length_range : (b : List ℕ) (p n : ℕ) → p + n ≤ length b → length (range b p n) ≡ n
-length_range b p n h = search (rules, places)
 
 -- the sum of the sizes, from p on
 end : (p x s c h : ℕ) → p + 4 + x + s + c + h ≡ p + (4 + x + s + c + h)
@@ -117,12 +109,12 @@ facts b p header extension i e =
     let c : ℕ = 4 * code_words header extension in
     let t = passed (holds b p 4) (bits header 18 2 == 0) (holds b (p + 4) (extension_size header)) (holds b (scopes_offset p header) s) (holds b (codes_offset p header extension) c) (holds b (handler_offset p header extension) (handler_size header)) Short Arm64Version Short Short Short Short (info_with b p header extension) i e in
     record {
-      first = there b p 4 t.0;
+      first = inside_if_held b p 4 t.0;
       version = eqb-true _ _ t.1;
-      second = there b (p + 4) (extension_size header) t.2;
-      scopes = there b (scopes_offset p header) s t.3;
-      codes = there b (codes_offset p header extension) c t.4;
-      handler = there b (handler_offset p header extension) (handler_size header) t.5;
+      second = inside_if_held b (p + 4) (extension_size header) t.2;
+      scopes = inside_if_held b (scopes_offset p header) s t.3;
+      codes = inside_if_held b (codes_offset p header extension) c t.4;
+      handler = inside_if_held b (handler_offset p header extension) (handler_size header) t.5;
       value = t.6;
     }
 
@@ -143,8 +135,8 @@ sized b i given =
     let header : ℕ = le b 0 4 in
     let extension : Option ℕ = extension_at b 4 header in
     let g = facts b 0 header extension i given in
-    let first : holds b 0 4 ≡ true = held b 0 4 g.first in
-    let second : holds b 4 (extension_size header) ≡ true = held b 4 (extension_size header) g.second in
+    let first : holds b 0 4 ≡ true = held_if_inside b 0 4 g.first in
+    let second : holds b 4 (extension_size header) ≡ true = held_if_inside b 4 (extension_size header) g.second in
     subst (λ (j : Arm64InfoView). size_at b ≡ Ok (record_size j.header j.extension)) g.value (rw (first, second) refl)
 
 -- it lies in the bytes

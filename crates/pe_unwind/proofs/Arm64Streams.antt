@@ -76,7 +76,7 @@ some_bytes c legal = grind (arith, common_steps)
 drop_more : (bytes : List ℕ) (m n : ℕ) → drop n (drop m bytes) ≡ drop (m + n) bytes
 drop_more bytes m n = grind (arith, common_steps)
 
-starts_some : (bytes : List ℕ) (c : Arm64UnwindCode) → StartsWithArm64Code bytes c → 0 < length bytes
+pub starts_some : (bytes : List ℕ) (c : Arm64UnwindCode) → StartsWithArm64Code bytes c → 0 < length bytes
 starts_some bytes c h =
     let some = some_bytes c h.legal in
     omega (arith, some.0, ap (λ (x : List ℕ). length x) h.spelled, length-append (encoding c) (drop (length (encoding c)) bytes))

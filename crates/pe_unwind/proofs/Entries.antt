@@ -4,7 +4,7 @@ use Rattle.pe_unwind.specs.ScopeTable.{scope_at, scopes}
 use Rattle.pe_core.specs.Rows.{ReadsAfter}
 use Rattle.pe_core.proofs.EntryItems.{le_after, whole_entries-more, whole_entries-none, length-whole_entries}
 
-scope_after : ReadsAfter scope_at 16
+pub scope_after : ReadsAfter scope_at 16
 scope_after b p q e =
     simp (le_after b 16 p q 4 e, le_after b 16 (p + 4) (q + 4) 4 (omega arith), le_after b 16 (p + 8) (q + 8) 4 (omega arith), le_after b 16 (p + 12) (q + 12) 4 (omega arith))
 

@@ -2,6 +2,7 @@
 use Rattle.std.proofs.Common.{◌≡◌, ℕ, ◌+◌, ◌%◌, ◌≤◌, Bool, true, false, List, [], ◌∷◌, length, Option, None, Some, Ok, Err, refl, sym, ap, subst, arith}
 use Rattle.std.proofs.lemmas.Bool.Decides.{nat_tests}
 use Rattle.std.specs.Prelude.{◌==◌, if◌then◌else◌}
+use Rattle.pe_core.proofs.Ranges.{inside_if_held}
 use Rattle.pe_core.specs.Bytes.{holds}
 use Rattle.pe_core.specs.Refusals.{Refusal, ExceptionSize, ExceptionOffset, ExceptionBounds, outcome}
 use Rattle.pe_core.specs.SectionMap.{section_map}
@@ -49,12 +50,9 @@ after_tests true true x v f h = let same : x ≡ v = cc in subst IsInside same (
 after_tests true false x v f h = absurd cc
 after_tests false t x v f h = absurd cc
 
-held : (b : List ℕ) (p n : ℕ) → holds b p n ≡ true → p + n ≤ length b
-held b p n e = grind (arith, nat_tests)
-
 inside_at_offset : (b : List ℕ) (size unit : ℕ) (offset : Option ℕ) (v : ExceptionView) → exception_at_offset b size unit offset ≡ Ok v → IsInside v
 inside_at_offset b size unit None v h = absurd cc
-inside_at_offset b size unit (Some p) v h = after_tests (p % 4 == 0) (holds b p size) (record { content = b; start = p; size = size; alignment = unit }) v (held b p size) h
+inside_at_offset b size unit (Some p) v h = after_tests (p % 4 == 0) (holds b p size) (record { content = b; start = p; size = size; alignment = unit }) v (inside_if_held b p size) h
 
 inside_if_whole : (t : Bool) (b : List ℕ) (size unit : ℕ) (offset : Option ℕ) (v : ExceptionView) → (if t then exception_at_offset b size unit offset else Err ExceptionSize) ≡ Ok v → IsInside v
 inside_if_whole true b size unit offset v h = inside_at_offset b size unit offset v h

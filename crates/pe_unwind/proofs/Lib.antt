@@ -2,6 +2,7 @@ pub mod Names
 pub mod Arm64Equality
 pub mod Entries
 pub mod Offsets
+pub mod ChainedAddresses
 pub mod Arm64Records
 pub mod Arm64Concatenations
 pub mod Searches

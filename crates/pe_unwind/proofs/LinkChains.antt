@@ -3,6 +3,7 @@ use Rattle.std.proofs.Common.{◌≡◌, ◌≢◌, ℕ, suc, ◌+◌, ◌-◌, 
 use Rattle.std.proofs.lemmas.Bool.{false≢true}
 use Rattle.std.proofs.lemmas.Bool.Decides.{nat_tests}
 use Rattle.std.proofs.lemmas.Option.{option_and_then_some, cond_some}
+use Rattle.pe_core.proofs.Steps.{other_value}
 use Rattle.pe_core.specs.Refusals.{Refusal, Memory, Short, UnwindVersion, Unmapped, FunctionLink, FunctionCycle, outcome, ◌>>=◌}
 use Rattle.pe_core.specs.Chains.{after, NeverStops, FollowsKey, HasKeysBelow, KeyDecides}
 use Rattle.pe_core.proofs.Pigeonhole.{never_stops, repeats, after_more}
@@ -179,9 +180,6 @@ record_refusal : (b : List ℕ) (o : Option ℕ) (k : Refusal) → record_at_off
 unfolding unwind_tests
 record_refusal b None k h = refused_as Unmapped k tt h
 record_refusal b (Some p) k h = five_tests (holds b p 1) (version_at b p == 1 || version_at b p == 2) (holds b p 4) (holds b (p + 4) (2 * count_at b p)) (ending_holds b (after_codes b p) (flags_at b p)) (unwind_record b p) k h
-
-other_value : {X Y : Type 0} (j k : Refusal) → Path (Result X Refusal) (Err j) (Err k) → Path (Result Y Refusal) (Err j) (Err k)
-other_value j k h = let same : j ≡ k = cc in ap (λ (e : Refusal). Err e) same
 
 cycle_at_end : (t : Table) (b : List ℕ) (u : ℕ) (end : Result ℕ Refusal) → Follows t u end → ((end >>= record_at_address t b) ≡ Err FunctionCycle) ↔ IsEndless t u
 cycle_at_end t b u (Ok v) f = (λ e. absurd (record_refusal b (t.offset v) FunctionCycle e), λ endless. absurd (let e = (cycle_is_endless t u (Ok v) f).1 endless in cc))

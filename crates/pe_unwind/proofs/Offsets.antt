@@ -3,15 +3,13 @@ use Rattle.std.proofs.Common.{◌≡◌, ℕ, ◌+◌, ◌-◌, ◌*◌, ◌≤�
 use Rattle.std.specs.Prelude.{slice_range, ◌==◌, ◌||◌, if◌then◌else◌, IfSome}
 use Rattle.std.proofs.lemmas.Bool.Decides.{nat_tests}
 use Rattle.std.proofs.lemmas.List.{places, same_lists}
+use Rattle.pe_core.proofs.Ranges.{length_range, inside_if_held}
 use Rattle.pe_core.specs.Bytes.{holds, le, range}
 use Rattle.pe_core.specs.Refusals.{Refusal, Short, UnwindVersion, outcome}
 use Rattle.pe_unwind.specs.FunctionTable.{function_at}
 use Rattle.pe_core.specs.Offsets.{StandAt}
 use Rattle.pe_unwind.specs.Offsets.{StandLast, handler_data_of, UnwindPartsStand}
 use Rattle.pe_unwind.specs.UnwindRecord.{Exception, Termination, UnwindInfoView, Ending, ending_at, unwind_tests, unwind_record, count_at, version_at, flags_at, after_codes, ending_holds, is_chained, handles_exceptions, handles_termination}
-
-length_of_range : (b : List ℕ) (p n : ℕ) → p + n ≤ length b → length (slice_range b p (p + n)) ≡ n
-length_of_range b p n h = grind (arith, places)
 
 -- what is behind a place is the range up to the end
 tail_is_range : (b : List ℕ) (k : ℕ) → slice_range b (length b - length (drop k b)) (length b - length (drop k b) + length (drop k b)) ≡ drop k b
@@ -22,7 +20,7 @@ tail_is_inside b k = grind (arith, places)
 
 pub range_stands : (b : List ℕ) (p n : ℕ) → p + n ≤ length b → StandAt b p (range b p n)
 range_stands b p n h =
-    let count : length (slice_range b p (p + n)) ≡ n = length_of_range b p n h in
+    let count : length (slice_range b p (p + n)) ≡ n = length_range b p n h in
     record {
       inside = omega (arith, count, h);
       here = rw count refl;
@@ -34,7 +32,7 @@ tail_stands b k = record {
   here = tail_is_range b k;
 }
 
-abbrev ending_by : List ℕ → ℕ → Bool → Bool → Bool → Ending
+abbrev pub ending_by : List ℕ → ℕ → Bool → Bool → Bool → Ending
 ending_by b q chained exception termination =
     if chained then record { chained = Some (function_at b q); handler = None }
     else (if exception then record { chained = None; handler = Some (Exception (le b q 4) (drop (q + 4) b)) }
@@ -59,9 +57,6 @@ passed true true false d e i j k l m v y h = absurd cc
 passed true false c d e i j k l m v y h = absurd cc
 passed false b c d e i j k l m v y h = absurd cc
 
-held : (b : List ℕ) (p n : ℕ) → holds b p n ≡ true → p + n ≤ length b
-held b p n e = grind (arith, nat_tests)
-
 -- what is given is what stands there
 pub given : (b : List ℕ) (p : ℕ) (i : UnwindInfoView) → outcome (unwind_tests b p) (unwind_record b p) ≡ Ok i → (holds b (p + 4) (2 * count_at b p) ≡ true) × (unwind_record b p ≡ i)
 unfolding unwind_tests
@@ -80,4 +75,4 @@ parts_of_record b p h = record {
 pub parts_stand : (b : List ℕ) (p : ℕ) (i : UnwindInfoView) → outcome (unwind_tests b p) (unwind_record b p) ≡ Ok i → UnwindPartsStand b p i
 parts_stand b p i e =
     let found = given b p i e in
-    subst (λ (j : UnwindInfoView). UnwindPartsStand b p j) found.1 (parts_of_record b p (held b (p + 4) (2 * count_at b p) found.0))
+    subst (λ (j : UnwindInfoView). UnwindPartsStand b p j) found.1 (parts_of_record b p (inside_if_held b (p + 4) (2 * count_at b p) found.0))

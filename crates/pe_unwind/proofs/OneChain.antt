@@ -2,28 +2,12 @@
 use Rattle.std.proofs.Common.{◌≡◌, ℕ, List, zero, suc, ◌-◌, ◌%◌, ◌==◌, if◌then◌else◌, true, false, eqb, Option, Some, None, Result, Ok, Err, ◌⊎◌, inl, inr, ⊎_elim, refl, ap, sym, ◌∙◌, arith, option_and_then}
 use Rattle.std.proofs.lemmas.Bool.Decides.{nat_tests}
 use Rattle.pe_core.specs.Refusals.{Refusal, Unmapped, FunctionLink, FunctionCycle, ◌>>=◌}
+use Rattle.pe_core.proofs.Pigeonhole.{stop_once}
 use Rattle.pe_core.specs.Chains.{after}
 use Rattle.pe_unwind.specs.Links.{Table, IsEven, link, next, Reaches, Follows}
 use Rattle.pe_unwind.specs.UnwindRecord.{UnwindInfoView}
 use Rattle.pe_unwind.specs.Unwinding.{Unwinds, record_at_address}
 use Rattle.pe_unwind.proofs.LinkChains.{next-unmapped, next-no_entry, cycle_is_endless}
-
--- steps come to one last state
-stop_once_at : {X : Type 0} (step : X → Option X) (j k : ℕ) (o : Option X) (y z : X) → ((w : X) → after step j w ≡ Some y → after step k w ≡ Some z → y ≡ z) → option_and_then (after step j) o ≡ Some y → option_and_then (after step k) o ≡ Some z → y ≡ z
-stop_once_at step j k None y z later h i = cc
-stop_once_at step j k (Some w) y z later h i = later w h i
-
-stop_once : {X : Type 0} (step : X → Option X) (j k : ℕ) (x y z : X) → step y ≡ None → step z ≡ None → after step j x ≡ Some y → after step k x ≡ Some z → y ≡ z
-stop_once step zero zero x y z a b h i = cc
-stop_once step zero (suc k) x y z a b h i =
-    let same : x ≡ y = cc in
-    let none : step x ≡ None = ap step same ∙ a in
-    absurd (let e = rw none at i in cc)
-stop_once step (suc j) zero x y z a b h i =
-    let same : x ≡ z = cc in
-    let none : step x ≡ None = ap step same ∙ b in
-    absurd (let e = rw none at h in cc)
-stop_once step (suc j) (suc k) x y z a b h i = stop_once_at step j k (step x) y z (λ w. stop_once step j k w y z a b) h i
 
 next-even : (t : Table) (u : ℕ) → IsEven u → next t u ≡ None
 unfolding next link

@@ -2,20 +2,13 @@
 use Rattle.std.proofs.Common.{◌≡◌, ◌≢◌, ℕ, suc, ◌-◌, ◌%◌, ◌<◌, true, eqb, List, zero, Option, Some, None, Result, Ok, Err, IsSome, ⊎_elim, refl, arith}
 use Rattle.std.proofs.lemmas.Bool.{cases_eq}
 use Rattle.std.proofs.lemmas.Bool.Decides.{nat_tests}
-use Rattle.pe_core.proofs.Pigeonhole.{StopsAfter, goes_or_stops, never_stops}
+use Rattle.pe_core.proofs.Pigeonhole.{StopsAfter, goes_or_stops, last_state, never_stops}
 use Rattle.pe_core.specs.Chains.{after}
 use Rattle.pe_core.specs.Refusals.{Refusal, Unmapped, FunctionLink, FunctionCycle, ◌>>=◌}
 use Rattle.pe_unwind.specs.Links.{Table, IsOdd, table_count, link_entry_at, link, next, address_of, Follows}
 use Rattle.pe_unwind.specs.UnwindRecord.{UnwindInfoView}
 use Rattle.pe_unwind.specs.Unwinding.{Unwinds, record_at_address}
 use Rattle.pe_unwind.proofs.LinkChains.{endless-from_never_stops, follows_key, keys_below, key}
-
--- the last state
-last : {X : Type 0} (step : X → Option X) (j : ℕ) (x : X) → StopsAfter step x j → (y : X) × (after step j x ≡ Some y) × (step y ≡ None)
-last step zero x s = (x, refl, s)
-last step (suc j) x s =
-    let (y, to, none) = last step j s.0 s.2 in
-    (y, rw s.1 to, none)
 
 next-entry : (t : Table) (u p i : ℕ) → IsOdd u → t.offset (u - 1) ≡ Some p → link_entry_at t p ≡ Some i → next t u ≡ Some (address_of t i)
 unfolding next link
@@ -46,7 +39,7 @@ some_answer t u =
     (λ (more : IsSome (after (next t) (suc (table_count t)) u)).
     (Err FunctionCycle, endless-from_never_stops t u (never_stops (next t) (key t) (table_count t) (follows_key t) (keys_below t) u more)))
     (λ (stops : (j : ℕ) × (j < suc (table_count t)) × StopsAfter (next t) u j).
-    let (v, to, none) = last (next t) stops.0 u stops.2 in at_last t u stops.0 v to none)
+    let (v, to, none) = last_state (next t) stops.0 u stops.2 in at_last t u stops.0 v to none)
     (goes_or_stops (next t) (suc (table_count t)) u)
 
 pub some_record : (t : Table) (b : List ℕ) (u : ℕ) → (x : Result UnwindInfoView Refusal) × Unwinds t b u x

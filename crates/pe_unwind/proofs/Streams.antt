@@ -19,7 +19,7 @@ use Rattle.pe_unwind.proofs.SpellingLengths.{all_spelled, starts_slots, cut_one,
 abbrev pub Next : UnwindCodeIterator → Option (Result UnwindCode Error) → UnwindCodeIterator → Type 0
 Next s r t = ReturnsCode (stream_of s) r (stream_of t)
 
-starts_some : (v f : ℕ) (b : List ℕ) (code : UnwindCode) (n : ℕ) → StartsWithCode v f b code n → 0 < length b
+pub starts_some : (v f : ℕ) (b : List ℕ) (code : UnwindCode) (n : ℕ) → StartsWithCode v f b code n → 0 < length b
 starts_some v f [] code zero h = absurd h.1
 starts_some v f [] code (suc n) h = absurd h.1
 starts_some v f (x ∷ b) code n h = omega arith
