@@ -75,9 +75,6 @@ front_number left n h i =
 inner_range : (b : List ℕ) (p l n q m : ℕ) → p + l ≤ length b → n ≤ l → q + m ≤ n → range b (p + q) m ≡ range (range (range b p l) 0 n) q m
 inner_range b p l n q m h i j = same_lists _ _ (grind (arith, places)) (λ k d lt. grind (arith, places))
 
-length_inner : (b : List ℕ) (p l n : ℕ) → p + l ≤ length b → n ≤ l → length (range (range b p l) 0 n) ≡ n
-length_inner b p l n h i = grind (arith, places)
-
 -- a front of what follows v is a range from there on, and nothing from the end on if v is past it
 front_of_rest : (x : List ℕ) (v s : ℕ) → take s (drop v x) ≡ range x (min v (length x)) (length (take s (drop v x)))
 front_of_rest x v s = same_lists _ _ (grind (arith, places)) (λ k d lt. grind (arith, places))

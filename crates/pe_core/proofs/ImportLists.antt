@@ -253,6 +253,3 @@ entry_names_are offset w b entries offsets names are texts = record {
       ∙ get_or-map (text_at b) (map (hint_offset_of offset w) (map entry_view entries)) i 0 None (omega (arith, lt, many, length-map (map entry_view entries) (hint_offset_of offset w), length-map entries entry_view))
       ∙ ap (text_at b) (get_or-map (hint_offset_of offset w) (map entry_view entries) i (entry_view e) 0 (omega (arith, lt, many, length-map entries entry_view)) ∙ ap (hint_offset_of offset w) (get_or-map entry_view entries i e (entry_view e) (omega (arith, lt, many))));
 }
-
-pub as_many_entries : (f : EntryView → ℕ) (b : List ℕ) (entries : List Entry) (offsets : List ℕ) (names : List (Option (Bor (List ℕ)))) → offsets ≡ map f (map entry_view entries) → texts_of names ≡ map (text_at b) offsets → length names ≡ length entries
-as_many_entries f b entries offsets names are texts = sym (length-map names (option_map (λ (s : Bor (List ℕ)). s.now))) ∙ ap length texts ∙ length-map offsets (text_at b) ∙ ap length are ∙ length-map (map entry_view entries) f ∙ length-map entries entry_view

@@ -5,20 +5,7 @@ use denote.Enum.Compared.{Each, by}
 use Rattle.pe_core.specs.contracts.error.Reason.{enum}
 use Rattle.pe_core.specs.declared.error.Reason.{Reason}
 use Rattle.pe_core.specs.Traits.{IsEquality}
-use Rattle.pe_core.proofs.VariantEquality.{EachDecides, variants_equal, none_equal, last_equal, next_equal, none, last, next, number}
-
--- the fields of a reason: none, one number or two
-abbrev one_equal : ℕ × Unit {0} → ℕ × Unit {0} → Bool
-one_equal = last_equal nat_eq
-
-abbrev two_equal : ℕ × (ℕ × Unit {0}) → ℕ × (ℕ × Unit {0}) → Bool
-two_equal = next_equal nat_eq one_equal
-
-one : IsEquality one_equal
-one = last nat_eq number
-
-two : IsEquality two_equal
-two = next nat_eq one_equal number one
+use Rattle.pe_core.proofs.VariantEquality.{EachDecides, variants_equal, none_equal, one_equal, two_equal, none, one, two}
 
 -- the test of each kind's fields, in the order of the kinds
 abbrev each : Each Bool enum.parts

@@ -1,5 +1,5 @@
 -- A derived `==` of an enum is equality if it is equality on the fields of each variant.
-use Rattle.std.proofs.Common.{◌≡◌, Bool, true, false, List, [], ◌∷◌, refl, ap, sym, ◌∙◌, inl, inr, nat_eq, arith}
+use Rattle.std.proofs.Common.{ℕ, ◌≡◌, Bool, true, false, List, [], ◌∷◌, refl, ap, sym, ◌∙◌, inl, inr, nat_eq, arith}
 use Rattle.std.specs.Prelude.{◌↔◌, ◌&&◌, IsTrue}
 use Rattle.std.proofs.lemmas.Bool.Decides.{nat_tests}
 use denote.Enum.Compared.{Each, by}
@@ -40,6 +40,19 @@ next {A} {B} f g same others x y = (
 
 pub number : IsEquality nat_eq
 number x y = (λ t. grind (arith, nat_tests), λ e. grind (arith, nat_tests))
+
+-- of one number, and of two
+abbrev pub one_equal : ℕ × Unit {0} → ℕ × Unit {0} → Bool
+one_equal = last_equal nat_eq
+
+abbrev pub two_equal : ℕ × (ℕ × Unit {0}) → ℕ × (ℕ × Unit {0}) → Bool
+two_equal = next_equal nat_eq one_equal
+
+pub one : IsEquality one_equal
+one = last nat_eq number
+
+pub two : IsEquality two_equal
+two = next nat_eq one_equal number one
 
 -- ---- the variants
 

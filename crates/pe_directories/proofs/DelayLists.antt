@@ -90,6 +90,3 @@ name_is b offset left more names i x d n is = let e = named b offset left more n
 pub names_after : {X : Type 0} (b : List ℕ) (offset : X → ℕ) (left more : List (Result X DirectoryRefusal)) (names : List (Option (Bor (List ℕ)))) (i : ℕ) (item : Result X DirectoryRefusal)
     → NamesLeft b offset left names i → left ≡ item ∷ more → NamesLeft b offset more names (i + 1)
 names_after b offset left more names i item n is = let e = named b offset left more names i item None n is in record { are = cc e }
-
-pub all_names : {X : Type 0} (b : List ℕ) (offset : X → ℕ) (items : List (Result X DirectoryRefusal)) (names : List (Option (Bor (List ℕ)))) → AreItemNames b offset items names → NamesLeft b offset items names 0
-all_names b offset items names h = record { are = h }

@@ -64,9 +64,6 @@ unless_no_memory (errors.BoundImportName offset) P x = x
 pub record ReadSoFar {X Y : Type 0} (read : X → Result Y DirectoryRefusal) (items left : List (Result X DirectoryRefusal)) (ys : List Y) : Type 0 where
   pub rest : with_rest ys (each_read read left) ≡ each_read read items
 
-pub nothing_read : {X Y : Type 0} (read : X → Result Y DirectoryRefusal) (items : List (Result X DirectoryRefusal)) → ReadSoFar read items items []
-nothing_read read items = record { rest = with_none (each_read read items) }
-
 pub one_read : {X Y : Type 0} (read : X → Result Y DirectoryRefusal) (items left more : List (Result X DirectoryRefusal)) (ys : List Y) (x : X) (y : Y)
     → ReadSoFar read items left ys → left ≡ Ok x ∷ more → read x ≡ Ok y → ReadSoFar read items more (ys ++ y ∷ [])
 unfolding each_read

@@ -6,31 +6,9 @@ use Rattle.pe_frame.specs.declared.arm64.packed.PackedFrame.{PackedFrame}
 use Rattle.pe_frame.specs.Arm64CodeLists.{extended, Adds}
 use Rattle.pe_frame.specs.Arm64Packed.{integer_pair, integer_pairs, float_pair, float_pairs}
 
-pub take_again : {A : Type 0} (n : ℕ) (xs ys : List A) → take n (take n xs ++ ys) ≡ take n (xs ++ ys)
-take_again zero xs ys = refl
-take_again (suc n) [] ys = refl
-take_again {A = A} (suc n) (x ∷ xs) ys = ap (λ (l : List A). x ∷ l) (take_again n xs ys)
-
--- so does a list that was extended once more
-pub adds_one : (old new codes : List Arm64UnwindCode) → new ≡ extended old codes → Adds old new codes
-adds_one old new codes e more =
-    ap (λ (l : List Arm64UnwindCode). extended l more) e
-    ∙ (take_again 24 (old ++ codes) more ∙ ap (λ (l : List Arm64UnwindCode). take 24 l) (append_assoc old codes more))
-
-pub adds_none : (old : List Arm64UnwindCode) → Adds old old []
-adds_none old more = refl
-
-pub adds_then : (old mid new xs ys : List Arm64UnwindCode) → Adds old mid xs → Adds mid new ys → Adds old new (xs ++ ys)
-adds_then old mid new xs ys first second more =
-    second more ∙ (first (ys ++ more) ∙ ap (λ (l : List Arm64UnwindCode). extended old l) (sym (append_assoc xs ys more)))
-
 -- a full list stays as it is
 pub full_adds : (old codes : List Arm64UnwindCode) → length old ≡ 24 → Adds old old codes
 full_adds old codes full more = take_at old more 24 full ∙ sym (take_at old (codes ++ more) 24 full)
-
--- what is added before more codes is added to all of them
-pub adds_more : (old mid new : List Arm64UnwindCode) (c : Arm64UnwindCode) (rest : List Arm64UnwindCode) → Adds old mid (c ∷ []) → Adds mid new rest → Adds old new (c ∷ rest)
-adds_more old mid new c rest first second = adds_then old mid new (c ∷ []) rest first second
 
 -- one pair less is left of those that are added
 pub integers_more : (p : PackedFrame) (old new start all : List Arm64UnwindCode) (c : Arm64UnwindCode) (i j : ℕ) → i ≡ suc j → c ≡ integer_pair p j → Adds old new (c ∷ []) →

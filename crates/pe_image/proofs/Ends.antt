@@ -59,9 +59,6 @@ le_is n k h = grind (arith, nat_tests)
 pub within : {Y : Type 0} (n : ℕ) (x y : Y) → possible n x ≡ Ok y → n ≤ longest
 within n x y e = is_le n longest (fits_if (nat_le n longest) x y e)
 
-pub possible_if : {Y : Type 0} (n : ℕ) (x y : Y) → n ≤ longest → x ≡ y → possible n x ≡ Ok y
-possible_if n x y h e = rw (le_is n longest h) (ap (λ z. Ok z) e)
-
 -- ---- headers
 
 -- the headers reach to the end of the stub, or of the optional header
@@ -86,9 +83,6 @@ pub record Reach (b : List ℕ) (unit : Option ℕ) (start : ℕ) (sections : Li
   pub all : max end (greatest_end (all_section_pieces b unit offset (drop i sections))) ≡ greatest_end (all_section_pieces b unit start sections)
   pub small : end ≤ longest
 
-pub reach_first : (b : List ℕ) (unit : Option ℕ) (start : ℕ) (sections : List SectionTable) → Reach b unit start sections 0 start 0
-reach_first b unit start sections = record { at = omega arith; all = omega arith; small = omega arith }
-
 one_more : (e k l : ℕ) → max e (max k l) ≡ max (max e k) l
 one_more e k l = omega arith
 
@@ -111,13 +105,6 @@ pub reach_refused : {Z : Type 0} (b : List ℕ) (unit : Option ℕ) (start : ℕ
 reach_refused b unit start sections end offset i d z k h r e =
     let n : ℕ = greatest_end (section_pieces b unit offset (get_or sections i d)) in
     impossible n (greatest_end (all_section_pieces b unit start sections)) n z k (omega (arith, rest_reach b unit start sections end offset i d h r)) e
-
-pub reach_last : (b : List ℕ) (unit : Option ℕ) (start : ℕ) (sections : List SectionTable) (end offset i : ℕ) → length sections ≡ i → Reach b unit start sections end offset i → possible {X = ℕ × ℕ} (greatest_end (all_section_pieces b unit start sections)) (greatest_end (all_section_pieces b unit start sections), start + 40 * length sections) ≡ Ok (end, offset)
-reach_last b unit start sections end offset i h r =
-    let all : max end (greatest_end (all_section_pieces b unit offset [])) ≡ greatest_end (all_section_pieces b unit start sections) = rw (drop_all i sections (omega (arith, h))) at r.all in
-    let same : greatest_end (all_section_pieces b unit start sections) ≡ end = sym all ∙ (omega arith) in
-    let at : start + 40 * length sections ≡ offset = omega (arith, h, r.at) in
-    possible_if (greatest_end (all_section_pieces b unit start sections)) _ (end, offset) (omega (arith, same, r.small)) (rw (same, at) refl)
 
 -- ---- certificates
 
@@ -167,12 +154,6 @@ row_refused start cs offset i d z k h r e =
     let rest : List CertificateView = drop (i + 1) (map certificate_view cs) in
     let ends : row_end written_length n rest ≡ row_end written_length start (map certificate_view cs) = rw (rest_of_seen certificate_view cs i d h) at r.ends in
     impossible n (row_end written_length start (map certificate_view cs)) n z k (omega (arith, row_end_after rest n, ends)) e
-
-pub row_last : (start : ℕ) (cs : List AttributeCertificate) (offset i : ℕ) → length cs ≤ i → RowLeft start cs offset i → possible (row_end written_length start (map certificate_view cs)) (row_end written_length start (map certificate_view cs)) ≡ Ok offset
-row_last start cs offset i h r =
-    let ends : row_end written_length offset [] ≡ row_end written_length start (map certificate_view cs) = rw (no_rest_of_seen certificate_view cs i h) at r.ends in
-    let same : row_end written_length start (map certificate_view cs) ≡ offset = sym ends in
-    possible_if (row_end written_length start (map certificate_view cs)) _ offset (omega (arith, same, r.small)) same
 
 -- ---- the whole
 

@@ -33,9 +33,6 @@ pub record Goes {X : Type 0} (f : ℕ → X → List Piece) (w : X → ℕ) (b :
   pub fit : all_fit (length b) (in_a_row f w offset rest) ≡ true
   pub ends : row_end w offset rest ≡ row_end w start xs
 
-pub goes_first : {X : Type 0} (f : ℕ → X → List Piece) (w : X → ℕ) (b : List ℕ) (start : ℕ) (xs : List X) → all_fit (length b) (in_a_row f w start xs) ≡ true → Goes f w b start xs b start xs
-goes_first f w b start xs h = record { same = refl; fit = h; ends = refl }
-
 pub goes_fits : {X : Type 0} (f : ℕ → X → List Piece) (w : X → ℕ) (b : List ℕ) (start : ℕ) (xs : List X) (now : List ℕ) (offset : ℕ) (x : X) (rest : List X) → Goes f w b start xs now offset (x ∷ rest) → all_fit (length b) (f offset x) ≡ true
 goes_fits f w b start xs now offset x rest g = and_left _ _ (sym (all_fit_append (length b) (f offset x) (in_a_row f w (offset + w x) rest)) ∙ g.fit)
 
@@ -63,19 +60,6 @@ pub no_rest_of_seen : {X Y : Type 0} (view : X → Y) (xs : List X) (i : ℕ) �
 no_rest_of_seen view xs i h = drop_all i (map view xs) (omega (arith, length-map xs view))
 
 -- ---- a test of all elements, from the first on, which may look at those behind each
-
-pub test_goes_on : {X : Type 0} (F : List X → Bool) (g : X → List X → Bool) → ((x : X) (ys : List X) → F (x ∷ ys) ≡ (g x ys && F ys)) → (xs : List X) (i : ℕ) (d : X) → i < length xs → F (drop i xs) ≡ F xs → g (get_or xs i d) (drop (i + 1) xs) ≡ true → F (drop (i + 1) xs) ≡ F xs
-test_goes_on F g step xs i d h e t =
-    let k : F (get_or xs i d ∷ drop (i + 1) xs) ≡ F xs = rw (rest_at xs i d h) at e in
-    sym (step (get_or xs i d) (drop (i + 1) xs) ∙ ap (λ b. b && F (drop (i + 1) xs)) t) ∙ k
-
-pub test_fails : {X : Type 0} (F : List X → Bool) (g : X → List X → Bool) → ((x : X) (ys : List X) → F (x ∷ ys) ≡ (g x ys && F ys)) → (xs : List X) (i : ℕ) (d : X) → i < length xs → F (drop i xs) ≡ F xs → g (get_or xs i d) (drop (i + 1) xs) ≡ false → false ≡ F xs
-test_fails F g step xs i d h e t =
-    let k : F (get_or xs i d ∷ drop (i + 1) xs) ≡ F xs = rw (rest_at xs i d h) at e in
-    sym (step (get_or xs i d) (drop (i + 1) xs) ∙ ap (λ b. b && F (drop (i + 1) xs)) t) ∙ k
-
-pub test_ends : {X : Type 0} (F : List X → Bool) (xs : List X) (i : ℕ) → F [] ≡ true → length xs ≤ i → F (drop i xs) ≡ F xs → true ≡ F xs
-test_ends F xs i z h e = sym z ∙ (ap F (sym (drop_all i xs h)) ∙ e)
 
 -- ---- answers and refusals
 

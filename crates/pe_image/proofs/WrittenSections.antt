@@ -28,12 +28,6 @@ section_fit n b unit offset s h i =
 abbrev pub no_section : SectionTable
 no_section = record { name = []; virtual_size = 0; virtual_address = 0; size_of_raw_data = 0; pointer_to_raw_data = 0; pointer_to_relocations = 0; pointer_to_linenumbers = 0; number_of_relocations = 0; number_of_linenumbers = 0; characteristics = 0 }
 
--- each section's data are in the source, where all are
-pub inside_at : (b : List ℕ) (sections : List SectionTable) (i : ℕ) (d : SectionTable) → all_in_source b sections ≡ true → i < length sections → holds b (get_or sections i d).pointer_to_raw_data (get_or sections i d).size_of_raw_data ≡ true
-inside_at b [] i d h l = absurd (omega arith)
-inside_at b (s ∷ sections) zero d h l = and_left _ _ h
-inside_at b (s ∷ sections) (suc i) d h l = inside_at b sections i d (and_right _ _ h) (omega arith)
-
 all_inside : (b : List ℕ) (i : ℕ) (sections : List SectionTable) → all_in_source b sections ≡ true → all_in_source b (drop i sections) ≡ true
 all_inside b zero sections h = h
 all_inside b (suc i) [] h = h

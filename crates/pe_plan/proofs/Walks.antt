@@ -78,9 +78,6 @@ pub record TakenTo (t : Table) (b : List ℕ) (f : RuntimeFunction) (count : ℕ
   pub many : length records + length rest ≡ count
   pub is_current : IfSome here (λ g. g ≡ current)
 
-pub take_starts : (t : Table) (b : List ℕ) (f : RuntimeFunction) (count : ℕ) → HasLength t b f count → TakenTo t b f count [] f
-take_starts t b f count h = record { rest = h.0; here = Some f; chain = refl; ahead = h.2; many = omega (arith, h.1); is_current = refl }
-
 -- the next record, and those behind it
 record Next (t : Table) (b : List ℕ) (f : RuntimeFunction) (count : ℕ) (records : List UnwindInfoView) (current : RuntimeFunction) : Type 0 where
   info : UnwindInfoView
@@ -136,14 +133,6 @@ goes_on o next later is same = rw is (sym same)
 
 pub goes_nowhere : (o : Option RuntimeFunction) (later : RuntimeFunction) → o ≡ None → IfSome o (λ h. h ≡ later)
 goes_nowhere o later is = rw is tt
-
-ends_at : (t : Table) (b : List ℕ) (f : RuntimeFunction) (count : ℕ) (records rest : List UnwindInfoView) (here : Option RuntimeFunction) → IsChain t b (Some f) records here → IsChain t b here rest None → length records + length rest ≡ count → count ≤ length records → IsChain t b (Some f) records None
-ends_at t b f count records [] here p q many all = subst (λ (o : Option RuntimeFunction). IsChain t b (Some f) records o) q p
-ends_at t b f count records (i ∷ rest) here p q many all = absurd (omega arith)
-
--- all of them
-pub takes_all : (t : Table) (b : List ℕ) (f : RuntimeFunction) (count : ℕ) (records : List UnwindInfoView) (current : RuntimeFunction) → TakenTo t b f count records current → count ≤ length records → IsChain t b (Some f) records None
-takes_all t b f count records current s all = ends_at t b f count records s.rest s.here s.chain s.ahead s.many all
 
 -- what both walks answer
 pub counted : (t : Table) (b : List ℕ) (f : RuntimeFunction) (k : Refusal) → Counts t b f (Err k) → PlansFrom t b f (Err k)

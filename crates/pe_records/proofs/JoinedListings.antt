@@ -44,9 +44,6 @@ tests_later true true false w x c m next s e = absurd cc
 tests_later true false v w x c m next s e = absurd cc
 tests_later false u v w x c m next s e = absurd cc
 
-rounded_later : (s n : ℕ) → s % 8 ≡ 0 → rounded_up (s + n) 8 ≡ s + rounded_up n 8
-rounded_later s n h = omega arith
-
 read_later : (b f : List ℕ) (s a p : ℕ) (c : CertificateView) (next : ℕ) → StandLater b f s a → s % 8 ≡ 0 → a ≤ p → certificate_at b p ≡ Ok (c, next) → certificate_at f (s + p) ≡ Ok (c, s + next)
 unfolding certificate_at certificate certificate_tests
 read_later b f s a p c next l m from e =

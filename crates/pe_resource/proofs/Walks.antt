@@ -36,9 +36,6 @@ pub record WalkedTo (b : List ℕ) (p : ResourceEntry → Bool) (e : ResourceEnt
   pub from_seen : after (passes b p) since seen ≡ Some current
   pub offset : directory_offset seen ≡ saved
 
-pub walk_starts : (b : List ℕ) (p : ResourceEntry → Bool) (e : ResourceEntry) → WalkedTo b p e 0 e (directory_offset e)
-walk_starts b p e = record { reached = refl; before = 0; since = 0; seen = e; to_seen = refl; from_seen = refl; offset = refl }
-
 -- what the step and the predicate say of the next entry
 pub passes_next : (b : List ℕ) (p : ResourceEntry → Bool) (x w : ResourceEntry) → step b x ≡ Ok (Some w) → p w ≡ true → passes b p x ≡ Some w
 passes_next b p x w is passed = ap (passed_on p) is ∙ rw passed refl

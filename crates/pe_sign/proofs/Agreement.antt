@@ -96,9 +96,6 @@ splice_same xs ys p s h a =
 pub agree_then : (q : ℕ → Bool) (xs ys zs : List ℕ) → Agree q xs ys → Agree q ys zs → Agree q xs zs
 agree_then q xs ys zs a b = record { count = a.count ∙ b.count; same = λ k i. a.same k i ∙ b.same k i }
 
-pub agree_back : (q : ℕ → Bool) (xs ys : List ℕ) → Agree q xs ys → Agree q ys xs
-agree_back q xs ys a = record { count = sym a.count; same = λ k i. sym (a.same k i) }
-
 -- fewer bytes are left out
 pub agree_more : (q r : ℕ → Bool) (xs ys : List ℕ) → Agree q xs ys → ((k : ℕ) → r k ≡ false → q k ≡ false) → Agree r xs ys
 agree_more q r xs ys a h = record { count = a.count; same = λ k i. a.same k (h k i) }

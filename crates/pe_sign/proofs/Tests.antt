@@ -112,9 +112,6 @@ certified_parts (Ok k) tests l h =
     let same : k ≡ l = value_is (tests k) k l h in
     (ap (λ m. Ok m) same, subst (λ (m : LeftOut). outcome (tests m) m ≡ Ok m) same (h ∙ ap (λ m. Ok m) (sym same)))
 
-pub certified_image : (placement : Placement) (b : List ℕ) (h : HeaderView) (c : List ℕ) (l : LeftOut) → certified_of placement b h c ≡ Ok l → changeable_parts b h ≡ Ok l
-certified_image placement b h c l e = (certified_parts (changeable_parts b h) (λ k. attach_tests placement k c (length b)) l e).0
-
 pub certified_fits : (placement : Placement) (b : List ℕ) (h : HeaderView) (c : List ℕ) (l : LeftOut) → certified_of placement b h c ≡ Ok l → FitsWith placement l (length b) (length c)
 certified_fits placement b h c l e =
     let both = certified_parts (changeable_parts b h) (λ k. attach_tests placement k c (length b)) l e in
@@ -144,9 +141,6 @@ attached_refused placement b h c r e = then_refused (changeable_parts b h) (λ k
 
 pub detached_value : (b : List ℕ) (h : HeaderView) (l : LeftOut) → changeable_parts b h ≡ Ok l → detached_of b h ≡ Ok (detached_file l b)
 detached_value b h l e = ap (λ (x : Result LeftOut SignRefusal). x >>= λ k. Ok (detached_file k b)) e
-
-pub detached_refused : (b : List ℕ) (h : HeaderView) (r : SignRefusal) → changeable_parts b h ≡ Err r → detached_of b h ≡ Err r
-detached_refused b h r e = ap (λ (x : Result LeftOut SignRefusal). x >>= λ k. Ok (detached_file k b)) e
 
 -- ---- a file and a buffer
 

@@ -5,7 +5,7 @@ use Rattle.std.proofs.lemmas.Bool.{false≢true}
 use Rattle.std.proofs.lemmas.Bool.Decides.{nat_tests}
 use denote.Enum.Bare.{sameb, same_true, true_same}
 use denote.Enum.Compared.{Each, by}
-use Rattle.pe_core.proofs.VariantEquality.{EachDecides, variants_equal, none_equal, last_equal, next_equal, none, last, next, number}
+use Rattle.pe_core.proofs.VariantEquality.{EachDecides, variants_equal, none_equal, one_equal, two_equal, last_equal, next_equal, none, one, two, last, next, number}
 use Rattle.pe_core.specs.Traits.{IsEquality}
 use Rattle.pe_unwind.specs.contracts.arm64.codes.Arm64CustomStackCase.{the_type}
 use Rattle.pe_unwind.specs.contracts.arm64.codes.Arm64UnwindCode.{enum}
@@ -20,12 +20,6 @@ flag false true = (λ t. absurd cc, λ e. absurd cc)
 flag false false = (λ t. refl, λ e. refl)
 
 -- the fields of a code: none, numbers, those of `SaveAnyReg`, or a case
-abbrev one_equal : ℕ × Unit {0} → ℕ × Unit {0} → Bool
-one_equal = last_equal nat_eq
-
-abbrev two_equal : ℕ × (ℕ × Unit {0}) → ℕ × (ℕ × Unit {0}) → Bool
-two_equal = next_equal nat_eq one_equal
-
 abbrev three_equal : ℕ × (ℕ × (ℕ × Unit {0})) → ℕ × (ℕ × (ℕ × Unit {0})) → Bool
 three_equal = next_equal nat_eq two_equal
 
@@ -34,12 +28,6 @@ any_equal = next_equal nat_eq (next_equal beq (next_equal beq two_equal))
 
 abbrev case_equal : Arm64CustomStackCase × Unit {0} → Arm64CustomStackCase × Unit {0} → Bool
 case_equal = last_equal (sameb the_type)
-
-one : IsEquality one_equal
-one = last nat_eq number
-
-two : IsEquality two_equal
-two = next nat_eq one_equal number one
 
 three : IsEquality three_equal
 three = next nat_eq two_equal number two

@@ -94,12 +94,6 @@ cycles t u v h =
     let more : after (next t) (suc (table_count t)) u ≡ Some v = subst (λ (m : ℕ). after (next t) m u ≡ Some v) (add-one (table_count t)) h in
     endless-from_never_stops t u (never_stops (next t) (key t) (table_count t) (follows_key t) (keys_below t) u (ap is_some more))
 
--- a refusal of one step is the refusal of the chain
-pub follows-from_leads : (t : Table) (u k v : ℕ) (e : Refusal) → after (next t) k u ≡ Some v → v % 2 ≢ 0 → LinkLeads t v (Err e) → Follows t u (Err e)
-follows-from_leads t u k v Unmapped is odd h = (v, (k, is), omega arith, h)
-follows-from_leads t u k v FunctionLink is odd h = (v, (k, is), omega arith, h.0, h.1, h.2)
-follows-from_leads t u k v other is odd h = absurd h
-
 stops_at : (t : Table) (u k v : ℕ) → after (next t) k u ≡ Some v → next t v ≡ None → IsEndless t u → ⊥
 stops_at t u k v is none endless = rw (after_more (next t) k u v is ∙ none) at (endless (suc k))
 
@@ -118,9 +112,6 @@ pub record FollowedTo (t : Table) (u links current saved : ℕ) : Type 0 where
   pub since : ℕ
   pub to_saved : after (next t) before u ≡ Some saved
   pub from_saved : after (next t) since saved ≡ Some current
-
-pub follow_starts : (t : Table) (u : ℕ) → FollowedTo t u 0 u u
-follow_starts t u = record { reached = refl; before = 0; since = 0; to_saved = refl; from_saved = refl }
 
 one_more : (t : Table) (u k v w : ℕ) → after (next t) k u ≡ Some v → next t v ≡ Some w → after (next t) (k + 1) u ≡ Some w
 one_more t u k v w is to = rw add-one (after_more (next t) k u v is ∙ to)
