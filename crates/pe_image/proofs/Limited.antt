@@ -1,5 +1,5 @@
 -- An image within a limit of imports.
-use Rattle.std.proofs.Common.{◌≡◌, ℕ, ◌-◌, ◌^◌, ◌<◌, ◌≤◌, Bool, true, false, List, Option, None, Some, Result, Ok, Err, refl, ap, arith}
+use Rattle.std.proofs.Common.{◌≡◌, ℕ, ◌-◌, ◌^◌, ◌<◌, ◌≤◌, Bool, true, false, List, Option, None, Some, Result, Ok, Err, refl, ap, ◌∙◌, arith}
 use Rattle.std.specs.Prelude.{min, nat_lt, IsOk, if◌then◌else◌}
 use Rattle.std.proofs.lemmas.Bool.Decides.{nat_tests}
 use Rattle.pe_core.specs.Header.{HeaderView, header_at}
@@ -13,7 +13,7 @@ use Rattle.pe_image.specs.Core.{CoreView, core_of, core_with, export_data_of, ex
 use Rattle.pe_image.specs.Image.{ImageView, IsImage, ReturnsImage}
 use Rattle.pe_image.specs.Layout.{alignment, directory, is_64}
 use Rattle.pe_image.specs.Limits.{IsImageWithin, ReturnsImageWithin, entry_count, import_count, imports_with, number_or_0}
-use Rattle.pe_image.specs.LimitSteps.{unless_above}
+use Rattle.pe_image.specs.LimitSteps.{imported_of, unless_above}
 use Rattle.pe_image.specs.declared.pe.PE.{PE}
 use Rattle.pe_image.proofs.Images.{core_refused}
 use Rattle.pe_image.proofs.NoMemory.{header_owes_nothing}
@@ -42,41 +42,52 @@ none_above : {X : Type 0} (most : Option ℕ) (r : Result X Refusal) → unless_
 none_above None r = refl
 none_above (Some most) r = ap (λ (t : Bool). if t then Err ImportsLimit else r) (no most 0 (omega arith))
 
--- to test first and to go on is to test all of it
-tested_first : {X Y : Type 0} (most : Option ℕ) (n : ℕ) (r : Result X Refusal) (f : X → Result Y Refusal) → unless_above most n (r >>= f) ≡ (unless_above most n (Ok (tt {0})) >>= λ u. r >>= f)
-tested_first None n r f = refl
-tested_first (Some most) n r f = by_test (nat_lt most n) (r >>= f)
+-- a limit is tested first, before what it limits is read
+pub tested_first : {X : Type 0} (most : Option ℕ) (n : ℕ) (r : Result X Refusal) → unless_above most n r ≡ (unless_above most n (Ok (tt {0})) >>= λ u. r)
+tested_first None n r = refl
+tested_first (Some most) n r = by_test (nat_lt most n) r
   where
-    by_test : {Y : Type 0} (t : Bool) (r : Result Y Refusal) → (if t then Err ImportsLimit else r) ≡ ((if t then Err ImportsLimit else Ok (tt {0})) >>= λ u. r)
+    by_test : {X : Type 0} (t : Bool) (r : Result X Refusal) → (if t then Err ImportsLimit else r) ≡ ((if t then Err ImportsLimit else Ok (tt {0})) >>= λ u. r)
     by_test true r = refl
     by_test false r = refl
 
-in_turn : {X Y : Type 0} (most : Option ℕ) (count : X → ℕ) (found : Result X Refusal) (f : X → Result Y Refusal) (make : X → Y → CoreView)
-    → unless_above most (number_or_0 (found >>= λ x. Ok (count x))) (found >>= λ x. f x >>= λ y. Ok (make x y)) ≡ (found >>= λ x. unless_above most (count x) (Ok (tt {0})) >>= λ u. f x >>= λ y. Ok (make x y))
-in_turn most count (Err e) f make = none_above most (Err e)
-in_turn most count (Ok x) f make = tested_first most (count x) (f x) (λ y. Ok (make x y))
+-- a limit on the first of two steps is a limit on both
+first_limited : {X Y : Type 0} (most : Option ℕ) (n : ℕ) (r : Result X Refusal) (f : X → Result Y Refusal) → unless_above most n (r >>= f) ≡ (unless_above most n r >>= f)
+first_limited None n r f = refl
+first_limited (Some most) n r f = by_test (nat_lt most n) r f
+  where
+    by_test : {X Y : Type 0} (t : Bool) (r : Result X Refusal) (f : X → Result Y Refusal) → (if t then Err ImportsLimit else (r >>= f)) ≡ ((if t then Err ImportsLimit else r) >>= f)
+    by_test true r f = refl
+    by_test false r f = refl
 
--- the core within the limit, as it is read: the import directory, the test of its number, the imports
+paired : {X Y Z : Type 0} (r : Result Y Refusal) (x : X) (make : X × Y → Z) → (r >>= λ y. Ok (make (x, y))) ≡ ((r >>= λ y. Ok (x, y)) >>= λ both. Ok (make both))
+paired (Err e) x make = refl
+paired (Ok y) x make = refl
+
+in_turn : {X Y : Type 0} (most : Option ℕ) (count : X → ℕ) (found : Result X Refusal) (f : X → Result Y Refusal) (make : X × Y → CoreView)
+    → unless_above most (number_or_0 (found >>= λ x. Ok (count x))) (found >>= λ x. f x >>= λ y. Ok (make (x, y))) ≡ ((found >>= λ x. unless_above most (count x) (f x) >>= λ y. Ok (x, y)) >>= λ both. Ok (make both))
+in_turn most count (Err e) f make = none_above most (Err e)
+in_turn most count (Ok x) f make = first_limited most (count x) (f x) (λ y. Ok (make (x, y))) ∙ paired (unless_above most (count x) (f x)) x make
+
+-- the core within the limit, as it is read: what the import directory says comes last
 pub limited_core : (most : Option ℕ) (b : List ℕ) (o : ParseOptions) (header : HeaderView) (sections : List SectionTable)
     → unless_above most (number_or_0 (imports_with b o header.optional_header sections)) (core_with b o header sections)
-    ≡ (import_data_of (section_map o sections (alignment header.optional_header)) (entry_size (is_64 header.optional_header)) b (import_directory o header.optional_header) >>= λ found.
-    unless_above most (entry_count (entry_size (is_64 header.optional_header)) found) (Ok (tt {0})) >>= λ u.
-    imports_of (section_map o sections (alignment header.optional_header)) (entry_size (is_64 header.optional_header)) b found >>= λ list.
+    ≡ (imported_of most (section_map o sections (alignment header.optional_header)) (entry_size (is_64 header.optional_header)) b (import_directory o header.optional_header) >>= λ imported.
     Ok (record {
       header = header;
       sections = sections;
       export_data = export_data_of (section_map o sections (alignment header.optional_header)) b (directory 0 header.optional_header);
       exports = exports_of (section_map o sections (alignment header.optional_header)) b (export_data_of (section_map o sections (alignment header.optional_header)) b (directory 0 header.optional_header));
-      import_data = found;
-      imports = list;
+      import_data = imported.0;
+      imports = imported.1;
     }))
-unfolding core_with
+unfolding core_with imported_of
 limited_core most b o header sections =
     let offset = section_map o sections (alignment header.optional_header) in
     let width = entry_size (is_64 header.optional_header) in
     let data_found = export_data_of offset b (directory 0 header.optional_header) in
     in_turn {X = Option (List ImportRecordView)} {Y = List ImportView} most (entry_count width) (import_data_of offset width b (import_directory o header.optional_header)) (imports_of offset width b)
-    (λ found list. record { header = header; sections = sections; export_data = data_found; exports = exports_of offset b data_found; import_data = found; imports = list })
+    (λ both. record { header = header; sections = sections; export_data = data_found; exports = exports_of offset b data_found; import_data = both.0; imports = both.1 })
 
 -- an image whose headers are refused has no imports, and is refused for its headers before memory is asked for
 header_refused : (most : Option ℕ) (b : List ℕ) (o : ParseOptions) (e : Refusal) → header_at b o.parse_mode ≡ Err e → unless_above most (import_count b o) (core_of b o) ≡ Err e

@@ -6,7 +6,7 @@ use Rattle.pe_core.specs.Bytes.{holds}
 use Rattle.pe_core.specs.Header.{HeaderView, OptionalHeaderView, header_at}
 use Rattle.pe_core.specs.Records.{section_table}
 use Rattle.pe_core.specs.Exports.{ExportDataView}
-use Rattle.pe_core.specs.Imports.{ImportRecordView, entry_size, import_records}
+use Rattle.pe_core.specs.Imports.{ImportRecordView, import_records}
 use Rattle.pe_core.specs.Refusals.{Refusal, Short, IfMemory, outcome, ◌>>=◌}
 use Rattle.pe_core.specs.Rows.{each, rows}
 use Rattle.pe_core.specs.Sections.{sections_of, sections_offset}
@@ -16,8 +16,7 @@ use Rattle.pe_core.specs.declared.error.Error.{Error}
 use Rattle.pe_core.specs.declared.error.Error.TheVariants as errors
 use Rattle.pe_core.specs.declared.options.ParseOptions.{ParseOptions}
 use Rattle.pe_core.specs.declared.section_table.SectionTable.{SectionTable}
-use Rattle.pe_image.specs.Core.{CoreView, core_of, export_data_of, import_data_of, import_directory}
-use Rattle.pe_image.specs.Layout.{alignment, is_64}
+use Rattle.pe_image.specs.Core.{CoreView, core_of, export_data_of, import_data_of}
 use Rattle.pe_image.specs.LayoutParts.{layout_of}
 use Rattle.pe_image.specs.Memory.{AsksForMemory, HasCertificates, HasExports, HasImports, MemoryOnlyIf}
 use Rattle.pe_image.specs.declared.layout.Layout.{Layout}
@@ -54,6 +53,10 @@ imports_given offset width b (Some d) records given some = mapped_given (offset 
     mapped_given None f records given = absurd cc
     mapped_given (Some p) f records given = refl
 
+pub asks_for_imports : (e : Error) (offset : ℕ → Option ℕ) (width : ℕ) (b : List ℕ) (d : Option DataDirectory) (records : Option (List ImportRecordView)) →
+    import_data_of offset width b d ≡ Ok records → IfMemory e (IsSome records) → IfMemory e (IsSomeAnd d (λ d. IsSome (offset d.virtual_address)))
+asks_for_imports e offset width b d records is asked = if_more e (IsSome records) (IsSomeAnd d (λ d. IsSome (offset d.virtual_address))) (imports_given offset width b d records is) asked
+
 pub asks_for_exports : (e : Error) (b : List ℕ) (o : ParseOptions) (sections : List SectionTable) (h : Option OptionalHeaderView) (layout : Layout) (found : Option ExportDataView) → layout ≡ layout_of h →
     found ≡ export_data_of (section_map o sections layout.file_alignment) b layout.exports → IfMemory e (IsSome found) → IfMemory e (HasExports b o sections h ⊎ HasImports o sections h)
 unfolding layout_of
@@ -73,13 +76,6 @@ pub asks_for_directory : (e : Error) (b : List ℕ) (o : ParseOptions) (sections
 unfolding layout_of
 asks_for_directory e b o sections h layout lay asked =
     if_more e (HasImports o sections h) (HasExports b o sections h ⊎ HasImports o sections h) (λ some. inr some) (rw lay at asked)
-
-pub asks_for_imports : (e : Error) (b : List ℕ) (o : ParseOptions) (sections : List SectionTable) (h : Option OptionalHeaderView) (layout : Layout) (found : Option (List ImportRecordView)) → layout ≡ layout_of h →
-    import_data_of (section_map o sections layout.file_alignment) (entry_size layout.is_64) b (if o.parse_imports then layout.imports else None) ≡ Ok found → IfMemory e (IsSome found) → IfMemory e (HasExports b o sections h ⊎ HasImports o sections h)
-unfolding layout_of
-asks_for_imports e b o sections h layout found lay is asked =
-    if_more e (IsSome found) (HasExports b o sections h ⊎ HasImports o sections h)
-    (λ some. inr (imports_given (section_map o sections (alignment h)) (entry_size (is_64 h)) b (import_directory o h) found (rw lay at is) some)) asked
 
 -- ---- the core
 

@@ -12,10 +12,10 @@ ghost use Rattle.pe_core.specs.Refusals.{Returns, ReturnsUnlessMemory, ReturnsUn
 ghost use Rattle.pe_core.specs.SectionMap.{map_view, offset_in, section_map};
 ghost use Rattle.pe_core.specs.Sections.{sections_of};
 ghost use Rattle.pe_image.specs.Core.{export_data_of, exports_of, import_data_of, imports_of, core_with, sections_read, core_of, AreLibrariesOf};
-ghost use Rattle.pe_image.specs.CoreParts.{core_view, CoreHasLayout, CoreHasLibraries};
+ghost use Rattle.pe_image.specs.CoreParts.{core_view, imported_view, CoreHasLayout, CoreHasLibraries};
 ghost use Rattle.pe_image.specs.LayoutParts.{layout_of};
 ghost use Rattle.pe_image.specs.Limits.{entry_count, import_count, imports_with, number_or_0};
-ghost use Rattle.pe_image.specs.LimitSteps.{unless_above};
+ghost use Rattle.pe_image.specs.LimitSteps.{imported_of, unless_above};
 ghost use Rattle.pe_image.specs.Memory.{AsksForMemory, HasExports, HasImports, MemoryOnlyIf};
 
 use crate::layout::Layout;
@@ -237,10 +237,51 @@ fn libraries<'a, A: Allocator + Copy + Drop>(
     data.libraries_with_map(alloc, bytes, sections)
 }
 
+/// What the import directory says. Without one all of it is empty.
+#[derive(Drop)]
+struct Imported<'a, A: Allocator + Copy + Drop> {
+    data: Option<ImportData<'a, A>>,
+    imports: Vec<Import<'a>, A>,
+    libraries: Vec<&'a str, A>,
+}
+
+impl<'a, A: Allocator + Copy + Drop> Imported<'a, A> {
+    /// Reads what the import directory says. Errors: those of the directory; `ImportsLimit` if there is a limit and it has
+    /// more imports; those of its imports; `Memory`.
+    #[tactic(auto, using(crate::proofs::Limited::tested_first, crate::proofs::Requests::asks_for_imports), unfolding(crate::specs::LimitSteps::imported_of))]
+    fn read(
+        alloc: A,
+        bytes: &'a [u8],
+        opts: &ParseOptions,
+        layout: &Layout,
+        sections: &SectionMap<'_>,
+        most: Option<u32>,
+    ) -> Result<Imported<'a, A>>
+        ensures imported { ReturnsUnlessMemory imported_view result (imported_of most
+            (offset_in sections.now) (entry_size layout.now.is_64) bytes.entry.now
+            (if opts.now.parse_imports then layout.now.imports else None)) }
+        ensures libraries { IfOk result (λ imported. AreLibrariesOf
+            (option_map import_data_view imported.data) (map (λ s. s.now) imported.libraries.items)) }
+        ensures memory { MemoryOnlyIf
+            (IsSomeAnd (if opts.now.parse_imports then layout.now.imports else None)
+            (λ d. IsSome (offset_in sections.now d.virtual_address))) result }
+    {
+        let data = import_data(alloc, bytes, opts, layout, sections)?;
+        require_within(&data, layout.is_64, most)?;
+        let imports = imports(alloc, bytes, &data, sections, layout.is_64)?;
+        let libraries = libraries(alloc, bytes, opts, layout, &data, sections)?;
+        Ok(Imported {
+            data,
+            imports,
+            libraries,
+        })
+    }
+}
+
 impl<'a, A: Allocator + Copy + Drop> Core<'a, A> {
     /// Reads the core of an image with these headers and sections. Errors: those of the import directory; `ImportsLimit`
     /// if there is a limit and it has more imports; those of its imports; `Memory`.
-    #[tactic(auto, using(crate::proofs::Limited::limited_core, crate::proofs::Requests::asks_for_index, crate::proofs::Requests::asks_for_exports, crate::proofs::Requests::asks_for_directory, crate::proofs::Requests::asks_for_imports), unfolding(crate::specs::LayoutParts::layout_of))]
+    #[tactic(auto, using(crate::proofs::Limited::limited_core, crate::proofs::Requests::asks_for_index, crate::proofs::Requests::asks_for_exports, crate::proofs::Requests::asks_for_directory), unfolding(crate::specs::LayoutParts::layout_of))]
     fn with(
         alloc: A,
         bytes: &'a [u8],
@@ -265,10 +306,7 @@ impl<'a, A: Allocator + Copy + Drop> Core<'a, A> {
         let index = index(alloc, opts, &sections, &layout, &export_data)?;
         let map = map_by(&index, opts, &sections, layout.file_alignment);
         let exports = exports(alloc, bytes, &export_data, &map)?;
-        let import_data = import_data(alloc, bytes, opts, &layout, &map)?;
-        require_within(&import_data, layout.is_64, most)?;
-        let imports = imports(alloc, bytes, &import_data, &map, layout.is_64)?;
-        let libraries = libraries(alloc, bytes, opts, &layout, &import_data, &map)?;
+        let imported = Imported::read(alloc, bytes, opts, &layout, &map, most)?;
         // They borrow the sections, which the core takes.
         drop(map);
         drop(index);
@@ -277,9 +315,9 @@ impl<'a, A: Allocator + Copy + Drop> Core<'a, A> {
             sections,
             export_data,
             exports,
-            import_data,
-            imports,
-            libraries,
+            import_data: imported.data,
+            imports: imported.imports,
+            libraries: imported.libraries,
             layout,
         })
     }
