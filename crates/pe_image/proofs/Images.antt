@@ -19,8 +19,9 @@ use Rattle.pe_image.specs.FieldSteps.{by_mode, list_by_mode, first_fields_in_tur
 use Rattle.pe_image.specs.Image.{ImageView, FirstFieldsView, first_fields, image_of, with_fields, demanded, first_fields_demanded, before_resources, AreResourcesOf, IsAfterCore, IsImage, ReturnsImage}
 use Rattle.pe_image.specs.ImageSteps.{unless_refused, ReturnsAfterCore}
 use Rattle.pe_image.specs.declared.pe.PE.{PE}
+use Rattle.pe_core.proofs.ImportLists.{unless_memory}
 use Rattle.pe_image.proofs.SectionsFirst.{sections_of_core}
-use Rattle.pe_image.proofs.Steps.{refused_test, passed_test, still_passes, unless, unless_memory, if_memory}
+use Rattle.pe_image.proofs.Steps.{refused_test, passed_test, still_passes, unless_more, if_memory}
 
 -- ---- fields in turn
 
@@ -66,7 +67,7 @@ first_refused b opts c e h =
 
 pub first_refused_unless : (b : List ℕ) (opts : ParseOptions) (c : CoreView) (e : Error) → UnlessMemory e (first_fields_in_turn b opts c ≡ Err (kind_of e)) → UnlessMemory e (IsAfterCore b opts (unless_refused b opts c) (Err (kind_of e)))
 first_refused_unless b opts c e h =
-    unless_memory e (first_fields_in_turn b opts c ≡ Err (kind_of e)) (IsAfterCore b opts (unless_refused b opts c) (Err (kind_of e))) (first_refused b opts c (kind_of e)) h
+    unless_more e (first_fields_in_turn b opts c ≡ Err (kind_of e)) (IsAfterCore b opts (unless_refused b opts c) (Err (kind_of e))) (first_refused b opts c (kind_of e)) h
 
 demanded_refused : {X : Type 0} (mode : ParseMode) (f : Field X) (e : Refusal) → Err e ≡ by_mode mode f → demanded mode f ≡ Err e
 demanded_refused Strict None e h = absurd cc
@@ -114,7 +115,7 @@ core_refused b opts e h = after_refusal b opts (core_of b opts >>= λ c. unless_
 
 -- where an image has a core, its section headers were there before
 pub core_refused_unless : (b : List ℕ) (opts : ParseOptions) (e : Error) → UnlessMemory e (core_of b opts ≡ Err (kind_of e)) → UnlessMemory e (IsImage b opts (Err (kind_of e)))
-core_refused_unless b opts e h = unless_memory e (core_of b opts ≡ Err (kind_of e)) (IsImage b opts (Err (kind_of e))) (core_refused b opts (kind_of e)) h
+core_refused_unless b opts e h = unless_more e (core_of b opts ≡ Err (kind_of e)) (IsImage b opts (Err (kind_of e))) (core_refused b opts (kind_of e)) h
 
 -- where an image has a core, its section headers were there before
 sections_first : (b : List ℕ) (opts : ParseOptions) (c : CoreView) → core_of b opts ≡ Ok c → IsOk (sections_read b opts)
@@ -127,7 +128,7 @@ with_core b opts c r given is = rw given is
 pub from_core : {Z : Type 0} (b : List ℕ) (opts : ParseOptions) (c : CoreView) (r : Result (PE Z) Error) → core_of b opts ≡ Ok c → ReturnsAfterCore b opts c r → ReturnsImage b opts r
 from_core b opts c (Ok p) given is = with_core b opts c (Ok _) given is
 from_core b opts c (Err e) given is = (
-  unless_memory e (IsAfterCore b opts (unless_refused b opts c) (Err (kind_of e))) (IsImage b opts (Err (kind_of e))) (with_core b opts c (Err (kind_of e)) given) is,
+  unless_more e (IsAfterCore b opts (unless_refused b opts c) (Err (kind_of e))) (IsImage b opts (Err (kind_of e))) (with_core b opts c (Err (kind_of e)) given) is,
   if_memory e (IsOk (sections_read b opts)) (sections_first b opts c given),
 )
 
@@ -144,7 +145,7 @@ read_of b opts c layout sections answer lay sec given = rw (lay, sec) at given
 pub last_answer_refused : (b : List ℕ) (opts : ParseOptions) (c : CoreView) (first : FirstFieldsView) (layout : Layout) (sections : List SectionTable) (e : Error) → first_fields_in_turn b opts c ≡ Ok first → layout ≡ layout_of c.header.optional_header → sections ≡ c.sections → ReturnsResources opts b sections layout.file_alignment (directory_in opts layout) (Err e) → UnlessMemory e (IsAfterCore b opts (unless_refused b opts c) (Err (kind_of e)))
 last_answer_refused b opts c first layout sections e h lay sec given =
     let (f, are, same) = read_of b opts c layout sections (Err e) lay sec given in
-    unless e (IsAfterCore b opts (unless_refused b opts c) (Err (kind_of e))) (last_refused b opts c first f (kind_of e) h are same)
+    unless_memory e (IsAfterCore b opts (unless_refused b opts c) (Err (kind_of e))) (last_refused b opts c first f (kind_of e) h are same)
 
 pub last_answer : (b : List ℕ) (opts : ParseOptions) (c : CoreView) (first : FirstFieldsView) (layout : Layout) (sections : List SectionTable) (resources : Option ResourceData) (image : ImageView) → first_fields_in_turn b opts c ≡ Ok first → layout ≡ layout_of c.header.optional_header → sections ≡ c.sections → ReturnsResources opts b sections layout.file_alignment (directory_in opts layout) (Ok resources) → image ≡ image_of c first (option_map resource_view resources) → IsAfterCore b opts (unless_refused b opts c) (Ok image)
 last_answer b opts c first layout sections resources image h lay sec given seen =

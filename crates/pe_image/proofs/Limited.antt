@@ -15,9 +15,10 @@ use Rattle.pe_image.specs.Layout.{alignment, directory, is_64}
 use Rattle.pe_image.specs.Limits.{IsImageWithin, ReturnsImageWithin, entry_count, import_count, imports_with, number_or_0}
 use Rattle.pe_image.specs.LimitSteps.{imported_of, unless_above}
 use Rattle.pe_image.specs.declared.pe.PE.{PE}
+use Rattle.pe_core.proofs.ImportLists.{unless_memory}
 use Rattle.pe_image.proofs.Images.{core_refused}
 use Rattle.pe_image.proofs.NoMemory.{header_owes_nothing}
-use Rattle.pe_image.proofs.Steps.{unless, unless_memory}
+use Rattle.pe_image.proofs.Steps.{unless_more}
 
 yes : (m n : ℕ) → m < n → nat_lt m n ≡ true
 yes m n h = grind (arith, nat_tests)
@@ -97,7 +98,7 @@ header_refused most b o e h = rw h (none_above most (Err e))
 pub refused_by_header : (most : Option ℕ) (b : List ℕ) (o : ParseOptions) (e : Error) → header_at b o.parse_mode ≡ Err (kind_of e) →
     UnlessMemory e (unless_above most (import_count b o) (core_of b o) ≡ Err (kind_of e)) × IfMemory e (IsOk (sections_read b o))
 refused_by_header most b o e h =
-    (unless e (unless_above most (import_count b o) (core_of b o) ≡ Err (kind_of e)) (header_refused most b o (kind_of e) h), header_owes_nothing b o.parse_mode e (IsOk (sections_read b o)) h)
+    (unless_memory e (unless_above most (import_count b o) (core_of b o) ≡ Err (kind_of e)) (header_refused most b o (kind_of e) h), header_owes_nothing b o.parse_mode e (IsOk (sections_read b o)) h)
 
 -- ---- the image
 
@@ -127,7 +128,7 @@ refused_within most b o e h = record {
 
 pub refused_within_unless : (most : ℕ) (b : List ℕ) (o : ParseOptions) (e : Error) → UnlessMemory e (unless_above (Some most) (import_count b o) (core_of b o) ≡ Err (kind_of e)) → UnlessMemory e (IsImageWithin most b o (Err (kind_of e)))
 refused_within_unless most b o e h =
-    unless_memory e (unless_above (Some most) (import_count b o) (core_of b o) ≡ Err (kind_of e)) (IsImageWithin most b o (Err (kind_of e))) (refused_within most b o (kind_of e)) h
+    unless_more e (unless_above (Some most) (import_count b o) (core_of b o) ≡ Err (kind_of e)) (IsImageWithin most b o (Err (kind_of e))) (refused_within most b o (kind_of e)) h
 
 -- an image that has no more imports than the limit is one within it
 few_within : (most : ℕ) (b : List ℕ) (o : ParseOptions) (r : Result ImageView Refusal) → import_count b o ≤ most → IsImage b o r → IsImageWithin most b o r
@@ -136,4 +137,4 @@ few_within most b o r few is = record { within = λ h. is; over = λ many. absur
 pub image_within : {Z : Type 0} (most : ℕ) (b : List ℕ) (o : ParseOptions) (c : CoreView) (r : Result (PE Z) Error) → unless_above (Some most) (import_count b o) (core_of b o) ≡ Ok c → ReturnsImage b o r → ReturnsImageWithin most b o r
 image_within most b o c (Ok p) h is = few_within most b o (Ok _) (within_limit most (import_count b o) (core_of b o) c h).0 is
 image_within most b o c (Err e) h is =
-    (unless_memory e (IsImage b o (Err (kind_of e))) (IsImageWithin most b o (Err (kind_of e))) (few_within most b o (Err (kind_of e)) (within_limit most (import_count b o) (core_of b o) c h).0) is.0, is.1)
+    (unless_more e (IsImage b o (Err (kind_of e))) (IsImageWithin most b o (Err (kind_of e))) (few_within most b o (Err (kind_of e)) (within_limit most (import_count b o) (core_of b o) c h).0) is.0, is.1)

@@ -38,14 +38,8 @@ if_memory (errors.BadMagic magic) P p = tt
 if_memory (errors.Short at needed) P p = tt
 if_memory (errors.Memory e) P p = p
 
-pub unless_memory : (e : Error) (P Q : Type 0) → (P → Q) → UnlessMemory e P → UnlessMemory e Q
-unless_memory (errors.Malformed reason) P Q f p = f p
-unless_memory (errors.BadMagic magic) P Q f p = f p
-unless_memory (errors.Short at needed) P Q f p = f p
-unless_memory (errors.Memory e) P Q f p = tt
-
-pub unless : (e : Error) (P : Type 0) → P → UnlessMemory e P
-unless (errors.Malformed reason) P p = p
-unless (errors.BadMagic magic) P p = p
-unless (errors.Short at needed) P p = p
-unless (errors.Memory e) P p = tt
+pub unless_more : (e : Error) (P Q : Type 0) → (P → Q) → UnlessMemory e P → UnlessMemory e Q
+unless_more (errors.Malformed reason) P Q f p = f p
+unless_more (errors.BadMagic magic) P Q f p = f p
+unless_more (errors.Short at needed) P Q f p = f p
+unless_more (errors.Memory e) P Q f p = tt
