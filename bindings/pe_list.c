@@ -545,7 +545,8 @@ int main(int argc, char **argv)
     image it = PE_C_EMPTY;
     int status = run(argc, argv, &it);
     free(it.sections);
-    if (fclose(stdout) != 0) {
+    int is_truncated = ferror(stdout);
+    if (fclose(stdout) != 0 || is_truncated) {
         fprintf(stderr, "pe_list: standard output takes no more\n");
         return REFUSAL;
     }

@@ -12,6 +12,8 @@ uint32_t arm64_caller_of(const uint8_t *bytes, size_t length, const pe_c_image_i
     uint64_t sp = frame->registers.sp;
     pe_c_range table = PE_C_EMPTY;
     frame->rva = (uint32_t)(frame->registers.pc - base);
+    if (frame->rva < 4 * is_call)
+        return PE_C_NOTHING;
     uint32_t result = pe_c_arm64_table(bytes, length, image, sections, count, &table);
     if (result == PE_C_DONE)
         result = pe_c_find_arm64_function(bytes, length, image, sections, count, &table, frame->rva - 4 * is_call,
@@ -29,7 +31,9 @@ uint32_t arm64_caller_of(const uint8_t *bytes, size_t length, const pe_c_image_i
 #include <stdio.h>
 #include <stdlib.h>
 
-static uint8_t bytes[1 << 20];
+#include "read_file.h"
+
+static uint8_t bytes[1 << 26];
 static uint8_t stack[1 << 12];
 static pe_c_section sections[96];
 
@@ -37,13 +41,11 @@ static pe_c_section sections[96];
  *     arm64_walk FILE BASE PC LR WORD.. */
 int main(int argc, char **argv)
 {
-    FILE *file = argc > 4 ? fopen(argv[1], "rb") : NULL;
-    if (file == NULL)
+    if (argc < 5 || (size_t)(argc - 5) > sizeof stack / 8)
         return 2;
-    size_t length = fread(bytes, 1, sizeof bytes, file), stack_length = 0;
-    fclose(file);
+    size_t length = read_file(argv[1], bytes, sizeof bytes), stack_length = 0;
     uint64_t base = strtoull(argv[2], NULL, 16);
-    for (int i = 5; i < argc && stack_length < sizeof stack; i++, stack_length += 8)
+    for (int i = 5; i < argc; i++, stack_length += 8)
         for (int j = 0; j < 8; j++)
             stack[stack_length + j] = (uint8_t)(strtoull(argv[i], NULL, 16) >> 8 * j);
 

@@ -3,6 +3,7 @@
  *
  *     minidump_module FILE    FILE is a copy of the memory, from the module's first byte on */
 #include "pe.h"
+#include "read_file.h"
 
 #include <inttypes.h>
 #include <stdio.h>
@@ -23,12 +24,9 @@ static void show_key(const pe_c_key *key)
 
 int main(int argc, char **argv)
 {
-    FILE *file = argc == 2 ? fopen(argv[1], "rb") : NULL;
-    if (file == NULL)
+    if (argc != 2)
         return 2;
-    size_t length = fread(memory, 1, sizeof memory, file);
-    fclose(file);
-
+    size_t length = read_file(argv[1], memory, sizeof memory);
     pe_c_image_info image = PE_C_EMPTY;
     pe_c_key key = PE_C_EMPTY;
     uint32_t result = pe_c_image(memory, length, PE_C_PERMISSIVE | PE_C_MAPPED, &image);

@@ -5,6 +5,7 @@
  * FILE is the image, loaded at BASE. MEMORY has the bytes of all pieces, each LENGTH of them from OFFSET on, which are those
  * from the address START on. Numbers are hexadecimal. */
 #include "pe.h"
+#include "read_file.h"
 
 #include <inttypes.h>
 #include <stdio.h>
@@ -12,7 +13,7 @@
 
 enum { MOST_PIECES = 1 << 16, MOST_SECTIONS = 96, MOST_FRAMES = 1000 };
 
-static uint8_t bytes[1 << 20], memory[1 << 24];
+static uint8_t bytes[1 << 26], memory[1 << 26];
 static size_t length, memory_length, piece_count;
 static pe_c_memory_piece pieces[MOST_PIECES];
 static pe_c_image_info image = PE_C_EMPTY;
@@ -48,26 +49,12 @@ static uint32_t caller_of(uint64_t base, uint32_t *is_call, pe_c_frame *frame)
     return result;
 }
 
-static size_t read_all(const char *name, uint8_t *room, size_t size)
-{
-    FILE *file = fopen(name, "rb");
-    if (file == NULL)
-        exit(2);
-    size_t count = fread(room, 1, size, file);
-    fclose(file);
-    if (count == size) {
-        fprintf(stderr, "%s is too large\n", name);
-        exit(2);
-    }
-    return count;
-}
-
 int main(int argc, char **argv)
 {
     if (argc < 6 || argc - 6 > MOST_PIECES)
         return 2;
-    length = read_all(argv[1], bytes, sizeof bytes);
-    memory_length = read_all(argv[5], memory, sizeof memory);
+    length = read_file(argv[1], bytes, sizeof bytes);
+    memory_length = read_file(argv[5], memory, sizeof memory);
     for (int i = 6; i < argc; i++) {
         pe_c_memory_piece *piece = &pieces[piece_count++];
         char *end = argv[i];

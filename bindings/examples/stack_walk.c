@@ -32,7 +32,9 @@ uint32_t caller_of(const uint8_t *bytes, size_t length, const pe_c_image_info *i
 #include <stdio.h>
 #include <stdlib.h>
 
-static uint8_t bytes[1 << 20];
+#include "read_file.h"
+
+static uint8_t bytes[1 << 26];
 static uint8_t stack[1 << 12];
 static pe_c_section sections[96];
 
@@ -40,13 +42,11 @@ static pe_c_section sections[96];
  *     stack_walk FILE BASE RIP WORD.. */
 int main(int argc, char **argv)
 {
-    FILE *file = argc > 3 ? fopen(argv[1], "rb") : NULL;
-    if (file == NULL)
+    if (argc < 4 || (size_t)(argc - 4) > sizeof stack / 8)
         return 2;
-    size_t length = fread(bytes, 1, sizeof bytes, file), stack_length = 0;
-    fclose(file);
+    size_t length = read_file(argv[1], bytes, sizeof bytes), stack_length = 0;
     uint64_t base = strtoull(argv[2], NULL, 16);
-    for (int i = 4; i < argc && stack_length < sizeof stack; i++, stack_length += 8)
+    for (int i = 4; i < argc; i++, stack_length += 8)
         for (int j = 0; j < 8; j++)
             stack[stack_length + j] = (uint8_t)(strtoull(argv[i], NULL, 16) >> 8 * j);
 
