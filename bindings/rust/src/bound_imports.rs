@@ -1,9 +1,9 @@
 //! Bound imports: DLLs whose addresses the linker, or a tool after it, wrote into the import address table. They are valid as
 //! long as each DLL has the time stamp that stands here. Each is followed by the DLLs that it forwards to.
 
-use crate::image::{bytes_of, returned, Error, Image};
+use crate::image::{bytes_of, Error, Image};
 use crate::sys;
-use crate::walk::ask_of_bytes;
+use crate::walk::{ask_of_bytes, next_of};
 use core::iter::FusedIterator;
 
 /// A call of a step: it takes the bytes, the range of the directory, and the walk.
@@ -20,13 +20,9 @@ struct Steps<'a> {
 
 impl Steps<'_> {
     fn step<T: Default>(&mut self, call: Step<T>) -> Option<Result<T, Error>> {
-        let mut walk = self.walk.take()?;
-        let (bytes, mut out) = (self.bytes, T::default());
+        let Steps { bytes, table, walk } = self;
         // SAFETY: the pointer and the length are those of one slice; the records are lent for the call.
-        let number = unsafe { call(bytes.as_ptr(), bytes.len(), &self.table, &mut walk, &mut out) };
-        let item = returned(number, out).transpose()?;
-        self.walk = item.is_ok().then_some(walk);
-        Some(item)
+        next_of(walk, |walk, out| unsafe { call(bytes.as_ptr(), bytes.len(), table, walk, out) })
     }
 }
 

@@ -1,9 +1,9 @@
 //! Base relocations: what to change in an image that is not at its preferred base, in blocks of one page each. See
 //! <https://learn.microsoft.com/windows/win32/debug/pe-format#the-reloc-section-image-only>.
 
-use crate::image::{returned, Error, Image};
+use crate::image::{Error, Image};
 use crate::sys;
-use crate::walk::{items, Walk};
+use crate::walk::{items, next_of, Walk};
 use core::iter::FusedIterator;
 
 /// A block of base relocations.
@@ -63,13 +63,11 @@ impl Iterator for Relocations<'_> {
     type Item = Result<Relocation, Error>;
 
     fn next(&mut self) -> Option<Self::Item> {
-        let mut walk = self.walk.take()?;
-        let (bytes, mut out) = (self.bytes, sys::Relocation::default());
-        // SAFETY: the pointer and the length are those of one slice; the records are lent for the call.
-        let number =
-            unsafe { sys::pe_c_next_relocation(bytes.as_ptr(), bytes.len(), self.page_rva, &mut walk, &mut out) };
-        let item = returned(number, out).transpose()?;
-        self.walk = item.is_ok().then_some(walk);
+        let (bytes, page_rva) = (self.bytes, self.page_rva);
+        let item = next_of(&mut self.walk, |walk, out: &mut sys::Relocation| {
+            // SAFETY: the pointer and the length are those of one slice; the records are lent for the call.
+            unsafe { sys::pe_c_next_relocation(bytes.as_ptr(), bytes.len(), page_rva, walk, out) }
+        })?;
         Some(item.map(|found| Relocation {
             rva: found.rva,
             kind: found.kind as u8,

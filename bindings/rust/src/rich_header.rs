@@ -4,6 +4,7 @@
 
 use crate::image::{returned, Error, Image};
 use crate::sys;
+use crate::walk::next_of;
 use core::iter::FusedIterator;
 
 /// An entry of a Rich header: a tool, and how many objects of the image it made.
@@ -47,13 +48,9 @@ impl Iterator for RichEntries<'_> {
     type Item = Result<RichEntry, Error>;
 
     fn next(&mut self) -> Option<Self::Item> {
-        let mut walk = self.walk.take()?;
-        let (bytes, mut out) = (self.bytes, RichEntry::default());
+        let RichEntries { bytes, key, walk } = self;
         // SAFETY: the pointer and the length are those of one slice; the records are lent for the call.
-        let number = unsafe { sys::pe_c_next_rich_entry(bytes.as_ptr(), bytes.len(), self.key, &mut walk, &mut out) };
-        let item = returned(number, out).transpose()?;
-        self.walk = item.is_ok().then_some(walk);
-        Some(item)
+        next_of(walk, |walk, out| unsafe { sys::pe_c_next_rich_entry(bytes.as_ptr(), bytes.len(), *key, walk, out) })
     }
 }
 

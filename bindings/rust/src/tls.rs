@@ -2,8 +2,9 @@
 //! and ends, for the first thread before the entry point. See
 //! <https://learn.microsoft.com/windows/win32/debug/pe-format#the-tls-section>. A scanner lists the callbacks.
 
-use crate::image::{returned, Error, Image};
+use crate::image::{Error, Image};
 use crate::sys;
+use crate::walk::next_of;
 use core::iter::FusedIterator;
 
 /// The TLS directory, `IMAGE_TLS_DIRECTORY`. Addresses are virtual addresses.
@@ -37,14 +38,11 @@ impl Iterator for TlsCallbacks<'_, '_> {
     type Item = Result<u64, Error>;
 
     fn next(&mut self) -> Option<Self::Item> {
-        let mut walk = self.walk.take()?;
-        let (bytes, mut out) = (self.image.bytes(), 0);
+        let (bytes, info) = (self.image.bytes(), self.image.info());
         // SAFETY: the pointer and the length are those of one slice; the records are lent for the call.
-        let number =
-            unsafe { sys::pe_c_next_tls_callback(bytes.as_ptr(), bytes.len(), self.image.info(), &mut walk, &mut out) };
-        let item = returned(number, out).transpose()?;
-        self.walk = item.is_ok().then_some(walk);
-        Some(item)
+        next_of(&mut self.walk, |walk, out| unsafe {
+            sys::pe_c_next_tls_callback(bytes.as_ptr(), bytes.len(), info, walk, out)
+        })
     }
 }
 

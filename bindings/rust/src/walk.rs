@@ -25,6 +25,28 @@ pub(crate) fn ask_of_bytes<M, T: Default>(bytes: &[u8], call: Ask<M, T>, more: &
     returned(number, out)
 }
 
+/// The next item of a walk, unless it is over, as it is after its end or an error.
+fn unless_over<T>(is_over: &mut bool, step: impl FnOnce() -> Result<Option<T>, Error>) -> Option<Result<T, Error>> {
+    if *is_over {
+        return None;
+    }
+    let item = step().transpose();
+    *is_over = !matches!(item, Some(Ok(_)));
+    item
+}
+
+/// The same of a walk that is `None` where it is over. The step moves the walk, and returns what its call returned.
+pub(crate) fn next_of<W, T: Default>(
+    walk: &mut Option<W>,
+    step: impl FnOnce(&mut W, &mut T) -> u32,
+) -> Option<Result<T, Error>> {
+    let (mut moved, mut out) = (walk.take()?, T::default());
+    let number = step(&mut moved, &mut out);
+    let item = returned(number, out).transpose()?;
+    *walk = item.is_ok().then_some(moved);
+    Some(item)
+}
+
 /// A walk over bytes.
 #[derive(Clone, Copy, Debug)]
 pub(crate) struct Walk<'a, W> {
@@ -43,15 +65,13 @@ impl<'a, W> Walk<'a, W> {
         &mut self,
         call: unsafe extern "C" fn(*const u8, usize, *mut W, *mut T) -> u32,
     ) -> Option<Result<T, Error>> {
-        if self.is_over {
-            return None;
-        }
-        let mut out = T::default();
-        // SAFETY: as in `look`; the walk is lent for the call too, and overlaps no other argument.
-        let number = unsafe { call(self.bytes.as_ptr(), self.bytes.len(), &mut self.walk, &mut out) };
-        let item = returned(number, out).transpose();
-        self.is_over = !matches!(item, Some(Ok(_)));
-        item
+        let Walk { bytes, walk, is_over } = self;
+        unless_over(is_over, || {
+            let mut out = T::default();
+            // SAFETY: as in `look`; the walk is lent for the call too, and overlaps no other argument.
+            let number = unsafe { call(bytes.as_ptr(), bytes.len(), walk, &mut out) };
+            returned(number, out)
+        })
     }
 }
 
@@ -104,21 +124,11 @@ impl<'i, 'a, W> ImageWalk<'i, 'a, W> {
 
     /// The next item.
     pub fn step<T: Default>(&mut self, call: ImageStep<W, T>) -> Option<Result<T, Error>> {
-        if self.is_over {
-            return None;
-        }
-        let item = self.image.step(call, &mut self.walk).transpose();
-        self.is_over = !matches!(item, Some(Ok(_)));
-        item
+        unless_over(&mut self.is_over, || self.image.step(call, &mut self.walk))
     }
 
     /// The next item, by a call that takes a record too.
     pub fn step_by<M, T: Default>(&mut self, call: ImageLook<M, *mut W, T>, more: &M) -> Option<Result<T, Error>> {
-        if self.is_over {
-            return None;
-        }
-        let item = self.image.step_by(call, more, &mut self.walk).transpose();
-        self.is_over = !matches!(item, Some(Ok(_)));
-        item
+        unless_over(&mut self.is_over, || self.image.step_by(call, more, &mut self.walk))
     }
 }
