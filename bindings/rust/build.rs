@@ -38,7 +38,7 @@ fn archive_of(folder: &Path) -> PathBuf {
 
 /// Looks where an archive may be, in this order.
 fn found() -> Option<PathBuf> {
-    if let Ok(named) = env::var("PE_C_FOLDER") {
+    if let Some(named) = env::var_os("PE_C_FOLDER") {
         return Some(PathBuf::from(named));
     }
     let here = env::var("CARGO_MANIFEST_DIR").expect("cargo names the crate's folder");

@@ -2,8 +2,8 @@
 //!
 //! An image starts with the DOS header, whose last field is the file offset of the PE header. That has the COFF header,
 //! the optional header with the data directories, and the section headers, which map RVAs to file offsets. The layouts are
-//! those of Microsoft's [PE Format](https://learn.microsoft.com/windows/win32/debug/pe-format). All calls of the library
-//! are made here, in `walk` and in `signing`.
+//! those of Microsoft's [PE Format](https://learn.microsoft.com/windows/win32/debug/pe-format). Most calls of the
+//! library are made here and in `walk`.
 
 use crate::frames::MemoryList;
 use crate::sys::{self, Directory, ImageInfo, Section};

@@ -48,9 +48,9 @@
 //! - An `Image` borrows the bytes of the file or module. Names, bodies and texts are slices of these bytes: they outlive the
 //!   `Image`.
 //! - A directory that is absent is `Ok(None)`; a damaged one is an [`Error`]. An error in one part does not affect another.
-//! - Every list is an iterator. After an `Err` item it returns `None`.
-//! - No bytes, registers or memory make a call panic or loop forever. Only [`Image::parse`], for the section headers,
-//!   [`Image::attach`], [`Image::detach`] and [`Text::to_string_lossy`] allocate.
+//! - Every list is an iterator. After an `Err` item it returns `None`; [`VersionBlocks`] alone may go on after one.
+//! - No bytes, registers or memory make a call panic or loop forever. Only [`Image::parse`] and a clone of an
+//!   [`Image`], both for the section headers, [`Image::attach`], [`Image::detach`] and [`Text::to_string_lossy`] allocate.
 //! - An `offset` counts bytes from the start of the image's bytes: a file offset, or in a module in memory an RVA.
 //! - The docs of a call list its errors in the order in which they are tested.
 //!

@@ -204,9 +204,9 @@ impl<'a> UnwindRecord<'a> {
     /// `__C_specific_handler` has one: the caller knows it by the handler's RVA.
     pub fn scopes(&self) -> Option<Scopes<'a>> {
         let mut table = sys::Range::default();
-        let (offset, length) = (self.bytes.as_ptr(), self.bytes.len());
+        let (start, length) = (self.bytes.as_ptr(), self.bytes.len());
         // SAFETY: the pointer and the length are those of one slice, and both records are lent for the call.
-        let number = unsafe { sys::pe_c_scope_table(offset, length, &self.raw.handler_data, &mut table) };
+        let number = unsafe { sys::pe_c_scope_table(start, length, &self.raw.handler_data, &mut table) };
         (self.raw.handler_kind == 1 && number == sys::DONE).then(|| Scopes(Walk::new(self.bytes, table)))
     }
 }
