@@ -103,7 +103,7 @@ pub enum Command {
         #[command(flatten)]
         reading: Reading,
     },
-    /// Show the SHA-256 of what an Authenticode signature of an image covers
+    /// Show the SHA-256 of what an Authenticode signature of an image covers.
     Digest {
         /// The images.
         #[arg(required = true, value_name = "FILE")]
@@ -144,5 +144,5 @@ pub enum Command {
 }
 
 fn hexadecimal(text: &str) -> Result<u32, std::num::ParseIntError> {
-    u32::from_str_radix(text.trim_start_matches("0x"), 16)
+    u32::from_str_radix(text.strip_prefix("0x").unwrap_or(text), 16)
 }

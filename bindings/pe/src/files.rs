@@ -75,13 +75,17 @@ impl Iterator for Below {
                     _ => return Some(path),
                 }
             }
-            let Ok(entries) = fs::read_dir(&path) else { return Some(path) };
-            let mut paths: Vec<PathBuf> = entries.flatten().map(|entry| entry.path()).collect();
+            let Ok(mut paths) = paths_in(&path) else { return Some(path) };
             paths.sort_unstable_by(|a, b| b.cmp(a));
             self.waiting.append(&mut paths);
         }
         None
     }
+}
+
+/// What stands in a folder. All of it or none: a part would be taken for the whole.
+fn paths_in(folder: &Path) -> io::Result<Vec<PathBuf>> {
+    fs::read_dir(folder)?.map(|entry| entry.map(|entry| entry.path())).collect()
 }
 
 fn found(paths: &[PathBuf], is_recursive: bool) -> impl Iterator<Item = Found> + '_ {

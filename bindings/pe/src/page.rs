@@ -29,6 +29,10 @@ impl Style {
 /// The width of the first column of a summary.
 const LABEL: usize = 14;
 
+/// How many characters a column has at most. A longer cell moves what follows in its row: padding would make all rows as long as
+/// the longest, and a hostile image may have many rows and a name of a million characters.
+const WIDEST: usize = 256;
+
 /// A page of text as it is written.
 pub struct Page {
     style: Style,
@@ -73,12 +77,12 @@ impl Page {
         self.text.push('\n');
     }
 
-    /// Rows of cells in columns as wide as the widest cell; the last column is as wide as its text.
+    /// Rows of cells in columns as wide as the widest cell, up to `WIDEST`; the last column is as wide as its text.
     pub fn table(&mut self, table: &Table) {
         let head = |column: usize| table.columns[column].head;
         let width = |column: usize| {
             let cells = table.rows.iter().map(|row| row[column].chars().count());
-            cells.chain([head(column).chars().count()]).max().unwrap_or(0)
+            cells.chain([head(column).chars().count()]).max().unwrap_or(0).min(WIDEST)
         };
         let widths: Vec<usize> = (0..table.columns.len()).map(width).collect();
         let lay = |cells: &mut dyn Iterator<Item = &str>| {

@@ -251,6 +251,7 @@ fn statuses() {
     assert_eq!(run(&[&image, &short]).2, 1);
     assert_eq!(run(&[&short, &none]).2, 3);
     assert_eq!(run(&["unwind", &image, "xyz"]).2, 2);
+    assert_eq!(run(&["unwind", &image, "0x0x1"]).2, 2);
     assert_eq!(run(&[]).2, 2);
     let (out, _, _) = run(&["--json", &short]);
     let all: Value = serde_json::from_str(&out).unwrap();
@@ -354,6 +355,16 @@ fn names_and_lists_that_entries_share_are_shown_up_to_a_bound() {
     let shown: Value = serde_json::from_str(&out).unwrap();
     assert_eq!(shown["exports"]["entries"].as_array().unwrap().len(), 20);
     assert_eq!(shown["exports"]["is_limited"], Value::Null);
+}
+
+#[test]
+fn a_long_name_makes_no_other_row_longer() {
+    let folder = Folder::new("long-name");
+    let (out, _, status) = run(&["show", &folder.file("a.dll", &limited::exports_of_a_long_name(70_000)), "exports"]);
+    assert_eq!(status, 0);
+    let mut lengths: Vec<usize> = out.lines().map(str::len).collect();
+    lengths.sort_unstable();
+    assert!(matches!(lengths[..], [.., others, longest] if others < 1000 && longest > 70_000), "{lengths:?}");
 }
 
 /// Numbers that are the same in each run (xorshift).

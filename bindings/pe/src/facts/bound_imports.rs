@@ -18,17 +18,17 @@ pub struct Forwarder<'a> {
     pub time_date_stamp: u32,
 }
 
+fn forwarder_of<'a>(found: BoundForwarder<'a>, of_dll: &[u8], budget: &mut Budget) -> Option<Forwarder<'a>> {
+    // A table has the name of the DLL that forwards in each row.
+    let cost = ENTRY + of_dll.len() + found.name.len();
+    budget.takes(cost).then_some(Forwarder { name: Name(found.name), time_date_stamp: found.time_date_stamp })
+}
+
 fn bound_of<'a>(found: BoundImport<'a>, budget: &mut Budget) -> Option<Bound<'a>> {
-    let mut forwarder_of = |it: BoundForwarder<'a>| {
-        budget
-            .takes(ENTRY + it.name.len())
-            .then_some(Forwarder { name: Name(it.name), time_date_stamp: it.time_date_stamp })
-    };
-    let forwarders = List::limited(found.forwarders(), &mut forwarder_of);
-    budget.takes(ENTRY + found.name.len()).then_some(Bound {
+    budget.takes(ENTRY + found.name.len()).then(|| Bound {
         name: Name(found.name),
         time_date_stamp: found.time_date_stamp,
-        forwarders,
+        forwarders: List::limited(found.forwarders(), |it| forwarder_of(it, found.name, budget)),
     })
 }
 

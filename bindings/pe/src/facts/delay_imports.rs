@@ -23,9 +23,10 @@ pub struct Import<'a> {
     pub ordinal: Option<u32>,
 }
 
-fn import_of<'a>(function: DelayedFunction<'a>, budget: &mut Budget) -> Option<Import<'a>> {
+fn import_of<'a>(function: DelayedFunction<'a>, library: &[u8], budget: &mut Budget) -> Option<Import<'a>> {
     let (hint, ordinal) = hint_or_ordinal(function.name, function.ordinal);
-    budget.takes(ENTRY + function.name.map_or(0, <[u8]>::len)).then(|| Import {
+    // A table of imports has the DLL's name in each row.
+    budget.takes(ENTRY + library.len() + function.name.map_or(0, <[u8]>::len)).then(|| Import {
         name: function.name.map(Name),
         hint,
         ordinal,
@@ -36,7 +37,7 @@ fn library_of<'a>(found: DelayImport<'a, 'a>, budget: &mut Budget) -> Option<Lib
     budget.takes(ENTRY + found.name.len()).then(|| Library {
         name: Name(found.name),
         time_date_stamp: found.descriptor().time_date_stamp,
-        imports: List::limited(found.functions(), |function| import_of(function, budget)),
+        imports: List::limited(found.functions(), |function| import_of(function, found.name, budget)),
     })
 }
 

@@ -30,9 +30,10 @@ pub fn hint_or_ordinal(name: Option<&[u8]>, number: u32) -> (Option<u32>, Option
     }
 }
 
-fn import_of<'a>(import: pe_c::Import<'a>, budget: &mut Budget) -> Option<Import<'a>> {
+fn import_of<'a>(import: pe_c::Import<'a>, library: &[u8], budget: &mut Budget) -> Option<Import<'a>> {
     let (hint, ordinal) = hint_or_ordinal(import.name, import.ordinal);
-    budget.takes(ENTRY + import.name.map_or(0, <[u8]>::len)).then(|| Import {
+    // A table of imports has the DLL's name in each row.
+    budget.takes(ENTRY + library.len() + import.name.map_or(0, <[u8]>::len)).then(|| Import {
         name: import.name.map(Name),
         hint,
         ordinal,
@@ -49,7 +50,7 @@ pub fn of<'a>(image: &'a Image<'_>) -> Part<List<Library<'a>>> {
     let library_of = |library: pe_c::Library<'a, 'a>| {
         budget.takes(ENTRY + library.name.len()).then(|| Library {
             name: Name(library.name),
-            imports: List::limited(library.imports(), |import| import_of(import, &mut budget)),
+            imports: List::limited(library.imports(), |import| import_of(import, library.name, &mut budget)),
         })
     };
     image.libraries().map(|found| found.map(|libraries| List::limited(libraries, library_of))).into()

@@ -15,6 +15,19 @@ pub fn exports_in_one_text(count: u32) -> Vec<u8> {
     made.image()
 }
 
+/// An image of two exports, one with a name of so many bytes and one with a name of one.
+pub fn exports_of_a_long_name(length: u32) -> Vec<u8> {
+    let mut made = made::Made::new(made::X64);
+    let text = made.put(&[vec![b'a'; length as usize], vec![0]].concat());
+    let short = text + length - 1;
+    let names = made.put_words(&[text, short]);
+    let ordinals = made.put(&[0, 0, 1, 0]);
+    let addresses = made.put_words(&[0x1000; 2]);
+    let directory = made.put_words(&[0, 0, 0, short, 1, 2, 2, addresses, names, ordinals]);
+    made.directory(made::EXPORTS, directory, 40);
+    made.image()
+}
+
 /// A list of so many ordinals.
 fn ordinals(count: usize, made: &mut made::Made) -> u32 {
     made.put(&(1..=count as u64).map(|it| 1 << 63 | it).chain([0]).flat_map(u64::to_le_bytes).collect::<Vec<_>>())
@@ -30,7 +43,17 @@ pub fn libraries_of_one_list(count: usize) -> Vec<u8> {
     made.image()
 }
 
-/// The same of delay imports.
+/// An image that imports so many ordinals of a DLL, whose name is 20 times as long.
+pub fn imports_of_a_long_name(count: usize) -> Vec<u8> {
+    let mut made = made::Made::new(made::X64);
+    let name = made.put(&[vec![b'a'; 20 * count], vec![0]].concat());
+    let list = ordinals(count, &mut made);
+    let directory = made.put_words(&[list, 0, 0, name, list, 0, 0, 0, 0, 0]);
+    made.directory(made::IMPORTS, directory, 40);
+    made.image()
+}
+
+/// An image that delay-loads so many DLLs, each with the same list of as many ordinals.
 pub fn delay_imports_of_one_list(count: usize) -> Vec<u8> {
     let mut made = made::Made::new(made::X64);
     let name = made.put(b"a.dll\0");
@@ -40,12 +63,33 @@ pub fn delay_imports_of_one_list(count: usize) -> Vec<u8> {
     made.image()
 }
 
+/// An image that delay-loads so many ordinals of a DLL, whose name is 20 times as long.
+pub fn delay_imports_of_a_long_name(count: usize) -> Vec<u8> {
+    let mut made = made::Made::new(made::X64);
+    let name = made.put(&[vec![b'a'; 20 * count], vec![0]].concat());
+    let list = ordinals(count, &mut made);
+    let directory = made.put_words(&[vec![1, name, 0, 0, list, 0, 0, 0], vec![0; 8]].concat());
+    made.directory(made::DELAY_IMPORTS, directory, 64);
+    made.image()
+}
+
 /// So many bound imports, whose names are all one text of 20 times as many bytes.
 pub fn bound_imports_of_one_name(count: usize) -> Vec<u8> {
     let mut made = made::Made::new(made::X64);
     let entry = [1, 8 * (count as u32 + 1)];
     made.put_words(&[entry.repeat(count), vec![0; 2]].concat());
     made.put(&[vec![b'a'; 20 * count], vec![0]].concat());
+    made.directory(made::BOUND_IMPORTS, made::OFFSET, made.content.len() as u32);
+    made.image()
+}
+
+/// A bound import whose name has 20 times as many bytes as it has forwarders, each with a name of one.
+pub fn forwarders_of_a_long_name(count: u32) -> Vec<u8> {
+    let mut made = made::Made::new(made::X64);
+    let name = 8 * (count + 2);
+    let forwarders = [1, name + 20 * count - 1].repeat(count as usize);
+    made.put_words(&[vec![1, count << 16 | name], forwarders, vec![0; 2]].concat());
+    made.put(&[vec![b'a'; 20 * count as usize], vec![0]].concat());
     made.directory(made::BOUND_IMPORTS, made::OFFSET, made.content.len() as u32);
     made.image()
 }
@@ -67,12 +111,15 @@ pub fn resources_of_shared_directories(count: u32) -> Vec<u8> {
 }
 
 /// Of each part that may have more than is shown: its name in JSON, its name in text, and an image.
-pub fn all() -> [(&'static str, &'static str, Vec<u8>); 5] {
+pub fn all() -> [(&'static str, &'static str, Vec<u8>); 8] {
     [
         ("imports", "imports", libraries_of_one_list(1000)),
+        ("imports", "imports", imports_of_a_long_name(1000)),
         ("exports", "exports", exports_in_one_text(4000)),
         ("delay_imports", "delay imports", delay_imports_of_one_list(1000)),
+        ("delay_imports", "delay imports", delay_imports_of_a_long_name(1000)),
         ("bound_imports", "bound imports", bound_imports_of_one_name(1000)),
+        ("bound_imports", "bound imports", forwarders_of_a_long_name(200)),
         ("resources", "resources", resources_of_shared_directories(41)),
     ]
 }
