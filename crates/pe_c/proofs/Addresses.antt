@@ -1,15 +1,12 @@
 -- The address that a record goes on at is one of 32 bits.
-use Rattle.std.proofs.Common.{◌≡◌, ℕ, suc, ◌+◌, ◌<◌, Bool, true, false, List, Option, Some, None, Result, Ok, Err, refl, sym, subst, drop, arith}
-use Rattle.std.specs.Prelude.{if◌then◌else◌, IfSome}
+use Rattle.std.proofs.Common.{◌≡◌, ℕ, ◌<◌, List, Option, Some, None, Result, Ok, Err, refl, sym, subst, arith}
 use Rattle.pe_core.proofs.Steps.{same_inside}
-use Rattle.pe_core.proofs.NumberBytes.{le-zero, le-cons}
-use Rattle.pe_core.specs.Bytes.{AreBytes, le}
+use Rattle.pe_core.specs.Bytes.{AreBytes}
 use Rattle.pe_core.specs.Refusals.{Refusal, outcome, ◌>>=◌}
 use Rattle.pe_unwind.proofs.ChainedAddresses.{IsSmall, small_record}
 use Rattle.pe_unwind.proofs.Offsets.{given}
-use Rattle.pe_unwind.specs.FunctionTable.{function_at}
 use Rattle.pe_unwind.specs.Links.{Table}
-use Rattle.pe_unwind.specs.UnwindRecord.{Exception, Termination, UnwindInfoView, Ending, ending_at, unwind_tests, unwind_record, after_codes, flags_at, is_chained, handles_exceptions, handles_termination}
+use Rattle.pe_unwind.specs.UnwindRecord.{UnwindInfoView, unwind_tests, unwind_record}
 use Rattle.pe_unwind.specs.declared.function_table.RuntimeFunction.{RuntimeFunction}
 use Rattle.pe_c.proofs.Ways.{GoesTo}
 use Rattle.pe_c.specs.Unwinding.{or_no_function, flat_record, flat_record_at}

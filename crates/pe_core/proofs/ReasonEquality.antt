@@ -1,10 +1,9 @@
 -- Equality of reasons.
 -- Its list of errors is written by tools/make_errors.
-use Rattle.std.proofs.Common.{◌≡◌, ◌↔◌, ℕ, Bool, false, nat_eq, IsTrue}
+use Rattle.std.proofs.Common.{◌≡◌, ◌↔◌, Bool, false, IsTrue}
 use denote.Enum.Compared.{Each, by}
 use Rattle.pe_core.specs.contracts.error.Reason.{enum}
 use Rattle.pe_core.specs.declared.error.Reason.{Reason}
-use Rattle.pe_core.specs.Traits.{IsEquality}
 use Rattle.pe_core.proofs.VariantEquality.{EachDecides, variants_equal, none_equal, one_equal, two_equal, none, one, two}
 
 -- the test of each kind's fields, in the order of the kinds

@@ -1,6 +1,5 @@
 -- The RVAs of a piece have one owner.
-use Rattle.std.proofs.Common.{◌≡◌, ℕ, ◌-◌, ◌^◌, ◌<◌, ◌≤◌, Bool, List, length, get_or, Some, ap, sym, ◌∙◌, arith}
-use Rattle.std.proofs.lemmas.List.{get_or_default}
+use Rattle.std.proofs.Common.{◌≡◌, ℕ, ◌-◌, ◌^◌, ◌<◌, ◌≤◌, Bool, List, length, get_or, Some, sym, ◌∙◌, arith}
 use Rattle.pe_core.specs.declared.section_pieces.Owner.{Owner}
 use Rattle.pe_core.specs.declared.section_pieces.Piece.{Piece}
 use Rattle.pe_core.specs.declared.section_table.SectionTable.{SectionTable}

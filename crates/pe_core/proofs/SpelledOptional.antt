@@ -2,9 +2,8 @@
 use Rattle.std.proofs.Common.{◌≡◌, ℕ, zero, suc, ◌+◌, ◌-◌, ◌*◌, ◌≤◌, Bool, true, false, List, [], ◌∷◌, ◌++◌, length, Ok, refl, ap, sym, ◌∙◌, arith}
 use Rattle.std.specs.Prelude.{slice_range, ◌==◌, ◌||◌}
 use Rattle.std.specs.List.{flat_map}
-use Rattle.std.proofs.lemmas.Bool.Decides.{nat_tests}
 use Rattle.std.proofs.lemmas.Grind.{flat_map-append}
-use Rattle.std.proofs.lemmas.List.{append-nil, places}
+use Rattle.std.proofs.lemmas.List.{append-nil}
 use Rattle.pe_core.proofs.Ranges.{length_range, inside_if_held}
 use Rattle.pe_core.proofs.NumberBytes.{range_join}
 use Rattle.pe_core.proofs.SpelledRecords.{spelled_standard_fields_32, spelled_standard_fields_64, spelled_windows_fields_32, spelled_windows_fields_64, spelled_directory}

@@ -3,7 +3,7 @@ use Rattle.std.proofs.Common.{◌≡◌, ℕ, zero, suc, ◌<◌, List, [], ◌�
 use Rattle.std.proofs.lemmas.List.{append-nil, map-append}
 use Rattle.pe_core.specs.Gathered.{all_or_refusal, with_rest}
 use Rattle.pe_core.specs.Refusals.{◌>>=◌}
-use Rattle.pe_core.proofs.Gathering.{with_none, with_one}
+use Rattle.pe_core.proofs.Gathering.{with_one}
 use Rattle.pe_core.proofs.ImportLists.{unless_memory}
 use Rattle.pe_directories.specs.DirectoryRefusals.{DirectoryRefusal, UnlessNoMemory, directory_answer, directory_kind_of}
 use Rattle.pe_directories.specs.Walks.{First, Items, ItemsLeft, Steps, with_more, first_items, all_items, each_read}

@@ -2,7 +2,7 @@
 use Rattle.std.proofs.Common.{◌≡◌, ℕ, ◌+◌, ◌*◌, ◌≤◌, ◌<◌, ◌&&◌, Bool, true, false, Ok, Err, List, [], ◌∷◌, ◌++◌, length, get_or, drop, replicate, map, refl, ap, sym, ◌∙◌, arith}
 use Rattle.std.specs.Prelude.{Option, None, Some, is_ok, nat_le, max, ◌==◌, if◌then◌else◌}
 use Rattle.std.specs.Int.{is_power_of_two}
-use Rattle.std.proofs.lemmas.List.{drop_all, length-append, length-replicate}
+use Rattle.std.proofs.lemmas.List.{length-append, length-replicate}
 use Rattle.std.proofs.lemmas.List.Edits.{length-between}
 use Rattle.std.proofs.lemmas.Bool.Decides.{nat_tests}
 use Rattle.pe_core.specs.Bytes.{holds, range}
@@ -23,7 +23,7 @@ use Rattle.pe_image.specs.Pieces.{all_certificate_pieces, all_section_pieces, ce
 use Rattle.pe_image.specs.Writing.{all_in_source, certificate_directory, clash_free, image_by, image_end, image_length, image_length_by, image_pieces, image_tests, image_written, padded_pieces, section_tests, whole_by, whole_length, whole_length_by, whole_pieces, whole_written}
 use Rattle.pe_image.specs.WritingSteps.{possible}
 use Rattle.pe_image.proofs.Laid.{length_coff, length_dos, length_section}
-use Rattle.pe_image.proofs.Rows.{fits_if, unfit_if, refused_if, rest_at, rest_of_seen, no_rest_of_seen}
+use Rattle.pe_image.proofs.Rows.{fits_if, unfit_if, refused_if, rest_at, rest_of_seen}
 use Rattle.pe_image.proofs.Steps.{accepted_if, value_if}
 
 both_le : (a b n : ℕ) → (nat_le a n && nat_le b n) ≡ nat_le (max a b) n

@@ -7,12 +7,10 @@ use Rattle.std.proofs.lemmas.List.{places, length-replicate}
 use Rattle.pe_core.proofs.Ranges.{inside_if_held}
 use Rattle.pe_core.specs.Bytes.{AreBytes, le, bytes_of, holds, range}
 use Rattle.pe_core.specs.Header.{HeaderView, OptionalHeaderView, header, header_at, header_tests, optional_header, optional_header_tests, optional_header_at}
-use Rattle.pe_core.specs.Imports.{ImportRecordView, ImportView, entry_size}
 use Rattle.pe_core.specs.Options.{is_permissive}
 use Rattle.pe_core.specs.Records.{dos_header, coff_header, section_table}
 use Rattle.pe_core.specs.Refusals.{Refusal, Short, BadMagic, HeaderPointer, WriteFit, WriteOverlap, WriteSection, outcome, ◌>>=◌}
 use Rattle.pe_core.specs.Rows.{each}
-use Rattle.pe_core.specs.SectionMap.{section_map}
 use Rattle.pe_core.specs.Sections.{raw_end, sections_of, sections_offset}
 use Rattle.pe_core.specs.Spelling.{spell_dos, spell_coff, spell_optional, spell_section}
 use Rattle.pe_core.specs.declared.data_directories.DataDirectory.{DataDirectory}
@@ -28,10 +26,10 @@ use Rattle.pe_records.specs.declared.certificate_table.AttributeCertificateRevis
 use Rattle.pe_records.specs.declared.certificate_table.AttributeCertificateType.TheVariants.{X509, PkcsSignedData, Reserved1, TsStackSigned}
 use Rattle.pe_records.proofs.CertificateListings.{StandFrom, is_listing, unplaced}
 use Rattle.pe_records.proofs.CertificatesReadAgain.{next_offset}
-use Rattle.pe_image.specs.Core.{CoreView, core_of, core_with, export_data_of, exports_of, import_directory, import_data_of, imports_of}
+use Rattle.pe_image.specs.Core.{CoreView, core_of, core_with}
 use Rattle.pe_image.specs.Fields.{field, given_value}
 use Rattle.pe_image.specs.Image.{ImageView, before_resources, IsAfterCore, IsImage}
-use Rattle.pe_image.specs.Layout.{alignment, directory, is_64}
+use Rattle.pe_image.specs.Layout.{directory}
 use Rattle.pe_image.specs.Overlay.{Piece, EndsInZeros, all_fit, has_byte, byte_of, byte_after, last_piece, overlay, piece}
 use Rattle.pe_image.specs.Pieces.{all_certificate_pieces, all_section_pieces, certificate_pieces, header_pieces, in_a_row, lacking, section_pieces}
 use Rattle.pe_image.specs.Writing.{AreAligned, all_in_source, certificate_directory, clash_free, image_by, image_end, image_pieces, image_tests, image_written, padded_pieces, whole_by, whole_written}
@@ -39,7 +37,7 @@ use Rattle.pe_core.proofs.EntryItems.{get_or-each, length-each}
 use Rattle.pe_image.proofs.Overlays.{byte_after_cons}
 use Rattle.pe_image.proofs.Permissive.{certificates_alone, core_of_image}
 use Rattle.pe_image.proofs.Rows.{accepted_too}
-use Rattle.pe_image.proofs.SectionsFirst.{core_before, of_two, sections_of_core, core_header}
+use Rattle.pe_image.proofs.SectionsFirst.{core_before, sections_of_core, core_header}
 
 -- bytes that are to stand from place p on are those of b there
 abbrev AreThose : List ℕ → ℕ → List ℕ → Type 0

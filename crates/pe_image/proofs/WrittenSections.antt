@@ -14,7 +14,7 @@ use Rattle.pe_image.specs.Writing.{all_in_source}
 use Rattle.pe_image.specs.WritingSteps.{covered, parts_outside, put_in_turn, section_parts}
 use Rattle.pe_image.proofs.Covered.{later_sections}
 use Rattle.pe_image.proofs.Laid.{length_section}
-use Rattle.pe_image.proofs.Rows.{Goes, goes_fits, goes_next, goes_last, and_left, and_right, rest_at}
+use Rattle.pe_image.proofs.Rows.{Goes, goes_fits, goes_next, goes_last, and_right, rest_at}
 
 -- the pieces of a section fit exactly if its data, its header and its zeros do
 pub section_fit : (n : ℕ) (b : List ℕ) (unit : Option ℕ) (offset : ℕ) (s : SectionTable) → length s.name ≡ 8 → holds b s.pointer_to_raw_data s.size_of_raw_data ≡ true → all_fit n (section_pieces b unit offset s) ≡ (nat_le (raw_end s) n && (nat_le (offset + 40) n && nat_le (raw_end s + lacking s.size_of_raw_data unit) n))

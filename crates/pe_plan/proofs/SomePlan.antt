@@ -1,12 +1,10 @@
 -- A function has a plan: its chain is followed for as many records as there are unwind addresses, and then goes on for ever.
-use Rattle.std.proofs.Common.{◌≡◌, ◌≢◌, ℕ, zero, suc, ◌+◌, ◌^◌, ◌<◌, ◌≤◌, Bool, true, false, List, [], ◌∷◌, ◌++◌, length, drop, Option, Some, None, Result, Ok, Err, ◌⊎◌, inl, inr, ⊎_elim, refl, sym, subst, arith, length-append}
-use Rattle.std.specs.Prelude.{if◌then◌else◌}
-use Rattle.pe_core.specs.Bytes.{AreBytes, le}
+use Rattle.std.proofs.Common.{◌≡◌, ◌≢◌, ℕ, zero, suc, ◌+◌, ◌^◌, ◌<◌, ◌≤◌, Bool, true, false, List, [], ◌∷◌, ◌++◌, length, Option, Some, None, Result, Ok, Err, ◌⊎◌, inl, inr, ⊎_elim, refl, sym, subst, arith, length-append}
+use Rattle.pe_core.specs.Bytes.{AreBytes}
 use Rattle.pe_core.specs.Refusals.{Refusal, Memory, FunctionCycle, outcome, ◌>>=◌}
 use Rattle.pe_unwind.specs.declared.function_table.RuntimeFunction.{RuntimeFunction}
-use Rattle.pe_unwind.specs.FunctionTable.{function_at}
 use Rattle.pe_unwind.specs.Links.{Table}
-use Rattle.pe_unwind.specs.UnwindRecord.{Exception, Termination, UnwindInfoView, Ending, after_codes, ending_at, flags_at, handles_exceptions, handles_termination, is_chained, unwind_record, unwind_tests}
+use Rattle.pe_unwind.specs.UnwindRecord.{UnwindInfoView, unwind_record, unwind_tests}
 use Rattle.pe_unwind.specs.Unwinding.{Unwinds, record_at_address, record_at_offset}
 use Rattle.pe_unwind.proofs.ChainedAddresses.{IsSmall, small_record}
 use Rattle.pe_plan.specs.Plans.{IsChain, PlansFrom}

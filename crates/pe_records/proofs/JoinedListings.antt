@@ -1,6 +1,5 @@
 -- Certificates that stand later in other bytes, and certificates that follow them.
 use Rattle.std.proofs.Common.{◌≡◌, ℕ, ◌+◌, ◌-◌, ◌%◌, ◌<◌, ◌≤◌, Bool, true, false, List, [], ◌∷◌, ◌++◌, length, get_or, Result, Ok, Err, refl, ap, sym, ◌∙◌, subst, arith}
-use Rattle.std.proofs.lemmas.Bool.Decides.{nat_tests}
 use Rattle.std.proofs.lemmas.List.{places, ext_get_or}
 use Rattle.pe_core.proofs.Ranges.{length_range, held_if_inside, byte_of_range}
 use Rattle.pe_core.specs.Bytes.{holds, le, range}

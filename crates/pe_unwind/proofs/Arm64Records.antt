@@ -1,9 +1,8 @@
 -- An ARM64 unwind record that is given is the concatenation of its parts.
-use Rattle.std.proofs.Common.{rules, ◌≡◌, ℕ, ◌+◌, ◌-◌, ◌*◌, ◌≤◌, Bool, true, false, List, [], ◌∷◌, ◌++◌, length, take, drop, Option, Some, None, Ok, refl, ap, sym, ◌∙◌, subst, arith}
+use Rattle.std.proofs.Common.{◌≡◌, ℕ, ◌+◌, ◌-◌, ◌*◌, ◌≤◌, Bool, true, false, List, [], ◌∷◌, ◌++◌, length, take, drop, Option, Some, None, Ok, refl, ap, sym, ◌∙◌, subst, arith}
 use Rattle.std.specs.Prelude.{if◌then◌else◌, is_some, IfSome, ◌==◌}
 use Rattle.std.specs.Option.{option_map}
-use Rattle.std.proofs.lemmas.Bool.Decides.{nat_tests}
-use Rattle.std.proofs.lemmas.List.{take-append-drop, drop-drop, places}
+use Rattle.std.proofs.lemmas.List.{take-append-drop, drop-drop}
 use Rattle.pe_core.proofs.Ranges.{length_range, inside_if_held, held_if_inside}
 use Rattle.pe_core.proofs.NumberBytes.{bytes_of-le}
 use Rattle.pe_core.specs.Bytes.{AreBytes, le, bytes_of, holds, range}

@@ -1,8 +1,8 @@
 -- The unwind address of a chained function has four bytes.
-use Rattle.std.proofs.Common.{ℕ, ◌+◌, ◌^◌, ◌<◌, Bool, true, false, List, Option, arith}
+use Rattle.std.proofs.Common.{ℕ, ◌+◌, ◌^◌, ◌<◌, Bool, true, false, List, Option}
 use Rattle.std.specs.Prelude.{IfSome}
 use Rattle.pe_core.proofs.NumberBytes.{le_small}
-use Rattle.pe_core.specs.Bytes.{AreBytes, le}
+use Rattle.pe_core.specs.Bytes.{AreBytes}
 use Rattle.pe_unwind.specs.UnwindRecord.{ending_at, unwind_record, after_codes, flags_at, is_chained, handles_exceptions, handles_termination}
 use Rattle.pe_unwind.specs.declared.function_table.RuntimeFunction.{RuntimeFunction}
 use Rattle.pe_unwind.proofs.Offsets.{ending_by}

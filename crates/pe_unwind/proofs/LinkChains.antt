@@ -16,7 +16,6 @@ use Rattle.pe_unwind.specs.declared.function_table.RuntimeFunction.{RuntimeFunct
 use Rattle.pe_unwind.specs.ExceptionTable.{ExceptionView, table_of}
 use Rattle.pe_unwind.specs.Unwinding.{Unwinds, UnwindsFound, UnwindsAt, record_at_offset, record_at_address}
 use Rattle.pe_unwind.specs.Links.{Table, IsOdd, table_count, link_entry_at, link, next, address_of, IsEndless, Follows, links_of}
-use Rattle.pe_unwind.specs.LinkSteps.{LinkLeads}
 
 pub next_ok : (t : Table) (u p : ℕ) → u % 2 ≡ 1 → t.offset (u - 1) ≡ Some p → t.start ≤ p → (p - t.start) % 12 ≡ 0 → (p - t.start) / 12 < table_count t → next t u ≡ Some ((function_at t.entries (p - t.start)).unwind_info_address)
 unfolding next link link_entry_at

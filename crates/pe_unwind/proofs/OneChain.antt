@@ -1,9 +1,8 @@
 -- A chain of links has one answer, and so has the record at its end.
-use Rattle.std.proofs.Common.{◌≡◌, ℕ, List, zero, suc, ◌-◌, ◌%◌, ◌==◌, if◌then◌else◌, true, false, eqb, Option, Some, None, Result, Ok, Err, ◌⊎◌, inl, inr, ⊎_elim, refl, ap, sym, ◌∙◌, arith, option_and_then}
+use Rattle.std.proofs.Common.{◌≡◌, ℕ, List, ◌-◌, ◌%◌, ◌==◌, if◌then◌else◌, true, false, eqb, Option, Some, None, Result, Ok, Err, ◌⊎◌, inl, inr, ⊎_elim, refl, ap, sym, ◌∙◌, arith}
 use Rattle.std.proofs.lemmas.Bool.Decides.{nat_tests}
 use Rattle.pe_core.specs.Refusals.{Refusal, Unmapped, FunctionLink, FunctionCycle, ◌>>=◌}
 use Rattle.pe_core.proofs.Pigeonhole.{stop_once}
-use Rattle.pe_core.specs.Chains.{after}
 use Rattle.pe_unwind.specs.Links.{Table, IsEven, link, next, Reaches, Follows}
 use Rattle.pe_unwind.specs.UnwindRecord.{UnwindInfoView}
 use Rattle.pe_unwind.specs.Unwinding.{Unwinds, record_at_address}

@@ -1,5 +1,5 @@
 -- A chain of links has an answer, and so has the record at its end.
-use Rattle.std.proofs.Common.{◌≡◌, ◌≢◌, ℕ, suc, ◌-◌, ◌%◌, ◌<◌, true, eqb, List, zero, Option, Some, None, Result, Ok, Err, IsSome, ⊎_elim, refl, arith}
+use Rattle.std.proofs.Common.{◌≡◌, ◌≢◌, ℕ, suc, ◌-◌, ◌%◌, ◌<◌, true, eqb, List, Option, Some, None, Result, Ok, Err, IsSome, ⊎_elim, refl, arith}
 use Rattle.std.proofs.lemmas.Bool.{cases_eq}
 use Rattle.std.proofs.lemmas.Bool.Decides.{nat_tests}
 use Rattle.pe_core.proofs.Pigeonhole.{StopsAfter, goes_or_stops, last_state, never_stops}
