@@ -3,6 +3,7 @@
 //! <https://learn.microsoft.com/windows/win32/debug/pe-format>. A linker or a symbol dumper starts with `Coff::parse`.
 
 ghost use Rattle.pe_core.specs.Refusals.{ReturnsUnlessMemoryAfter};
+ghost use Rattle.pe_image.specs.Objects.{object_sections};
 
 use pe_core::{CoffHeader, Result, SectionTable, Strtab, SymbolTable};
 use std::alloc::{Allocator, Global};
@@ -23,6 +24,20 @@ pub struct Coff<'a, A: Allocator + Copy + Drop = Global> {
     pub strings: Option<Strtab<'a>>,
 }
 
+/// The section headers of an object. They follow the optional header, which an object usually doesn't have. Errors, in
+/// this order: `Short`, `Memory`.
+fn object_sections<A: Allocator>(
+    alloc: A,
+    bytes: &[u8],
+    header: &CoffHeader,
+) -> Result<Vec<SectionTable, A>>
+    ensures { ReturnsUnlessMemoryAfter (object_sections bytes.now header.now) (λ v. v.items)
+        result (object_sections bytes.now header.now) }
+{
+    let offset = SIZE_OF_COFF_HEADER + header.size_of_optional_header as usize;
+    header.sections(alloc, bytes, offset)
+}
+
 impl<'a, A: Allocator + Copy + Drop> Coff<'a, A> {
     ghost use Rattle.pe_image.specs.Objects.{object_view, sections_of_object, object_of};
 
@@ -34,9 +49,7 @@ impl<'a, A: Allocator + Copy + Drop> Coff<'a, A> {
             (sections_of_object bytes.entry.now) object_view result (object_of bytes.entry.now) }
     {
         let header = CoffHeader::parse(bytes, 0)?;
-        // The section table follows the optional header, which an object usually doesn't have.
-        let offset = SIZE_OF_COFF_HEADER + header.size_of_optional_header as usize;
-        let sections = header.sections(alloc, bytes, offset)?;
+        let sections = object_sections(alloc, bytes, &header)?;
         Ok(Coff {
             header,
             sections,
