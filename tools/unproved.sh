@@ -116,3 +116,76 @@ archive_of_calls() {
   rm -f -- "$file"
   "$linked_kit/toolchain/bin/llvm-ar" rcs "$file" "$room/calls.o"
 }
+
+# Makes `rt try --test` by ROOM/kit, which link_kit has made, run several tests at a time:
+#
+#     keep_tests ROOM
+#     run_kept_tests ROOM JOBS &    beside `rt try --test`
+#     : >ROOM/over                  after it: no more tests start
+#
+# The kit starts each test by the loader of its toolchain, one after the other. Once the tests are linked, which a script in
+# place of the linker does, run_kept_tests starts them too, JOBS at a time, and a script in place of the loader waits for the
+# one that the kit wants. Of one that ended with status 0, and wrote nothing to standard error, it hands on the output, by
+# which the kit judges it. Any other test is run by the kit itself, which says why it fails. RT_SECONDS has to be set.
+keep_tests() {
+  local room=$1 own=$1/kit loader=ld-linux-x86-64.so.2
+  mkdir -- "$room/ended" "$room/runs"
+  rm -f -- "$own/toolchain/lib" "$own/toolchain/bin/ld.lld"
+  mkdir -- "$own/toolchain/lib"
+  ln -s -- "$linked_kit"/toolchain/lib/* "$own/toolchain/lib"
+  ln -s -- "$linked_kit/toolchain/bin/ld.lld" "$room/ld.lld"
+  ln -s -- "$linked_kit/toolchain/lib/$loader" "$room/loader"
+
+  # The linker reads the loader, which is replaced after it.
+  cat >"$own/toolchain/bin/ld.lld" <<'END'
+#!/bin/sh
+room=${0%/kit/toolchain/bin/ld.lld} before=
+for word in "$@"; do
+  [ "$before" != -o ] || made=$word
+  before=$word
+done
+"$room/ld.lld" "$@" && ln -sf "$room/wait_for_one" "$room/kit/toolchain/lib/ld-linux-x86-64.so.2" &&
+  cp "$made" "$room/tests.new" && mv "$room/tests.new" "$room/tests"
+END
+
+  # Its last word is the name of a test, or --list.
+  cat >"$room/wait_for_one" <<'END'
+#!/bin/sh
+room=${0%/kit/toolchain/lib/*}
+for word in "$@"; do
+  name=$word
+done
+until [ "$name" = --list ] || [ -e "$room/ended/$name" ] || [ -e "$room/over" ]; do
+  sleep 0.1
+done
+if [ -e "$room/ended/$name" ] && [ ! -s "$room/ended/$name" ]; then
+  exec cat "$room/runs/$name/output"
+fi
+exec "$room/loader" "$@"
+END
+
+  # Runs the test NAME in a folder of its own, ROOM/runs/NAME, with no environment. Once it has ended, ROOM/ended/NAME has
+  # its standard error, and a line more where the status is not 0.
+  cat >"$room/run_one" <<'END'
+#!/bin/sh
+room=${0%/run_one}
+[ ! -e "$room/over" ] && mkdir "$room/runs/$1" && cd "$room/runs/$1" || exit
+timeout --foreground -s KILL "$RT_SECONDS" env -i "$room/loader" --inhibit-cache \
+  --library-path "$room/kit/toolchain/lib" "$room/tests" "$1" </dev/null >output 2>errors || echo "status $?" >>errors
+mv errors "$room/ended/$1"
+END
+  chmod +x -- "$own/toolchain/bin/ld.lld" "$room/wait_for_one" "$room/run_one"
+}
+
+run_kept_tests() {
+  local room=$1 jobs=$2
+  until [ -e "$room/tests" ] || [ -e "$room/over" ]; do
+    sleep 0.5
+  done
+  if [ -e "$room/tests" ]; then
+    # A line of the list is 'NAME: test'.
+    "$room/loader" --library-path "$room/kit/toolchain/lib" "$room/tests" --list | sed -n 's/: test$//p' |
+      xargs -r -n 1 -P "$jobs" "$room/run_one" || :
+  fi
+  : >"$room/over"
+}
