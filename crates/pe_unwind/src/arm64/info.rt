@@ -3,11 +3,11 @@
 //! from the index of an epilog. See
 //! [ARM64 exception handling](https://learn.microsoft.com/cpp/build/arm64-exception-handling).
 
-ghost use Rattle.std.specs.Prelude.{◌≡◌, ◌+◌, ◌*◌, ◌≤◌, [], ◌∷◌, length, Result};
+ghost use Rattle.std.specs.Prelude.{◌≡◌, ◌+◌, ◌*◌, ◌≤◌, ◌==◌, [], ◌∷◌, length, Result};
 ghost use Rattle.std.specs.Option.{option_map};
-ghost use Rattle.pe_core.specs.Refusals.{Returns, ReturnsAs, Short, outcome};
-ghost use Rattle.pe_core.specs.Bytes.{holds};
-ghost use Rattle.pe_unwind.specs.Arm64Words.{epilog_scopes_left};
+ghost use Rattle.pe_core.specs.Refusals.{Arm64Version, Returns, ReturnsAs, Short, outcome};
+ghost use Rattle.pe_core.specs.Bytes.{holds, le};
+ghost use Rattle.pe_unwind.specs.Arm64Words.{bits, epilog_scopes_left};
 ghost use Rattle.pe_unwind.specs.Arm64Record.{extension_view, arm64_handler_view, info_view, extension_size, extension_at, scope_count, code_words, handler_size, handler_at, info_at, size_at, scopes_of};
 ghost use Rattle.pe_unwind.specs.Arm64Tiling.{stream_offset, stream_at};
 
@@ -38,6 +38,19 @@ pub struct Arm64UnwindInfo<'a> {
     pub exception_handler: Option<Arm64ExceptionHandler<'a>>,
     scope_bytes: &'a [u8],
     code_bytes: &'a [u8],
+}
+
+/// The header of the record at an offset. Errors, in this order: `Short` if it is truncated; `Arm64Version` unless its
+/// version is 0.
+fn header_at(bytes: &[u8], offset: usize) -> Result<Arm64UnwindHeader>
+    ensures { ReturnsAs (λ header. header.0) result (outcome ((holds bytes.now offset 4, Short)
+        ∷ (bits (le bytes.now offset 4) 18 2 == 0, Arm64Version) ∷ []) (le bytes.now offset 4)) }
+{
+    let header = Arm64UnwindHeader(u32_at(bytes, offset)?);
+    if header.version() != 0 {
+        return Err(Error::Malformed(Reason::Arm64Version(header.version())));
+    }
+    Ok(header)
 }
 
 /// The extension word after a header, if the header has no counts. Errors: `Short`.
@@ -113,10 +126,7 @@ impl<'a> Arm64UnwindInfo<'a> {
     pub fn parse(bytes: &'a [u8], offset: usize) -> Result<Arm64UnwindInfo<'a>>
         ensures { ReturnsAs info_view result (info_at bytes.entry.now offset) }
     {
-        let header = Arm64UnwindHeader(u32_at(bytes, offset)?);
-        if header.version() != 0 {
-            return Err(Error::Malformed(Reason::Arm64Version(header.version())));
-        }
+        let header = header_at(bytes, offset)?;
         let extension = extension_after(bytes, offset + SIZE_OF_WORD, header)?;
         let scopes = if extension.is_some() {
             offset + 2 * SIZE_OF_WORD
