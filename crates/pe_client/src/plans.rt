@@ -1,14 +1,24 @@
 //! The plan of a function: its end, and that a cycle has none.
 
-ghost use Rattle.std.specs.Prelude.{◌≡◌, ◌↔◌, IfOk, IfSome, IsTrue, None};
+ghost use Rattle.std.specs.Prelude.{◌≡◌, ◌↔◌, IfOk, IfSome, IsTrue, None, map};
 ghost use Rattle.pe_unwind.specs.Links.{links_of};
-ghost use Rattle.pe_plan.specs.Plans.{NeverEnds};
+ghost use Rattle.pe_unwind.specs.UnwindRecord.{unwind_view};
+ghost use Rattle.pe_plan.specs.Plans.{EndsAtRoot, NeverEnds};
 
 use pe_image::{
     Error, ExceptionData, ParseOptions, Reason, Result, RuntimeFunction, SectionTable, UnwindInfo,
 };
 use pe_plan::UnwindPlan;
 use std::alloc::Global;
+
+/// The last record of a plan.
+fn last_record(records: Vec<UnwindInfo<'_>>) -> Option<UnwindInfo<'_>>
+    requires { EndsAtRoot (map unwind_view records.items) }
+    ensures { IfSome result (λ i. i.chained_info ≡ None) }
+{
+    let mut records = records;
+    records.pop()
+}
 
 /// The last record of the plan at an RVA: it is chained to none.
 pub fn root_record<'a>(
@@ -24,8 +34,7 @@ pub fn root_record<'a>(
     let Some(records) = UnwindPlan::of(alloc, exceptions, rva, sections, opts)? else {
         return Ok(None);
     };
-    let mut records = records;
-    Ok(records.pop())
+    Ok(last_record(records))
 }
 
 /// Whether the chain of a function's records goes on for ever, in records or in links: its plan is refused as a cycle

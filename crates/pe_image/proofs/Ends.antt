@@ -21,7 +21,7 @@ use Rattle.pe_image.specs.Image.{ImageView}
 use Rattle.pe_image.specs.Overlay.{Piece, all_fit, fits, greatest_end, longest, overlay}
 use Rattle.pe_image.specs.Pieces.{all_certificate_pieces, all_section_pieces, certificate_pieces, certificates_end, header_pieces, in_a_row, lacking, row_end, section_pieces}
 use Rattle.pe_image.specs.Writing.{all_in_source, certificate_directory, clash_free, image_by, image_end, image_length, image_length_by, image_pieces, image_tests, image_written, padded_pieces, section_tests, whole_by, whole_length, whole_length_by, whole_pieces, whole_written}
-use Rattle.pe_image.specs.WritingSteps.{possible}
+use Rattle.pe_image.specs.WritingSteps.{all_end, possible}
 use Rattle.pe_image.proofs.Laid.{length_coff, length_dos, length_section}
 use Rattle.pe_image.proofs.Rows.{fits_if, unfit_if, refused_if, rest_at, rest_of_seen}
 use Rattle.pe_image.proofs.Steps.{accepted_if, value_if}
@@ -76,6 +76,12 @@ section_reach b unit offset s h i =
     let d : length (range b s.pointer_to_raw_data s.size_of_raw_data) ≡ s.size_of_raw_data = length-between b s.pointer_to_raw_data (raw_end s) inside ∙ (omega arith) in
     let z : length {A = ℕ} (replicate (lacking s.size_of_raw_data unit) 0) ≡ lacking s.size_of_raw_data unit = length-replicate _ 0 in
     rw (d, length_section s h, z) (omega arith)
+
+-- a header that no buffer can have is one of a section that none can
+pub header_impossible : (b : List ℕ) (unit : Option ℕ) (offset : ℕ) (s : SectionTable) (r : Refusal) → length s.name ≡ 8 → holds b s.pointer_to_raw_data s.size_of_raw_data ≡ true → possible (offset + 40) (offset + 40) ≡ Err r → all_end (section_pieces b unit offset s) ≡ Err r
+header_impossible b unit offset s r h i e =
+    let n : ℕ = greatest_end (section_pieces b unit offset s) in
+    impossible (offset + 40) n (offset + 40) n r (omega (arith, section_reach b unit offset s h i)) e
 
 -- what is passed and what is left reach as far as all of them
 pub record Reach (b : List ℕ) (unit : Option ℕ) (start : ℕ) (sections : List SectionTable) (end offset i : ℕ) : Type 0 where
@@ -173,8 +179,18 @@ pub stub_within : (h : HeaderView) (o : OptionalHeaderView) → 64 + length h.do
 unfolding header_pieces
 stub_within h o = second_within _ (64 + length h.dos_stub) _
 
-pub headers_within : (u : Option ℕ) (b : List ℕ) (h : HeaderView) (o : OptionalHeaderView) (sections : List SectionTable) (cs : List CertificateView) → greatest_end (header_pieces h o) ≤ greatest_end (padded_pieces u b h o sections cs)
-headers_within u b h o sections cs = omega (arith, image_reach u b h o sections cs)
+-- an image of which no buffer can have a part is one that none can have
+pub headers_impossible : {Y Z : Type 0} (u : Option ℕ) (b : List ℕ) (h : HeaderView) (o : OptionalHeaderView) (sections : List SectionTable) (cs : List CertificateView) (y : Y) (z : Z) (r : Refusal) → possible (greatest_end (header_pieces h o)) y ≡ Err r → possible (greatest_end (padded_pieces u b h o sections cs)) z ≡ Err r
+headers_impossible u b h o sections cs y z r e =
+    impossible (greatest_end (header_pieces h o)) (greatest_end (padded_pieces u b h o sections cs)) y z r (omega (arith, image_reach u b h o sections cs)) e
+
+pub sections_impossible : {Y Z : Type 0} (u : Option ℕ) (b : List ℕ) (h : HeaderView) (o : OptionalHeaderView) (sections : List SectionTable) (cs : List CertificateView) (y : Y) (z : Z) (r : Refusal) → possible (greatest_end (all_section_pieces b u (sections_offset h) sections)) y ≡ Err r → possible (greatest_end (padded_pieces u b h o sections cs)) z ≡ Err r
+sections_impossible u b h o sections cs y z r e =
+    impossible (greatest_end (all_section_pieces b u (sections_offset h) sections)) (greatest_end (padded_pieces u b h o sections cs)) y z r (omega (arith, image_reach u b h o sections cs)) e
+
+pub certificates_impossible : {Y Z : Type 0} (u : Option ℕ) (b : List ℕ) (h : HeaderView) (o : OptionalHeaderView) (sections : List SectionTable) (cs : List CertificateView) (y : Y) (z : Z) (r : Refusal) → possible (certificates_end (certificate_directory o) cs) y ≡ Err r → possible (greatest_end (padded_pieces u b h o sections cs)) z ≡ Err r
+certificates_impossible u b h o sections cs y z r e =
+    impossible (certificates_end (certificate_directory o) cs) (greatest_end (padded_pieces u b h o sections cs)) y z r (omega (arith, image_reach u b h o sections cs)) e
 
 -- ---- the test of the length is the last one
 

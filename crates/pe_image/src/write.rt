@@ -16,9 +16,11 @@ mod sections;
 ghost use Rattle.std.specs.Prelude.{◌≡◌, [], ◌∷◌, IsTrue, OnOk, Some, length, map, max};
 ghost use Rattle.pe_core.specs.Header.{header_view, optional_header_view};
 ghost use Rattle.pe_core.specs.Refusals.{Returns, WriteFit, outcome};
+ghost use Rattle.pe_core.specs.Sections.{sections_offset};
 ghost use Rattle.pe_records.specs.Certificates.{certificate_view};
 ghost use Rattle.pe_image.specs.Overlay.{all_fit, greatest_end};
-ghost use Rattle.pe_image.specs.WritingSteps.{field_tests, own_end, own_pieces, own_tests, own_whole, possible, put_in_turn};
+ghost use Rattle.pe_image.specs.Pieces.{all_section_pieces};
+ghost use Rattle.pe_image.specs.WritingSteps.{all_end, field_tests, own_end, own_pieces, own_tests, own_whole, possible, put_in_turn};
 ghost use Rattle.pe_image.specs.Image.{image_view, source_of};
 ghost use Rattle.pe_image.specs.Writing.{Moves, ReturnsWritten, all_in_source, certificates_written, image_by, image_length, image_length_by, image_written, is_unit, section_tests, sections_written, whole_by, whole_length, whole_length_by, whole_written};
 
@@ -92,6 +94,19 @@ impl<'a, A: Allocator + Copy + Drop> PE<'a, A> {
         }
     }
 
+    /// The greatest end of the pieces of the sections. `WriteFit` if no buffer is so long.
+    fn sections_end(&self, unit: Option<usize>) -> Result<usize>
+        requires unit { IsTrue (is_unit unit) }
+        requires inside { IsTrue (all_in_source (source_of self.now) self.now.sections.items) }
+        ensures { Returns result (all_end (all_section_pieces (source_of self.now) unit
+            (sections_offset (header_view self.now.header)) self.now.sections.items)) }
+    {
+        let (end, _) = self
+            .section_writer(unit)
+            .ends(self.header.sections_offset())?;
+        Ok(end)
+    }
+
     /// The greatest end of all pieces, and what `write_into` returns. `WriteFit` if no buffer is so long.
     #[tactic(auto, using(crate::proofs::Ends::image_reach))]
     fn ends(&self, optional: &OptionalHeader, unit: Option<usize>) -> Result<(usize, usize)>
@@ -101,8 +116,8 @@ impl<'a, A: Allocator + Copy + Drop> PE<'a, A> {
             (greatest_end (own_pieces self.now optional.now unit), own_end self.now optional.now)) }
     {
         let headers = headers_end(&self.header, optional)?;
+        let sections = self.sections_end(unit)?;
         let table = self.header.sections_offset();
-        let (sections, _) = self.section_writer(unit).ends(table)?;
         let directory = optional.data_directories.get_certificate_table();
         let certificates = certificates_end(directory, &self.certificates)?;
         let end = table.max(last_raw_end(&self.sections)).max(certificates);

@@ -1,15 +1,11 @@
 -- Chains that come to an end: they go on for ever neither in records nor in links.
-use Rattle.std.proofs.Common.{◌≡◌, ◌≢◌, ℕ, suc, ◌≤◌, List, [], ◌∷◌, length, Option, Some, None, Result, Ok, Err, ⊎_elim, ◌↔◌, refl, ap, sym, ◌∙◌, subst, arith, IsSomeAnd}
+use Rattle.std.proofs.Common.{◌≡◌, ◌≢◌, ℕ, suc, ◌≤◌, List, [], ◌∷◌, length, Option, Some, None, Result, Ok, Err, ⊎_elim, ◌↔◌, refl, sym, ◌∙◌, subst, arith}
 use Rattle.pe_core.specs.Refusals.{Refusal, Memory, FunctionCycle}
 use Rattle.pe_unwind.specs.declared.function_table.RuntimeFunction.{RuntimeFunction}
-use Rattle.pe_core.specs.declared.options.ParseOptions.{ParseOptions}
-use Rattle.pe_core.specs.declared.section_table.SectionTable.{SectionTable}
-use Rattle.pe_unwind.specs.ExceptionTable.{ExceptionView, table_of}
-use Rattle.pe_unwind.specs.FunctionTable.{functions, Finds}
-use Rattle.pe_unwind.specs.Links.{Table, IsEndless, links_of}
+use Rattle.pe_unwind.specs.Links.{Table, IsEndless}
 use Rattle.pe_unwind.specs.UnwindRecord.{UnwindInfoView}
 use Rattle.pe_unwind.specs.Unwinding.{Unwinds}
-use Rattle.pe_plan.specs.Plans.{IsChain, ComesTo, HasChained, NeverEnds, PlansFrom, PlansFound, Plans}
+use Rattle.pe_plan.specs.Plans.{IsChain, ComesTo, HasChained, NeverEnds, PlansFrom}
 use Rattle.pe_plan.proofs.RecordLaw.{RecordLaw}
 
 -- where a chain ends: behind a root, or at a function whose record is refused, but for a cycle
@@ -77,22 +73,3 @@ plan_cycle law t b f (Ok is) p = (λ e. cc, λ never. absurd (ends law t b f Non
 plan_cycle law t b f (Err Memory) p = (λ e. cc, λ never. absurd (ends law t b f None p.0 p.1 tt never))
 plan_cycle law t b f (Err FunctionCycle) p = (λ e. p, λ never. refl)
 plan_cycle law t b f (Err refusal) p = (λ e. cc, λ never. absurd (ends law t b f (Some p.0) p.1.0 p.1.1 (refusal, (λ e. cc), p.2) never))
-
-pub found_cycle : (law : RecordLaw) (t : Table) (b : List ℕ) (found : Option RuntimeFunction) (x : Result (Option (List UnwindInfoView)) Refusal) → PlansFound t b found x → (x ≡ Err FunctionCycle) ↔ IsSomeAnd found (NeverEnds t b)
-found_cycle law t b None x p = (λ e. absurd (let clash : Path (Result (Option (List UnwindInfoView)) Refusal) (Ok None) (Err FunctionCycle) = sym p ∙ e in cc), λ never. absurd never)
-found_cycle law t b (Some f) (Ok None) p = absurd p
-found_cycle law t b (Some f) (Ok (Some is)) p = (λ e. cc, λ never. absurd (ends law t b f None is p tt never))
-found_cycle law t b (Some f) (Err k) p =
-    let exact : Path (Result (List UnwindInfoView) Refusal) (Err k) (Err FunctionCycle) ↔ NeverEnds t b f = plan_cycle law t b f (Err k) p in (
-      λ e. exact.0 (let same : k ≡ FunctionCycle = cc in ap (λ (r : Refusal). Err r) same),
-      λ never. let same = exact.1 never in let is : k ≡ FunctionCycle = cc in ap (λ (r : Refusal). Err r) is,
-    )
-
--- the plan of what lookup finds
-pub plans : (law : RecordLaw) (v : ExceptionView) (sections : List SectionTable) (opts : ParseOptions) (a : ℕ) (found : Option RuntimeFunction) (x : Result (Option (List UnwindInfoView)) Refusal) → Finds (functions (table_of v)) a found → PlansFound (links_of v sections opts) v.content found x → Plans v sections opts a x
-plans law v sections opts a found x finds plan = record {
-  found = found;
-  finds = finds;
-  plan = plan;
-  cycle = found_cycle law (links_of v sections opts) v.content found x plan;
-}

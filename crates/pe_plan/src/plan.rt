@@ -1,11 +1,11 @@
 //! The plan of a function, and the plan of an RVA of code.
 
-ghost use Rattle.std.specs.Prelude.{◌≡◌, ◌↔◌, map, Err};
+ghost use Rattle.std.specs.Prelude.{◌≡◌, ◌↔◌, map, Err, IsSomeAnd};
 ghost use Rattle.std.specs.Option.{option_map};
 ghost use Rattle.pe_core.specs.Refusals.{FunctionCycle, answer_by};
 ghost use Rattle.pe_unwind.specs.Links.{links_by, links_of};
 ghost use Rattle.pe_unwind.specs.UnwindRecord.{unwind_view};
-ghost use Rattle.pe_plan.specs.Plans.{NeverEnds, PlansFrom, Plans};
+ghost use Rattle.pe_plan.specs.Plans.{NeverEnds, PlansFound, PlansFrom, Plans};
 
 use crate::chain::Records;
 use pe_core::{ParseOptions, Result, SectionMap, SectionTable};
@@ -30,8 +30,26 @@ impl UnwindPlan {
         ensures { Plans exceptions.now sections.now opts.now rva
             (answer_by (option_map (λ records. map unwind_view records.items)) result) }
     {
-        one_record_of_addresses();
-        let Some(function) = exceptions.find_function(rva)? else {
+        let found = exceptions.find_function(rva)?;
+        UnwindPlan::of_found(alloc, exceptions, found, sections, opts)
+    }
+
+    /// The plan of the function that lookup found, if it found one. Errors: those of `of_function`.
+    fn of_found<'a, A: Allocator>(
+        alloc: A,
+        exceptions: &ExceptionData<'a>,
+        found: Option<RuntimeFunction>,
+        sections: &[SectionTable],
+        opts: &ParseOptions,
+    ) -> Result<Option<Vec<UnwindInfo<'a>, A>>>
+        ensures plan { PlansFound
+            (links_of exceptions.now sections.now opts.now) exceptions.now.content found
+            (answer_by (option_map (λ records. map unwind_view records.items)) result) }
+        ensures cycle { (answer_by
+            (option_map (λ records. map unwind_view records.items)) result ≡ Err FunctionCycle) ↔ IsSomeAnd
+            found (NeverEnds (links_of exceptions.now sections.now opts.now) exceptions.now.content) }
+    {
+        let Some(function) = found else {
             return Ok(None);
         };
         let records = UnwindPlan::of_function(alloc, exceptions, function, sections, opts)?;

@@ -12,3 +12,4 @@ pub mod FirstEntries
 pub mod PartsInOffset
 pub mod DebugEquality
 pub mod JoinedListings
+pub mod Zeros

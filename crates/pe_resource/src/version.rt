@@ -232,13 +232,21 @@ pub enum VersionName {
     SpecialBuild,
 }
 
+/// The key with this index in `KEYS`.
+fn key_at(index: usize) -> &'static str
+    requires { index < 13 }
+    ensures { result.now ≡ slice_index_or (map (λ key. key.now) KEYS) index [] }
+{
+    KEYS[index]
+}
+
 impl VersionName {
     /// The name as it is in the keys of strings.
     fn key(self) -> &'static str
         ensures name { result.now ≡ version_key self }
         ensures plain { IsPlain result.now }
     {
-        KEYS[1 + self as usize]
+        key_at(1 + self as usize)
     }
 
     /// Returns the range of the value of the first string with this name: its bytes, with the padding to a multiple of

@@ -23,10 +23,15 @@ goes_on old mid now before after filled count so_far front more within = record 
 }
 
 -- at the end all is read
-pub ends : (old now : Option (List ℕ)) (bytes : List ℕ) → Consumes old now bytes → IsAtEnd now → IfSome old (λ known. bytes ≡ known)
+ends : (old now : Option (List ℕ)) (bytes : List ℕ) → Consumes old now bytes → IsAtEnd now → IfSome old (λ known. bytes ≡ known)
 ends None now bytes read e = tt
 ends (Some a) None bytes read e = absurd read
 ends (Some a) (Some b) bytes read e = sym (read ∙ ap (λ (t : List ℕ). bytes ++ t) e ∙ append-nil bytes)
+
+-- a read of nothing, which says that the end is there, leaves what was read before
+pub all_read : (old mid now : Option (List ℕ)) (before after bytes : List ℕ) (filled : ℕ) → IsPartRead old mid before filled → take filled after ≡ take filled before → Consumes mid now [] → IsAtEnd now → bytes ≡ take filled after → IfSome old (λ known. bytes ≡ known)
+all_read old mid now before after bytes filled so_far front none end is =
+    rw (is, front) (ends old now (take filled before) (rw append-nil at (Consumes-trans old mid now (take filled before) [] so_far.read none)) end)
 
 -- what was read so far is a part of what was left
 pub long : (old now : Option (List ℕ)) (buffer : List ℕ) (filled n : ℕ) → IsPartRead old now buffer filled → n ≤ filled → IfSome old (λ known. n ≤ length known)

@@ -59,6 +59,15 @@ fn read_after<R: Read>(reader: &mut R, bytes: &mut [u8], filled: usize) -> io::R
     reader.read(&mut bytes[filled..filled + PIECE])
 }
 
+/// The bytes that are filled, without the room after them.
+fn without_room<A: Allocator>(bytes: Vec<u8, A>, filled: usize) -> Vec<u8, A>
+    ensures { result.items ≡ take filled bytes.items }
+{
+    let mut bytes = bytes;
+    bytes.truncate(filled);
+    bytes
+}
+
 ghost use Rattle.peinfo.specs.Reading.{IfEndless};
 
 /// Reads all bytes of the reader, straight to where they stay. A read that fails is not tried again.
@@ -78,10 +87,7 @@ pub fn read_all<A: Allocator, R: Read>(alloc: A, reader: &mut R) -> Result<Vec<u
             return Err(ReadError::Memory);
         }
         match read_after(reader, &mut bytes, filled) {
-            Ok(0) => {
-                bytes.truncate(filled);
-                return Ok(bytes);
-            }
+            Ok(0) => return Ok(without_room(bytes, filled)),
             Ok(count) => filled += count,
             Err(error) => return Err(ReadError::Failed(error)),
         }

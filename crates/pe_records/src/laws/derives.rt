@@ -80,6 +80,12 @@ pub fn defaults_are_zeros()
         pogo_entry_of x ≡ record { rva = 0; size = 0; name = [] } }
 {}
 
+/// A clone of debug data has the tables and the records of its original.
+fn clones_of_debug_data_look_the_same()
+    ensures { (x y : DebugData) →
+        ⟦<DebugData<'static> as Clone>⟧.is_clone x y → debug_view y ≡ debug_view x }
+{}
+
 /// A clone is its original.
 pub fn clones_of_records_are_the_same()
     ensures revision { Copies ⟦<AttributeCertificateRevision as Clone>⟧.is_clone }
@@ -94,4 +100,6 @@ pub fn clones_of_records_are_the_same()
     ensures pogo_entry { Copies ⟦<POGOInfoEntry<'static> as Clone>⟧.is_clone }
     ensures debug_data { (x y : DebugData) →
         ⟦<DebugData<'static> as Clone>⟧.is_clone x y → debug_view y ≡ debug_view x }
-{}
+{
+    clones_of_debug_data_look_the_same()
+}

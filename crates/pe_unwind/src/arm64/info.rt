@@ -3,11 +3,11 @@
 //! from the index of an epilog. See
 //! [ARM64 exception handling](https://learn.microsoft.com/cpp/build/arm64-exception-handling).
 
-ghost use Rattle.std.specs.Prelude.{◌≡◌, ◌+◌, ◌*◌, ◌≤◌, [], ◌∷◌, length, Result};
+ghost use Rattle.std.specs.Prelude.{◌≡◌, ◌+◌, ◌*◌, ◌≤◌, ◌==◌, [], ◌∷◌, ℕ, Option, length, Result};
 ghost use Rattle.std.specs.Option.{option_map};
-ghost use Rattle.pe_core.specs.Refusals.{Returns, ReturnsAs, Short, outcome};
-ghost use Rattle.pe_core.specs.Bytes.{holds};
-ghost use Rattle.pe_unwind.specs.Arm64Words.{epilog_scopes_left};
+ghost use Rattle.pe_core.specs.Refusals.{Arm64Version, Returns, ReturnsAs, Short, outcome};
+ghost use Rattle.pe_core.specs.Bytes.{holds, le, range};
+ghost use Rattle.pe_unwind.specs.Arm64Words.{bits, epilog_scopes_left};
 ghost use Rattle.pe_unwind.specs.Arm64Record.{extension_view, arm64_handler_view, info_view, extension_size, extension_at, scope_count, code_words, handler_size, handler_at, info_at, size_at, scopes_of};
 ghost use Rattle.pe_unwind.specs.Arm64Tiling.{stream_offset, stream_at};
 
@@ -40,21 +40,35 @@ pub struct Arm64UnwindInfo<'a> {
     code_bytes: &'a [u8],
 }
 
-/// The extension word after a header, if the header has no counts. Errors: `Short`.
+/// The header of the record at an offset. Errors, in this order: `Short` if it is truncated; `Arm64Version` unless its
+/// version is 0.
+fn header_at(bytes: &[u8], offset: usize) -> Result<Arm64UnwindHeader>
+    ensures { ReturnsAs (λ header. header.0) result (outcome ((holds bytes.now offset 4, Short)
+        ∷ (bits (le bytes.now offset 4) 18 2 == 0, Arm64Version) ∷ []) (le bytes.now offset 4)) }
+{
+    let header = Arm64UnwindHeader(u32_at(bytes, offset)?);
+    if header.version() != 0 {
+        return Err(Error::Malformed(Reason::Arm64Version(header.version())));
+    }
+    Ok(header)
+}
+
+/// The extension word after a header, if the header has no counts, and the offset after it. Errors: `Short`.
 fn extension_after(
     bytes: &[u8],
     offset: usize,
     header: Arm64UnwindHeader,
-) -> Result<Option<Arm64UnwindExtension>>
+) -> Result<(Option<Arm64UnwindExtension>, usize)>
     requires { offset ≤ length bytes.now }
-    ensures { ReturnsAs extension_view result
+    ensures { ReturnsAs {Y = Option ℕ × ℕ} (λ found. (extension_view found.0, found.1)) result
         (outcome ((holds bytes.now offset (extension_size header.0), Short) ∷ [])
-        (extension_at bytes.now offset header.0)) }
+        (extension_at bytes.now offset header.0, offset + extension_size header.0)) }
 {
     if header.has_extension() {
-        Ok(Some(Arm64UnwindExtension(u32_at(bytes, offset)?)))
+        let extension = Arm64UnwindExtension(u32_at(bytes, offset)?);
+        Ok((Some(extension), offset + SIZE_OF_WORD))
     } else {
-        Ok(None)
+        Ok((None, offset))
     }
 }
 
@@ -104,6 +118,50 @@ fn handler_after(
     }))
 }
 
+/// The record with these words, whose scopes, codes and handler follow one another from `offset` on. Errors: `Short` if
+/// one of them is truncated.
+fn parts_at<'a>(
+    bytes: &'a [u8],
+    offset: usize,
+    header: Arm64UnwindHeader,
+    extension: Option<Arm64UnwindExtension>,
+) -> Result<Arm64UnwindInfo<'a>>
+    requires { offset ≤ length bytes.now }
+    ensures { ReturnsAs info_view result (
+        let scopes = 4 * scope_count header.0 (extension_view extension) in
+        let codes = 4 * code_words header.0 (extension_view extension) in
+        outcome ((holds bytes.entry.now offset scopes, Short)
+        ∷ (holds bytes.entry.now (offset + scopes) codes, Short)
+        ∷ (holds bytes.entry.now (offset + scopes + codes) (handler_size header.0), Short) ∷ [])
+        (record {
+          header = header.0;
+          extension = extension_view extension;
+          scopes = range bytes.entry.now offset scopes;
+          codes = range bytes.entry.now (offset + scopes) codes;
+          handler = handler_at bytes.entry.now (offset + scopes + codes) header.0;
+        })) }
+{
+    let scope_bytes = slice_at(
+        bytes,
+        offset,
+        SIZE_OF_WORD * count_of_scopes(header, extension),
+    )?;
+    let codes = offset + scope_bytes.len();
+    let code_bytes = slice_at(
+        bytes,
+        codes,
+        SIZE_OF_WORD * count_of_code_words(header, extension),
+    )?;
+    let exception_handler = handler_after(bytes, codes + code_bytes.len(), header)?;
+    Ok(Arm64UnwindInfo {
+        header,
+        extension,
+        exception_handler,
+        scope_bytes,
+        code_bytes,
+    })
+}
+
 impl<'a> Arm64UnwindInfo<'a> {
     /// The record at an offset in the bytes. Its handler's data reach to the end of `bytes`.
     ///
@@ -113,35 +171,9 @@ impl<'a> Arm64UnwindInfo<'a> {
     pub fn parse(bytes: &'a [u8], offset: usize) -> Result<Arm64UnwindInfo<'a>>
         ensures { ReturnsAs info_view result (info_at bytes.entry.now offset) }
     {
-        let header = Arm64UnwindHeader(u32_at(bytes, offset)?);
-        if header.version() != 0 {
-            return Err(Error::Malformed(Reason::Arm64Version(header.version())));
-        }
-        let extension = extension_after(bytes, offset + SIZE_OF_WORD, header)?;
-        let scopes = if extension.is_some() {
-            offset + 2 * SIZE_OF_WORD
-        } else {
-            offset + SIZE_OF_WORD
-        };
-        let scope_bytes = slice_at(
-            bytes,
-            scopes,
-            SIZE_OF_WORD * count_of_scopes(header, extension),
-        )?;
-        let codes = scopes + scope_bytes.len();
-        let code_bytes = slice_at(
-            bytes,
-            codes,
-            SIZE_OF_WORD * count_of_code_words(header, extension),
-        )?;
-        let exception_handler = handler_after(bytes, codes + code_bytes.len(), header)?;
-        Ok(Arm64UnwindInfo {
-            header,
-            extension,
-            exception_handler,
-            scope_bytes,
-            code_bytes,
-        })
+        let header = header_at(bytes, offset)?;
+        let (extension, parts) = extension_after(bytes, offset + SIZE_OF_WORD, header)?;
+        parts_at(bytes, parts, header, extension)
     }
 
     /// The size in bytes of the record at the start of these bytes, up to its handler's data. It reads the header and
@@ -152,7 +184,7 @@ impl<'a> Arm64UnwindInfo<'a> {
         ensures { Returns result (size_at bytes.now) }
     {
         let header = Arm64UnwindHeader(u32_at(bytes, 0)?);
-        let extension = extension_after(bytes, SIZE_OF_WORD, header)?;
+        let (extension, _) = extension_after(bytes, SIZE_OF_WORD, header)?;
         let mut words = 1
             + count_of_scopes(header, extension)
             + count_of_code_words(header, extension);

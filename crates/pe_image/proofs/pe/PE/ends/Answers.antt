@@ -1,21 +1,23 @@
 use Rattle.std.proofs.Common.{map}
 use Rattle.std.proofs.lemmas.Result.{err_from_is_err_and}
 use Rattle.pe_core.specs.Header.{header_view, optional_header_view}
-use Rattle.pe_core.specs.Refusals.{kind_of}
 use Rattle.pe_records.specs.Certificates.{certificate_view}
 use Rattle.pe_image.specs.Image.{source_of}
-use Rattle.pe_image.specs.Overlay.{greatest_end}
-use Rattle.pe_image.specs.Pieces.{header_pieces}
-use Rattle.pe_image.specs.WritingSteps.{own_pieces}
-use Rattle.pe_image.proofs.Ends.{headers_within, impossible}
+use Rattle.pe_image.proofs.Ends.{headers_impossible, sections_impossible, certificates_impossible}
 use Rattle.pe_image.proofs.pe.PE.ends.Goals as goal
 
 pub returns-in_err-headers : goal.returns-in_err-headers
 returns-in_err-headers g c =
-    let h = header_view c.args.self.now.header in
-    let o = optional_header_view c.args.optional.now in
     let p = err_from_is_err_and c.from_residual.result c.from_residual.ensures.1 in
-    rw (p.1, p.2)
-    (impossible (greatest_end (header_pieces h o)) (greatest_end (own_pieces c.args.self.now c.args.optional.now c.args.unit)) _ _ (kind_of c.in_err-headers.field-0.0)
-    (headers_within c.args.unit (source_of c.args.self.now) h o c.args.self.now.sections.items (map certificate_view c.args.self.now.certificates.items))
-    c.in_err-headers.ensures)
+    rw (p.1, p.2) (headers_impossible c.args.unit (source_of c.args.self.now) (header_view c.args.self.now.header) (optional_header_view c.args.optional.now) c.args.self.now.sections.items (map certificate_view c.args.self.now.certificates.items) _ _ _ c.in_err-headers.ensures)
+
+pub returns-in_err-sections : goal.returns-in_err-sections
+returns-in_err-sections g c =
+    let p = err_from_is_err_and c.from_residual-in_err-sections.result c.from_residual-in_err-sections.ensures.1 in
+    rw (p.1, p.2) (sections_impossible c.args.unit (source_of c.args.self.now) (header_view c.args.self.now.header) (optional_header_view c.args.optional.now) c.args.self.now.sections.items (map certificate_view c.args.self.now.certificates.items) _ _ _ c.in_err-sections.ensures)
+
+pub returns-in_err-certificates : goal.returns-in_err-certificates
+returns-in_err-certificates g c =
+    let p = err_from_is_err_and c.from_residual-in_err-certificates.result c.from_residual-in_err-certificates.ensures.1 in
+    rw (p.1, p.2) (certificates_impossible c.args.unit (source_of c.args.self.now) (header_view c.args.self.now.header) (optional_header_view c.args.optional.now) c.args.self.now.sections.items (map certificate_view c.args.self.now.certificates.items) _ _ _
+    (rw (c.get_certificate_table-directory.ensures, c.deref.ensures.value) at c.in_err-certificates.ensures))
