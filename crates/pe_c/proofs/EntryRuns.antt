@@ -11,7 +11,7 @@ use Rattle.pe_core.specs.Refusals.{Refusal, Short}
 use Rattle.pe_core.specs.Rows.{entry_items}
 use Rattle.pe_directories.specs.RichHeader.{rich_entry}
 use Rattle.pe_records.specs.DebugDirectory.{debug_entry_at}
-use Rattle.pe_unwind.proofs.Entries.{scope_after}
+use Rattle.pe_unwind.specs.EntriesAfter.{scopes_after}
 use Rattle.pe_unwind.specs.ScopeTable.{scope_at}
 use Rattle.pe_c.specs.Arm64.{flat_scope_at}
 use Rattle.pe_c.specs.Ranges.{no_bytes, range_after}
@@ -107,7 +107,7 @@ gives_entries entry_at width reads some b r = by_offset entry_at width b r (hold
 -- ---- the walks
 
 pub scopes_in_turn : (b : List ℕ) (r : Range) → ReturnsItems (StepsEntries scope_at 16 b) r (walk_items scope_at 16 b r)
-scopes_in_turn = gives_entries scope_at 16 scope_after (omega arith)
+scopes_in_turn = gives_entries scope_at 16 scopes_after (omega arith)
 
 arm64_scope_after : ReadsAfter flat_scope_at 4
 arm64_scope_after b p q e = simp (le_after b 4 p q 4 e)

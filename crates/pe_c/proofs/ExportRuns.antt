@@ -5,7 +5,7 @@ use Rattle.std.specs.List.{AllZip, cons_option, filter_map, range_with_len}
 use Rattle.std.specs.Option.{option_map}
 use Rattle.std.proofs.lemmas.Bool.{cases_lt}
 use Rattle.std.proofs.lemmas.Bool.Decides.{nat_tests}
-use Rattle.pe_core.proofs.EntryItems.{each-as_map}
+use Rattle.pe_core.proofs.EntryItems.{each_as_map}
 use Rattle.pe_core.specs.Exports.{ExportDataView, ExportView, export_at, export_data_at, exports}
 use Rattle.pe_core.specs.Refusals.{Refusal}
 use Rattle.pe_core.specs.Rows.{each}
@@ -157,7 +157,7 @@ reports_exports offset b d =
     let all : n ≡ n - 0 = omega arith in
     subst (λ (k : ℕ). ReportsExports b (filter_map (reported_entry offset b (with_tables d.names d.ordinals d.addresses)) (range_with_len 0 k)) (filter_map (λ (e : Option ExportView). e) (each (export_at offset b d) n))) all
     (subst (λ (es : List (Option ExportView)). ReportsExports b (filter_map (reported_entry offset b (with_tables d.names d.ordinals d.addresses)) (range_with_len 0 n)) (filter_map (λ (e : Option ExportView). e) es))
-    (each-as_map (export_at offset b d) n)
+    (each_as_map (export_at offset b d) n)
     (reports_all offset b d (range_with_len 0 n)))
 
 tables_of : (b : List ℕ) (w : Exports) (d : ExportDataView) → HasTables b w d → tables_or_short b w ≡ Ok (with_tables d.names d.ordinals d.addresses)

@@ -19,7 +19,9 @@ use crate::image::{EXCEPTION_TABLE, Image, directory, is_absent};
 use crate::ranges::{NO_BYTES, Range, last_range, range_of, slice_of};
 use crate::results::{DONE, NOTHING, hand_out, hand_out_some, number_of, options};
 use crate::walks::next_entry;
-use pe_core::{ByteRange, COFF_MACHINE_X86_64, CountedTable, Result, SectionTable, mapped_offset};
+use pe_core::{
+    ByteRange, COFF_MACHINE_X86_64, CountedTable, Result, SectionTable, TableEntry, mapped_offset,
+};
 use pe_unwind::{
     ExceptionData, Register, RuntimeFunction, ScopeTableEntry, StackFrameOffset, UnwindCode,
     UnwindCodeIterator, UnwindHandler, UnwindInfo, UnwindOperation, scope_table_size, search,

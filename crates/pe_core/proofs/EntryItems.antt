@@ -12,12 +12,12 @@ use Rattle.pe_core.specs.Rows.{ReadsAfter, each, whole_entries, entry_items}
 
 -- ---- lists of f 0 to f (n - 1)
 
-pub each-as_map : {X : Type 0} (f : ℕ → X) (n : ℕ) → map f (range_with_len 0 n) ≡ each f n
+pub each_as_map : {X : Type 0} (f : ℕ → X) (n : ℕ) → map f (range_with_len 0 n) ≡ each f n
 unfolding each
-each-as_map f zero = refl
-each-as_map {X} f (suc n) =
+each_as_map f zero = refl
+each_as_map {X} f (suc n) =
     let one_more : suc n ≡ n + 1 = omega arith in
-    ap (λ (k : ℕ). map f (range_with_len 0 k)) one_more ∙ map-range_with_len_more f 0 n n (omega arith) ∙ ap (λ (xs : List X). xs ++ f n ∷ []) (each-as_map f n)
+    ap (λ (k : ℕ). map f (range_with_len 0 k)) one_more ∙ map-range_with_len_more f 0 n n (omega arith) ∙ ap (λ (xs : List X). xs ++ f n ∷ []) (each_as_map f n)
 
 pub length-each : {X : Type 0} (f : ℕ → X) (n : ℕ) → length (each f n) ≡ n
 unfolding each
@@ -26,7 +26,7 @@ length-each f (suc n) = simp length-append (omega (arith, length-each f n))
 
 pub get_or-each : {X : Type 0} (f : ℕ → X) (n i : ℕ) (d : X) → i < n → get_or (each f n) i d ≡ f i
 get_or-each {X} f n i d h =
-    ap (λ (xs : List X). get_or xs i d) (sym (each-as_map f n)) ∙ get_or-map-range_with_len f 0 n i i d h (omega arith)
+    ap (λ (xs : List X). get_or xs i d) (sym (each_as_map f n)) ∙ get_or-map-range_with_len f 0 n i i d h (omega arith)
 
 pub each_same : {X : Type 0} (f g : ℕ → X) (n : ℕ) → ((k : ℕ) → k < n → f k ≡ g k) → each f n ≡ each g n
 unfolding each
@@ -54,8 +54,8 @@ le_after b k p q (suc n) e =
     ap (λ (x : ℕ). x + get_or (drop k b) (p + n) 0 * 256 ^ n) (le_after b k p q n e) ∙ ap (λ (x : ℕ). le b q n + x * 256 ^ n) here
 
 -- one whole entry and those behind it
-pub whole_entries-more : {X : Type 0} (entry_at : List ℕ → ℕ → X) (w : ℕ) (b : List ℕ) → ReadsAfter entry_at w → 0 < w → w ≤ length b → whole_entries entry_at w b ≡ entry_at b 0 ∷ whole_entries entry_at w (drop w b)
-whole_entries-more {X} entry_at w b after some h =
+pub whole_entries_more : {X : Type 0} (entry_at : List ℕ → ℕ → X) (w : ℕ) (b : List ℕ) → ReadsAfter entry_at w → 0 < w → w ≤ length b → whole_entries entry_at w b ≡ entry_at b 0 ∷ whole_entries entry_at w (drop w b)
+whole_entries_more {X} entry_at w b after some h =
     let fewer : length b / w ≡ (length b - w) / w + 1 = div-eq-sub-div some h in
     let n : length b / w ≡ suc (length (drop w b) / w) = rw (length-drop w b) (omega (arith, fewer)) in
     let first : w * 0 ≡ 0 = omega arith in
@@ -64,12 +64,12 @@ whole_entries-more {X} entry_at w b after some h =
     ∙ ap (λ (p : ℕ). entry_at b p ∷ whole_entries entry_at w (drop w b)) first
 
 -- fewer bytes than one entry has
-pub whole_entries-none : {X : Type 0} (entry_at : List ℕ → ℕ → X) (w : ℕ) (b : List ℕ) → length b < w → whole_entries entry_at w b ≡ []
-whole_entries-none entry_at w b h =
+pub whole_entries_none : {X : Type 0} (entry_at : List ℕ → ℕ → X) (w : ℕ) (b : List ℕ) → length b < w → whole_entries entry_at w b ≡ []
+whole_entries_none entry_at w b h =
     ap (λ (k : ℕ). each (λ i. entry_at b (w * i)) k) (div-eq_of_lt h) ∙ none_of_none (λ i. entry_at b (w * i))
 
-pub length-whole_entries : {X : Type 0} (entry_at : List ℕ → ℕ → X) (w : ℕ) (b : List ℕ) → length (whole_entries entry_at w b) ≡ length b / w
-length-whole_entries entry_at w b = length-each (λ i. entry_at b (w * i)) (length b / w)
+pub count_of_whole_entries : {X : Type 0} (entry_at : List ℕ → ℕ → X) (w : ℕ) (b : List ℕ) → length (whole_entries entry_at w b) ≡ length b / w
+count_of_whole_entries entry_at w b = length-each (λ i. entry_at b (w * i)) (length b / w)
 
 pub get_or-whole_entries : {X : Type 0} (entry_at : List ℕ → ℕ → X) (w : ℕ) (b : List ℕ) (i : ℕ) (d : X) → i < length b / w → get_or (whole_entries entry_at w b) i d ≡ entry_at b (w * i)
 get_or-whole_entries entry_at w b i d h = get_or-each (λ j. entry_at b (w * j)) (length b / w) i d h
@@ -79,7 +79,7 @@ pub entry_items_more : {X : Type 0} (entry_at : List ℕ → ℕ → X) (w : ℕ
 unfolding entry_items
 entry_items_more {X} entry_at w b after some h =
     let rest : length b % w ≡ length (drop w b) % w = rw (length-drop w b) (mod-eq-sub-mod h) in
-    ap (λ (xs : List X). map (λ x. Ok x) xs ++ (if length b % w == 0 then [] else Err Short ∷ [])) (whole_entries-more entry_at w b after some h)
+    ap (λ (xs : List X). map (λ x. Ok x) xs ++ (if length b % w == 0 then [] else Err Short ∷ [])) (whole_entries_more entry_at w b after some h)
     ∙ ap (λ (k : ℕ). Ok (entry_at b 0) ∷ (map (λ x. Ok x) (whole_entries entry_at w (drop w b)) ++ (if k == 0 then [] else Err Short ∷ []))) rest
 
 -- a cut entry and nothing behind it
@@ -87,7 +87,7 @@ nothing : {X : Type 0} (entry_at : List ℕ → ℕ → X) (w : ℕ) → 0 < w �
 unfolding entry_items
 nothing {X} entry_at w some =
     let none : 0 % w ≡ 0 = mod-eq_of_lt some in
-    ap (λ (xs : List X). map (λ x. Ok x) xs ++ (if 0 % w == 0 then [] else Err Short ∷ [])) (whole_entries-none entry_at w [] some)
+    ap (λ (xs : List X). map (λ x. Ok x) xs ++ (if 0 % w == 0 then [] else Err Short ∷ [])) (whole_entries_none entry_at w [] some)
     ∙ ap (λ (k : ℕ). if k == 0 then [] else Err Short ∷ []) none
 
 pub entry_items_none : {X : Type 0} (entry_at : List ℕ → ℕ → X) (w : ℕ) (b : List ℕ) → 0 < w → length b ≡ 0 → entry_items entry_at w b ≡ []
@@ -98,7 +98,7 @@ unfolding entry_items
 entry_items_cut {X} entry_at w b left some cut e =
     let rest : length b % w ≡ length b = mod-eq_of_lt cut in
     let t : (length b % w == 0) ≡ false = grind (arith, nat_tests) in
-    ap (λ (xs : List X). map (λ x. Ok x) xs ++ (if length b % w == 0 then [] else Err Short ∷ [])) (whole_entries-none entry_at w b cut)
+    ap (λ (xs : List X). map (λ x. Ok x) xs ++ (if length b % w == 0 then [] else Err Short ∷ [])) (whole_entries_none entry_at w b cut)
     ∙ rw t (ap (λ (xs : List (Result X Refusal)). Err Short ∷ xs) (sym (entry_items_none entry_at w left (omega arith) e)))
 
 pub length-entry_items : {X : Type 0} (entry_at : List ℕ → ℕ → X) (w : ℕ) (b : List ℕ) → length (entry_items entry_at w b) ≡ length b / w + min 1 (length b % w)

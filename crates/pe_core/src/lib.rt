@@ -68,5 +68,5 @@ pub use section_map::{find_offset, rounded_up};
 pub use section_table::SectionTable;
 pub use strtab::Strtab;
 pub use symbol::{SIZE_OF_SYMBOL, Symbol, SymbolIterator, SymbolTable};
-pub use table_entries::{TableEntries, TableEntry};
+pub use table_entries::{EntryWithId, TableEntries, TableEntry, WholeEntries};
 pub use text::text_at;

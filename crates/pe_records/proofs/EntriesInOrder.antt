@@ -2,13 +2,13 @@
 use Rattle.std.proofs.Common.{◌≡◌, ℕ, ◌+◌, ◌*◌, ◌/◌, ◌<◌, ◌≤◌, List, [], ◌∷◌, length, map, drop, Ok, Err, sym, arith}
 use Rattle.std.specs.List.{range_with_len}
 use Rattle.pe_core.specs.Rows.{ReadsAfter}
-use Rattle.pe_core.proofs.EntryItems.{le_after, each-as_map, entry_items_more, entry_items_none, entry_items_cut, length-entry_items}
+use Rattle.pe_core.proofs.EntryItems.{le_after, each_as_map, entry_items_more, entry_items_none, entry_items_cut, length-entry_items}
 use Rattle.pe_core.specs.Refusals.{Short}
 use Rattle.pe_records.specs.DebugDirectory.{debug_entry_at, debug_entries, whole_debug_entries, debug_entry_count}
 
 pub whole_as_map : (f : ℕ) (b : List ℕ) → whole_debug_entries f b ≡ map (λ i. debug_entry_at f b (28 * i)) (range_with_len 0 (length b / 28))
 unfolding whole_debug_entries
-whole_as_map f b = sym (each-as_map (λ i. debug_entry_at f b (28 * i)) (length b / 28))
+whole_as_map f b = sym (each_as_map (λ i. debug_entry_at f b (28 * i)) (length b / 28))
 
 entry_after : (f : ℕ) → ReadsAfter (debug_entry_at f) 28
 unfolding debug_entry_at

@@ -8,4 +8,4 @@ pub mod Resources
 pub mod Leaves
 pub mod LeafPositions
 pub mod VersionBlocks
-pub mod TranslationsAfter
+pub mod EntriesAfter

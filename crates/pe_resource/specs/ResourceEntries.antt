@@ -1,10 +1,12 @@
 -- Entries of a resource directory. (PE format: resource directory entries.)
-use Rattle.std.specs.Prelude.{ℕ, ◌+◌, ◌*◌, ◌/◌, ◌%◌, ◌^◌, ◌==◌, Bool, false, List, Option, Some, None, Result, Ok, if◌then◌else◌, map, length}
-use Rattle.std.specs.List.{range_with_len, find}
+use Rattle.std.specs.Prelude.{ℕ, ◌+◌, ◌*◌, ◌/◌, ◌%◌, ◌^◌, ◌==◌, Bool, false, List, Option, Some, None, Result, Ok, if◌then◌else◌}
+use Rattle.std.specs.List.{find}
 use Rattle.pe_core.specs.Bytes.{le}
-use Rattle.pe_core.specs.Refusals.{Refusal}
 use Rattle.pe_resource.specs.declared.entry.ResourceEntry.{ResourceEntry}
-use Rattle.pe_resource.specs.declared.directory.ResourceEntryIterator.{ResourceEntryIterator}
+use Rattle.pe_core.specs.EntriesLeft.{whole_bytes_left, whole_left}
+use Rattle.pe_core.specs.Rows.{whole_entries}
+use Rattle.pe_core.specs.declared.error.Error.{Error}
+use Rattle.pe_core.specs.declared.table_entries.WholeEntries.{WholeEntries}
 
 -- the entry of a 64-bit number: the high half is the name or id, the low half the offset
 abbrev pub entry_of_number : ℕ → ResourceEntry
@@ -44,7 +46,7 @@ entry_at b p = record { name_or_id = le b p 4; offset_to_data_or_directory = le 
 
 -- the whole entries of these bytes
 unfoldable pub entries : List ℕ → List ResourceEntry
-entries b = map (λ i. entry_at b (8 * i)) (range_with_len 0 (length b / 8))
+entries b = whole_entries entry_at 8 b
 
 -- there is an id, and it is this one
 abbrev pub is_id : ℕ → Option ℕ → Bool
@@ -60,9 +62,9 @@ abbrev pub with_id : ℕ → List ResourceEntry → Option ResourceEntry
 with_id id es = find (has_id id) es
 
 -- the entries that an iterator has left
-abbrev pub entries_left : ResourceEntryIterator → List ResourceEntry
-entries_left s = entries s.bytes.now
+abbrev pub entries_left : WholeEntries (Result ResourceEntry Error) → List ResourceEntry
+entries_left s = entries (whole_bytes_left s)
 
--- the items that an iterator has left; none is a refusal
-abbrev pub resource_items_left : ResourceEntryIterator → List (Result ResourceEntry Refusal)
-resource_items_left s = map (λ e. Ok e) (entries_left s)
+-- the items that an iterator has left: each is a whole entry, and none an error
+abbrev pub resource_items_left : WholeEntries (Result ResourceEntry Error) → List (Result ResourceEntry Error)
+resource_items_left s = whole_left (λ b p. Ok (entry_at b p)) 8 s

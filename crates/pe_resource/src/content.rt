@@ -51,6 +51,7 @@ impl ResourceDataEntry {
 
 /// The offset of the data entry that the first entry with this id leads to. `None` without such an entry, or if the
 /// walk ends at a directory.
+#[tactic(auto, unfolding(crate::specs::ResourceEntries::entries))]
 fn leaf(bytes: &[u8], it: ResourceEntryIterator, id: u16) -> Result<Option<u32>>
     ensures { IsLeaf bytes.now (with_id id (entries_left it.entry)) (answer_of result) }
 {

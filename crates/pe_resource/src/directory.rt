@@ -3,19 +3,17 @@
 //! <https://learn.microsoft.com/windows/win32/debug/pe-format#resource-directory-table>. A caller iterates over the
 //! entries, or looks one up by its id.
 
-ghost use Rattle.std.specs.Prelude.{◌≡◌, ◌+◌, ◌*◌, ◌≤◌, length, map, Ok, Some, IfSome};
-ghost use Rattle.std.specs.Iterator.{UpTo, YieldsFirstBy, item_count};
-ghost use Rattle.std.specs.Iterator.SizeHint.{IsWithinCount};
+ghost use Rattle.std.specs.Prelude.{◌≡◌, ◌+◌, ◌*◌, ◌≤◌, length};
 ghost use Rattle.pe_core.specs.Options.{default_options};
-ghost use Rattle.pe_core.specs.Refusals.{Returns, ReturnsAs, answer_of};
+ghost use Rattle.pe_core.specs.Refusals.{Returns, ReturnsAs};
 ghost use Rattle.pe_resource.specs.Directories.{directory_of, directory_at, count, entries_at};
-ghost use Rattle.pe_resource.specs.ResourceEntries.{entries, entries_left, resource_items_left, with_id};
+ghost use Rattle.pe_resource.specs.ResourceEntries.{entries_left};
 
 use crate::constants::RESOURCE_ENTRY_SIZE;
 use crate::entry::ResourceEntry;
 use pe_core::{
-    DataDirectory, ParseOptions, Result, SectionTable, mapped_offset, read_u16, read_u32,
-    require_bytes, slice_at,
+    DataDirectory, ParseOptions, Result, SectionTable, WholeEntries, mapped_offset, read_u16,
+    read_u32, require_bytes, slice_at,
 };
 
 /// The size of a directory without its entries, in bytes.
@@ -125,91 +123,4 @@ impl ImageResourceDirectory {
 }
 
 /// An iterator over the entries of a resource directory. No item is an error.
-#[derive(Clone, Copy, Debug)]
-pub struct ResourceEntryIterator<'a> {
-    bytes: &'a [u8],
-}
-
-impl<'a> ResourceEntryIterator<'a> {
-    /// The iterator over the whole entries of these bytes.
-    pub(crate) fn new(bytes: &'a [u8]) -> Self
-        ensures { entries_left result ≡ entries bytes.entry.now }
-    {
-        ResourceEntryIterator { bytes }
-    }
-
-    /// The bytes of the entries that are left.
-    pub(crate) fn table(self) -> &'a [u8]
-        ensures { entries result.now ≡ entries_left self.entry }
-    {
-        self.bytes
-    }
-
-    /// Returns the first entry with this id among the entries that are left, or `None`. Never returns an error.
-    pub fn find_by_id(&self, id: u16) -> Result<Option<ResourceEntry>>
-        ensures { answer_of result ≡ Ok (with_id id (entries_left self.now)) }
-    {
-        Ok(self.first_with_id(id))
-    }
-
-    /// The same without a `Result`.
-    pub(crate) fn first_with_id(&self, id: u16) -> Option<ResourceEntry>
-        ensures { result ≡ with_id id (entries_left self.now) }
-    {
-        first_with_id(self.bytes, id)
-    }
-}
-
-/// The first of the whole entries of `bytes` with this id.
-#[tactic(auto, unfolding(crate::specs::ResourceEntries::entries))]
-fn first_with_id(bytes: &[u8], id: u16) -> Option<ResourceEntry>
-    ensures { result ≡ with_id id (entries bytes.now) }
-{
-    (0..bytes.len() / RESOURCE_ENTRY_SIZE)
-        .map(
-            |i|
-                requires { 8 * i + 8 ≤ length bytes.now }
-            { ResourceEntry::at(bytes, RESOURCE_ENTRY_SIZE * i) },
-        )
-        .find(|entry| entry.has_id(id))
-}
-
-impl<'a> Iterator for ResourceEntryIterator<'a> {
-    type Item = Result<ResourceEntry>;
-
-    ghost next_gives = { YieldsFirstBy (answer_of) resource_items_left };
-
-    ghost remaining = { item_count resource_items_left };
-
-    #[tactic(auto, using(crate::proofs::Entries::items_more, crate::proofs::Entries::items_none))]
-    fn next(&mut self) -> Option<Result<ResourceEntry>> {
-        let bytes = self.bytes;
-        if bytes.len() < RESOURCE_ENTRY_SIZE {
-            return None;
-        }
-        self.bytes = bytes.split_at(RESOURCE_ENTRY_SIZE).1;
-        Some(Ok(ResourceEntry::at(bytes, 0)))
-    }
-
-    #[tactic(auto, using(crate::proofs::Entries::items_count))]
-    fn size_hint(&self) -> (usize, Option<usize>)
-        ensures lower { IsWithinCount result.0 (item_count resource_items_left self.now) }
-        ensures upper { IfSome result.1 (UpTo (item_count resource_items_left self.now)) }
-        ensures exact { result ≡ (
-          length (resource_items_left self.now),
-          Some (length (resource_items_left self.now)),
-        ) }
-    {
-        let entries = self.len();
-        (entries, Some(entries))
-    }
-}
-
-impl<'a> ExactSizeIterator for ResourceEntryIterator<'a> {
-    #[tactic(auto, using(crate::proofs::Entries::items_count))]
-    fn len(&self) -> usize
-        ensures { result ≡ length (resource_items_left self.now) }
-    {
-        self.bytes.len() / RESOURCE_ENTRY_SIZE
-    }
-}
+pub type ResourceEntryIterator<'a> = WholeEntries<'a, Result<ResourceEntry>>;

@@ -3,18 +3,21 @@
 //! <https://learn.microsoft.com/windows/win32/debug/pe-format#resource-directory-entries>. Offsets count from the first
 //! directory.
 
-ghost use Rattle.std.specs.Prelude.{◌≡◌, ◌≢◌, ◌+◌, ◌*◌, ◌<◌, ◌≤◌, ◌↔◌, ℕ, Bool, length, Ok, Err, IfOk, IsSome};
+ghost use Rattle.std.specs.Prelude.{◌≡◌, ◌≢◌, ◌+◌, ◌*◌, ◌<◌, ◌↔◌, Bool, Ok, Err, IfOk, IsSome};
 ghost use Rattle.std.specs.Fn.{FnReturnsAt};
+ghost use Rattle.std.proofs.Common.{arith};
 ghost use Rattle.pe_core.specs.Refusals.{Returns, Memory, ResourceCycle, answer_of};
 ghost use Rattle.pe_resource.specs.declared.entry.ResourceEntry.{ResourceEntry};
 ghost use Rattle.pe_resource.specs.ResourceEntries.{entry_of_number, number_of, entry_at, has_name, name_offset, id_of, is_directory, directory_offset, data_offset, has_id};
+ghost use Rattle.pe_resource.specs.EntriesAfter.{entries_after};
 ghost use Rattle.pe_resource.specs.ResourceWalk.{first_at, step, Walks, IsEndlessWalk, IsSteady, Found};
 
 use crate::constants::{
     IMAGE_RESOURCE_DATA_IS_DIRECTORY, IMAGE_RESOURCE_MASK, IMAGE_RESOURCE_NAME_IS_STRING,
+    RESOURCE_ENTRY_SIZE,
 };
 use crate::directory::{ImageResourceDirectory, SIZE_OF_DIRECTORY};
-use pe_core::{Error, Reason, Result, read_u32, require_bytes};
+use pe_core::{EntryWithId, Error, Reason, Result, TableEntry, read_u32, require_bytes};
 use std::alloc::Allocator;
 
 /// An entry of a resource directory, 8 bytes: a name or an id, and the offset of what it leads to.
@@ -41,18 +44,39 @@ impl From<u64> for ResourceEntry {
     }
 }
 
-impl ResourceEntry {
-    /// Reads the entry at `offset`. The caller has checked that its 8 bytes are there.
-    pub(crate) fn at(bytes: &[u8], offset: usize) -> ResourceEntry
-        requires { offset + 8 ≤ length bytes.now }
-        ensures { result ≡ entry_at bytes.now offset }
-    {
+impl TableEntry for ResourceEntry {
+    ghost SIZE = { 8 };
+
+    ghost entry_at = { entry_at };
+
+    const SIZE: usize = RESOURCE_ENTRY_SIZE;
+
+    const ITERATOR: &'static str = "ResourceEntryIterator";
+
+    fn at(bytes: &[u8], offset: usize) -> ResourceEntry {
         ResourceEntry {
             name_or_id: read_u32(bytes, offset),
             offset_to_data_or_directory: read_u32(bytes, offset + 4),
         }
     }
 
+    ghost has_bytes = { omega arith };
+
+    ghost reads_after = { entries_after };
+}
+
+impl EntryWithId for ResourceEntry {
+    ghost has_id = { has_id };
+
+    fn has_id(&self, id: u16) -> bool {
+        match self.id() {
+            Some(own) => own == id,
+            None => false,
+        }
+    }
+}
+
+impl ResourceEntry {
     /// The entry as a number: `name_or_id` is its high half, `offset_to_data_or_directory` its low half.
     pub fn value(&self) -> u64
         ensures { result ≡ number_of self.now }
@@ -108,16 +132,6 @@ impl ResourceEntry {
             None
         } else {
             Some(self.offset_to_data_or_directory)
-        }
-    }
-
-    /// Whether the entry has this id.
-    pub(crate) fn has_id(&self, id: u16) -> bool
-        ensures { result ≡ has_id id self.now }
-    {
-        match self.id() {
-            Some(own) => own == id,
-            None => false,
         }
     }
 

@@ -30,7 +30,10 @@ use crate::tree_error::ResourceTreeError;
 use crate::version::VersionInfo;
 use crate::version_block::VersionBlock;
 use crate::version_block_error::VersionBlockError;
-use pe_core::{ByteRange, ParseOptions, Result, SectionTable, read_u16, require_bytes, slice_at};
+use pe_core::{
+    ByteRange, EntryWithId, ParseOptions, Result, SectionTable, TableEntry, WholeEntries, read_u16,
+    require_bytes, slice_at,
+};
 
 /// The range of a table without entries.
 pub(crate) const NO_ENTRIES: ByteRange = ByteRange {
@@ -143,28 +146,15 @@ impl ResourceEntry {
     }
 }
 
-/// The first entry of a table that has one, and the bytes after it.
-#[tactic(auto, using(crate::proofs::Entries::entries_more))]
-fn split_entry(table: &[u8]) -> (ResourceEntry, &[u8])
-    requires { 8 ≤ length table.now }
-    ensures { entries table.now ≡ result.0 ∷ entries result.1.now }
-{
-    (
-        ResourceEntry::at(table, 0),
-        table.split_at(RESOURCE_ENTRY_SIZE).1,
-    )
-}
-
-/// The same of any table. `None` if it has no entry.
-#[tactic(auto, using(crate::proofs::Entries::entries_none))]
+/// The first entry of a table, and the bytes after it. `None` if it has no entry.
+#[tactic(auto, unfolding(crate::specs::ResourceEntries::entries))]
 fn first_entry(table: &[u8]) -> Option<(ResourceEntry, &[u8])>
     ensures { MatchOption result
         (entries table.now ≡ []) (λ x. entries table.now ≡ x.0 ∷ entries x.1.now) }
 {
-    if table.len() < RESOURCE_ENTRY_SIZE {
-        return None;
-    }
-    Some(split_entry(table))
+    let mut entries = WholeEntries::<ResourceEntry>::new(table);
+    let first = entries.next()?;
+    Some((first, entries.table()))
 }
 
 /// The range in the data of the entries of the directory that an entry leads to. Errors, in order: `NotDirectory`; `Image`

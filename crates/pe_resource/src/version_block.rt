@@ -19,7 +19,7 @@ ghost use Rattle.std.proofs.Common.{arith};
 ghost use Rattle.pe_core.specs.EntriesLeft.{bytes_left};
 ghost use Rattle.pe_core.specs.HexDigits.{number_after};
 ghost use Rattle.pe_resource.specs.VersionBlocks.{BlockReturns, block_answer, block_view, whole_block, own_bytes, first_block, blocks, rest_of, ReturnsBlock, block_with_key, children_of, value_of, version_block, fixed_info_of_value, children_with_key, value_with_key, value_below, string_tables, translations, translation_at, translation_of_key, block_of_content};
-ghost use Rattle.pe_resource.specs.TranslationsAfter.{translations_after};
+ghost use Rattle.pe_resource.specs.EntriesAfter.{translations_after};
 ghost use Rattle.pe_resource.specs.VersionFields.{ReturnsText};
 ghost use Rattle.pe_resource.specs.VersionStrings.{units};
 

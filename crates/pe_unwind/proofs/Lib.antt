@@ -1,6 +1,5 @@
 pub mod Names
 pub mod Arm64Equality
-pub mod Entries
 pub mod Offsets
 pub mod ChainedAddresses
 pub mod Arm64Records

@@ -8,7 +8,7 @@ use Rattle.std.proofs.Math.Nat.{mul-add, mul-div-le, mul-le-mul_left, mul-one}
 use Rattle.std.proofs.Math.Seq.{take-nil}
 use Rattle.std.proofs.lemmas.Bool.{cases_lt}
 use Rattle.std.proofs.lemmas.Bool.Decides.{nat_tests}
-use Rattle.pe_core.proofs.EntryItems.{length-whole_entries, get_or-whole_entries}
+use Rattle.pe_core.proofs.EntryItems.{count_of_whole_entries, get_or-whole_entries}
 use Rattle.pe_core.specs.CountedTable.{one_more}
 use Rattle.pe_core.specs.Rows.{whole_entries}
 use Rattle.pe_unwind.specs.declared.function_table.RuntimeFunction.{RuntimeFunction}
@@ -17,7 +17,7 @@ use Rattle.pe_unwind.specs.Lookup.{FindsStart, IsSortedBy, StartsAfter, StopsAft
 
 pub length_functions : (b : List ℕ) → length (functions b) ≡ length b / 12
 unfolding functions
-length_functions b = length-whole_entries function_at 12 b
+length_functions b = count_of_whole_entries function_at 12 b
 
 -- the first half passes, the rest does not: a filter keeps the first half
 pub filter_first : {X : Type 0} (p : X → Bool) (xs : List X) (i : ℕ) → ((k : ℕ) (d : X) → k < i → k < length xs → p (get_or xs k d) ≡ true) → ((k : ℕ) (d : X) → i ≤ k → k < length xs → p (get_or xs k d) ≡ false) → filter p xs ≡ take i xs
@@ -153,7 +153,7 @@ ends {X} start fs a low high found s over =
 -- the entry that was read is that of the table
 pub entry_is : {X : Type 0} (entry_at : List ℕ → ℕ → X) (w : ℕ) (b c : List ℕ) (m : ℕ) (f : X) → c ≡ b → f ≡ entry_at c (w * m) → m < length (whole_entries entry_at w b) → (d : X) → get_or (whole_entries entry_at w b) m d ≡ f
 entry_is entry_at w b c m f same is h d =
-    get_or-whole_entries entry_at w b m d (omega (arith, length-whole_entries entry_at w b)) ∙ sym (is ∙ ap (λ (x : List ℕ). entry_at x (w * m)) same)
+    get_or-whole_entries entry_at w b m d (omega (arith, count_of_whole_entries entry_at w b)) ∙ sym (is ∙ ap (λ (x : List ℕ). entry_at x (w * m)) same)
 
 -- a whole entry ends in the table
 pub entry_ends : (n w m : ℕ) → m < n / w → w * m + w ≤ n

@@ -2,8 +2,9 @@
 use Rattle.std.specs.Prelude.{ℕ, ◌+◌, List}
 use Rattle.pe_core.specs.Bytes.{le}
 use Rattle.pe_unwind.specs.declared.scope_table.ScopeTableEntry.{ScopeTableEntry}
-use Rattle.pe_unwind.specs.declared.scope_table.ScopeTableIterator.{ScopeTableIterator}
+use Rattle.pe_core.specs.EntriesLeft.{whole_left}
 use Rattle.pe_core.specs.Rows.{whole_entries}
+use Rattle.pe_core.specs.declared.table_entries.WholeEntries.{WholeEntries}
 
 -- the entry of 16 bytes at offset p
 abbrev pub scope_at : List ℕ → ℕ → ScopeTableEntry
@@ -15,9 +16,9 @@ scope_at b p = record {
 }
 
 -- the whole entries of a table
-unfoldable pub scopes : List ℕ → List ScopeTableEntry
+abbrev pub scopes : List ℕ → List ScopeTableEntry
 scopes b = whole_entries scope_at 16 b
 
 -- the entries that an iterator has left
-abbrev pub scopes_left : ScopeTableIterator → List ScopeTableEntry
-scopes_left s = scopes s.bytes.now
+abbrev pub scopes_left : WholeEntries ScopeTableEntry → List ScopeTableEntry
+scopes_left s = whole_left scope_at 16 s

@@ -1,14 +1,15 @@
 //! Laws of derived traits: `==` is equality of all fields, a default has zeros, `None` and no bytes, and a clone equals
 //! its original.
 
-ghost use Rattle.std.specs.Prelude.{◌≡◌, ◌↔◌, IsTrue, Ok};
+ghost use Rattle.std.specs.Prelude.{◌≡◌, ◌↔◌, IsTrue, Ok, Result};
+ghost use Rattle.pe_core.specs.declared.error.Error.{Error};
+ghost use Rattle.pe_core.specs.declared.table_entries.WholeEntries.{WholeEntries};
 ghost use Rattle.pe_resource.specs.declared.version.VersionName.{VersionName};
 ghost use Rattle.pe_resource.specs.declared.directory.ImageResourceDirectory.{ImageResourceDirectory};
 ghost use Rattle.pe_resource.specs.declared.content.ResourceDataEntry.{ResourceDataEntry};
 ghost use Rattle.pe_resource.specs.declared.entry.ResourceEntry.{ResourceEntry};
 ghost use Rattle.pe_resource.specs.declared.version.VsFixedFileInfo.{VsFixedFileInfo};
 ghost use Rattle.pe_resource.specs.declared.version.VersionField.{VersionField};
-ghost use Rattle.pe_resource.specs.declared.directory.ResourceEntryIterator.{ResourceEntryIterator};
 ghost use Rattle.pe_resource.specs.declared.leaves.ResourceLeaf.{ResourceLeaf};
 ghost use Rattle.pe_resource.specs.declared.leaves.ResourceLeaves.{ResourceLeaves};
 ghost use Rattle.pe_resource.specs.declared.manifest.ManifestData.{ManifestData};
@@ -104,7 +105,7 @@ pub fn clones_are_their_originals()
         ⟦<VsFixedFileInfo as Clone>⟧.is_clone x y → y ≡ x }
     ensures version_field { (x y : VersionField) → ⟦<VersionField as Clone>⟧.is_clone x y → y ≡ x }
     ensures version_name { (x y : VersionName) → ⟦<VersionName as Clone>⟧.is_clone x y → y ≡ x }
-    ensures resource_entry_iterator { (x y : ResourceEntryIterator) →
+    ensures resource_entry_iterator { (x y : WholeEntries (Result ResourceEntry Error)) →
         ⟦<ResourceEntryIterator<'static> as Clone>⟧.is_clone x y → y ≡ x }
     ensures manifest_data { (x y : ManifestData) →
         ⟦<ManifestData<'static> as Clone>⟧.is_clone x y → y ≡ x }

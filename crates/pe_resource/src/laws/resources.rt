@@ -5,14 +5,14 @@ ghost use Rattle.std.specs.Ordering.{nat_cmp};
 ghost use Rattle.std.specs.declared.cmp.Ordering.TheVariants.{Equal};
 ghost use Rattle.std.specs.Iterator.{Drains};
 ghost use Rattle.pe_core.specs.Offsets.{bytes_in, IsWithin};
-ghost use Rattle.pe_core.specs.Refusals.{Refusal, answer_of};
+ghost use Rattle.pe_core.specs.Refusals.{Refusal};
 ghost use Rattle.pe_core.specs.declared.byte_range.ByteRange.{ByteRange};
 ghost use Rattle.pe_core.specs.declared.data_directories.DataDirectory.{DataDirectory};
 ghost use Rattle.pe_core.specs.declared.error.Error.{Error};
 ghost use Rattle.pe_core.specs.declared.options.ParseMode.{ParseMode};
 ghost use Rattle.pe_core.specs.declared.options.ParseOptions.{ParseOptions};
 ghost use Rattle.pe_core.specs.declared.section_table.SectionTable.{SectionTable};
-ghost use Rattle.pe_resource.specs.declared.directory.ResourceEntryIterator.{ResourceEntryIterator};
+ghost use Rattle.pe_core.specs.declared.table_entries.WholeEntries.{WholeEntries};
 ghost use Rattle.pe_resource.specs.declared.entry.ResourceEntry.{ResourceEntry};
 ghost use Rattle.pe_resource.specs.declared.leaves.ResourceLeaf.{ResourceLeaf};
 ghost use Rattle.pe_resource.specs.declared.leaves.ResourceLeaves.{ResourceLeaves};
@@ -65,10 +65,12 @@ pub fn versions_in_order()
 
 /// An iterator over entries returns the entries of its bytes, and is over after `None`.
 pub fn entry_iterators_give_the_entries()
-    ensures items { (s : ResourceEntryIterator) (xs : List (Result ResourceEntry Error)) →
+    ensures items { (s : WholeEntries (Result ResourceEntry Error))
+        (xs : List (Result ResourceEntry Error)) →
         Drains ⟦<ResourceEntryIterator<'static> as Iterator>⟧.next_gives s xs →
-        map (answer_of) xs ≡ resource_items_left s }
-    ensures none { (s t u : ResourceEntryIterator) (r : Option (Result ResourceEntry Error)) →
+        xs ≡ resource_items_left s }
+    ensures none { (s t u : WholeEntries (Result ResourceEntry Error))
+        (r : Option (Result ResourceEntry Error)) →
         ⟦<ResourceEntryIterator<'static> as Iterator>⟧.next_gives s None t →
         ⟦<ResourceEntryIterator<'static> as Iterator>⟧.next_gives t r u → r ≡ None }
 {}

@@ -1,5 +1,5 @@
 use Rattle.std.proofs.Common.{◌≡◌, ◌∙◌, ℕ, ◌+◌, ◌-◌, ◌*◌, ◌/◌, ◌<◌, ◌≤◌, List, length, arith, ap, refl}
-use Rattle.pe_core.proofs.EntryItems.{length-whole_entries}
+use Rattle.pe_core.proofs.EntryItems.{count_of_whole_entries}
 use Rattle.pe_core.specs.CountedTable.{Counted, one_more}
 use Rattle.pe_core.specs.Rows.{whole_entries}
 use Rattle.pe_unwind.specs.Lookup.{digits}
@@ -9,7 +9,7 @@ use Rattle.pe_unwind.proofs.lookup.last_start.Goals as goal
 pub loop-low-init : goal.loop-low-init
 loop-low-init g c =
     let b : List ℕ = c.args.table.now.content in
-    let count : length (whole_entries g.E.TableEntry.entry_at g.E.TableEntry.SIZE b) ≡ length b / g.E.TableEntry.SIZE = length-whole_entries g.E.TableEntry.entry_at g.E.TableEntry.SIZE b in
+    let count : length (whole_entries g.E.TableEntry.entry_at g.E.TableEntry.SIZE b) ≡ length b / g.E.TableEntry.SIZE = count_of_whole_entries g.E.TableEntry.entry_at g.E.TableEntry.SIZE b in
     let size : c.SIZE.result ≡ g.E.TableEntry.SIZE = c.SIZE.ensures in
     let bytes : c.len.result ≡ length b = c.len.ensures in
     let all : c.len.result / c.SIZE.result ≡ length (whole_entries g.E.TableEntry.entry_at g.E.TableEntry.SIZE b) = cc in
@@ -25,7 +25,7 @@ pub overflow_mul-SIZE : goal.overflow_mul-SIZE
 overflow_mul-SIZE g c =
     let b : List ℕ = c.args.table.now.content in
     let m : ℕ = c.loop-low.low + (c.loop-low.high - c.loop-low.low) / 2 in
-    let count : length (whole_entries g.E.TableEntry.entry_at g.E.TableEntry.SIZE b) ≡ length b / g.E.TableEntry.SIZE = length-whole_entries g.E.TableEntry.entry_at g.E.TableEntry.SIZE b in
+    let count : length (whole_entries g.E.TableEntry.entry_at g.E.TableEntry.SIZE b) ≡ length b / g.E.TableEntry.SIZE = count_of_whole_entries g.E.TableEntry.entry_at g.E.TableEntry.SIZE b in
     let inside : m < length b / g.E.TableEntry.SIZE = omega (arith, count, c.loop-low.invariant.searches.within) in
     let size : c.SIZE-in-loop-low.result * m ≡ g.E.TableEntry.SIZE * m = ap (λ (w : ℕ). w * m) c.SIZE-in-loop-low.ensures in
     omega (arith, size, entry_ends (length b) g.E.TableEntry.SIZE m inside, c.len.ensures)
@@ -34,7 +34,7 @@ pub next_entry-entry-requires : goal.next_entry-entry-requires
 next_entry-entry-requires g c =
     let b : List ℕ = c.args.table.now.content in
     let m : ℕ = c.loop-low.low + (c.loop-low.high - c.loop-low.low) / 2 in
-    let count : length (whole_entries g.E.TableEntry.entry_at g.E.TableEntry.SIZE b) ≡ length b / g.E.TableEntry.SIZE = length-whole_entries g.E.TableEntry.entry_at g.E.TableEntry.SIZE b in
+    let count : length (whole_entries g.E.TableEntry.entry_at g.E.TableEntry.SIZE b) ≡ length b / g.E.TableEntry.SIZE = count_of_whole_entries g.E.TableEntry.entry_at g.E.TableEntry.SIZE b in
     let inside : m < length b / g.E.TableEntry.SIZE = omega (arith, count, c.loop-low.invariant.searches.within) in
     let size : c.SIZE-in-loop-low.result * m ≡ g.E.TableEntry.SIZE * m = ap (λ (w : ℕ). w * m) c.SIZE-in-loop-low.ensures in
     omega (arith, size, entry_ends (length b) g.E.TableEntry.SIZE m inside, ap length c.loop-low.invariant.kept)

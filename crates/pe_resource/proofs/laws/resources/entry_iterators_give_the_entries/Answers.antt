@@ -1,5 +1,5 @@
-use Rattle.std.proofs.Common.{Result}
-use Rattle.pe_core.specs.Refusals.{answer_of}
+use Rattle.std.proofs.Common.{Result, sym, ◌∙◌}
+use Rattle.std.proofs.lemmas.List.{map-id}
 use Rattle.pe_core.specs.declared.error.Error.{Error}
 use Rattle.pe_resource.specs.declared.entry.ResourceEntry.{ResourceEntry}
 use Rattle.pe_resource.specs.ResourceEntries.{resource_items_left}
@@ -7,4 +7,4 @@ use Rattle.pe_resource.proofs.Entries.{list_from_yields}
 use Rattle.pe_resource.proofs.laws.resources.entry_iterators_give_the_entries.Goals as goal
 
 pub returns-clause-items : goal.returns-clause-items
-returns-clause-items c = λ s xs d. list_from_yields (λ (r : Result ResourceEntry Error). answer_of r) resource_items_left s d.1.0 d.0 xs d.1.1 d.1.2
+returns-clause-items c = λ s xs d. sym (map-id xs) ∙ list_from_yields (λ (r : Result ResourceEntry Error). r) resource_items_left s d.1.0 d.0 xs d.1.1 d.1.2
