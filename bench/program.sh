@@ -1,4 +1,4 @@
-# Sourced by the measurements whose program is bench/NAME.txt, at the top of the repository: builds it, and counts.
+# Sourced by the measurements whose program is bench/NAME.rs, at the top of the repository: builds it, and counts.
 . tools/kit.sh
 . tools/tests_crate.sh
 
@@ -12,7 +12,7 @@ else
   trap 'rm -rf "$copy"' EXIT
 fi
 
-# Proves and builds the program bench/NAME.txt over some crates, in a copy of all crates, and runs it once with the
+# Proves and builds the program bench/NAME.rs over some crates, in a copy of all crates, and runs it once with the
 # arguments. Its path is "$program" then. That takes some minutes, and the end of what it says is shown where it fails.
 #
 #     build_program NAME 'CRATE ..' [ARGUMENT ..]
@@ -23,7 +23,7 @@ build_program() {
   copy_crates "$copy"
   { cat crates.txt && echo && echo "$name: $uses"; } >"$copy/crates.txt"
   mkdir -p "$copy/crates/$name/src"
-  cp "bench/$name.txt" "$copy/crates/$name/src/main.rt"
+  cp "bench/$name.rs" "$copy/crates/$name/src/main.rt"
   if ! (cd "$copy/crates/$name" && "$RT" run -- "$@") >"$copy/log" 2>&1 </dev/null; then
     tail -n 5 "$copy/log" >&2
     exit 1

@@ -25,24 +25,24 @@ copy_with_tests_crate() {
   } >"$folder/crates.txt"
 }
 
-# The crates that have tests of their own here, tests/CRATE/*.test.
+# The crates that have tests of their own here, tests/CRATE/*.rs.
 crates_with_tests() {
   local root
-  for root in tests/*/lib.test; do
+  for root in tests/*/lib.rs; do
     basename "$(dirname "$root")"
   done
 }
 
-# Puts tests/CRATE into a copy of the crates, as the module tests of that crate. Beside its own files lib.test may name
-# tests/refusing.test. The crate uses pe_images then.
+# Puts tests/CRATE into a copy of the crates, as the module tests of that crate. Beside its own files lib.rs may name
+# tests/refusing.rs. The crate uses pe_images then.
 add_tests_of() {
   local folder=$1 crate=$2 test sources root
   sources=$folder/crates/$crate/src
   mkdir -p "$sources/tests"
-  if grep -qx 'mod refusing;' "tests/$crate/lib.test"; then
-    cp tests/refusing.test "$sources/tests/refusing.rt"
+  if grep -qx 'mod refusing;' "tests/$crate/lib.rs"; then
+    cp tests/refusing.rs "$sources/tests/refusing.rt"
   fi
-  for test in tests/"$crate"/*.test; do
+  for test in tests/"$crate"/*.rs; do
     cp "$test" "$(copy_of_test "$folder" "$test")"
   done
   for root in "$sources"/{lib,main}.rt; do
@@ -56,28 +56,28 @@ add_tests_of() {
 # Where the copy of a file of tests stands.
 copy_of_test() {
   local folder=$1 test=$2 name crate
-  name=$(basename "$test" .test)
+  name=$(basename "$test" .rs)
   crate=$(basename "$(dirname "$test")")
   case $test in
-    tests/*/lib.test) echo "$folder/crates/$crate/src/tests.rt" ;;
+    tests/*/lib.rs) echo "$folder/crates/$crate/src/tests.rt" ;;
     tests/*/*) echo "$folder/crates/$crate/src/tests/$name.rt" ;;
     *) echo "$folder/crates/pe_tests/src/$name.rt" ;;
   esac
 }
 
-# The crates' sources and one more crate, a program that stands in a folder of tools as files NAME.txt, and has the folder's
-# name. Its main file may name tests/refusing.test.
+# The crates' sources and one more crate, a program that stands in a folder of tools as files NAME.rs, and has the folder's
+# name. Its main file may name tests/refusing.rs.
 copy_with_program() {
   local folder=$1 program=$2 name part sources
   name=$(basename "$program")
   sources=$folder/crates/$name/src
   copy_crates "$folder"
   mkdir -p "$sources"
-  for part in "$program"/*.txt; do
-    cp "$part" "$sources/$(basename "$part" .txt).rt"
+  for part in "$program"/*.rs; do
+    cp "$part" "$sources/$(basename "$part" .rs).rt"
   done
-  if grep -qx 'mod refusing;' "$program/main.txt"; then
-    cp tests/refusing.test "$sources/refusing.rt"
+  if grep -qx 'mod refusing;' "$program/main.rs"; then
+    cp tests/refusing.rs "$sources/refusing.rt"
   fi
   {
     cat crates.txt

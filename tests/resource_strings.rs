@@ -1,7 +1,7 @@
 //! Version strings: one alone, their texts, and the strings of a table against a plain program that collects them.
 
 use crate::refusing::Refusing;
-use crate::resources::{flat, push_string, texts_of, version_alone};
+use crate::resources::{NAMES, flat, push_string, texts_of, version_alone};
 use linked_list_allocator::LocalHeap;
 use pe_core::{DataDirectory, Error, ParseMode, Reason, Result};
 use pe_resource::{ResourceData, ResourceString, ResourceStringIterator};
@@ -199,24 +199,18 @@ fn next(seed: &mut u64) -> u64 {
     *seed >> 33
 }
 
-const KEYS: [&str; 16] = [
-    "Comments",
-    "CompanyName",
-    "FileDescription",
-    "FileVersion",
-    "InternalName",
-    "LegalCopyright",
-    "LegalTrademarks",
-    "OriginalFilename",
-    "PrivateBuild",
-    "ProductName",
-    "ProductVersion",
-    "SpecialBuild",
-    "",
-    "Comment",
-    "CommentsX",
-    "comments",
-];
+/// Keys that are not among the names, though some look like one.
+const OTHER_KEYS: [&str; 4] = ["", "Comment", "CommentsX", "comments"];
+
+/// One of the names or of the other keys.
+fn any_key(seed: &mut u64) -> &'static str {
+    let index = (next(seed) % 16) as usize;
+    let key = match NAMES.get(index) {
+        Some(name) => Some(name),
+        None => OTHER_KEYS.get(index.saturating_sub(NAMES.len())),
+    };
+    key.copied().unwrap_or("")
+}
 
 /// Tables of generated strings, some with a value that is not there: every name has the same text by both programs.
 #[test]
@@ -231,14 +225,8 @@ fn collected_strings(rt: HostRuntime) -> std::result::Result<(), Fail> {
             if next(&mut seed) % 64 == 0 {
                 too_long = strings.len().saturating_add(3);
             }
-            let key = KEYS
-                .get((next(&mut seed) % 16) as usize)
-                .copied()
-                .unwrap_or("");
-            let value = KEYS
-                .get((next(&mut seed) % 16) as usize)
-                .copied()
-                .unwrap_or("");
+            let key = any_key(&mut seed);
+            let value = any_key(&mut seed);
             push_string(&mut strings, key, value)?;
         }
         if let Some(slot) = strings.get_mut(too_long) {
@@ -262,7 +250,7 @@ fn collected_strings(rt: HostRuntime) -> std::result::Result<(), Fail> {
                 given = given.wrapping_add(1);
                 let version = data.version_info.ok_or("no version information")?;
                 let texts = texts_of(rt.alloc(), &version.string_info)?;
-                for (text, name) in texts.iter().zip(KEYS) {
+                for (text, name) in texts.iter().zip(NAMES) {
                     let plain = collected_text(rt.alloc(), &strings, name)?;
                     let same = match (text, &plain) {
                         (Some(found), Some(wanted)) => found.as_str() == wanted.as_str(),

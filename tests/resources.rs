@@ -361,7 +361,7 @@ pub(crate) fn version_alone(
     Ok(bytes)
 }
 
-const NAMES: [&str; 12] = [
+pub(crate) const NAMES: [&str; 12] = [
     "Comments",
     "CompanyName",
     "FileDescription",

@@ -54,7 +54,7 @@ fn changed(changes: &[(usize, u64)]) -> Registers {
 }
 
 /// The bytes of these words.
-fn bytes_of(alloc: Global, words: &[u64]) -> Result<Vec<u8>, AllocError> {
+pub(crate) fn bytes_of(alloc: Global, words: &[u64]) -> Result<Vec<u8>, AllocError> {
     let mut bytes = Vec::new(alloc);
     for word in words {
         bytes.extend_from_slice(&u64::to_le_bytes(*word))?;

@@ -1,6 +1,7 @@
 //! Steps of a stack walk on ARM64. The records are those that clang 14 makes of the instructions beside them with their
 //! `.seh` directives, and the stacks are by hand: what is expected is the state at the function's entry.
 
+use crate::frames::bytes_of;
 use pe_core::{Error, Reason};
 use pe_frame::{Arm64Registers, FrameError, Stack, leaf_arm64, step_arm64, step_arm64_packed};
 use pe_unwind::{Arm64RuntimeFunction, Arm64UnwindInfo};
@@ -58,15 +59,6 @@ fn after_body(sp: u64, frame: u64) -> Arm64Registers {
         *value = 5;
     }
     registers
-}
-
-/// The bytes of these words.
-fn bytes_of(alloc: Global, words: &[u64]) -> Result<Vec<u8>, AllocError> {
-    let mut bytes = Vec::new(alloc);
-    for word in words {
-        bytes.extend_from_slice(&u64::to_le_bytes(*word))?;
-    }
-    Ok(bytes)
 }
 
 /// A step in a function with this record, at an offset in it.

@@ -1,6 +1,7 @@
 //! Walks of a stack through three modules, and memory in pieces. Images and stacks are by hand, from what the prologs of the
 //! functions do: what is expected is what each of them was entered with.
 
+use crate::frames::bytes_of;
 use pe_core::{DataDirectory, ParseOptions};
 use pe_frame::{
     FrameError, Memory, MemoryList, MemoryPiece, Module, ModuleOrder, Modules, Registers, Stack,
@@ -113,15 +114,6 @@ fn module<'a>(base: u64, bytes: &'a [u8], exceptions: &'a ExceptionData<'a>) -> 
         exceptions: Some(exceptions),
         opts: flat(),
     }
-}
-
-/// The bytes of these words.
-fn bytes_of(alloc: Global, words: &[u64]) -> Result<Vec<u8>, AllocError> {
-    let mut bytes = Vec::new(alloc);
-    for word in words {
-        bytes.extend_from_slice(&u64::to_le_bytes(*word))?;
-    }
-    Ok(bytes)
 }
 
 /// Registers that are 0, but for these.
