@@ -1,6 +1,6 @@
 //! Reads resources that are made in memory a number of times: `resources strings COUNT TIMES` version information of so many
 //! strings of 52 bytes, none of which has one of the twelve names, and `resources chain COUNT TIMES` a chain of so many
-//! directories behind the entry of the version.
+//! directories after the entry of the version.
 #![tactic(auto)]
 
 use pe_core::{DataDirectory, ParseOptions};

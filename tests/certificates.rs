@@ -131,7 +131,7 @@ fn lists_what_was_written(rt: HostRuntime) -> Result<(), Fail> {
         0x55, 0x55, 0x55, 0x55, 0x55, 0x55, 0x55, 0x55, // before
         9, 0, 0, 0, 0, 2, 2, 0, 1, 0, 0, 0, 0, 0, 0, 0, // 16 bytes
         17, 0, 0, 0, 0, 2, 2, 0, 1, 2, 3, 4, 5, 6, 7, 8, 9, 0, 0, 0, 0, 0, 0, 0, // 24 bytes
-        0x55, 0x55, 0x55, 0x55, 0x55, 0x55, 0x55, 0x55, // behind
+        0x55, 0x55, 0x55, 0x55, 0x55, 0x55, 0x55, 0x55, // after
     ];
     assert_eq!(rt; out, want);
     let listed = enumerate_certificates(rt.alloc(), &out, 8, 40)?;

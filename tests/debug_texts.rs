@@ -377,7 +377,7 @@ exception_data: None, relocation_data: None, certificates: [], resource_data: No
     )?;
     assert_eq!(rt; shown(alloc, &image)?.as_str(), text.as_str());
     drop(image);
-    bytes.extend_from_slice(b"bytes behind the headers")?;
+    bytes.extend_from_slice(b"bytes after the headers")?;
     let longer = PE::parse(alloc, &bytes)?;
     assert_eq!(rt; shown(alloc, &longer)?.as_str(), text.as_str());
     Ok(())

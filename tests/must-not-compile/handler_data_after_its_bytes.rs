@@ -8,7 +8,7 @@ pub fn length_of(bytes: Vec<u8>) -> Result<usize> {
     let info = UnwindInfo::parse(&bytes, 0)?;
     drop(bytes);
     match info.handler {
-        Some(UnwindHandler::ExceptionHandler(_, behind)) => Ok(behind.len()),
+        Some(UnwindHandler::ExceptionHandler(_, data)) => Ok(data.len()),
         _ => Ok(0),
     }
 }

@@ -3,7 +3,7 @@
 use super::made::{
     ARM64, ARM64_VERSION, EXCEPTION_BOUNDS, EXCEPTION_OFFSET, EXCEPTION_SIZE, FUNCTION_INDEX,
     MAPPED, OVER, PERMISSIVE, SHORT, STRICT, UNMAPPED, UNTOUCHED, X64, directory, having, image,
-    in_mode, lies, of_range, range, sections, untouched, words,
+    images_without_tables, in_mode, lies, of_range, range, sections, untouched, words,
 };
 use crate::arm64::functions::{
     Arm64Packed, pe_c_arm64_function_at, pe_c_arm64_packed_fields, pe_c_arm64_table,
@@ -37,35 +37,7 @@ fn function_tables(rt: HostRuntime) {
     let whole = with_table(0x1010, 0x28);
     for mode in [STRICT, PERMISSIVE] {
         assert_eq!(rt; table_of(&bytes, &whole, mode), (DONE, [0x10, 0x28]));
-        for (image, number) in [
-            (
-                Image {
-                    machine: X64,
-                    ..whole
-                },
-                NOTHING,
-            ),
-            (
-                Image {
-                    machine: 0x14C,
-                    ..whole
-                },
-                NOTHING,
-            ),
-            (with_table(0, 0), NOTHING),
-            (with_table(0x1010, 0x2C), EXCEPTION_SIZE),
-            (with_table(0x3000, 8), UNMAPPED),
-            (with_table(0x1012, 8), EXCEPTION_OFFSET),
-            (with_table(0x101C, 0x28), EXCEPTION_BOUNDS),
-            (with_table(0x1010, 0xFFFF_FFF8), EXCEPTION_BOUNDS),
-            (
-                Image {
-                    file_alignment: 3,
-                    ..whole
-                },
-                UNMAPPED,
-            ),
-        ] {
+        for (image, number) in images_without_tables(whole, X64, 8) {
             assert_eq!(rt; table_of(&bytes, &image, mode), (number, UNTOUCHED));
         }
     }

@@ -171,11 +171,11 @@ fn each_kind(rt: HostRuntime) {
         for offset in 1 + length..8 {
             let after = u64::from(offset) + 1;
             let nop = (DONE, [offset, 1, 18, 0, 0, 0], [after, 8 - after, after]);
-            assert_eq!(rt; step(&bytes, &mut walk), nop, "behind {code:?}");
+            assert_eq!(rt; step(&bytes, &mut walk), nop, "after {code:?}");
         }
         let end = (NOTHING, NO_CODE, [8, 0, 8]);
-        assert_eq!(rt; step(&bytes, &mut walk), end, "behind {code:?}");
-        assert_eq!(rt; step(&bytes, &mut walk), end, "behind {code:?}");
+        assert_eq!(rt; step(&bytes, &mut walk), end, "after {code:?}");
+        assert_eq!(rt; step(&bytes, &mut walk), end, "after {code:?}");
     }
 }
 

@@ -2,6 +2,7 @@
 
 use crate::image::Image;
 use crate::ranges::Range;
+use crate::results::NOTHING;
 use pe_core::{DataDirectory, SectionTable};
 use pe_images::image as bytes_of;
 use std::alloc::{AllocError, Global};
@@ -148,6 +149,42 @@ pub(crate) fn having(image: Image, index: usize, directory: DataDirectory) -> Im
         directories,
         ..image
     }
+}
+
+/// Images whose function table cannot be read in 64 bytes, each with the result: like `whole`, whose entries have `width`
+/// bytes, but for another machine, or with a directory or a file alignment that is wrong.
+pub(crate) fn images_without_tables(whole: Image, other: u16, width: u32) -> [(Image, u32); 10] {
+    let table = |address: u32, size: u32| having(whole, 3, directory(address, size));
+    [
+        (
+            Image {
+                machine: other,
+                ..whole
+            },
+            NOTHING,
+        ),
+        (
+            Image {
+                machine: 0x14C,
+                ..whole
+            },
+            NOTHING,
+        ),
+        (table(0, 0), NOTHING),
+        (table(0x1010, 4 * width - 1), EXCEPTION_SIZE),
+        (table(0x1010, 4 * width - 4), EXCEPTION_SIZE),
+        (table(0x3000, width), UNMAPPED),
+        (table(0x1012, width), EXCEPTION_OFFSET),
+        (table(0x1044 - 4 * width, 4 * width), EXCEPTION_BOUNDS),
+        (table(0x1010, 0xFFFF_FFFF / width * width), EXCEPTION_BOUNDS),
+        (
+            Image {
+                file_alignment: 3,
+                ..whole
+            },
+            UNMAPPED,
+        ),
+    ]
 }
 
 /// The same image, read in another mode.

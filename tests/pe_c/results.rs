@@ -135,7 +135,7 @@ fn check_text(rt: &impl Abort, answer: u32, want: &str) {
     assert_eq!(rt; &room[..want.len()], want.as_bytes(), "of {answer}");
     assert!(rt;
         room[length..].iter().all(|byte| *byte == b'.'),
-        "behind {answer}"
+        "after {answer}"
     );
 }
 

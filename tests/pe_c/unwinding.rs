@@ -1,9 +1,9 @@
 //! The functions of x64 images, their unwind records and scope tables.
 
 use super::made::{
-    ARM64, EXCEPTION_BOUNDS, EXCEPTION_OFFSET, EXCEPTION_SIZE, FUNCTION_CYCLE, FUNCTION_INDEX,
-    FUNCTION_LINK, OVER, PERMISSIVE, SHORT, STRICT, UNMAPPED, UNTOUCHED, UNWIND_VERSION, X64,
-    directory, having, image, in_mode, lies, of_range, range, sections, untouched, words,
+    ARM64, FUNCTION_CYCLE, FUNCTION_INDEX, FUNCTION_LINK, OVER, PERMISSIVE, SHORT, STRICT,
+    UNMAPPED, UNTOUCHED, UNWIND_VERSION, X64, directory, having, image, images_without_tables,
+    in_mode, lies, of_range, range, sections, untouched, words,
 };
 use crate::image::Image;
 use crate::ranges::Range;
@@ -56,35 +56,7 @@ fn function_tables(rt: HostRuntime) {
     let whole = with_table(0x1010, 0x30);
     for mode in [STRICT, PERMISSIVE] {
         assert_eq!(rt; table_of(&bytes, &whole, mode), (DONE, [0x10, 0x30]));
-        for (image, number) in [
-            (
-                Image {
-                    machine: ARM64,
-                    ..whole
-                },
-                NOTHING,
-            ),
-            (
-                Image {
-                    machine: 0x14C,
-                    ..whole
-                },
-                NOTHING,
-            ),
-            (with_table(0, 0), NOTHING),
-            (with_table(0x1010, 0x2F), EXCEPTION_SIZE),
-            (with_table(0x3000, 12), UNMAPPED),
-            (with_table(0x1012, 12), EXCEPTION_OFFSET),
-            (with_table(0x1014, 0x30), EXCEPTION_BOUNDS),
-            (with_table(0x1010, 0xFFFF_FFFC), EXCEPTION_BOUNDS),
-            (
-                Image {
-                    file_alignment: 3,
-                    ..whole
-                },
-                UNMAPPED,
-            ),
-        ] {
+        for (image, number) in images_without_tables(whole, ARM64, 12) {
             assert_eq!(rt; table_of(&bytes, &image, mode), (number, UNTOUCHED));
         }
     }

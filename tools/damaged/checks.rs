@@ -301,7 +301,7 @@ impl<'a> Trial<'a> {
                 one_more(&mut self.counts.written);
                 let is_inside = end <= length || !matches!(writer, Writer::Certificates);
                 self.walk
-                    .check(is_inside, "certificates end behind the buffer");
+                    .check(is_inside, "certificates end after the buffer");
                 let once = Vec::from_slice(self.alloc, &buffer)?;
                 let again = writer.write(image, &mut buffer, &mut self.walk);
                 self.walk.check(

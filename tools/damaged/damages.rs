@@ -47,7 +47,7 @@ impl Chance {
 pub struct Base {
     pub name: String,
     pub bytes: Vec<u8>,
-    /// The places at which fields stand, most likely: all even ones of the headers, and those behind that are not zero.
+    /// The offsets at which fields stand, most likely: all even ones of the headers, and those after them that are not zero.
     fields: Vec<usize>,
     /// What fields are set to: the ends of ranges of numbers, of the file, of its sections and directories, and their
     /// neighbours.

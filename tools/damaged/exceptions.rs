@@ -191,7 +191,7 @@ fn walk_plan(
                 let is_root = number.wrapping_add(1) == records.len();
                 walk.check(
                     record.chained_info.is_none() == is_root,
-                    "a plan ends in front of the root, or goes on behind it",
+                    "a plan ends before the root, or goes on after it",
                 );
             }
         }

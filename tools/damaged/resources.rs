@@ -54,7 +54,7 @@ fn walk_texts(walk: &mut Walk, alloc: Global, info: &StringFileInfo) -> Result<(
     Ok(())
 }
 
-/// An entry, and where the directories behind it lead.
+/// An entry, and where the directories after it lead.
 fn walk_entry(walk: &mut Walk, alloc: Global, entry: ResourceEntry, data: &[u8]) {
     walk.check(
         entry.id().is_none() == entry.name_is_string(),

@@ -304,7 +304,7 @@ impl<'a> Walk<'a> {
         }
     }
 
-    /// The items of an iterator that does not know its length, of which none comes behind a refusal.
+    /// The items of an iterator that does not know its length, of which none comes after an error.
     pub fn open_items<T: Drop, I: Iterator<Item = pe_image::Result<T>>, V: Fn(&mut Walk<'a>, T)>(
         &mut self,
         mut items: I,
