@@ -1,6 +1,9 @@
 //! Reads the ARM64 unwind codes of a stream of 1 MiB a number of times: `codes nops TIMES`, `codes mixed TIMES`.
 #![tactic(auto)]
 
+mod arguments;
+
+use arguments::number;
 use pe_unwind::{Arm64UnwindCode, Arm64UnwindCodeIterator};
 use std::{env, io};
 
@@ -111,10 +114,7 @@ fn main(rt: HostRuntime) -> io::Result<()> {
         Some(word) => word.as_str() == "mixed",
         None => false,
     };
-    let times = match env::args(&rt)?.nth(2) {
-        Some(word) => word.parse::<u32>().unwrap_or(0),
-        None => 0,
-    };
+    let times = number(&rt, 2)?;
     let mut stream = Vec::new(rt.alloc());
     let mut state = 1u32;
     for _ in 0..LENGTH {

@@ -2,19 +2,15 @@
 //! prolog pushed rbx and allocated 8 bytes.
 #![tactic(auto)]
 
+mod arguments;
+
+use arguments::number;
 use pe_core::{DataDirectory, ParseOptions};
 use pe_frame::{Registers, Stack, step};
 use pe_plan::UnwindPlan;
 use pe_unwind::ExceptionData;
 use std::alloc::Global;
-use std::{env, io};
-
-fn number(rt: &HostRuntime, offset: usize) -> io::Result<u32> {
-    match env::args(rt)?.nth(offset) {
-        Some(word) => Ok(word.parse::<u32>().unwrap_or(0)),
-        None => Ok(0),
-    }
-}
+use std::io;
 
 /// The table of one function, and its records, of which each but the last is chained to the next.
 fn image(alloc: Global, records: u32) -> io::Result<Vec<u8>> {

@@ -3,16 +3,12 @@
 //! the next, and the last to a record; 2: each to the next, and the last to the first. INDEX 1: by an index of the sections.
 #![tactic(auto)]
 
+mod arguments;
+
+use arguments::number;
 use pe_core::{DataDirectory, ParseOptions, SectionIndex, SectionMap, SectionTable};
 use pe_unwind::{ExceptionData, RuntimeFunction};
-use std::{env, io};
-
-fn number(rt: &HostRuntime, offset: usize) -> io::Result<u32> {
-    match env::args(rt)?.nth(offset) {
-        Some(word) => Ok(word.parse::<u32>().unwrap_or(0)),
-        None => Ok(0),
-    }
-}
+use std::io;
 
 /// A section of 4096 bytes, which begin at this place.
 fn section(virtual_address: u32, size: u32, offset: u32) -> SectionTable {

@@ -1,16 +1,12 @@
 //! Looks a number of addresses up in a function table of a number of entries, each of 16 addresses: `lookup ENTRIES LOOKUPS`.
 #![tactic(auto)]
 
+mod arguments;
+
+use arguments::number;
 use pe_core::{DataDirectory, ParseOptions};
 use pe_unwind::ExceptionData;
-use std::{env, io};
-
-fn number(rt: &HostRuntime, offset: usize) -> io::Result<u32> {
-    match env::args(rt)?.nth(offset) {
-        Some(word) => Ok(word.parse::<u32>().unwrap_or(0)),
-        None => Ok(0),
-    }
-}
+use std::io;
 
 fn main(rt: HostRuntime) -> io::Result<()> {
     let entries = number(&rt, 1)?;

@@ -2,17 +2,13 @@
 //! SHAPE 0: the last record is chained to none; 1: to the first.
 #![tactic(auto)]
 
+mod arguments;
+
+use arguments::number;
 use pe_core::{DataDirectory, ParseOptions};
 use pe_plan::UnwindPlan;
 use pe_unwind::ExceptionData;
-use std::{env, io};
-
-fn number(rt: &HostRuntime, offset: usize) -> io::Result<u32> {
-    match env::args(rt)?.nth(offset) {
-        Some(word) => Ok(word.parse::<u32>().unwrap_or(0)),
-        None => Ok(0),
-    }
-}
+use std::io;
 
 fn main(rt: HostRuntime) -> io::Result<()> {
     let shape = number(&rt, 1)?;

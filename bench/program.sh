@@ -12,6 +12,16 @@ else
   trap 'rm -rf "$copy"' EXIT
 fi
 
+# Copies the program bench/NAME.rs to FOLDER/main.ENDING, and beside it arguments.rs where the program has that module.
+copy_program() {
+  local name=$1 folder=$2 ending=$3
+  mkdir -p "$folder"
+  cp "bench/$name.rs" "$folder/main.$ending"
+  if grep -qx 'mod arguments;' "bench/$name.rs"; then
+    cp bench/arguments.rs "$folder/arguments.$ending"
+  fi
+}
+
 # Proves and builds the program bench/NAME.rs over some crates, in a copy of all crates, and runs it once with the
 # arguments. Its path is "$program" then. That takes some minutes, and the end of what it says is shown where it fails.
 #
@@ -22,8 +32,7 @@ build_program() {
   git -C "$copy" init -q
   copy_crates "$copy"
   { cat crates.txt && echo && echo "$name: $uses"; } >"$copy/crates.txt"
-  mkdir -p "$copy/crates/$name/src"
-  cp "bench/$name.rs" "$copy/crates/$name/src/main.rt"
+  copy_program "$name" "$copy/crates/$name/src" rt
   if ! (cd "$copy/crates/$name" && "$RT" run -- "$@") >"$copy/log" 2>&1 </dev/null; then
     tail -n 5 "$copy/log" >&2
     exit 1

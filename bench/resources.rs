@@ -3,17 +3,13 @@
 //! directories after the entry of the version.
 #![tactic(auto)]
 
+mod arguments;
+
+use arguments::number;
 use pe_core::{DataDirectory, ParseOptions};
 use pe_resource::ResourceData;
 use std::alloc::{AllocError, Global};
 use std::{env, io};
-
-fn number(rt: &HostRuntime, offset: usize) -> io::Result<u32> {
-    match env::args(rt)?.nth(offset) {
-        Some(word) => Ok(word.parse::<u32>().unwrap_or(0)),
-        None => Ok(0),
-    }
-}
 
 /// A directory with one entry of this id and offset.
 fn push_directory(bytes: &mut Vec<u8>, id: u32, offset: u32) -> Result<(), AllocError> {
