@@ -339,7 +339,7 @@ fn answers_want_of_memory(rt: HostRuntime) -> Result<(), Fail> {
         match strings.to_vec(&heap) {
             Ok(all) => assert_eq!(rt; all.len(), 2),
             Err(Error::Memory(_)) => refused = refused.wrapping_add(1),
-            Err(_) => return Err(Fail::new("another refusal than want of memory")),
+            Err(_) => return Err(Fail::new("another refusal than out of memory")),
         }
     }
     assert!(rt; refused > 0 && refused < 6);

@@ -1,4 +1,4 @@
-//! Terse images and COFF objects as one value.
+//! TE images and COFF objects as one value.
 
 use crate::images::{image, object, te, te_with_debug, with_byte, with_part};
 use pe_image::{Coff, DataDirectory, DebugData, Error, Reason, ReproInfo, TE};

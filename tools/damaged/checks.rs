@@ -258,7 +258,7 @@ impl<'a> Trial<'a> {
         }
     }
 
-    /// Where one request for memory is refused the answer is want of memory, in both modes.
+    /// Where one request for memory is refused the answer is `Memory`, in both modes.
     fn refused_memory(&mut self) {
         let refused = u32::try_from(self.number / 9 % 8).unwrap_or(0);
         let mode = if self.number % 2 == 0 {
@@ -272,7 +272,7 @@ impl<'a> Trial<'a> {
         let is_memory = matches!(answer, Err(Error::Memory(_)));
         self.walk.check(
             is_memory == refusing.has_refused(),
-            "want of memory is answered where none was refused, or not where it was",
+            "`Memory` is answered where no request was refused, or not where one was",
         );
         if is_memory {
             one_more(&mut self.counts.denied);
@@ -378,7 +378,7 @@ impl<'a> Trial<'a> {
         }
     }
 
-    /// The bytes as a terse image and as an object.
+    /// The bytes as a TE image and as an object.
     fn other_forms(&mut self) {
         let alloc = self.alloc;
         let mut walk = Walk::new(self.bytes, self.number / 9 % THOROUGH == 0);

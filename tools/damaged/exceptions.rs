@@ -67,7 +67,7 @@ fn walk_unwind_info(walk: &mut Walk, answer: pe_image::Result<UnwindInfo>) {
     }
 }
 
-/// The last of the functions that begin at an address or in front of it, if it covers the address.
+/// The last of the functions that begin at an address or before it, if it covers the address.
 fn scanned(data: &ExceptionData, rva: u32) -> Option<RuntimeFunction> {
     let mut found = None;
     for function in data.functions() {
@@ -80,7 +80,7 @@ fn scanned(data: &ExceptionData, rva: u32) -> Option<RuntimeFunction> {
     found.filter(|function| rva < function.end_address)
 }
 
-/// Whether no function begins in front of the one before it.
+/// Whether no function begins at a lower address than the one before it.
 fn starts_never_fall(data: &ExceptionData) -> bool {
     let mut last = 0;
     for function in data.functions() {

@@ -1,4 +1,4 @@
-//! Walks over whole images, terse images and objects.
+//! Walks over whole images, TE images and objects.
 
 use crate::debug::walk_debug;
 use crate::directories::walk_further;
@@ -72,7 +72,7 @@ fn walk_header(walk: &mut Walk, header: &Header) {
         .unwrap_or(&[]);
     walk.check(
         header.dos_stub == stub,
-        "the stub is not the bytes in front of the signature",
+        "the stub is not the bytes before the signature",
     );
     walk.word(header.signature);
     walk_coff_header(walk, &header.coff_header);
@@ -276,7 +276,7 @@ pub fn walk_image(walk: &mut Walk, alloc: Global, image: &PE, opts: &ParseOption
     }
 }
 
-/// All that a terse image gives.
+/// All that a TE image gives.
 pub fn walk_te(walk: &mut Walk, image: &TE) {
     let header = &image.header;
     walk.number(u64::from(header.machine));

@@ -64,7 +64,7 @@ fn bases(rt: &HostRuntime, from: usize) -> io::Result<Vec<Base>> {
         ("x64, functions", with_functions(alloc)?),
         ("headers alone", headers_alone(alloc)?),
         ("a pointer below 64", pointer_below_64(alloc)?),
-        ("a terse image", te_with_debug(alloc)?),
+        ("a TE image", te_with_debug(alloc)?),
         ("an object", object(alloc)?),
     ] {
         bases.push(Base::new(alloc, name, bytes)?)?;

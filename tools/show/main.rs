@@ -5,7 +5,7 @@
 //!                                   metadata of an image
 //!     show resources FILE           the version information and manifest of an image
 //!     show tables FILE              exports, imports, size of the relocations, COFF symbols and strings of an image
-//!                                   or an object; of a terse image the header and sections
+//!                                   or an object; of a TE image the header and sections
 //!     show signing FILE             the checksum of an image, and what its Authenticode digest covers
 //!     show whole FILE               whether an image comes back that is written whole
 //!     show unwind FILE              the functions of an image, their records and codes

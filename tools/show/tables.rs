@@ -1,4 +1,4 @@
-//! The exports, imports, relocations, COFF symbols and strings of an image, a terse image or an object.
+//! The exports, imports, relocations, COFF symbols and strings of an image, a TE image or an object.
 
 use pe_image::{Coff, Error, PE, Strtab, SymbolTable, TE};
 use std::io;
@@ -92,11 +92,11 @@ pub fn show_tables(rt: &HostRuntime, bytes: &[u8], image: &PE) -> io::Result<()>
 pub fn show_te(rt: &HostRuntime, bytes: &[u8]) -> io::Result<()> {
     let image = match TE::parse(rt.alloc(), bytes) {
         Ok(image) => image,
-        Err(error) => return show_refused(rt, "terse image", error),
+        Err(error) => return show_refused(rt, "TE image", error),
     };
     let header = &image.header;
     println!(rt;
-        "terse {} {} {} {} {}",
+        "te {} {} {} {} {}",
         header.machine, header.subsystem, header.entry_point, header.base_of_code, header.image_base
     )?;
     for directory in [header.reloc_dir, header.debug_dir] {
