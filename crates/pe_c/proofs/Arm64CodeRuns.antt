@@ -1,4 +1,4 @@
--- A walk over ARM64 unwind codes gives all items of its stream.
+-- A walk over ARM64 unwind codes returns all items of its stream.
 use Rattle.std.proofs.Common.{◌≡◌, ℕ, ◌+◌, ◌-◌, ◌%◌, ◌<◌, ◌≤◌, Bool, true, false, List, [], ◌∷◌, length, map, drop, Option, Some, None, Result, Ok, Err, refl, sym, ap, subst, ◌∙◌, arith, length-append, length-drop}
 use Rattle.std.specs.Prelude.{◌==◌, nat_le}
 use Rattle.std.proofs.lemmas.Bool.Decides.{nat_tests}
@@ -30,7 +30,7 @@ starts_none =
     let nothing : [] ≡ whole.rest = whole.joined in
     subst (λ (x : List ℕ). StartsWithNoArm64Code x) (sym nothing) whole.none
 
--- a step over no bytes gives nothing, and changes nothing
+-- a step over no bytes returns nothing, and changes nothing
 over_nothing : (bytes : List ℕ) (w v : Arm64CodeWalk) (answer : Result (Option Arm64Code) Refusal) → bytes ≡ [] → StepsOverArm64 bytes w answer v → (answer ≡ Ok None) × (v ≡ w)
 over_nothing bytes w v (Ok None) e s = (refl, s.1)
 over_nothing bytes w v (Ok (Some code)) e s = absurd (starts_none s.0 (subst (λ (x : List ℕ). StartsWithArm64Code x s.0) e s.1))
@@ -66,7 +66,7 @@ lies_once b w r e = (
 
 -- ---- all steps
 
--- a walk that stands at a place of a stream
+-- a walk that stands at an offset of a stream
 abbrev walk_at : Range → ℕ → Arm64CodeWalk
 walk_at codes at = record { left = range_after codes at; offset = at }
 
@@ -96,7 +96,7 @@ moved_on : (codes : Range) (at n : ℕ) → moved (walk_at codes at) n ≡ walk_
 moved_on codes at n =
     ap (λ (r : Range). record { left = r; offset = at + n }) (same_range (range_after (range_after codes at) n) (range_after codes (at + n)) (omega arith) (omega arith))
 
--- what a step gives where a code begins
+-- what a step returns where a code starts
 gives_code : (codes : Range) (d : List ℕ) (at : ℕ) (item : Arm64UnwindCodeData) (v : Arm64CodeWalk) (answer : Result (Option Arm64Code) Refusal) → at < length d → StartsWithArm64Code (drop at d) item.code →
     item.offset ≡ at → item.len ≡ length (encoding item.code) → StepsOverArm64 (drop at d) (walk_at codes at) answer v →
     (answer ≡ Ok (Some (flat_arm64 item.offset item.code))) × (v ≡ walk_at codes (at + item.len))
@@ -109,7 +109,7 @@ gives_code codes d at item v (Ok (Some code)) h starts offset len s =
     )
 gives_code codes d at item v (Err r) h starts offset len s = absurd (s.2 item.code starts)
 
--- what it gives where none begins
+-- what it returns where none starts
 gives_cut : (codes : Range) (d : List ℕ) (at : ℕ) (v : Arm64CodeWalk) (answer : Result (Option Arm64Code) Refusal) → at < length d → StartsWithNoArm64Code (drop at d) →
     StepsOverArm64 (drop at d) (walk_at codes at) answer v → (answer ≡ Err Arm64Cut) × (v ≡ over_arm64)
 gives_cut codes d at v (Ok None) h none s = absurd (some_left d at h s.0)
@@ -135,7 +135,7 @@ in_turn b codes d (Err e ∷ items) at is le h = (
       ),
 )
 
--- ---- from where a walk begins
+-- ---- from where a walk starts
 
 begun_by : (b : List ℕ) (codes : Range) (start : ℕ) (d : List ℕ) (w : Arm64CodeWalk) (whole inside short : Bool) → bytes_at b codes ≡ Ok d → (length d % 4 == 0) ≡ whole → nat_le start (length d) ≡ inside →
     nat_le (length d) 4294967292 ≡ short → arm64_walk_at b codes start ≡ Ok w → (w ≡ walk_at codes start) × IsStream b codes d × (start ≤ length d)

@@ -1,4 +1,4 @@
--- A walk over certificates gives all that its table lists, and then what refuses the table.
+-- A walk over certificates returns all that its table lists, and then what refuses the table.
 use Rattle.std.proofs.Common.{◌≡◌, ◌≢◌, ℕ, zero, suc, ◌+◌, ◌-◌, ◌<◌, ◌≤◌, ◌==◌, Bool, true, false, List, [], ◌∷◌, ◌++◌, length, map, Option, Some, None, Result, Ok, Err, refl, sym, ap, subst, ◌∙◌, arith}
 use Rattle.std.specs.Prelude.{nat_lt, if◌then◌else◌}
 use Rattle.std.specs.List.{AllZip}
@@ -46,7 +46,7 @@ refused_outside b w h = rw h refl
 
 -- ---- all steps
 
--- what a walk gives whose table is listed so
+-- what a walk returns whose table is listed so
 abbrev Returns : List ℕ → Range → Result (List CertificateView) Refusal → Type 0
 Returns b = ReturnsReported (StepsCertificates b) (ReportsCertificate b)
 

@@ -1,4 +1,4 @@
--- A walk over unwind codes gives all items of its stream.
+-- A walk over unwind codes returns all items of its stream.
 use Rattle.std.proofs.Common.{◌≡◌, ℕ, zero, suc, ◌+◌, ◌≤◌, List, [], ◌∷◌, length, map, drop, Option, Some, None, Result, Ok, Err, refl, sym, ap, subst, ◌∙◌, arith}
 use Rattle.pe_core.specs.Bytes.{range}
 use Rattle.pe_core.specs.Refusals.{Refusal, kind_of, outcome, answer_of}
@@ -24,7 +24,7 @@ no_code v f [] code zero e h = h.1
 no_code v f [] code (suc n) e h = h.1
 no_code v f (x ∷ b) code n e h = absurd cc
 
--- a step over no bytes gives nothing, and changes nothing
+-- a step over no bytes returns nothing, and changes nothing
 over_nothing : (w v : CodeWalk) (bytes : List ℕ) (given : Option (Result UnwindCode Error)) → bytes ≡ [] → length bytes ≡ w.left.length → StepsOver bytes w given v → (flat_answer given ≡ Ok None) × (v ≡ w)
 over_nothing w v bytes None e size s =
     let shorter : v.left.length ≤ w.left.length = s.shorter in
@@ -56,7 +56,7 @@ is_over b w bytes e none answer v s =
 after_code : (b : List ℕ) (w v : CodeWalk) (bytes : List ℕ) (given : Option (Result UnwindCode Error)) → bytes_at b w.left ≡ Ok bytes → StepsOver bytes w given v → bytes_at b v.left ≡ Ok (left_of bytes w v)
 after_code b w v bytes given e s = left_after b w.left v.left bytes e s.shorter s.same_end
 
--- what a step tells where its stream begins with a code
+-- what a step returns where its stream starts with a code
 gives_code : (b : List ℕ) (w v : CodeWalk) (bytes : List ℕ) (code : UnwindCode) (n : ℕ) (given : Option (Result UnwindCode Error)) → StartsWithCode w.version w.frame_register bytes code n → StepsOver bytes w given v →
     (flat_answer given ≡ Ok (Some (flat code))) × (code_stream_at (left_of bytes w v) v ≡ with_left (code_stream_at bytes w) (drop n bytes))
 gives_code b w v bytes code n None starts s =
@@ -72,7 +72,7 @@ gives_code b w v bytes code n (Some (Err e)) starts s =
     let g : ReturnsCode (code_stream_at bytes w) (Some (Err e)) (code_stream_at (left_of bytes w v) v) = s.code in
     absurd (g.1 code n starts)
 
--- what it tells where no code begins the stream
+-- what it returns where no code starts the stream
 gives_error : (b : List ℕ) (w v : CodeWalk) (bytes : List ℕ) (x : Error) (given : Option (Result UnwindCode Error)) → AreItems (code_stream_at bytes w) (Err x ∷ []) → StepsOver bytes w given v →
     (flat_answer given ≡ Err (kind_of x)) × (left_of bytes w v ≡ [])
 gives_error b w v bytes x None items s =

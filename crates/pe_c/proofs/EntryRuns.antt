@@ -1,4 +1,4 @@
--- A walk over entries of one width gives all of them.
+-- A walk over entries of one width returns all of them.
 use Rattle.std.proofs.Common.{◌≡◌, ℕ, zero, suc, ◌+◌, ◌-◌, ◌<◌, ◌≤◌, Bool, true, false, List, [], ◌∷◌, length, drop, Some, None, Result, Ok, Err, refl, sym, ap, subst, ◌∙◌, arith}
 use Rattle.std.specs.Prelude.{◌==◌, nat_lt, if◌then◌else◌}
 use Rattle.std.proofs.lemmas.Bool.Decides.{nat_tests}
@@ -53,7 +53,7 @@ refusal entry_at width b r e = (
   ),
 )
 
--- the entries of the bytes of a range, by whether it is empty, and whether its first entry is cut
+-- the entries of the bytes of a range, by whether it is empty, and whether its first entry is truncated
 by_tests : {X : Type 0} (entry_at : List ℕ → ℕ → X) (width : ℕ) (b : List ℕ) (r : Range) (empty short : Bool) → ReadsAfter entry_at width → 0 < width → r.offset + r.length ≤ length b →
     (r.length == 0) ≡ empty → nat_lt r.length width ≡ short →
     (width ≤ r.length → ReturnsItems (StepsEntries entry_at width b) (range_after r width) (entry_items entry_at width (range b (r.offset + width) (r.length - width)))) →

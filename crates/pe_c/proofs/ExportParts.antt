@@ -1,4 +1,4 @@
--- What a walk tells of exports.
+-- What a walk reports of exports.
 use Rattle.std.proofs.Common.{◌≡◌, ℕ, ◌+◌, ◌-◌, ◌*◌, ◌<◌, ◌≤◌, Bool, true, false, List, [], length, take, drop, Option, Some, None, Ok, refl, subst, length-drop, length-take-le, arith}
 use Rattle.std.specs.Prelude.{◌==◌, position, slice_range, if◌then◌else◌}
 use Rattle.std.specs.Option.{option_map, option_and_then}

@@ -1,4 +1,4 @@
--- A walk over exports gives all of them.
+-- A walk over exports returns all of them.
 use Rattle.std.proofs.Common.{◌≡◌, ℕ, zero, suc, ◌+◌, ◌-◌, ◌/◌, ◌<◌, ◌≤◌, Bool, true, false, List, [], ◌∷◌, length, map, Option, Some, None, Result, Ok, Err, refl, sym, ap, subst, ◌∙◌, arith, ⊎_elim}
 use Rattle.std.specs.Prelude.{nat_le}
 use Rattle.std.specs.List.{AllZip, cons_option, filter_map, range_with_len}
@@ -47,7 +47,7 @@ one_further w = record w { next = w.next + 1 }
 no_export : (x : Export) (o : Option Export) → o ≡ Some x → o ≡ None → ⊥
 no_export x o e f = cc
 
--- the next entry has an export: a step gives it
+-- the next entry has an export: a step returns it
 gives_it : (offset : ℕ → Option ℕ) (b : List ℕ) (d : ExportDataView) (x : Export) (w v : Exports) (answer : Result (Option Export) Refusal) (found : Option (Export × ℕ)) → w.next < count_of w →
     reported_entry offset b d w.next ≡ Some x → FindsNext (reported_entry offset b d) w.next (count_of w) found → answer ≡ Ok (option_map (λ y. y.0) found) → v ≡ exports_after w found →
     (answer ≡ Ok (Some x)) × (v ≡ one_further w)
@@ -89,7 +89,7 @@ passes_by offset b d w v answer h t none s =
 
 -- ---- all steps
 
--- where the steps of one walk are those of another, it gives what that gives
+-- where the steps of one walk are those of another, it returns what that returns
 same_items : (Steps : Exports → Result (Option Export) Refusal → Exports → Type 0) (w u : Exports) (items : List (Result Export Refusal)) →
     ((answer : Result (Option Export) Refusal) (v : Exports) → Steps w answer v → Steps u answer v) → ReturnsItems Steps u items → ReturnsItems Steps w items
 same_items Steps w u [] same g = λ answer v s. g answer v (same answer v s)
@@ -130,7 +130,7 @@ exports_in_turn offset b w d t = by_next offset b d w (count_of w - w.next) refl
 
 -- ---- the exports of a directory
 
--- what is told of exports, one after the other, is these
+-- what is reported of exports, one after the other, is these
 abbrev ReportsExports : List ℕ → List Export → List ExportView → Type 0
 ReportsExports b = AllZip (λ x e. ReportsExport b (Some x) (Some e))
 

@@ -26,7 +26,7 @@ use Rattle.pe_c.proofs.PlanSteps.{over_gives}
 
 -- ---- the record of an address
 
--- what asking for a record answers, told
+-- what asking for a record returns, as it is reported
 abbrev Reports : List ℕ → Result UnwindRecord Refusal → Result UnwindInfoView Refusal → Type 0
 Reports b (Ok r) (Ok i) = ReportsUnwindRecord b r i
 Reports b (Ok r) (Err k) = ⊥
@@ -69,7 +69,7 @@ all_zip_more R [] (z ∷ ys) x y a r = absurd a
 all_zip_more R (z ∷ xs) [] x y a r = absurd a
 all_zip_more R (z ∷ xs) (w ∷ ys) x y a r = (a.0, all_zip_more R xs ys x y a.1 r)
 
--- a plan that stands at a function of the chain, after the records that it told
+-- a plan that stands at a function of the chain, after the records that it reported
 record Stands (t : Table) (b : List ℕ) (f : RuntimeFunction) (reported : List UnwindRecord) (p : Plan) : Type 0 where
   records : List UnwindInfoView
   reports : AllZip (ReportsUnwindRecord b) reported records
@@ -78,7 +78,7 @@ record Stands (t : Table) (b : List ℕ) (f : RuntimeFunction) (reported : List 
   here : current.unwind_info_address ≡ p.unwind
   not_over : p.is_over ≡ 0
 
--- all records were told
+-- all records were reported
 record Reported (t : Table) (b : List ℕ) (f : RuntimeFunction) (reported : List UnwindRecord) : Type 0 where
   records : List UnwindInfoView
   reports : AllZip (ReportsUnwindRecord b) reported records
@@ -87,7 +87,7 @@ record Reported (t : Table) (b : List ℕ) (f : RuntimeFunction) (reported : Lis
 abbrev GoesOn : Table → List ℕ → RuntimeFunction → List UnwindRecord → Plan → Type 0
 GoesOn t b f reported p = Stands t b f reported p ⊎ ((p.is_over ≡ 1) × Reported t b f reported)
 
--- what a step answers after told records, and where it leaves the plan
+-- what a step returns after reported records, and where it leaves the plan
 abbrev Steps : Table → List ℕ → RuntimeFunction → List UnwindRecord → Result (Option UnwindRecord) Refusal → Plan → Type 0
 Steps t b f reported (Ok None) q = Reported t b f reported
 Steps t b f reported (Ok (Some r)) q = GoesOn t b f (reported ++ r ∷ []) q
@@ -127,7 +127,7 @@ by_more t b f reported p r true met e cycle more = absurd cc
 by_more t b f reported p r false true e cycle more = cycle refl
 by_more t b f reported p r false false e cycle more = inl more
 
--- a record that is told
+-- a record that is reported
 by_record : (t : Table) (b : List ℕ) (f : RuntimeFunction) (reported : List UnwindRecord) (p : Plan) (w : Stands t b f reported p) (r : UnwindRecord) (i : UnwindInfoView) (o : Option RuntimeFunction) →
     Unwinds t b (w.current).unwind_info_address (Ok i) → ReportsUnwindRecord b r i → i.chained_info ≡ o → r.is_chained ≡ one_if_some o → r.chained ≡ or_no_function o →
     Steps t b f reported (plan_result p (Ok r)) (leaves p (Ok r))
@@ -192,7 +192,7 @@ whole law t b f given answer a =
     let start : Stands t b f [] (plan_from f.unwind_info_address) = record { records = []; reports = tt; current = f; way = starts t b f; here = refl; not_over = refl } in
     steps law t b f given a.0 a.1 answer (run law t b f [] given (plan_from f.unwind_info_address) a.0 (inl start) a.2) a.3
 
--- ---- what the steps answer
+-- ---- what the steps return
 
 pub records_are_reported : (law : RecordLaw) (b : List ℕ) (t : Table) (f : RuntimeFunction) (given : List UnwindRecord) →
     HandsOutAfter b (Ok t) f.unwind_info_address given (Ok None) →

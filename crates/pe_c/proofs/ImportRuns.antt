@@ -10,7 +10,7 @@ use Rattle.std.proofs.Math.Nat.{mul-suc}
 use Rattle.pe_core.proofs.NumberBytes.{le_small}
 use Rattle.pe_core.proofs.Ranges.{length_range}
 use Rattle.pe_core.proofs.Map.{offset_is}
-use Rattle.pe_core.proofs.EntryItems.{each_front, each_same}
+use Rattle.pe_core.proofs.EntryItems.{each_front, each_same, none_of_none}
 use Rattle.pe_core.specs.Bytes.{AreBytes, holds, le, range, record_at}
 use Rattle.pe_core.specs.Gathered.{all_or_refusal, up_to_none, with_rest}
 use Rattle.pe_core.specs.Imports.{EntryView, ImportRecordView, ImportView, import_entries, import_entry_at, entry_size, import_data_at, import_of, import_record, import_record_at, import_records, imports, is_last, lookup_at, lookup_entries, lookups_at, lookups_rva, name_or_refusal, named_import}
@@ -36,16 +36,13 @@ use Rattle.pe_c.specs.Walks.{left_entry}
 use Rattle.pe_c.proofs.Runs.{ReturnsReported, makes_by, reports_more, reports_none, reports_refused}
 use Rattle.pe_c.proofs.ExportParts.{text_stands}
 use Rattle.pe_core.proofs.Steps.{given, same_inside}
+use Rattle.pe_core.proofs.EntryLists.{some_size}
 
 -- ---- lists
 
-none_of : {X : Type 0} (f : ℕ → X) → each f 0 ≡ []
-unfolding each
-none_of f = refl
-
 -- ---- an import
 
--- what is told agrees with what an entry imports
+-- what is reported agrees with what an entry imports
 abbrev Agrees : List ℕ → Result ImportView Refusal → Result Import Refusal → Type 0
 Agrees b (Ok i) (Ok x) = ReportsImport b x i
 Agrees b (Ok i) (Err e) = ⊥
@@ -152,7 +149,7 @@ run : (offset : ℕ → Option ℕ) (w : ℕ) (b dll : List ℕ) → 0 < w → (
 run offset w b dll some zero q rva inside small =
     let none : w * 0 ≡ 0 = omega arith in
     let here : import_step offset w b (over q (w * 0) rva) ≡ (Ok None, over q 0 rva) = ap (λ (m : ℕ). import_step offset w b (over q m rva)) none ∙ step_last offset w b q rva (omega (arith, inside)) in
-    subst (λ (es : List EntryView). ReturnsReported (StepsImports offset w b) (ReportsImport b) (over q (w * 0) rva) (all_or_refusal (map (import_of offset w b) es))) (sym (none_of (slots w b dll q rva)))
+    subst (λ (es : List EntryView). ReturnsReported (StepsImports offset w b) (ReportsImport b) (over q (w * 0) rva) (all_or_refusal (map (import_of offset w b) es))) (sym (none_of_none (slots w b dll q rva)))
     (reports_none (StepsImports offset w b) (ReportsImport b) (over q (w * 0) rva) (over q 0 rva) (makes_by (import_step offset w b) (over q (w * 0) rva) (over q 0 rva) (Ok None) here)
     (makes_by (import_step offset w b) (over q 0 rva) (over q 0 rva) (Ok None) (step_last offset w b q rva (omega (arith, inside)))))
 run offset w b dll some (suc n) q rva inside small =
@@ -166,7 +163,7 @@ run offset w b dll some (suc n) q rva inside small =
 
 -- ---- lists
 
--- rows of one width from a place on: the first, and those after it
+-- rows of one width from an offset on: the first, and those after it
 rows_front : {X : Type 0} (row : ℕ → X) (w q n : ℕ) → each (λ k. row (q + w * k)) (suc n) ≡ row q ∷ each (λ k. row (q + w + w * k)) n
 rows_front {X} row w q n =
     let first : q + w * 0 ≡ q = omega arith in
@@ -180,7 +177,7 @@ after_first x (Err r) xs e = absurd cc
 held : {Y : Type 0} (b : List ℕ) (p n : ℕ) (y z : Y) → record_at b p n y ≡ Ok z → p + n ≤ length b
 held b p n y z e = grind (arith, nat_tests)
 
--- the entries of a list that is given are all there
+-- the entries of a list that is returned are all there
 inside_by : (w : ℕ) (b : List ℕ) (q : ℕ) (es : List ℕ) (row : Result (Option ℕ) Refusal) (rows : List (Result (Option ℕ) Refusal)) → lookup_at w b q ≡ row → up_to_none (row ∷ rows) ≡ Ok es →
     ((ys : List ℕ) → up_to_none rows ≡ Ok ys → q + w ≤ length b → q + w + w * length ys ≤ length b) → q + w * length es ≤ length b
 inside_by w b q es (Ok None) rows e given more =
@@ -192,7 +189,7 @@ inside_by w b q es (Err r) rows e given more = absurd cc
 
 inside : (w : ℕ) (b : List ℕ) (n q : ℕ) (es : List ℕ) → up_to_none (each (λ k. lookup_at w b (q + w * k)) n) ≡ Ok es → q ≤ length b → q + w * length es ≤ length b
 inside w b zero q es e h =
-    let none : Ok [] ≡ Ok es = ap up_to_none (sym (none_of (λ k. lookup_at w b (q + w * k)))) ∙ e in
+    let none : Ok [] ≡ Ok es = ap up_to_none (sym (none_of_none (λ k. lookup_at w b (q + w * k)))) ∙ e in
     subst (λ (xs : List ℕ). q + w * length xs ≤ length b) (same_inside [] es none) (omega (arith, h))
 inside w b (suc n) q es e h =
     inside_by w b q es (lookup_at w b q) (each (λ k. lookup_at w b (q + w + w * k)) n) refl (ap up_to_none (sym (rows_front (lookup_at w b) w q n)) ∙ e) (λ ys f i. inside w b n (q + w) ys f i)
@@ -354,15 +351,11 @@ by_directory offset w b walk false None some bytes small e = absurd cc
 by_directory offset w b walk false (Some p) some bytes small e =
     subst (λ (x : Libraries). ReturnsReported (StepsLibraries offset w b) (ReportsLibrary offset w b) x (import_records offset w b p)) (some_inside (libraries_from p) walk e) (directory_run offset w b p some bytes small)
 
-some_bytes : (pe32_plus : Bool) → 0 < entry_size pe32_plus
-some_bytes true = omega arith
-some_bytes false = omega arith
-
 reported_of_image : (b : List ℕ) (image : Image) (sections : List SectionTable) (walk : Libraries) → AreBytes b → length b ≤ 2 ^ 63 → libraries_at image sections ≡ Ok (Some walk) →
     ReturnsReported (StepsLibraries (map_of_image image sections) (entry_size (image.width == 64)) b) (ReportsLibrary (map_of_image image sections) (entry_size (image.width == 64)) b) walk
     (import_data_at (map_of_image image sections) (entry_size (image.width == 64)) b (import_directory image).virtual_address)
 reported_of_image b image sections walk bytes small e =
-    by_directory (map_of_image image sections) (entry_size (image.width == 64)) b walk (is_absent (import_directory image)) (map_of_image image sections (import_directory image).virtual_address) (some_bytes (image.width == 64)) bytes small e
+    by_directory (map_of_image image sections) (entry_size (image.width == 64)) b walk (is_absent (import_directory image)) (map_of_image image sections (import_directory image).virtual_address) (some_size (image.width == 64)) bytes small e
 
 pub libraries_in_turn : (b : List ℕ) (image : Image) (sections : List SectionTable) (walk : Libraries) (rs : List ImportRecordView) → AreBytes b → length b ≤ 2 ^ 63 → libraries_at image sections ≡ Ok (Some walk) →
     import_data_at (map_of_image image sections) (entry_size (image.width == 64)) b (import_directory image).virtual_address ≡ Ok rs →

@@ -8,12 +8,12 @@ use Rattle.pe_core.specs.Refusals.{Short, outcome, ◌>>=◌}
 use Rattle.pe_core.specs.declared.byte_range.ByteRange.{ByteRange}
 use Rattle.pe_core.specs.declared.data_directories.DataDirectory.{DataDirectory}
 use Rattle.pe_core.specs.declared.section_table.SectionTable.{SectionTable}
-use Rattle.pe_directories.specs.BaseRelocations.{Block, first_block, relocation_table}
+use Rattle.pe_directories.specs.BaseRelocations.{Block, first_block}
 use Rattle.pe_directories.specs.BoundImports.{Bound, bound_table, first_bound_import}
 use Rattle.pe_directories.specs.Clr.{Metadata, Stream, clr_metadata, first_stream, metadata_of}
-use Rattle.pe_directories.specs.DelayImports.{delay_import_table, first_delay_import}
+use Rattle.pe_directories.specs.DelayImports.{first_delay_import}
 use Rattle.pe_directories.specs.DirectoryRefusals.{DirectoryRefusal, of_image}
-use Rattle.pe_directories.specs.ImageParts.{ImageView, offset_of_rva, record_of, table_of}
+use Rattle.pe_directories.specs.ImageParts.{ImageView, offset_of_rva, record_of, table_of, walk_table}
 use Rattle.pe_directories.specs.Walks.{Items}
 use Rattle.pe_directories.specs.declared.clr.ClrHeader.{ClrHeader}
 use Rattle.pe_directories.specs.declared.delay_import.DelayImport.{DelayImport}
@@ -66,11 +66,11 @@ table_bytes index b image sections w table e f =
     table_by b d.size (is_absent d) (record_of (image_parts b image sections) d.virtual_address d.size) w table (λ p h. placed (image_parts b image sections) d.virtual_address d.size p h) e f
 
 pub blocks_of_image : (b : List ℕ) (image : images.Image) (sections : List SectionTable) (w : Range) (table : List ℕ) (items : List (Result Block DirectoryRefusal)) → table_at 5 b image sections ≡ Ok (Some w) →
-    relocation_table (image_parts b image sections) (directory image 5) ≡ Ok (Some table) → Items first_block table items → BlocksOf b w items
+    walk_table (image_parts b image sections) (directory image 5) ≡ Ok (Some table) → Items first_block table items → BlocksOf b w items
 blocks_of_image b image sections w table items e f g = blocks_in_turn b w table items (table_bytes 5 b image sections w table e f) g
 
 pub libraries_of_image : (b : List ℕ) (image : images.Image) (sections : List SectionTable) (w : Range) (table : List ℕ) (items : List (Result DelayImport DirectoryRefusal)) → table_at 13 b image sections ≡ Ok (Some w) →
-    delay_import_table (image_parts b image sections) (directory image 13) ≡ Ok (Some table) → Items first_delay_import table items →
+    walk_table (image_parts b image sections) (directory image 13) ≡ Ok (Some table) → Items first_delay_import table items →
     ReturnsItems (StepsDelayLibraries (image_parts b image sections)) w (read_items (library_of (image_parts b image sections)) items)
 libraries_of_image b image sections w table items e f g =
     libraries_in_turn (image_parts b image sections) w table items (table_bytes 13 b image sections w table e f) g

@@ -1,25 +1,17 @@
 -- A walk over certificates lists what their table lists.
 use Rattle.std.proofs.Common.{◌≡◌, ◌≢◌, ℕ, zero, suc, ◌+◌, ◌-◌, ◌<◌, ◌≤◌, Bool, true, false, cond, List, [], ◌∷◌, length, Result, Ok, Err, refl, sym, ap, ◌∙◌, arith}
-use Rattle.std.specs.Prelude.{nat_lt, nat_le}
+use Rattle.std.specs.Prelude.{nat_lt}
 use Rattle.std.proofs.lemmas.Bool.Decides.{nat_tests}
 use Rattle.pe_core.specs.Bytes.{holds}
 use Rattle.pe_core.specs.Refusals.{Refusal, ◌>>=◌}
+use Rattle.pe_core.proofs.Comparisons.{lt_is, lt_is_not, le_is}
 use Rattle.pe_records.proofs.CertificateListings.{next_above}
 use Rattle.pe_records.specs.Certificates.{CertificateView, certificate_at, certificates_from, certificates_at}
 use Rattle.pe_c.specs.declared.ranges.Range.{Range}
 use Rattle.pe_c.specs.Certificates.{listed, walk_from}
 use Rattle.pe_c.specs.Ranges.{no_bytes}
 
-yes : (m n : ℕ) → m < n → nat_lt m n ≡ true
-yes m n h = grind (arith, nat_tests)
-
-no : (m n : ℕ) → n ≤ m → nat_lt m n ≡ false
-no m n h = grind (arith, nat_tests)
-
-inside : (m n : ℕ) → m ≤ n → nat_le m n ≡ true
-inside m n h = grind (arith, nat_tests)
-
--- the first certificate, and those that a function lists from the next place on
+-- the first certificate, and those that a function lists from the next offset on
 abbrev first_and : (ℕ → Result (List CertificateView) Refusal) → Result (CertificateView × ℕ) Refusal → Result (List CertificateView) Refusal
 first_and more x = x >>= λ c. more c.1 >>= λ cs. Ok (c.0 ∷ cs)
 
@@ -30,11 +22,11 @@ same_more f g (Err r) h = refl
 pub none_from : (b : List ℕ) (end n p : ℕ) → end ≤ p → certificates_from b end n p ≡ Ok []
 unfolding certificates_from
 none_from b end zero p h = refl
-none_from b end (suc n) p h = rw (no p end h) refl
+none_from b end (suc n) p h = rw (lt_is_not p end h) refl
 
 some_from : (b : List ℕ) (end n p : ℕ) → p < end → certificates_from b end (suc n) p ≡ first_and (certificates_from b end n) (certificate_at b p)
 unfolding certificates_from
-some_from b end n p h = rw (yes p end h) refl
+some_from b end n p h = rw (lt_is p end h) refl
 
 -- steps enough to come to the end list the same
 enough : (b : List ℕ) (end n m p : ℕ) (t : Bool) → nat_lt p end ≡ t → end ≤ p + n → end ≤ p + m → certificates_from b end n p ≡ certificates_from b end m p
@@ -50,7 +42,7 @@ enough b end (suc n) (suc m) p true e h k =
 
 pub at_range : (b : List ℕ) (p n : ℕ) → p + n ≤ length b → certificates_at b p n ≡ certificates_from b (p + n) n p
 unfolding certificates_at
-at_range b p n h = rw (inside (p + n) (length b) h) refl
+at_range b p n h = rw (le_is (p + n) (length b) h) refl
 
 after : (b : List ℕ) (w : Range) (k next : ℕ) (t : Bool) → nat_lt next (w.offset + w.length) ≡ t → w.offset + w.length ≤ length b → w.offset + w.length ≤ next + k →
     certificates_from b (w.offset + w.length) k next ≡ listed b (cond t (record { offset = next; length = w.offset + w.length - next }) no_bytes)
@@ -71,6 +63,6 @@ first_listed b w n e h =
     ∙ same_more (certificates_from b (w.offset + w.length) n) (λ next. listed b (walk_from w next)) (certificate_at b w.offset)
     (λ c next given. let further : w.offset < next = next_above b w.offset c next given in after b w n next (nat_lt next (w.offset + w.length)) refl h (omega arith))
 
--- a walk that is not at its end lists the certificate at its place, and then what it lists from the next place on
+-- a walk that is not at its end lists the certificate at its offset, and then what it lists from the next offset on
 pub steps_list : (b : List ℕ) (w : Range) → w.length ≢ 0 → holds b w.offset w.length ≡ true → listed b w ≡ first_and (λ next. listed b (walk_from w next)) (certificate_at b w.offset)
 steps_list b w some h = first_listed b w (w.length - 1) (omega arith) (grind (arith, nat_tests))

@@ -1,4 +1,4 @@
--- The ranges that are told of records are their parts.
+-- The ranges that are reported of records are their parts.
 use Rattle.std.proofs.Common.{◌≡◌, ℕ, ◌+◌, Bool, true, false, List, length, Option, Some, None, Result, Ok, Err, refl, sym, subst, ap, ◌∙◌}
 use Rattle.std.specs.Prelude.{if◌then◌else◌}
 use Rattle.std.specs.Option.{IsSome, option_map, option_and_then}
@@ -46,7 +46,7 @@ parts_of b image s mode d e =
     parts_stand (options_of mode) b (debug_directory image) s image.file_alignment 0 d
     (data_by (is_absent (debug_directory image)) (debug_data (options_of mode) b (debug_directory image) s image.file_alignment 0) d e)
 
--- what is told of debug data whose parts stand tells its part
+-- what is reported of debug data whose parts stand is its part
 reports : {Y : Type 0} (reported : ℕ → DebugFields → Option Y) (range_of : Y → Range) (part_of : DebugFields → Option (List ℕ)) →
     ((b : List ℕ) (mode : ℕ) (d : DebugFields) (y : Y) → DebugPartsStand (options_of mode) b d → reported mode d ≡ Some y → IsPart b (range_of y) (part_of d)) → ReportsPart reported range_of part_of
 reports reported range_of part_of h b image s mode y e =
@@ -90,7 +90,7 @@ hash_by b mode d (Some (Buffer count bytes)) y s e =
 pub repro_reports : ReportsPart repro_field (λ r. r.hash) (λ d. hash_of d.repro)
 repro_reports = reports repro_field (λ r. r.hash) (λ d. hash_of d.repro) (λ b mode d y s e. hash_by b mode d d.repro y s.repro e)
 
--- ---- debug data that are there are told
+-- ---- debug data that are there are reported
 
 made_there : {X Y : Type 0} (b : List ℕ) (mode n : ℕ) (part : X → List ℕ) (make : X → Range → Y) (x : Option X) (e : Option ImageDebugDirectory) →
     StandsAfter (options_of mode) b n e (option_map part x) → IsSome x →

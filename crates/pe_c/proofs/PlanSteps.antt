@@ -9,7 +9,7 @@ use Rattle.pe_c.specs.Unwinding.{FollowsToRecord}
 use Rattle.pe_c.specs.declared.plan.Plan.{Plan}
 use Rattle.pe_c.specs.declared.unwinding.UnwindRecord.{UnwindRecord}
 
--- a plan that is over gives nothing
+-- a plan that is over returns nothing
 pub over_gives : (b : List ℕ) (links : Result Table Refusal) (p q : Plan) (answer : Result (Option UnwindRecord) Refusal) → p.is_over ≡ 1 → StepsPlan b links p answer q → answer ≡ Ok None
 over_gives b links p q answer e step = (rw e at step).0
 

@@ -1,4 +1,4 @@
--- A walk over the entries of a POGO record gives all of them.
+-- A walk over the entries of a POGO record returns all of them.
 use Rattle.std.proofs.Common.{◌≡◌, ◌≢◌, ℕ, ◌+◌, ◌-◌, ◌≤◌, List, [], ◌∷◌, length, length-drop, drop, Option, Some, None, Result, Ok, Err, refl, sym, ap, subst, ◌∙◌, arith}
 use Rattle.pe_core.specs.Bytes.{range}
 use Rattle.pe_core.specs.Refusals.{Refusal}
@@ -19,7 +19,7 @@ stepped : (b : List ℕ) (w v : Range) (bytes : List ℕ) (answer : Result (Opti
     (given : Option (Result POGOInfoEntry Error)) × StepsOverPogo (Ok bytes) w given v × (answer ≡ reported w given)
 stepped b w v bytes answer e s = (s.0, subst (λ (r : Result (List ℕ) Refusal). StepsOverPogo r w s.0 v) e s.1, s.2)
 
--- a step over no bytes gives nothing, and changes nothing
+-- a step over no bytes returns nothing, and changes nothing
 over_nothing : (bytes : List ℕ) (w v : Range) (given : Option (Result POGOInfoEntry Error)) → bytes ≡ [] → StepsOverPogo (Ok bytes) w given v → (reported w given ≡ Ok None) × (v ≡ w)
 over_nothing bytes w v None e s = (refl, s.2)
 over_nothing bytes w v (Some (Ok x)) e s = absurd (s.1.0 e)
@@ -49,11 +49,11 @@ lies_once b w r e = (
 
 -- ---- all steps
 
--- an entry as a walk that stands there tells it
+-- an entry as a walk that stands there returns it
 abbrev entry_reported : Range → Entry → PogoEntry
 entry_reported w e = record { name = record { offset = w.offset + 8; length = length e.name }; rva = e.rva; size = e.size }
 
--- what a step gives where an entry of n bytes begins
+-- what a step returns where an entry of n bytes starts
 gives_entry : (bytes : List ℕ) (w v : Range) (e : Entry) (n : ℕ) (given : Option (Result POGOInfoEntry Error)) → bytes ≢ [] → StartsWith bytes e n → StepsOverPogo (Ok bytes) w given v →
     (reported w given ≡ Ok (Some (entry_reported w e))) × (v ≡ range_after w n)
 gives_entry bytes w v e n None some starts s = absurd (some s.1.0)
@@ -65,7 +65,7 @@ gives_entry bytes w v e n (Some (Ok x)) some starts s =
     (ap (λ (y : Entry). Ok (Some (entry_reported w y))) same.0, s.2 ∙ ap (λ (k : ℕ). range_after w k) taken)
 gives_entry bytes w v e n (Some (Err x)) some starts s = absurd (s.1.1 e n starts)
 
--- what it gives where none begins
+-- what it returns where none starts
 gives_error : (bytes : List ℕ) (w v : Range) (given : Option (Result POGOInfoEntry Error)) → bytes ≢ [] → StartsWithNone bytes → StepsOverPogo (Ok bytes) w given v →
     (reported w given ≡ Err (refusal bytes)) × (v ≡ no_bytes)
 gives_error bytes w v None some none s = absurd (some s.1.0)

@@ -12,7 +12,7 @@ use Rattle.pe_c.specs.Arm64.{arm64_handler_range, flat_info}
 use Rattle.pe_c.specs.Ranges.{IsRange, last_range}
 use Rattle.pe_c.specs.Unwinding.{handler_range, flat_record}
 
--- what stands at a place is the range from there
+-- what stands at an offset is the range from there
 pub of_offset : (b : List ℕ) (p : ℕ) (part : List ℕ) → StandAt b p part → IsRange b (record { offset = p; length = length part }) part
 of_offset b p part s = record { inside = s.inside; same = s.here }
 

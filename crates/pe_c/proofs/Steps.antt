@@ -11,7 +11,7 @@ use Rattle.pe_records.specs.declared.debug.pogo.POGOInfoEntry.{POGOInfoEntry}
 use Rattle.pe_c.specs.DebugWalks.{IsNamed}
 use Rattle.pe_c.specs.declared.ranges.Range.{Range}
 
--- a step that gives an entry takes its bytes
+-- a step that returns an entry takes its bytes
 pub taken : (left rest : List ℕ) (e : POGOInfoEntry) → ReturnsPogoEntry left (Some (Ok e)) rest → (length left - length rest ≡ rounded_up (8 + length e.name.now) 4) × (rounded_up (8 + length e.name.now) 4 ≤ length left)
 taken left rest e g =
     let n : ℕ = g.1 in

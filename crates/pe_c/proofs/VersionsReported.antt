@@ -1,4 +1,4 @@
--- What is told of versions is what the resources hold.
+-- What is reported of versions is what the resources hold.
 use Rattle.std.proofs.Common.{◌≡◌, ℕ, Bool, false, List, Option, Some, None, Result, Ok, Err, refl, ap, sym, ◌∙◌, subst}
 use Rattle.std.specs.Option.{option_map}
 use Rattle.pe_core.proofs.Steps.{same_inside}

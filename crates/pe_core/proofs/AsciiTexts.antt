@@ -1,6 +1,6 @@
 -- Texts that are ASCII, found some bytes at a time.
-use Rattle.std.proofs.Common.{◌≡◌, ℕ, zero, suc, ◌+◌, ◌-◌, ◌%◌, ◌^◌, ◌≤◌, ◌<◌, true, false, cond, leb, List, [], ◌∷◌, length, get_or, take, drop, replicate, map, Some, None, w8, refl, ⊎_elim, ap, subst, sym, ◌∙◌, arith}
-use Rattle.std.specs.Prelude.{nat_lt, nat_le, ◌==◌}
+use Rattle.std.proofs.Common.{◌≡◌, ℕ, zero, suc, ◌+◌, ◌-◌, ◌%◌, ◌^◌, ◌≤◌, ◌<◌, true, false, cond, leb, List, [], ◌∷◌, length, get_or, take, drop, replicate, map, Some, w8, refl, ⊎_elim, ap, subst, sym, ◌∙◌, arith}
+use Rattle.std.specs.Prelude.{nat_le, ◌==◌}
 use Rattle.std.specs.List.{position_or_len}
 use Rattle.std.specs.Str.{IsUtf8}
 use Rattle.std.proofs.lemmas.List.{length-drop, length-map, length-take-le, get_or-drop, get_or-take}
@@ -14,6 +14,7 @@ use Rattle.pe_core.specs.Text.{text_at}
 use Rattle.pe_core.proofs.Texts.{zero_found}
 use Rattle.pe_core.proofs.TextEnds.{text_of-text}
 use Rattle.pe_core.specs.ZeroRuns.{HasNoZero, HasAscii, IsZeroRun, IsAsciiRun, IsAsciiText}
+use Rattle.pe_core.proofs.Comparisons.{within}
 
 -- ---- some bytes at a time
 
@@ -48,9 +49,6 @@ pub ruleset ascii_texts = (ascii-start, none-start, none-more, ascii-more, ascii
 
 -- ---- what such a text is
 
-inside_is : (m k l : ℕ) → m ≡ k → k < l → cond (nat_lt m l) (Some m) None ≡ Some k
-inside_is m k l e lt = grind (arith, nat_tests)
-
 low : (x : ℕ) → nat_le 128 x ≡ false → x < 128
 low x e = grind (arith, nat_tests)
 
@@ -77,7 +75,7 @@ ascii_text-is b s end t =
     let fails : (k : ℕ) → k < n → (get_or rest k 0 == 0) ≡ false = λ k lt. rw get_or-drop (t.passes (s + k) (omega arith) (omega arith)) in
     let passes : (get_or rest n 0 == 0) ≡ true = rw get_or-drop (subst (λ i. (get_or b i 0 == 0) ≡ true) (sym is) t.stops) in
     let found : position_or_len (λ c. c == 0) rest ≡ n = position_or_len_is (λ c. c == 0) rest n 0 (omega arith) fails (λ _. passes) in
-    zero_found rest n (inside_is (position_or_len (λ c. c == 0) rest) n (length rest) found short)
+    zero_found rest n (within (position_or_len (λ c. c == 0) rest) n (length rest) found short)
     ∙ text_of-text (take n rest) (ascii_text-IsUtf8 b s end t)
 
 -- ---- the mask of one load

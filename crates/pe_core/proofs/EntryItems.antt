@@ -39,13 +39,13 @@ unfolding each
 each_front f g zero h = refl
 each_front {X} f g (suc n) h = ap (λ (xs : List X). xs ++ f (suc n) ∷ []) (each_front f g n h) ∙ ap (λ (x : X). f 0 ∷ (each g n ++ x ∷ [])) (h n)
 
-none_of_none : {X : Type 0} (f : ℕ → X) → each f 0 ≡ []
+pub none_of_none : {X : Type 0} (f : ℕ → X) → each f 0 ≡ []
 unfolding each
 none_of_none f = refl
 
 -- ---- entries
 
--- a number behind the k bytes that are dropped
+-- a number after the k bytes that are dropped
 pub le_after : (b : List ℕ) (k p q n : ℕ) → q ≡ k + p → le (drop k b) p n ≡ le b q n
 unfolding le
 le_after b k p q zero e = refl
@@ -53,7 +53,7 @@ le_after b k p q (suc n) e =
     let here : get_or (drop k b) (p + n) 0 ≡ get_or b (q + n) 0 = get_or-drop k b (p + n) 0 ∙ ap (λ (i : ℕ). get_or b i 0) (omega arith) in
     ap (λ (x : ℕ). x + get_or (drop k b) (p + n) 0 * 256 ^ n) (le_after b k p q n e) ∙ ap (λ (x : ℕ). le b q n + x * 256 ^ n) here
 
--- one whole entry and those behind it
+-- one whole entry and those after it
 pub whole_entries_more : {X : Type 0} (entry_at : List ℕ → ℕ → X) (w : ℕ) (b : List ℕ) → ReadsAfter entry_at w → 0 < w → w ≤ length b → whole_entries entry_at w b ≡ entry_at b 0 ∷ whole_entries entry_at w (drop w b)
 whole_entries_more {X} entry_at w b after some h =
     let fewer : length b / w ≡ (length b - w) / w + 1 = div-eq-sub-div some h in
@@ -74,7 +74,7 @@ count_of_whole_entries entry_at w b = length-each (λ i. entry_at b (w * i)) (le
 pub get_or-whole_entries : {X : Type 0} (entry_at : List ℕ → ℕ → X) (w : ℕ) (b : List ℕ) (i : ℕ) (d : X) → i < length b / w → get_or (whole_entries entry_at w b) i d ≡ entry_at b (w * i)
 get_or-whole_entries entry_at w b i d h = get_or-each (λ j. entry_at b (w * j)) (length b / w) i d h
 
--- one item and those behind it
+-- one item and those after it
 pub entry_items_more : {X : Type 0} (entry_at : List ℕ → ℕ → X) (w : ℕ) (b : List ℕ) → ReadsAfter entry_at w → 0 < w → w ≤ length b → entry_items entry_at w b ≡ Ok (entry_at b 0) ∷ entry_items entry_at w (drop w b)
 unfolding entry_items
 entry_items_more {X} entry_at w b after some h =
@@ -82,7 +82,7 @@ entry_items_more {X} entry_at w b after some h =
     ap (λ (xs : List X). map (λ x. Ok x) xs ++ (if length b % w == 0 then [] else Err Short ∷ [])) (whole_entries_more entry_at w b after some h)
     ∙ ap (λ (k : ℕ). Ok (entry_at b 0) ∷ (map (λ x. Ok x) (whole_entries entry_at w (drop w b)) ++ (if k == 0 then [] else Err Short ∷ []))) rest
 
--- a cut entry and nothing behind it
+-- a truncated entry and nothing after it
 nothing : {X : Type 0} (entry_at : List ℕ → ℕ → X) (w : ℕ) → 0 < w → entry_items entry_at w [] ≡ []
 unfolding entry_items
 nothing {X} entry_at w some =

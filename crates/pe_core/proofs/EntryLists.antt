@@ -12,7 +12,7 @@ pub record NoneIsZero (w : ℕ) (b : List ℕ) (start end : ℕ) : Type 0 where
   pub rises : start ≤ end
   pub before : (k : ℕ) → 0 < k → start + w * k ≤ end → 0 < le b (end - w * k) w
 
-some_size : (is_64 : Bool) → 0 < entry_size is_64
+pub some_size : (is_64 : Bool) → 0 < entry_size is_64
 some_size true = omega arith
 some_size false = omega arith
 

@@ -13,11 +13,11 @@ use Rattle.pe_core.specs.ExportSteps.{exports_from}
 use Rattle.pe_core.specs.Exports.{ExportDataView, ExportView, named_export, export_at, exports, text_at_address}
 use Rattle.pe_core.proofs.Texts.{zero_missing}
 
--- there is no text behind the end
+-- there is no text after the end
 pub no_text : (b : List ℕ) (p : ℕ) → length b ≤ p → text_at b p ≡ None
 no_text b p le = ap text_to_zero (drop_all p b le) ∙ zero_missing [] refl
 
--- where an address without a place gets one behind the end, it still has no text
+-- where an RVA that is not mapped gets an offset after the end, it still has no text
 pub text_or_end : (b : List ℕ) (offset : Option ℕ) → length b < 2 ^ 64 → text_at b (offset_or_end offset) ≡ option_and_then (text_at b) offset
 text_or_end b None lt = no_text b (2 ^ 64 - 1) (omega arith)
 text_or_end b (Some p) lt = refl
@@ -33,7 +33,7 @@ exports_from-append offset d k (x ∷ xs) ys =
     let rest : exports_from offset d (k + 1) (xs ++ ys) ≡ exports_from offset d (k + 1) xs ++ exports_from offset d (k + suc (length xs)) ys = exports_from-append offset d (k + 1) xs ys ∙ ap (λ i. exports_from offset d (k + 1) xs ++ exports_from offset d i ys) e in
     consed (option_and_then (named_export offset d k) x) _ _ _ rest
 
--- the exports of the texts at the places of the name table
+-- the exports of the texts at the offsets of the name table
 from_table : (offset : ℕ → Option ℕ) (b : List ℕ) (d : ExportDataView) (n : ℕ) → length b < 2 ^ 64
     → exports_from offset d 0 (map (text_at b) (each (λ i. offset_or_end (offset (le d.names (4 * i) 4))) n)) ≡ filter_map (λ (e : Option ExportView). e) (each (export_at offset b d) n)
 unfolding each

@@ -171,7 +171,7 @@ refused-at_end offset w b p n i xs e u s end g is = unless_memory e _ (records-c
 
 pub ruleset records_read = (records-start, records-pushed, refused-in_record, refused-at_end, records-done)
 
--- the texts at the places of the names are the names
+-- the texts at the offsets of the names are the names
 pub names_are : (offset : ℕ → Option ℕ) (b : List ℕ) (p n : ℕ) (offsets : List ℕ) (names : List (Option (Bor (List ℕ)))) → length b < 2 ^ 64
     → offsets ≡ each (λ i. offset_or_end (offset (import_entry b (p + 20 * i)).name_rva)) n → texts_of names ≡ map (text_at b) offsets → AreNames offset b p names
 names_are offset b p n offsets names small are texts = record {
@@ -242,7 +242,7 @@ imports-done offset w b entries i xs end g =
 
 pub ruleset imports_read = (imports-start, imports-pushed, imports-refused, imports-done)
 
--- the texts at the places of the names are the names
+-- the texts at the offsets of the names are the names
 pub entry_names_are : (offset : ℕ → Option ℕ) (w : ℕ) (b : List ℕ) (entries : List Entry) (offsets : List ℕ) (names : List (Option (Bor (List ℕ))))
     → offsets ≡ map (hint_offset_of offset w) (map entry_view entries) → texts_of names ≡ map (text_at b) offsets → AreEntryNames offset w b entries names
 entry_names_are offset w b entries offsets names are texts = record {

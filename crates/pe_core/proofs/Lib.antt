@@ -1,4 +1,6 @@
 pub mod Steps
+pub mod Comparisons
+pub mod NoMemory
 pub mod Ranges
 pub mod Map
 pub mod SectionCuts

@@ -1,7 +1,6 @@
 -- The first section that covers an address.
 use Rattle.std.proofs.Common.{◌≡◌, ℕ, ◌+◌, ◌-◌, ◌*◌, ◌/◌, ◌%◌, ◌^◌, ◌<◌, ◌≤◌, arith, Bool, true, false, cond, List, [], ◌∷◌, Option, Some, None, Result, Ok, Err, refl, ap, length, ◌∙◌}
-use Rattle.std.specs.Prelude.{filter, nat_lt, if◌then◌else◌}
-use Rattle.std.proofs.lemmas.Bool.Decides.{nat_tests}
+use Rattle.std.specs.Prelude.{filter, if◌then◌else◌}
 use Rattle.std.specs.Option.{option_map}
 use Rattle.std.specs.List.{find, position, position_or_len, slice_get}
 use Rattle.std.specs.Int.{is_power_of_two}
@@ -16,6 +15,7 @@ use Rattle.pe_core.specs.Refusals.{Refusal}
 use Rattle.pe_core.proofs.Reaches.{outside, reach_by_raw}
 use Rattle.pe_core.specs.SectionMap.{first, covers, may_cover, offset_by, mapped, reach, raw_start}
 use Rattle.pe_core.specs.declared.section_table.SectionTable.{SectionTable}
+use Rattle.pe_core.proofs.Comparisons.{is_past, not_below}
 
 pub positive : (n : ℕ) → is_power_of_two n ≡ true → 0 < n
 positive n e = omega (arith, ones_le_self n, eqb-true _ _ e)
@@ -28,25 +28,22 @@ pub find_first : {X : Type 0} (p : X → Bool) (xs : List X) → find p xs ≡ f
 find_first p [] = refl
 find_first p (x ∷ xs) = first_of_cond (p x) x (filter p xs) (find p xs) (find_first p xs)
 
-same_inside : {X : Type 0} (x y : X) → Some x ≡ Some y → x ≡ y
-same_inside x y e = cc
+pub same_some : {X : Type 0} (x y : X) → Some x ≡ Some y → x ≡ y
+same_some x y e = cc
 
 found_of_cond : {X : Type 0} (p : X → Bool) (b : Bool) (x y : X) (o : Option X) → p x ≡ b → (o ≡ Some y → p y ≡ true) → cond b (Some x) o ≡ Some y → p y ≡ true
-found_of_cond p true x y o e h f = rw (← same_inside x y f) e
+found_of_cond p true x y o e h f = rw (← same_some x y f) e
 found_of_cond p false x y o e h f = h f
 
-pub found_covers : {X : Type 0} (p : X → Bool) (xs : List X) (y : X) → find p xs ≡ Some y → p y ≡ true
-found_covers p [] y e = absurd cc
-found_covers p (x ∷ xs) y e = found_of_cond p (p x) x y (find p xs) refl (found_covers p xs y) e
+pub found_passes : {X : Type 0} (p : X → Bool) (xs : List X) (y : X) → find p xs ≡ Some y → p y ≡ true
+found_passes p [] y e = absurd cc
+found_passes p (x ∷ xs) y e = found_of_cond p (p x) x y (find p xs) refl (found_passes p xs y) e
 
 -- a section that covers the address passes the cheap test
 cheap : (alignment address low : ℕ) (s : SectionTable) → low ≡ address % 2 ^ 32 → s.size_of_raw_data ≤ (low + (2 ^ 32 - s.virtual_address % 2 ^ 32)) % 2 ^ 32 / 4096 * 4096 → covers alignment address s ≡ false
 cheap alignment address low s bits e =
     let small : reach alignment s ≤ (s.size_of_raw_data + 4095) / 4096 * 4096 = reach_by_raw alignment s in
     outside s.virtual_address address (reach alignment s) (λ i j. omega arith)
-
-not_below : (n k : ℕ) → nat_lt n k ≡ false → k ≤ n
-not_below n k e = grind (arith, nat_tests)
 
 passes : (alignment address low : ℕ) (s : SectionTable) → low ≡ address % 2 ^ 32 → may_cover low s ≡ false → covers alignment address s ≡ false
 passes alignment address low s bits e = cheap alignment address low s bits (not_below _ _ e)
@@ -61,17 +58,10 @@ none_passes : {X : Type 0} (p q : X → Bool) (xs : List X) → ((x : X) → p x
 none_passes p q [] h e = refl
 none_passes p q (x ∷ xs) h e = none_of_cond (p x) (q x) x (find p xs) (find q xs) (h x) (none_passes p q xs h) e
 
-unplaced_test : (b : Bool) (n : ℕ) → cond b (Some n) None ≡ None → b ≡ false
-unplaced_test true n e = absurd cc
-unplaced_test false n e = refl
-
-unplaced : (n k : ℕ) → cond (nat_lt n k) (Some n) None ≡ None → k ≤ n
-unplaced n k e = not_below n k (unplaced_test (nat_lt n k) n e)
-
 -- where no section passes the cheap test, none covers the address
 pub no_candidate : (alignment address low : ℕ) (xs : List SectionTable) → low ≡ address % 2 ^ 32 → position (may_cover low) xs ≡ None → find (covers alignment address) xs ≡ None
 no_candidate alignment address low xs bits e =
-    let past : length xs ≤ position_or_len (may_cover low) xs = unplaced _ _ e in
+    let past : length xs ≤ position_or_len (may_cover low) xs = is_past _ _ e in
     let none : find (may_cover low) xs ≡ None = find_at (may_cover low) xs ∙ slice_get_past xs _ past in
     none_passes (may_cover low) (covers alignment address) xs (λ x fails. passes alignment address low x bits fails) none
 

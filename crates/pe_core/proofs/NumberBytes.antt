@@ -1,4 +1,4 @@
--- The bytes of the number that stands at a place are the bytes of that place.
+-- The bytes of the number that stands at an offset are the bytes from there.
 use Rattle.std.proofs.Common.{rules, ◌≡◌, ℕ, zero, suc, ◌+◌, ◌-◌, ◌*◌, ◌/◌, ◌%◌, ◌^◌, ◌<◌, ◌≤◌, List, ◌∷◌, ◌++◌, length, refl, ap, sym, ◌∙◌, arith, drop-cons}
 use Rattle.std.specs.Prelude.{slice_index, slice_range}
 use Rattle.std.proofs.lemmas.List.{places, same_lists}
@@ -13,7 +13,7 @@ le-suc : (b : List ℕ) (p n : ℕ) → le b p (suc n) ≡ le b p n + slice_inde
 unfolding le
 le-suc b p n = refl
 
--- numbers whose bytes are the same, each from its place on
+-- numbers whose bytes are the same, each from its offset on
 pub le-same : (b c : List ℕ) (p q n : ℕ) → ((k : ℕ) → k < n → slice_index b (p + k) ≡ slice_index c (q + k)) → le b p n ≡ le c q n
 unfolding le
 le-same b c p q zero h = refl

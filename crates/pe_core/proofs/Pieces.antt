@@ -1,4 +1,4 @@
--- The strings of a string table, one cut off after the other.
+-- The strings of a string table, one split off after the other.
 use Rattle.std.proofs.Common.{◌≡◌, ℕ, zero, suc, ◌+◌, ◌<◌, ◌≤◌, Bool, true, false, cond, List, [], ◌∷◌, length, take, drop, Some, None, refl, ap, sym, ◌∙◌, arith}
 use Rattle.std.specs.Prelude.{position, nat_lt, ◌==◌}
 use Rattle.std.specs.List.{before_first, after_first, position_or_len}
@@ -31,7 +31,7 @@ front c n xs =
     let two : suc n + 1 ≡ suc (n + 1) = omega arith in
     rw one (rw two refl)
 
--- the first piece, and the pieces behind the zero that ends it
+-- the first piece, and the pieces after the zero that ends it
 first_cons : (c : ℕ) (b : List ℕ) → pieces (c ∷ b) ≡ before_first (λ x. x == 0) (c ∷ b) ∷ pieces (after_first (λ x. x == 0) (c ∷ b))
 unfolding pieces
 first_cons zero b = refl
@@ -77,7 +77,7 @@ pub pieces_first : (b : List ℕ) → 0 < length b → pieces b ≡ before_first
 pieces_first [] some = absurd (omega arith)
 pieces_first (c ∷ b) some = first_cons c b
 
--- what is behind a zero is less
+-- what is after a zero is less
 pub less_after : (b : List ℕ) → 0 < length b → length (after_first (λ x. x == 0) b) < length b
 less_after b some = grind (arith, length-drop)
 

@@ -1,4 +1,4 @@
--- A number that is put at a place is read there again.
+-- A number that is put at an offset is read there again.
 use Rattle.std.proofs.Common.{◌≡◌, ℕ, zero, suc, ◌+◌, ◌/◌, ◌%◌, ◌^◌, ◌<◌, ◌≤◌, true, List, [], ◌∷◌, ◌++◌, length, take, drop, ◌∙◌, arith, append_assoc, length-append}
 use Rattle.std.specs.Prelude.{slice_index}
 use Rattle.std.proofs.Math.Nat.{pow-suc}
@@ -11,7 +11,7 @@ use Rattle.pe_core.specs.Bytes.{le, bytes_of, holds, put, splice}
 byte_after : (front : List ℕ) (x : ℕ) (rest : List ℕ) (p : ℕ) → length front ≡ p → slice_index (front ++ x ∷ rest) p ≡ x
 byte_after front x rest p e = grind (arith, places)
 
--- the number behind what stands in front of it
+-- the number after what stands before it
 pub le-after : (n number : ℕ) (front rest : List ℕ) (p : ℕ) → length front ≡ p → number < 256 ^ n → le (front ++ (bytes_of n number ++ rest)) p n ≡ number
 unfolding bytes_of
 le-after zero number front rest p e small = le-zero _ p ∙ omega arith

@@ -1,4 +1,4 @@
--- An optional header that is read at a place spells the bytes of that place.
+-- An optional header that is read at an offset spells the bytes from there.
 use Rattle.std.proofs.Common.{◌≡◌, ℕ, zero, suc, ◌+◌, ◌-◌, ◌*◌, ◌≤◌, Bool, true, false, List, [], ◌∷◌, ◌++◌, length, Ok, refl, ap, sym, ◌∙◌, arith}
 use Rattle.std.specs.Prelude.{slice_range, ◌==◌, ◌||◌}
 use Rattle.std.specs.List.{flat_map}
@@ -35,7 +35,7 @@ spelled_rows b p (suc n) small h =
     rw (flat_map-append spell_directory (each (λ i. data_directory b (p + 8 * i)) n) (d ∷ []), append-nil (spell_directory d), front, last, end)
     (range_join b p (p + 8 * n) (p + 8 * n + 8) (omega arith) (omega arith) (omega arith))
 
--- the fields by width, and n directories behind them
+-- the fields by width, and n directories after them
 spelled_pe32_plus : (b : List ℕ) (p n : ℕ) → AreBytes b → p + 112 + 8 * n ≤ length b →
     (spell_standard_fields_64 (standard_fields_64 b p) ++ spell_windows_fields_64 (windows_fields_64 b (p + 24))) ++ flat_map spell_directory (each (λ i. data_directory b (p + 112 + 8 * i)) n) ≡ slice_range b p (p + 112 + 8 * n)
 spelled_pe32_plus b p n small h =
@@ -55,7 +55,7 @@ unfolding standard_fields_64
 magic64 b p = refl
 
 magic32 : (b : List ℕ) (p : ℕ) → (standard_fields_32 b p).magic ≡ le b p 2
-unfolding standard_fields_32
+unfolding standard_fields_32 standard_fields_64
 magic32 b p = refl
 
 -- the whole of it, by width
@@ -72,11 +72,11 @@ by_width false b p small e h =
     let inside : p + 96 + 8 * n ≤ length b = rw e at h in
     simp (e, magic32 b p) (spelled_pe32 b p n small inside)
 
--- how long the optional header is that begins at p
+-- how long the optional header is that starts at p
 abbrev length_of : List ℕ → ℕ → ℕ
 length_of b p = directories_offset (is_pe32_plus b p) + 8 * kept (optional_header b p).windows_fields.number_of_rva_and_sizes
 
--- one that is accepted is the one at the place, and all of it is there
+-- one that is accepted is the one at the offset, and all of it is there
 accepted : (b : List ℕ) (p : ℕ) (o : OptionalHeaderView) → optional_header_at b p ≡ Ok o → (p + length_of b p ≤ length b) × (optional_header b p ≡ o)
 unfolding optional_header_tests
 accepted b p o e =
@@ -86,7 +86,7 @@ accepted b p o e =
     let inside = inside_if_held b (p + directories_offset (is_pe32_plus b p)) (8 * kept (optional_header b p).windows_fields.number_of_rva_and_sizes) last.0 in
     (omega (arith, inside), last.1)
 
--- its spelling stands at the place
+-- its spelling stands at the offset
 pub spelled_optional : (b : List ℕ) (p : ℕ) (o : OptionalHeaderView) → AreBytes b → optional_header_at b p ≡ Ok o → range b p (length (spell_optional o)) ≡ spell_optional o
 spelled_optional b p o small e =
     let found = accepted b p o e in

@@ -1,4 +1,4 @@
--- A record that is read at a place spells the bytes of that place.
+-- A record that is read at an offset spells the bytes from there.
 use Rattle.std.proofs.Common.{◌≡◌, ℕ, ◌+◌, ◌≤◌, List, [], ◌∷◌, ◌++◌, length, refl, arith}
 use Rattle.std.specs.Prelude.{slice_range}
 use Rattle.pe_core.proofs.NumberBytes.{bytes_of-le, range_join}
@@ -11,7 +11,7 @@ abbrev total : List ℕ → ℕ
 total [] = 0
 total (w ∷ ws) = w + total ws
 
--- numbers of these widths from place p + k on, behind what is spelled already
+-- numbers of these widths from offset p + k on, after what is spelled already
 abbrev laid : List ℕ → List ℕ → ℕ → ℕ → List ℕ → List ℕ
 laid done b p k [] = done
 laid done b p k (w ∷ ws) = laid (done ++ bytes_of w (le b (p + k) w)) b p (k + w) ws
@@ -39,7 +39,7 @@ spelled_coff b p small h =
     laid_is (bytes_of 2 (le b p 2)) b p 2 (2 ∷ 4 ∷ 4 ∷ 4 ∷ 2 ∷ 2 ∷ []) small (bytes_of-le b p 2 small (omega arith)) h
 
 pub spelled_standard_fields_32 : (b : List ℕ) (p : ℕ) → AreBytes b → p + 28 ≤ length b → spell_standard_fields_32 (standard_fields_32 b p) ≡ range b p 28
-unfolding spell_standard_fields_32 standard_fields_32
+unfolding spell_standard_fields_32 spell_standard_fields_64 standard_fields_32 standard_fields_64
 spelled_standard_fields_32 b p small h =
     laid_is (bytes_of 2 (le b p 2)) b p 2 (1 ∷ 1 ∷ 4 ∷ 4 ∷ 4 ∷ 4 ∷ 4 ∷ 4 ∷ []) small (bytes_of-le b p 2 small (omega arith)) h
 

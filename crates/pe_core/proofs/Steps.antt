@@ -18,7 +18,7 @@ last : {A B : Type 0} (t : Bool) (tests : List (Bool × Refusal)) (x : A) (make 
 last true tests x make = refl
 last false tests x make = ap (λ r. r >>= λ o. Ok (make o)) (mapped tests x (λ y. Some y)) ∙ mapped tests (Some x) make
 
--- reading from left to right gives the header, or the first refusal
+-- reading from left to right returns the header, or the first refusal
 pub same : (b : List ℕ) (mode : ParseMode) → header_in_steps b mode ≡ header_at b mode
 unfolding header_in_steps header_at header_tests header
 same b mode =
@@ -30,7 +30,12 @@ same b mode =
     let e = last (coff.size_of_optional_header == 0) (optional_header_tests b q) (optional_header b q) make in
     grind (arith, e)
 
--- what two steps give, each gives
+-- three steps, grouped either way
+pub then_then : {X Y Z R : Type 0} (r : Result X R) (f : X → Result Y R) (g : Y → Result Z R) → ((r >>= f) >>= g) ≡ (r >>= λ x. f x >>= g)
+then_then (Ok x) f g = refl
+then_then (Err e) f g = refl
+
+-- what two steps return, each returns
 pub given : {X Y : Type 0} (r : Result X Refusal) (f : X → Result Y Refusal) (y : Y) → (r >>= f) ≡ Ok y → (x : X) × (r ≡ Ok x) × (f x ≡ Ok y)
 given (Ok x) f y e = (x, refl, e)
 given (Err r) f y e = absurd cc

@@ -3,7 +3,7 @@ use Rattle.std.proofs.Common.{◌≡◌, ℕ, suc, ◌+◌, ◌≤◌, List, [],
 use Rattle.std.specs.List.{range_with_len}
 use Rattle.pe_core.specs.Symbols.{SymbolItem, AreSymbols, item_in, row_of, row_after, row_count}
 
--- symbol k and those behind it
+-- symbol k and those after it
 abbrev items_from : List ℕ → ℕ → ℕ → List SymbolItem
 items_from b k n = map (λ i. item_in b (row_of b i)) (range_with_len k n)
 

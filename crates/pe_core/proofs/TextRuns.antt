@@ -1,4 +1,4 @@
--- The texts at the places that have one zero behind them.
+-- The texts at the offsets that have one zero after them.
 use Rattle.std.proofs.Common.{◌≡◌, ℕ, ◌+◌, ◌-◌, ◌≤◌, ◌<◌, cond, List, ◌++◌, map, length, take, drop, Option, Some, None, refl, sym, ap, arith, ◌∙◌, inl, inr, eq-zero-or-pos}
 use Rattle.std.specs.Prelude.{position, nat_le, ◌==◌}
 use Rattle.std.proofs.lemmas.List.{length-drop, length-take-le, drop-drop, drop-take, take_rest, take-append-drop, map-append}
@@ -40,7 +40,7 @@ end_of_last bs text d n last e =
           ap text_of (sym same) ∙ sym (short_enough text n k (omega arith))
     ]
 
--- the bytes from a place on, as an end of those from the start on
+-- the bytes from an offset on, as an end of those from the start on
 from_start : (bs : List ℕ) (start offset : ℕ) → start ≤ offset → drop (offset - start) (drop start bs) ≡ drop offset bs
 from_start bs start offset le =
     let is : start + (offset - start) ≡ offset = omega arith in

@@ -1,4 +1,4 @@
--- Text, and the bytes in front of a zero.
+-- Text, and the bytes before a zero.
 use Rattle.std.proofs.Common.{◌≡◌, ℕ, ◌-◌, ◌≤◌, ◌<◌, Bool, cond, List, [], length, take, drop, Some, None, sym, ap, arith}
 use Rattle.std.specs.Prelude.{position, nat_lt, ◌==◌}
 use Rattle.std.specs.List.{before_first, position_or_len}

@@ -7,6 +7,10 @@ use Rattle.pe_core.specs.declared.byte_range.ByteRange.{ByteRange}
 abbrev pub bytes_in : List ℕ → ByteRange → List ℕ
 bytes_in b r = range b r.offset r.length
 
+-- the range of no bytes
+abbrev pub empty_range : ByteRange
+empty_range = record { offset = 0; length = 0 }
+
 -- the range lies in b
 abbrev pub IsWithin : List ℕ → ByteRange → Type 0
 IsWithin b r = r.offset + r.length ≤ length b

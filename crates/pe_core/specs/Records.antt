@@ -28,20 +28,6 @@ coff_header b p = record {
   characteristics = le b (p + 18) 2;
 }
 
--- the standard fields of PE32, 28 bytes
-unfoldable pub standard_fields_32 : List ℕ → ℕ → StandardFields
-standard_fields_32 b p = record {
-  magic = le b p 2;
-  major_linker_version = le b (p + 2) 1;
-  minor_linker_version = le b (p + 3) 1;
-  size_of_code = le b (p + 4) 4;
-  size_of_initialized_data = le b (p + 8) 4;
-  size_of_uninitialized_data = le b (p + 12) 4;
-  address_of_entry_point = le b (p + 16) 4;
-  base_of_code = le b (p + 20) 4;
-  base_of_data = le b (p + 24) 4;
-}
-
 -- the standard fields of PE32+, 24 bytes; they have no base of data
 unfoldable pub standard_fields_64 : List ℕ → ℕ → StandardFields
 standard_fields_64 b p = record {
@@ -55,6 +41,10 @@ standard_fields_64 b p = record {
   base_of_code = le b (p + 20) 4;
   base_of_data = 0;
 }
+
+-- the standard fields of PE32, 28 bytes: the same, and then the base of data
+unfoldable pub standard_fields_32 : List ℕ → ℕ → StandardFields
+standard_fields_32 b p = record (standard_fields_64 b p) { base_of_data = le b (p + 24) 4 }
 
 -- the fields of Windows in PE32, 68 bytes
 unfoldable pub windows_fields_32 : List ℕ → ℕ → WindowsFields

@@ -21,19 +21,16 @@ spell_coff c = bytes_of 2 c.machine ++ bytes_of 2 c.number_of_sections ++ bytes_
     ++ bytes_of 4 c.pointer_to_symbol_table ++ bytes_of 4 c.number_of_symbol_table
     ++ bytes_of 2 c.size_of_optional_header ++ bytes_of 2 c.characteristics
 
--- the standard fields of PE32, 28 bytes
-unfoldable pub spell_standard_fields_32 : StandardFields → List ℕ
-spell_standard_fields_32 s = bytes_of 2 s.magic ++ bytes_of 1 s.major_linker_version ++ bytes_of 1 s.minor_linker_version
-    ++ bytes_of 4 s.size_of_code ++ bytes_of 4 s.size_of_initialized_data
-    ++ bytes_of 4 s.size_of_uninitialized_data ++ bytes_of 4 s.address_of_entry_point
-    ++ bytes_of 4 s.base_of_code ++ bytes_of 4 s.base_of_data
-
 -- the standard fields of PE32+, 24 bytes; they have no base of data
 unfoldable pub spell_standard_fields_64 : StandardFields → List ℕ
 spell_standard_fields_64 s = bytes_of 2 s.magic ++ bytes_of 1 s.major_linker_version ++ bytes_of 1 s.minor_linker_version
     ++ bytes_of 4 s.size_of_code ++ bytes_of 4 s.size_of_initialized_data
     ++ bytes_of 4 s.size_of_uninitialized_data ++ bytes_of 4 s.address_of_entry_point
     ++ bytes_of 4 s.base_of_code
+
+-- the standard fields of PE32, 28 bytes: the same, and then the base of data
+unfoldable pub spell_standard_fields_32 : StandardFields → List ℕ
+spell_standard_fields_32 s = spell_standard_fields_64 s ++ bytes_of 4 s.base_of_data
 
 -- the fields of Windows in PE32, 68 bytes
 unfoldable pub spell_windows_fields_32 : WindowsFields → List ℕ

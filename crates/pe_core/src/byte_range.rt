@@ -13,6 +13,12 @@ pub struct ByteRange {
 }
 
 impl ByteRange {
+    /// The range of no bytes.
+    pub const EMPTY: ByteRange = ByteRange {
+        offset: 0,
+        length: 0,
+    };
+
     /// The bytes of the range, which the caller knows to lie in `bytes`.
     pub fn of<'a>(self, bytes: &'a [u8]) -> &'a [u8]
         requires { IsWithin bytes.now self }

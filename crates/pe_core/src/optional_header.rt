@@ -44,26 +44,6 @@ impl StandardFields {
     ghost use Rattle.pe_core.specs.Bytes.{le};
     ghost use Rattle.pe_core.specs.Records.{standard_fields_32, standard_fields_64};
 
-    /// The fields of PE32, 28 bytes.
-    #[tactic(auto, unfolding(crate::specs::Records::standard_fields_32))]
-    fn pe32_at(bytes: &[u8], offset: usize) -> StandardFields
-        requires { offset + 28 ≤ length bytes.now }
-        ensures value { result ≡ standard_fields_32 bytes.now offset }
-        ensures magic { result.magic ≡ le bytes.now offset 2 }
-    {
-        StandardFields {
-            magic: read_u16(bytes, offset),
-            major_linker_version: read_u8(bytes, offset + 2),
-            minor_linker_version: read_u8(bytes, offset + 3),
-            size_of_code: read_u32(bytes, offset + 4),
-            size_of_initialized_data: read_u32(bytes, offset + 8),
-            size_of_uninitialized_data: read_u32(bytes, offset + 12),
-            address_of_entry_point: read_u32(bytes, offset + 16),
-            base_of_code: read_u32(bytes, offset + 20),
-            base_of_data: read_u32(bytes, offset + 24),
-        }
-    }
-
     /// The fields of PE32+, 24 bytes.
     #[tactic(auto, unfolding(crate::specs::Records::standard_fields_64))]
     fn pe32_plus_at(bytes: &[u8], offset: usize) -> StandardFields
@@ -81,6 +61,19 @@ impl StandardFields {
             address_of_entry_point: read_u32(bytes, offset + 16),
             base_of_code: read_u32(bytes, offset + 20),
             base_of_data: 0,
+        }
+    }
+
+    /// The fields of PE32, 28 bytes: the same, and then the base of data.
+    #[tactic(auto, unfolding(crate::specs::Records::standard_fields_32))]
+    fn pe32_at(bytes: &[u8], offset: usize) -> StandardFields
+        requires { offset + 28 ≤ length bytes.now }
+        ensures value { result ≡ standard_fields_32 bytes.now offset }
+        ensures magic { result.magic ≡ le bytes.now offset 2 }
+    {
+        StandardFields {
+            base_of_data: read_u32(bytes, offset + 24),
+            ..StandardFields::pe32_plus_at(bytes, offset)
         }
     }
 }

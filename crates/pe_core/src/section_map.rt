@@ -105,7 +105,7 @@ fn covers(section: &SectionTable, alignment: u32, address: usize) -> bool
 /// The file offset of an RVA, by all tests of each section. Out of line, as it is rare.
 #[cold]
 #[inline(never)]
-#[tactic(auto, using(crate::proofs::Map::found_covers))]
+#[tactic(auto, using(crate::proofs::Map::found_passes))]
 fn offset_by_all_tests(address: usize, sections: &[SectionTable], alignment: u32) -> Option<usize>
     requires { 0 < alignment }
     ensures { result ≡ option_map (λ s. address - s.virtual_address + raw_start s)

@@ -1,12 +1,10 @@
 -- Base relocations. (PE format: .reloc section, base relocation block, base relocation types. Which sizes of blocks are
 -- refused is this project's profile.)
-use Rattle.std.specs.Prelude.{ℕ, ◌+◌, ◌-◌, ◌/◌, ◌%◌, ◌==◌, ◌&&◌, List, [], ◌∷◌, length, drop, Bool, Option, Some, None, Result, Ok, nat_le, if◌then◌else◌}
+use Rattle.std.specs.Prelude.{ℕ, ◌+◌, ◌-◌, ◌/◌, ◌%◌, ◌==◌, ◌&&◌, List, [], ◌∷◌, length, drop, Bool, Option, Some, None, nat_le, if◌then◌else◌}
 use Rattle.std.specs.Option.{option_map}
 use Rattle.pe_core.specs.Bytes.{le, range, holds}
-use Rattle.pe_core.specs.Refusals.{Short, outcome, ◌>>=◌}
-use Rattle.pe_core.specs.declared.data_directories.DataDirectory.{DataDirectory}
-use Rattle.pe_directories.specs.DirectoryRefusals.{DirectoryRefusal, Image, BlockSize, BlockTruncated, NoArgument}
-use Rattle.pe_directories.specs.ImageParts.{ImageView, table_of}
+use Rattle.pe_core.specs.Refusals.{Short, outcome}
+use Rattle.pe_directories.specs.DirectoryRefusals.{Image, BlockSize, BlockTruncated, NoArgument}
 use Rattle.pe_directories.specs.Walks.{First}
 use Rattle.pe_directories.specs.declared.base_relocation.RelocationBlock.{RelocationBlock}
 use Rattle.pe_directories.specs.declared.base_relocation.RelocationBlocks.{RelocationBlocks}
@@ -71,7 +69,3 @@ relocations_left s = option_map (λ b. b.now) s.left
 
 abbrev pub page_of : BaseRelocations → ℕ
 page_of s = s.page_rva
-
--- the blocks of a directory: as many bytes as its size says
-abbrev pub relocation_table : ImageView → DataDirectory → Result (Option (List ℕ)) DirectoryRefusal
-relocation_table i d = table_of i d >>= λ table. Ok (Some table)

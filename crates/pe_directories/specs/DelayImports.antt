@@ -4,9 +4,8 @@ use Rattle.std.specs.Option.{option_map}
 use Rattle.pe_core.specs.Bytes.{le, holds, record_at}
 use Rattle.pe_core.specs.Refusals.{Short, outcome, ◌>>=◌}
 use Rattle.pe_core.specs.Text.{text_at}
-use Rattle.pe_core.specs.declared.data_directories.DataDirectory.{DataDirectory}
 use Rattle.pe_directories.specs.DirectoryRefusals.{DirectoryRefusal, Image, DelayImportName, of_image}
-use Rattle.pe_directories.specs.ImageParts.{ImageView, offset_of_rva, offset_of_va, table_of}
+use Rattle.pe_directories.specs.ImageParts.{ImageView, offset_of_rva, offset_of_va}
 use Rattle.pe_directories.specs.Walks.{First, all_items, each_read}
 use Rattle.pe_directories.specs.VaTables.{first_va}
 use Rattle.pe_directories.specs.declared.delay_import.DelayImport.{DelayImport}
@@ -37,10 +36,6 @@ unfoldable pub first_delay_import : List ℕ → First DelayImport (List ℕ)
 first_delay_import b =
     if delay_imports_end b then None
     else Some (outcome ((holds b 0 32, Image Short) ∷ []) (delay_import_at b, drop 32 b))
-
--- the directory: as many bytes as its size says
-abbrev pub delay_import_table : ImageView → DataDirectory → Result (Option (List ℕ)) DirectoryRefusal
-delay_import_table i d = table_of i d >>= λ table. Ok (Some table)
 
 -- the bytes that a walk has left
 abbrev pub delay_imports_left : DelayImports → Option (List ℕ)

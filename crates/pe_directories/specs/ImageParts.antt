@@ -1,5 +1,5 @@
 -- Parts of an image, by their RVAs and virtual addresses.
-use Rattle.std.specs.Prelude.{◌≡◌, ◌==◌, ℕ, ◌-◌, List, drop, Bool, Result, Ok, Err, nat_le, if◌then◌else◌}
+use Rattle.std.specs.Prelude.{◌≡◌, ◌==◌, ℕ, ◌-◌, List, drop, Bool, Result, Ok, Err, nat_le, if◌then◌else◌, Option, Some}
 use Rattle.pe_core.specs.Bytes.{range, record_at}
 use Rattle.pe_core.specs.Header.{OptionalHeaderView}
 use Rattle.pe_core.specs.Refusals.{◌>>=◌}
@@ -76,3 +76,7 @@ range_of i d = record_of i d.virtual_address d.size >>= λ p. Ok (record { offse
 -- the bytes of a directory
 abbrev pub table_of : ImageView → DataDirectory → Result (List ℕ) DirectoryRefusal
 table_of i d = record_of i d.virtual_address d.size >>= λ p. Ok (range i.bytes p d.size)
+
+-- the same, as what a walk through its entries has left at first
+abbrev pub walk_table : ImageView → DataDirectory → Result (Option (List ℕ)) DirectoryRefusal
+walk_table i d = table_of i d >>= λ table. Ok (Some table)

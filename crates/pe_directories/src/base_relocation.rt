@@ -12,8 +12,8 @@ ghost use Rattle.std.specs.Prelude.{◌≡◌, Some};
 ghost use Rattle.std.specs.Iterator.{at_most};
 ghost use Rattle.pe_directories.specs.DirectoryRefusals.{DirectoryReturns};
 ghost use Rattle.pe_directories.specs.Walks.{ReturnsFirst, LeavesFewer, Steps, most_left, rest_of};
-ghost use Rattle.pe_directories.specs.BaseRelocations.{block_view, first_block, blocks_left, first_relocation, relocations_left, page_of, relocation_table};
-ghost use Rattle.pe_directories.specs.ImageParts.{image_view};
+ghost use Rattle.pe_directories.specs.BaseRelocations.{block_view, first_block, blocks_left, first_relocation, relocations_left, page_of};
+ghost use Rattle.pe_directories.specs.ImageParts.{image_view, walk_table};
 
 use crate::error::{DirectoryError, Result};
 use crate::image_bytes::ImageBytes;
@@ -107,7 +107,7 @@ impl<'a> RelocationBlocks<'a> {
     /// The blocks at the RVA of `directory`, in as many bytes as its size says. Errors, in order: `Image` with `Unmapped`;
     /// `Image` with `Short`.
     pub fn parse(image: &ImageBytes<'a>, directory: DataDirectory) -> Result<RelocationBlocks<'a>>
-        ensures { DirectoryReturns blocks_left result (relocation_table (image_view image.now) directory) }
+        ensures { DirectoryReturns blocks_left result (walk_table (image_view image.now) directory) }
     {
         Ok(RelocationBlocks::new(image.table(directory)?))
     }

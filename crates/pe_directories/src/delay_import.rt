@@ -9,10 +9,10 @@
 
 ghost use Rattle.std.specs.Prelude.{◌≡◌, ◌==◌, ◌+◌, ◌%◌, ◌^◌, ◌≤◌, length, IfOk};
 ghost use Rattle.std.specs.Iterator.{at_most};
-ghost use Rattle.pe_directories.specs.DelayImports.{delay_import_at, first_delay_import, delay_import_table, delay_imports_left, offset_in_entry, delay_name, delay_dll, lookup_table, function_view, hint_and_name, imported_by};
+ghost use Rattle.pe_directories.specs.DelayImports.{delay_import_at, first_delay_import, delay_imports_left, offset_in_entry, delay_name, delay_dll, lookup_table, function_view, hint_and_name, imported_by};
 ghost use Rattle.pe_directories.specs.DelayImportSteps.{ordinal_of};
 ghost use Rattle.pe_directories.specs.DirectoryRefusals.{DirectoryReturns};
-ghost use Rattle.pe_directories.specs.ImageParts.{IsMapOf, image_view};
+ghost use Rattle.pe_directories.specs.ImageParts.{IsMapOf, image_view, walk_table};
 ghost use Rattle.pe_directories.specs.VaTables.{vas_left, vas_are_64};
 ghost use Rattle.pe_directories.specs.Walks.{ReturnsFirst, LeavesFewer, Steps, most_left, rest_of};
 
@@ -223,7 +223,7 @@ impl<'a> DelayImports<'a> {
     /// `Image` with `Short`.
     pub fn parse(image: &ImageBytes<'a>, directory: DataDirectory) -> Result<DelayImports<'a>>
         ensures { DirectoryReturns
-            delay_imports_left result (delay_import_table (image_view image.now) directory) }
+            delay_imports_left result (walk_table (image_view image.now) directory) }
     {
         Ok(DelayImports {
             left: Some(image.table(directory)?),

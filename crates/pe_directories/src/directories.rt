@@ -3,11 +3,11 @@
 
 ghost use Rattle.std.specs.Prelude.{◌≡◌, true};
 ghost use Rattle.pe_core.specs.Directories.{kept_rows, present};
-ghost use Rattle.pe_directories.specs.BaseRelocations.{blocks_left, relocation_table};
+ghost use Rattle.pe_directories.specs.BaseRelocations.{blocks_left};
 ghost use Rattle.pe_directories.specs.Chosen.{AreDirectories, FieldIs, of_directory};
 ghost use Rattle.pe_directories.specs.Clr.{clr_header};
-ghost use Rattle.pe_directories.specs.DelayImports.{delay_imports_left, delay_import_table};
-ghost use Rattle.pe_directories.specs.ImageParts.{image_view};
+ghost use Rattle.pe_directories.specs.DelayImports.{delay_imports_left};
+ghost use Rattle.pe_directories.specs.ImageParts.{image_view, walk_table};
 ghost use Rattle.pe_directories.specs.LoadConfig.{load_config};
 ghost use Rattle.pe_directories.specs.Tls.{tls_directory};
 
@@ -98,7 +98,7 @@ fn base_relocations<'a>(
     chosen: ChosenDirectories,
 ) -> Option<Result<RelocationBlocks<'a>>>
     ensures { FieldIs blocks_left result (of_directory chosen.base_relocations
-        (present (kept_rows entries.now) 5) (relocation_table (image_view image.now))) }
+        (present (kept_rows entries.now) 5) (walk_table (image_view image.now))) }
 {
     if !chosen.base_relocations {
         return None;
@@ -146,7 +146,7 @@ fn delay_imports<'a>(
     chosen: ChosenDirectories,
 ) -> Option<Result<DelayImports<'a>>>
     ensures { FieldIs delay_imports_left result (of_directory chosen.delay_imports
-        (present (kept_rows entries.now) 13) (delay_import_table (image_view image.now))) }
+        (present (kept_rows entries.now) 13) (walk_table (image_view image.now))) }
 {
     if !chosen.delay_imports {
         return None;

@@ -1,4 +1,5 @@
 -- What the loops over the codes of an ARM64 record keep.
+use Rattle.pe_core.specs.Refusals.{◌>>=◌}
 use Rattle.std.proofs.Common.{◌≡◌, ℕ, zero, suc, ◌+◌, ◌≤◌, inl, true, false, eqb, List, [], ◌∷◌, length, drop, Option, Some, None, Result, Ok, Err, refl, ap, sym, ◌∙◌, subst, arith}
 use Rattle.std.proofs.lemmas.Bool.{eqb-true}
 use Rattle.std.proofs.lemmas.List.{length-drop, drop-drop, drop_all}
@@ -7,7 +8,6 @@ use Rattle.pe_unwind.specs.declared.arm64.codes.Arm64UnwindCode.TheVariants.{Sav
 use Rattle.pe_frame.specs.declared.arm64.registers.Arm64Registers.{Arm64Registers}
 use Rattle.pe_frame.specs.declared.error.FrameError.{FrameError}
 use Rattle.pe_frame.specs.declared.error.FrameError.TheVariants.{Arm64Code}
-use Rattle.pe_frame.specs.Undoing.{◌>>=◌}
 use Rattle.pe_frame.specs.Arm64Operations.{is_save_next}
 use Rattle.pe_frame.specs.Arm64Undoing.{undone_codes}
 use Rattle.pe_frame.specs.Arm64Steps.{is_end_c, CodesThen, AreOver, HasArm64Codes, prolog_length}

@@ -1,24 +1,21 @@
 -- Undoing codes is reverting the effects of what their instructions did.
-use Rattle.std.proofs.Common.{◌≡◌, ℕ, zero, suc, List, [], ◌∷◌, ◌++◌, drop, Option, Some, None, Result, Ok, Err, refl, ap, sym, ◌∙◌, option_map, option_and_then}
+use Rattle.pe_core.specs.Refusals.{◌>>=◌}
+use Rattle.pe_core.proofs.Steps.{then_then}
+use Rattle.std.proofs.Common.{◌≡◌, ℕ, zero, suc, List, [], ◌∷◌, ◌++◌, drop, Option, Some, None, Result, Ok, refl, ap, sym, ◌∙◌, option_map, option_and_then}
 use Rattle.pe_frame.proofs.Tails.{then_same}
 use Rattle.pe_unwind.specs.declared.arm64.codes.Arm64UnwindCode.{Arm64UnwindCode}
 use Rattle.pe_frame.specs.declared.arm64.operation.Arm64Operation.{Arm64Operation}
 use Rattle.pe_frame.specs.declared.arm64.registers.Arm64Registers.{Arm64Registers}
 use Rattle.pe_frame.specs.declared.error.FrameError.{FrameError}
-use Rattle.pe_frame.specs.Undoing.{◌>>=◌}
 use Rattle.pe_frame.specs.Arm64Operations.{Arm64Effect, effects_of, operation_in, operations, all_effects}
 use Rattle.pe_frame.specs.Arm64Undoing.{reverted, reverted_all, undone_as, undone_codes}
 use Rattle.pe_frame.specs.Arm64Machine.{Arm64Machine, IsArm64Prolog}
-
-pub then_assoc : {A B C : Type 0} (x : Result A FrameError) (f : A → Result B FrameError) (k : B → Result C FrameError) → ((x >>= f) >>= k) ≡ (x >>= λ a. f a >>= k)
-then_assoc (Ok a) f k = refl
-then_assoc (Err e) f k = refl
 
 pub reverted-append : (m : ℕ → Option ℕ) (a b : List Arm64Effect) (g : Arm64Registers) → reverted_all m (a ++ b) g ≡ (reverted_all m a g >>= reverted_all m b)
 reverted-append m [] b g = refl
 reverted-append m (e ∷ a) b g =
     then_same (reverted m e g) (reverted_all m (a ++ b)) (λ u. reverted_all m a u >>= reverted_all m b) (λ u. reverted-append m a b u)
-    ∙ sym (then_assoc (reverted m e g) (reverted_all m a) (reverted_all m b))
+    ∙ sym (then_then (reverted m e g) (reverted_all m a) (reverted_all m b))
 
 -- the operations of the first code and of the others
 pub record KnownCodes (c : Arm64UnwindCode) (cs : List Arm64UnwindCode) (os : List Arm64Operation) : Type 0 where

@@ -1,4 +1,5 @@
 -- Epilogs that have undone the last instructions of a prolog.
+use Rattle.pe_core.specs.Refusals.{◌>>=◌}
 use Rattle.std.proofs.Common.{◌≡◌, ℕ, ◌+◌, ◌-◌, ◌≤◌, List, [], ◌∷◌, ◌++◌, take, drop, Option, Some, Result, Ok, refl, ap, sym, ◌∙◌, subst, append_assoc, arith}
 use Rattle.std.proofs.lemmas.List.{take-append-drop, get_or-set_same}
 use Rattle.pe_unwind.specs.Arm64Record.{Arm64InfoView}
@@ -6,7 +7,6 @@ use Rattle.pe_frame.specs.declared.arm64.operation.Arm64Operation.{Arm64Operatio
 use Rattle.pe_frame.specs.declared.arm64.operation.Arm64Register.TheVariants.{X}
 use Rattle.pe_frame.specs.declared.arm64.registers.Arm64Registers.{Arm64Registers}
 use Rattle.pe_frame.specs.declared.error.FrameError.{FrameError}
-use Rattle.pe_frame.specs.Undoing.{◌>>=◌}
 use Rattle.pe_frame.specs.Arm64Operations.{Arm64Effect, Lower, Store, PointFrame, SignLink, effects_of, all_effects}
 use Rattle.pe_frame.specs.Arm64Undoing.{frame_pointer, link_register, put_pc, put_saved, put_sp, stripped, reverted, reverted_all, undone_codes, returned_arm64}
 use Rattle.pe_frame.specs.Arm64Steps.{prolog_length, Leaves, StepsArm64}

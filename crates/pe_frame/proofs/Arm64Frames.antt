@@ -1,11 +1,11 @@
 -- Frames of a running ARM64 program are undone.
+use Rattle.pe_core.specs.Refusals.{◌>>=◌}
 use Rattle.std.proofs.Common.{◌≡◌, ℕ, ◌-◌, ◌≤◌, true, leb, List, drop, Option, Result, Ok, refl, ap, sym, ◌∙◌, arith}
 use Rattle.std.proofs.lemmas.Bool.Decides.{nat_tests}
 use Rattle.pe_unwind.specs.declared.arm64.codes.Arm64UnwindCode.{Arm64UnwindCode}
 use Rattle.pe_unwind.specs.Arm64Record.{Arm64InfoView}
 use Rattle.pe_frame.specs.declared.arm64.registers.Arm64Registers.{Arm64Registers}
 use Rattle.pe_frame.specs.declared.error.FrameError.{FrameError}
-use Rattle.pe_frame.specs.Undoing.{◌>>=◌}
 use Rattle.pe_frame.specs.Arm64Undoing.{link_register, put_pc, undone_codes, returned_arm64, caller_by}
 use Rattle.pe_frame.specs.Arm64Steps.{prolog_length, ran_arm64, Leaves, StepsArm64}
 use Rattle.pe_frame.specs.Arm64Packed.{packed_left, is_canonical, stepped_packed}

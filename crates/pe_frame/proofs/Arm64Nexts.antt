@@ -1,25 +1,22 @@
 -- `save_next`, so many in a row before another code.
-use Rattle.std.proofs.Common.{◌≡◌, ℕ, zero, suc, ◌+◌, true, false, List, [], ◌∷◌, Option, None, Result, Ok, Err, refl, ap, sym, ◌∙◌, arith, option_and_then}
+use Rattle.pe_core.specs.Refusals.{◌>>=◌}
+use Rattle.pe_core.proofs.Steps.{then_then}
+use Rattle.std.proofs.Common.{◌≡◌, ℕ, zero, suc, ◌+◌, true, false, List, [], ◌∷◌, Option, None, Result, Err, refl, ap, sym, ◌∙◌, arith, option_and_then}
 use Rattle.std.proofs.lemmas.Grind.{common_steps}
-use Rattle.pe_frame.proofs.Tails.{then_same}
+use Rattle.pe_frame.proofs.Tails.{then_same, then_ok}
 use Rattle.pe_unwind.specs.declared.arm64.codes.Arm64UnwindCode.{Arm64UnwindCode}
 use Rattle.pe_unwind.specs.declared.arm64.codes.Arm64UnwindCode.TheVariants.{SaveNext}
 use Rattle.pe_frame.specs.declared.arm64.operation.Arm64Operation.{Arm64Operation}
 use Rattle.pe_frame.specs.declared.arm64.registers.Arm64Registers.{Arm64Registers}
 use Rattle.pe_frame.specs.declared.error.FrameError.{FrameError}
 use Rattle.pe_frame.specs.declared.error.FrameError.TheVariants.{Arm64Code}
-use Rattle.pe_frame.specs.Undoing.{◌>>=◌}
 use Rattle.pe_frame.specs.Arm64Operations.{is_save_next, operation_of, operation_in, next_operation, pair_after}
 use Rattle.pe_frame.specs.Arm64Undoing.{undone_as, undone_codes}
 use Rattle.pe_frame.specs.Arm64Reading.{with_nexts}
-use Rattle.pe_frame.proofs.Arm64Effects.{then_assoc}
+
 
 pub is_the_next : (c : Arm64UnwindCode) → is_save_next c ≡ true → c ≡ SaveNext
 is_the_next c e = grind (arith, common_steps)
-
-then_ok : {A : Type 0} (x : Result A FrameError) → (x >>= λ a. Ok a) ≡ x
-then_ok (Ok a) = refl
-then_ok (Err e) = refl
 
 -- one more stands before them
 pub nexts_more : (n k : ℕ) (cs : List Arm64UnwindCode) → k ≡ n + 1 → with_nexts n (SaveNext ∷ cs) ≡ with_nexts k cs
@@ -67,7 +64,7 @@ nexts_then m (suc n) c cs g not =
     let first : Result Arm64Registers FrameError = undone_as m SaveNext (option_and_then (pair_after (1 + n)) (operation_of c)) g in
     ap (λ (x : Option Arm64Operation). undone_as m SaveNext x g >>= undone_codes m (with_nexts n (c ∷ cs))) (next_operation-nexts 1 n c cs not)
     ∙ (then_same first (undone_codes m (with_nexts n (c ∷ cs))) (λ u. undone_codes m (with_nexts n (c ∷ [])) u >>= undone_codes m cs) (λ u. nexts_then m n c cs u not)
-    ∙ (sym (then_assoc first (undone_codes m (with_nexts n (c ∷ []))) (undone_codes m cs))
+    ∙ (sym (then_then first (undone_codes m (with_nexts n (c ∷ []))) (undone_codes m cs))
     ∙ ap (λ (x : Option Arm64Operation). (undone_as m SaveNext x g >>= undone_codes m (with_nexts n (c ∷ []))) >>= undone_codes m cs) (sym (next_operation-nexts 1 n c [] not))))
 
 none_next : (a n : ℕ) → next_operation a (with_nexts n []) ≡ None

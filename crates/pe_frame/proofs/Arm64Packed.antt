@@ -3,6 +3,7 @@ use Rattle.std.proofs.Common.{◌≡◌, ℕ, zero, suc, ◌+◌, ◌-◌, ◌*�
 use Rattle.std.proofs.lemmas.Bool.Decides.{nat_tests}
 use Rattle.std.proofs.lemmas.List.{take_all, take_rest}
 use Rattle.std.proofs.lemmas.List.Elements.{All-nil, All-cons, All-append, All-head, All-tail, All-same, All-take, All-drop}
+use Rattle.std.proofs.lemmas.Bool.{or_right}
 use Rattle.pe_core.proofs.Equality.{both}
 use Rattle.pe_unwind.specs.declared.arm64.codes.Arm64UnwindCode.{Arm64UnwindCode}
 use Rattle.pe_unwind.specs.declared.arm64.codes.Arm64UnwindCode.TheVariants.{AllocSmall, SaveFpLr, SaveFpLrPreindexed, AllocMedium, SaveRegPair, SaveRegPairPreindexed, SaveReg, SaveRegPreindexed, SaveLrPair, SaveFRegPair, SaveFRegPairPreindexed, SaveFReg, SetFp, Nop, EndC, PacSignLr}
@@ -282,10 +283,6 @@ not_true false e = refl
 pub not_false : (b : Bool) → false ≡ not b → b ≡ true
 not_false true e = refl
 not_false false e = cc
-
-or_right : (a b : Bool) → b ≡ true → (a || b) ≡ true
-or_right true b e = refl
-or_right false b e = e
 
 or_none : (a b : Bool) → a ≡ false → b ≡ false → (a || b) ≡ false
 or_none true b h k = h

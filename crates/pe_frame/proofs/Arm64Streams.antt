@@ -4,7 +4,7 @@ use Rattle.std.proofs.lemmas.Grind.{common_steps}
 use Rattle.std.proofs.lemmas.List.{length-drop, nil_from_length}
 use Rattle.std.proofs.lemmas.List.Elements.{All-drop}
 use Rattle.pe_unwind.proofs.Arm64Streams.{starts_some}
-use Rattle.pe_core.specs.Refusals.{Arm64Cut}
+use Rattle.pe_core.specs.Refusals.{Arm64Cut, ◌>>=◌}
 use Rattle.pe_core.specs.declared.error.Error.TheVariants.{Malformed}
 use Rattle.pe_core.specs.declared.error.Reason.TheVariants as reasons
 use Rattle.pe_unwind.specs.declared.arm64.codes.Arm64UnwindCode.{Arm64UnwindCode}
@@ -18,7 +18,6 @@ use Rattle.pe_frame.specs.declared.arm64.epilog.Arm64Epilog.{Arm64Epilog}
 use Rattle.pe_frame.specs.declared.arm64.registers.Arm64Registers.{Arm64Registers}
 use Rattle.pe_frame.specs.declared.error.FrameError.{FrameError}
 use Rattle.pe_frame.specs.declared.error.FrameError.TheVariants.{Codes, Memory, Address, Operation, Arm64Code, Packed, NotRising}
-use Rattle.pe_frame.specs.Undoing.{◌>>=◌}
 use Rattle.pe_frame.specs.Steps.{Then, OfCodes, error_kind, by_kind}
 use Rattle.pe_frame.specs.Arm64Undoing.{undone_codes, returned_arm64}
 use Rattle.pe_frame.specs.Arm64Steps.{is_end, CodesThen, AreOver, AreTruncated, IsOfTruncated, HasArm64Codes, prolog_length, ran_arm64, epilog_start, left_in_epilog, epilog_after, LeavesIn, Leaves, StepsArm64}

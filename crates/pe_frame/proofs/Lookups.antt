@@ -30,11 +30,6 @@ passes : {X : Type 0} (p : X → Bool) (y x : X) (t : Bool) (rest : Option X) �
 passes {X} p y x true rest h more e = let same : y ≡ x = cc e in subst (λ (z : X). p z ≡ true) same h
 passes p y x false rest h more e = more e
 
--- what is found passes
-pub found_passes : {X : Type 0} (p : X → Bool) (xs : List X) (x : X) → find p xs ≡ Some x → p x ≡ true
-found_passes p [] x e = absurd (cc e)
-found_passes p (y ∷ ys) x e = passes p y x (p y) (find p ys) refl (found_passes p ys x) e
-
 all_by : {X : Type 0} (q : X → Bool) (y x : X) (t : Bool) (rest : Option X) → q y ≡ true → (rest ≡ Some x → q x ≡ true) → cond t (Some y) rest ≡ Some x → q x ≡ true
 all_by {X} q y x true rest h more e = let same : y ≡ x = cc e in subst (λ (z : X). q z ≡ true) same h
 all_by q y x false rest h more e = more e

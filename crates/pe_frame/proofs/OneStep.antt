@@ -1,6 +1,6 @@
 -- There is one step, up to the numbers in a refusal of codes.
 use Rattle.std.proofs.Common.{◌≡◌, ℕ, Bool, false, ◌||◌, List, [], ◌∷◌, map, Option, Some, None, Result, Ok, Err, refl, ap, sym, ◌∙◌, subst}
-use Rattle.pe_core.specs.Refusals.{Refusal, kind_of, answer_of}
+use Rattle.pe_core.specs.Refusals.{Refusal, kind_of, answer_of, ◌>>=◌}
 use Rattle.pe_core.specs.declared.error.Error.{Error}
 use Rattle.pe_unwind.specs.declared.unwind_code.UnwindCode.{UnwindCode}
 use Rattle.pe_unwind.specs.UnwindRecord.{UnwindInfoView, code_stream}
@@ -8,7 +8,7 @@ use Rattle.pe_unwind.proofs.Streams.{one_reading, some_items}
 use Rattle.pe_frame.specs.declared.epilog.Instruction.{Instruction}
 use Rattle.pe_frame.specs.declared.error.FrameError.{FrameError}
 use Rattle.pe_frame.specs.declared.registers.Registers.{Registers}
-use Rattle.pe_frame.specs.Undoing.{◌>>=◌, entered, pointer}
+use Rattle.pe_frame.specs.Undoing.{entered, pointer}
 use Rattle.pe_frame.specs.Steps.{known_codes, HasCodes, frame_of, limit_of, Enters, Then, Undoes, returned, rising, Steps, OfCodes, error_kind, by_kind}
 use Rattle.pe_frame.specs.Epilogs.{executed_all, StepsFrom}
 

@@ -1,4 +1,5 @@
 -- A record undone, by what its codes say at once.
+use Rattle.pe_core.specs.Refusals.{◌>>=◌}
 use Rattle.std.proofs.Common.{◌≡◌, ℕ, Bool, ◌||◌, List, [], ◌∷◌, map, Option, None, Result, Ok, Err, refl, ap, sym, ◌∙◌, subst}
 use Rattle.pe_core.specs.declared.error.Error.{Error}
 use Rattle.pe_unwind.specs.declared.unwind_code.UnwindCode.{UnwindCode}
@@ -7,7 +8,7 @@ use Rattle.pe_unwind.specs.UnwindRecord.{UnwindInfoView, code_stream}
 use Rattle.pe_frame.specs.declared.error.FrameError.{FrameError}
 use Rattle.pe_frame.specs.declared.record.Survey.{Survey}
 use Rattle.pe_frame.specs.declared.registers.Registers.{Registers}
-use Rattle.pe_frame.specs.Undoing.{◌>>=◌, ran, undone_all, base_of, entered}
+use Rattle.pe_frame.specs.Undoing.{ran, undone_all, base_of, entered}
 use Rattle.pe_frame.specs.Steps.{known_codes, frame_of, Enters, Undoes}
 use Rattle.pe_frame.specs.Survey.{surveyed, Surveys}
 

@@ -1,4 +1,5 @@
 -- What is left of an epilog leads to the caller.
+use Rattle.pe_core.specs.Refusals.{◌>>=◌}
 use Rattle.std.specs.Prelude.{if◌then◌else◌, IsSome}
 use Rattle.std.proofs.Common.{◌≡◌, ◌≢◌, ℕ, ◌+◌, ◌-◌, ◌%◌, ◌/◌, ◌^◌, ◌<◌, ◌≤◌, ◌⊎◌, ◌||◌, inl, inr, Bool, true, false, ltb, eqb, List, [], ◌∷◌, ◌++◌, length, get_or, set, Option, Some, None, Result, Ok, Err, refl, ap, sym, ◌∙◌, subst, arith}
 use Rattle.std.specs.List.{AllByRecursion}
@@ -13,7 +14,7 @@ use Rattle.pe_frame.specs.declared.epilog.Instruction.TheVariants.{Add, Lea, Pop
 use Rattle.pe_frame.specs.declared.error.FrameError.{FrameError}
 use Rattle.pe_frame.specs.declared.error.FrameError.TheVariants.{Address, Operation, NotRising}
 use Rattle.pe_frame.specs.declared.registers.Registers.{Registers}
-use Rattle.pe_frame.specs.Undoing.{◌>>=◌, Frame, offset_number, pointer, put_register, put_xmm, put_rip, number, above, require_integer, raised, undone, undone_all, popped, is_framed, is_interrupted, ran}
+use Rattle.pe_frame.specs.Undoing.{Frame, offset_number, pointer, put_register, put_xmm, put_rip, number, above, require_integer, raised, undone, undone_all, popped, is_framed, is_interrupted, ran}
 use Rattle.pe_unwind.specs.UnwindRecord.{UnwindInfoView}
 use Rattle.pe_frame.specs.Steps.{frame_of, rising}
 use Rattle.pe_frame.specs.Machine.{Machine, top, base, run, IsProlog, PushesLate, KeepsFrame, saves, saves_xmm, chosen}

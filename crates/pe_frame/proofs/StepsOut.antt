@@ -1,9 +1,10 @@
 -- A step's registers are those of what it returns with its cause.
+use Rattle.pe_core.specs.Refusals.{◌>>=◌}
 use Rattle.std.proofs.Common.{◌≡◌, ℕ, ◌-◌, Bool, false, List, Option, Some, None, Result, Ok, Err, refl, ap, ◌∙◌}
 use Rattle.pe_unwind.specs.UnwindRecord.{UnwindInfoView}
 use Rattle.pe_frame.specs.Epilogs.{StepsFrom, StepsOutFrom, StepsWithCode, StepsOutWithCode, epilog_at}
 use Rattle.pe_frame.specs.Steps.{Steps, StepsOut, registers_alone, returned, returned_out}
-use Rattle.pe_frame.specs.Undoing.{◌>>=◌, pointer}
+use Rattle.pe_frame.specs.Undoing.{pointer}
 use Rattle.pe_frame.specs.declared.epilog.Instruction.{Instruction}
 use Rattle.pe_frame.specs.declared.error.FrameError.{FrameError}
 use Rattle.pe_frame.specs.declared.registers.Registers.{Registers}

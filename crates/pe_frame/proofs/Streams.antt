@@ -1,7 +1,9 @@
 -- The items of a stream, one after the other.
+use Rattle.pe_core.specs.Refusals.{◌>>=◌}
 use Rattle.std.specs.Prelude.{if◌then◌else◌}
 use Rattle.std.proofs.Common.{◌≡◌, ℕ, Bool, true, false, ◌||◌, List, [], ◌∷◌, length, map, drop, Option, Some, None, Result, Ok, Err, refl, ap, sym, ◌∙◌, subst, arith}
 use Rattle.pe_core.specs.declared.error.Error.{Error}
+use Rattle.pe_core.proofs.Comparisons.{or_false}
 use Rattle.pe_unwind.specs.declared.unwind_code.UnwindCode.{UnwindCode}
 use Rattle.pe_unwind.specs.declared.unwind_code.UnwindOperation.{UnwindOperation}
 use Rattle.pe_unwind.specs.CodeStream.{CodeStream, AreItems, ReturnsCode, with_left}
@@ -9,7 +11,7 @@ use Rattle.pe_unwind.proofs.Streams.{one_code, starts_some}
 use Rattle.pe_frame.specs.declared.error.FrameError.{FrameError}
 use Rattle.pe_frame.specs.declared.record.Survey.{Survey}
 use Rattle.pe_frame.specs.declared.registers.Registers.{Registers}
-use Rattle.pe_frame.specs.Undoing.{◌>>=◌, has_run, ran, undone, undone_all, sets_frame, interrupts, is_framed, is_interrupted}
+use Rattle.pe_frame.specs.Undoing.{has_run, ran, undone, undone_all, sets_frame, interrupts, is_framed, is_interrupted}
 use Rattle.pe_frame.specs.Steps.{known_codes}
 use Rattle.pe_frame.specs.Survey.{surveyed, joined_surveys, noted, undone_code}
 
@@ -23,20 +25,16 @@ refusal_alone s t e h = (h.0, h.1, h.2, refl)
 pub none_left : (s t : CodeStream) → ReturnsCode s None t → AreItems s []
 none_left s t h = h.0
 
-or_none : (a : Bool) → (a || false) ≡ a
-or_none true = refl
-or_none false = refl
-
 or_three : (a b c : Bool) → (a || (b || c)) ≡ ((a || b) || c)
 or_three true b c = refl
 or_three false b c = refl
 
 framed_before : (b : Bool) (o : UnwindOperation) (os : List UnwindOperation) → is_framed (if b then o ∷ os else os) ≡ (is_framed (if b then o ∷ [] else []) || is_framed os)
-framed_before true o os = ap (λ (x : Bool). x || is_framed os) (sym (or_none (sets_frame o)))
+framed_before true o os = ap (λ (x : Bool). x || is_framed os) (sym (or_false (sets_frame o)))
 framed_before false o os = refl
 
 interrupted_before : (b : Bool) (o : UnwindOperation) (os : List UnwindOperation) → is_interrupted (if b then o ∷ os else os) ≡ (is_interrupted (if b then o ∷ [] else []) || is_interrupted os)
-interrupted_before true o os = ap (λ (x : Bool). x || is_interrupted os) (sym (or_none (interrupts o)))
+interrupted_before true o os = ap (λ (x : Bool). x || is_interrupted os) (sym (or_false (interrupts o)))
 interrupted_before false o os = refl
 
 same_survey : (a b : Survey) → a.sets_frame ≡ b.sets_frame → a.has_set_frame ≡ b.has_set_frame → a.is_interrupted ≡ b.is_interrupted → a ≡ b
@@ -62,7 +60,7 @@ pub surveyed_code : (limit : Option ℕ) (a : Survey) (c : UnwindCode) (rest : L
 surveyed_code limit a c rest = with_code limit a c (known_codes rest)
 
 pub surveyed_none : (limit : Option ℕ) (a : Survey) → all_surveyed limit a (known_codes []) ≡ Ok a
-surveyed_none limit a = ap Ok (same_survey (joined_surveys a (surveyed limit [])) a (or_none a.sets_frame) (or_none a.has_set_frame) (or_none a.is_interrupted))
+surveyed_none limit a = ap Ok (same_survey (joined_surveys a (surveyed limit [])) a (or_false a.sets_frame) (or_false a.has_set_frame) (or_false a.is_interrupted))
 
 -- the codes of a stream, of which none is refused
 abbrev pub AreCodes : CodeStream → List UnwindCode → Type 0

@@ -1,10 +1,11 @@
 -- Pops at the start of code, one after the other.
+use Rattle.pe_core.specs.Refusals.{◌>>=◌}
+use Rattle.pe_core.proofs.Steps.{then_then}
 use Rattle.std.proofs.Common.{◌≡◌, ℕ, zero, suc, List, [], ◌∷◌, ◌++◌, map, drop, Option, Some, None, Result, Ok, Err, refl, sym, ◌∙◌}
 use Rattle.pe_frame.specs.declared.epilog.Instruction.{Instruction}
 use Rattle.pe_frame.specs.declared.epilog.Instruction.TheVariants.{Pop}
 use Rattle.pe_frame.specs.declared.error.FrameError.{FrameError}
 use Rattle.pe_frame.specs.declared.registers.Registers.{Registers}
-use Rattle.pe_frame.specs.Undoing.{◌>>=◌}
 use Rattle.pe_frame.specs.Epilogs.{pop_form, popped_first, after_pops, executed, executed_all}
 use Rattle.pe_frame.specs.Tails.{alone}
 
@@ -46,10 +47,6 @@ pops_all m k code g e = rw e refl
 pub then_same : {A B : Type 0} (x : Result A FrameError) (f h : A → Result B FrameError) → ((v : A) → f v ≡ h v) → (x >>= f) ≡ (x >>= h)
 then_same (Ok v) f h same = same v
 then_same (Err e) f h same = refl
-
-pub then_then : {A B C : Type 0} (x : Result A FrameError) (f : A → Result B FrameError) (h : B → Result C FrameError) → ((x >>= f) >>= h) ≡ (x >>= λ v. f v >>= h)
-then_then (Ok v) f h = refl
-then_then (Err e) f h = refl
 
 pub then_ok : {A : Type 0} (x : Result A FrameError) → (x >>= λ v. Ok v) ≡ x
 then_ok (Ok v) = refl

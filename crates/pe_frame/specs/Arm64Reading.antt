@@ -1,4 +1,5 @@
 -- The first code of a stream, and the rest of a stream while it is undone. Contracts of private functions alone cite it.
+use Rattle.pe_core.specs.Refusals.{◌>>=◌}
 use Rattle.std.specs.Prelude.{◌≡◌, ℕ, ◌*◌, ◌<◌, ◌≤◌, false, if◌then◌else◌, List, ◌++◌, length, replicate, Option, Some, None, Result, Ok, Err}
 use Rattle.pe_unwind.specs.declared.arm64.codes.Arm64UnwindCode.{Arm64UnwindCode}
 use Rattle.pe_unwind.specs.declared.arm64.codes.Arm64UnwindCode.TheVariants.{SaveNext}
@@ -7,7 +8,6 @@ use Rattle.pe_frame.specs.declared.arm64.operation.Arm64Register.{Arm64Register}
 use Rattle.pe_unwind.specs.Arm64Record.{Arm64InfoView}
 use Rattle.pe_frame.specs.declared.arm64.epilog.Arm64Epilog.{Arm64Epilog}
 use Rattle.pe_frame.specs.declared.arm64.registers.Arm64Registers.{Arm64Registers}
-use Rattle.pe_frame.specs.Undoing.{◌>>=◌}
 use Rattle.pe_frame.specs.Arm64Undoing.{undone_codes, returned_arm64}
 use Rattle.pe_frame.specs.declared.error.FrameError.{FrameError}
 use Rattle.pe_frame.specs.Arm64Operations.{is_register, register_after}

@@ -1,4 +1,5 @@
 -- What undoing ARM64 unwind codes returns. (ARM64 exception handling: unwinding.)
+use Rattle.pe_core.specs.Refusals.{◌>>=◌}
 use Rattle.std.specs.Prelude.{ℕ, ◌+◌, ◌-◌, ◌/◌, ◌%◌, ◌^◌, ◌==◌, nat_le, if◌then◌else◌, List, [], ◌∷◌, slice_index, slice_set, Option, Some, None, Result, Ok, Err}
 use Rattle.pe_unwind.specs.declared.arm64.codes.Arm64UnwindCode.{Arm64UnwindCode}
 use Rattle.pe_frame.specs.declared.arm64.operation.Arm64Operation.{Arm64Operation}
@@ -7,7 +8,7 @@ use Rattle.pe_frame.specs.declared.arm64.operation.Arm64Register.TheVariants.{X,
 use Rattle.pe_frame.specs.declared.arm64.registers.Arm64Registers.{Arm64Registers}
 use Rattle.pe_frame.specs.declared.error.FrameError.{FrameError}
 use Rattle.pe_frame.specs.declared.error.FrameError.TheVariants.{Arm64Code, NotRising}
-use Rattle.pe_frame.specs.Undoing.{◌>>=◌, number, above, below_register}
+use Rattle.pe_frame.specs.Undoing.{number, above, below_register}
 use Rattle.pe_frame.specs.Arm64Operations.{Arm64Effect, Lower, Store, PointFrame, SignLink, effects_of, operation_in}
 
 -- x29 and the link register x30

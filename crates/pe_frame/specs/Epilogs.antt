@@ -4,6 +4,7 @@ use Rattle.std.specs.Prelude.{◌≡◌, ℕ, zero, suc, ◌+◌, ◌-◌, ◌/�
 use Rattle.std.specs.List.{starts_with}
 use Rattle.std.specs.Option.{option_and_then, option_map_or}
 use Rattle.pe_core.specs.Bytes.{le, holds}
+use Rattle.pe_core.specs.Refusals.{◌>>=◌}
 use Rattle.pe_unwind.specs.UnwindCodes.{integer}
 use Rattle.pe_unwind.specs.declared.unwind_code.UnwindOperation.TheVariants.{PushNonVolatile}
 use Rattle.pe_unwind.specs.UnwindRecord.{UnwindInfoView}
@@ -11,7 +12,7 @@ use Rattle.pe_frame.specs.declared.epilog.Instruction.{Instruction}
 use Rattle.pe_frame.specs.declared.epilog.Instruction.TheVariants.{Add, Lea, Pop, Return, Jump, JumpByMemory}
 use Rattle.pe_frame.specs.declared.error.FrameError.{FrameError}
 use Rattle.pe_frame.specs.declared.registers.Registers.{Registers}
-use Rattle.pe_frame.specs.Undoing.{◌>>=◌, pointer, put_register, raised, undone, popped, dropped}
+use Rattle.pe_frame.specs.Undoing.{pointer, put_register, raised, undone, popped, dropped}
 use Rattle.pe_frame.specs.Steps.{Steps, StepsOut, limit_of, rising}
 
 -- a number of so many bits in two's complement, as one of 64 bits

@@ -1,6 +1,6 @@
 -- A step of a stack walk: the records of a function undone, and then the pop of the return address.
 use Rattle.std.specs.Prelude.{◌≡◌, ℕ, ◌||◌, nat_le, nat_lt, Bool, false, if◌then◌else◌, List, [], ◌∷◌, Option, Some, None, Result, Ok, Err}
-use Rattle.pe_core.specs.Refusals.{Refusal, kind_of}
+use Rattle.pe_core.specs.Refusals.{Refusal, kind_of, ◌>>=◌}
 use Rattle.pe_core.specs.declared.error.Error.{Error}
 use Rattle.pe_unwind.specs.declared.unwind_code.UnwindCode.{UnwindCode}
 use Rattle.pe_unwind.specs.CodeStream.{AreItems}
@@ -8,7 +8,7 @@ use Rattle.pe_unwind.specs.UnwindRecord.{UnwindInfoView, code_stream}
 use Rattle.pe_frame.specs.declared.error.FrameError.{FrameError}
 use Rattle.pe_frame.specs.declared.error.FrameError.TheVariants.{Codes, NotRising}
 use Rattle.pe_frame.specs.declared.registers.Registers.{Registers}
-use Rattle.pe_frame.specs.Undoing.{Frame, ◌>>=◌, entered, popped, pointer}
+use Rattle.pe_frame.specs.Undoing.{Frame, entered, popped, pointer}
 
 -- the codes that items are, or the first that is none
 abbrev pub known_codes : List (Result UnwindCode Error) → Result (List UnwindCode) FrameError

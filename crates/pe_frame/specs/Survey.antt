@@ -1,4 +1,5 @@
 -- What is known of a record's codes before the first of them is undone. Contracts of private functions alone cite it.
+use Rattle.pe_core.specs.Refusals.{◌>>=◌}
 use Rattle.std.specs.Prelude.{◌≡◌, ℕ, ◌||◌, List, [], ◌∷◌, Option, None, Result, Ok, if◌then◌else◌}
 use Rattle.pe_unwind.specs.declared.unwind_code.UnwindCode.{UnwindCode}
 use Rattle.pe_unwind.specs.UnwindRecord.{UnwindInfoView}
@@ -6,7 +7,7 @@ use Rattle.pe_frame.specs.declared.error.FrameError.{FrameError}
 use Rattle.pe_frame.specs.declared.record.Survey.{Survey}
 use Rattle.pe_frame.specs.declared.registers.Registers.{Registers}
 use Rattle.pe_frame.specs.Steps.{HasCodes}
-use Rattle.pe_frame.specs.Undoing.{◌>>=◌, has_run, ran, undone, is_framed, is_interrupted}
+use Rattle.pe_frame.specs.Undoing.{has_run, ran, undone, is_framed, is_interrupted}
 
 abbrev pub surveyed : Option ℕ → List UnwindCode → Survey
 surveyed limit codes = record {

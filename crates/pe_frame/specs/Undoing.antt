@@ -1,5 +1,6 @@
 -- What undoing the operations of a prolog returns. (x64 exception handling: unwind procedure.)
 use Rattle.std.specs.Prelude.{ℕ, ◌+◌, ◌-◌, ◌*◌, ◌^◌, ◌&&◌, ◌||◌, ◌==◌, not, nat_le, nat_lt, Bool, true, false, if◌then◌else◌, List, [], ◌∷◌, slice_index, slice_set, Option, Some, None, Result, Ok, Err}
+use Rattle.pe_core.specs.Refusals.{◌>>=◌}
 use Rattle.pe_unwind.specs.declared.unwind_code.StackFrameOffset.{StackFrameOffset}
 use Rattle.pe_unwind.specs.declared.unwind_code.StackFrameOffset.TheVariants.{RSP, FP}
 use Rattle.pe_unwind.specs.declared.unwind_code.UnwindCode.{UnwindCode}
@@ -8,12 +9,6 @@ use Rattle.pe_unwind.specs.declared.unwind_code.UnwindOperation.TheVariants.{Pus
 use Rattle.pe_frame.specs.declared.error.FrameError.{FrameError}
 use Rattle.pe_frame.specs.declared.error.FrameError.TheVariants.{Memory, Address, Operation}
 use Rattle.pe_frame.specs.declared.registers.Registers.{Registers}
-
--- one step after the other: the first error ends it
-infixl 10 ◌>>=◌
-abbrev pub ◌>>=◌ : {A B : Type 0} → Result A FrameError → (A → Result B FrameError) → Result B FrameError
-(Ok x) >>= f = f x
-(Err e) >>= f = Err e
 
 -- the stack pointer
 abbrev pub pointer : Registers → ℕ

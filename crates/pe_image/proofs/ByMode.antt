@@ -17,7 +17,7 @@ use Rattle.pe_records.specs.Certificates.{ListingStarts, Lists}
 use Rattle.pe_records.specs.declared.certificate_table.AttributeCertificate.{AttributeCertificate}
 use Rattle.pe_image.specs.FieldSteps.{ReturnsResources}
 use Rattle.pe_image.specs.Memory.{MemoryOnlyIf}
-use Rattle.pe_image.proofs.NoMemory.{Lacks, memory_never}
+use Rattle.pe_core.proofs.NoMemory.{Lacks, memory_never}
 
 by_mode : {X Y : Type 0} (view : X → Y) (mode : ParseMode) (parsed : Result X Error) → answer_by view parsed ≢ Err Memory → answer_by (option_map view) (none_if_error mode parsed) ≡ none_if_refused mode (answer_by view parsed)
 by_mode view mode (Ok x) never = refl
@@ -29,7 +29,7 @@ by_mode view Permissive (Err (errors.BadMagic magic)) never = refl
 by_mode view Permissive (Err (errors.Short at needed)) never = refl
 by_mode view mode (Err (errors.Memory e)) never = absurd (never refl)
 
--- where the definition's answer is known, want of memory apart
+-- where what the definition returns is known, allocation failure apart
 pub gives_by_mode : {X Y : Type 0} (view : X → Y) (mode : ParseMode) (parsed : Result X Error) (defined : Result Y Refusal) → ReturnsAs view parsed defined → ReturnsUnlessMemory (option_map view) (none_if_error mode parsed) (none_if_refused mode defined)
 gives_by_mode view mode (Ok x) defined g = rw g refl
 gives_by_mode view Strict (Err (errors.Malformed reason)) defined g = rw g refl
@@ -45,7 +45,7 @@ resources_by_mode opts b sections unit d parsed is never = (Some (answer_by reso
 
 -- ---- memory
 
--- what is no want of memory stays none
+-- what is no allocation failure stays none
 pub never_by_mode : {X Y : Type 0} (view : X → Y) (mode : ParseMode) (parsed : Result X Error) (defined : Result Y Refusal) → ReturnsAs view parsed defined → Lacks defined → MemoryOnlyIf ⊥ (none_if_error mode parsed)
 never_by_mode view mode (Ok x) defined g l = tt
 never_by_mode view Strict (Err (errors.Malformed reason)) defined g l = tt

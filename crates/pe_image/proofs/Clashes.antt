@@ -5,29 +5,18 @@ use Rattle.std.specs.Prelude.{◌||◌, ◌==◌, not, min, max, nat_le, nat_lt}
 use Rattle.std.specs.List.{list_all}
 use Rattle.std.specs.Str.{bytes_eq}
 use Rattle.std.proofs.lemmas.Bool.Decides.{nat_tests}
+use Rattle.std.proofs.lemmas.Bool.{or_right}
 use Rattle.pe_core.proofs.Equality.{and_true}
 use Rattle.pe_core.proofs.FieldEquality.{sections_equal}
 use Rattle.pe_core.specs.Sections.{raw_end, SharesRawByte}
 use Rattle.pe_core.specs.declared.section_table.SectionTable.{SectionTable}
 use Rattle.pe_image.specs.Writing.{clash, clash_free, same_section}
-use Rattle.pe_image.specs.WritingSteps.{falls, is_next, rises}
+use Rattle.pe_image.specs.WritingSteps.{before_by, ends_before, in_order, is_next}
 use Rattle.pe_image.proofs.Rows.{and_assoc, and_left, and_right, rest_at}
-
--- a section is equal to another, or ends in front of it
-abbrev in_front : SectionTable → SectionTable → Bool
-in_front s t = same_section s t || nat_le (raw_end s) t.pointer_to_raw_data
-
-or_left : (a b : Bool) → a ≡ true → (a || b) ≡ true
-or_left true b h = refl
-or_left false b h = absurd cc
 
 or_false : (a b : Bool) → a ≡ false → (a || b) ≡ b
 or_false true b h = absurd cc
 or_false false b h = refl
-
-pub or_right : (a b : Bool) → b ≡ true → (a || b) ≡ true
-or_right true b h = refl
-or_right false b h = h
 
 not_both : (shared same : Bool) → same ≡ true → (shared && not same) ≡ false
 not_both true same h = ap not h
@@ -36,9 +25,12 @@ not_both false same h = refl
 not_shared : (shared same : Bool) → shared ≡ false → (shared && not same) ≡ false
 not_shared shared same h = ap (λ b. b && not same) h
 
--- sections that end where others begin share no byte with them
-ends_before : (s t : SectionTable) → nat_le (raw_end s) t.pointer_to_raw_data ≡ true → nat_lt (max s.pointer_to_raw_data t.pointer_to_raw_data) (min (raw_end s) (raw_end t)) ≡ false
-ends_before s t h = grind (arith, nat_tests)
+-- sections that end where others start share no byte with them, in either order
+ends_first : (s t : SectionTable) → nat_le (raw_end s) t.pointer_to_raw_data ≡ true → nat_lt (max s.pointer_to_raw_data t.pointer_to_raw_data) (min (raw_end s) (raw_end t)) ≡ false
+ends_first s t h = grind (arith, nat_tests)
+
+ends_last : (s t : SectionTable) → nat_le (raw_end t) s.pointer_to_raw_data ≡ true → nat_lt (max s.pointer_to_raw_data t.pointer_to_raw_data) (min (raw_end s) (raw_end t)) ≡ false
+ends_last s t h = grind (arith, nat_tests)
 
 goes_up : (s t u : SectionTable) → nat_le (raw_end s) t.pointer_to_raw_data ≡ true → nat_le (raw_end t) u.pointer_to_raw_data ≡ true → nat_le (raw_end s) u.pointer_to_raw_data ≡ true
 goes_up s t u h k = grind (arith, nat_tests)
@@ -56,81 +48,51 @@ pub by_cases : {P : Type 0} (b : Bool) → (b ≡ true → P) → (b ≡ false �
 by_cases true f g = f refl
 by_cases false f g = g refl
 
-free : (s t : SectionTable) → in_front s t ≡ true → not (clash s t) ≡ true
-free s t h =
-    let shared : Bool = nat_lt (max s.pointer_to_raw_data t.pointer_to_raw_data) (min (raw_end s) (raw_end t)) in
-    by_cases (same_section s t)
-    (λ e. ap not (not_both shared (same_section s t) e))
-    (λ e. ap not (not_shared shared (same_section s t) (ends_before s t (sym (or_false _ (nat_le (raw_end s) t.pointer_to_raw_data) e) ∙ h))))
+-- a section equals another, or ends before it
+equal_or_apart : {P : Type 0} (s t : SectionTable) → ends_before s t ≡ true → (s ≡ t → P) → (nat_le (raw_end s) t.pointer_to_raw_data ≡ true → P) → P
+equal_or_apart s t h f g =
+    by_cases (same_section s t) (λ e. f (same s t e)) (λ e. g (sym (or_false _ (nat_le (raw_end s) t.pointer_to_raw_data) e) ∙ h))
 
-further : (s t u : SectionTable) → in_front s t ≡ true → in_front t u ≡ true → in_front s u ≡ true
-further s t u h k =
-    by_cases (same_section s t)
-    (λ e. let one : s ≡ t = same s t e in rw one k)
-    (λ e. let before : nat_le (raw_end s) t.pointer_to_raw_data ≡ true = sym (or_false _ (nat_le (raw_end s) t.pointer_to_raw_data) e) ∙ h in
-    by_cases (same_section t u)
-    (λ f. let one : t ≡ u = same t u f in rw (← one) h)
-    (λ f. or_right (same_section s u) _ (goes_up s t u before (sym (or_false _ (nat_le (raw_end t) u.pointer_to_raw_data) f) ∙ k))))
+equal_is_free : (s t : SectionTable) → s ≡ t → not (clash s t) ≡ true
+equal_is_free s t e =
+    ap not (not_both (nat_lt (max s.pointer_to_raw_data t.pointer_to_raw_data) (min (raw_end s) (raw_end t))) (same_section s t) (subst (λ (u : SectionTable). same_section s u ≡ true) e (same_itself s)))
+
+apart_is_free : (s t : SectionTable) → nat_lt (max s.pointer_to_raw_data t.pointer_to_raw_data) (min (raw_end s) (raw_end t)) ≡ false → not (clash s t) ≡ true
+apart_is_free s t k = ap not (not_shared (nat_lt (max s.pointer_to_raw_data t.pointer_to_raw_data) (min (raw_end s) (raw_end t))) (same_section s t) k)
+
+free : (falls : Bool) (s t : SectionTable) → before_by falls s t ≡ true → not (clash s t) ≡ true
+free false s t h = equal_or_apart s t h (equal_is_free s t) (λ k. apart_is_free s t (ends_first s t k))
+free true s t h = equal_or_apart t s h (λ e. equal_is_free s t (sym e)) (λ k. apart_is_free s t (ends_last s t k))
+
+before_too : (s t u : SectionTable) → ends_before s t ≡ true → ends_before t u ≡ true → ends_before s u ≡ true
+before_too s t u h k =
+    equal_or_apart s t h
+    (λ e. rw e k)
+    (λ before. equal_or_apart t u k
+    (λ f. rw (← f) h)
+    (λ after. or_right (same_section s u) _ (goes_up s t u before after)))
+
+further : (falls : Bool) (s t u : SectionTable) → before_by falls s t ≡ true → before_by falls t u ≡ true → before_by falls s u ≡ true
+further false s t u h k = before_too s t u h k
+further true s t u h k = before_too u t s k h
 
 all_so : {X : Type 0} (p q : X → Bool) → ((x : X) → p x ≡ true → q x ≡ true) → (xs : List X) → list_all p xs ≡ true → list_all q xs ≡ true
 all_so p q f [] h = refl
 all_so p q f (x ∷ xs) h = and_true (q x) (list_all q xs) (f x (and_left _ _ h)) (all_so p q f xs (and_right _ _ h))
 
-in_front_of_all : (s : SectionTable) (after : List SectionTable) → rises (s ∷ after) ≡ true → list_all (in_front s) after ≡ true
-in_front_of_all s [] h = refl
-in_front_of_all s (t ∷ after) h =
-    let here : in_front s t ≡ true = and_left _ _ h in
-    and_true (in_front s t) (list_all (in_front s) after) here
-    (all_so (in_front t) (in_front s) (λ u e. further s t u here e) after (in_front_of_all t after (and_right _ _ h)))
+before_all : (falls : Bool) (s : SectionTable) (after : List SectionTable) → in_order falls (s ∷ after) ≡ true → list_all (before_by falls s) after ≡ true
+before_all falls s [] h = refl
+before_all falls s (t ∷ after) h =
+    let here : before_by falls s t ≡ true = and_left _ _ h in
+    and_true (before_by falls s t) (list_all (before_by falls s) after) here
+    (all_so (before_by falls t) (before_by falls s) (λ u e. further falls s t u here e) after (before_all falls t after (and_right _ _ h)))
 
-pub rising_is_free : (sections : List SectionTable) → rises sections ≡ true → clash_free sections ≡ true
-rising_is_free [] h = refl
-rising_is_free (s ∷ after) h =
+pub ordered_is_free : (falls : Bool) (sections : List SectionTable) → in_order falls sections ≡ true → clash_free sections ≡ true
+ordered_is_free falls [] h = refl
+ordered_is_free falls (s ∷ after) h =
     and_true (list_all (λ t. not (clash s t)) after) (clash_free after)
-    (all_so (in_front s) (λ t. not (clash s t)) (λ t e. free s t e) after (in_front_of_all s after h))
-    (rising_is_free after (and_right _ _ h))
-
--- ---- the same of sections that fall
-
--- a section is equal to another, or begins behind it
-abbrev in_back : SectionTable → SectionTable → Bool
-in_back s t = same_section s t || nat_le (raw_end t) s.pointer_to_raw_data
-
-starts_after : (s t : SectionTable) → nat_le (raw_end t) s.pointer_to_raw_data ≡ true → nat_lt (max s.pointer_to_raw_data t.pointer_to_raw_data) (min (raw_end s) (raw_end t)) ≡ false
-starts_after s t h = grind (arith, nat_tests)
-
-goes_down : (s t u : SectionTable) → nat_le (raw_end t) s.pointer_to_raw_data ≡ true → nat_le (raw_end u) t.pointer_to_raw_data ≡ true → nat_le (raw_end u) s.pointer_to_raw_data ≡ true
-goes_down s t u h k = grind (arith, nat_tests)
-
-free_after : (s t : SectionTable) → in_back s t ≡ true → not (clash s t) ≡ true
-free_after s t h =
-    let shared : Bool = nat_lt (max s.pointer_to_raw_data t.pointer_to_raw_data) (min (raw_end s) (raw_end t)) in
-    by_cases (same_section s t)
-    (λ e. ap not (not_both shared (same_section s t) e))
-    (λ e. ap not (not_shared shared (same_section s t) (starts_after s t (sym (or_false _ (nat_le (raw_end t) s.pointer_to_raw_data) e) ∙ h))))
-
-further_after : (s t u : SectionTable) → in_back s t ≡ true → in_back t u ≡ true → in_back s u ≡ true
-further_after s t u h k =
-    by_cases (same_section s t)
-    (λ e. let one : s ≡ t = same s t e in rw one k)
-    (λ e. let before : nat_le (raw_end t) s.pointer_to_raw_data ≡ true = sym (or_false _ (nat_le (raw_end t) s.pointer_to_raw_data) e) ∙ h in
-    by_cases (same_section t u)
-    (λ f. let one : t ≡ u = same t u f in rw (← one) h)
-    (λ f. or_right (same_section s u) _ (goes_down s t u before (sym (or_false _ (nat_le (raw_end u) t.pointer_to_raw_data) f) ∙ k))))
-
-in_back_of_all : (s : SectionTable) (after : List SectionTable) → falls (s ∷ after) ≡ true → list_all (in_back s) after ≡ true
-in_back_of_all s [] h = refl
-in_back_of_all s (t ∷ after) h =
-    let here : in_back s t ≡ true = and_left _ _ h in
-    and_true (in_back s t) (list_all (in_back s) after) here
-    (all_so (in_back t) (in_back s) (λ u e. further_after s t u here e) after (in_back_of_all t after (and_right _ _ h)))
-
-pub falling_is_free : (sections : List SectionTable) → falls sections ≡ true → clash_free sections ≡ true
-falling_is_free [] h = refl
-falling_is_free (s ∷ after) h =
-    and_true (list_all (λ t. not (clash s t)) after) (clash_free after)
-    (all_so (in_back s) (λ t. not (clash s t)) (λ t e. free_after s t e) after (in_back_of_all s after h))
-    (falling_is_free after (and_right _ _ h))
+    (all_so (before_by falls s) (λ t. not (clash s t)) (λ t e. free falls s t e) after (before_all falls s after h))
+    (ordered_is_free falls after (and_right _ _ h))
 
 -- ---- sections that are equal to the next one
 
@@ -142,7 +104,7 @@ twice false c = refl
 once_more : (s : SectionTable) (after : List SectionTable) → clash_free (s ∷ s ∷ after) ≡ clash_free (s ∷ after)
 once_more s after =
     let a : Bool = list_all (λ t. not (clash s t)) after in
-    let itself : not (clash s s) ≡ true = free s s (or_left (same_section s s) _ (same_itself s)) in
+    let itself : not (clash s s) ≡ true = equal_is_free s s refl in
     ap (λ b. (b && a) && (a && clash_free after)) itself ∙ twice a (clash_free after)
 
 pub passed_over : (s : SectionTable) (after : List SectionTable) → is_next s after ≡ true → clash_free after ≡ clash_free (s ∷ after)

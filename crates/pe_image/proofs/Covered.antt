@@ -5,6 +5,7 @@ use Rattle.std.specs.Prelude.{◌==◌, Option, min, max, nat_le, nat_lt, slice_
 use Rattle.std.proofs.lemmas.List.{ext_get_or, length-replicate, places}
 use Rattle.std.proofs.lemmas.List.Edits.{length-between}
 use Rattle.std.proofs.lemmas.Bool.Decides.{nat_tests}
+use Rattle.std.proofs.lemmas.Bool.{or_right}
 use Rattle.pe_core.proofs.Equality.{and_true}
 use Rattle.pe_core.specs.Bytes.{holds, range}
 use Rattle.pe_core.specs.Sections.{raw_end}
@@ -14,7 +15,7 @@ use Rattle.pe_image.specs.Overlay.{Piece, all_fit, byte_after, has_byte, piece}
 use Rattle.pe_image.specs.Pieces.{all_section_pieces, lacking, section_pieces}
 use Rattle.pe_image.specs.Writing.{all_in_source}
 use Rattle.pe_image.specs.WritingSteps.{covered, next_range, parts_outside, put_in_turn, section_parts}
-use Rattle.pe_image.proofs.Clashes.{by_cases, or_right}
+use Rattle.pe_image.proofs.Clashes.{by_cases}
 use Rattle.pe_image.proofs.Overlays.{byte_after_cons, get_or-put, length-put}
 use Rattle.pe_image.proofs.Rows.{and_left, and_right, all_fit_append}
 

@@ -17,6 +17,7 @@ use Rattle.pe_records.specs.declared.certificate_table.AttributeCertificate.{Att
 use Rattle.pe_records.specs.CertificateWriting.{padding, spell_certificate, written_length}
 use Rattle.pe_records.proofs.CertificatePieces.{length-spell, length_written}
 use Rattle.pe_core.proofs.Splices.{length-bytes_of}
+use Rattle.pe_core.proofs.Comparisons.{le_is, le_is_not}
 use Rattle.pe_image.specs.Image.{ImageView}
 use Rattle.pe_image.specs.Overlay.{Piece, all_fit, fits, greatest_end, longest, overlay}
 use Rattle.pe_image.specs.Pieces.{all_certificate_pieces, all_section_pieces, certificate_pieces, certificates_end, header_pieces, in_a_row, lacking, row_end, section_pieces}
@@ -52,9 +53,6 @@ impossible m n y z r h e = refused_if (nat_le m longest) (nat_le n longest) y z 
 
 is_le : (n k : ℕ) → nat_le n k ≡ true → n ≤ k
 is_le n k h = grind (arith, nat_tests)
-
-le_is : (n k : ℕ) → n ≤ k → nat_le n k ≡ true
-le_is n k h = grind (arith, nat_tests)
 
 pub within : {Y : Type 0} (n : ℕ) (x y : Y) → possible n x ≡ Ok y → n ≤ longest
 within n x y e = is_le n longest (fits_if (nat_le n longest) x y e)
@@ -226,11 +224,8 @@ whole_too_long b source sections given xs u y z r s g passed e =
 fits_into : (m n : ℕ) (xs : List Piece) → n ≡ greatest_end xs → n ≤ m → true ≡ all_fit m xs
 fits_into m n xs e h = sym (fit_by_end m xs ∙ le_is (greatest_end xs) m (omega (arith, e)))
 
-not_le : (n k : ℕ) → k < n → nat_le n k ≡ false
-not_le n k h = grind (arith, nat_tests)
-
 unfit_into : (m n : ℕ) (xs : List Piece) → n ≡ greatest_end xs → m < n → all_fit m xs ≡ false
-unfit_into m n xs e h = fit_by_end m xs ∙ (not_le (greatest_end xs) m (omega (arith, e)))
+unfit_into m n xs e h = fit_by_end m xs ∙ (le_is_not (greatest_end xs) m (omega (arith, e)))
 
 enough : {Z : Type 0} (tests : List (Bool × Refusal)) (xs : List Piece) (m n : ℕ) (z : Z) → outcome (tests ++ (all_fit longest xs, WriteFit) ∷ []) (greatest_end xs) ≡ Ok n → n ≤ m → outcome (tests ++ (all_fit m xs, WriteFit) ∷ []) z ≡ Ok z
 enough [] xs m n z e h = accepted_if (all_fit m xs) z z (fits_into m n xs (value_if (all_fit longest xs) (greatest_end xs) n e) h) refl

@@ -24,7 +24,7 @@ whole : (b : List ℕ) (o : ParseOptions) (c : CoreView) (x : ImageView) (f : Fi
 unfolding with_fields
 whole b o c x f core d a resources = rw (sym a.debug, sym a.exceptions, sym a.relocations, sym a.certificates, sym resources, sym d.name, sym d.library, sym d.pe32_plus, sym d.entry, sym d.base, sym d.size, sym core) refl
 
--- ---- behind a core
+-- ---- after a core
 
 from_answer : (b : List ℕ) (o : ParseOptions) (c : CoreView) (f : Field ResourceView) (r : Result ImageView Refusal) → AreResourcesOf b o c f → r ≡ Ok (with_fields b o c f) → IsPermissive b o (Ok c) r
 from_answer b o c f (Err e) are given = absurd cc

@@ -1,4 +1,4 @@
--- What calls on an image give: lookup in its exception data, and its writers.
+-- What calls on an image return: lookup in its exception data, and its writers.
 use Rattle.std.proofs.Common.{◌≡◌, ℕ, ◌+◌, ◌*◌, Bool, List, [], ◌∷◌, length, Option, None, Some, Result, Ok, Err, sym, ap, ◌∙◌, subst}
 use Rattle.pe_core.specs.Bytes.{range}
 use Rattle.pe_core.specs.Header.{OptionalHeaderView}

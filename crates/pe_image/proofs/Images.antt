@@ -20,6 +20,7 @@ use Rattle.pe_image.specs.Image.{ImageView, FirstFieldsView, first_fields, image
 use Rattle.pe_image.specs.ImageSteps.{unless_refused, ReturnsAfterCore}
 use Rattle.pe_image.specs.declared.pe.PE.{PE}
 use Rattle.pe_core.proofs.ImportLists.{unless_memory}
+use Rattle.pe_core.proofs.Steps.{then_then}
 use Rattle.pe_image.proofs.SectionsFirst.{sections_of_core}
 use Rattle.pe_image.proofs.Steps.{refused_test, passed_test, still_passes, unless_more, if_memory}
 
@@ -42,14 +43,10 @@ kept_list Permissive None k = refl
 kept_list Permissive (Some (Ok x)) k = refl
 kept_list Permissive (Some (Err e)) k = refl
 
-joined : {X Y Z : Type 0} (a : Result X Refusal) (f : X → Result Y Refusal) (g : Y → Result Z Refusal) → ((a >>= f) >>= g) ≡ (a >>= λ x. f x >>= g)
-joined (Ok x) f g = refl
-joined (Err e) f g = refl
-
--- the fields in front of the resources, read in turn, are these fields, unless one is demanded and refused
+-- the fields before the resources, read in turn, are these fields, unless one is demanded and refused
 in_turn : (b : List ℕ) (opts : ParseOptions) (c : CoreView) → first_fields_in_turn b opts c ≡ (first_fields_demanded b opts c >>= λ u. Ok (first_fields b opts c))
 unfolding first_fields_in_turn
-in_turn b opts c = simp (kept, kept_list, joined)
+in_turn b opts c = simp (kept, kept_list, then_then)
 
 -- ---- what is refused, and what is not
 

@@ -31,7 +31,7 @@ laid_next {b} {old} {now} {x} {p} {n} y m l k e =
     let f : now ≡ splice (splice b p x) (p + n) y = rw (← l.same) e in
     record { inside = l.inside; count = omega (arith, length-append x y, l.count, k); same = f ∙ (rw c at j) }
 
--- a number of w bytes is written at the place, or behind what is written there
+-- a number of w bytes is written at the offset, or after what is written there
 pub number_first : {b now : List ℕ} {p : ℕ} (w v : ℕ) → p ≤ length b → now ≡ splice b p (bytes_of w v) → Laid b p w now (bytes_of w v)
 number_first w v h e = laid_first (bytes_of w v) w h (length-bytes_of w v) e
 
@@ -49,7 +49,7 @@ unfolding spell_coff
 length_coff c = simp (length-append, length-bytes_of) refl
 
 pub length_standard32 : (s : StandardFields) → length (spell_standard_fields_32 s) ≡ 28
-unfolding spell_standard_fields_32
+unfolding spell_standard_fields_32 spell_standard_fields_64
 length_standard32 s = simp (length-append, length-bytes_of) refl
 
 pub length_standard64 : (s : StandardFields) → length (spell_standard_fields_64 s) ≡ 24

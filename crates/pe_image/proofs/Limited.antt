@@ -16,24 +16,19 @@ use Rattle.pe_image.specs.Limits.{IsImageWithin, ReturnsImageWithin, entry_count
 use Rattle.pe_image.specs.LimitSteps.{imported_of, unless_above}
 use Rattle.pe_image.specs.declared.pe.PE.{PE}
 use Rattle.pe_core.proofs.ImportLists.{unless_memory}
+use Rattle.pe_core.proofs.Comparisons.{lt_is, lt_is_not}
 use Rattle.pe_image.proofs.Images.{core_refused}
 use Rattle.pe_image.proofs.NoMemory.{header_owes_nothing}
 use Rattle.pe_image.proofs.Steps.{unless_more}
-
-yes : (m n : ℕ) → m < n → nat_lt m n ≡ true
-yes m n h = grind (arith, nat_tests)
-
-no : (m n : ℕ) → n ≤ m → nat_lt m n ≡ false
-no m n h = grind (arith, nat_tests)
 
 -- ---- the test
 
 -- a number up to the greatest usize is above a limit of 32 bits exactly if the number itself is
 pub is_above : (most n count : ℕ) → count ≡ min n (2 ^ 64 - 1) → most < count → nat_lt most n ≡ true
-is_above most n count is h = yes most n (omega (arith, is, h))
+is_above most n count is h = lt_is most n (omega (arith, is, h))
 
 pub not_above : (most n count : ℕ) → most < 2 ^ 32 → count ≡ min n (2 ^ 64 - 1) → count ≤ most → nat_lt most n ≡ false
-not_above most n count small is h = no most n (omega (arith, small, is, h))
+not_above most n count small is h = lt_is_not most n (omega (arith, small, is, h))
 
 pub ruleset above_greatest = (is_above, not_above)
 
@@ -41,7 +36,7 @@ pub ruleset above_greatest = (is_above, not_above)
 
 none_above : {X : Type 0} (most : Option ℕ) (r : Result X Refusal) → unless_above most 0 r ≡ r
 none_above None r = refl
-none_above (Some most) r = ap (λ (t : Bool). if t then Err ImportsLimit else r) (no most 0 (omega arith))
+none_above (Some most) r = ap (λ (t : Bool). if t then Err ImportsLimit else r) (lt_is_not most 0 (omega arith))
 
 -- a limit is tested first, before what it limits is read
 pub tested_first : {X : Type 0} (most : Option ℕ) (n : ℕ) (r : Result X Refusal) → unless_above most n r ≡ (unless_above most n (Ok (tt {0})) >>= λ u. r)
@@ -116,8 +111,8 @@ core_within most b o c h = (within_limit most (import_count b o) (core_of b o) c
 -- the same of a refusal
 refused_within : (most : ℕ) (b : List ℕ) (o : ParseOptions) (e : Refusal) → unless_above (Some most) (import_count b o) (core_of b o) ≡ Err e → IsImageWithin most b o (Err e)
 refused_within most b o e h = record {
-  within = λ few. core_refused b o e (subst-test false (no most (import_count b o) few) h);
-  over = λ many. ap (λ (e : Refusal). Err e) (limit_is e (subst-test true (yes most (import_count b o) many) h));
+  within = λ few. core_refused b o e (subst-test false (lt_is_not most (import_count b o) few) h);
+  over = λ many. ap (λ (e : Refusal). Err e) (limit_is e (subst-test true (lt_is most (import_count b o) many) h));
 }
   where
     subst-test : (t : Bool) → nat_lt most (import_count b o) ≡ t → unless_above (Some most) (import_count b o) (core_of b o) ≡ Err e → (if t then Err ImportsLimit else core_of b o) ≡ Err e

@@ -22,7 +22,7 @@ use Rattle.pe_image.proofs.WrittenCertificates.{put_at_once}
 abbrev row : ℕ → List CertificateView → List Piece
 row p cs = in_a_row certificate_pieces written_length p cs
 
--- a certificate and those behind it
+-- a certificate and those after it
 both_fit : (n p : ℕ) (c : CertificateView) (cs : List CertificateView) → all_fit n (row p (c ∷ cs)) ≡ true → (all_fit n (certificate_pieces p c) && all_fit n (row (p + written_length c) cs)) ≡ true
 both_fit n p c cs h = sym (all_fit_append n (certificate_pieces p c) (row (p + written_length c) cs)) ∙ h
 

@@ -113,6 +113,6 @@ after_core header debug resource b o (Ok c) image h (f, are, given) =
     after header debug resource b o c image f core (four_kept b (strict o) (core_of b (strict o)) c core h) are given
 after_core header debug resource b o (Err e) image h is = absurd cc
 
--- an image that strict mode gives is the one that permissive mode gives
+-- an image that strict mode returns is the one that permissive mode returns
 pub strict_image : HeaderLaw → DebugLaw → ResourceLaw → (b : List ℕ) (o : ParseOptions) (image : ImageView) → IsImage b (record o { parse_mode = Strict }) (Ok image) → IsImage b (record o { parse_mode = Permissive }) (Ok image)
 strict_image header debug resource b o image is = after_core header debug resource b o (before_resources b (strict o)) image refl is

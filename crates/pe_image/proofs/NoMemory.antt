@@ -1,59 +1,26 @@
 -- Definitions whose refusals are tests never say that memory has run out.
-use Rattle.std.proofs.Common.{◌≡◌, ℕ, ◌+◌, ◌-◌, ◌%◌, ◌||◌, Bool, true, false, List, [], ◌∷◌, Option, Some, None, Result, Ok, Err, refl, ap}
+use Rattle.std.proofs.Common.{◌≡◌, ℕ, ◌+◌, ◌-◌, ◌%◌, ◌||◌, Bool, true, false, List, [], ◌∷◌, Option, Some, None, Result, Ok, Err, refl}
 use Rattle.std.specs.Prelude.{◌==◌, if◌then◌else◌, nat_lt}
 use Rattle.pe_core.specs.Bytes.{holds, le, range, record_at}
 use Rattle.pe_core.specs.Header.{header_at, header_tests, optional_header_tests, header}
 use Rattle.pe_core.specs.Records.{coff_header, dos_header, te_header}
 use Rattle.pe_core.specs.Options.{is_permissive}
 use Rattle.pe_core.specs.Offsets.{bytes_in}
-use Rattle.pe_core.specs.Refusals.{Refusal, Memory, Short, DebugBounds, DebugData, DebugSize, ExceptionBounds, ExceptionOffset, ExceptionSize, PogoSize, outcome, kind_of, IfMemory, ◌>>=◌}
+use Rattle.pe_core.specs.Refusals.{Refusal, Short, DebugBounds, DebugData, DebugSize, ExceptionBounds, ExceptionOffset, ExceptionSize, PogoSize, outcome, kind_of, IfMemory}
 use Rattle.pe_core.specs.Relocations.{directory_bytes}
 use Rattle.pe_core.specs.SectionMap.{mapped, section_map}
 use Rattle.pe_core.specs.TeImages.{te_header_of, te_tests, reduced_header}
 use Rattle.pe_core.specs.declared.error.Error.{Error}
-use Rattle.pe_core.specs.declared.error.Error.TheVariants as errors
 use Rattle.pe_core.specs.declared.data_directories.DataDirectory.{DataDirectory}
 use Rattle.pe_core.specs.declared.options.ParseMode.{ParseMode}
 use Rattle.pe_core.specs.declared.options.ParseMode.TheVariants.{Strict, Permissive}
 use Rattle.pe_core.specs.declared.options.ParseOptions.{ParseOptions}
 use Rattle.pe_core.specs.declared.section_table.SectionTable.{SectionTable}
+use Rattle.pe_core.proofs.NoMemory.{is_memory, Lacks, nothing_owed, TestsLack, outcome_lacks, then_lacks, if_lacks, one_test_lacks}
 use Rattle.pe_records.specs.DebugDirectory.{directory_range, directory_table, first_of_type, range_at}
 use Rattle.pe_records.specs.DebugRecords.{characteristics_of, debug_data, features_of, of_entry, of_least_size, pdb20_at, pdb20_of, pdb20_record, pdb70_at, pdb70_of, pdb70_record, pogo_of, pogo_record, record_offset, records, repro_of, repro_record, signed, some_of_entry}
 use Rattle.pe_records.specs.declared.debug.ImageDebugDirectory.{ImageDebugDirectory}
 use Rattle.pe_unwind.specs.ExceptionTable.{exception_at, exception_at_offset}
-
-abbrev pub is_memory : Refusal → Bool
-is_memory Memory = true
-is_memory other = false
-
--- a value, or a refusal that is not for memory
-abbrev pub Lacks : {X : Type 0} → Result X Refusal → Type 0
-Lacks (Ok x) = Unit {0}
-Lacks (Err refusal) = is_memory refusal ≡ false
-
-pub memory_never : {X : Type 0} (r : Result X Refusal) → Lacks r → r ≡ Err Memory → ⊥
-memory_never (Ok x) l given = absurd cc
-memory_never (Err refusal) l given =
-    let same : refusal ≡ Memory = cc in
-    let is : is_memory refusal ≡ true = ap is_memory same in
-    absurd cc
-
--- what is owed of want of memory is owed of no such refusal
-pub nothing_owed : {X : Type 0} (r : Result X Refusal) (e : Error) (P : Type 0) → Lacks r → r ≡ Err (kind_of e) → IfMemory e P
-nothing_owed r (errors.Malformed reason) P l given = tt
-nothing_owed r (errors.BadMagic magic) P l given = tt
-nothing_owed r (errors.Short at needed) P l given = tt
-nothing_owed r (errors.Memory e) P l given = absurd (memory_never r l given)
-
--- the same of what each of these tests is refused as
-abbrev pub TestsLack : List (Bool × Refusal) → Type 0
-TestsLack [] = Unit {0}
-TestsLack (test ∷ tests) = (is_memory test.1 ≡ false) × TestsLack tests
-
-pub outcome_lacks : {X : Type 0} (tests : List (Bool × Refusal)) (value : X) → TestsLack tests → Lacks (outcome tests value)
-outcome_lacks [] value lack = tt
-outcome_lacks ((true, refusal) ∷ tests) value lack = outcome_lacks tests value lack.1
-outcome_lacks ((false, refusal) ∷ tests) value lack = lack.0
 
 -- ---- headers
 
@@ -75,7 +42,7 @@ header_lacks b mode =
 pub header_owes_nothing : (b : List ℕ) (mode : ParseMode) (e : Error) (P : Type 0) → header_at b mode ≡ Err (kind_of e) → IfMemory e P
 header_owes_nothing b mode e P given = nothing_owed (header_at b mode) e P (header_lacks b mode) given
 
--- ---- headers of terse images
+-- ---- headers of TE images
 
 te_lacks : (b : List ℕ) → Lacks (te_header_of b)
 unfolding te_header_of te_tests
@@ -83,16 +50,6 @@ te_lacks b = outcome_lacks (te_tests b) (reduced_header (te_header b 0)) (refl, 
 
 pub te_header_owes_nothing : (b : List ℕ) (e : Error) (P : Type 0) → te_header_of b ≡ Err (kind_of e) → IfMemory e P
 te_header_owes_nothing b e P given = nothing_owed (te_header_of b) e P (te_lacks b) given
-
--- ---- directories
-
-pub then_lacks : {X Y : Type 0} (r : Result X Refusal) (f : X → Result Y Refusal) → Lacks r → ((x : X) → Lacks (f x)) → Lacks (r >>= f)
-then_lacks (Ok x) f l k = k x
-then_lacks (Err e) f l k = l
-
-pub if_lacks : {X : Type 0} (t : Bool) (r s : Result X Refusal) → Lacks r → Lacks s → Lacks (if t then r else s)
-if_lacks true r s l k = l
-if_lacks false r s l k = k
 
 -- ---- exception data and base relocations
 
@@ -110,9 +67,6 @@ exception_lacks width b d sections unit o =
 mapped_lacks : (p : Option ℕ) → Lacks (mapped p)
 mapped_lacks None = refl
 mapped_lacks (Some p) = tt
-
-one_test_lacks : {X : Type 0} (t : Bool) (e : Refusal) (x : X) → is_memory e ≡ false → Lacks (outcome ((t, e) ∷ []) x)
-one_test_lacks t e x is = outcome_lacks ((t, e) ∷ []) x (is, tt)
 
 pub relocations_lack : (o : ParseOptions) (b : List ℕ) (d : DataDirectory) (sections : List SectionTable) (unit : ℕ) → Lacks (directory_bytes o b d sections unit)
 unfolding directory_bytes

@@ -39,7 +39,7 @@ use Rattle.pe_image.proofs.Permissive.{certificates_alone, core_of_image}
 use Rattle.pe_image.proofs.Rows.{accepted_too}
 use Rattle.pe_image.proofs.SectionsFirst.{core_before, sections_of_core, core_header}
 
--- bytes that are to stand from place p on are those of b there
+-- bytes that are to stand from offset p on are those of b there
 abbrev AreThose : List ℕ → ℕ → List ℕ → Type 0
 AreThose b p s = (i : ℕ) → i < length s → get_or s i 0 ≡ get_or b (p + i) 0
 
@@ -69,7 +69,7 @@ all_append : (z : Type 0) (b : List ℕ) (xs ys : List Piece) → AllKept z b xs
 all_append z b [] ys h k = k
 all_append z b (x ∷ xs) ys h k = (h.0, all_append z b xs ys h.1 k)
 
--- a piece that is such and has a byte for place q, if it is there
+-- a piece that is such and has a byte for offset q, if it is there
 abbrev CoversKept : Type 0 → List ℕ → ℕ → Option Piece → Type 0
 CoversKept z b q None = Unit {0}
 CoversKept z b q (Some x) = Kept z b x.offset x.content × (has_byte q x ≡ true)
@@ -85,7 +85,7 @@ last_kept z b q (x ∷ xs) before h k =
     let then : (before : Option Piece) → CoversKept z b q before → CoversKept z b q (last_or before (filter (has_byte q) xs)) = λ before k. last_kept z b q xs before h.1 k in
     first_kept z b q x (filter (has_byte q) xs) before (has_byte q x) refl h.0 then k
 
--- a byte that is written over b at place q is the one there, or it is zero and the piece that it is from is one of zeros
+-- a byte that is written over b at offset q is the one there, or it is zero and the piece that it is from is one of zeros
 abbrev KeptByte : Type 0 → List ℕ → List Piece → ℕ → ℕ → Type 0
 KeptByte z b pieces q x = (x ≡ get_or b q 0) ⊎ (z × ((x ≡ 0) × EndsInZeros pieces q))
 
@@ -94,7 +94,7 @@ zero_at zero i = refl
 zero_at (suc n) zero = refl
 zero_at (suc n) (suc i) = zero_at n i
 
--- the byte for place q of such a piece
+-- the byte for offset q of such a piece
 byte_kept : (z : Type 0) (b : List ℕ) (pieces : List Piece) (q : ℕ) (x : Piece) → last_piece pieces q ≡ Some x → Kept z b x.offset x.content → has_byte q x ≡ true → KeptByte z b pieces q (get_or x.content (q - x.offset) 0)
 byte_kept z b pieces q x e (inl those) h =
     let above : x.offset ≤ q = grind (arith, nat_tests) in

@@ -1,4 +1,4 @@
--- Pieces of records that stand one behind the other: what is left of them while they are gone over.
+-- Pieces of records that stand one after the other: what is left of them while they are gone over.
 use Rattle.std.proofs.Common.{◌≡◌, ℕ, ◌+◌, ◌<◌, ◌≤◌, ◌&&◌, Bool, true, false, Ok, Err, List, [], ◌∷◌, ◌++◌, length, get_or, drop, map, refl, ap, sym, ◌∙◌, arith}
 use Rattle.std.specs.List.{list_all}
 use Rattle.std.proofs.lemmas.List.{drop_more, drop_all, get_or-map, length-map}
@@ -59,7 +59,7 @@ rest_of_seen view xs i d h =
 pub no_rest_of_seen : {X Y : Type 0} (view : X → Y) (xs : List X) (i : ℕ) → length xs ≤ i → drop i (map view xs) ≡ []
 no_rest_of_seen view xs i h = drop_all i (map view xs) (omega (arith, length-map xs view))
 
--- ---- a test of all elements, from the first on, which may look at those behind each
+-- ---- a test of all elements, from the first on, which may look at those after each
 
 -- ---- answers and refusals
 
@@ -76,7 +76,7 @@ refused_if true u x z r h e = absurd cc
 refused_if false true x z r h e = absurd cc
 refused_if false false x z r h e = let same : WriteFit ≡ r = cc in ap (λ k. Err k) same
 
--- the same tests give another value where they give one, and refuse it where they refuse
+-- the same tests return another value where they return one, and refuse it where they refuse
 pub accepted_too : {X Y : Type 0} (tests : List (Bool × Refusal)) (x z : X) (y : Y) → outcome tests x ≡ Ok z → outcome tests y ≡ Ok y
 accepted_too [] x z y h = refl
 accepted_too ((true, k) ∷ tests) x z y h = accepted_too tests x z y h

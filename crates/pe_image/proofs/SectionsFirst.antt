@@ -1,4 +1,4 @@
--- Where an image is given, its section headers were read before all of it.
+-- Where an image is returned, its section headers were read before all of it.
 use Rattle.std.proofs.Common.{◌≡◌, ℕ, List, Option, Result, Ok, Err, refl, sym, ap, subst, ◌∙◌}
 use Rattle.std.specs.Prelude.{IfOk}
 use Rattle.pe_core.specs.Header.{HeaderView, header_at}

@@ -1,4 +1,4 @@
--- Tests in front of a value, and facts that are owed by the kind of a refusal.
+-- Tests before a value, and facts that are to be shown by the kind of a refusal.
 use Rattle.std.proofs.Common.{◌≡◌, Bool, true, false, [], ◌∷◌, Result, Ok, Err, refl, sym, ap}
 use Rattle.pe_core.specs.Refusals.{Refusal, WriteFit, UnlessMemory, IfMemory, outcome, ◌>>=◌}
 use Rattle.pe_core.specs.declared.error.Error.{Error}
@@ -30,7 +30,7 @@ pub accepted_if : {Y : Type 0} (t : Bool) (x y : Y) → true ≡ t → y ≡ x �
 accepted_if true x y h e = ap (λ z. Ok z) (sym e)
 accepted_if false x y h e = absurd cc
 
--- ---- want of memory
+-- ---- out of memory
 
 pub if_memory : (e : Error) (P : Type 0) → P → IfMemory e P
 if_memory (errors.Malformed reason) P p = tt

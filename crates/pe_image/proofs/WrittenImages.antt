@@ -1,9 +1,6 @@
 -- All pieces of an image.
-use Rattle.std.proofs.Common.{◌≡◌, ℕ, ◌<◌, ◌&&◌, true, List, ◌++◌, ap, sym, ◌∙◌, arith}
+use Rattle.std.proofs.Common.{◌≡◌, ℕ, ◌&&◌, true, List, ◌++◌, ap, sym, ◌∙◌}
 use Rattle.std.specs.Prelude.{Option}
-use Rattle.std.specs.Int.{is_power_of_two}
-use Rattle.std.proofs.lemmas.Bool.{eqb-true}
-use Rattle.std.proofs.lemmas.Nat.{ones_le_self}
 use Rattle.pe_core.specs.Header.{HeaderView, OptionalHeaderView}
 use Rattle.pe_core.specs.Sections.{sections_offset}
 use Rattle.pe_core.specs.declared.data_directories.DataDirectory.{DataDirectory}
@@ -15,9 +12,6 @@ use Rattle.pe_image.specs.Writing.{certificate_directory, padded_pieces}
 use Rattle.pe_image.specs.WritingSteps.{put_in_turn}
 use Rattle.pe_image.proofs.Overlays.{put_append}
 use Rattle.pe_image.proofs.Rows.{all_fit_append, and_left, and_right}
-
-pub positive : (n : ℕ) → is_power_of_two n ≡ true → 0 < n
-positive n e = omega (arith, ones_le_self n, eqb-true _ _ e)
 
 -- what is handed to the writer of the sections is of the image
 pub record IsOf (u : Option ℕ) (b : List ℕ) (h : HeaderView) (sections : List SectionTable) (source : List ℕ) (unit : Option ℕ) (offset : ℕ) (given : List SectionTable) : Type 0 where

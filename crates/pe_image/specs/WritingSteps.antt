@@ -29,25 +29,22 @@ possible n value = outcome ((nat_le n longest, WriteFit) ∷ []) value
 abbrev pub all_end : List Piece → Result ℕ Refusal
 all_end pieces = possible (greatest_end pieces) (greatest_end pieces)
 
--- the section equals the next one, or ends at or before its start in the file
-abbrev pub rises_to : SectionTable → List SectionTable → Bool
-rises_to s [] = true
-rises_to s (t ∷ after) = same_section s t || nat_le (raw_end s) t.pointer_to_raw_data
+-- the section equals another, or ends at or before its start in the file
+abbrev pub ends_before : SectionTable → SectionTable → Bool
+ends_before s t = same_section s t || nat_le (raw_end s) t.pointer_to_raw_data
 
--- the same for every section of the list
-abbrev pub rises : List SectionTable → Bool
-rises [] = true
-rises (s ∷ after) = rises_to s after && rises after
+-- the same of two sections in turn, or with `falls` of the second and the first
+abbrev pub before_by : Bool → SectionTable → SectionTable → Bool
+before_by falls s t = if falls then ends_before t s else ends_before s t
 
--- the section equals the next one, or starts at or after its end in the file
-abbrev pub falls_to : SectionTable → List SectionTable → Bool
-falls_to s [] = true
-falls_to s (t ∷ after) = same_section s t || nat_le (raw_end t) s.pointer_to_raw_data
+abbrev pub before_next : Bool → SectionTable → List SectionTable → Bool
+before_next falls s [] = true
+before_next falls s (t ∷ after) = before_by falls s t
 
--- the same for every section of the list
-abbrev pub falls : List SectionTable → Bool
-falls [] = true
-falls (s ∷ after) = falls_to s after && falls after
+-- the same of every section of the list and the next one
+abbrev pub in_order : Bool → List SectionTable → Bool
+in_order falls [] = true
+in_order falls (s ∷ after) = before_next falls s after && in_order falls after
 
 -- the section equals the next one
 abbrev pub is_next : SectionTable → List SectionTable → Bool

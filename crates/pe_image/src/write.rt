@@ -171,7 +171,7 @@ impl<'a, A: Allocator + Copy + Drop> PE<'a, A> {
     }
 
     /// Tests for the errors of `write_into` that neither the first nor the length of the buffer decides, in their order.
-    #[tactic(auto, using(crate::proofs::WrittenImages::positive))]
+    #[tactic(auto, using(pe_core::proofs::Map::positive))]
     fn require_fields(&self, optional: &OptionalHeader) -> Result<()>
         ensures returned { Returns result (outcome (field_tests self.now optional.now) tt) }
         ensures unit { OnOk result

@@ -1,4 +1,4 @@
--- Chains of records: one behind the other, and the beginnings of one.
+-- Chains of records: one after the other, and the beginnings of one.
 use Rattle.std.proofs.Common.{◌≡◌, ℕ, zero, suc, ◌≤◌, List, [], ◌∷◌, ◌++◌, length, Option, Some, None, Ok, refl, ap, sym, subst, arith}
 use Rattle.pe_unwind.specs.declared.function_table.RuntimeFunction.{RuntimeFunction}
 use Rattle.pe_unwind.specs.Links.{Table}

@@ -8,7 +8,7 @@ use Rattle.pe_unwind.specs.Unwinding.{Unwinds}
 use Rattle.pe_plan.specs.Plans.{IsChain, ComesTo, HasChained, NeverEnds, PlansFrom}
 use Rattle.pe_plan.proofs.RecordLaw.{RecordLaw}
 
--- where a chain ends: behind a root, or at a function whose record is refused, but for a cycle
+-- where a chain ends: after a root, or at a function whose record is refused, but for a cycle
 abbrev pub IsEnd : Table → List ℕ → Option RuntimeFunction → Type 0
 IsEnd t b None = Unit {0}
 IsEnd t b (Some g) = (k : Refusal) × (k ≢ FunctionCycle) × Unwinds t b g.unwind_info_address (Err k)
@@ -30,7 +30,7 @@ pub follows_same : (law : RecordLaw) (t : Table) (b : List ℕ) (f : RuntimeFunc
 follows_same law t b f i j end is js other p q =
     subst (λ (r : UnwindInfoView). IsChain t b r.chained_info js other) (same_record law t b f.unwind_info_address j i q.0 p.0) q.1
 
--- no chained records go on behind the end
+-- no chained records go on after the end
 not_longer : (law : RecordLaw) (t : Table) (b : List ℕ) (start end : Option RuntimeFunction) (g : RuntimeFunction) (is js : List UnwindInfoView) → IsChain t b start is end → IsEnd t b end → IsChain t b start js (Some g) → length js ≤ length is
 not_longer law t b start end g is [] p stop q = omega arith
 not_longer law t b start end g [] (j ∷ js) p stop q = absurd (no_record law t b start end (Some g) j js p stop q)

@@ -1,4 +1,4 @@
--- A function has one plan, want of memory aside.
+-- A function has one plan, allocation failure aside.
 use Rattle.std.proofs.Common.{◌≡◌, ◌≢◌, ℕ, List, [], ◌∷◌, Option, Some, None, Result, Ok, Err, ◌⊎◌, inl, inr, ⊎_elim, refl, ap, sym, ◌∙◌}
 use Rattle.pe_core.specs.Refusals.{Refusal, Memory, FunctionCycle}
 use Rattle.pe_unwind.specs.declared.function_table.RuntimeFunction.{RuntimeFunction}
@@ -20,7 +20,7 @@ one_chain law t b (Some f) end final (i ∷ is) (j ∷ js) p stop q halt =
     let first : i ≡ j = same_record law t b f.unwind_info_address i j p.0 q.0 in
     (ap (λ (r : UnwindInfoView). r ∷ is) first ∙ ap (λ (rs : List UnwindInfoView). j ∷ rs) rest.0, rest.1)
 
--- what a chain with this end answers
+-- what a chain with this end returns
 abbrev Answers : Table → List ℕ → List UnwindInfoView → Option RuntimeFunction → Result (List UnwindInfoView) Refusal → Type 0
 Answers t b is None x = x ≡ Ok is
 Answers t b is (Some g) x = (k : Refusal) × Unwinds t b g.unwind_info_address (Err k) × (x ≡ Err k)

@@ -84,7 +84,7 @@ apart q (x ∷ xs) e =
     (λ (other : eqb q x ≡ false). (other, apart q xs (rw other at e)))
     (cases_Bool (eqb q x))
 
--- one record in front of a ring
+-- one record before a ring
 before_ring : (t : Table) (b : List ℕ) (f : RuntimeFunction) (g : Option RuntimeFunction) (i : UnwindInfoView) (is : List UnwindInfoView) → IsChain t b (Some f) (i ∷ is) g → Ring t b i.chained_info → Ring t b (Some f)
 before_ring t b f g i is p r = record {
   first = r.first;

@@ -1,4 +1,4 @@
--- A chain that ends behind its last record ends at a root.
+-- A chain that ends after its last record ends at a root.
 use Rattle.std.proofs.Common.{◌≡◌, ◌↔◌, ◌∙◌, ℕ, List, [], ◌∷◌, Option, Some, None, Result, Ok, Err, IsSome, refl, ap, sym}
 use Rattle.std.proofs.lemmas.List.Elements.{All-cons, All-nil}
 use Rattle.pe_core.specs.Refusals.{Refusal}

@@ -78,7 +78,7 @@ pub record TakenTo (t : Table) (b : List ℕ) (f : RuntimeFunction) (count : ℕ
   pub many : length records + length rest ≡ count
   pub is_current : IfSome here (λ g. g ≡ current)
 
--- the next record, and those behind it
+-- the next record, and those after it
 record Next (t : Table) (b : List ℕ) (f : RuntimeFunction) (count : ℕ) (records : List UnwindInfoView) (current : RuntimeFunction) : Type 0 where
   info : UnwindInfoView
   rest : List UnwindInfoView
@@ -134,7 +134,7 @@ goes_on o next later is same = rw is (sym same)
 pub goes_nowhere : (o : Option RuntimeFunction) (later : RuntimeFunction) → o ≡ None → IfSome o (λ h. h ≡ later)
 goes_nowhere o later is = rw is tt
 
--- what both walks answer
+-- what both walks return
 pub counted : (t : Table) (b : List ℕ) (f : RuntimeFunction) (k : Refusal) → Counts t b f (Err k) → PlansFrom t b f (Err k)
 counted t b f Memory c = absurd c
 counted t b f FunctionCycle c = c

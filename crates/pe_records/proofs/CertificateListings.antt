@@ -1,4 +1,4 @@
--- Certificates one behind the other.
+-- Certificates one after the other.
 use Rattle.std.proofs.Common.{Bool, cond, ◌≡◌, ℕ, zero, suc, ◌+◌, ◌<◌, ◌≤◌, true, false, nat_lt, nat_le, inl, inr, length, map, slice_get, Some, List, [], ◌∷◌, ◌++◌, Result, Ok, Err, Vec, refl, ap, sym, ◌∙◌, subst, arith}
 use Rattle.std.proofs.lemmas.Bool.Decides.{nat_tests}
 use Rattle.std.proofs.lemmas.List.{length-append, map_push}
@@ -6,15 +6,16 @@ use Rattle.pe_core.proofs.Steps.{one_ok, one_err, not_both}
 use Rattle.pe_core.specs.Refusals.{Refusal, Memory, CertificateTable, kind_of, IfMemory, ReturnsUnlessMemory, ◌>>=◌}
 use Rattle.pe_core.specs.declared.error.Error.{Error}
 use Rattle.pe_core.specs.declared.error.Error.TheVariants as errors
+use Rattle.pe_core.proofs.Comparisons.{lt_is, lt_is_not, le_is, le_is_not}
 use Rattle.pe_records.specs.declared.certificate_table.AttributeCertificate.{AttributeCertificate}
 use Rattle.pe_records.specs.Certificates.{CertificateView, certificate_at, certificate, certificate_tests, Stand, IsListing, CannotGoOn, IsRefused, ListingStarts, certificates_from, certificates_at, certificate_view, Lists}
 
--- the certificates stand one behind the other from p on, each begins before the end, and the last ends at q
+-- the certificates stand one after the other from p on, each starts before the end, and the last ends at q
 abbrev pub StandFrom : List ℕ → ℕ → ℕ → List CertificateView → ℕ → Type 0
 StandFrom b end p [] q = p ≡ q
 StandFrom b end p (c ∷ cs) q = (p < end) × (next : ℕ) × (certificate_at b p ≡ Ok (c, next)) × StandFrom b end next cs q
 
--- one more behind them
+-- one more after them
 pub stand_push : (b : List ℕ) (end p : ℕ) (cs : List CertificateView) (c : CertificateView) (q r : ℕ) → StandFrom b end p cs q → q < end → certificate_at b q ≡ Ok (c, r) → StandFrom b end p (cs ++ c ∷ []) r
 stand_push b end p [] c q r s h e = (subst (λ (n : ℕ). n < end) (sym s) h, r, subst (λ (n : ℕ). certificate_at b n ≡ Ok (c, r)) (sym s) e, refl)
 stand_push b end p (x ∷ cs) c q r s h e = (s.0, s.1, s.2, stand_push b end s.1 cs c q r s.3 h e)
@@ -23,12 +24,12 @@ stand_push b end p (x ∷ cs) c q r s h e = (s.0, s.1, s.2, stand_push b end s.1
 pub stand_more : {X : Type 0} (f : X → CertificateView) (b : List ℕ) (end p : ℕ) (xs ys : List X) (x : X) (q r : ℕ) → StandFrom b end p (map f xs) q → q < end → certificate_at b q ≡ Ok (f x, r) → ys ≡ xs ++ x ∷ [] → StandFrom b end p (map f ys) r
 stand_more f b end p xs ys x q r s h e same = rw same (rw map_push (stand_push b end p (map f xs) (f x) q r s h e))
 
--- the next place is further on
+-- the next offset is further on
 pub next_above : (b : List ℕ) (p : ℕ) (c : CertificateView) (q : ℕ) → certificate_at b p ≡ Ok (c, q) → p < q
 unfolding certificate_at certificate certificate_tests
 next_above b p c q e = grind (arith, nat_tests)
 
--- ---- the places of certificates that stand one behind the other
+-- ---- the offsets of certificates that stand one after the other
 
 abbrev shifted : ℕ → (ℕ → ℕ) → ℕ → ℕ
 shifted p f zero = p
@@ -107,58 +108,46 @@ never_memory b p (errors.Memory x) P h = absurd (not_for_memory b p h)
 
 -- ---- the listing as a function
 
-yes : (m n : ℕ) → m < n → nat_lt m n ≡ true
-yes m n h = grind (arith, nat_tests)
-
-no : (m n : ℕ) → n ≤ m → nat_lt m n ≡ false
-no m n h = grind (arith, nat_tests)
-
 from_is : (b : List ℕ) (end n p : ℕ) (cs : List CertificateView) (q : ℕ) → StandFrom b end p cs q → end ≤ q → end ≤ p + n → certificates_from b end n p ≡ Ok cs
 unfolding certificates_from
 from_is b end zero p [] q s h k = refl
 from_is b end zero p (c ∷ cs) q s h k = let before : p < end = s.0 in absurd (omega arith)
-from_is b end (suc n) p [] q s h k = let here : p ≡ q = s in rw (no p end (omega arith)) refl
+from_is b end (suc n) p [] q s h k = let here : p ≡ q = s in rw (lt_is_not p end (omega arith)) refl
 from_is b end (suc n) p (c ∷ cs) q s h k =
     let further : p < s.1 = next_above b p c s.1 s.2 in
-    rw (yes p end s.0, s.2, from_is b end n s.1 cs q s.3 h (omega arith)) refl
+    rw (lt_is p end s.0, s.2, from_is b end n s.1 cs q s.3 h (omega arith)) refl
 
 from_refuses : (b : List ℕ) (end n p : ℕ) (cs : List CertificateView) (q : ℕ) (r : Refusal) → StandFrom b end p cs q → q < end → certificate_at b q ≡ Err r → end ≤ p + n → certificates_from b end n p ≡ Err r
 unfolding certificates_from
 from_refuses b end zero p [] q r s h e k = let here : p ≡ q = s in absurd (omega arith)
 from_refuses b end zero p (c ∷ cs) q r s h e k = let before : p < end = s.0 in absurd (omega arith)
-from_refuses b end (suc n) p [] q r s h e k = let here : p ≡ q = s in rw (here, yes q end h, e) refl
+from_refuses b end (suc n) p [] q r s h e k = let here : p ≡ q = s in rw (here, lt_is q end h, e) refl
 from_refuses b end (suc n) p (c ∷ cs) q r s h e k =
     let further : p < s.1 = next_above b p c s.1 s.2 in
-    rw (yes p end s.0, s.2, from_refuses b end n s.1 cs q r s.3 h e (omega arith)) refl
-
-inside : (m n : ℕ) → m ≤ n → nat_le m n ≡ true
-inside m n h = grind (arith, nat_tests)
-
-outside : (m n : ℕ) → n < m → nat_le m n ≡ false
-outside m n h = grind (arith, nat_tests)
+    rw (lt_is p end s.0, s.2, from_refuses b end n s.1 cs q r s.3 h e (omega arith)) refl
 
 pub listing_is : (b : List ℕ) (address size : ℕ) (cs : List CertificateView) → IsListing b address size cs → certificates_at b address size ≡ Ok cs
 unfolding certificates_at
 listing_is b address size cs l =
     let s : StandFrom b (address + size) address cs (l.offset (length cs)) = rw l.first at (unplaced b (address + size) l.offset cs l.stand) in
-    rw (inside (address + size) (length b) l.within) (from_is b (address + size) size address cs (l.offset (length cs)) s l.last (omega arith))
+    rw (le_is (address + size) (length b) l.within) (from_is b (address + size) size address cs (l.offset (length cs)) s l.last (omega arith))
 
 cannot_go_on : (b : List ℕ) (address size : ℕ) (r : Refusal) → CannotGoOn b address size r → certificates_at b address size ≡ Err r
 unfolding certificates_at
 cannot_go_on b address size r l =
     let cs : List CertificateView = l.certificates in
     let s : StandFrom b (address + size) address cs (l.offset (length cs)) = rw l.first at (unplaced b (address + size) l.offset cs l.stand) in
-    rw (inside (address + size) (length b) l.within) (from_refuses b (address + size) size address cs (l.offset (length cs)) r s l.last l.refused (omega arith))
+    rw (le_is (address + size) (length b) l.within) (from_refuses b (address + size) size address cs (l.offset (length cs)) r s l.last l.refused (omega arith))
 
 past : (b : List ℕ) (address size : ℕ) → length b < address + size → certificates_at b address size ≡ Err CertificateTable
 unfolding certificates_at
-past b address size h = rw (outside (address + size) (length b) h) refl
+past b address size h = rw (le_is_not (address + size) (length b) h) refl
 
 pub refusal_is : (b : List ℕ) (address size : ℕ) (r : Refusal) → IsRefused b address size r → certificates_at b address size ≡ Err r
 refusal_is b address size r (inl h) = past b address size h.0 ∙ ap (λ (x : Refusal). Err x) (sym h.1)
 refusal_is b address size r (inr h) = cannot_go_on b address size r h
 
--- what lists a table gives its listing
+-- what lists a table returns its listing
 pub listed_is : {Z : Type 0} (b : List ℕ) (address size : ℕ) (r : Result (Vec AttributeCertificate Z) Error) → Lists b address size r → ReturnsUnlessMemory (λ (v : Vec AttributeCertificate Z). map certificate_view v.items) r (certificates_at b address size)
 listed_is b address size (Ok v) l = listing_is b address size (map certificate_view v.items) l
 listed_is b address size (Err (errors.Malformed x)) l = refusal_is b address size (kind_of (errors.Malformed x)) l.0
@@ -166,7 +155,7 @@ listed_is b address size (Err (errors.BadMagic x)) l = refusal_is b address size
 listed_is b address size (Err (errors.Short x y)) l = refusal_is b address size (kind_of (errors.Short x y)) l.0
 listed_is b address size (Err (errors.Memory x)) l = tt
 
--- what the function gives is a listing or a refusal
+-- what the function returns is a listing or a refusal
 abbrev Settles : List ℕ → ℕ → ℕ → Result (List CertificateView) Refusal → Type 0
 Settles b end p (Ok cs) = (q : ℕ) × StandFrom b end p cs q × (end ≤ q)
 Settles b end p (Err r) = (cs : List CertificateView) × (q : ℕ) × StandFrom b end p cs q × (q < end) × (certificate_at b q ≡ Err r)

@@ -15,11 +15,11 @@ use Rattle.pe_records.proofs.CertificateListings.{StandFrom, unplaced, listing}
 use Rattle.pe_records.proofs.CertificatePieces.{length_written}
 use Rattle.pe_records.specs.CertificateWriting.{spell_certificate, padding, written_certificate, written_certificates, written_length, IsWhole}
 
--- an element behind a front
+-- an element after a front
 after : (f xs : List ℕ) (p i k : ℕ) → length f ≡ p → k ≡ p + i → get_or (f ++ xs) k 0 ≡ get_or xs i 0
 after f xs p i k e j = subst (λ (n : ℕ). get_or (f ++ xs) n 0 ≡ get_or xs i 0) (ap (λ (n : ℕ). n + i) e ∙ sym j) (get_or-append-add f xs i 0)
 
--- the numbers that stand behind a front
+-- the numbers that stand after a front
 le_four : (f xs : List ℕ) (p i n : ℕ) → length f ≡ p → get_or xs i 0 ≡ n % 256 → get_or xs (i + 1) 0 ≡ n / 256 % 256 → get_or xs (i + 2) 0 ≡ n / 256 / 256 % 256 → get_or xs (i + 3) 0 ≡ n / 256 / 256 / 256 % 256 → n < 2 ^ 32 → le (f ++ xs) (p + i) 4 ≡ n
 unfolding le
 le_four f xs p i n e a0 a1 a2 a3 small =
@@ -66,14 +66,14 @@ certificate_from b p c q l r t h k body next =
     let t2 : nat_le (p + 8 + (c.length - 8)) (length b) ≡ true = grind (arith, nat_tests) in
     rw l (rw r (rw t (rw t1 (rw t2 (rw (rk.is, tk.is, rk.same, tk.same) (rw body (rw next refl)))))))
 
--- the body that stands behind eight bytes
+-- the body that stands after eight bytes
 body_is : (f h m z : List ℕ) (p n : ℕ) → length f ≡ p → length h ≡ 8 → length m ≡ n → range (f ++ (h ++ (m ++ z))) (p + 8) n ≡ m
 body_is f h m z p n e l k =
     let d : drop (p + 8) (f ++ (h ++ (m ++ z))) ≡ m ++ z = ap (drop (p + 8)) (sym (append_assoc f h (m ++ z))) ∙ drop_at (f ++ h) (m ++ z) (p + 8) (simp length-append (omega arith)) in
     let s : p + 8 + n - (p + 8) ≡ n = omega arith in
     ap (λ (i : ℕ). take i (drop (p + 8) (f ++ (h ++ (m ++ z))))) s ∙ ap (take n) d ∙ take_at m z n k
 
--- a certificate that is written behind a front
+-- a certificate that is written after a front
 read_after : (f tail : List ℕ) (p : ℕ) (c : CertificateView) → IsWhole c → p % 8 ≡ 0 → length f ≡ p → certificate_at (f ++ (written_certificate c ++ tail)) p ≡ Ok (c, p + written_length c)
 unfolding spell_certificate bytes_of
 read_after f tail p c w m front =
@@ -119,7 +119,7 @@ next_offset b p c q small m e =
     let w : IsWhole c = whole b p c q small e in
     omega (arith, r.next, w.body)
 
--- ---- certificates that are written one behind the other
+-- ---- certificates that are written one after the other
 
 listed_after : (b : List ℕ) (end p : ℕ) (cs : List CertificateView) (q : ℕ) (f tail : List ℕ) → AreBytes b → StandFrom b end p cs q → p % 8 ≡ 0 → length f ≡ p → StandFrom (f ++ (written_certificates cs ++ tail)) end p cs q
 listed_after b end p [] q f tail small s m front = s

@@ -1,4 +1,4 @@
--- What strict mode gives, permissive mode gives too.
+-- What strict mode returns, permissive mode returns too.
 use Rattle.std.proofs.Common.{◌≡◌, ℕ, Bool, true, false, List, Option, Some, None, Result, Ok, Err, refl, ap, ◌∙◌}
 use Rattle.std.specs.Prelude.{◌-◌, length, min, nat_lt, if◌then◌else◌}
 use Rattle.pe_core.specs.Bytes.{holds}
@@ -18,7 +18,7 @@ use Rattle.pe_records.specs.DebugRecords.{DebugFields, Pdb70, Pdb20, pdb70_recor
 abbrev in_mode : ParseMode → ParseOptions → ParseOptions
 in_mode mode o = record o { parse_mode = mode }
 
--- two steps, each of which keeps what it gives
+-- two steps, each of which keeps what it returns
 after : {X Y : Type 0} (r s : Result X Refusal) (f g : X → Result Y Refusal) (y : Y) → ((x : X) → r ≡ Ok x → s ≡ Ok x) → ((x : X) → f x ≡ Ok y → g x ≡ Ok y) → (r >>= f) ≡ Ok y → (s >>= g) ≡ Ok y
 after {X} (Ok x) s f g y h k e = ap (λ (t : Result X Refusal). t >>= g) (h x refl) ∙ k x e
 after (Err r) s f g y h k e = absurd cc

@@ -17,7 +17,7 @@ entries_from_yields s t u (x ∷ xs) y end =
     let j : ImageDebugDirectoryIterator = y.0 in
     ap (λ (zs : List (Result ImageDebugDirectory Refusal)). debug_item x ∷ zs) (entries_from_yields j t u xs y.2 end ∙ ap (λ (f : ℕ). debug_entries f (debug_bytes_left j)) y.1.1) ∙ sym y.1.0
 
--- nothing stands behind a fault
+-- nothing stands after an error
 after_error : (xs : List ImageDebugDirectory) (whole : Bool) (r : Refusal) (ys : List (Result ImageDebugDirectory Refusal)) → map (λ e. Ok e) xs ++ (if whole then [] else Err Short ∷ []) ≡ Err r ∷ ys → ys ≡ []
 after_error [] true r ys h = absurd cc
 after_error [] false r ys h = cc

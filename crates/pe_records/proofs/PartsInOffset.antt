@@ -23,7 +23,7 @@ use Rattle.pe_records.proofs.SpelledDebug.{passed, passed_pogo, passed_repro}
 stand : (b : List ℕ) (p n : ℕ) (part : List ℕ) → p + n ≤ length b → range b p n ≡ part → StandAt b p part
 stand b p n part h e = subst (StandAt b p) e (record { inside = rw (length_range b p n h) h; here = rw (length_range b p n h) refl })
 
--- the body of a certificate stands behind its header
+-- the body of a certificate stands after its header
 pub body_stands : (b : List ℕ) (p : ℕ) (c : CertificateView) (next : ℕ) → certificate_at b p ≡ Ok (c, next) → StandAt b (p + 8) c.body
 body_stands b p c next e =
     let r : Read b p c next = read b p c next e in

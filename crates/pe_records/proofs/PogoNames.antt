@@ -5,7 +5,7 @@ use Rattle.pe_core.specs.Bytes.{le}
 use Rattle.pe_core.specs.SectionMap.{rounded_up}
 use Rattle.pe_records.specs.Pogo.{Entry, StartsWith, StartsWithNone}
 
--- the entry whose name ends at the first zero behind the numbers
+-- the entry whose name ends at the first zero after the numbers
 pub starts_from : (b rest name : List ℕ) (r s k n : ℕ) → rest ≡ drop 8 b → k < length rest → get_or rest k 0 ≡ 0 → ((j : ℕ) → j < k → get_or rest j 0 ≢ 0) → name ≡ take (k + 1) rest → r ≡ le b 0 4 → s ≡ le b 4 4 → n ≡ rounded_up (8 + k + 1) 4 → n ≤ length b → StartsWith b (record { rva = r; size = s; name = name }) n
 starts_from b rest name r s k n d lt here before is er es en whole =
     let len : length name ≡ k + 1 = ap length is ∙ length-take-le (k + 1) rest (omega arith) in
@@ -24,7 +24,7 @@ starts_from b rest name r s k n d lt here before is er es en whole =
       whole = whole;
     }
 
--- a byte of the name is one of the bytes behind the numbers
+-- a byte of the name is one of the bytes after the numbers
 in_rest : (b : List ℕ) (e : Entry) (n k : ℕ) → StartsWith b e n → k < length e.name → get_or e.name k 0 ≡ get_or (drop 8 b) k 0
 in_rest b e n k h lt = ap (λ (x : List ℕ). get_or x k 0) h.name ∙ get_or-take (length e.name) (drop 8 b) k 0 lt
 
@@ -45,7 +45,7 @@ entry_from_fields e f p q r =
     ∙ ap (λ (x : ℕ). let y : Entry = record { rva = f.rva; size = x; name = e.name } in y) q
     ∙ ap (λ (x : List ℕ). let y : Entry = record { rva = f.rva; size = f.size; name = x } in y) r
 
--- bytes begin with one entry
+-- bytes start with one entry
 pub starts_once : (b : List ℕ) (e f : Entry) (n m : ℕ) → StartsWith b e n → StartsWith b f m → (e ≡ f) × (n ≡ m)
 starts_once b e f n m h k =
     let up : length e.name ≤ length f.name = not_above (length f.name) (length e.name) (not_shorter b f e m n k h) in
@@ -55,7 +55,7 @@ starts_once b e f n m h k =
       h.padded ∙ ap (λ (i : ℕ). rounded_up (8 + i) 4) same ∙ sym k.padded,
     )
 
--- a rest that is too short, or has no zero, or is cut, begins with no entry
+-- a rest that is too short, or has no zero, or is truncated, starts with no entry
 pub none_short : (b : List ℕ) → length b < 8 → StartsWithNone b
 none_short b lt = λ e n h. let whole : n ≤ length b = h.whole in let padded : n ≡ rounded_up (8 + length e.name) 4 = h.padded in omega arith
 

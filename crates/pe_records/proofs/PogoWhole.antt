@@ -1,4 +1,4 @@
--- Every byte string is a stream of POGO entries, to its end or to one fault.
+-- Every byte string is a stream of POGO entries, to its end or to one error.
 use Rattle.std.proofs.Common.{◌≡◌, ◌≢◌, ℕ, zero, suc, ◌+◌, ◌<◌, ◌≤◌, ◌⊎◌, inl, inr, List, [], ◌∷◌, length, take, drop, get_or, Result, Ok, Err, refl, length-drop, arith}
 use Rattle.std.proofs.lemmas.Bool.{cases_lt}
 use Rattle.pe_core.specs.Bytes.{le}
@@ -64,7 +64,7 @@ Reading b = (xs : List (Result Entry Refusal)) × Entries b xs
 some_bytes : (b : List ℕ) (e : Entry) (n : ℕ) → StartsWith b e n → 0 < n
 some_bytes b e n h = let padded : n ≡ rounded_up (8 + length e.name) 4 = h.padded in omega arith
 
--- the entry at the front, and those behind it
+-- the entry at the front, and those after it
 reading_step : (b : List ℕ) → b ≢ [] → ((n : ℕ) → 0 < n → Reading (drop n b)) → Reading b
 reading_step b some more = elim (front b) [
   | inl e ↦

@@ -1,4 +1,4 @@
--- A debug record that is given spells the bytes of its place.
+-- A debug record that is returned spells the bytes of its range.
 use Rattle.std.proofs.Common.{◌≡◌, ℕ, ◌+◌, ◌-◌, ◌≤◌, Bool, true, false, List, [], ◌∷◌, ◌++◌, length, Some, None, Ok, Err, refl, ap, sym, ◌∙◌, subst, ◌⊎◌, inl, inr, arith}
 use Rattle.std.specs.Prelude.{nat_lt, slice_range, ◌==◌, ◌||◌, if◌then◌else◌}
 use Rattle.std.proofs.lemmas.Bool.Decides.{nat_tests}
@@ -9,22 +9,23 @@ use Rattle.pe_core.specs.Modes.{none_if_refused}
 use Rattle.pe_core.specs.Refusals.{Refusal, Short, DebugSize, DebugData, PogoSize, outcome}
 use Rattle.pe_core.specs.declared.options.ParseMode.{ParseMode}
 use Rattle.pe_core.specs.declared.options.ParseMode.TheVariants.{Strict, Permissive}
+use Rattle.pe_core.proofs.Comparisons.{not_below}
 use Rattle.pe_records.specs.declared.debug.ImageDebugDirectory.{ImageDebugDirectory}
 use Rattle.pe_records.specs.DebugRecords.{Pdb70, Pdb20, Pogo, pdb70_at, pdb70_record, pdb20_at, pdb20_record, features_at, pogo_record, Repro, Stamp, Buffer, repro_record}
 use Rattle.pe_records.specs.DebugSpelling.{spell_pdb70, spell_pdb20, spell_features, spell_pogo, spell_repro, size_of_repro}
 
--- a range and what stands behind it
+-- a range and what stands after it
 join : (b xs ys : List ℕ) (p q r : ℕ) → xs ≡ slice_range b p q → ys ≡ slice_range b q r → p ≤ q → q ≤ r → r ≤ length b → xs ++ ys ≡ slice_range b p r
 join b xs ys p q r e f h i l = ap (λ (x : List ℕ). x ++ ys) e ∙ ap (λ (y : List ℕ). slice_range b p q ++ y) f ∙ range_join b p q r h i l
 
--- the number at q behind the bytes from p to q
+-- the number at q after the bytes from p to q
 number : (b xs : List ℕ) (p q r w : ℕ) → AreBytes b → xs ≡ slice_range b p q → p ≤ q → r ≡ q + w → r ≤ length b → xs ++ bytes_of w (le b q w) ≡ slice_range b p r
 number b xs p q r w small e h end l =
     let inside : q + w ≤ length b = omega arith in
     let up : q ≤ r = omega arith in
     join b xs (bytes_of w (le b q w)) p q r e (bytes_of-le b q w small inside ∙ ap (slice_range b q) (sym end)) h up l
 
--- what is given passed its tests
+-- what is returned passed its tests
 pub passed : {X : Type 0} (short : Bool) (mode : ParseMode) (there own whole inside : Bool) (i j : Refusal) (v x : X) →
     (if short then none_if_refused mode (Err DebugSize) else (if there then (if own then outcome ((whole, i) ∷ (inside, j) ∷ []) (Some v) else Ok None) else Err Short)) ≡ Ok (Some x) →
     (short ≡ false) × (inside ≡ true) × (v ≡ x)
@@ -65,9 +66,6 @@ spelled_features b p small inside =
     let fourth = number b (bytes_of 4 (le b p 4) ++ bytes_of 4 (le b (p + 4) 4) ++ bytes_of 4 (le b (p + 8) 4)) p (p + 12) (p + 16) 4 small third (omega arith) (omega arith) (omega arith) in
     number b (bytes_of 4 (le b p 4) ++ bytes_of 4 (le b (p + 4) 4) ++ bytes_of 4 (le b (p + 8) 4) ++ bytes_of 4 (le b (p + 12) 4)) p (p + 16) (p + 20) 4 small fourth (omega arith) (omega arith) (omega arith)
 
-not_below : (n k : ℕ) → nat_lt n k ≡ false → k ≤ n
-not_below n k e = grind (arith, nat_tests)
-
 pub spelled_pdb70 : (mode : ParseMode) (b : List ℕ) (p size : ℕ) (r : Pdb70) → AreBytes b → pdb70_record mode b p size ≡ Ok (Some r) → spell_pdb70 r ≡ range b p size
 unfolding pdb70_record
 spelled_pdb70 mode b p size r small e =
@@ -84,7 +82,7 @@ spelled_pdb20 mode b p size r small e =
     let inside : p + 16 + (size - 16) ≤ length b = inside_if_held b (p + 16) (size - 16) tests.1 in
     ap spell_pdb20 (sym tests.2) ∙ spelled_pdb20_at b p size small least (omega arith)
 
--- what is given passed its tests
+-- what is returned passed its tests
 pub passed_pogo : {X : Type 0} (there own larger inside : Bool) (i j : Refusal) (v x : X) →
     (if there then (if own then outcome ((larger, i) ∷ (inside, j) ∷ []) (Some v) else Ok None) else Err Short) ≡ Ok (Some x) →
     (larger ≡ true) × (inside ≡ true) × (v ≡ x)
@@ -108,7 +106,7 @@ spelled_pogo b p size r small e =
     ap (λ (x : Pogo). bytes_of 4 x.signature ++ x.bytes) (sym tests.2)
     ∙ join b (bytes_of 4 (le b p 4)) (range b (p + 4) (size - 4)) p (p + 4) (p + size) (bytes_of-le b p 4 small (omega arith)) (ap (slice_range b (p + 4)) end) (omega arith) (omega arith) (omega arith)
 
--- what is given is the stamp, or passed its tests
+-- what is returned is the stamp, or passed its tests
 pub passed_repro : (empty there inside : Bool) (i j : Refusal) (v w x : Repro) →
     (if empty then Ok v else outcome ((there, i) ∷ (inside, j) ∷ []) w) ≡ Ok x →
     (v ≡ x) ⊎ ((inside ≡ true) × (w ≡ x))

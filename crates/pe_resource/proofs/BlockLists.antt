@@ -2,7 +2,7 @@
 use Rattle.std.proofs.Common.{◌≡◌, ℕ, zero, suc, ◌+◌, ◌<◌, ◌≤◌, ◌==◌, Bool, true, false, List, [], ◌∷◌, length, take, drop, length-drop, map, Option, Some, None, Result, Ok, Err, if◌then◌else◌, refl, ap, sym, ◌∙◌, subst, arith, IsTrue, ◌↔◌}
 use Rattle.std.proofs.lemmas.Bool.{false≢true}
 use Rattle.std.proofs.lemmas.Bool.Decides.{nat_tests}
-use Rattle.std.proofs.lemmas.List.{places, drop_all, take_all}
+use Rattle.std.proofs.lemmas.List.{places, take_all}
 use Rattle.std.proofs.lemmas.Slice.Eq.{bytes_eq-Decides}
 use Rattle.std.specs.Prelude.{nat_le}
 use Rattle.std.specs.Str.{bytes_eq}
@@ -18,9 +18,6 @@ use Rattle.pe_resource.specs.VersionStrings.{key_length, up_to_four}
 use Rattle.pe_resource.specs.VersionBlocks.{BlockRefusal, Image, BelowHead, PastEnd, Block, block_view, block_answer, block_kind_of, KeyEnd, ends_blocks, block_of, whole_block, rest_of, own_bytes, blocks_end, block_and_rest, first_block, then_blocks, blocks_up_to, blocks, ReturnsBlock, has_key, found_or, block_with_key}
 
 -- ---- parts of bytes
-
-pub none_after : (b : List ℕ) (n : ℕ) → length b < n → [] ≡ drop n b
-none_after b n h = sym (drop_all n b (omega (arith, h)))
 
 pub all_before : (b : List ℕ) (n : ℕ) → length b < n → b ≡ take n b
 all_before b n h = sym (take_all n b (omega (arith, h)))

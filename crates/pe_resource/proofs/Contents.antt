@@ -1,4 +1,4 @@
--- What lies behind entries, put together.
+-- What entries lead to, put together.
 use Rattle.std.proofs.Common.{◌≡◌, ℕ, List, Option, Some, Result, Ok, Err, refl, ap, sym, ◌∙◌, subst}
 use Rattle.pe_core.specs.Refusals.{Refusal, ReturnsAs, ◌>>=◌, answer_by}
 use Rattle.pe_core.specs.declared.byte_range.ByteRange.{ByteRange}

@@ -5,7 +5,7 @@ use Rattle.pe_core.proofs.EntryItems.{whole_entries_more, whole_entries_none, co
 use Rattle.pe_resource.specs.EntriesAfter.{entries_after}
 use Rattle.pe_resource.specs.ResourceEntries.{entry_at, entries}
 
--- one entry and those behind it
+-- one entry and those after it
 pub entries_more : (b : List ℕ) → 8 ≤ length b → entries b ≡ entry_at b 0 ∷ entries (drop 8 b)
 unfolding entries
 entries_more b h = whole_entries_more entry_at 8 b entries_after (omega arith) h
@@ -21,7 +21,7 @@ entries_count b = count_of_whole_entries entry_at 8 b
 pub entries_empty : entries [] ≡ []
 entries_empty = entries_none [] (omega arith)
 
--- ---- what an iterator gives
+-- ---- what an iterator returns
 
 pub list_from_yields : {S A B : Type 0} (view : A → B) (rest : S → List B) (s t u : S) (xs : List A) → Yields (YieldsFirstBy view rest) s xs t → YieldsFirstBy view rest t None u → map view xs ≡ rest s
 list_from_yields {S} view rest s t u [] y end = sym (subst (λ (r : S). rest r ≡ []) (sym y) end.0)

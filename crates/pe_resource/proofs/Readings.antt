@@ -4,6 +4,7 @@ use Rattle.std.specs.Iterator.{Yields}
 use Rattle.pe_core.proofs.Steps.{one_ok, one_err, not_both}
 use Rattle.pe_core.specs.Refusals.{Refusal}
 use Rattle.pe_core.specs.declared.error.Error.{Error}
+use Rattle.pe_core.proofs.Map.{same_some}
 use Rattle.pe_resource.specs.declared.string.ResourceString.{ResourceString}
 use Rattle.pe_resource.specs.declared.string.ResourceStringIterator.{ResourceStringIterator}
 use Rattle.pe_resource.specs.VersionStrings.{VersionString, version_string_at, Strings, ReturnsString, rest_of, item_of, then_more, strings}
@@ -24,9 +25,6 @@ strings_from_yields s t u (Ok v ∷ xs) y end =
     (y.1.0, y.1.1, y.1.2, subst (λ (r : List ℕ). Strings r (map item_of xs)) y.1.3 (strings_from_yields y.0 t u xs y.2 end))
 strings_from_yields s t u (Err e ∷ xs) y end =
     (y.1.0, y.1.1, nothing_left (rest_of y.0) (map item_of xs) y.1.2 (strings_from_yields y.0 t u xs y.2 end))
-
-some_once : {X : Type 0} (x y : X) → Some x ≡ Some y → x ≡ y
-some_once x y e = cc
 
 not_none : {X : Type 0} (x : X) → None ≡ Some x → ⊥
 not_none x e = cc
@@ -49,7 +47,7 @@ strings_once b [] (Err e ∷ ys) h k = absurd (ends_not_refused b e h k.0 k.1)
 strings_once b (Ok c ∷ xs) [] h k = absurd (ends_not b c h.1 k h.0 h.2)
 strings_once b (Ok c ∷ xs) (Ok d ∷ ys) h k =
     let e = one_ok (version_string_at b 0) (Some c, h.1) (Some d, k.1) h.2 k.2 in
-    let first : c ≡ d = some_once c d (ap (λ (p : Pair). p.0) e) in
+    let first : c ≡ d = same_some c d (ap (λ (p : Pair). p.0) e) in
     let next : h.1 ≡ k.1 = ap (λ (p : Pair). p.1) e in
     let rest : xs ≡ ys = strings_once (drop h.1 b) xs ys h.3 (subst (λ (n : ℕ). Strings (drop n b) ys) (sym next) k.3) in
     ap (λ (x : VersionString). Ok x ∷ xs) first ∙ ap (λ (zs : List (Result VersionString Refusal)). Ok d ∷ zs) rest

@@ -27,7 +27,7 @@ pub string_read : (b : List ℕ) (s : VersionString) (q : ℕ) → version_strin
 unfolding whole_string_at
 string_read b s q h = read_as (holds b 0 2) (le b 0 2 == 0) (holds b 2 4) (is_short_text b 0) (holds b (value_offset b 0) (value_bytes b 0)) Short refusals.ResourceString refusals.ResourceString 2 (string_and_next b 0) s q h
 
--- a string ends behind where it begins
+-- a string ends after its start
 pub further : (b : List ℕ) (s : VersionString) (q : ℕ) → version_string_at b 0 ≡ Ok (Some s, q) → 0 < q
 unfolding string_and_next value_offset
 further b s q h =

@@ -1,7 +1,7 @@
 -- Where values lie among strings.
 use Rattle.std.proofs.Common.{◌≡◌, ℕ, zero, suc, ◌+◌, ◌-◌, ◌<◌, ◌≤◌, Bool, true, false, List, [], ◌∷◌, length, drop, length-drop, All, IfSome, map, ext_get_or, get_or, Option, Some, None, Result, Ok, Err, if◌then◌else◌, refl, ap, sym, ◌∙◌, subst, arith}
 use Rattle.std.proofs.lemmas.Bool.Decides.{nat_tests}
-use Rattle.std.proofs.lemmas.List.{places, same_lists, get_or-map, length-map}
+use Rattle.std.proofs.lemmas.List.{places, same_lists, get_or-map, length-map, drop-drop}
 use Rattle.std.specs.Option.{option_map, option_or}
 use Rattle.std.specs.Prelude.{nat_le}
 use Rattle.pe_core.proofs.Ranges.{length_range, range_in_range}
@@ -19,7 +19,7 @@ use Rattle.pe_resource.proofs.Names.{whole_key}
 abbrev Pair : Type 0
 Pair = Option VersionString × ℕ
 
--- a range behind bytes that are dropped
+-- a range after bytes that are dropped
 range_after : (b : List ℕ) (k p n : ℕ) → p + n ≤ length (drop k b) → range (drop k b) p n ≡ range b (k + p) n
 range_after b k p n h = same_lists _ _ (grind (arith, places)) (λ j d lt. grind (arith, places))
 
@@ -28,9 +28,6 @@ pub inner_bytes : (b : List ℕ) (outer r : ByteRange) → IsWithin b outer → 
 inner_bytes b outer r h i =
     let size : length (bytes_in b outer) ≡ outer.length = length_range b outer.offset outer.length h in
     (omega (arith, size, i, h), range_in_range b outer.offset outer.length r.offset r.length h (omega (arith, size, i)))
-
-drop_after : (b : List ℕ) (k q : ℕ) → drop q (drop k b) ≡ drop (k + q) b
-drop_after b k q = same_lists _ _ (grind (arith, places)) (λ j d lt. grind (arith, places))
 
 -- ---- one string
 
@@ -58,7 +55,7 @@ abbrev value_in : Option VersionString → List ℕ
 value_in None = []
 value_in (Some s) = s.value
 
--- the value of a string lies behind its key, and ends where the next string begins
+-- the value of a string lies after its key, and ends where the next string starts
 pub record IsPlaced (b : List ℕ) (s : VersionString) (q : ℕ) : Type 0 where
   pub end : value_start s + length s.value ≡ q
   pub within : q ≤ length b
@@ -109,7 +106,7 @@ there_within (suc n) name f (x ∷ xs) p h after in_file =
     let size : length (x ∷ xs) ≡ length f - p = ap length after ∙ length-drop p f in
     subst (λ (ys : List (Result VersionString Refusal)). IsThere f (value_range name p (read ys)) (value_of name (read ys))) (sym (strings_start (x ∷ xs) (λ e. cc)))
     (there_at name f (x ∷ xs) p (version_string_at (x ∷ xs) 0) refl after in_file
-    (λ q some inside. there_within n name f (drop q (x ∷ xs)) (p + q) (grind (arith, length-drop {A = ℕ})) (ap (drop q) after ∙ drop_after f p q) (omega (arith, size))))
+    (λ q some inside. there_within n name f (drop q (x ∷ xs)) (p + q) (grind (arith, length-drop {A = ℕ})) (ap (drop q) after ∙ drop-drop q p f) (omega (arith, size))))
 
 pub value_there : (name b : List ℕ) → IsThere b (value_range name 0 (read (strings b))) (value_of name (read (strings b)))
 value_there name b = there_within (length b) name b b 0 (omega arith) refl (omega arith)

@@ -1,4 +1,4 @@
--- Where a walk has come to, and why a place that comes again never ends.
+-- Where a walk has come to, and why an offset that comes again never ends.
 use Rattle.std.proofs.Common.{◌≡◌, ℕ, suc, ◌+◌, ◌<◌, ◌≤◌, Bool, true, false, cond, List, length, Option, Some, None, Result, Ok, Err, ◌↔◌, refl, ap, sym, ◌∙◌, subst, [], ◌∷◌, arith, add-one, is_some, ⊎_elim}
 use Rattle.std.proofs.lemmas.Bool.{cases_lt}
 use Rattle.std.proofs.lemmas.Bool.Decides.{nat_tests}
@@ -26,7 +26,7 @@ offsets_below b p x a to =
     (λ (inside : directory_offset x + 16 ≤ length b). omega arith)
     (cases_lt (length b) (directory_offset x + 16))
 
--- the walk has come to this entry, and the saved place is that of an earlier one or its own
+-- the walk has come to this entry, and the saved offset is that of an earlier one or its own
 pub record WalkedTo (b : List ℕ) (p : ResourceEntry → Bool) (e : ResourceEntry) (k : ℕ) (current : ResourceEntry) (saved : ℕ) : Type 0 where
   pub reached : after (passes b p) k e ≡ Some current
   pub before : ℕ

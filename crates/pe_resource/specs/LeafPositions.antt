@@ -2,7 +2,7 @@
 use Rattle.std.specs.Prelude.{◌≡◌, ℕ, ◌+◌, ◌-◌, ◌*◌, ◌&&◌, Bool, List, [], ◌∷◌, length, Option, Some, None, Result, Ok, Err, nat_le, if◌then◌else◌}
 use Rattle.std.specs.Option.{option_map}
 use Rattle.pe_core.specs.Bytes.{holds}
-use Rattle.pe_core.specs.Offsets.{bytes_in, IsWithin, StandAt}
+use Rattle.pe_core.specs.Offsets.{bytes_in, IsWithin, StandAt, empty_range}
 use Rattle.pe_core.specs.Refusals.{Refusal, Short, outcome, ◌>>=◌}
 use Rattle.pe_core.specs.declared.byte_range.ByteRange.{ByteRange}
 use Rattle.pe_core.specs.declared.data_directories.DataDirectory.{DataDirectory}
@@ -36,16 +36,13 @@ pub record IsPosition (b : List ℕ) (p : LeafPosition) : Type 0 where
   pub names : IsWithin b p.names
   pub languages : IsWithin b p.languages
 
--- an entry that is not looked at, and the range of no entries
+-- an entry that is not looked at
 abbrev pub no_entry : ResourceEntry
 no_entry = record { name_or_id = 0; offset_to_data_or_directory = 0 }
 
-abbrev pub no_entries : ByteRange
-no_entries = record { offset = 0; length = 0 }
-
 -- the position at the end of any walk
 abbrev pub no_position : LeafPosition
-no_position = record { types = no_entries; resource_type = no_entry; names = no_entries; name = no_entry; languages = no_entries }
+no_position = record { types = empty_range; resource_type = no_entry; names = empty_range; name = no_entry; languages = empty_range }
 
 -- the leaves left at a position of the data
 abbrev pub leaves_after : List ℕ → LeafPosition → List (Result ResourceLeaf TreeRefusal)
@@ -115,7 +112,7 @@ first_below b e = first_of_table (split_table b (range_below b e)) (table_below 
 
 -- the range of the others; of no entries without a first
 abbrev pub others : Option (ResourceEntry × ByteRange) → ByteRange
-others None = no_entries
+others None = empty_range
 others (Some x) = x.1
 
 -- the position after the first leaf of a name, by the names after it: its other languages are left

@@ -12,7 +12,7 @@ ghost use Rattle.pe_resource.specs.ResourceEntries.{entries};
 
 use crate::constants::RESOURCE_ENTRY_SIZE;
 use crate::entry::ResourceEntry;
-use crate::leaves::{NO_ENTRIES, ResourceLeaf, first_of_name, first_of_type, leaf_of, split_range};
+use crate::leaves::{ResourceLeaf, first_of_name, first_of_type, leaf_of, split_range};
 use crate::tree_error::ResourceTreeError;
 use pe_core::{ByteRange, Result, require_bytes};
 
@@ -40,11 +40,11 @@ const NO_ENTRY: ResourceEntry = ResourceEntry {
 
 /// The default.
 const END: LeafPosition = LeafPosition {
-    types: NO_ENTRIES,
+    types: ByteRange::EMPTY,
     resource_type: NO_ENTRY,
-    names: NO_ENTRIES,
+    names: ByteRange::EMPTY,
     name: NO_ENTRY,
-    languages: NO_ENTRIES,
+    languages: ByteRange::EMPTY,
 };
 
 /// The first entry of a table in the data, and the range of those after it. `None` if it has no entry.

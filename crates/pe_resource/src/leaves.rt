@@ -35,12 +35,6 @@ use pe_core::{
     require_bytes, slice_at,
 };
 
-/// The range of a table without entries.
-pub(crate) const NO_ENTRIES: ByteRange = ByteRange {
-    offset: 0,
-    length: 0,
-};
-
 /// A leaf of a resource tree: a resource in one language.
 #[derive(Clone, Copy, Debug, PartialEq)]
 pub struct ResourceLeaf {
@@ -251,7 +245,7 @@ pub(crate) fn first_of_name(
     match table_below(data, name) {
         Err(error) => FirstOfName {
             item: Err(error),
-            languages: NO_ENTRIES,
+            languages: ByteRange::EMPTY,
         },
         Ok(table) => {
             let (language, languages) = split_range(data, table);
@@ -293,8 +287,8 @@ pub(crate) fn first_of_type(data: &[u8], resource_type: ResourceEntry) -> FirstO
         Err(error) => FirstOfType {
             item: Err(error),
             name: ResourceEntry::default(),
-            languages: NO_ENTRIES,
-            names: NO_ENTRIES,
+            languages: ByteRange::EMPTY,
+            names: ByteRange::EMPTY,
         },
         Ok(table) => {
             let (name, names) = split_range(data, table);

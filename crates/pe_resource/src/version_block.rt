@@ -94,7 +94,7 @@ pub struct VersionBlock<'a> {
 }
 
 /// The bytes from an offset on, none if it is past the end.
-#[tactic(auto, using(crate::proofs::BlockLists::none_after))]
+#[tactic(auto, using(pe_core::proofs::Texts::no_rest))]
 fn bytes_from(bytes: &[u8], offset: usize) -> &[u8]
     ensures { result.now ≡ drop offset bytes.now }
 {

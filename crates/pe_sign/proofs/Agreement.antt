@@ -83,7 +83,7 @@ agree_splice q b p s h outside = record {
 }
 
 -- a write over all that differs
-cond_same : (t : Bool) (x y z : ℕ) → (t ≡ false → y ≡ z) → cond t x y ≡ cond t x z
+pub cond_same : (t : Bool) (x y z : ℕ) → (t ≡ false → y ≡ z) → cond t x y ≡ cond t x z
 cond_same true x y z h = refl
 cond_same false x y z h = h refl
 

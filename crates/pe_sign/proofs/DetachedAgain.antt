@@ -1,8 +1,9 @@
 -- What is attached can be detached.
-use Rattle.std.proofs.Common.{◌≡◌, ℕ, ◌+◌, ◌-◌, ◌*◌, ◌≤◌, ◌==◌, ◌&&◌, ◌||◌, Bool, true, false, List, [], ◌∷◌, length, Ok, refl, ap, sym, ◌∙◌, subst, arith}
+use Rattle.std.proofs.Common.{◌≡◌, ℕ, ◌+◌, ◌-◌, ◌*◌, ◌≤◌, ◌==◌, ◌&&◌, ◌||◌, Bool, true, List, [], ◌∷◌, length, Ok, refl, ap, sym, ◌∙◌, subst, arith}
 use Rattle.std.specs.Prelude.{not, nat_le, Result, if◌then◌else◌}
 use Rattle.std.specs.List.{list_all}
 use Rattle.std.proofs.lemmas.Bool.Decides.{nat_tests}
+use Rattle.std.proofs.lemmas.Bool.{or_right}
 use Rattle.pe_core.proofs.EntryItems.{each_same}
 use Rattle.pe_core.proofs.Equality.{both}
 use Rattle.pe_core.specs.Directories.{absent_directory}
@@ -13,6 +14,7 @@ use Rattle.pe_core.specs.Rows.{rows}
 use Rattle.pe_core.specs.Sections.{sections_offset}
 use Rattle.pe_core.specs.declared.options.ParseMode.{ParseMode}
 use Rattle.pe_core.specs.declared.section_table.SectionTable.{SectionTable}
+use Rattle.pe_core.proofs.Comparisons.{le_is}
 use Rattle.pe_sign.specs.Attaching.{attached_of, before_table, data_ends_by, detached_file, detached_of, entry_to, headers_end_by, is_signed, layout_tests, sections_end_by, table_start, unsigned_length, with_both_fields, with_table}
 use Rattle.pe_sign.specs.AttachingSteps.{Fits}
 use Rattle.pe_sign.specs.Checksum.{checksum_of}
@@ -24,7 +26,7 @@ use Rattle.pe_sign.specs.declared.digest.LeftOut.{LeftOut}
 use Rattle.pe_sign.proofs.Detaching.{detached_again, is_table, start_holds, holds_start}
 use Rattle.pe_sign.proofs.Digests.{start_inside}
 use Rattle.pe_sign.proofs.Entries.{image_at}
-use Rattle.pe_sign.proofs.HeadersStay.{Stays, same_range, third, up_to}
+use Rattle.pe_sign.proofs.HeadersStay.{Stays, same_range, third}
 use Rattle.pe_sign.proofs.Tests.{layout_passed}
 use Rattle.pe_sign.proofs.WrittenHeaders.{attached_header, attached_keeps, attached_parts, entry_ends, same_ok, stays_attached}
 use Rattle.pe_sign.proofs.WrittenImages.{attached_is}
@@ -74,10 +76,6 @@ five_pass t u v w x l g h i j k m = rw (h, i, j, k, m) refl
 same_number : (m n : ℕ) → m ≡ n → (m == n) ≡ true
 same_number m n h = grind (arith, nat_tests)
 
-or_true : (a b : Bool) → b ≡ true → (a || b) ≡ true
-or_true true b h = refl
-or_true false b h = h
-
 accepted : (placement : Placement) (b : List ℕ) (h : HeaderView) (c f : List ℕ) (l : LeftOut) (sum : ℕ) → left_out_of h ≡ Ok l → attached_of placement b h c ≡ Ok f → directories_end h ≤ sections_offset h →
     detached_of f (headers_with (entry_to (table_start placement l (length b)) (length f)) sum h) ≡ Ok (detached_file (with_table l (table_start placement l (length b)) (length f)) f)
 accepted placement b h c f l sum i j small =
@@ -102,8 +100,8 @@ accepted placement b h c f l sum i j small =
     let content : sections_end_by f k start ≡ true = rw sections (all_later u start (rows (section_table b) 40 (sections_offset h) n) later passed.1) in
     ap (λ (r : Result LeftOut Refusal). (of_image r >>= λ x. outcome (layout_tests f k x) x) >>= λ x. Ok (detached_file x f)) (attached_parts placement b h c f l sum i j)
     ∙ five_pass (l.directory_entry.length == 8) (nat_le (start + (length f - start)) (length f)) (not (is_signed m) || nat_le (length f) (start + (length f - start))) (headers_end_by k m (unsigned_length m (length f)))
-    (sections_end_by f k (unsigned_length m (length f))) m (λ x. detached_file x f) (same_number l.directory_entry.length 8 fits.entry_size) (up_to (start + (length f - start)) (length f) (omega arith))
-    (or_true (not (is_signed m)) (nat_le (length f) (start + (length f - start))) (up_to (length f) (start + (length f - start)) (omega arith))) (rw cut headers) (rw cut content)
+    (sections_end_by f k (unsigned_length m (length f))) m (λ x. detached_file x f) (same_number l.directory_entry.length 8 fits.entry_size) (le_is (start + (length f - start)) (length f) (omega arith))
+    (or_right (not (is_signed m)) (nat_le (length f) (start + (length f - start))) (le_is (length f) (start + (length f - start)) (omega arith))) (rw cut headers) (rw cut content)
 
 pub is_detached : (mode : ParseMode) (placement : Placement) (b : List ℕ) (h k : HeaderView) (c f : List ℕ) (l : LeftOut) → header_at b mode ≡ Ok h → left_out_of h ≡ Ok l → attached_of placement b h c ≡ Ok f →
     directories_end h ≤ sections_offset h → header_at f mode ≡ Ok k → detached_of f k ≡ Ok (with_both_fields l absent_directory (before_table placement l b))

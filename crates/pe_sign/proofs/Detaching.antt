@@ -1,5 +1,5 @@
 -- Fields that are written over others, and read again.
-use Rattle.std.proofs.Common.{◌≡◌, ℕ, ◌+◌, ◌-◌, ◌^◌, ◌<◌, ◌≤◌, ◌==◌, ◌&&◌, ◌||◌, Bool, true, false, cond, List, length, Ok, get_or, take, refl, ap, sym, ◌∙◌, subst, arith}
+use Rattle.std.proofs.Common.{◌≡◌, ℕ, ◌+◌, ◌-◌, ◌^◌, ◌<◌, ◌≤◌, ◌==◌, ◌&&◌, ◌||◌, Bool, true, false, List, length, Ok, get_or, take, refl, ap, sym, ◌∙◌, subst, arith}
 use Rattle.std.specs.Prelude.{not, nat_le, nat_lt, if◌then◌else◌}
 use Rattle.std.proofs.lemmas.Bool.Decides.{nat_tests}
 use Rattle.std.proofs.lemmas.List.{length-take-le}
@@ -16,7 +16,7 @@ use Rattle.pe_sign.specs.Digest.{is_in, left_out_of}
 use Rattle.pe_sign.specs.declared.attachment.Placement.{Placement}
 use Rattle.pe_sign.specs.declared.attachment.Placement.TheVariants.{After, InPlace}
 use Rattle.pe_sign.specs.declared.digest.LeftOut.{LeftOut}
-use Rattle.pe_sign.proofs.Agreement.{Agree, agree_take, agree_splice, agree_more, in_field, splice_same, sum_same}
+use Rattle.pe_sign.proofs.Agreement.{Agree, agree_take, agree_splice, agree_more, in_field, splice_same, sum_same, cond_same}
 use Rattle.pe_sign.proofs.Digests.{Holds, in_fields, agree_fields, front_of, holds_joined, holds_more, holds_unsigned, length-before, start_inside}
 use Rattle.pe_core.proofs.Splices.{get_or-splice, length-splice, length-bytes_of}
 use Rattle.pe_sign.proofs.WrittenImages.{attached_is, detached_is}
@@ -45,10 +45,6 @@ field_is_sum l b h =
 
 -- ---- fields over files that differ in them alone
 
-if_both : (t : Bool) (x y z : ℕ) → (t ≡ false → y ≡ z) → cond t x y ≡ cond t x z
-if_both true x y z h = refl
-if_both false x y z h = h refl
-
 written_both : (q r : ℕ → Bool) (xs ys : List ℕ) (p : ℕ) (s : List ℕ) → p + length s ≤ length xs → Agree q xs ys →
     ((k : ℕ) → r k ≡ false → (nat_le p k && nat_lt k (p + length s)) ≡ false → q k ≡ false) → Agree r (splice xs p s) (splice ys p s)
 written_both q r xs ys p s h a cover =
@@ -56,7 +52,7 @@ written_both q r xs ys p s h a cover =
     record {
       count = length-splice xs p s h ∙ a.count ∙ sym (length-splice ys p s room);
       same = λ k i. get_or-splice xs p s k h
-          ∙ if_both (nat_le p k && nat_lt k (p + length s)) (get_or s (k - p) 0) (get_or xs k 0) (get_or ys k 0) (λ t. a.same k (cover k i t))
+          ∙ cond_same (nat_le p k && nat_lt k (p + length s)) (get_or s (k - p) 0) (get_or xs k 0) (get_or ys k 0) (λ t. a.same k (cover k i t))
           ∙ sym (get_or-splice ys p s k room);
     }
 

@@ -18,6 +18,7 @@ use Rattle.pe_sign.proofs.Agreement.{Agree, agree_take, agree_splice, agree_then
 use Rattle.pe_sign.proofs.Parts.{kept_append, kept_all, kept_none}
 use Rattle.pe_sign.proofs.Slices.{in_certificates}
 use Rattle.pe_core.proofs.Splices.{length-splice, length-bytes_of}
+use Rattle.pe_core.proofs.Comparisons.{or_false}
 use Rattle.pe_sign.proofs.Splices.{length-padded}
 use Rattle.pe_sign.proofs.Writes.{length-entry, length-joined_file, kept_holds}
 
@@ -30,10 +31,6 @@ in_fields l k = is_in l.checksum k || is_in l.directory_entry k
 -- what a digest covers
 abbrev pub covered_by : List ℕ → ℕ → Covered
 covered_by content zeros = record { content = content; zeros = zeros }
-
-or_false : (a : Bool) → (a || false) ≡ a
-or_false true = refl
-or_false false = refl
 
 left_out_before : (l : LeftOut) (k : ℕ) → is_in l.certificates k ≡ false → is_left_out l k ≡ in_fields l k
 left_out_before l k h = ap (λ t. in_fields l k || t) h ∙ or_false (in_fields l k)

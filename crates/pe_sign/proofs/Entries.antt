@@ -4,12 +4,13 @@ use Rattle.std.specs.Prelude.{nat_le, nat_lt, if◌then◌else◌}
 use Rattle.std.proofs.lemmas.Bool.Decides.{nat_tests}
 use Rattle.pe_core.specs.Bytes.{le, bytes_of, splice}
 use Rattle.pe_core.specs.Header.{HeaderView, OptionalHeaderView, directories_offset}
+use Rattle.pe_core.specs.Offsets.{empty_range}
 use Rattle.pe_core.specs.Refusals.{Refusal, outcome, ◌>>=◌}
 use Rattle.pe_core.specs.declared.data_directories.DataDirectory.{DataDirectory}
 use Rattle.pe_sign.specs.Attaching.{changeable_parts, attach_tests, table_start, entry_to, with_entry, with_checksum, with_both_fields, joined_file, attached_file, attached_of}
 use Rattle.pe_sign.specs.AttachingSteps.{FitsWith}
 use Rattle.pe_sign.specs.Checksum.{checksum_of}
-use Rattle.pe_sign.specs.Digest.{left_out_before, left_out_of, nothing}
+use Rattle.pe_sign.specs.Digest.{left_out_before, left_out_of}
 use Rattle.pe_sign.specs.SignRefusals.{SignRefusal}
 use Rattle.pe_sign.specs.declared.attachment.Placement.{Placement}
 use Rattle.pe_sign.specs.declared.digest.LeftOut.{LeftOut}
@@ -72,7 +73,7 @@ reads_fields l row b h apart i j =
     }
 
 -- the checksum is before the entry
-entry_by : (t w : Bool) (p : ℕ) → (if t then record { offset = p + 24 + directories_offset w + 32; length = 8 } else nothing).length ≡ 8 → p + 88 + 4 ≤ (if t then record { offset = p + 24 + directories_offset w + 32; length = 8 } else nothing).offset
+entry_by : (t w : Bool) (p : ℕ) → (if t then record { offset = p + 24 + directories_offset w + 32; length = 8 } else empty_range).length ≡ 8 → p + 88 + 4 ≤ (if t then record { offset = p + 24 + directories_offset w + 32; length = 8 } else empty_range).offset
 entry_by false w p h = absurd (omega (arith, h))
 entry_by true true p h = omega arith
 entry_by true false p h = omega arith

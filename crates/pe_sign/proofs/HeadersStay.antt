@@ -7,16 +7,18 @@ use Rattle.std.proofs.lemmas.List.{places, ext_get_or, length-set, get_or-set_sa
 use Rattle.pe_core.specs.Bytes.{le, holds}
 use Rattle.pe_core.specs.Directories.{absent_directory, kept, present}
 use Rattle.pe_core.specs.Header.{HeaderView, OptionalHeaderView, directories_offset, is_pe32_plus, optional_header, optional_header_tests, header, header_tests, header_at}
+use Rattle.pe_core.specs.Offsets.{empty_range}
 use Rattle.pe_core.specs.Options.{is_permissive}
 use Rattle.pe_core.specs.Refusals.{Short, BadMagic, HeaderPointer, outcome}
 use Rattle.pe_core.specs.declared.options.ParseMode.{ParseMode}
-use Rattle.pe_sign.specs.Digest.{entry_range, certificates_range, left_out_before, left_out_of, nothing}
+use Rattle.pe_sign.specs.Digest.{entry_range, certificates_range, left_out_before, left_out_of}
 use Rattle.pe_sign.specs.declared.digest.LeftOut.{LeftOut}
 use Rattle.pe_core.specs.Records.{dos_header, coff_header, standard_fields_32, standard_fields_64, windows_fields_32, windows_fields_64, data_directory}
 use Rattle.pe_core.specs.Rows.{each, rows}
 use Rattle.pe_core.specs.declared.data_directories.DataDirectory.{DataDirectory}
 use Rattle.pe_core.proofs.EntryItems.{length-each, get_or-each}
 use Rattle.pe_core.proofs.NumberBytes.{le-same}
+use Rattle.pe_core.proofs.Comparisons.{le_is}
 use Rattle.pe_sign.specs.WrittenHeaders.{optional_with, headers_with, directories_end_after, directories_end}
 use Rattle.pe_sign.proofs.Tests.{passed, value_is}
 
@@ -69,21 +71,6 @@ coff_stays f b c e n s p h =
       first f b c e n s (p + 18) 2 (omega arith),
     ) refl
 
-standard_stay_32 : (f b : List ℕ) (c e n : ℕ) → Stays f b c e n → (p : ℕ) → p + 28 ≤ c → standard_fields_32 f p ≡ standard_fields_32 b p
-unfolding standard_fields_32
-standard_stay_32 f b c e n s p h =
-    rw (
-      first f b c e n s p 2 (omega arith),
-      first f b c e n s (p + 2) 1 (omega arith),
-      first f b c e n s (p + 3) 1 (omega arith),
-      first f b c e n s (p + 4) 4 (omega arith),
-      first f b c e n s (p + 8) 4 (omega arith),
-      first f b c e n s (p + 12) 4 (omega arith),
-      first f b c e n s (p + 16) 4 (omega arith),
-      first f b c e n s (p + 20) 4 (omega arith),
-      first f b c e n s (p + 24) 4 (omega arith),
-    ) refl
-
 standard_stay_64 : (f b : List ℕ) (c e n : ℕ) → Stays f b c e n → (p : ℕ) → p + 24 ≤ c → standard_fields_64 f p ≡ standard_fields_64 b p
 unfolding standard_fields_64
 standard_stay_64 f b c e n s p h =
@@ -97,6 +84,10 @@ standard_stay_64 f b c e n s p h =
       first f b c e n s (p + 16) 4 (omega arith),
       first f b c e n s (p + 20) 4 (omega arith),
     ) refl
+
+standard_stay_32 : (f b : List ℕ) (c e n : ℕ) → Stays f b c e n → (p : ℕ) → p + 28 ≤ c → standard_fields_32 f p ≡ standard_fields_32 b p
+unfolding standard_fields_32
+standard_stay_32 f b c e n s p h = rw (standard_stay_64 f b c e n s p (omega arith), first f b c e n s (p + 24) 4 (omega arith)) refl
 
 -- the checksum is among the fields of Windows
 windows_stay_32 : (f b : List ℕ) (c e n : ℕ) → Stays f b c e n → (p : ℕ) → c ≡ p + 36 → p + 68 ≤ e → windows_fields_32 f p ≡ record (windows_fields_32 b p) { check_sum = le f c 4 }
@@ -206,9 +197,6 @@ optional_32 f b c e n s q entry at_c at_e w to is =
 
 -- ---- the tests
 
-pub up_to : (m n : ℕ) → m ≤ n → nat_le m n ≡ true
-up_to m n h = grind (arith, nat_tests)
-
 wide : (w : Bool) → 96 ≤ directories_offset w
 wide true = omega arith
 wide false = omega arith
@@ -218,7 +206,7 @@ optional_accepted : (f b : List ℕ) (q : ℕ) (entry : DataDirectory) (sum : �
     (y : HeaderView) → outcome (optional_header_tests f q) y ≡ Ok y
 unfolding optional_header_tests
 optional_accepted f b q entry sum two same magic room y =
-    rw (two, same, magic, up_to (q + 2) (length f) (omega (arith, wide (is_pe32_plus b q))), up_to (q + directories_offset (is_pe32_plus b q)) (length f) (omega arith), up_to (q + directories_offset (is_pe32_plus b q) + 8 * kept (optional_header b q).windows_fields.number_of_rva_and_sizes) (length f) room) refl
+    rw (two, same, magic, le_is (q + 2) (length f) (omega (arith, wide (is_pe32_plus b q))), le_is (q + directories_offset (is_pe32_plus b q)) (length f) (omega arith), le_is (q + directories_offset (is_pe32_plus b q) + 8 * kept (optional_header b q).windows_fields.number_of_rva_and_sizes) (length f) room) refl
 
 -- the optional header by its width: it is accepted again, and is the same but for the two fields
 pub record IsAgain (f b : List ℕ) (q sum : ℕ) (entry : DataDirectory) : Type 0 where
@@ -290,8 +278,8 @@ optional_parsed false b q x h is e =
 
 -- ---- where the two fields are
 
-entry_offset : (t w : Bool) (p : ℕ) → (if t then record { offset = p + 24 + directories_offset w + 32; length = 8 } else nothing).length ≡ 8 →
-    (if t then record { offset = p + 24 + directories_offset w + 32; length = 8 } else nothing).offset ≡ p + 24 + directories_offset w + 32
+entry_offset : (t w : Bool) (p : ℕ) → (if t then record { offset = p + 24 + directories_offset w + 32; length = 8 } else empty_range).length ≡ 8 →
+    (if t then record { offset = p + 24 + directories_offset w + 32; length = 8 } else empty_range).offset ≡ p + 24 + directories_offset w + 32
 entry_offset false w p h = absurd (omega (arith, h))
 entry_offset true w p h = refl
 
@@ -360,12 +348,12 @@ again f b mode h l entry a e eight s is =
       first f b c at n s p 4 (omega (arith, at_c)),
       coff_stays f b c at n s (p + 4) (omega (arith, at_c)),
       fields.some,
-      up_to 64 (length f) (omega (arith, at_c, s.apart, s.entry, s.inside)),
+      le_is 64 (length f) (omega (arith, at_c, s.apart, s.entry, s.inside)),
       a.magic,
       a.pointer,
-      up_to (p + 4) (length f) (omega (arith, at_c, s.apart, s.entry, s.inside)),
+      le_is (p + 4) (length f) (omega (arith, at_c, s.apart, s.entry, s.inside)),
       a.signature,
-      up_to (p + 4 + 20) (length f) (omega (arith, at_c, s.apart, s.entry, s.inside)),
+      le_is (p + 4 + 20) (length f) (omega (arith, at_c, s.apart, s.entry, s.inside)),
       optional.value,
     ) (optional.accepted _)
 
@@ -404,8 +392,8 @@ optional_refused f b q two number magic room less y =
       two,
       number,
       magic,
-      up_to (q + 2) (length f) (omega (arith, wide (is_pe32_plus b q))),
-      up_to (q + d) (length f) room,
+      le_is (q + 2) (length f) (omega (arith, wide (is_pe32_plus b q))),
+      le_is (q + d) (length f) room,
       not_held f (q + d) (8 * kept (optional_header b q).windows_fields.number_of_rva_and_sizes) less,
     ) refl
 
@@ -431,12 +419,12 @@ lost f b mode h l a e eight s less =
       first f b c at n s p 4 (omega (arith, at_c)),
       coff_stays f b c at n s (p + 4) (omega (arith, at_c)),
       fields.some,
-      up_to 64 n (omega (arith, at_c, s.apart, s.entry)),
+      le_is 64 n (omega (arith, at_c, s.apart, s.entry)),
       a.magic,
       a.pointer,
-      up_to (p + 4) n (omega (arith, at_c, s.apart, s.entry)),
+      le_is (p + 4) n (omega (arith, at_c, s.apart, s.entry)),
       a.signature,
-      up_to (p + 4 + 20) n (omega (arith, at_c, s.apart, s.entry)),
+      le_is (p + 4 + 20) n (omega (arith, at_c, s.apart, s.entry)),
     ) (refused _)
 
 pub headers_lost : (f b : List ℕ) (mode : ParseMode) (h : HeaderView) (l : LeftOut) → header_at b mode ≡ Ok h → left_out_of h ≡ Ok l → l.directory_entry.length ≡ 8 →

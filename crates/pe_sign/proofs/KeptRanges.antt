@@ -3,11 +3,11 @@ use Rattle.std.proofs.Common.{◌≡◌, ℕ, zero, suc, ◌+◌, ◌-◌, ◌<�
 use Rattle.std.specs.Prelude.{if◌then◌else◌, slice_range}
 use Rattle.std.proofs.lemmas.Bool.Decides.{nat_tests}
 use Rattle.std.proofs.lemmas.List.{drop-drop}
-use Rattle.pe_core.specs.Offsets.{bytes_in}
+use Rattle.pe_core.specs.Offsets.{bytes_in, empty_range}
 use Rattle.pe_core.specs.declared.byte_range.ByteRange.{ByteRange}
 use Rattle.pe_core.specs.Header.{HeaderView}
 use Rattle.pe_core.specs.Refusals.{Refusal, ◌>>=◌}
-use Rattle.pe_sign.specs.Digest.{Covered, covered, digest_of, is_left_out, left_out_of, nothing, unless, kept_bytes}
+use Rattle.pe_sign.specs.Digest.{Covered, covered, digest_of, is_left_out, left_out_of, unless, kept_bytes}
 use Rattle.pe_sign.specs.DigestRanges.{range_at, with_offset, kept_ranges, in_array, covered_ranges, digest_ranges_of, EndBy}
 use Rattle.pe_sign.specs.DigestSteps.{Between, IsFirstRange}
 use Rattle.pe_sign.specs.declared.digest.LeftOut.{LeftOut}
@@ -110,7 +110,7 @@ none_from q p n a h =
 
 -- ---- one after the other in an array
 
-pub no_range : (q : ℕ → Bool) (n p s : ℕ) → p ≤ n → s ≡ n → Between q true p s → IsFirstRange q n p nothing n
+pub no_range : (q : ℕ → Bool) (n p s : ℕ) → p ≤ n → s ≡ n → Between q true p s → IsFirstRange q n p empty_range n
 no_range q n p s a e h = inl (none_from q p n a (λ k from to. h k from (omega (arith, e, to))), refl, refl)
 
 pub one_range : (q : ℕ → Bool) (n p s e : ℕ) → p ≤ s → s < e → e ≤ n → Between q true p s → Between q false s e → (e < n → q e ≡ true) → IsFirstRange q n p (range_at s (e - s)) e
@@ -124,16 +124,16 @@ first_of_array q n p k next r h =
     let others : k ≡ k - zero = omega arith in
     let fewer : (rs : List ByteRange) → suc k - suc (length rs) ≡ k - length rs = λ rs. omega arith in
     ⊎_elim
-    (λ (e : (kept_ranges q p (n - p) ≡ []) × (r ≡ nothing) × (next ≡ n)).
+    (λ (e : (kept_ranges q p (n - p) ≡ []) × (r ≡ empty_range) × (next ≡ n)).
     ap (λ (rs : List ByteRange). in_array (suc k) rs) e.0
-    ∙ ap (λ (j : ℕ). replicate j nothing) all
-    ∙ ap (λ (j : ℕ). nothing ∷ replicate j nothing) others
+    ∙ ap (λ (j : ℕ). replicate j empty_range) all
+    ∙ ap (λ (j : ℕ). empty_range ∷ replicate j empty_range) others
     ∙ ap (λ (x : ByteRange). x ∷ in_array k []) (sym e.1)
     ∙ ap (λ (j : ℕ). r ∷ in_array k (kept_ranges q n j)) (sym empty)
     ∙ ap (λ (m : ℕ). r ∷ in_array k (kept_ranges q m (n - m))) (sym e.2))
     (λ (e : kept_ranges q p (n - p) ≡ r ∷ kept_ranges q next (n - next)).
     ap (λ (rs : List ByteRange). in_array (suc k) rs) e
-    ∙ ap (λ (j : ℕ). r ∷ (kept_ranges q next (n - next) ++ replicate j nothing)) (fewer (kept_ranges q next (n - next))))
+    ∙ ap (λ (j : ℕ). r ∷ (kept_ranges q next (n - next) ++ replicate j empty_range)) (fewer (kept_ranges q next (n - next))))
     h
 
 -- ---- the bytes of the ranges are those that are kept
@@ -177,9 +177,9 @@ bytes_kept q b p [] d = refl
 bytes_kept q b p (x ∷ xs) d =
     with_byte (q p) b p x xs (kept_bytes q (suc p) xs) (kept_ranges q (suc p) (length xs)) d (bytes_kept q b (suc p) xs (drop_after b p x xs d))
 
-nothings : (b : List ℕ) (n : ℕ) → flat_map (bytes_in b) (replicate n nothing) ≡ []
+nothings : (b : List ℕ) (n : ℕ) → flat_map (bytes_in b) (replicate n empty_range) ≡ []
 nothings b zero = refl
-nothings b (suc n) = ap (λ (l : List ℕ). l ++ flat_map (bytes_in b) (replicate n nothing)) (no_bytes b 0) ∙ nothings b n
+nothings b (suc n) = ap (λ (l : List ℕ). l ++ flat_map (bytes_in b) (replicate n empty_range)) (no_bytes b 0) ∙ nothings b n
 
 joined_bytes : (b : List ℕ) (rs ss : List ByteRange) → flat_map (bytes_in b) ss ≡ [] → flat_map (bytes_in b) (rs ++ ss) ≡ flat_map (bytes_in b) rs
 joined_bytes b [] ss e = e
@@ -188,7 +188,7 @@ joined_bytes b (r ∷ rs) ss e = ap (λ (l : List ℕ). bytes_in b r ++ l) (join
 pub array_bytes : (q : ℕ → Bool) (b : List ℕ) (n : ℕ) → flat_map (bytes_in b) (in_array n (kept_ranges q 0 (length b))) ≡ kept_bytes q 0 b
 array_bytes q b n =
     let rs : List ByteRange = kept_ranges q 0 (length b) in
-    joined_bytes b rs (replicate (n - length rs) nothing) (nothings b (n - length rs)) ∙ bytes_kept q b 0 b refl
+    joined_bytes b rs (replicate (n - length rs) empty_range) (nothings b (n - length rs)) ∙ bytes_kept q b 0 b refl
 
 -- ---- the ranges lie in the file
 
@@ -206,7 +206,7 @@ unfolding kept_ranges
 end_by q p zero e h = tt
 end_by q p (suc n) e h = end_with (q p) p e (kept_ranges q (suc p) n) (omega arith) (end_by q (suc p) n e (omega arith))
 
-nothings_end : (e n : ℕ) → EndBy e (replicate n nothing)
+nothings_end : (e n : ℕ) → EndBy e (replicate n empty_range)
 nothings_end e zero = tt
 nothings_end e (suc n) = (omega arith, nothings_end e n)
 
@@ -217,7 +217,7 @@ joined_end e (r ∷ rs) ss h i = (h.0, joined_end e rs ss h.1 i)
 array_ends : (q : ℕ → Bool) (b : List ℕ) (n : ℕ) → EndBy (length b) (in_array n (kept_ranges q 0 (length b)))
 array_ends q b n =
     let rs : List ByteRange = kept_ranges q 0 (length b) in
-    joined_end (length b) rs (replicate (n - length rs) nothing) (end_by q 0 (length b) (length b) (omega arith)) (nothings_end (length b) (n - length rs))
+    joined_end (length b) rs (replicate (n - length rs) empty_range) (end_by q 0 (length b) (length b) (omega arith)) (nothings_end (length b) (n - length rs))
 
 -- ---- the same by the calls
 

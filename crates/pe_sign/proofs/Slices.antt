@@ -8,7 +8,7 @@ use Rattle.pe_sign.specs.declared.digest.Part.{Part}
 use Rattle.pe_sign.specs.Digest.{Covered, covered, is_in, is_left_out, kept_bytes, digested, zeros_after, joined_slices, Throughout, IsCut}
 use Rattle.pe_sign.proofs.Parts.{kept_append, kept_all, kept_none}
 
--- the length of a part that is cut
+-- the length of a part that is split
 pub length_cut : (r : ByteRange) (w x y : Part) (cut : IsCut r w x y) → length w.bytes.now ≡ length x.bytes.now + (length cut.between + length y.bytes.now)
 length_cut r w x y cut =
     ap (λ (l : List ℕ). length l) cut.joined ∙ length-append x.bytes.now (cut.between ++ y.bytes.now) ∙ ap (λ (n : ℕ). length x.bytes.now + n) (length-append cut.between y.bytes.now)

@@ -6,6 +6,7 @@ use Rattle.std.proofs.lemmas.Bool.Decides.{nat_tests}
 use Rattle.std.proofs.lemmas.List.{places, length-set, length-take, length-take-le, get_or-set_same}
 use Rattle.pe_core.specs.Directories.{absent_directory, present}
 use Rattle.pe_core.specs.Header.{HeaderView, OptionalHeaderView, directories_offset, header_at}
+use Rattle.pe_core.specs.Offsets.{empty_range}
 use Rattle.pe_core.specs.Records.{data_directory}
 use Rattle.pe_core.specs.Refusals.{Refusal, Short, ◌>>=◌}
 use Rattle.pe_core.specs.SectionMap.{rounded_up}
@@ -16,7 +17,7 @@ use Rattle.pe_core.specs.declared.options.ParseMode.{ParseMode}
 use Rattle.pe_sign.specs.Attaching.{unsigned_length, unsigned_file, padded, kept_length, table_start, entry_to, joined_file, attached_of, detached_of, with_both_fields, with_table, without_table, before_table}
 use Rattle.pe_sign.specs.AttachingSteps.{Fits}
 use Rattle.pe_sign.specs.Checksum.{checksum_of}
-use Rattle.pe_sign.specs.Digest.{Covered, certificates_range, covered, covered_bytes, digest_of, entry_range, is_in, left_out_before, left_out_of, nothing}
+use Rattle.pe_sign.specs.Digest.{Covered, certificates_range, covered, covered_bytes, digest_of, entry_range, is_in, left_out_before, left_out_of}
 use Rattle.pe_sign.specs.WrittenHeaders.{optional_with, headers_with, directories_end_after, directories_end}
 use Rattle.pe_sign.specs.declared.attachment.Placement.{Placement}
 use Rattle.pe_sign.specs.declared.digest.LeftOut.{LeftOut}
@@ -31,8 +32,8 @@ use Rattle.pe_sign.proofs.Writes.{kept_holds, length-detached, length-kept, leng
 
 -- ---- the entry is one of the directories
 
-entry_within : (t w : Bool) (n p : ℕ) → nat_lt 4 n ≡ t → (if t then record { offset = p + 24 + directories_offset w + 32; length = 8 } else nothing).length ≡ 8 →
-    (if t then record { offset = p + 24 + directories_offset w + 32; length = 8 } else nothing).offset + 8 ≤ p + 24 + directories_offset w + 8 * n
+entry_within : (t w : Bool) (n p : ℕ) → nat_lt 4 n ≡ t → (if t then record { offset = p + 24 + directories_offset w + 32; length = 8 } else empty_range).length ≡ 8 →
+    (if t then record { offset = p + 24 + directories_offset w + 32; length = 8 } else empty_range).offset + 8 ≤ p + 24 + directories_offset w + 8 * n
 entry_within false w n p e h = absurd (omega (arith, h))
 entry_within true w n p e h = let many : 4 < n = grind (arith, nat_tests) in omega arith
 
@@ -152,12 +153,12 @@ named entry = certificates_range (if entry.virtual_address == 0 && entry.size ==
 abbrev with_range : LeftOut → ByteRange → LeftOut
 with_range l r = record { checksum = l.checksum; directory_entry = l.directory_entry; certificates = r }
 
-many_of : (t w : Bool) (n p : ℕ) → nat_lt 4 n ≡ t → (if t then record { offset = p + 24 + directories_offset w + 32; length = 8 } else nothing).length ≡ 8 → 4 < n
+many_of : (t w : Bool) (n p : ℕ) → nat_lt 4 n ≡ t → (if t then record { offset = p + 24 + directories_offset w + 32; length = 8 } else empty_range).length ≡ 8 → 4 < n
 many_of false w n p e h = absurd (omega (arith, h))
 many_of true w n p e h = grind (arith, nat_tests)
 
 parts_of : (p : ℕ) (o : OptionalHeaderView) (entry : DataDirectory) (sum : ℕ) → 4 < length o.data_directories →
-    left_out_before p (Some (optional_with entry sum o)) ≡ Ok (with_range (record { checksum = record { offset = p + 88; length = 4 }; directory_entry = entry_range p o; certificates = nothing }) (named entry))
+    left_out_before p (Some (optional_with entry sum o)) ≡ Ok (with_range (record { checksum = record { offset = p + 88; length = 4 }; directory_entry = entry_range p o; certificates = empty_range }) (named entry))
 parts_of p o entry sum many =
     rw (length-set o.data_directories 4 entry, get_or-set_same o.data_directories 4 entry absent_directory many) refl
 

@@ -5,6 +5,7 @@ use Rattle.std.specs.List.{list_all}
 use Rattle.pe_core.specs.Bytes.{le, bytes_of, splice}
 use Rattle.pe_core.specs.Directories.{absent_directory}
 use Rattle.pe_core.specs.Header.{HeaderView}
+use Rattle.pe_core.specs.Offsets.{empty_range}
 use Rattle.pe_core.specs.Records.{section_table}
 use Rattle.pe_core.specs.Refusals.{CertificateSize, CertificateTable, Short, WriteFit, outcome, ◌>>=◌}
 use Rattle.pe_core.specs.Rows.{rows}
@@ -13,7 +14,7 @@ use Rattle.pe_core.specs.Sections.{raw_end, sections_offset}
 use Rattle.pe_core.specs.declared.data_directories.DataDirectory.{DataDirectory}
 use Rattle.pe_core.specs.declared.section_table.SectionTable.{SectionTable}
 use Rattle.pe_sign.specs.Checksum.{checksum_of}
-use Rattle.pe_sign.specs.Digest.{lacking_to_eight, left_out_of, nothing}
+use Rattle.pe_sign.specs.Digest.{lacking_to_eight, left_out_of}
 use Rattle.pe_sign.specs.SignRefusals.{SignRefusal, Image, NoDirectory, TableNotLast, Headers, Section, TableOffset, TooLarge, sign_kind_of, of_image}
 use Rattle.pe_sign.specs.declared.attachment.Placement.{Placement}
 use Rattle.pe_sign.specs.declared.attachment.Placement.TheVariants.{After, InPlace}
@@ -162,7 +163,7 @@ with_table l start end = record { checksum = l.checksum; directory_entry = l.dir
 
 -- those once the entry is all zero
 abbrev pub without_table : LeftOut → LeftOut
-without_table l = record { checksum = l.checksum; directory_entry = l.directory_entry; certificates = nothing }
+without_table l = record { checksum = l.checksum; directory_entry = l.directory_entry; certificates = empty_range }
 
 -- what is before the table after a certificate is attached: all before the old table, or else with its zeros
 abbrev pub before_table : Placement → LeftOut → List ℕ → List ℕ

@@ -3,6 +3,7 @@ use Rattle.std.specs.Prelude.{◌≡◌, ℕ, suc, ◌+◌, ◌-◌, ◌%◌, �
 use Rattle.std.specs.Borrow.{Bor}
 use Rattle.pe_core.specs.Directories.{present}
 use Rattle.pe_core.specs.Header.{HeaderView, OptionalHeaderView, directories_offset}
+use Rattle.pe_core.specs.Offsets.{empty_range}
 use Rattle.pe_core.specs.Refusals.{Refusal, NoOptionalHeader, ◌>>=◌}
 use Rattle.pe_core.specs.declared.byte_range.ByteRange.{ByteRange}
 use Rattle.pe_core.specs.declared.data_directories.DataDirectory.{DataDirectory}
@@ -10,20 +11,16 @@ use Rattle.pe_sign.specs.declared.digest.AuthenticodeRanges.{AuthenticodeRanges}
 use Rattle.pe_sign.specs.declared.digest.LeftOut.{LeftOut}
 use Rattle.pe_sign.specs.declared.digest.Part.{Part}
 
--- no bytes
-abbrev pub nothing : ByteRange
-nothing = record { offset = 0; length = 0 }
-
 -- where the entry of the certificate directory is in the file: the fifth entry, if the header has as many
 abbrev pub entry_range : ℕ → OptionalHeaderView → ByteRange
 entry_range pointer o =
     if nat_lt 4 (length o.data_directories)
     then record { offset = pointer + 24 + directories_offset (o.standard_fields.magic == 0x20B) + 32; length = 8 }
-    else nothing
+    else empty_range
 
 -- where the certificates are in the file
 abbrev pub certificates_range : Option DataDirectory → ByteRange
-certificates_range None = nothing
+certificates_range None = empty_range
 certificates_range (Some d) = record { offset = d.virtual_address; length = d.size }
 
 -- the parts of the file that the digest leaves out; without an optional header there is no digest

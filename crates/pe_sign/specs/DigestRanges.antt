@@ -2,9 +2,10 @@
 -- Format.)
 use Rattle.std.specs.Prelude.{ℕ, zero, suc, ◌+◌, ◌-◌, ◌≤◌, ◌==◌, Bool, true, false, List, [], ◌∷◌, ◌++◌, length, replicate, Result, Ok, if◌then◌else◌}
 use Rattle.pe_core.specs.Header.{HeaderView}
+use Rattle.pe_core.specs.Offsets.{empty_range}
 use Rattle.pe_core.specs.Refusals.{Refusal, ◌>>=◌}
 use Rattle.pe_core.specs.declared.byte_range.ByteRange.{ByteRange}
-use Rattle.pe_sign.specs.Digest.{is_left_out, left_out_of, nothing, zeros_after}
+use Rattle.pe_sign.specs.Digest.{is_left_out, left_out_of, zeros_after}
 use Rattle.pe_sign.specs.declared.digest.LeftOut.{LeftOut}
 use Rattle.pe_sign.specs.declared.file_ranges.DigestRanges.{DigestRanges}
 
@@ -26,7 +27,7 @@ kept_ranges is_out p (suc n) = with_offset (is_out p) p (kept_ranges is_out (suc
 
 -- ranges in an array of n, whose rest are empty
 abbrev pub in_array : ℕ → List ByteRange → List ByteRange
-in_array n rs = rs ++ replicate (n - length rs) nothing
+in_array n rs = rs ++ replicate (n - length rs) empty_range
 
 -- the ranges of a file that a digest covers, which are at most four, and the zeros that follow
 abbrev pub covered_ranges : LeftOut → List ℕ → DigestRanges

@@ -1,7 +1,7 @@
 -- The steps over the ranges of a digest. Only private contracts cite them.
 use Rattle.std.specs.Prelude.{◌≡◌, ℕ, ◌+◌, ◌-◌, ◌<◌, ◌≤◌, ◌⊎◌, Bool, [], ◌∷◌, nat_lt, if◌then◌else◌}
+use Rattle.pe_core.specs.Offsets.{empty_range}
 use Rattle.pe_core.specs.declared.byte_range.ByteRange.{ByteRange}
-use Rattle.pe_sign.specs.Digest.{nothing}
 use Rattle.pe_sign.specs.DigestRanges.{kept_ranges}
 use Rattle.pe_sign.specs.declared.digest.LeftOut.{LeftOut}
 
@@ -20,5 +20,5 @@ parts_after l p = one_if_after p l.checksum + one_if_after p l.directory_entry +
 -- of the offsets from p on and before n, the first range, and the ranges from another offset on; or there is none
 abbrev pub IsFirstRange : (ℕ → Bool) → ℕ → ℕ → ByteRange → ℕ → Type 0
 IsFirstRange is_out n p r next =
-    ((kept_ranges is_out p (n - p) ≡ []) × (r ≡ nothing) × (next ≡ n))
+    ((kept_ranges is_out p (n - p) ≡ []) × (r ≡ empty_range) × (next ≡ n))
     ⊎ (kept_ranges is_out p (n - p) ≡ r ∷ kept_ranges is_out next (n - next))

@@ -35,18 +35,12 @@ pub struct LeftOut {
     pub certificates: ByteRange,
 }
 
-/// No bytes.
-pub const NOTHING: ByteRange = ByteRange {
-    offset: 0,
-    length: 0,
-};
-
 /// Where the entry of the certificates is, in an image with this PE pointer.
 fn entry_range(pe_pointer: u32, optional_header: &OptionalHeader) -> ByteRange
     ensures { result ≡ Rattle.pe_sign.specs.Digest.entry_range pe_pointer (optional_header_view optional_header.now) }
 {
     if optional_header.data_directories.rows().len() <= CERTIFICATES {
-        return NOTHING;
+        return ByteRange::EMPTY;
     }
     let directories = if optional_header.standard_fields.magic == 0x20B {
         112
@@ -66,8 +60,8 @@ pub fn left_out(header: &Header<'_>) -> Result<LeftOut>
     let checksum = checksum_range(header)?;
     let mut left_out = LeftOut {
         checksum,
-        directory_entry: NOTHING,
-        certificates: NOTHING,
+        directory_entry: ByteRange::EMPTY,
+        certificates: ByteRange::EMPTY,
     };
     if let Some(optional_header) = &header.optional_header {
         left_out.directory_entry = entry_range(header.dos_header.pe_pointer, optional_header);

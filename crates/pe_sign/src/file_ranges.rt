@@ -12,7 +12,7 @@ ghost use Rattle.pe_sign.specs.Digest.{is_in, is_left_out};
 ghost use Rattle.pe_sign.specs.DigestRanges.{digest_ranges_of, in_array, kept_ranges};
 ghost use Rattle.pe_sign.specs.DigestSteps.{Between, IsFirstRange, parts_after};
 
-use crate::digest::{LeftOut, NOTHING, left_out, ranges_without};
+use crate::digest::{LeftOut, left_out, ranges_without};
 use pe_core::{ByteRange, Header, Result};
 
 /// Whether a file offset is in a range.
@@ -120,7 +120,7 @@ fn first_range(left_out: &LeftOut, from: usize, end: usize) -> (ByteRange, usize
 {
     let start = first_kept(left_out, from, end);
     if start == end {
-        return (NOTHING, end);
+        return (ByteRange::EMPTY, end);
     }
     let stop = first_left_out(left_out, start, end);
     let range = ByteRange {

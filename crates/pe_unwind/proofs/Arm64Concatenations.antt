@@ -1,4 +1,4 @@
--- Bytes that are the concatenation of a record's parts, from a place on, are read as that record.
+-- Bytes that are the concatenation of a record's parts, from an offset on, are read as that record.
 use Rattle.std.proofs.Common.{rules, ◌≡◌, ℕ, ◌+◌, ◌*◌, ◌^◌, ◌<◌, Bool, true, false, List, [], ◌∷◌, ◌++◌, length, take, drop, Option, Some, None, Ok, refl, ap, sym, ◌∙◌, subst, arith, append_assoc, length-append}
 use Rattle.std.specs.Prelude.{if◌then◌else◌, is_some, IfSome, ◌==◌}
 use Rattle.std.specs.Option.{option_map}
@@ -22,7 +22,7 @@ some_map : (o : Option Arm64HandlerView) → is_some (option_map (λ h. h.rva) o
 some_map (Some h) = refl
 some_map None = refl
 
--- the parts at their places
+-- the parts at their offsets
 read_word : (t : Bool) (o : Option ℕ) (front rest : List ℕ) (p : ℕ) → is_some o ≡ t → IfSome o (λ w. w < 2 ^ 32) → length front ≡ p →
     (if t then Some (le (front ++ (word_bytes o ++ rest)) p 4) else None) ≡ o
 read_word true (Some w) front rest p e small at = ap (λ (n : ℕ). Some n) (le-after 4 w front rest p at small)
@@ -60,7 +60,7 @@ same_info i s c h e f g =
     ∙ ap (λ (part : List ℕ). let j : Arm64InfoView = record { header = i.header; extension = i.extension; scopes = i.scopes; codes = part; handler = h } in j) f
     ∙ ap (λ (o : Option Arm64HandlerView). let j : Arm64InfoView = record { header = i.header; extension = i.extension; scopes = i.scopes; codes = i.codes; handler = o } in j) g
 
--- with the words that the bytes begin with
+-- with the words that the bytes start with
 by_words : (b : List ℕ) (p : ℕ) (i : Arm64InfoView) (header : ℕ) (extension : Option ℕ) → header ≡ i.header → extension ≡ i.extension →
     outcome (info_tests b p i.header i.extension) (info_with b p i.header i.extension) ≡ Ok i → outcome (info_tests b p header extension) (info_with b p header extension) ≡ Ok i
 by_words b p i header extension e f h =
@@ -70,7 +70,7 @@ by_words b p i header extension e f h =
 length_of_parts : (h x s c r rest : List ℕ) → length (h ++ (x ++ (s ++ (c ++ (r ++ rest))))) ≡ length h + length x + length s + length c + length r + length rest
 length_of_parts h x s c r rest = simp length-append (omega arith)
 
--- bytes that are, from a place on, the parts of a record, one after the other, are read as that record
+-- bytes that are, from an offset on, the parts of a record, one after the other, are read as that record
 pub read : (b rest : List ℕ) (p : ℕ) (i : Arm64InfoView) → AreRecord (drop p b) i rest → HasWords i → info_at b p ≡ Ok i
 unfolding info_at
 read b rest p i are words =

@@ -62,7 +62,7 @@ between m n i j false = (
   λ h. absurd (false≢true h.2),
 )
 
-same_fields : (x y : Arm64UnwindCodeData) → x.offset ≡ y.offset → x.code ≡ y.code → x.len ≡ y.len → x ≡ y
+pub same_fields : (x y : Arm64UnwindCodeData) → x.offset ≡ y.offset → x.code ≡ y.code → x.len ≡ y.len → x ≡ y
 same_fields x y o c l =
     ap (λ (n : ℕ). record { offset = n; code = x.code; len = x.len }) o
     ∙ ap (λ (d : Arm64UnwindCode). record { offset = y.offset; code = d; len = x.len }) c

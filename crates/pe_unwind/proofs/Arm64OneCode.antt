@@ -225,11 +225,11 @@ drop_front a b = grind (arith, common_steps)
 whole_front : (a : List ℕ) → a ≡ a ++ drop (length a) a
 whole_front a = grind (arith, common_steps)
 
--- a code's bytes begin with it
+-- a code's bytes start with it
 whole_starts : (c : Arm64UnwindCode) → Legal c → StartsWithArm64Code (encoding c) c
 whole_starts c legal = record { legal = legal; spelled = whole_front (encoding c) }
 
--- a code's bytes without their end begin with no code
+-- a code's bytes without their end start with no code
 none_of_more : (bytes : List ℕ) (d c : Arm64UnwindCode) (missing : List ℕ) → Legal d → 0 < length missing → bytes ++ missing ≡ encoding d → StartsWithArm64Code bytes c → ⊥
 none_of_more bytes d c missing legal some spelled h =
     let n : ℕ = length (encoding c) in
@@ -241,6 +241,6 @@ none_of_more bytes d c missing legal some spelled h =
     let as_long : n ≡ length (encoding d) = ap (λ (x : Arm64UnwindCode). length (encoding x)) same in
     omega arith
 
--- what is cut begins with no code
+-- what is truncated starts with no code
 pub cut_starts_none : (bytes : List ℕ) → IsTruncatedArm64Code bytes → StartsWithNoArm64Code bytes
 cut_starts_none bytes cut = λ c h. none_of_more bytes cut.code c cut.missing cut.legal cut.some cut.spelled h

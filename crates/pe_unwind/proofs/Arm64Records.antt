@@ -1,4 +1,4 @@
--- An ARM64 unwind record that is given is the concatenation of its parts.
+-- An ARM64 unwind record that is returned is the concatenation of its parts.
 use Rattle.std.proofs.Common.{◌≡◌, ℕ, ◌+◌, ◌-◌, ◌*◌, ◌≤◌, Bool, true, false, List, [], ◌∷◌, ◌++◌, length, take, drop, Option, Some, None, Ok, refl, ap, sym, ◌∙◌, subst, arith}
 use Rattle.std.specs.Prelude.{if◌then◌else◌, is_some, IfSome, ◌==◌}
 use Rattle.std.specs.Option.{option_map}
@@ -14,7 +14,7 @@ use Rattle.pe_core.specs.Offsets.{StandAt}
 use Rattle.pe_unwind.specs.Offsets.{StandLast, Arm64PartsStand}
 use Rattle.pe_unwind.proofs.Offsets.{range_stands, tail_stands}
 
--- what is given passed its tests
+-- what is returned passed its tests
 passed : {Y : Type 0} (s t u v w x : Bool) (i j k l m n : Refusal) (y o : Y) →
     outcome ((s, i) ∷ (t, j) ∷ (u, k) ∷ (v, l) ∷ (w, m) ∷ (x, n) ∷ []) y ≡ Ok o →
     (s ≡ true) × (t ≡ true) × (u ≡ true) × (v ≡ true) × (w ≡ true) × (x ≡ true) × (y ≡ o)
@@ -26,7 +26,7 @@ passed true true false v w x i j k l m n y o e = absurd cc
 passed true false u v w x i j k l m n y o e = absurd cc
 passed false t u v w x i j k l m n y o e = absurd cc
 
--- the bytes from p on are n of them, and those behind
+-- the bytes from p on are n of them, and those after
 next_range : (b : List ℕ) (p n : ℕ) → drop p b ≡ range b p n ++ drop (p + n) b
 next_range b p n =
     let count : p + n - p ≡ n = omega arith in
@@ -59,7 +59,7 @@ there_if false x = refl
 end : (p x s c h : ℕ) → p + 4 + x + s + c + h ≡ p + (4 + x + s + c + h)
 end p x s c h = omega arith
 
--- one part behind the other
+-- one part after the other
 chain : {a b c d e f g : List ℕ} (v w x y z : List ℕ) → a ≡ v ++ b → b ≡ w ++ c → c ≡ x ++ d → d ≡ y ++ e → e ≡ z ++ f → f ≡ g → a ≡ v ++ (w ++ (x ++ (y ++ (z ++ g))))
 chain v w x y z h i j k l m = simp (h, i, j, k, l, m) refl
 
@@ -92,7 +92,7 @@ parts b p header extension small first second h v hx hs hc hh =
       after = subst (λ (d : List ℕ). IfSome i.handler (λ h. h.bytes ≡ d)) rest (data_after (has_handler header) b (p + 4 + x + s + c));
     }
 
--- the facts of a record that is given
+-- the facts of a record that is returned
 record Given (b : List ℕ) (p header : ℕ) (extension : Option ℕ) (i : Arm64InfoView) : Type 0 where
   first : p + 4 ≤ length b
   version : bits header 18 2 ≡ 0
@@ -117,7 +117,7 @@ facts b p header extension i e =
       value = t.6;
     }
 
--- the record that stands at a place is the concatenation of its parts
+-- the record that stands at an offset is the concatenation of its parts
 pub concatenated : (b : List ℕ) (p : ℕ) (i : Arm64InfoView) → AreBytes b → info_at b p ≡ Ok i → AreRecord (drop p b) i (drop (p + record_size i.header i.extension) b)
 unfolding info_at
 concatenated b p i small given =
@@ -127,7 +127,7 @@ concatenated b p i small given =
     subst (λ (j : Arm64InfoView). AreRecord (drop p b) j (drop (p + record_size j.header j.extension) b)) g.value
     (parts b p header extension small refl refl g.first g.version g.second g.scopes g.codes g.handler)
 
--- the size of a record that is given
+-- the size of a record that is returned
 pub sized : (b : List ℕ) (i : Arm64InfoView) → info_at b 0 ≡ Ok i → size_at b ≡ Ok (record_size i.header i.extension)
 unfolding info_at size_at
 sized b i given =
@@ -148,7 +148,7 @@ inside b p i given =
     let sum = end p (extension_size header) (4 * scope_count header extension) (4 * code_words header extension) (handler_size header) in
     subst (λ (j : Arm64InfoView). p + record_size j.header j.extension ≤ length b) g.value (subst (λ (k : ℕ). k ≤ length b) sum g.handler)
 
--- and a handler's data are the bytes behind it
+-- and a handler's data are the bytes after it
 pub after_record : (b : List ℕ) (p : ℕ) (i : Arm64InfoView) → info_at b p ≡ Ok i → IfSome i.handler (λ h. h.bytes ≡ drop (p + record_size i.header i.extension) b)
 unfolding info_at
 after_record b p i given =

@@ -1,7 +1,7 @@
 -- The items of a stream of ARM64 codes, and that there is one tiling of it.
 use Rattle.std.proofs.Common.{◌≡◌, zero, suc, ◌<◌, ◌≤◌, ◌+◌, ◌-◌, ◌/◌, ℕ, All, List, [], ◌∷◌, ◌++◌, length, drop, map, Option, None, Result, Ok, Err, refl, ap, sym, ◌∙◌, subst, arith, append_assoc, inl, inr}
 use Rattle.std.proofs.lemmas.Grind.{common_steps}
-use Rattle.std.proofs.lemmas.List.{length-append, length-drop, drop_all}
+use Rattle.std.proofs.lemmas.List.{length-append, length-drop, drop_all, drop-drop}
 use Rattle.std.proofs.lemmas.List.Elements.{All-drop}
 use Rattle.std.specs.Iterator.{Yields}
 use Rattle.pe_core.specs.Refusals.{Refusal, kind_of, answer_of}
@@ -15,6 +15,7 @@ use Rattle.pe_unwind.specs.Arm64Encoding.{encoding, Legal, StartsWithArm64Code, 
 use Rattle.pe_unwind.specs.Arm64Tiling.{CodeOffset, stream_offset, IsItem, Tiles, ReturnsArm64Code, codes_of, Joins}
 use Rattle.pe_unwind.proofs.Arm64OneCode.{starts_once, cut_starts_none}
 use Rattle.pe_unwind.proofs.Arm64Whole.{code_or_cut}
+use Rattle.pe_unwind.proofs.Arm64Equality.{same_fields}
 
 abbrev pub Next : Arm64UnwindCodeIterator → Option (Result Arm64UnwindCodeData Error) → Arm64UnwindCodeIterator → Type 0
 Next s r t = ReturnsArm64Code (stream_offset s) r (stream_offset t)
@@ -40,20 +41,12 @@ tiles_from_yields s t u (Err e ∷ xs) y end =
     let over : Tiles (stream_offset s).content (length (stream_offset s).content) xs = subst (λ (p : CodeOffset). TilesFrom p xs) y.1.2 rest in
     (y.1.0, y.1.1, nothing_left (stream_offset s).content (length (stream_offset s).content) xs (omega arith) over)
 
-item_of : ℕ → Arm64UnwindCode → ℕ → Arm64UnwindCodeData
-item_of offset code len = record { offset = offset; code = code; len = len }
-
-item_from_fields : (d e : Arm64UnwindCodeData) → d.offset ≡ e.offset → d.code ≡ e.code → d.len ≡ e.len → d ≡ e
-unfolding item_of
-item_from_fields d e offset code len =
-    ap (λ (n : ℕ). item_of n d.code d.len) offset ∙ ap (λ (c : Arm64UnwindCode). item_of e.offset c d.len) code ∙ ap (λ (n : ℕ). item_of e.offset e.code n) len
-
--- at one place of the bytes is one code
+-- at one offset of the bytes is one code
 one_item : (bytes : List ℕ) (at : ℕ) (d e : Arm64UnwindCodeData) → IsItem bytes at (Ok d) → IsItem bytes at (Ok e) → d ≡ e
 one_item bytes at d e h k =
     let code : d.code ≡ e.code = starts_once (drop at bytes) d.code e.code h.0 k.0 in
     let len : d.len ≡ e.len = h.2 ∙ ap (λ (c : Arm64UnwindCode). length (encoding c)) code ∙ sym k.2 in
-    item_from_fields d e (h.1 ∙ sym k.1) code len
+    same_fields d e (h.1 ∙ sym k.1) code len
 
 -- one list of items tiles the bytes, up to the numbers in a refusal
 pub one_tiling : (bytes : List ℕ) (at : ℕ) (xs ys : List (Result Arm64UnwindCodeData Error)) → Tiles bytes at xs → Tiles bytes at ys → map answer_of xs ≡ map answer_of ys
@@ -73,9 +66,6 @@ one_tiling bytes at (Ok d ∷ xs) (Ok e ∷ ys) h k =
 some_bytes : (c : Arm64UnwindCode) → Legal c → (1 ≤ length (encoding c)) × (length (encoding c) ≤ 5)
 some_bytes c legal = grind (arith, common_steps)
 
-drop_more : (bytes : List ℕ) (m n : ℕ) → drop n (drop m bytes) ≡ drop (m + n) bytes
-drop_more bytes m n = grind (arith, common_steps)
-
 pub starts_some : (bytes : List ℕ) (c : Arm64UnwindCode) → StartsWithArm64Code bytes c → 0 < length bytes
 starts_some bytes c h =
     let some = some_bytes c h.legal in
@@ -84,14 +74,14 @@ starts_some bytes c h =
 none_of_no_bytes : StartsWithNoArm64Code []
 none_of_no_bytes c h = absurd (omega (arith, starts_some [] c h))
 
--- behind a code at a place stand the bytes from the place of the next on
+-- after a code at an offset stand the bytes from the offset of the next on
 code_then_rest : (bytes : List ℕ) (at : ℕ) (item : Arm64UnwindCodeData) → IsItem bytes at (Ok item) → drop at bytes ≡ encoding item.code ++ drop (at + item.len) bytes
 code_then_rest bytes at item h =
     let after : drop (length (encoding item.code)) (drop at bytes) ≡ drop (at + item.len) bytes =
-    drop_more bytes at (length (encoding item.code)) ∙ ap (λ (n : ℕ). drop (at + n) bytes) (sym h.2) in
+    drop-drop (length (encoding item.code)) at bytes ∙ ap (λ (n : ℕ). drop (at + n) bytes) (sym h.2) in
     h.0.spelled ∙ ap (λ (x : List ℕ). encoding item.code ++ x) after
 
--- a tiling's codes are the bytes, one behind the other, up to a rest
+-- a tiling's codes are the bytes, one after the other, up to a rest
 pub joined : (bytes : List ℕ) (at : ℕ) (xs : List (Result Arm64UnwindCodeData Error)) → Tiles bytes at xs → Joins (drop at bytes) xs
 joined bytes at [] h = record {
   rest = [];
@@ -114,7 +104,7 @@ joined bytes at (Err e ∷ xs) h = record {
   cut = ((λ _. omega (arith, length-drop at bytes, h.0)), λ _. refl);
 }
 
--- what begins with no code has fewer than five bytes
+-- what starts with no code has fewer than five bytes
 short_rest : (bytes : List ℕ) → 0 < length bytes → All (λ x. x < 256) bytes → StartsWithNoArm64Code bytes → length bytes < 5
 short_rest bytes some all none =
     elim (code_or_cut bytes some all) [
@@ -136,11 +126,11 @@ item_counts bytes at (Err e ∷ xs) all h =
     let over : length xs ≡ 0 = ap (λ (ys : List (Result Arm64UnwindCodeData Error)). length ys) h.2 in
     (omega (arith, length-drop at bytes, short, over), omega (arith, h.0, over))
 
--- a list of items that tiles the bytes from a place on
+-- a list of items that tiles the bytes from an offset on
 abbrev pub Tiling : List ℕ → ℕ → Type 0
 Tiling bytes at = (xs : List (Result Arm64UnwindCodeData Error)) × Tiles bytes at xs
 
--- the item at a place, and those behind it
+-- the item at an offset, and those after it
 tiling_step : (bytes left : List ℕ) (at : ℕ) → drop at bytes ≡ left → All (λ x. x < 256) bytes → ((n : ℕ) → 1 ≤ n → Tiling bytes (at + n)) → Tiling bytes at
 tiling_step bytes [] at here all more = ([], omega (arith, length-drop at bytes, ap (λ (x : List ℕ). length x) here))
 tiling_step bytes (x ∷ left) at here all more =

@@ -1,4 +1,4 @@
--- Every byte string but the empty one begins with an ARM64 code, or is cut.
+-- Every byte string but the empty one starts with an ARM64 code, or is truncated.
 use Rattle.std.proofs.Common.{◌≡◌, ℕ, suc, ◌+◌, ◌*◌, ◌<◌, ◌⊎◌, inl, inr, List, [], ◌∷◌, ◌++◌, length, get_or, drop, refl, ap, sym, ◌∙◌, subst, arith}
 use Rattle.std.specs.Prelude.{All}
 use Rattle.std.proofs.lemmas.Bool.Decides.{nat_tests}
@@ -44,7 +44,7 @@ len_cases b c = grind (arith, nat_tests)
 len_of_one : (b c : ℕ) → len_at b c ≡ 1 → len_at b 0 ≡ 1
 len_of_one b c h = grind (arith, nat_tests)
 
--- the bytes of a code, and what follows, begin with it
+-- the bytes of a code, and what follows, start with it
 starts : (bytes rest : List ℕ) (code : Arm64UnwindCode) → Legal code → encoding code ≡ bytes → StartsWithArm64Code (bytes ++ rest) code
 starts bytes rest code legal spelled = record {
   legal = legal;
@@ -112,7 +112,7 @@ with_five (c ∷ d ∷ e ∷ f ∷ rest) all =
     let code = five_spelled c d e f all.0 all.1.0 all.1.1.0 all.1.1.1.0 in
     inl (five c d e f, starts (0xFB ∷ c ∷ d ∷ e ∷ f ∷ []) rest (five c d e f) code.legal code.spelled)
 
--- every byte string but the empty one begins with a code, or is cut
+-- every byte string but the empty one starts with a code, or is truncated
 pub code_or_cut : (b : List ℕ) → 0 < length b → All (λ x. x < 256) b → ((c : Arm64UnwindCode) × StartsWithArm64Code b c) ⊎ IsTruncatedArm64Code b
 code_or_cut [] some all = absurd (omega (arith, some))
 code_or_cut (b ∷ rest) some h256 =

@@ -19,7 +19,7 @@ scans_to {X} start fs a k f ordered l is from next =
     (λ i d h m. let above : a < start (get_or fs i d) = omega (arith, ap start (get_or_default fs i d f m), start-le start fs ordered (k + 1) i f h m, next (omega arith)) in grind (arith, nat_tests)) in
     ap (last_or None) kept ∙ ap (last_or None) (take_more fs k f l) ∙ last_or-append None (take k fs) (get_or fs k f) ∙ ap (λ (g : X). Some g) is
 
--- the scan gives the entry that covers the RVA
+-- the scan returns the entry that covers the RVA
 scan_covering : (fs : List RuntimeFunction) (a k : ℕ) (f : RuntimeFunction) → NeverFalls fs → NoEndPassesNext fs → k < length fs → get_or fs k f ≡ f → Covers a f → scan fs a ≡ Some f
 unfolding scan
 scan_covering fs a k f ordered apart l is covers =

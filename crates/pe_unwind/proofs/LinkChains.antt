@@ -189,7 +189,7 @@ no_memory_at_end t b u (Err FunctionLink) f e = cc
 no_memory_at_end t b u (Err FunctionCycle) f e = cc
 no_memory_at_end t b u (Err other) f e = absurd f
 
--- and it never answers that memory has run out
+-- and it never returns an allocation failure
 pub unwinds_no_memory : (t : Table) (b : List ℕ) (u : ℕ) → Unwinds t b u (Err Memory) → ⊥
 unwinds_no_memory t b u w = no_memory_at_end t b u w.0 w.1 (sym w.2)
 
@@ -211,7 +211,7 @@ unwinds_at_code v sections opts a found answer finds unwinds = record {
   cycle = cycle_found (links_of v sections opts) v.content found answer unwinds;
 }
 
--- places where no entry stands
+-- RVAs where no entry stands
 pub no_entry-before : (t : Table) (p : ℕ) → p < t.start → link_entry_at t p ≡ None
 unfolding link_entry_at
 no_entry-before t p h = grind (arith, nat_tests)

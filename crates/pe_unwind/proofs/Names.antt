@@ -1,4 +1,4 @@
--- A number behind the last register has no name.
+-- A number after the last register has no name.
 use Rattle.std.proofs.Common.{◌≡◌, ℕ, ◌≤◌, [], sym, arith}
 use Rattle.std.proofs.lemmas.List.{get_or_past}
 use Rattle.pe_unwind.specs.Registers.{register_name, names}

@@ -10,7 +10,7 @@ use Rattle.pe_core.specs.Offsets.{StandAt}
 use Rattle.pe_unwind.specs.Offsets.{StandLast, handler_data_of, UnwindPartsStand}
 use Rattle.pe_unwind.specs.UnwindRecord.{Exception, Termination, UnwindInfoView, Ending, ending_at, unwind_tests, unwind_record, count_at, version_at, flags_at, after_codes, ending_holds, is_chained, handles_exceptions, handles_termination}
 
--- what is behind a place is the range up to the end
+-- what is after an offset is the range up to the end
 tail_is_range : (b : List ℕ) (k : ℕ) → slice_range b (length b - length (drop k b)) (length b - length (drop k b) + length (drop k b)) ≡ drop k b
 tail_is_range b k = same_lists _ _ (grind (arith, places)) (λ j d lt. grind (arith, places))
 
@@ -56,7 +56,7 @@ passed true true false d e i j k l m v y h = absurd cc
 passed true false c d e i j k l m v y h = absurd cc
 passed false b c d e i j k l m v y h = absurd cc
 
--- what is given is what stands there
+-- what is returned is what stands there
 pub given : (b : List ℕ) (p : ℕ) (i : UnwindInfoView) → outcome (unwind_tests b p) (unwind_record b p) ≡ Ok i → (holds b (p + 4) (2 * count_at b p) ≡ true) × (unwind_record b p ≡ i)
 unfolding unwind_tests
 given b p i e =
@@ -70,7 +70,7 @@ parts_of_record b p h = record {
   tail = data_of_ending b (after_codes b p) (flags_at b p);
 }
 
--- the parts of a record that is given
+-- the parts of a record that is returned
 pub parts_stand : (b : List ℕ) (p : ℕ) (i : UnwindInfoView) → outcome (unwind_tests b p) (unwind_record b p) ≡ Ok i → UnwindPartsStand b p i
 parts_stand b p i e =
     let found = given b p i e in

@@ -14,7 +14,7 @@ next-even t u even =
     let test : eqb (u % 2) 1 ≡ false = grind (arith, nat_tests) in
     rw test refl
 
--- what the last address of a chain answers
+-- what the last address of a chain returns
 abbrev at_offset : Option ℕ → Result ℕ Refusal
 at_offset None = Err Unmapped
 at_offset (Some p) = Err FunctionLink

@@ -30,7 +30,7 @@ spelled_len v f code_offset op info (a ∷ b ∷ c ∷ []) o h = absurd h
 spelled_len v f code_offset op info (a ∷ b ∷ c ∷ d ∷ []) o h = (3, three_slots v f code_offset op info a b c d o h, omega arith)
 spelled_len v f code_offset op info (a ∷ b ∷ c ∷ d ∷ e ∷ more) o h = absurd h
 
--- a spelling at the front has the slots that its second byte tells
+-- a spelling at the front has the slots that its second byte says
 pub starts_slots : (v f : ℕ) (bytes : List ℕ) (code : UnwindCode) (n : ℕ) → StartsWithCode v f bytes code n → HasSlots v (get_or bytes 1 0 % 16) (get_or bytes 1 0 / 16) n
 starts_slots v f [] code zero h = absurd h.1
 starts_slots v f [] code (suc n) h = absurd h.1

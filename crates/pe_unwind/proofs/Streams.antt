@@ -64,7 +64,7 @@ same_length v f b c d m n h k =
     let same : x.0 ≡ y.0 = let e : Some x.0 ≡ Some y.0 = sym x.1 ∙ y.1 in cc in
     omega (arith, x.2, y.2, same)
 
--- bytes begin with one code at most
+-- bytes start with one code at most
 pub one_code : (v f : ℕ) (b : List ℕ) (c d : UnwindCode) (m n : ℕ) → StartsWithCode v f b c m → StartsWithCode v f b d n → (c ≡ d) × (m ≡ n)
 one_code v f b c d m n h k =
     let same : m ≡ n = same_length v f b c d m n h k in
@@ -103,7 +103,7 @@ one_reading s (Err e ∷ xs) (Err x ∷ ys) h k =
 
 -- ---- a stream has a list of items
 
--- a code that the bytes begin with, or that they begin with none, and what refuses them
+-- a code that the bytes start with, or that they start with none, and what refuses them
 abbrev FirstItem : ℕ → ℕ → List ℕ → Type 0
 FirstItem v f b =
     ((code : UnwindCode) × (n : ℕ) × StartsWithCode v f b code n × (0 < n)) ⊎ (StartsWithNoCode v f b × (e : Error) × IsCodeRefusal v f b (kind_of e))

@@ -22,7 +22,7 @@ pub no_more : {X : Type 0} (line : X → List ℕ) (text all : List ℕ) (xs : L
 no_more {X} line text all xs before none =
     sym (append-nil text) ∙ ap (λ (zs : List (Result X Refusal)). text ++ item_lines line zs) (sym none) ∙ before
 
--- what stands behind the whole entries has no line
+-- what stands after the whole entries has no line
 lines_of_whole : {X : Type 0} (line : X → List ℕ) (fs : List X) (rest : List (Result X Refusal)) → item_lines line rest ≡ [] → item_lines line (map (λ f. Ok f) fs ++ rest) ≡ flat_map line fs
 lines_of_whole line [] rest none = none
 lines_of_whole line (f ∷ fs) rest none = ap (λ (x : List ℕ). line f ++ x) (lines_of_whole line fs rest none)

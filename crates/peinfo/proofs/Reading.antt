@@ -1,4 +1,4 @@
--- Bytes read one piece behind the other into one buffer.
+-- Bytes read one piece after the other into one buffer.
 use Rattle.std.proofs.Common.{◌≡◌, ℕ, ◌+◌, ◌≤◌, arith, List, [], ◌++◌, length, take, drop, Option, Some, None, sym, ap, ◌∙◌, length-append, length-take-le}
 use Rattle.std.proofs.Math.Seq.{take-add}
 use Rattle.std.proofs.KnownBytes.{Consumes-nil, Consumes-trans}
@@ -14,7 +14,7 @@ pub record IsPartRead (old now : Option (List ℕ)) (buffer : List ℕ) (filled 
 pub starts : (old : Option (List ℕ)) → IsPartRead old old [] 0
 starts old = record { within = omega arith; read = Consumes-nil old }
 
--- the filled front stays, and a read gives `count` bytes behind it
+-- the filled front stays, and a read returns `count` bytes after it
 pub goes_on : (old mid now : Option (List ℕ)) (before after : List ℕ) (filled count : ℕ) → IsPartRead old mid before filled → take filled after ≡ take filled before
     → Consumes mid now (take count (drop filled after)) → filled + count ≤ length after → IsPartRead old now after (filled + count)
 goes_on old mid now before after filled count so_far front more within = record {

@@ -6,14 +6,14 @@ ghost use Rattle.std.specs.Prelude.{◌≡◌, ◌+◌, ◌<◌, ◌==◌, ◌�
 ghost use Rattle.pe_core.specs.Refusals.{Refusal};
 ghost use Rattle.pe_core.specs.Rows.{entry_items};
 ghost use Rattle.pe_core.specs.declared.section_table.SectionTable.{SectionTable};
-ghost use Rattle.pe_directories.specs.BaseRelocations.{Block, first_block, first_relocation, relocation_table};
+ghost use Rattle.pe_directories.specs.BaseRelocations.{Block, first_block, first_relocation};
 ghost use Rattle.pe_directories.specs.BoundImports.{Bound, bound_forwarder_at, bound_table, first_bound_import};
 ghost use Rattle.pe_directories.specs.Clr.{Stream, clr_metadata, first_stream};
 ghost use Rattle.pe_directories.specs.Clr as roots;
-ghost use Rattle.pe_directories.specs.DelayImports.{delay_import_table, first_delay_import, lookup_table};
+ghost use Rattle.pe_directories.specs.DelayImports.{first_delay_import, lookup_table};
 ghost use Rattle.pe_directories.specs.DirectoryRefusals.{DirectoryRefusal};
 ghost use Rattle.pe_directories.specs.DirectoryRefusals as refusals;
-ghost use Rattle.pe_directories.specs.ImageParts.{ImageView};
+ghost use Rattle.pe_directories.specs.ImageParts.{ImageView, walk_table};
 ghost use Rattle.pe_directories.specs.Tls.{callback_table};
 ghost use Rattle.pe_directories.specs.VaTables.{first_va};
 ghost use Rattle.pe_directories.specs.Walks.{Items};
@@ -68,7 +68,7 @@ pub fn walks_give_the_relocations()
     ensures of_image { (b : List ℕ) (image : Image) (sections : List SectionTable) (walk : Range)
         (table : List ℕ) (items : List (Result Block DirectoryRefusal)) →
         table_at 5 b image sections ≡ Ok (Some walk) →
-        relocation_table (image_parts b image sections) (directory image 5) ≡ Ok (Some table) →
+        walk_table (image_parts b image sections) (directory image 5) ≡ Ok (Some table) →
         Items first_block table items →
         ReturnsItems (StepsBlocks b) walk (blocks_reported walk items)
         × EachHas (HasBlock b) (blocks_reported walk items) items }
@@ -123,7 +123,7 @@ pub fn walks_give_the_delay_imports()
     ensures of_image { (b : List ℕ) (image : Image) (sections : List SectionTable) (walk : Range)
         (table : List ℕ) (items : List (Result DelayImport DirectoryRefusal)) →
         table_at 13 b image sections ≡ Ok (Some walk) →
-        delay_import_table (image_parts b image sections) (directory image 13) ≡ Ok (Some table) →
+        walk_table (image_parts b image sections) (directory image 13) ≡ Ok (Some table) →
         Items first_delay_import table items →
         ReturnsItems (StepsDelayLibraries (image_parts b image sections)) walk
         (read_items (library_of (image_parts b image sections)) items) }

@@ -6,7 +6,7 @@ ghost use Rattle.std.specs.Prelude.{◌≡◌, ◌<◌, ◌^◌, length, IfSome,
 ghost use Rattle.std.specs.List.{list_all};
 ghost use Rattle.pe_core.specs.Sections.{raw_end};
 ghost use Rattle.pe_image.specs.Writing.{all_in_source, clash, clash_free, last_in_file, last_raw_end, later, same_section};
-ghost use Rattle.pe_image.specs.WritingSteps.{falls, falls_to, is_next, rises, rises_to};
+ghost use Rattle.pe_image.specs.WritingSteps.{before_next, ends_before, in_order, is_next};
 
 use pe_core::SectionTable;
 
@@ -26,44 +26,36 @@ fn clashes(one: &SectionTable, other: &SectionTable) -> bool
     start < raw_end(one).min(raw_end(other)) && *one != *other
 }
 
-/// Whether the section equals the next one, or ends at or before its start in the file.
-fn rises_to(section: &SectionTable, after: &[SectionTable]) -> bool
-    ensures { result ≡ rises_to section.now after.now }
+/// Whether the section equals the other one, or ends at or before its start in the file.
+fn ends_before(section: &SectionTable, other: &SectionTable) -> bool
+    ensures { result ≡ ends_before section.now other.now }
+{
+    *section == *other || raw_end(section) <= other.pointer_to_raw_data as usize
+}
+
+/// Whether the section ends before the next one, or with `falls` the next one before it; equal ones do both.
+fn is_before_next(section: &SectionTable, after: &[SectionTable], falls: bool) -> bool
+    ensures { result ≡ before_next falls section.now after.now }
 {
     match after {
         [] => true,
-        [next, ..] => *section == *next || raw_end(section) <= next.pointer_to_raw_data as usize,
-    }
-}
-
-/// Whether each section equals the next one, or ends at or before its start in the file.
-fn rises(sections: &[SectionTable]) -> bool
-    ensures { result ≡ rises sections.now }
-{
-    for i in 0..sections.len() {
-        if !rises_to(&sections[i], &sections[i + 1..]) {
-            return false;
+        [next, ..] => {
+            if falls {
+                ends_before(next, section)
+            } else {
+                ends_before(section, next)
+            }
         }
     }
-    true
 }
 
-/// Whether the section equals the next one, or starts at or after its end in the file.
-fn falls_to(section: &SectionTable, after: &[SectionTable]) -> bool
-    ensures { result ≡ falls_to section.now after.now }
-{
-    match after {
-        [] => true,
-        [next, ..] => *section == *next || raw_end(next) <= section.pointer_to_raw_data as usize,
-    }
-}
-
-/// Whether each section equals the next one, or starts at or after its end in the file.
-fn falls(sections: &[SectionTable]) -> bool
-    ensures { result ≡ falls sections.now }
+/// Whether the sections rise in the file, each at or after the end of the one before it, or with `falls` fall; equal ones
+/// that are neighbours do both.
+fn are_in_order(sections: &[SectionTable], falls: bool) -> bool
+    ensures { result ≡ in_order falls sections.now }
 {
     for i in 0..sections.len() {
-        if !falls_to(&sections[i], &sections[i + 1..]) {
+        if !is_before_next(&sections[i], &sections[i + 1..], falls) {
             return false;
         }
     }
@@ -111,12 +103,12 @@ fn first_clashing_pair(sections: &[SectionTable]) -> Option<(usize, usize)>
 }
 
 /// The indices of the first two sections that share a byte of the file and are not equal. `None` if there are none.
-#[tactic(auto, using(crate::proofs::Clashes::rising_is_free, crate::proofs::Clashes::falling_is_free))]
+#[tactic(auto, using(crate::proofs::Clashes::ordered_is_free))]
 pub fn first_clash(sections: &[SectionTable]) -> Option<(usize, usize)>
     ensures { is_none result ≡ clash_free sections.now }
 {
     // Sections that rise or fall in the file cannot clash, and one pass finds that. Pairs are compared only otherwise.
-    if rises(sections) || falls(sections) {
+    if are_in_order(sections, false) || are_in_order(sections, true) {
         None
     } else {
         first_clashing_pair(sections)

@@ -47,22 +47,6 @@ pub fn set_coff(buffer: &mut [u8], offset: usize, header: &CoffHeader)
     set_u16(buffer, offset + 18, header.characteristics);
 }
 
-/// Writes the standard fields of PE32, 28 bytes.
-fn set_standard_fields_32(buffer: &mut [u8], offset: usize, header: &StandardFields)
-    requires { offset + 28 ≤ length buffer.old }
-    ensures { buffer.new ≡ splice buffer.old offset (spell_standard_fields_32 header.now) }
-{
-    set_u16(buffer, offset, header.magic);
-    set_u8(buffer, offset + 2, header.major_linker_version);
-    set_u8(buffer, offset + 3, header.minor_linker_version);
-    set_u32(buffer, offset + 4, header.size_of_code);
-    set_u32(buffer, offset + 8, header.size_of_initialized_data);
-    set_u32(buffer, offset + 12, header.size_of_uninitialized_data);
-    set_u32(buffer, offset + 16, header.address_of_entry_point);
-    set_u32(buffer, offset + 20, header.base_of_code);
-    set_u32(buffer, offset + 24, header.base_of_data);
-}
-
 /// Writes the standard fields of PE32+, 24 bytes.
 fn set_standard_fields_64(buffer: &mut [u8], offset: usize, header: &StandardFields)
     requires { offset + 24 ≤ length buffer.old }
@@ -76,6 +60,15 @@ fn set_standard_fields_64(buffer: &mut [u8], offset: usize, header: &StandardFie
     set_u32(buffer, offset + 12, header.size_of_uninitialized_data);
     set_u32(buffer, offset + 16, header.address_of_entry_point);
     set_u32(buffer, offset + 20, header.base_of_code);
+}
+
+/// Writes the standard fields of PE32, 28 bytes: the same, and then the base of data.
+fn set_standard_fields_32(buffer: &mut [u8], offset: usize, header: &StandardFields)
+    requires { offset + 28 ≤ length buffer.old }
+    ensures { buffer.new ≡ splice buffer.old offset (spell_standard_fields_32 header.now) }
+{
+    set_standard_fields_64(buffer, offset, header);
+    set_u32(buffer, offset + 24, header.base_of_data);
 }
 
 /// Writes the Windows fields of PE32, 68 bytes. Of the image base and of the sizes of stack and heap the low 4 bytes

@@ -2,7 +2,7 @@ use Rattle.std.proofs.Common.{ℕ, ◌≤◌, ◌<◌, ◌-◌, length, drop}
 use Rattle.std.specs.Str.{IsUtf8}
 use Rattle.pe_core.proofs.many_texts.last_text.Given as goal
 
--- no end that begins in front of `begin` is text
+-- no end that starts before `begin` is text
 abbrev pub invariant-loop-text : goal.invariant-loop-text
 invariant-loop-text l = record {
   within : l.begin ≤ length l.bytes;

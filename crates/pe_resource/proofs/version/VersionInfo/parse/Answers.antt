@@ -1,6 +1,7 @@
 use Rattle.pe_resource.specs.ResourceEntries.{entries_left}
-use Rattle.pe_resource.proofs.NoMemory.{version_no_memory}
+use Rattle.pe_core.proofs.NoMemory.{memory_never}
+use Rattle.pe_resource.proofs.NoMemory.{version_lacks}
 use Rattle.pe_resource.proofs.version.VersionInfo.parse.Goals as goal
 
 pub returns-clause-no_memory : goal.returns-clause-no_memory
-returns-clause-no_memory g c = version_no_memory _ _ _ (entries_left c.args.it) _ c.of_entries.ensures
+returns-clause-no_memory g c = memory_never _ (version_lacks _ _ _ (entries_left c.args.it) _ c.of_entries.ensures)
