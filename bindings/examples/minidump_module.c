@@ -3,7 +3,7 @@
  *
  *     minidump_module FILE    FILE is a copy of the memory, from the module's first byte on */
 #include "pe.h"
-#include "read_file.h"
+#include "example.h"
 
 #include <inttypes.h>
 #include <stdio.h>
@@ -13,13 +13,26 @@ enum { MOST_SECTIONS = 96 };    /* of the Windows loader */
 static uint8_t memory[1 << 26];
 static pe_c_section sections[MOST_SECTIONS];
 
+/* A name may hold anything, and is not to drive a terminal: a byte that is no printable ASCII is shown as \xNN. */
+static void show_name(const uint8_t *name, uint64_t length)
+{
+    for (; length > 0 && *name != 0; name++, length--) {
+        if (*name >= ' ' && *name <= '~')
+            putchar(*name);
+        else
+            printf("\\x%02X", (unsigned)*name);
+    }
+}
+
 static void show_key(const pe_c_key *key)
 {
     static const int order[16] = {3, 2, 1, 0, 5, 4, 7, 6, 8, 9, 10, 11, 12, 13, 14, 15};
     printf("symbols ");
     for (int i = 0; i < 16; i++)
         printf("%02X", key->guid[order[i]]);
-    printf("%" PRIX32 " %.*s\n", key->age, (int)key->name.length, (const char *)memory + key->name.offset);
+    printf("%" PRIX32 " ", key->age);
+    show_name(memory + key->name.offset, key->name.length);
+    printf("\n");
 }
 
 int main(int argc, char **argv)
@@ -40,5 +53,5 @@ int main(int argc, char **argv)
     }
     if (result == PE_C_DONE)
         show_key(&key);
-    return result == PE_C_DONE || result == PE_C_NOTHING ? 0 : 1;
+    return status_of(result);
 }

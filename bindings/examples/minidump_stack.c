@@ -5,7 +5,7 @@
  * FILE is the image, loaded at BASE. MEMORY has the bytes of all pieces, each LENGTH of them from OFFSET on, which are those
  * from the address START on. Numbers are hexadecimal. */
 #include "pe.h"
-#include "read_file.h"
+#include "example.h"
 
 #include <inttypes.h>
 #include <stdio.h>
@@ -78,7 +78,5 @@ int main(int argc, char **argv)
     }
     if (result == PE_C_MISSING)
         printf("memory is missing at %" PRIx64 "\n", frame.address);
-    if (result == PE_C_SHORT)
-        printf("truncated, or a piece is not inside the memory\n");
-    return result == PE_C_DONE || result == PE_C_NOTHING || result == PE_C_MISSING ? 0 : 1;
+    return status_of(result);
 }

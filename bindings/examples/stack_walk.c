@@ -32,7 +32,7 @@ uint32_t caller_of(const uint8_t *bytes, size_t length, const pe_c_image_info *i
 #include <stdio.h>
 #include <stdlib.h>
 
-#include "read_file.h"
+#include "example.h"
 
 static uint8_t bytes[1 << 26];
 static uint8_t stack[1 << 12];
@@ -65,5 +65,5 @@ int main(int argc, char **argv)
     }
     if (result == PE_C_MISSING)
         printf("memory is missing at %" PRIx64 "\n", frame.address);
-    return result == PE_C_DONE || result == PE_C_NOTHING || result == PE_C_MISSING ? 0 : 1;
+    return status_of(result);
 }

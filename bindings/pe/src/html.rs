@@ -14,7 +14,7 @@ use crate::summary::kind_of;
 use crate::tables::{self, Row, Table};
 use crate::{digest, Reading, Status};
 use markup::Html;
-use pe_c::Image;
+use pe_c::{Image, Layout};
 use sha2::{Digest as _, Sha256};
 use std::path::Path;
 
@@ -199,8 +199,11 @@ fn debug_data(debug: &Debug, html: &mut Html) {
     }
 }
 
-/// The checksum that the file should have, and its Authenticode digest.
+/// The checksum that the file should have, and its Authenticode digest; of a module as it was in memory there are none.
 fn digest_of(facts: &Facts, image: &Image<'_>) -> Vec<Row> {
+    if image.layout() == Layout::Mapped {
+        return Vec::new();
+    }
     match digest::digest_of(Path::new(&facts.file), image) {
         Ok(digest) => vec![
             ("right checksum", format!("{:#010x}", digest.right_checksum)),

@@ -16,6 +16,7 @@ mod tables;
 mod unwind;
 
 use arguments::{Arguments, Command, Reading};
+use clap::error::ErrorKind;
 use clap::{CommandFactory, Parser};
 use facts::{Facts, Topic};
 use files::Report;
@@ -66,6 +67,10 @@ fn run(arguments: &Arguments, out: &mut dyn Write) -> io::Result<Status> {
         Command::Key { files, reading } => files::each(files, false, out, |path, bytes| {
             report(path, bytes, reading, &[Topic::Headers, Topic::Debug], show::keys)
         }),
+        Command::Digest { reading, .. } if reading.mapped => {
+            let message = "a digest covers a file, and --mapped is for modules as they were in memory";
+            Arguments::command().error(ErrorKind::ArgumentConflict, message).exit()
+        }
         Command::Digest { files, reading } => {
             files::each(files, false, out, |path, bytes| digest::report(path, parsed(bytes, reading), reading.json))
         }

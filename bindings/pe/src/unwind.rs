@@ -2,11 +2,15 @@
 //! code says of the prolog, in the words of
 //! [Microsoft's page](https://learn.microsoft.com/cpp/build/exception-handling-x64).
 
-use crate::facts::{Part, Refusal};
+use crate::facts::{List, Part, Refusal};
 use crate::files::Report;
 use crate::Status;
 use pe_c::{Code, Error, Function, Functions, Handler, Image, Offset, Operation, Register, UnwindRecord};
 use serde::Serialize;
+use std::ops::Not;
+
+/// How many records of a chain are shown. Linkers chain two or three; in a hostile file as many as it has room for.
+const RECORDS: usize = 256;
 
 #[derive(Debug, Serialize)]
 struct Unwinding {
@@ -15,6 +19,9 @@ struct Unwinding {
     function: Option<FunctionEntry>,
     /// From the function's own up to the root of their chain.
     records: Vec<Record>,
+    /// Whether the chain goes on after `RECORDS` records.
+    #[serde(skip_serializing_if = "Not::not")]
+    is_limited: bool,
     /// Of the record that would come next.
     #[serde(skip_serializing_if = "Option::is_none")]
     error: Option<Refusal>,
@@ -114,15 +121,14 @@ fn record_of(record: &UnwindRecord<'_>) -> Record {
 
 fn unwinding_of(functions: &Functions<'_, '_>, rva: u32) -> Result<Unwinding, Error> {
     let function = functions.find(rva)?;
-    let (mut records, mut error) = (Vec::new(), None);
-    for record in function.into_iter().flat_map(|it| functions.plan(it)) {
-        match record {
-            Ok(record) => records.push(record_of(&record)),
-            Err(found) => error = Some(found.into()),
-        }
-    }
+    let plan = function.into_iter().flat_map(|it| functions.plan(it));
+    let mut left = RECORDS;
+    let List { entries: records, error, is_limited } = List::limited(plan, |record| {
+        left = left.checked_sub(1)?;
+        Some(record_of(&record))
+    });
     let entry = |it: Function| FunctionEntry { start_rva: it.begin, end_rva: it.end, unwind_rva: it.unwind };
-    Ok(Unwinding { rva, function: function.map(entry), records, error })
+    Ok(Unwinding { rva, function: function.map(entry), records, is_limited, error })
 }
 
 fn text_of(unwinding: &Unwinding) -> String {
@@ -143,6 +149,9 @@ fn text_of(unwinding: &Unwinding) -> String {
             text += &format!("    {kind} handler at {rva:#x}\n");
         }
         text += &record.error.as_ref().map_or(String::new(), |error| format!("    {error}\n"));
+    }
+    if unwinding.is_limited {
+        text += &format!("  more records, of which the first {RECORDS} are shown\n");
     }
     text + &unwinding.error.as_ref().map_or(String::new(), |error| format!("  {error}\n"))
 }

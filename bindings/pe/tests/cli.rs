@@ -208,6 +208,35 @@ function 0x5010 to 0x5020
     assert_eq!((out.contains("leaf function"), status), (true, 0));
 }
 
+/// An image whose one function has so many unwind records, each chained to the next.
+fn with_chain(records: u32) -> Vec<u8> {
+    let mut made = made::Made::new(0x8664);
+    let first = made.next() + 12;
+    made.put_words(&[0x5000, 0x5010, first]);
+    for next in 1..records {
+        made.put_words(&[0x21, 0x5000, 0x5010, first + 16 * next]);
+    }
+    made.put_words(&[0x01]);
+    made.directory(3, first - 12, 12);
+    made.image()
+}
+
+#[test]
+fn of_a_long_chain_the_first_records_are_shown() {
+    let folder = Folder::new("chain");
+    for (records, is_limited) in [(256, false), (257, true), (40_000, true)] {
+        let file = folder.file("a.exe", &with_chain(records));
+        let (out, _, status) = run(&["unwind", "--json", &file, "5000"]);
+        let unwinding: Value = serde_json::from_str(&out).unwrap();
+        assert_eq!(unwinding["records"].as_array().unwrap().len(), 256);
+        assert_eq!((unwinding["is_limited"].as_bool(), status), (is_limited.then_some(true), 0), "{records}");
+        let (out, _, status) = run(&["unwind", &file, "5000"]);
+        let lines: Vec<&str> = out.lines().collect();
+        assert_eq!((lines.len(), status), (257 + usize::from(is_limited), 0));
+        assert_eq!(lines[257..].concat(), if is_limited { "  more records, of which the first 256 are shown" } else { "" });
+    }
+}
+
 #[test]
 fn damaged_parts_are_warnings_and_cost_themselves() {
     let folder = Folder::new("damaged");
@@ -252,6 +281,8 @@ fn statuses() {
     assert_eq!(run(&[&short, &none]).2, 3);
     assert_eq!(run(&["unwind", &image, "xyz"]).2, 2);
     assert_eq!(run(&["unwind", &image, "0x0x1"]).2, 2);
+    let (out, error_text, status) = run(&["digest", "--mapped", &image]);
+    assert_eq!((out.as_str(), error_text.contains("a digest covers a file"), status), ("", true, 2));
     assert_eq!(run(&[]).2, 2);
     let (out, _, _) = run(&["--json", &short]);
     let all: Value = serde_json::from_str(&out).unwrap();
