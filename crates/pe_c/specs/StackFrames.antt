@@ -60,13 +60,10 @@ error_number (NotRising a) = 105
 
 -- the address that an error of a step speaks of
 abbrev pub error_address : FrameError → Option ℕ
-error_address (Codes e) = None
 error_address (Memory a) = Some a
 error_address (Address a) = Some a
-error_address (Operation o) = None
-error_address (Arm64Code c) = None
-error_address (Packed d) = None
 error_address (NotRising a) = Some a
+error_address other = None
 
 -- a frame with the address that an error speaks of, if it speaks of one
 abbrev pub at_address : StackFrame → Option ℕ → StackFrame

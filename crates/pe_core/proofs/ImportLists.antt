@@ -155,10 +155,8 @@ records-done offset w b p n i xs u v s end g is =
     gathered-done (λ k. import_record_at offset w b (p + 20 * k)) (suc (length b)) i xs g.gathered (omega (arith, end, few_records b p n s)) row
 
 pub unless_memory : (e : Error) (P : Type 0) → P → UnlessMemory e P
-unless_memory (errors.Malformed reason) P x = x
-unless_memory (errors.BadMagic magic) P x = x
-unless_memory (errors.Short at needed) P x = x
 unless_memory (errors.Memory m) P x = tt
+unless_memory other P x = x
 
 -- the same of an error
 pub refused-in_record : (offset : ℕ → Option ℕ) (w : ℕ) (b : List ℕ) (p n i : ℕ) (xs : List ImportRecordView) (e : Error) (entry : ImportDirectoryEntry)

@@ -23,10 +23,8 @@ memory_never (Err refusal) l given =
 
 -- where no refusal is `Memory`, nothing is to be shown of an allocation failure
 pub nothing_owed : {X : Type 0} (r : Result X Refusal) (e : Error) (P : Type 0) → Lacks r → r ≡ Err (kind_of e) → IfMemory e P
-nothing_owed r (errors.Malformed reason) P l given = tt
-nothing_owed r (errors.BadMagic magic) P l given = tt
-nothing_owed r (errors.Short at needed) P l given = tt
 nothing_owed r (errors.Memory e) P l given = absurd (memory_never r l given)
+nothing_owed r other P l given = tt
 
 -- the same of what each of these tests is refused as
 abbrev pub TestsLack : List (Bool × Refusal) → Type 0

@@ -20,10 +20,6 @@ empty_if_refused mode empty defined = none_if_refused mode defined >>= λ x. Ok 
 -- the same for the result of a call; `Memory` is returned in both modes
 abbrev pub none_if_error : {X : Type 0} → ParseMode → Result X Error → Result (Option X) Error
 none_if_error mode (Ok x) = Ok (Some x)
-none_if_error mode (Err (errors.Memory e)) = Err (errors.Memory e)
-none_if_error Strict (Err (errors.Malformed reason)) = Err (errors.Malformed reason)
-none_if_error Strict (Err (errors.BadMagic magic)) = Err (errors.BadMagic magic)
-none_if_error Strict (Err (errors.Short at needed)) = Err (errors.Short at needed)
-none_if_error Permissive (Err (errors.Malformed reason)) = Ok None
-none_if_error Permissive (Err (errors.BadMagic magic)) = Ok None
-none_if_error Permissive (Err (errors.Short at needed)) = Ok None
+none_if_error Strict (Err error) = Err error
+none_if_error Permissive (Err (errors.Memory e)) = Err (errors.Memory e)
+none_if_error Permissive (Err other) = Ok None

@@ -95,10 +95,8 @@ kind_of (errors.Memory e) = Memory
 
 -- P holds, unless the error is `Memory`
 abbrev pub UnlessMemory : Error → Type 0 → Type 0
-UnlessMemory (errors.Malformed reason) P = P
-UnlessMemory (errors.BadMagic magic) P = P
-UnlessMemory (errors.Short at needed) P = P
 UnlessMemory (errors.Memory e) P = Unit {0}
+UnlessMemory other P = P
 
 -- the result of a call: its value seen by view, or the kind of its error
 abbrev pub answer_by : {X Y : Type 0} → (X → Y) → Result X Error → Result Y Refusal
@@ -125,10 +123,8 @@ ReturnsUnlessMemory view (Err e) defined = UnlessMemory e (defined ≡ Err (kind
 
 -- P holds if the error is `Memory`
 abbrev pub IfMemory : Error → Type 0 → Type 0
-IfMemory (errors.Malformed reason) P = Unit {0}
-IfMemory (errors.BadMagic magic) P = Unit {0}
-IfMemory (errors.Short at needed) P = Unit {0}
 IfMemory (errors.Memory e) P = P
+IfMemory other P = Unit {0}
 
 -- the same, and memory is asked for only after these tests: if the call returns `Memory`, they have all passed
 abbrev pub ReturnsUnlessMemoryAfter : {X Y Z : Type 0} → Result Z Refusal → (X → Y) → Result X Error → Result Y Refusal → Type 0

@@ -50,14 +50,7 @@ none_left view first shrinks left after h = only_items first shrinks left [] (en
 
 unless_no_memory : (e : DirectoryError) (P : Type 0) → P → UnlessNoMemory e P
 unless_no_memory (errors.Image error) P x = unless_memory error P x
-unless_no_memory (errors.BlockSize size) P x = x
-unless_no_memory (errors.BlockTruncated size length) P x = x
-unless_no_memory (errors.NoArgument rva) P x = x
-unless_no_memory (errors.VaBelowBase va) P x = x
-unless_no_memory (errors.ClrHeaderSize size) P x = x
-unless_no_memory errors.StreamName P x = x
-unless_no_memory (errors.DelayImportName address) P x = x
-unless_no_memory (errors.BoundImportName offset) P x = x
+unless_no_memory other P x = x
 
 -- ---- what is read of the items so far, and of those that are left
 

@@ -46,14 +46,7 @@ directory_answer view (Err e) = Err (directory_kind_of e)
 -- P holds, unless the error is `Image` with `Memory`
 abbrev pub UnlessNoMemory : DirectoryError → Type 0 → Type 0
 UnlessNoMemory (errors.Image error) P = UnlessMemory error P
-UnlessNoMemory (errors.BlockSize size) P = P
-UnlessNoMemory (errors.BlockTruncated size length) P = P
-UnlessNoMemory (errors.NoArgument rva) P = P
-UnlessNoMemory (errors.VaBelowBase va) P = P
-UnlessNoMemory (errors.ClrHeaderSize size) P = P
-UnlessNoMemory errors.StreamName P = P
-UnlessNoMemory (errors.DelayImportName address) P = P
-UnlessNoMemory (errors.BoundImportName offset) P = P
+UnlessNoMemory other P = P
 
 -- the same as `DirectoryReturns` for a call that allocates, which may also return `Image` with `Memory`
 abbrev pub DirectoryReturnsUnlessMemory : {X Y : Type 0} → (X → Y) → Result X DirectoryError → Result Y DirectoryRefusal → Type 0

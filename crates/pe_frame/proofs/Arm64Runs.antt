@@ -68,9 +68,7 @@ held_small es s (D r) p =
 pub sinks : (es : List Arm64Effect) (s : Arm64Machine) → IsArm64Prolog es s → (run_arm64 es s).sp ≤ s.sp
 sinks [] s p = omega arith
 sinks (Lower n ∷ before) s p = let i = sinks before s p.1 in omega arith
-sinks (Store r o ∷ before) s p = sinks before s p.1
-sinks (PointFrame n ∷ before) s p = sinks before s p.1
-sinks (SignLink ∷ before) s p = sinks before s p.1
+sinks (other ∷ before) s p = sinks before s p.1
 
 -- each address that was stored to has what was stored there
 abbrev pub Holds : (ℕ → ℕ → Type 0) → List Arm64Effect → Arm64Machine → Type 0
@@ -81,10 +79,8 @@ Holds P (other ∷ before) s = Holds P before s
 -- a store elsewhere leaves it
 holds_stored : (mem : ℕ → ℕ) (x w : ℕ) (es : List Arm64Effect) (s : Arm64Machine) → AllByRecursion (Apart x) (stored_at es s) → Holds (λ a v. loaded mem a ≡ v) es s → Holds (λ a v. loaded (stored mem x w) a ≡ v) es s
 holds_stored mem x w [] s apart h = tt
-holds_stored mem x w (Lower n ∷ before) s apart h = holds_stored mem x w before s apart h
 holds_stored mem x w (Store r o ∷ before) s apart h = (loaded-apart mem x w _ apart.0 ∙ h.0, holds_stored mem x w before s apart.1 h.1)
-holds_stored mem x w (PointFrame n ∷ before) s apart h = holds_stored mem x w before s apart h
-holds_stored mem x w (SignLink ∷ before) s apart h = holds_stored mem x w before s apart h
+holds_stored mem x w (other ∷ before) s apart h = holds_stored mem x w before s apart h
 
 -- the memory that a prolog leaves has what it stored
 pub holds : (es : List Arm64Effect) (s : Arm64Machine) → IsArm64Prolog es s → Holds (λ a v. loaded (run_arm64 es s).memory a ≡ v) es s
@@ -100,7 +96,5 @@ holds (SignLink ∷ before) s p = holds before s p.1
 -- the same of a memory that agrees there
 pub known : (m : ℕ → Option ℕ) (mem : ℕ → ℕ) (es : List Arm64Effect) (s : Arm64Machine) → AllByRecursion (λ a. m a ≡ Some (loaded mem a)) (stored_at es s) → Holds (λ a v. loaded mem a ≡ v) es s → Holds (λ a v. m a ≡ Some v) es s
 known m mem [] s all h = tt
-known m mem (Lower n ∷ before) s all h = known m mem before s all h
 known m mem (Store r o ∷ before) s all h = (all.0 ∙ ap Some h.0, known m mem before s all.1 h.1)
-known m mem (PointFrame n ∷ before) s all h = known m mem before s all h
-known m mem (SignLink ∷ before) s all h = known m mem before s all h
+known m mem (other ∷ before) s all h = known m mem before s all h

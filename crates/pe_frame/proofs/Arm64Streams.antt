@@ -102,12 +102,7 @@ are_the_codes bytes cs (Err e) h k = absurd (not_truncated bytes cs k.1 h k.2)
 
 truncated_kind : (e : FrameError) → IsOfTruncated e → error_kind e ≡ OfCodes Arm64Cut
 truncated_kind (Codes e) h = ap OfCodes h
-truncated_kind (Memory a) h = absurd h
-truncated_kind (Address a) h = absurd h
-truncated_kind (Operation o) h = absurd h
-truncated_kind (Arm64Code c) h = absurd h
-truncated_kind (Packed d) h = absurd h
-truncated_kind (NotRising a) h = absurd h
+truncated_kind other h = absurd h
 
 one_codes : (bytes : List ℕ) (x y : Result (List Arm64UnwindCode) FrameError) → HasArm64Codes bytes x → HasArm64Codes bytes y → by_kind x ≡ by_kind y
 one_codes bytes x (Ok cs) h k = ap by_kind (are_the_codes bytes cs x k h)

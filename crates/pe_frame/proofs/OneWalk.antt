@@ -46,12 +46,8 @@ same_frame (Err d) (Err e) h =
 
 unreadable : (r : Refusal) (x : Result StackFrame WalkEnd) → IsUnreadable r x → by_end_kind x ≡ Err (OfRecords r)
 unreadable r (Ok s) h = absurd h
-unreadable r (Err ends.Bound) h = absurd h
-unreadable r (Err ends.NoModule) h = absurd h
-unreadable r (Err ends.NoFunction) h = absurd h
 unreadable r (Err (ends.Records e)) h = ap (λ (k : Refusal). Err (OfRecords k)) h
-unreadable r (Err ends.LongChain) h = absurd h
-unreadable r (Err (ends.Step e)) h = absurd h
+unreadable r (Err other) h = absurd h
 
 one_by_plan : (memory : ℕ → Option ℕ) (m : Module) (e : ExceptionView) (f : RuntimeFunction) (s : StackFrame) (plan : Result (Option (List UnwindInfoView)) Refusal) (x y : Result StackFrame WalkEnd) → CallsByPlan memory m e f s plan x → CallsByPlan memory m e f s plan y → by_end_kind x ≡ by_end_kind y
 one_by_plan memory m e f s (Err r) x y h k = unreadable r x h ∙ sym (unreadable r y k)

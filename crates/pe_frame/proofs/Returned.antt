@@ -31,9 +31,7 @@ exit_pops : (m : ℕ → Option ℕ) (i : Instruction) (g : Registers) → Exits
 exit_pops m (Return n) g e = rw e refl
 exit_pops m (Jump a) g e = refl
 exit_pops m JumpByMemory g e = refl
-exit_pops m (Add n) g e = absurd e
-exit_pops m (Lea r n) g e = absurd e
-exit_pops m (Pop r) g e = absurd e
+exit_pops m other g e = absurd e
 
 -- what a step that succeeded was
 record Went {A B : Type 0} (x : Result A FrameError) (f : A → Result B FrameError) (y : B) : Type 0 where
@@ -123,13 +121,7 @@ pops_come m b (SetFPRegister ∷ before) is g e u spares reaches len un up p =
     let here : undone_all m b before g ≡ Ok e = ap (λ (x : Registers). undone_all m b before x) (sym same) ∙ un in
     let on : Reaches b (pointer g) before = subst (λ (k : ℕ). Reaches b k before) (sym reaches.0) reaches.1 in
     pops_come m b before is g e u spares on len here up p
-pops_come m b (Alloc n ∷ before) is g e u spares reaches len un up p = absurd p
-pops_come m b (SaveNonVolatile r o ∷ before) is g e u spares reaches len un up p = absurd p
-pops_come m b (SaveXMM r o ∷ before) is g e u spares reaches len un up p = absurd p
-pops_come m b (Epilog x y ∷ before) is g e u spares reaches len un up p = absurd p
-pops_come m b (SaveXMM128 r o ∷ before) is g e u spares reaches len un up p = absurd p
-pops_come m b (PushMachineFrame x ∷ before) is g e u spares reaches len un up p = absurd p
-pops_come m b (Noop ∷ before) is g e u spares reaches len un up p = absurd p
+pops_come m b (other ∷ before) is g e u spares reaches len un up p = absurd p
 
 put_put : (g : Registers) (a b : ℕ) → put_register (put_register g 4 a) 4 b ≡ put_register g 4 b
 put_put g a b = ap (λ (xs : List ℕ). record { general = xs; xmm = g.xmm; rip = g.rip }) (set-set g.general 4 a b)
@@ -214,12 +206,9 @@ trail_sum c f (SetFPRegister ∷ before) s b p q h =
     let is : top (run f before s) ≡ b = h.1 in
     omega (arith, next)
 trail_sum c f (PushNonVolatile r ∷ before) s b p q h = omega arith
-trail_sum c f (SaveNonVolatile r o ∷ before) s b p q h = trail_sum c f before s b p q.1 h
 trail_sum c f (SaveXMM r o ∷ before) s b p q h = absurd q.0
-trail_sum c f (Epilog x y ∷ before) s b p q h = trail_sum c f before s b p q.1 h
-trail_sum c f (SaveXMM128 r o ∷ before) s b p q h = trail_sum c f before s b p q.1 h
 trail_sum c f (PushMachineFrame x ∷ before) s b p q h = omega arith
-trail_sum c f (Noop ∷ before) s b p q h = trail_sum c f before s b p q.1 h
+trail_sum c f (other ∷ before) s b p q h = trail_sum c f before s b p q.1 h
 
 -- from the last push on the pops come to the base of the frame
 reaches_pops : (c : Bool) (f : Frame) (codes : List UnwindOperation) (s : Machine) (b p : ℕ) → IsProlog c f codes s → IsExact (run f codes s).frame b p (top (run f codes s)) → Reaches b p (moves codes)
@@ -232,12 +221,9 @@ reaches_pops c f (SetFPRegister ∷ before) s b p q h =
     let t : top (run f (SetFPRegister ∷ before) s) ≡ top (run f before s) = pointer_other (run f before s).general f.register (top (run f before s) + f.offset) q.0.0.savable.other in
     (h.0 ∙ (t ∙ h.1), reaches_pops c f before s b b q.1 (exact_none (run f before s).frame b b (top (run f before s)) q.0.1))
 reaches_pops c f (Alloc n ∷ before) s b p q h = tt
-reaches_pops c f (SaveNonVolatile r o ∷ before) s b p q h = reaches_pops c f before s b p q.1 h
 reaches_pops c f (SaveXMM r o ∷ before) s b p q h = absurd q.0
-reaches_pops c f (Epilog x y ∷ before) s b p q h = reaches_pops c f before s b p q.1 h
-reaches_pops c f (SaveXMM128 r o ∷ before) s b p q h = reaches_pops c f before s b p q.1 h
 reaches_pops c f (PushMachineFrame x ∷ before) s b p q h = tt
-reaches_pops c f (Noop ∷ before) s b p q h = reaches_pops c f before s b p q.1 h
+reaches_pops c f (other ∷ before) s b p q h = reaches_pops c f before s b p q.1 h
 
 -- so they do from where what was allocated is freed
 reaches_of : (c : Bool) (f : Frame) (codes : List UnwindOperation) (s : Machine) (b p : ℕ) → IsProlog c f codes s → IsExact (run f codes s).frame b p (top (run f codes s)) → Reaches b (trail b p (moves codes)) (pushes (moves codes))
@@ -248,12 +234,9 @@ reaches_of c f (Alloc n ∷ before) s b p q h =
     reaches_of c f before s b (p + n) q.1 (exact_alloc (run f before s).frame b p n t (top (run f (Alloc n ∷ before) s)) set_top q.0.1 h)
 reaches_of c f (SetFPRegister ∷ before) s b p q h = reaches_of c f before s b b q.1 (exact_none (run f before s).frame b b (top (run f before s)) q.0.1)
 reaches_of c f (PushNonVolatile r ∷ before) s b p q h = reaches_pops c f (PushNonVolatile r ∷ before) s b p q h
-reaches_of c f (SaveNonVolatile r o ∷ before) s b p q h = reaches_of c f before s b p q.1 h
 reaches_of c f (SaveXMM r o ∷ before) s b p q h = absurd q.0
-reaches_of c f (Epilog x y ∷ before) s b p q h = reaches_of c f before s b p q.1 h
-reaches_of c f (SaveXMM128 r o ∷ before) s b p q h = reaches_of c f before s b p q.1 h
 reaches_of c f (PushMachineFrame x ∷ before) s b p q h = tt
-reaches_of c f (Noop ∷ before) s b p q h = reaches_of c f before s b p q.1 h
+reaches_of c f (other ∷ before) s b p q h = reaches_of c f before s b p q.1 h
 
 -- `lea` leads there, and from there the pops come to the base of the frame
 record IsLed (f : Frame) (d b p : ℕ) (codes : List UnwindOperation) (frame : Option ℕ) : Type 0 where
@@ -277,13 +260,7 @@ led_back f (PushNonVolatile r ∷ before) d b p size h reaches small =
 led_back f (SetFPRegister ∷ before) d b p size h reaches small =
     let at : p + size ≡ b = reaches.0 in
     led_here b f.offset d p size at h small
-led_back f (Alloc n ∷ before) d b p size h reaches small = absurd h
-led_back f (SaveNonVolatile r o ∷ before) d b p size h reaches small = absurd h
-led_back f (SaveXMM r o ∷ before) d b p size h reaches small = absurd h
-led_back f (Epilog x y ∷ before) d b p size h reaches small = absurd h
-led_back f (SaveXMM128 r o ∷ before) d b p size h reaches small = absurd h
-led_back f (PushMachineFrame x ∷ before) d b p size h reaches small = absurd h
-led_back f (Noop ∷ before) d b p size h reaches small = absurd h
+led_back f (other ∷ before) d b p size h reaches small = absurd h
 
 -- such a prolog set a frame register
 set_before : (c : Bool) (f : Frame) (codes : List UnwindOperation) (s : Machine) (d size : ℕ) → IsProlog c f codes s → LeadsBack f d size (moves codes) → IsSome (run f codes s).frame
@@ -291,12 +268,9 @@ set_before c f [] s d size q h = absurd h
 set_before c f (PushNonVolatile r ∷ before) s d size q h = set_before c f before s d (size + 8) q.1 h
 set_before c f (Alloc n ∷ before) s d size q h = absurd h
 set_before c f (SetFPRegister ∷ before) s d size q h = refl
-set_before c f (SaveNonVolatile r o ∷ before) s d size q h = set_before c f before s d size q.1 h
 set_before c f (SaveXMM r o ∷ before) s d size q h = absurd q.0
-set_before c f (Epilog x y ∷ before) s d size q h = set_before c f before s d size q.1 h
-set_before c f (SaveXMM128 r o ∷ before) s d size q h = set_before c f before s d size q.1 h
 set_before c f (PushMachineFrame x ∷ before) s d size q h = absurd h
-set_before c f (Noop ∷ before) s d size q h = set_before c f before s d size q.1 h
+set_before c f (other ∷ before) s d size q h = set_before c f before s d size q.1 h
 
 led_by : (c : Bool) (f : Frame) (codes : List UnwindOperation) (s : Machine) (d b p : ℕ) → IsProlog c f codes s → Leads f d (moves codes) → (PushesLate codes → IsExact (run f codes s).frame b p (top (run f codes s))) →
     IsLed f d b p (moves codes) (run f codes s).frame
@@ -313,25 +287,17 @@ led_by c f (SetFPRegister ∷ before) s d b p q h exact =
 led_by c f (PushNonVolatile r ∷ before) s d b p q h exact =
     let reaches = reaches_pops c f (PushNonVolatile r ∷ before) s b p q (exact tt) in
     record { framed = set_before c f before s d 8 q.1 h; reaches = reaches; is = led_back f (moves before) d b p 8 h reaches }
-led_by c f (SaveNonVolatile r o ∷ before) s d b p q h exact = led_by c f before s d b p q.1 h exact
 led_by c f (SaveXMM r o ∷ before) s d b p q h exact = absurd q.0
-led_by c f (Epilog x y ∷ before) s d b p q h exact = led_by c f before s d b p q.1 h exact
-led_by c f (SaveXMM128 r o ∷ before) s d b p q h exact = led_by c f before s d b p q.1 h exact
 led_by c f (PushMachineFrame x ∷ before) s d b p q h exact = absurd h
-led_by c f (Noop ∷ before) s d b p q h exact = led_by c f before s d b p q.1 h exact
+led_by c f (other ∷ before) s d b p q h exact = led_by c f before s d b p q.1 h exact
 
 -- writing the stack pointer changes no register that was saved
 restored_moved : (c : Bool) (f : Frame) (codes : List UnwindOperation) (s : Machine) (g : Registers) (x : ℕ) → IsProlog c f codes s → AreRestored codes s g → AreRestored codes s (put_register g 4 x)
 restored_moved c f [] s g x p h = tt
-restored_moved c f (PushNonVolatile r ∷ before) s g x p h = restored_moved c f before s g x p.1 h
-restored_moved c f (Alloc n ∷ before) s g x p h = restored_moved c f before s g x p.1 h
-restored_moved c f (SetFPRegister ∷ before) s g x p h = restored_moved c f before s g x p.1 h
 restored_moved c f (SaveNonVolatile r o ∷ before) s g x p h = (get_or-set_other g.general 4 r.0 x 0 p.0.0.other ∙ h.0, restored_moved c f before s g x p.1 h.1)
 restored_moved c f (SaveXMM r o ∷ before) s g x p h = absurd p.0
-restored_moved c f (Epilog a b ∷ before) s g x p h = restored_moved c f before s g x p.1 h
 restored_moved c f (SaveXMM128 r o ∷ before) s g x p h = (h.0, restored_moved c f before s g x p.1 h.1)
-restored_moved c f (PushMachineFrame e ∷ before) s g x p h = restored_moved c f before s g x p.1 h
-restored_moved c f (Noop ∷ before) s g x p h = restored_moved c f before s g x p.1 h
+restored_moved c f (other ∷ before) s g x p h = restored_moved c f before s g x p.1 h
 
 same_or_other : (r q v : ℕ) (b : Bool) (xs old : List ℕ) → eqb r q ≡ b → length xs ≡ 16 → q < 16 → v ≡ get_or old q 0 → get_or xs r 0 ≡ get_or old r 0 → get_or (set xs q v) r 0 ≡ get_or old r 0
 same_or_other r q v true xs old e len small is h =
@@ -344,29 +310,17 @@ same_or_other r q v false xs old e len small is h =
 -- nor does a register that has its value from the entry
 restored_put : (codes : List UnwindOperation) (s : Machine) (g : Registers) (q : ℕ) → length g.general ≡ 16 → q < 16 → AreRestored codes s g → AreRestored codes s (put_register g q (get_or s.general q 0))
 restored_put [] s g q len small h = tt
-restored_put (PushNonVolatile r ∷ before) s g q len small h = restored_put before s g q len small h
-restored_put (Alloc n ∷ before) s g q len small h = restored_put before s g q len small h
-restored_put (SetFPRegister ∷ before) s g q len small h = restored_put before s g q len small h
 restored_put (SaveNonVolatile r o ∷ before) s g q len small h =
     (same_or_other r.0 q (get_or s.general q 0) (eqb r.0 q) g.general s.general refl len small refl h.0, restored_put before s g q len small h.1)
-restored_put (SaveXMM r o ∷ before) s g q len small h = restored_put before s g q len small h
-restored_put (Epilog x y ∷ before) s g q len small h = restored_put before s g q len small h
 restored_put (SaveXMM128 r o ∷ before) s g q len small h = (h.0, restored_put before s g q len small h.1)
-restored_put (PushMachineFrame x ∷ before) s g q len small h = restored_put before s g q len small h
-restored_put (Noop ∷ before) s g q len small h = restored_put before s g q len small h
+restored_put (other ∷ before) s g q len small h = restored_put before s g q len small h
 
 -- pops that undo pushes undo the pushes below a frame register that is set
 pops_pushes : (codes : List UnwindOperation) (is : List Instruction) → Pops codes is → Pops (pushes codes) is
 pops_pushes [] is p = p
 pops_pushes (PushNonVolatile r ∷ before) is p = p
 pops_pushes (SetFPRegister ∷ before) is p = pops_pushes before is p
-pops_pushes (Alloc n ∷ before) is p = absurd p
-pops_pushes (SaveNonVolatile r o ∷ before) is p = absurd p
-pops_pushes (SaveXMM r o ∷ before) is p = absurd p
-pops_pushes (Epilog x y ∷ before) is p = absurd p
-pops_pushes (SaveXMM128 r o ∷ before) is p = absurd p
-pops_pushes (PushMachineFrame x ∷ before) is p = absurd p
-pops_pushes (Noop ∷ before) is p = absurd p
+pops_pushes (other ∷ before) is p = absurd p
 
 -- a step that changes nothing can be left out
 stays_then : (m : ℕ → Option ℕ) (b : ℕ) (o : UnwindOperation) (before : List UnwindOperation) (g v e : Registers) → undone m b o g ≡ Ok v → v ≡ g → undone_all m b (o ∷ before) g ≡ Ok e → undone_all m b before g ≡ Ok e
@@ -462,82 +416,49 @@ HasNoLea (Lea r d ∷ is) = ⊥
 HasNoLea is = Unit {0}
 
 exit_no_lea : (i : Instruction) → Exits i → HasNoLea (i ∷ [])
-exit_no_lea (Return n) h = tt
-exit_no_lea (Jump a) h = tt
-exit_no_lea JumpByMemory h = tt
 exit_no_lea (Add n) h = absurd h
 exit_no_lea (Lea r d) h = absurd h
 exit_no_lea (Pop r) h = absurd h
+exit_no_lea other h = tt
 
 pops_no_lea : (codes : List UnwindOperation) (is : List Instruction) → Pops codes is → HasNoLea is
 pops_no_lea [] is p = subst HasNoLea (sym p.2) (exit_no_lea p.0 p.1)
 pops_no_lea (PushNonVolatile r ∷ before) is p = subst HasNoLea (sym p.1) tt
-pops_no_lea (Alloc n ∷ before) is p = absurd p
 pops_no_lea (SetFPRegister ∷ before) is p = pops_no_lea before is p
-pops_no_lea (SaveNonVolatile r o ∷ before) is p = absurd p
-pops_no_lea (SaveXMM r o ∷ before) is p = absurd p
-pops_no_lea (Epilog x y ∷ before) is p = absurd p
-pops_no_lea (SaveXMM128 r o ∷ before) is p = absurd p
-pops_no_lea (PushMachineFrame e ∷ before) is p = absurd p
-pops_no_lea (Noop ∷ before) is p = absurd p
+pops_no_lea (other ∷ before) is p = absurd p
 
 back_of : (is : List Instruction) (left : Machine) (g : Registers) → HasNoLea is → IsBack is left g → IsSome left.frame → pointer g ≡ top left
 back_of [] left g none h = h
 back_of (Lea r d ∷ is) left g none h = absurd none
-back_of (Add n ∷ is) left g none h = h
-back_of (Pop r ∷ is) left g none h = h
-back_of (Return n ∷ is) left g none h = h
-back_of (Jump a ∷ is) left g none h = h
-back_of (JumpByMemory ∷ is) left g none h = h
+back_of (other ∷ is) left g none h = h
 
 spares_moves : (c : Bool) (f : Frame) (codes : List UnwindOperation) (s : Machine) → IsProlog c f codes s → Spares (moves codes)
 spares_moves c f [] s p = tt
 spares_moves c f (PushNonVolatile r ∷ before) s p = (p.0.0.other, spares_moves c f before s p.1)
-spares_moves c f (Alloc n ∷ before) s p = spares_moves c f before s p.1
-spares_moves c f (SetFPRegister ∷ before) s p = spares_moves c f before s p.1
-spares_moves c f (SaveNonVolatile r o ∷ before) s p = spares_moves c f before s p.1
 spares_moves c f (SaveXMM r o ∷ before) s p = absurd p.0
-spares_moves c f (Epilog x y ∷ before) s p = spares_moves c f before s p.1
-spares_moves c f (SaveXMM128 r o ∷ before) s p = spares_moves c f before s p.1
-spares_moves c f (PushMachineFrame e ∷ before) s p = spares_moves c f before s p.1
-spares_moves c f (Noop ∷ before) s p = spares_moves c f before s p.1
+spares_moves c f (other ∷ before) s p = spares_moves c f before s p.1
 
 spares_pushes : (codes : List UnwindOperation) → Spares codes → Spares (pushes codes)
 spares_pushes [] h = h
-spares_pushes (PushNonVolatile r ∷ before) h = h
 spares_pushes (Alloc n ∷ before) h = spares_pushes before h
 spares_pushes (SetFPRegister ∷ before) h = spares_pushes before h
-spares_pushes (SaveNonVolatile r o ∷ before) h = h
-spares_pushes (SaveXMM r o ∷ before) h = h
-spares_pushes (Epilog x y ∷ before) h = h
-spares_pushes (SaveXMM128 r o ∷ before) h = h
-spares_pushes (PushMachineFrame e ∷ before) h = h
-spares_pushes (Noop ∷ before) h = h
+spares_pushes (other ∷ before) h = h
 
 -- no interrupt entered the function
 plain_moves : (codes : List UnwindOperation) (is : List Instruction) → Pops (moves codes) is → is_interrupted codes ≡ false
 plain_moves [] is p = refl
 plain_moves (PushNonVolatile r ∷ before) is p = plain_moves before p.0 p.2
 plain_moves (Alloc n ∷ before) is p = absurd p
-plain_moves (SetFPRegister ∷ before) is p = plain_moves before is p
-plain_moves (SaveNonVolatile r o ∷ before) is p = plain_moves before is p
 plain_moves (SaveXMM r o ∷ before) is p = absurd p
-plain_moves (Epilog x y ∷ before) is p = plain_moves before is p
-plain_moves (SaveXMM128 r o ∷ before) is p = plain_moves before is p
 plain_moves (PushMachineFrame e ∷ before) is p = absurd p
-plain_moves (Noop ∷ before) is p = plain_moves before is p
+plain_moves (other ∷ before) is p = plain_moves before is p
 
 plain : (codes : List UnwindOperation) (is : List Instruction) → Pops (pushes (moves codes)) is → is_interrupted codes ≡ false
 plain [] is p = refl
 plain (PushNonVolatile r ∷ before) is p = plain_moves before p.0 p.2
-plain (Alloc n ∷ before) is p = plain before is p
-plain (SetFPRegister ∷ before) is p = plain before is p
-plain (SaveNonVolatile r o ∷ before) is p = plain before is p
 plain (SaveXMM r o ∷ before) is p = absurd p
-plain (Epilog x y ∷ before) is p = plain before is p
-plain (SaveXMM128 r o ∷ before) is p = plain before is p
 plain (PushMachineFrame e ∷ before) is p = absurd p
-plain (Noop ∷ before) is p = plain before is p
+plain (other ∷ before) is p = plain before is p
 
 all_rise : (m : ℕ → Option ℕ) (codes : List UnwindOperation) (is : List Instruction) (g u : Registers) → Spares codes → Pops codes is → length g.general ≡ 16 →
     executed_all m is g ≡ Ok u → pointer g < pointer u
@@ -549,14 +470,8 @@ all_rise m (PushNonVolatile r ∷ before) is g u p q len e =
     let rose = push_rose m 0 r g w.value p.0 len w.first in
     let rest = all_rise m before q.0 w.value u p.1 q.2 rose.count w.next in
     omega (arith, rose.pointer_is)
-all_rise m (Alloc n ∷ before) is g u p q len e = absurd q
 all_rise m (SetFPRegister ∷ before) is g u p q len e = all_rise m before is g u p q len e
-all_rise m (SaveNonVolatile r o ∷ before) is g u p q len e = absurd q
-all_rise m (SaveXMM r o ∷ before) is g u p q len e = absurd q
-all_rise m (Epilog x y ∷ before) is g u p q len e = absurd q
-all_rise m (SaveXMM128 r o ∷ before) is g u p q len e = absurd q
-all_rise m (PushMachineFrame x ∷ before) is g u p q len e = absurd q
-all_rise m (Noop ∷ before) is g u p q len e = absurd q
+all_rise m (other ∷ before) is g u p q len e = absurd q
 
 none_append : (before rest : List Instruction) (i : Instruction) → [] ≡ before ++ (i ∷ rest) → ⊥
 none_append [] rest i e = cc
@@ -582,14 +497,8 @@ rises m (PushNonVolatile r ∷ codes) is (j ∷ before) rest i g h u p q at len 
     let same : w.value ≡ x.value = cc in
     let rose = push_rose m 0 r g x.value p.0 len x.first in
     rises m codes q.0 before rest i x.value h u p.1 q.2 others rose.count (subst (λ (y : Registers). executed_all m before y ≡ Ok h) same w.next) x.next
-rises m (Alloc n ∷ codes) is (j ∷ before) rest i g h u p q at len ran all = absurd q
 rises m (SetFPRegister ∷ codes) is (j ∷ before) rest i g h u p q at len ran all = rises m codes is (j ∷ before) rest i g h u p q at len ran all
-rises m (SaveNonVolatile r o ∷ codes) is (j ∷ before) rest i g h u p q at len ran all = absurd q
-rises m (SaveXMM r o ∷ codes) is (j ∷ before) rest i g h u p q at len ran all = absurd q
-rises m (Epilog x y ∷ codes) is (j ∷ before) rest i g h u p q at len ran all = absurd q
-rises m (SaveXMM128 r o ∷ codes) is (j ∷ before) rest i g h u p q at len ran all = absurd q
-rises m (PushMachineFrame e ∷ codes) is (j ∷ before) rest i g h u p q at len ran all = absurd q
-rises m (Noop ∷ codes) is (j ∷ before) rest i g h u p q at len ran all = absurd q
+rises m (other ∷ codes) is (j ∷ before) rest i g h u p q at len ran all = absurd q
 
 -- the same where an instruction has freed the stack
 trimmed : (m : ℕ → Option ℕ) (codes : List UnwindOperation) (t j : Instruction) (is before rest : List Instruction) (i : Instruction) (g h u : Registers) → Spares codes → Pops codes is →
@@ -650,10 +559,7 @@ freed m b c f codes s g (Lea r d) is p e hb k back small =
     let at : moved (get_or g.general r 0) d ≡ trail b (pointer g) (moves codes) =
     ap (λ (x : ℕ). moved (get_or g.general x 0) d) e.0 ∙ (ap (λ (x : ℕ). moved x d) value ∙ l.is small) in
     ap (λ (x : ℕ). Ok (put_register g 4 x)) at
-freed m b c f codes s g (Pop r) is p e hb k back small = absurd e
-freed m b c f codes s g (Return n) is p e hb k back small = absurd e
-freed m b c f codes s g (Jump a) is p e hb k back small = absurd e
-freed m b c f codes s g JumpByMemory is p e hb k back small = absurd e
+freed m b c f codes s g other is p e hb k back small = absurd e
 
 -- an epilog comes to the caller, and the rest of it starts below
 record Ends (m : ℕ → Option ℕ) (i : Instruction) (rest : List Instruction) (h u : Registers) : Type 0 where
@@ -683,10 +589,7 @@ reaches_freed : (b : ℕ) (c : Bool) (f : Frame) (codes : List UnwindOperation) 
 reaches_freed b c f codes s g (Add n) is p e hb k back = reaches_of c f codes s b (pointer g) p (exact_of (run f codes s).frame codes (top (run f codes s)) b (pointer g) hb back)
 reaches_freed b c f codes s g (Lea r d) is p e hb k back =
     (led_by c f codes s d b (pointer g) p e.1 (kept_late f codes (run f codes s).frame (run f codes s).general b g hb k)).reaches
-reaches_freed b c f codes s g (Pop r) is p e hb k back = absurd e
-reaches_freed b c f codes s g (Return n) is p e hb k back = absurd e
-reaches_freed b c f codes s g (Jump a) is p e hb k back = absurd e
-reaches_freed b c f codes s g JumpByMemory is p e hb k back = absurd e
+reaches_freed b c f codes s g other is p e hb k back = absurd e
 
 last_push_fits : (m : ℕ → Option ℕ) (t : ℕ) (codes : List UnwindOperation) (is : List Instruction) (g u : Registers) → Spares codes → Pops codes is → length g.general ≡ 16 → executed_all m is (put_register g 4 t) ≡ Ok u → pointer u < 2 ^ 64 → t < 2 ^ 64
 last_push_fits m t codes is g u p q len all small =
@@ -762,15 +665,11 @@ record IsStill (f : Frame) (codes : List UnwindOperation) (s : Machine) : Type 0
 
 still : (c : Bool) (f : Frame) (codes : List UnwindOperation) (s : Machine) → IsProlog c f codes s → moves codes ≡ [] → IsStill f codes s
 still c f [] s p e = record { general = refl; frame = p.frame }
-still c f (PushNonVolatile r ∷ before) s p e = cc
-still c f (Alloc n ∷ before) s p e = cc
-still c f (SetFPRegister ∷ before) s p e = cc
 still c f (SaveNonVolatile r o ∷ before) s p e = let i = still c f before s p.1 e in record { general = i.general; frame = i.frame }
-still c f (SaveXMM r o ∷ before) s p e = cc
 still c f (Epilog x y ∷ before) s p e = let i = still c f before s p.1 e in record { general = i.general; frame = i.frame }
 still c f (SaveXMM128 r o ∷ before) s p e = let i = still c f before s p.1 e in record { general = i.general; frame = i.frame }
-still c f (PushMachineFrame x ∷ before) s p e = cc
 still c f (Noop ∷ before) s p e = let i = still c f before s p.1 e in record { general = i.general; frame = i.frame }
+still c f (other ∷ before) s p e = cc
 
 still_pointer : (f : Frame) (codes : List UnwindOperation) (s : Machine) (frame : Option ℕ) (there : List ℕ) (g : Registers) → frame ≡ None → there ≡ s.general → KeepsFrame f codes frame there g → pointer g ≡ top s
 still_pointer f codes s None there g none same k = k ∙ ap (λ (xs : List ℕ). get_or xs 4 0) same
@@ -783,35 +682,27 @@ either false c e = inr e
 -- what it saved is as it was
 restored_is : (codes : List UnwindOperation) (s : Machine) (g : Registers) (r : ℕ) → moves codes ≡ [] → AreRestored codes s g → saves codes r ≡ true → get_or g.general r 0 ≡ get_or s.general r 0
 restored_is [] s g r e h saved = cc
-restored_is (PushNonVolatile q ∷ before) s g r e h saved = cc
-restored_is (Alloc n ∷ before) s g r e h saved = cc
-restored_is (SetFPRegister ∷ before) s g r e h saved = cc
 restored_is (SaveNonVolatile q o ∷ before) s g r e h saved =
     elim (either (eqb q.0 r) (saves before r) saved) [
       | inl this ↦ (let same : q.0 ≡ r = grind (arith, nat_tests) in subst (λ (k : ℕ). get_or g.general k 0 ≡ get_or s.general k 0) same h.0)
       | inr other ↦ restored_is before s g r e h.1 other
     ]
-restored_is (SaveXMM q o ∷ before) s g r e h saved = cc
 restored_is (Epilog x y ∷ before) s g r e h saved = restored_is before s g r e h saved
 restored_is (SaveXMM128 q o ∷ before) s g r e h saved = restored_is before s g r e h.1 saved
-restored_is (PushMachineFrame x ∷ before) s g r e h saved = cc
 restored_is (Noop ∷ before) s g r e h saved = restored_is before s g r e h saved
+restored_is (other ∷ before) s g r e h saved = cc
 
 restored_xmm_is : (codes : List UnwindOperation) (s : Machine) (g : Registers) (r : ℕ) → moves codes ≡ [] → AreRestored codes s g → saves_xmm codes r ≡ true → get_or g.xmm r 0 ≡ get_or s.xmm r 0
 restored_xmm_is [] s g r e h saved = cc
-restored_xmm_is (PushNonVolatile q ∷ before) s g r e h saved = cc
-restored_xmm_is (Alloc n ∷ before) s g r e h saved = cc
-restored_xmm_is (SetFPRegister ∷ before) s g r e h saved = cc
 restored_xmm_is (SaveNonVolatile q o ∷ before) s g r e h saved = restored_xmm_is before s g r e h.1 saved
-restored_xmm_is (SaveXMM q o ∷ before) s g r e h saved = cc
 restored_xmm_is (Epilog x y ∷ before) s g r e h saved = restored_xmm_is before s g r e h saved
 restored_xmm_is (SaveXMM128 q o ∷ before) s g r e h saved =
     elim (either (eqb (q.0 - 17) r) (saves_xmm before r) saved) [
       | inl this ↦ (let same : q.0 - 17 ≡ r = grind (arith, nat_tests) in subst (λ (k : ℕ). get_or g.xmm k 0 ≡ get_or s.xmm k 0) same h.0)
       | inr other ↦ restored_xmm_is before s g r e h.1 other
     ]
-restored_xmm_is (PushMachineFrame x ∷ before) s g r e h saved = cc
 restored_xmm_is (Noop ∷ before) s g r e h saved = restored_xmm_is before s g r e h saved
+restored_xmm_is (other ∷ before) s g r e h saved = cc
 
 chosen_same : (b : Bool) (old now : ℕ) → (b ≡ true → now ≡ old) → chosen b old now ≡ now
 chosen_same true old now h = sym (h refl)

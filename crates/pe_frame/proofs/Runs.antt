@@ -17,12 +17,8 @@ count c f [] s p = p.count
 count c f (PushNonVolatile r ∷ before) s p = length-set _ _ _ ∙ count c f before s p.1
 count c f (Alloc n ∷ before) s p = length-set _ _ _ ∙ count c f before s p.1
 count c f (SetFPRegister ∷ before) s p = length-set _ _ _ ∙ count c f before s p.1
-count c f (SaveNonVolatile r o ∷ before) s p = count c f before s p.1
 count c f (SaveXMM r o ∷ before) s p = absurd p.0
-count c f (Epilog a b ∷ before) s p = count c f before s p.1
-count c f (SaveXMM128 r o ∷ before) s p = count c f before s p.1
-count c f (PushMachineFrame e ∷ before) s p = count c f before s p.1
-count c f (Noop ∷ before) s p = count c f before s p.1
+count c f (other ∷ before) s p = count c f before s p.1
 
 pub may_none : (frame : Option ℕ) (register r : ℕ) → frame ≡ None → MaySave frame register r
 may_none None register r e = tt
@@ -77,12 +73,8 @@ sinks c f (SetFPRegister ∷ before) s p =
     let e = pointer_other (run f before s).general f.register (top (run f before s) + f.offset) p.0.0.savable.other in
     let i = sinks c f before s p.1 in
     omega arith
-sinks c f (SaveNonVolatile r o ∷ before) s p = sinks c f before s p.1
 sinks c f (SaveXMM r o ∷ before) s p = absurd p.0
-sinks c f (Epilog a b ∷ before) s p = sinks c f before s p.1
-sinks c f (SaveXMM128 r o ∷ before) s p = sinks c f before s p.1
-sinks c f (PushMachineFrame e ∷ before) s p = sinks c f before s p.1
-sinks c f (Noop ∷ before) s p = sinks c f before s p.1
+sinks c f (other ∷ before) s p = sinks c f before s p.1
 
 -- the base of the frame is not below the stack pointer
 pub above : (c : Bool) (f : Frame) (codes : List UnwindOperation) (s : Machine) (b : ℕ) → IsProlog c f codes s → (run f codes s).frame ≡ Some b → top (run f codes s) ≤ b
@@ -99,12 +91,8 @@ above c f (SetFPRegister ∷ before) s b p e =
     let t = pointer_other (run f before s).general f.register (top (run f before s) + f.offset) p.0.0.savable.other in
     let i : top (run f before s) ≡ b = cc in
     omega arith
-above c f (SaveNonVolatile r o ∷ before) s b p e = above c f before s b p.1 e
 above c f (SaveXMM r o ∷ before) s b p e = absurd p.0
-above c f (Epilog x y ∷ before) s b p e = above c f before s b p.1 e
-above c f (SaveXMM128 r o ∷ before) s b p e = above c f before s b p.1 e
-above c f (PushMachineFrame x ∷ before) s b p e = above c f before s b p.1 e
-above c f (Noop ∷ before) s b p e = above c f before s b p.1 e
+above c f (other ∷ before) s b p e = above c f before s b p.1 e
 
 base_by_above : (frame : Option ℕ) (t : ℕ) → ((b : ℕ) → frame ≡ Some b → t ≤ b) → t ≤ base_by frame t
 base_by_above None t h = omega arith

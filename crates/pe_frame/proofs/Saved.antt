@@ -30,16 +30,12 @@ holds_stored : (mem : ℕ → ℕ) (x w : ℕ) (c : Bool) (f : Frame) (codes : L
 holds_stored mem x w true f [] s apart h = loaded-apart mem x w _ apart.0 ∙ h
 holds_stored mem x w false f [] s apart h = tt
 holds_stored mem x w c f (PushNonVolatile r ∷ before) s apart h = (loaded-apart mem x w _ apart.0 ∙ h.0, holds_stored mem x w c f before s apart.1 h.1)
-holds_stored mem x w c f (Alloc n ∷ before) s apart h = holds_stored mem x w c f before s apart h
-holds_stored mem x w c f (SetFPRegister ∷ before) s apart h = holds_stored mem x w c f before s apart h
 holds_stored mem x w c f (SaveNonVolatile r o ∷ before) s apart h = (loaded-apart mem x w _ apart.0 ∙ h.0, holds_stored mem x w c f before s apart.1 h.1)
-holds_stored mem x w c f (SaveXMM r o ∷ before) s apart h = holds_stored mem x w c f before s apart h
-holds_stored mem x w c f (Epilog a b ∷ before) s apart h = holds_stored mem x w c f before s apart h
 holds_stored mem x w c f (SaveXMM128 r o ∷ before) s apart h =
     (loaded-apart mem x w _ apart.0 ∙ h.0, (loaded-apart mem x w _ apart.1.0 ∙ h.1.0, holds_stored mem x w c f before s apart.1.1 h.1.1))
 holds_stored mem x w c f (PushMachineFrame e ∷ before) s apart h =
     (loaded-apart mem x w _ apart.0 ∙ h.0, (loaded-apart mem x w _ apart.1.0 ∙ h.1.0, holds_stored mem x w c f before s apart.1.1 h.1.1))
-holds_stored mem x w c f (Noop ∷ before) s apart h = holds_stored mem x w c f before s apart h
+holds_stored mem x w c f (other ∷ before) s apart h = holds_stored mem x w c f before s apart h
 
 -- what is stored below all slots is apart from them
 below_all : (xs : List ℕ) (t : ℕ) → 8 ≤ t → AllByRecursion (λ a. t ≤ a) xs → AllByRecursion (Apart (t - 8)) xs
@@ -90,24 +86,16 @@ pub known : (m : ℕ → Option ℕ) (mem : ℕ → ℕ) (c : Bool) (f : Frame) 
 known m mem true f [] s all h = all.0 ∙ ap Some h
 known m mem false f [] s all h = tt
 known m mem c f (PushNonVolatile r ∷ before) s all h = (all.0 ∙ ap Some h.0, known m mem c f before s all.1 h.1)
-known m mem c f (Alloc n ∷ before) s all h = known m mem c f before s all h
-known m mem c f (SetFPRegister ∷ before) s all h = known m mem c f before s all h
 known m mem c f (SaveNonVolatile r o ∷ before) s all h = (all.0 ∙ ap Some h.0, known m mem c f before s all.1 h.1)
-known m mem c f (SaveXMM r o ∷ before) s all h = known m mem c f before s all h
-known m mem c f (Epilog a b ∷ before) s all h = known m mem c f before s all h
 known m mem c f (SaveXMM128 r o ∷ before) s all h = (all.0 ∙ ap Some h.0, (all.1.0 ∙ ap Some h.1.0, known m mem c f before s all.1.1 h.1.1))
 known m mem c f (PushMachineFrame e ∷ before) s all h = (all.0 ∙ ap Some h.0, (all.1.0 ∙ ap Some h.1.0, known m mem c f before s all.1.1 h.1.1))
-known m mem c f (Noop ∷ before) s all h = known m mem c f before s all h
+known m mem c f (other ∷ before) s all h = known m mem c f before s all h
 
 -- the return address is among it
 pub return_slot : (P : ℕ → ℕ → Type 0) (f : Frame) (codes : List UnwindOperation) (s : Machine) → Holds P true f codes s → P (top s) (loaded s.memory (top s))
 return_slot P f [] s h = h
 return_slot P f (PushNonVolatile r ∷ before) s h = return_slot P f before s h.1
-return_slot P f (Alloc n ∷ before) s h = return_slot P f before s h
-return_slot P f (SetFPRegister ∷ before) s h = return_slot P f before s h
 return_slot P f (SaveNonVolatile r o ∷ before) s h = return_slot P f before s h.1
-return_slot P f (SaveXMM r o ∷ before) s h = return_slot P f before s h
-return_slot P f (Epilog a b ∷ before) s h = return_slot P f before s h
 return_slot P f (SaveXMM128 r o ∷ before) s h = return_slot P f before s h.1.1
 return_slot P f (PushMachineFrame e ∷ before) s h = return_slot P f before s h.1.1
-return_slot P f (Noop ∷ before) s h = return_slot P f before s h
+return_slot P f (other ∷ before) s h = return_slot P f before s h

@@ -307,28 +307,16 @@ pub record IsSet (f : Frame) (codes : List UnwindOperation) (s : Machine) (b : �
 
 unframed : (c : Bool) (f : Frame) (codes : List UnwindOperation) (s : Machine) → IsProlog c f codes s → (run f codes s).frame ≡ None → is_framed codes ≡ false
 unframed c f [] s p e = refl
-unframed c f (PushNonVolatile r ∷ before) s p e = unframed c f before s p.1 e
-unframed c f (Alloc n ∷ before) s p e = unframed c f before s p.1 e
 unframed c f (SetFPRegister ∷ before) s p e = cc
-unframed c f (SaveNonVolatile r o ∷ before) s p e = unframed c f before s p.1 e
 unframed c f (SaveXMM r o ∷ before) s p e = absurd p.0
-unframed c f (Epilog x y ∷ before) s p e = unframed c f before s p.1 e
-unframed c f (SaveXMM128 r o ∷ before) s p e = unframed c f before s p.1 e
-unframed c f (PushMachineFrame x ∷ before) s p e = unframed c f before s p.1 e
-unframed c f (Noop ∷ before) s p e = unframed c f before s p.1 e
+unframed c f (other ∷ before) s p e = unframed c f before s p.1 e
 
 -- the frame register was a register other than the stack pointer
 pub set_other : (c : Bool) (f : Frame) (codes : List UnwindOperation) (s : Machine) (b : ℕ) → IsProlog c f codes s → (run f codes s).frame ≡ Some b → f.register ≢ 4
 set_other c f [] s b p e = let none = p.frame in cc
-set_other c f (PushNonVolatile r ∷ before) s b p e = set_other c f before s b p.1 e
-set_other c f (Alloc n ∷ before) s b p e = set_other c f before s b p.1 e
 set_other c f (SetFPRegister ∷ before) s b p e = p.0.0.savable.other
-set_other c f (SaveNonVolatile r o ∷ before) s b p e = set_other c f before s b p.1 e
 set_other c f (SaveXMM r o ∷ before) s b p e = absurd p.0
-set_other c f (Epilog x y ∷ before) s b p e = set_other c f before s b p.1 e
-set_other c f (SaveXMM128 r o ∷ before) s b p e = set_other c f before s b p.1 e
-set_other c f (PushMachineFrame x ∷ before) s b p e = set_other c f before s b p.1 e
-set_other c f (Noop ∷ before) s b p e = set_other c f before s b p.1 e
+set_other c f (other ∷ before) s b p e = set_other c f before s b p.1 e
 
 pub is_set : (c : Bool) (f : Frame) (codes : List UnwindOperation) (s : Machine) (b : ℕ) → IsProlog c f codes s → (run f codes s).frame ≡ Some b → IsSet f codes s b
 is_set c f [] s b p e = let none = p.frame in cc
@@ -407,36 +395,15 @@ has_base c f sets codes s g named p k = has_base_by c f sets codes s g (run f co
 -- without a machine frame the stack pointer is where it was, and the pop ends it
 pub left_plain : (codes : List UnwindOperation) (s : Machine) (u : Registers) → is_interrupted codes ≡ false → LeavesAt codes s u → pointer u ≡ top s
 left_plain [] s u e h = h
-left_plain (PushNonVolatile r ∷ before) s u e h = left_plain before s u e h
-left_plain (Alloc n ∷ before) s u e h = left_plain before s u e h
-left_plain (SetFPRegister ∷ before) s u e h = left_plain before s u e h
-left_plain (SaveNonVolatile r o ∷ before) s u e h = left_plain before s u e h
-left_plain (SaveXMM r o ∷ before) s u e h = left_plain before s u e h
-left_plain (Epilog x y ∷ before) s u e h = left_plain before s u e h
-left_plain (SaveXMM128 r o ∷ before) s u e h = left_plain before s u e h
-left_plain (Noop ∷ before) s u e h = left_plain before s u e h
 left_plain (PushMachineFrame x ∷ before) s u e h = cc
+left_plain (other ∷ before) s u e h = left_plain before s u e h
 
 pub after_plain : (codes : List UnwindOperation) (s : Machine) (u : Registers) → is_interrupted codes ≡ false → pointer u ≡ top s + 8 → u.rip ≡ loaded s.memory (top s) → IsAfter codes s u
 after_plain [] s u e at rip = (at, rip)
-after_plain (PushNonVolatile r ∷ before) s u e at rip = after_plain before s u e at rip
-after_plain (Alloc n ∷ before) s u e at rip = after_plain before s u e at rip
-after_plain (SetFPRegister ∷ before) s u e at rip = after_plain before s u e at rip
-after_plain (SaveNonVolatile r o ∷ before) s u e at rip = after_plain before s u e at rip
-after_plain (SaveXMM r o ∷ before) s u e at rip = after_plain before s u e at rip
-after_plain (Epilog x y ∷ before) s u e at rip = after_plain before s u e at rip
-after_plain (SaveXMM128 r o ∷ before) s u e at rip = after_plain before s u e at rip
-after_plain (Noop ∷ before) s u e at rip = after_plain before s u e at rip
 after_plain (PushMachineFrame x ∷ before) s u e at rip = cc
+after_plain (other ∷ before) s u e at rip = after_plain before s u e at rip
 
 pub after_interrupt : (codes : List UnwindOperation) (s : Machine) (u : Registers) → is_interrupted codes ≡ true → LeavesAt codes s u → IsAfter codes s u
 after_interrupt [] s u e h = cc
-after_interrupt (PushNonVolatile r ∷ before) s u e h = after_interrupt before s u e h
-after_interrupt (Alloc n ∷ before) s u e h = after_interrupt before s u e h
-after_interrupt (SetFPRegister ∷ before) s u e h = after_interrupt before s u e h
-after_interrupt (SaveNonVolatile r o ∷ before) s u e h = after_interrupt before s u e h
-after_interrupt (SaveXMM r o ∷ before) s u e h = after_interrupt before s u e h
-after_interrupt (Epilog x y ∷ before) s u e h = after_interrupt before s u e h
-after_interrupt (SaveXMM128 r o ∷ before) s u e h = after_interrupt before s u e h
-after_interrupt (Noop ∷ before) s u e h = after_interrupt before s u e h
 after_interrupt (PushMachineFrame x ∷ before) s u e h = h
+after_interrupt (other ∷ before) s u e h = after_interrupt before s u e h

@@ -35,10 +35,8 @@ no_sections b h items none empty =
 -- ---- by the kind of an error
 
 pub if_more : (e : Error) (P Q : Type 0) → (P → Q) → IfMemory e P → IfMemory e Q
-if_more (errors.Malformed reason) P Q f p = tt
-if_more (errors.BadMagic magic) P Q f p = tt
-if_more (errors.Short at needed) P Q f p = tt
 if_more (errors.Memory e) P Q f p = f p
+if_more other P Q f p = tt
 
 pub from_nothing : (e : Error) (P : Type 0) → IfMemory e ⊥ → IfMemory e P
 from_nothing e P h = if_more e ⊥ P (λ n. absurd n) h
@@ -84,10 +82,8 @@ sections_ask b o h (Ok sections) is are ok some = record { header = h; sections 
 sections_ask b o h (Err e) is are ok some = absurd cc
 
 pub asks_for_sections : (e : Error) (b : List ℕ) (o : ParseOptions) (h : HeaderView) → header_at b o.parse_mode ≡ Ok h → IfMemory e (IsOk (sections_of b h)) → IfMemory e (0 < h.coff_header.number_of_sections) → IfMemory e (AsksForMemory b o)
-asks_for_sections (errors.Malformed reason) b o h is ok some = tt
-asks_for_sections (errors.BadMagic magic) b o h is ok some = tt
-asks_for_sections (errors.Short at needed) b o h is ok some = tt
 asks_for_sections (errors.Memory e) b o h is ok some = sections_ask b o h (sections_of b h) is refl ok some
+asks_for_sections other b o h is ok some = tt
 
 core_asks : (b : List ℕ) (o : ParseOptions) (h : HeaderView) (sections : List SectionTable) → header_at b o.parse_mode ≡ Ok h → sections_of b h ≡ Ok sections → HasExports b o sections h.optional_header ⊎ HasImports o sections h.optional_header → AsksForMemory b o
 core_asks b o h sections is are asked = record {

@@ -33,13 +33,9 @@ accepted_if false x y h e = absurd cc
 -- ---- out of memory
 
 pub if_memory : (e : Error) (P : Type 0) → P → IfMemory e P
-if_memory (errors.Malformed reason) P p = tt
-if_memory (errors.BadMagic magic) P p = tt
-if_memory (errors.Short at needed) P p = tt
 if_memory (errors.Memory e) P p = p
+if_memory other P p = tt
 
 pub unless_more : (e : Error) (P Q : Type 0) → (P → Q) → UnlessMemory e P → UnlessMemory e Q
-unless_more (errors.Malformed reason) P Q f p = f p
-unless_more (errors.BadMagic magic) P Q f p = f p
-unless_more (errors.Short at needed) P Q f p = f p
 unless_more (errors.Memory e) P Q f p = tt
+unless_more other P Q f p = f p

@@ -101,10 +101,8 @@ unfolding certificate_at certificate certificate_tests
 not_for_memory b p e = grind (arith, nat_tests)
 
 pub never_memory : (b : List ℕ) (p : ℕ) (e : Error) (P : Type 0) → certificate_at b p ≡ Err (kind_of e) → IfMemory e P
-never_memory b p (errors.Malformed x) P h = tt
-never_memory b p (errors.BadMagic x) P h = tt
-never_memory b p (errors.Short x y) P h = tt
 never_memory b p (errors.Memory x) P h = absurd (not_for_memory b p h)
+never_memory b p other P h = tt
 
 -- ---- the listing as a function
 

@@ -136,10 +136,8 @@ ReturnsBlock b (Some r) left = first_block b ≡ Some (block_answer block_view r
 
 -- a block with this error is the last: its length is wrong, so no other is found after it
 abbrev pub ends_blocks : BlockRefusal → Bool
-ends_blocks (Image r) = true
-ends_blocks BelowHead = true
-ends_blocks PastEnd = true
 ends_blocks KeyEnd = false
+ends_blocks other = true
 
 -- ---- blocks by their keys
 

@@ -9,19 +9,6 @@ use Rattle.pe_unwind.specs.Arm64CodeLengths.{len_at}
 
 -- the first two bytes of a stream tell how long its first code is
 pub len_of_encoding : (c : Arm64UnwindCode) (rest : List ℕ) → Legal c → len_at (get_or (encoding c ++ rest) 0 0) (get_or (encoding c ++ rest) 1 0) ≡ length (encoding c)
-len_of_encoding (AllocSmall n) rest h = grind (arith, nat_tests)
-len_of_encoding (SaveR19R20Preindexed o) rest h = grind (arith, nat_tests)
-len_of_encoding (SaveFpLr o) rest h = grind (arith, nat_tests)
-len_of_encoding (SaveFpLrPreindexed o) rest h = grind (arith, nat_tests)
-len_of_encoding (AllocMedium n) rest h = grind (arith, nat_tests)
-len_of_encoding (SaveRegPair r o) rest h = grind (arith, nat_tests)
-len_of_encoding (SaveRegPairPreindexed r o) rest h = grind (arith, nat_tests)
-len_of_encoding (SaveReg r o) rest h = grind (arith, nat_tests)
-len_of_encoding (SaveRegPreindexed r o) rest h = grind (arith, nat_tests)
-len_of_encoding (SaveLrPair r o) rest h = grind (arith, nat_tests)
-len_of_encoding (SaveFRegPair r o) rest h = grind (arith, nat_tests)
-len_of_encoding (SaveFRegPairPreindexed r o) rest h = grind (arith, nat_tests)
-len_of_encoding (SaveFReg r o) rest h = grind (arith, nat_tests)
 len_of_encoding (SaveFRegPreindexed r o) rest h = refl
 len_of_encoding (AllocZ z) rest h = refl
 len_of_encoding (AllocLarge n) rest h = refl
@@ -31,21 +18,15 @@ len_of_encoding Nop rest h = refl
 len_of_encoding End rest h = refl
 len_of_encoding EndC rest h = refl
 len_of_encoding SaveNext rest h = refl
-len_of_encoding (SaveAnyReg k true true r o) rest h = grind (arith, nat_tests)
-len_of_encoding (SaveAnyReg k true false r o) rest h = grind (arith, nat_tests)
-len_of_encoding (SaveAnyReg k false true r o) rest h = grind (arith, nat_tests)
-len_of_encoding (SaveAnyReg k false false r o) rest h = grind (arith, nat_tests)
-len_of_encoding (SaveZReg r o) rest h = grind (arith, nat_tests)
-len_of_encoding (SavePReg r o) rest h = grind (arith, nat_tests)
 len_of_encoding (CustomStack TrapFrame) rest h = refl
 len_of_encoding (CustomStack MachineFrame) rest h = refl
 len_of_encoding (CustomStack Context) rest h = refl
 len_of_encoding (CustomStack EcContext) rest h = refl
 len_of_encoding (CustomStack ClearUnwoundToCall) rest h = refl
 len_of_encoding PacSignLr rest h = refl
-len_of_encoding (Reserved b v zero) rest h = grind (arith, nat_tests)
 len_of_encoding (Reserved b v (suc zero)) rest h = grind (arith, nat_tests)
 len_of_encoding (Reserved b v (suc (suc zero))) rest h = grind (arith, nat_tests)
 len_of_encoding (Reserved b v (suc (suc (suc zero)))) rest h = grind (arith, nat_tests)
 len_of_encoding (Reserved b v (suc (suc (suc (suc zero))))) rest h = grind (arith, nat_tests)
 len_of_encoding (Reserved b v (suc (suc (suc (suc (suc n)))))) rest h = absurd h
+len_of_encoding other rest h = grind (arith, nat_tests)

@@ -177,12 +177,7 @@ code_of-encoding (SaveFReg r o) h = code_of-SaveFReg r o h
 code_of-encoding (SaveFRegPreindexed r o) h = code_of-SaveFRegPreindexed r o h
 code_of-encoding (AllocZ z) h = code_of-AllocZ z h
 code_of-encoding (AllocLarge n) h = code_of-AllocLarge n h
-code_of-encoding SetFp h = refl
 code_of-encoding (AddFp z o) h = code_of-AddFp z o h
-code_of-encoding Nop h = refl
-code_of-encoding End h = refl
-code_of-encoding EndC h = refl
-code_of-encoding SaveNext h = refl
 code_of-encoding (SaveAnyReg k true true r o) h = code_of-any_true_true k r o h
 code_of-encoding (SaveAnyReg k true false r o) h = code_of-any_true_false k r o h
 code_of-encoding (SaveAnyReg k false true r o) h = code_of-any_false_true k r o h
@@ -194,13 +189,13 @@ code_of-encoding (CustomStack MachineFrame) h = refl
 code_of-encoding (CustomStack Context) h = refl
 code_of-encoding (CustomStack EcContext) h = refl
 code_of-encoding (CustomStack ClearUnwoundToCall) h = refl
-code_of-encoding PacSignLr h = refl
 code_of-encoding (Reserved b v zero) h = code_of-reserved_0 b v h
 code_of-encoding (Reserved b v (suc zero)) h = code_of-reserved_1 b v h
 code_of-encoding (Reserved b v (suc (suc zero))) h = code_of-reserved_2 b v h
 code_of-encoding (Reserved b v (suc (suc (suc zero)))) h = code_of-reserved_3 b v h
 code_of-encoding (Reserved b v (suc (suc (suc (suc zero))))) h = code_of-reserved_4 b v h
 code_of-encoding (Reserved b v (suc (suc (suc (suc (suc n)))))) h = absurd h
+code_of-encoding other h = refl
 
 -- two legal codes are equal exactly if their bytes are
 pub encoding_once : (c d : Arm64UnwindCode) → Legal c → Legal d → encoding c ≡ encoding d → c ≡ d

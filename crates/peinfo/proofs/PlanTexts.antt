@@ -12,7 +12,5 @@ use Rattle.peinfo.specs.Find.{functions_of}
 use Rattle.peinfo.specs.Plan.{PlansRecords, IsPlanRefusal}
 
 pub plan_refusal : (b : List ℕ) (image : ImageView) (a : ℕ) (found : Option RuntimeFunction) (e : Error) → IsImage b default_options (Ok image) → sections_read b default_options ≡ Ok image.sections → Finds (functions_of (exceptions_on 0x8664 image)) a found → PlansRecords image.exception_data image.sections found (Err (kind_of e)) → IsPlanRefusal b a e
-plan_refusal b image a found (errors.Malformed reason) given read finds plan = (inr (found, record { image = image; given = given; finds = finds; plan = plan }), tt)
-plan_refusal b image a found (errors.BadMagic magic) given read finds plan = (inr (found, record { image = image; given = given; finds = finds; plan = plan }), tt)
-plan_refusal b image a found (errors.Short at needed) given read finds plan = (inr (found, record { image = image; given = given; finds = finds; plan = plan }), tt)
 plan_refusal b image a found (errors.Memory e) given read finds plan = (tt, rw read refl)
+plan_refusal b image a found other given read finds plan = (inr (found, record { image = image; given = given; finds = finds; plan = plan }), tt)
