@@ -14,7 +14,7 @@ ghost use Rattle.pe_c.specs.Debug.{debug_entries_range, image_debug, reported_of
 
 use crate::image::{DEBUG_TABLE, Image, directory, is_absent};
 use crate::ranges::{NO_BYTES, Range, range_of, slice_of};
-use crate::results::{DONE, NOTHING, hand_out_some, number_of, options};
+use crate::results::{hand_out_some, options};
 use pe_core::{Result, SectionTable};
 use pe_records::{
     CodeviewPDB70DebugInfo, DebugData, IMAGE_DEBUG_TYPE_CODEVIEW, IMAGE_DEBUG_TYPE_POGO,
@@ -198,11 +198,9 @@ pub extern "C" fn pe_c_symbol_key(
     ensures { HandsOutIf result out.old out.new
         (reported_of key_of bytes.now image.now sections.now image.now.mode) }
 {
-    match read_debug(bytes, image, sections) {
-        Ok(Some(debug)) => hand_out_some(Ok(key_of(&debug, image.mode)), out),
-        Ok(None) => NOTHING,
-        Err(error) => number_of(&error),
-    }
+    let debug = read_debug(bytes, image, sections);
+    let key = debug.map(|debug| debug.and_then(|debug| key_of(&debug, image.mode)));
+    hand_out_some(key, out)
 }
 
 /// An entry of the debug directory whose record starts at offset 0 and has so many bytes.
@@ -284,11 +282,9 @@ pub extern "C" fn pe_c_debug_pdb20(
     ensures { HandsOutIf result out.old out.new
         (reported_of pdb20_field bytes.now image.now sections.now image.now.mode) }
 {
-    match read_debug(bytes, image, sections) {
-        Ok(Some(debug)) => hand_out_some(Ok(pdb20_of(&debug, image.mode)), out),
-        Ok(None) => NOTHING,
-        Err(error) => number_of(&error),
-    }
+    let debug = read_debug(bytes, image, sections);
+    let record = debug.map(|debug| debug.and_then(|debug| pdb20_of(&debug, image.mode)));
+    hand_out_some(record, out)
 }
 
 /// Reads the record of the first VC feature entry: `NOTHING` where there is no debug data, or no such entry. Errors are
@@ -303,11 +299,9 @@ pub extern "C" fn pe_c_debug_vc_features(
     ensures { HandsOutIf result out.old out.new
         (reported_of (λ mode d. d.features) bytes.now image.now sections.now image.now.mode) }
 {
-    match read_debug(bytes, image, sections) {
-        Ok(Some(debug)) => hand_out_some(Ok(debug.vcfeature_info), out),
-        Ok(None) => NOTHING,
-        Err(error) => number_of(&error),
-    }
+    let debug = read_debug(bytes, image, sections);
+    let features = debug.map(|debug| debug.and_then(|debug| debug.vcfeature_info));
+    hand_out_some(features, out)
 }
 
 fn characteristics_of(debug: &DebugData) -> Option<u32>
@@ -329,11 +323,9 @@ pub extern "C" fn pe_c_debug_characteristics(
     ensures { HandsOutIf result out.old out.new (reported_of
         (λ mode d. characteristics_field d) bytes.now image.now sections.now image.now.mode) }
 {
-    match read_debug(bytes, image, sections) {
-        Ok(Some(debug)) => hand_out_some(Ok(characteristics_of(&debug)), out),
-        Ok(None) => NOTHING,
-        Err(error) => number_of(&error),
-    }
+    let debug = read_debug(bytes, image, sections);
+    let flags = debug.map(|debug| debug.and_then(|debug| characteristics_of(&debug)));
+    hand_out_some(flags, out)
 }
 
 fn repro_of(debug: &DebugData, mode: u32) -> Option<Repro>
@@ -365,11 +357,9 @@ pub extern "C" fn pe_c_debug_repro(
     ensures { HandsOutIf result out.old out.new
         (reported_of repro_field bytes.now image.now sections.now image.now.mode) }
 {
-    match read_debug(bytes, image, sections) {
-        Ok(Some(debug)) => hand_out_some(Ok(repro_of(&debug, image.mode)), out),
-        Ok(None) => NOTHING,
-        Err(error) => number_of(&error),
-    }
+    let debug = read_debug(bytes, image, sections);
+    let record = debug.map(|debug| debug.and_then(|debug| repro_of(&debug, image.mode)));
+    hand_out_some(record, out)
 }
 
 fn pogo_of(debug: &DebugData, mode: u32) -> Option<Pogo>
@@ -402,9 +392,7 @@ pub extern "C" fn pe_c_debug_pogo(
     ensures { HandsOutIf result out.old out.new
         (reported_of pogo_field bytes.now image.now sections.now image.now.mode) }
 {
-    match read_debug(bytes, image, sections) {
-        Ok(Some(debug)) => hand_out_some(Ok(pogo_of(&debug, image.mode)), out),
-        Ok(None) => NOTHING,
-        Err(error) => number_of(&error),
-    }
+    let debug = read_debug(bytes, image, sections);
+    let record = debug.map(|debug| debug.and_then(|debug| pogo_of(&debug, image.mode)));
+    hand_out_some(record, out)
 }
