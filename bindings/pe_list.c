@@ -6,29 +6,26 @@
  *     pe_list unwind FILE HEXRVA          the x64 function that covers an RVA, and its unwind records, up to the root of
  *                                         their chain
  *
- * Control characters of texts are printed as \xNN. The file is mapped; nothing of it is copied. `list` refuses the images
+ * Control characters of texts are printed as \xNN. The file is read whole. It is not mapped, since what other programs do to
+ * a mapped file changes its bytes during a call, and truncating it ends the program by a signal. `list` refuses the images
  * that `peinfo list` refuses, but for those with damaged base relocations alone, which no call reads. The status is 0, 1
  * for an image that is refused, 2 for misused arguments, 3 for an error of a file or of standard output. */
 #define _POSIX_C_SOURCE 200809L
 #include "pe.h"
 
-#include <fcntl.h>
 #include <inttypes.h>
 #include <stdio.h>
 #include <stdlib.h>
 #include <string.h>
-#include <sys/mman.h>
-#include <sys/stat.h>
-#include <unistd.h>
 
 enum { FINE = 0, REFUSED = 1, MISUSED = 2, REFUSAL = 3 };
 
-enum { X64 = 0x8664, ARM64 = 0xAA64, FUNCTION_SIZE = 12, ARM64_FUNCTION_SIZE = 8 };
+enum { X64 = 0x8664, ARM64 = 0xAA64, FUNCTION_SIZE = 12, ARM64_FUNCTION_SIZE = 8, FIRST_ROOM = 1 << 16 };
 
 /* The bytes of a file, its headers and its section headers. */
 typedef struct {
     const char *file;
-    const uint8_t *bytes;
+    uint8_t *bytes;
     size_t length;
     pe_c_image_info info;
     pe_c_section *sections;
@@ -41,28 +38,34 @@ typedef struct {
 
 /* ---- reading */
 
-/* Maps a file. An empty file cannot be mapped; it has no bytes. */
-static int map_file(const char *file, image *it)
+/* Makes room for more bytes of the file. Returns 0 where memory runs out. */
+static int has_room(image *it, size_t *room)
 {
-    int opened = open(file, O_RDONLY | O_CLOEXEC);
-    struct stat about;
-    if (opened < 0 || fstat(opened, &about) != 0) {
+    if (it->length < *room)
+        return 1;
+    uint8_t *larger = *room > SIZE_MAX / 2 ? NULL : (uint8_t *)realloc(it->bytes, 2 * *room);
+    if (larger == NULL)
+        return 0;
+    it->bytes = larger;
+    *room *= 2;
+    return 1;
+}
+
+/* Reads a file to its end. */
+static int read_file(const char *file, image *it)
+{
+    size_t room = FIRST_ROOM;
+    FILE *opened = fopen(file, "rb");
+    it->file = file;
+    it->bytes = (uint8_t *)malloc(room);
+    while (opened != NULL && it->bytes != NULL && !feof(opened) && !ferror(opened) && has_room(it, &room))
+        it->length += fread(it->bytes + it->length, 1, room - it->length, opened);
+    if (opened == NULL || !feof(opened)) {
         fprintf(stderr, "pe_list: ");
         perror(file);
         return REFUSAL;
     }
-    it->file = file;
-    it->length = (size_t)about.st_size;
-    if (it->length > 0) {
-        void *mapped = mmap(NULL, it->length, PROT_READ, MAP_PRIVATE, opened, 0);
-        if (mapped == MAP_FAILED) {
-            fprintf(stderr, "pe_list: ");
-            perror(file);
-            return REFUSAL;
-        }
-        it->bytes = (const uint8_t *)mapped;
-    }
-    close(opened);
+    fclose(opened);
     return FINE;
 }
 
@@ -530,7 +533,7 @@ static int run(int argc, char **argv, image *it)
     int unwinds = strcmp(word, "unwind") == 0 && argc == 4 && address_of(argv[3], &rva);
     if (!lists && !keys && !versions && !unwinds)
         return usage();
-    int status = map_file(argv[2], it);
+    int status = read_file(argv[2], it);
     if (status != FINE)
         return status;
     if (lists)
@@ -545,6 +548,7 @@ int main(int argc, char **argv)
     image it = PE_C_EMPTY;
     int status = run(argc, argv, &it);
     free(it.sections);
+    free(it.bytes);
     int is_truncated = ferror(stdout);
     if (fclose(stdout) != 0 || is_truncated) {
         fprintf(stderr, "pe_list: standard output takes no more\n");
