@@ -3,7 +3,7 @@
 
     bench/make_image.py ENTRIES BYTES FILE [FUNCTIONS [FUNCTIONS64]]
 
-The image is one for x64 and has one section, .rdata, with a debug table of ENTRIES entries and behind it a function
+The image is one for x64 and has one section, .rdata, with a debug table of ENTRIES entries and after it a function
 table of FUNCTIONS entries; with FUNCTIONS64 it is one for ARM64, and its function table has that many entries of ARM64
 in their place. It is filled up to BYTES bytes if that is more. Without entries a table has no directory. Every field of
 an entry is other than zero and varies from entry to entry. The types are of those that have no record of their own to
@@ -36,7 +36,7 @@ def entry(i, room):
 
 
 def function(i):
-    """The three fields of function i: functions stand one behind the other."""
+    """The three fields of function i: functions stand one after the other."""
     return (ADDRESS + 16 * i, ADDRESS + 16 * i + 16, ADDRESS + i % 0x4000 * 4)
 
 

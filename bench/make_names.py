@@ -3,7 +3,7 @@
 
 The header, the sections and one directory come first, with as many entries as some share of the bytes takes; the rest
 is what their addresses lead to. Each image has one section that covers the whole file, so an address is 0x1000 more
-than its place; in `sections` it stands behind 65,534 that cover nothing.
+than its offset; in `sections` it stands after 65,534 that cover nothing.
 """
 
 import struct

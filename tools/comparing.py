@@ -17,7 +17,7 @@ X64, ARM64 = 0x8664, 0xAA64
 
 
 class Unread(Exception):
-    """What stands at a place can't be read; the word is the kind of the refusal."""
+    """What stands at an offset can't be read; the word is the kind of the refusal."""
 
 
 class Difference(Exception):
@@ -37,7 +37,7 @@ def same(what, ours, theirs):
 
 
 def all_there(command, places):
-    """Whether each place is a file or a folder; if not, this says so in the command's name."""
+    """Whether each path is a file or a folder; if not, this says so in the command's name."""
     for place in places:
         if not os.path.exists(place):
             print(f"{command}: {place}: no such file or folder", file=sys.stderr)
@@ -57,7 +57,7 @@ def files(places):
 
 
 def images(places):
-    """Those of the files that begin with MZ."""
+    """Those of the files that start with MZ."""
     for path in files(places):
         try:
             with open(path, "rb") as file:
@@ -90,7 +90,7 @@ class Signer:
                         "-days", "2", "-subj", "/CN=test"], check=True, stderr=subprocess.DEVNULL)
 
     def signed(self, path):
-        """The place of a signed copy, or None and why there is none."""
+        """The path of a signed copy, or None and why there is none."""
         out = f"{self.folder}/signed"
         if os.path.exists(out):
             os.remove(out)
@@ -162,7 +162,7 @@ def as_loaded(path):
 
 
 def shown(program, path):
-    """The refusal in strict mode, or None, and the lines behind it."""
+    """The refusal in strict mode, or None, and the lines after it."""
     answer = run([*program, path])
     if answer is None or answer[0] != 0:
         raise Difference("the program hangs" if answer is None else f"the program's status is {answer[0]}")
@@ -172,7 +172,7 @@ def shown(program, path):
 
 
 def shown_image(program, path):
-    """The refusal in strict mode, or None, the machine, and the lines behind it."""
+    """The refusal in strict mode, or None, the machine, and the lines after it."""
     strict, lines = shown(program, path)
     if not lines or not lines[0].startswith(("machine ", "refused ")):
         raise Difference(f"the program prints {lines[:1]}")
@@ -228,7 +228,7 @@ def field(members, name):
 
 
 def number(members, name):
-    """The hexadecimal number of a field, which may stand in parentheses behind a word, or None."""
+    """The hexadecimal number of a field, which may stand in parentheses after a word, or None."""
     text = field(members, name)
     return None if text is None else int(re.search(r"(0x[0-9A-Fa-f]+)\)?$", text)[1], 16)
 
@@ -242,7 +242,7 @@ def value(members, name):
 # Rows.
 
 # A command that compares what tools/show shows of a file: the word for it, and a function from the program's words,
-# llvm-readobj and a file to a verdict, the rest of the row, and counts. `inputs` gives the files of the places.
+# llvm-readobj and a file to a verdict, the rest of the row, and counts. `inputs` returns the files of the paths.
 Command = collections.namedtuple("Command", "what row_of inputs", defaults=(images,))
 
 
@@ -285,7 +285,7 @@ def compare_all(command, program, rows, places):
 
 
 def asked(words):
-    """The program's place, the rows that are shown, and the places to look in, or None where the words are wrong."""
+    """The program's path, the rows that are shown, and the paths to look in, or None where the arguments are wrong."""
     program, rows, places = None, "all", []
     while words:
         word = words.pop(0)
