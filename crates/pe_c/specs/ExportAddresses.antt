@@ -10,7 +10,7 @@ use Rattle.pe_core.specs.declared.export_addresses.ExportAddress.{ExportAddress}
 use Rattle.pe_core.specs.declared.section_table.SectionTable.{SectionTable}
 use Rattle.pe_c.specs.Exports.{export_table, one_if_some}
 use Rattle.pe_c.specs.Images.{export_directory, is_absent, map_of_image}
-use Rattle.pe_c.specs.Ranges.{bytes_at, no_bytes, or_no_bytes}
+use Rattle.pe_c.specs.Ranges.{bytes_at, or_no_bytes}
 use Rattle.pe_c.specs.declared.export_addresses.AddressTable.{AddressTable}
 use Rattle.pe_c.specs.declared.export_addresses.Exported.{Exported}
 use Rattle.pe_c.specs.declared.image.Image.{Image}

@@ -14,7 +14,6 @@ use Rattle.pe_frame.specs.Arm64Operations.{is_save_next, operation_of, operation
 use Rattle.pe_frame.specs.Arm64Undoing.{undone_as, undone_codes}
 use Rattle.pe_frame.specs.Arm64Reading.{with_nexts}
 
-
 pub is_the_next : (c : Arm64UnwindCode) → is_save_next c ≡ true → c ≡ SaveNext
 is_the_next c e = grind (arith, common_steps)
 

@@ -17,7 +17,7 @@ use Rattle.pe_unwind.proofs.Arm64Whole.{code_or_cut}
 use Rattle.pe_frame.specs.declared.arm64.epilog.Arm64Epilog.{Arm64Epilog}
 use Rattle.pe_frame.specs.declared.arm64.registers.Arm64Registers.{Arm64Registers}
 use Rattle.pe_frame.specs.declared.error.FrameError.{FrameError}
-use Rattle.pe_frame.specs.declared.error.FrameError.TheVariants.{Codes, Memory, Address, Operation, Arm64Code, Packed, NotRising}
+use Rattle.pe_frame.specs.declared.error.FrameError.TheVariants.{Codes}
 use Rattle.pe_frame.specs.Steps.{Then, OfCodes, error_kind, by_kind}
 use Rattle.pe_frame.specs.Arm64Undoing.{undone_codes, returned_arm64}
 use Rattle.pe_frame.specs.Arm64Steps.{is_end, CodesThen, AreOver, AreTruncated, IsOfTruncated, HasArm64Codes, prolog_length, ran_arm64, epilog_start, left_in_epilog, epilog_after, LeavesIn, Leaves, StepsArm64}
