@@ -55,10 +55,10 @@ static int has_room(image *it, size_t *room)
 static int read_file(const char *file, image *it)
 {
     size_t room = FIRST_ROOM;
-    FILE *opened = fopen(file, "rb");
     it->file = file;
     it->bytes = (uint8_t *)malloc(room);
-    while (opened != NULL && it->bytes != NULL && !feof(opened) && !ferror(opened) && has_room(it, &room))
+    FILE *opened = it->bytes == NULL ? NULL : fopen(file, "rb");
+    while (opened != NULL && !feof(opened) && !ferror(opened) && has_room(it, &room))
         it->length += fread(it->bytes + it->length, 1, room - it->length, opened);
     if (opened == NULL || !feof(opened)) {
         fprintf(stderr, "pe_list: ");

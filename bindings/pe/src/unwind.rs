@@ -151,7 +151,7 @@ fn text_of(unwinding: &Unwinding) -> String {
         text += &record.error.as_ref().map_or(String::new(), |error| format!("    {error}\n"));
     }
     if unwinding.is_limited {
-        text += &format!("  more records, of which the first {RECORDS} are shown\n");
+        text += &format!("  and more records: the first {RECORDS} are shown\n");
     }
     text + &unwinding.error.as_ref().map_or(String::new(), |error| format!("  {error}\n"))
 }

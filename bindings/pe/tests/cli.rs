@@ -233,7 +233,7 @@ fn of_a_long_chain_the_first_records_are_shown() {
         let (out, _, status) = run(&["unwind", &file, "5000"]);
         let lines: Vec<&str> = out.lines().collect();
         assert_eq!((lines.len(), status), (257 + usize::from(is_limited), 0));
-        assert_eq!(lines[257..].concat(), if is_limited { "  more records, of which the first 256 are shown" } else { "" });
+        assert_eq!(lines[257..].concat(), if is_limited { "  and more records: the first 256 are shown" } else { "" });
     }
 }
 
