@@ -52,7 +52,11 @@ pub(crate) fn offset_of(k: u32) -> u32 {
 
 /// One function, whose record is chained to a second and so on. The last of these has the unwind address `last`, and
 /// after them stands one that is not chained.
-pub(crate) fn chain(alloc: Global, chained: u32, last: u32) -> std::result::Result<Vec<u8>, AllocError> {
+pub(crate) fn chain(
+    alloc: Global,
+    chained: u32,
+    last: u32,
+) -> std::result::Result<Vec<u8>, AllocError> {
     let mut bytes = Vec::new(alloc);
     bytes.extend_from_slice(&[0, 0x10, 0, 0, 0x10, 0x10, 0, 0, 0x0C, 0, 0, 0])?;
     for k in 0..chained {

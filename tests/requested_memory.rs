@@ -1,38 +1,42 @@
 //! How many bytes each call that takes memory asks for, in all of its requests: what its result needs, and what it sorts or keeps
-//! on the way. A definition says nothing of it, so no proof sees room that is asked for and not used.
+//! on the way. A definition says nothing of it, so no proof sees room that is asked for and not used. Nor does one see a limit:
+//! each of these calls may return `Memory`, and here each reads more things than a limit of a round number would let it.
 
-use crate::directories::image_of;
-use crate::images::{object, te, with_every_directory, with_exports, with_imports};
+use crate::directories::{at, image_of};
+use crate::exports::one_section;
+use crate::images::{put, te, with_every_directory, with_exports, with_imports, with_resources};
 use crate::imports::sharing;
 use crate::plans::{chain, offset_of, plan};
 use crate::refusing::Refusing;
 use crate::sections::counting;
 use pe_core::{
-    DataDirectory, Export, ExportData, Import, ImportData, ParseOptions, SectionIndex, SectionTable,
-    Strtab, SymbolTable, SyntheticImportDirectoryEntry, TeHeader, texts_at,
+    Export, ExportData, Import, ImportData, ParseOptions, SectionIndex, SectionTable, Strtab,
+    SymbolTable, SyntheticImportDirectoryEntry, TeHeader, texts_at,
 };
 use pe_directories::{
-    BoundImportDirectory, DelayImport, DelayImports, DelayedDll, DelayedFunction, ImageBytes,
-    IndexedImage,
+    BoundImportDirectory, DelayImports, DelayedDll, DelayedFunction, ImageBytes, IndexedImage,
 };
 use pe_image::{Coff, PE, TE};
 use pe_records::{AttributeCertificate, enumerate_certificates};
 use pe_resource::{ResourceString, VersionField};
 use pe_unwind::UnwindInfo;
-use std::alloc::{AllocError, Global};
+use std::alloc::{AllocError, Allocator, Global};
 use std::mem::size_of;
 use std::process::Abort;
 use std::test::Fail;
 
 /// How many things each call reads: one, where room for a round number of them would be seen, and many, where room for a number
-/// of bytes in place of things would be.
-const COUNTS: [u32; 3] = [1, 3, 1000];
+/// of bytes in place of things would be. The last is above 2^18 and 250,000.
+const COUNTS: [u32; 4] = [1, 3, 1000, 300_000];
 
 /// The size of an offset.
 const OFFSET: usize = size_of::<usize>();
 
-/// The size of a text, or of one that may be absent.
-const TEXT: usize = size_of::<Option<&str>>();
+/// The size of a text.
+const TEXT: usize = size_of::<&str>();
+
+/// The size of a text that may be absent.
+const FOUND: usize = size_of::<Option<&str>>();
 
 /// The size of the start and the end of a list.
 const LIST: usize = 2 * OFFSET;
@@ -73,7 +77,7 @@ impl Room {
 
     /// And short texts that are read at once.
     fn texts(self, count: usize) -> Room {
-        self.list(count, TEXT)
+        self.list(count, FOUND)
     }
 
     /// And the index of so many sections: two pieces of each, and those of both halves before they are merged.
@@ -130,6 +134,9 @@ impl Room {
     }
 }
 
+/// A string without a key and a value.
+const EMPTY: [u8; 8] = [8, 0, 0, 0, 1, 0, 0, 0];
+
 /// An allocator that grants each request.
 fn granting(alloc: Global) -> Refusing<Global> {
     Refusing::new(alloc, u32::MAX)
@@ -184,6 +191,9 @@ fn texts(rt: HostRuntime) -> Result<(), Fail> {
     for count in COUNTS {
         let count = count as usize;
         for length in [5, 200] {
+            if length * count > 0x100_0000 {
+                continue;
+            }
             let mut bytes = Vec::new(alloc);
             let mut offsets = Vec::new(alloc);
             for _ in 0..count {
@@ -204,7 +214,10 @@ fn texts(rt: HostRuntime) -> Result<(), Fail> {
             assert_eq!(rt; texts_at(&asked, &bytes, &turns)?.len(), 2 * count);
             let room = Room::NONE.texts(2 * count);
             let later = if length == 200 { 2 * count } else { 0 };
-            let most = room.growing(later, OFFSET).growing(count, LIST + TEXT).most;
+            let most = room
+                .growing(later, OFFSET)
+                .growing(count, LIST + FOUND)
+                .most;
             Room { most, ..room }.check(&rt, &asked, "texts by turns", count);
         }
     }
@@ -242,82 +255,106 @@ fn symbols(rt: HostRuntime) -> Result<(), Fail> {
     Ok(())
 }
 
-/// Exports that all have the name at offset 40, where the directory ends.
+/// Adds an export directory, which has the RVA `start`, and after it so many exports, all with the name `f`.
+fn push_exports(bytes: &mut Vec<u8>, start: u32, count: u32) -> Result<(), AllocError> {
+    let name = start + 40;
+    let addresses = name + 4;
+    push_numbers(bytes, &[0, 0, 0, name, 0, count, count, addresses])?;
+    push_numbers(bytes, &[addresses + 4 * count, addresses + 8 * count])?;
+    bytes.extend_from_slice(b"f\0\0\0")?;
+    for number in [0x1000, name] {
+        for _ in 0..count {
+            push_numbers(bytes, &[number])?;
+        }
+    }
+    for i in 0..count {
+        bytes.extend_from_slice(&u16::to_le_bytes((i % 0x1_0000) as u16))?;
+    }
+    Ok(())
+}
+
 #[test]
 fn exports(rt: HostRuntime) -> Result<(), Fail> {
     let alloc = rt.alloc();
     for count in COUNTS {
         let mut bytes = Vec::new(alloc);
-        push_numbers(&mut bytes, &[0, 0, 0, 40, 0, count, count, 44])?;
-        push_numbers(&mut bytes, &[44 + 4 * count, 44 + 8 * count])?;
-        bytes.extend_from_slice(b"f\0\0\0")?;
-        for number in [0x1000, 40] {
-            for _ in 0..count {
-                push_numbers(&mut bytes, &[number])?;
-            }
-        }
-        for i in 0..count {
-            bytes.extend_from_slice(&u16::to_le_bytes(i as u16))?;
-        }
-        let directory = DataDirectory {
-            virtual_address: 0,
-            size: 40,
-        };
-        let data = ExportData::parse_with_opts(&bytes, directory, &[], 0x200, &flat())?;
+        push_exports(&mut bytes, 0, count)?;
+        let data = ExportData::parse_with_opts(&bytes, at(0, 40), &[], 0x200, &flat())?;
         let asked = granting(alloc);
         let exports = Export::parse_with_opts(&asked, &bytes, &data, &[], 0x200, &flat())?;
-        let room = Room::NONE.exports(count as usize);
-        room.check(&rt, &asked, "exports", count as usize);
         assert_eq!(rt; exports.len(), count as usize);
+        let room = Room::NONE.exports(exports.len());
+        room.check(&rt, &asked, "exports", exports.len());
     }
     Ok(())
 }
 
-/// Records that each have a name and a list of one import of their own.
+/// An import directory at offset 0, of records that each have a name and a list of one import of their own.
+fn importing(alloc: Global, count: u32) -> Result<Vec<u8>, AllocError> {
+    let mut after = Vec::new(alloc);
+    for _ in 0..count {
+        after.extend_from_slice(b"a.dll\0\0\0")?;
+    }
+    for _ in 0..count {
+        push_numbers(&mut after, &[0, 0x8000_0000, 0, 0])?;
+    }
+    sharing(alloc, count, &after, (0, 8 * count), (8, 16))
+}
+
+/// The data of that directory.
+fn data_of<'a, A: Allocator + Copy + Drop>(
+    alloc: A,
+    bytes: &'a [u8],
+) -> pe_core::Result<ImportData<'a, A>> {
+    ImportData::parse_with_opts(alloc, bytes, at(0, 0), &[], 0, &flat(), true)
+}
+
 #[test]
 fn imports(rt: HostRuntime) -> Result<(), Fail> {
     let alloc = rt.alloc();
+    let index = SectionIndex::new(alloc, &[], 0, &flat())?;
     for count in COUNTS {
-        let mut after = Vec::new(alloc);
-        for _ in 0..count {
-            after.extend_from_slice(b"a.dll\0\0\0")?;
-        }
-        for _ in 0..count {
-            push_numbers(&mut after, &[0, 0x8000_0000, 0, 0])?;
-        }
-        let bytes = sharing(alloc, count, &after, (0, 8 * count), (8, 16))?;
+        let bytes = importing(alloc, count)?;
         let count = count as usize;
-        let directory = DataDirectory {
-            virtual_address: 0,
-            size: 0,
-        };
+        let directory = Room::NONE.records(count, count);
         let asked = granting(alloc);
-        let data = ImportData::parse_with_opts(&asked, &bytes, directory, &[], 0, &flat(), true)?;
-        assert_eq!(rt; data.import_data.len(), count);
-        let room = Room::NONE.records(count, count);
-        room.check(&rt, &asked, "import records", count);
-        let before = asked.bytes_asked();
-        assert_eq!(rt; data.libraries(&asked)?.len(), 1);
-        assert_eq!(rt; asked.bytes_asked() - before, count * TEXT);
-        let asked = granting(alloc);
-        let data = ImportData::parse_with_opts(&asked, &bytes, directory, &[], 0, &flat(), true)?;
-        let index = SectionIndex::new(alloc, &[], 0, &flat())?;
-        data.libraries_with_map(&asked, &bytes, &index.map())?;
-        let both = room.libraries(count, count);
-        both.check(&rt, &asked, "libraries", count);
-        let asked = granting(alloc);
-        let data = ImportData::parse_with_opts(&asked, &bytes, directory, &[], 0, &flat(), true)?;
+        let data = data_of(&asked, &bytes)?;
+        directory.check(&rt, &asked, "import records", count);
         let imports = Import::parse_with_opts(&asked, &bytes, &data, &[], 0, &flat(), true)?;
         assert_eq!(rt; imports.len(), count);
-        let both = room.imports(count);
-        both.check(&rt, &asked, "imports", count);
+        let room = directory.imports(count);
+        room.check(&rt, &asked, "imports", count);
+        let most = count / 2;
         let asked = granting(alloc);
-        let data = ImportData::parse_with_opts(&asked, &bytes, directory, &[], 0, &flat(), true)?;
-        let map = index.map();
-        let imports = Import::parse_at_most(&asked, &bytes, &data, &map, true, count / 2)?;
-        assert_eq!(rt; imports.len(), count / 2);
-        let both = room.imports(count / 2);
-        both.check(&rt, &asked, "the first imports", count / 2);
+        let data = data_of(&asked, &bytes)?;
+        let imports = Import::parse_at_most(&asked, &bytes, &data, &index.map(), true, most)?;
+        assert_eq!(rt; imports.len(), most);
+        let room = directory.imports(most);
+        room.check(&rt, &asked, "the first imports", most);
+    }
+    Ok(())
+}
+
+#[test]
+fn libraries(rt: HostRuntime) -> Result<(), Fail> {
+    let alloc = rt.alloc();
+    let index = SectionIndex::new(alloc, &[], 0, &flat())?;
+    for count in COUNTS {
+        let bytes = importing(alloc, count)?;
+        let count = count as usize;
+        let asked = granting(alloc);
+        let data = data_of(&asked, &bytes)?;
+        let before = asked.bytes_asked();
+        assert_eq!(rt; data.libraries(&asked)?.len(), 1);
+        let listed = asked.bytes_asked();
+        assert_eq!(rt; listed - before, count * TEXT);
+        let names = data.libraries_with_map(&asked, &bytes, &index.map())?;
+        assert_eq!(rt; names.len(), 1);
+        let room = Room::NONE.libraries(count, count);
+        assert_eq!(rt;
+            (asked.bytes_asked() - listed, room.least),
+            (room.most, room.most)
+        );
     }
     Ok(())
 }
@@ -332,7 +369,10 @@ fn certificates(rt: HostRuntime) -> Result<(), Fail> {
         }
         let count = count as usize;
         let asked = granting(alloc);
-        assert_eq!(rt; enumerate_certificates(&asked, &bytes, 0, bytes.len())?.len(), count);
+        assert_eq!(rt;
+            enumerate_certificates(&asked, &bytes, 0, bytes.len())?.len(),
+            count
+        );
         let room = Room::NONE.growing(count, size_of::<AttributeCertificate<'_>>());
         room.check(&rt, &asked, "certificates", count);
     }
@@ -358,12 +398,11 @@ fn plans(rt: HostRuntime) -> Result<(), Fail> {
 #[test]
 fn version_texts(rt: HostRuntime) -> Result<(), Fail> {
     let alloc = rt.alloc();
-    let empty = [8, 0, 0, 0, 1, 0, 0, 0];
-    let mut offset = 0;
-    let mut string = ResourceString::parse(&empty, &mut offset)?.ok_or("no string")?;
     for count in COUNTS {
         let count = count as usize;
         let value = b"v\0".repeat(alloc, count)?;
+        let mut offset = 0;
+        let mut string = ResourceString::parse(&EMPTY, &mut offset)?.ok_or("no string")?;
         string.value = &value;
         let asked = granting(alloc);
         let text = string.value_string(&asked)?.ok_or("no text")?;
@@ -379,53 +418,51 @@ fn version_texts(rt: HostRuntime) -> Result<(), Fail> {
     Ok(())
 }
 
-/// Delay-loaded DLLs that all have the name at offset 0, and a table of functions that all have the name at offset 2.
+/// A table of functions at offset 4 that all have the name at offset 2, and a directory of DLLs that all have the name at offset 0
+/// and that table. Where the directory starts.
+fn delaying(alloc: Global, count: u32) -> Result<(Vec<u8>, usize), AllocError> {
+    let mut bytes = Vec::new(alloc);
+    bytes.extend_from_slice(b"d\0f\0")?;
+    for _ in 0..count {
+        push_numbers(&mut bytes, &[0x1000])?;
+    }
+    push_numbers(&mut bytes, &[0])?;
+    let start = bytes.len();
+    for _ in 0..count {
+        push_numbers(&mut bytes, &[1, 0x1000, 0, 0x1004, 0x1004, 0, 0, 0])?;
+    }
+    Ok((bytes, start))
+}
+
 #[test]
 fn delay_imports(rt: HostRuntime) -> Result<(), Fail> {
     let alloc = rt.alloc();
+    let sections = [SectionTable {
+        size_of_raw_data: 0x1000_0000,
+        virtual_size: 0x1000_0000,
+        pointer_to_raw_data: 0,
+        ..one_section()[0]
+    }];
     for count in COUNTS {
-        let mut bytes = Vec::new(alloc);
-        bytes.extend_from_slice(b"d\0f\0")?;
-        for _ in 0..count {
-            push_numbers(&mut bytes, &[0x1000])?;
-        }
-        push_numbers(&mut bytes, &[0])?;
-        let start = bytes.len();
-        for _ in 0..count {
-            push_numbers(&mut bytes, &[1, 0x1000, 0, 0x1004, 0x1004, 0, 0, 0])?;
-        }
-        let sections = [SectionTable {
-            size_of_raw_data: 0x1_0000,
-            virtual_size: 0x1_0000,
-            ..crate::exports::one_section()[0]
-        }];
-        let sections = sections.map(|section| SectionTable {
-            pointer_to_raw_data: 0,
-            ..section
-        });
+        let (bytes, start) = delaying(alloc, count)?;
+        let count = count as usize;
         let image = ImageBytes {
             sections: &sections,
             ..image_of(&bytes, false)
         };
-        let count = count as usize;
         let asked = granting(alloc);
         let indexed = IndexedImage::new(&asked, &image)?;
         let room = Room::NONE.index(1);
         room.check(&rt, &asked, "an indexed image", 1);
-        let entries = DelayImports::new(&bytes[start..]);
-        let dlls = entries.dlls(&asked, &indexed)?;
+        let dlls = DelayImports::new(&bytes[start..]).dlls(&asked, &indexed)?;
         assert_eq!(rt; dlls.len(), count);
-        let room = room
-            .growing(count, OFFSET)
-            .texts(count)
-            .list(count, size_of::<DelayedDll<'_>>());
+        let names = room.growing(count, OFFSET).texts(count);
+        let room = names.list(count, size_of::<DelayedDll<'_>>());
         room.check(&rt, &asked, "delay-loaded DLLs", count);
         let functions = dlls[0].entry.functions(&asked, &indexed)?;
         assert_eq!(rt; functions.len(), count);
-        let room = room
-            .growing(count, OFFSET)
-            .texts(count)
-            .list(count, size_of::<DelayedFunction<'_>>());
+        let names = room.growing(count, OFFSET).texts(count);
+        let room = names.list(count, size_of::<DelayedFunction<'_>>());
         room.check(&rt, &asked, "delay-loaded functions", count);
     }
     Ok(())
@@ -446,38 +483,93 @@ fn bound_imports(rt: HostRuntime) -> Result<(), Fail> {
     Ok(())
 }
 
-/// A whole image asks for what its parts do, and an object and a TE image for their sections.
+/// The image with imports, in which the one DLL has so many by the ordinal 7, and which has as many exports, all with the name
+/// `f`, and certificates.
+fn with_many(alloc: Global, count: u32) -> Result<Vec<u8>, AllocError> {
+    let mut bytes = with_imports(alloc)?;
+    // The section has the RVAs from 0x1000 on, and starts at the file offset 0x200.
+    let rva = |offset: usize| offset as u32 + 0xE00;
+    put(
+        &mut bytes,
+        &[(0x150, &[0, 0, 0, 0x10]), (0x158, &[0, 0, 0, 0x10])],
+    );
+    bytes.resize(0x800, 0)?;
+    let lookups = rva(bytes.len()).to_le_bytes();
+    put(&mut bytes, &[(0x260, &lookups)]);
+    for _ in 0..count {
+        push_numbers(&mut bytes, &[7, 0x8000_0000])?;
+    }
+    push_numbers(&mut bytes, &[0, 0])?;
+    let start = rva(bytes.len());
+    put(&mut bytes, &[(0xC8, &start.to_le_bytes()), (0xCC, &[40])]);
+    push_exports(&mut bytes, start, count)?;
+    bytes.resize(bytes.len().next_multiple_of(8), 0)?;
+    let table = u32::to_le_bytes(bytes.len() as u32);
+    let size = u32::to_le_bytes(8 * count);
+    put(&mut bytes, &[(0xE8, &table), (0xEC, &size)]);
+    for _ in 0..count {
+        push_numbers(&mut bytes, &[8, 0x0002_0200])?;
+    }
+    Ok(bytes)
+}
+
+/// A whole image asks for what its parts do.
 #[test]
 fn whole_images(rt: HostRuntime) -> Result<(), Fail> {
     let alloc = rt.alloc();
-    for bytes in [
-        with_exports(alloc)?,
-        with_imports(alloc)?,
-        with_every_directory(alloc)?,
+    let many = COUNTS[3];
+    for (bytes, count) in [
+        (with_exports(alloc)?, 0),
+        (with_imports(alloc)?, 0),
+        (with_resources(alloc)?, 0),
+        (with_every_directory(alloc)?, 0),
+        (with_many(alloc, many)?, many as usize),
     ] {
         let asked = granting(alloc);
         let pe = PE::parse(&asked, &bytes)?;
         let sections = pe.sections.len();
-        let records = pe.import_data.as_ref().map_or(0, |data| data.import_data.len());
+        let names = pe
+            .export_data
+            .as_ref()
+            .map_or(0, |data| data.names.len() / 4);
+        let records = pe
+            .import_data
+            .as_ref()
+            .map_or(0, |data| data.import_data.len());
+        if count > 0 {
+            assert_eq!(rt; (pe.exports.len(), pe.imports.len()), (count, count));
+            assert_eq!(rt; pe.certificates.len(), count);
+        }
+        // Without exports and imports there is no index.
+        let is_indexed = pe.export_data.is_some() || pe.import_data.is_some();
         let room = Room::NONE
             .list(sections, size_of::<SectionTable>())
-            .index(sections)
-            .exports(pe.exports.len())
+            .index(if is_indexed { sections } else { 0 })
+            .exports(names)
             .records(records, records)
             .imports(pe.imports.len())
             .libraries(records, records)
             .growing(pe.certificates.len(), size_of::<AttributeCertificate<'_>>());
         room.check(&rt, &asked, "an image", sections);
     }
+    Ok(())
+}
+
+#[test]
+fn te_images_and_objects(rt: HostRuntime) -> Result<(), Fail> {
+    let alloc = rt.alloc();
     let bytes = te(alloc)?;
     let asked = granting(alloc);
     let count = TE::parse(&asked, &bytes)?.sections.len();
     let room = Room::NONE.list(count, size_of::<SectionTable>());
     room.check(&rt, &asked, "a TE image", count);
-    let bytes = object(alloc)?;
-    let asked = granting(alloc);
-    let count = Coff::parse(&asked, &bytes)?.sections.len();
-    let room = Room::NONE.list(count, size_of::<SectionTable>());
-    room.check(&rt, &asked, "an object", count);
+    for count in [1, 65_535] {
+        let mut bytes = vec![in alloc; 0; 20 + 40 * count]?;
+        bytes[2..4].copy_from_slice(&u16::to_le_bytes(count as u16));
+        let asked = granting(alloc);
+        assert_eq!(rt; Coff::parse(&asked, &bytes)?.sections.len(), count);
+        let room = Room::NONE.list(count, size_of::<SectionTable>());
+        room.check(&rt, &asked, "an object", count);
+    }
     Ok(())
 }
