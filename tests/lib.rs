@@ -48,6 +48,8 @@ mod refused_memory;
 #[cfg(test)]
 mod refusing;
 #[cfg(test)]
+mod requested_memory;
+#[cfg(test)]
 mod relocations;
 #[cfg(test)]
 mod resource_leaves;

@@ -1,5 +1,7 @@
 //! What the contracts say together, over whole walks.
 
+pub mod constants;
+
 ghost use Rattle.std.specs.Prelude.{◌≡◌, ℕ, List, Bool, map, Result};
 ghost use Rattle.std.specs.Iterator.{Drains};
 ghost use Rattle.pe_directories.specs.DirectoryRefusals.{directory_answer};
