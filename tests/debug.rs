@@ -480,6 +480,7 @@ fn checksums_of_pdbs(rt: HostRuntime) -> std::result::Result<(), Fail> {
         assert_eq!(rt; PdbChecksum::parse(bytes, &entry_at(4, 9, 10))?, sum);
         let empty = PdbChecksum::parse_with_opts(bytes, &entry_at(90, 10, 1), &flat(mode))?;
         assert!(rt; empty.algorithm.is_empty() && empty.checksum.is_empty());
+        // shows: pe_records/src/debug/managed.rt of_data DebugSize
         assert!(rt;
             matches!(
                 PdbChecksum::parse_with_opts(bytes, &entry_at(4, 0, 6), &opts),
