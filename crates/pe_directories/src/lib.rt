@@ -37,7 +37,7 @@ pub use bound_import::{
     BoundForwarder, BoundForwarders, BoundImport, BoundImportDirectory, BoundImports,
 };
 pub use bound_names::BoundNames;
-pub use clr::{ClrHeader, ClrMetadata, ClrStream, ClrStreams};
+pub use clr::{ClrHeader, ClrMetadata, ClrStream, ClrStreams, ReadyToRunHeader};
 pub use delay_import::{DelayImport, DelayImports, DelayedFunction};
 pub use delay_import_list::DelayedDll;
 pub use directories::{ChosenDirectories, Directories};
@@ -47,6 +47,6 @@ pub use indexed_image::IndexedImage;
 pub use load_config::LoadConfig;
 pub use overlay::overlay_range;
 pub use rich_header::{RichEntry, RichHeader};
-pub use section_name::{long_section_name, string_offset};
+pub use section_name::{long_section_name, long_section_names, string_offset};
 pub use tls::TlsDirectory;
 pub use va_table::VaTable;
