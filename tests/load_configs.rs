@@ -15,7 +15,15 @@ fn later_fields(config: &LoadConfig) -> [(Option<u64>, usize, usize, usize); 37]
     [
         (config.process.global_flags_clear.map(u64::from), 12, 12, 4),
         (config.process.global_flags_set.map(u64::from), 16, 16, 4),
-        (config.process.critical_section_default_timeout.map(u64::from), 20, 20, 4),
+        (
+            config
+                .process
+                .critical_section_default_timeout
+                .map(u64::from),
+            20,
+            20,
+            4,
+        ),
         (config.process.de_commit_free_block_threshold, 24, 24, 0),
         (config.process.de_commit_total_free_threshold, 28, 32, 0),
         (config.process.lock_prefix_table, 32, 40, 0),
@@ -27,29 +35,102 @@ fn later_fields(config: &LoadConfig) -> [(Option<u64>, usize, usize, usize); 37]
         (config.process.edit_list, 56, 80, 0),
         (config.code_integrity.flags.map(u64::from), 92, 148, 2),
         (config.code_integrity.catalog.map(u64::from), 94, 150, 2),
-        (config.code_integrity.catalog_offset.map(u64::from), 96, 152, 4),
+        (
+            config.code_integrity.catalog_offset.map(u64::from),
+            96,
+            152,
+            4,
+        ),
         (config.code_integrity.reserved.map(u64::from), 100, 156, 4),
-        (config.guard_tables.address_taken_iat_entry_table, 104, 160, 0),
-        (config.guard_tables.address_taken_iat_entry_count, 108, 168, 0),
+        (
+            config.guard_tables.address_taken_iat_entry_table,
+            104,
+            160,
+            0,
+        ),
+        (
+            config.guard_tables.address_taken_iat_entry_count,
+            108,
+            168,
+            0,
+        ),
         (config.guard_tables.long_jump_target_table, 112, 176, 0),
         (config.guard_tables.long_jump_target_count, 116, 184, 0),
         (config.guard_tables.eh_continuation_table, 164, 264, 0),
         (config.guard_tables.eh_continuation_count, 168, 272, 0),
         (config.return_flow_guard.failure_routine, 128, 208, 0),
-        (config.return_flow_guard.failure_routine_function_pointer, 132, 216, 0),
-        (config.return_flow_guard.verify_stack_pointer_function_pointer, 144, 232, 0),
+        (
+            config.return_flow_guard.failure_routine_function_pointer,
+            132,
+            216,
+            0,
+        ),
+        (
+            config
+                .return_flow_guard
+                .verify_stack_pointer_function_pointer,
+            144,
+            232,
+            0,
+        ),
         (config.metadata.dynamic_value_reloc_table, 120, 192, 0),
-        (config.metadata.dynamic_value_reloc_table_offset.map(u64::from), 136, 224, 4),
-        (config.metadata.dynamic_value_reloc_table_section.map(u64::from), 140, 228, 2),
+        (
+            config
+                .metadata
+                .dynamic_value_reloc_table_offset
+                .map(u64::from),
+            136,
+            224,
+            4,
+        ),
+        (
+            config
+                .metadata
+                .dynamic_value_reloc_table_section
+                .map(u64::from),
+            140,
+            228,
+            2,
+        ),
         (config.metadata.chpe_metadata_pointer, 124, 200, 0),
-        (config.metadata.hot_patch_table_offset.map(u64::from), 148, 240, 4),
+        (
+            config.metadata.hot_patch_table_offset.map(u64::from),
+            148,
+            240,
+            4,
+        ),
         (config.metadata.enclave_configuration_pointer, 156, 248, 0),
         (config.metadata.volatile_metadata_pointer, 160, 256, 0),
-        (config.guard_functions.xfg_check_function_pointer, 172, 280, 0),
-        (config.guard_functions.xfg_dispatch_function_pointer, 176, 288, 0),
-        (config.guard_functions.xfg_table_dispatch_function_pointer, 180, 296, 0),
-        (config.guard_functions.cast_guard_os_determined_failure_mode, 184, 304, 0),
-        (config.guard_functions.guard_memcpy_function_pointer, 188, 312, 0),
+        (
+            config.guard_functions.xfg_check_function_pointer,
+            172,
+            280,
+            0,
+        ),
+        (
+            config.guard_functions.xfg_dispatch_function_pointer,
+            176,
+            288,
+            0,
+        ),
+        (
+            config.guard_functions.xfg_table_dispatch_function_pointer,
+            180,
+            296,
+            0,
+        ),
+        (
+            config.guard_functions.cast_guard_os_determined_failure_mode,
+            184,
+            304,
+            0,
+        ),
+        (
+            config.guard_functions.guard_memcpy_function_pointer,
+            188,
+            312,
+            0,
+        ),
     ]
 }
 
@@ -78,7 +159,16 @@ fn number(bytes: &[u8], offset: usize, n: usize, length: usize) -> Option<u64> {
 #[test]
 fn fields_are_at_their_offsets(rt: HostRuntime) -> Result<(), Fail> {
     for is_64 in [false, true] {
-        for (size, length) in [(320, 320), (312, 320), (95, 320), (188, 320), (4, 320), (u32::MAX, 320), (320, 270), (320, 4)] {
+        for (size, length) in [
+            (320, 320),
+            (312, 320),
+            (95, 320),
+            (188, 320),
+            (4, 320),
+            (u32::MAX, 320),
+            (320, 270),
+            (320, 4),
+        ] {
             let bytes = structure(size);
             let there = (size as usize).min(length);
             let config = LoadConfig::parse(&image_of(&bytes[..length], is_64), at(0x1000, 64))?;
@@ -87,7 +177,11 @@ fn fields_are_at_their_offsets(rt: HostRuntime) -> Result<(), Fail> {
                 let wide = if is_64 { 8 } else { 4 };
                 let n = if width == 0 { wide } else { width };
                 let offset = if is_64 { offset_64 } else { offset_32 };
-                assert_eq!(rt; read, number(&bytes, offset, n, there), "{offset} of {size}");
+                assert_eq!(rt;
+                    read,
+                    number(&bytes, offset, n, there),
+                    "{offset} of {size}"
+                );
             }
         }
     }
@@ -111,7 +205,10 @@ fn with_tables(flags: u32) -> [u8; 0x200] {
     put(116, 1);
     put(164, 0x40_1114);
     put(168, 1);
-    for (k, rva) in [0x1035, 0x1000, 0x1010, 0x1020, 0x102C, 0x1034].into_iter().enumerate() {
+    for (k, rva) in [0x1035, 0x1000, 0x1010, 0x1020, 0x102C, 0x1034]
+        .into_iter()
+        .enumerate()
+    {
         put(0x100 + 4 * k, rva);
     }
     bytes
@@ -136,17 +233,34 @@ fn tables_have_their_entries(rt: HostRuntime) -> Result<(), Fail> {
     let image = image_of(&bytes, false);
     let config = LoadConfig::parse(&image, at(0x1000, 64))?;
     assert!(rt; are(config.se_handlers(&image)?, &[0x1035])?);
-    assert!(rt; are(config.guard_cf_functions(&image)?, &[0x1000, 0x1010, 0x1020])?);
+    assert!(rt;
+        are(
+            config.guard_cf_functions(&image)?,
+            &[0x1000, 0x1010, 0x1020]
+        )?
+    );
     assert!(rt; are(config.address_taken_iat_entries(&image)?, &[])?);
     assert!(rt; are(config.long_jump_targets(&image)?, &[0x102C])?);
     assert!(rt; are(config.eh_continuations(&image)?, &[0x1034])?);
-    assert_eq!(rt; (config.flag_size(), config.guard_cf_functions(&image)?.rest().len()), (0, 0xFC));
+    assert_eq!(rt;
+        (
+            config.flag_size(),
+            config.guard_cf_functions(&image)?.rest().len()
+        ),
+        (0, 0xFC)
+    );
     Ok(())
 }
 
 #[test]
 fn entries_have_flags(rt: HostRuntime) -> Result<(), Fail> {
-    assert_eq!(rt; (IMAGE_GUARD_FLAG_FID_SUPPRESSED, IMAGE_GUARD_FLAG_EXPORT_SUPPRESSED), (1, 2));
+    assert_eq!(rt;
+        (
+            IMAGE_GUARD_FLAG_FID_SUPPRESSED,
+            IMAGE_GUARD_FLAG_EXPORT_SUPPRESSED
+        ),
+        (1, 2)
+    );
     let bytes = with_tables(0x1041_0500);
     let image = image_of(&bytes, false);
     let config = LoadConfig::parse(&image, at(0x1000, 64))?;
@@ -198,7 +312,10 @@ fn tables_that_are_not_there(rt: HostRuntime) -> Result<(), Fail> {
     let image = image_of(&bytes, false);
     let config = LoadConfig::parse(&image, at(0x1000, 64))?;
     assert!(rt;
-        matches!(config.se_handlers(&image), Err(DirectoryError::VaBelowBase(0x3F_FFFF)))
+        matches!(
+            config.se_handlers(&image),
+            Err(DirectoryError::VaBelowBase(0x3F_FFFF))
+        )
     );
     let bytes = parsed(0x50_0000, 1);
     let image = image_of(&bytes, false);

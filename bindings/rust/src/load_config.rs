@@ -7,8 +7,8 @@ use crate::sys;
 
 /// The load configuration, `IMAGE_LOAD_CONFIG_DIRECTORY32` or `IMAGE_LOAD_CONFIG_DIRECTORY64`, up to the guard flags.
 ///
-/// A field is `None` where the structure is too short to have it, or the image ends before it does. The addresses are virtual addresses, mostly 0 where there is
-/// nothing: less the image's `base` one is an RVA, for [`Image::offset`].
+/// A field is `None` where the structure is too short to have it, or the image ends before it does. The addresses are virtual
+/// addresses, mostly 0 where there is nothing: less the image's `base` one is an RVA, for [`Image::offset`].
 ///
 /// ```
 /// # #[path = "../tests/made/mod.rs"] mod made;
