@@ -5,8 +5,8 @@ use crate::walk::{Found, Walk};
 use pe_directories::{
     BaseRelocation, BoundImportDirectory, BoundNames, ChosenDirectories, ClrHeader, ClrMetadata,
     DelayImport, DelayImports, DelayedDll, DelayedFunction, Directories, DirectoryError,
-    GuardTable, IMAGE_REL_BASED_HIGHADJ, ImageBytes, IndexedImage, LoadConfig, RelocationBlock, RelocationBlocks, RichHeader, TlsDirectory, VaTable,
-    long_section_name, string_offset,
+    GuardTable, IMAGE_REL_BASED_HIGHADJ, ImageBytes, IndexedImage, LoadConfig, RelocationBlock,
+    RelocationBlocks, RichHeader, TlsDirectory, VaTable, long_section_name, string_offset,
 };
 use pe_image::{DataDirectories, PE, ParseOptions, Strtab};
 use std::alloc::Global;
