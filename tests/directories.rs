@@ -168,6 +168,19 @@ fn refuses_blocks(rt: HostRuntime) -> Result<(), Fail> {
             DirectoryError::Image(Error::Short { at: 0, needed: 8 })
         )
     );
+    // A page and a size of 0 end the list, whatever follows; a truncated one does not.
+    let zeros = b"\0\x10\0\0\x08\0\0\0\0\0\0\0\0\0\0\0\0\x20\0\0\x09\0\0\0";
+    let mut blocks = RelocationBlocks::new(zeros);
+    assert!(rt; matches!(blocks.next(), Some(Ok(block)) if block.page_rva == 0x1000));
+    assert!(rt; blocks.next().is_none());
+    assert_eq!(rt; blocks.rest().len(), 0);
+    assert!(rt; RelocationBlocks::new(&zeros[8..16]).next().is_none());
+    assert!(rt;
+        matches!(
+            refusal_of(&zeros[8..15])?,
+            DirectoryError::Image(Error::Short { at: 0, needed: 8 })
+        )
+    );
     // A block without entries, and one at no multiple of 4, are read.
     let bytes = b"\0\x10\0\0\x08\0\0\0\0\x20\0\0\x0A\0\0\0\x01\x30\0\x30\0\0\x08\0\0\0";
     let pages = [0x1000, 0x2000, 0x3000];
@@ -480,19 +493,21 @@ fn reads_a_load_configuration_of_pe32_plus(rt: HostRuntime) -> Result<(), Fail> 
     assert_eq!(rt; config.guard_cf_function_table, Some(8));
     assert_eq!(rt; config.guard_cf_function_count, Some(9));
     assert_eq!(rt; config.guard_flags, Some(0x100));
-    // One byte less: the last field is absent. One more than the file has: the structure is truncated.
+    // One byte less: the last field is absent. One more than the file has: the fields that are there are read.
     bytes[0] = 0x93;
     let config = LoadConfig::parse(&image_of(&bytes, true), at(0x1000, 0x138))?;
     assert_eq!(rt; config.guard_cf_function_count, Some(9));
     assert_eq!(rt; config.guard_flags, None);
     bytes[0] = 0x95;
+    let config = LoadConfig::parse(&image_of(&bytes, true), at(0x1000, 0x138))?;
+    assert_eq!(rt; (config.size, config.guard_flags), (0x95, Some(0x100)));
+    let cut = LoadConfig::parse(&image_of(&bytes[..0x93], true), at(0x1000, 0x138))?;
+    assert_eq!(rt; (cut.size, cut.guard_flags), (0x95, None));
+    assert_eq!(rt; cut.guard_cf_function_count, Some(9));
     assert!(rt;
         matches!(
-            LoadConfig::parse(&image_of(&bytes, true), at(0x1000, 0x138)),
-            Err(DirectoryError::Image(Error::Short {
-                at: 0,
-                needed: 0x95
-            }))
+            LoadConfig::parse(&image_of(&bytes[..3], true), at(0x1000, 0x138)),
+            Err(DirectoryError::Image(Error::Short { at: 0, needed: 4 }))
         )
     );
     bytes[0] = 3;

@@ -38,6 +38,8 @@ mod images;
 #[cfg(test)]
 mod imports;
 #[cfg(test)]
+mod load_configs;
+#[cfg(test)]
 mod plans;
 #[cfg(test)]
 mod refusal_numbers;

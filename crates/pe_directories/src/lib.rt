@@ -18,6 +18,7 @@ mod delay_import;
 mod delay_import_list;
 mod directories;
 mod error;
+mod guard_table;
 mod image_bytes;
 mod indexed_image;
 pub mod laws;
@@ -42,9 +43,15 @@ pub use delay_import::{DelayImport, DelayImports, DelayedFunction};
 pub use delay_import_list::DelayedDll;
 pub use directories::{ChosenDirectories, Directories};
 pub use error::DirectoryError;
+pub use guard_table::{
+    GuardEntry, GuardTable, IMAGE_GUARD_FLAG_EXPORT_SUPPRESSED, IMAGE_GUARD_FLAG_FID_SUPPRESSED,
+};
 pub use image_bytes::ImageBytes;
 pub use indexed_image::IndexedImage;
-pub use load_config::LoadConfig;
+pub use load_config::{
+    CodeIntegrity, GuardFunctions, GuardTables, LoadConfig, LoadMetadata, ProcessSettings,
+    ReturnFlowGuard,
+};
 pub use overlay::overlay_range;
 pub use rich_header::{RichEntry, RichHeader};
 pub use section_name::{long_section_name, long_section_names, string_offset};
