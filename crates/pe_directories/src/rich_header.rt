@@ -2,7 +2,8 @@
 //! image, and how many objects each. Microsoft does not document it; [this page](https://www.ntcore.com/files/richsign.htm) does.
 //!
 //! It is the word `DanS`, three words of zeros and entries of 8 bytes, all XORed with a key, then the word `Rich` and the key.
-//! Its words are words of the file: at multiples of 4 from its start. The linker takes a checksum as the key: of the DOS header, the DOS stub and the entries.
+//! Its words are words of the file: at multiples of 4 from its start. The linker takes a checksum as the key: of the DOS header,
+//! the DOS stub and the entries.
 
 ghost use Rattle.std.specs.Prelude.{◌≡◌, ◌+◌, ◌*◌, ◌/◌, ◌<◌, ◌≤◌, ◌==◌, bit_xor, length, if◌then◌else◌, IfSome, Some};
 ghost use Rattle.std.specs.Option.{option_map};
