@@ -3,7 +3,6 @@ use Rattle.std.proofs.Common.{◌≡◌, ℕ, ◌+◌, ◌*◌, ◌-◌, ◌<◌
 use Rattle.std.specs.List.{flat_map}
 use Rattle.std.proofs.lemmas.List.{length-replicate}
 use Rattle.pe_core.specs.Bytes.{splice}
-use Rattle.pe_edit.specs.declared.directories.Cursor.{Cursor}
 use Rattle.pe_edit.specs.declared.layout.Layout.{Layout}
 use Rattle.pe_edit.specs.declared.level.Level.TheVariants as levels
 use Rattle.pe_edit.specs.Levels.{AllPartsFit, PartsFit, directories_at, key_at, names_total, parts_total, runs_of, size_at}

@@ -1,6 +1,6 @@
 -- A directory, and the loop over the directories of a level.
-use Rattle.std.proofs.Common.{◌≡◌, ℕ, zero, suc, ◌+◌, ◌*◌, ◌-◌, ◌<◌, ◌≤◌, Bool, false, List, [], ◌∷◌, ◌++◌, length, drop, map, replicate, ap, refl, sym, ◌∙◌, subst, arith, length-append}
-use Rattle.std.proofs.lemmas.List.{append_assoc, length-map, length-replicate}
+use Rattle.std.proofs.Common.{◌≡◌, ℕ, ◌+◌, ◌*◌, ◌-◌, ◌≤◌, false, List, [], ◌∷◌, ◌++◌, length, drop, map, replicate, ap, refl, sym, ◌∙◌, subst, arith, length-append}
+use Rattle.std.proofs.lemmas.List.{append_assoc, length-replicate}
 use Rattle.pe_core.specs.Bytes.{bytes_of, splice}
 use Rattle.pe_core.proofs.Splices.{length-bytes_of, splice-splice}
 use Rattle.pe_edit.specs.declared.directories.Cursor.{Cursor}
@@ -9,7 +9,7 @@ use Rattle.pe_edit.specs.declared.level.Level.TheVariants as levels
 use Rattle.pe_edit.specs.declared.level.Measure.{Measure}
 use Rattle.pe_edit.specs.Levels.{AllPartsFit, IsRunAt, PartsFit, above, after_directory, directories_at, key_at, measure_of, names_total, parts_total, runs_of, size_at}
 use Rattle.pe_edit.specs.Runs.{elements, in_front, runs}
-use Rattle.pe_edit.specs.Written.{Key, Leaf, directory_to, entries_to, entry_size, language_key, name_size, named, resource_tables, resources_of, total, type_tables, types_of, unnamed}
+use Rattle.pe_edit.specs.Written.{Leaf, directory_to, entries_to, entry_size, language_key, name_size, named, resource_tables, resources_of, total, type_tables, types_of, unnamed}
 use Rattle.pe_edit.proofs.Entries.{total_from}
 use Rattle.pe_edit.proofs.RunsAt.{no_runs_at}
 use Rattle.pe_edit.proofs.Tables.{both_kinds, length-directory_to}
@@ -96,7 +96,7 @@ directory_room old now at c level xs r start k w =
       arith,
       length-directory_to (key_at level) (size_at level) c.name c.part rs,
       room_for old now at.end c.end (directories_at level at.name at.part (runs_of (above level) xs)) (directory_to (key_at level) (size_at level) c.name c.part rs)
-      (directories_at level (c.name + names_total level rs) (c.part + parts_total level rs) (runs_of (above level) (drop (start + length r) xs))) (directories_rest old now at c level xs r start k w),
+          (directories_at level (c.name + names_total level rs) (c.part + parts_total level rs) (runs_of (above level) (drop (start + length r) xs))) (directories_rest old now at c level xs r start k w),
     )
 
 pub more_directories_written : (old now next : List ℕ) (at c d : Cursor) (level : Level) (xs r : List Leaf) (start : ℕ) → IsRunAt (above level) xs start r → DirectoriesWritten old now at c level xs start →

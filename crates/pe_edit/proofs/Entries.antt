@@ -1,17 +1,16 @@
 -- The loops over the entries of directories.
-use Rattle.std.proofs.Common.{◌≡◌, ℕ, ◌+◌, ◌*◌, ◌-◌, ◌<◌, ◌≤◌, List, [], ◌∷◌, ◌++◌, length, drop, replicate, ap, refl, sym, ◌∙◌, subst, arith, length-append}
-use Rattle.std.proofs.lemmas.List.{append_assoc, length-replicate}
+use Rattle.std.proofs.Common.{◌≡◌, ℕ, ◌+◌, ◌*◌, ◌<◌, ◌≤◌, List, [], ◌∷◌, ◌++◌, length, drop, ap, refl, sym, ◌∙◌, subst, arith, length-append}
+use Rattle.std.proofs.lemmas.List.{append_assoc}
 use Rattle.pe_core.specs.Bytes.{bytes_of, splice}
 use Rattle.pe_core.proofs.Splices.{length-bytes_of, splice-splice}
 use Rattle.pe_edit.specs.declared.directories.Cursor.{Cursor}
 use Rattle.pe_edit.specs.declared.level.Level.{Level}
 use Rattle.pe_edit.specs.declared.level.Level.TheVariants as levels
 use Rattle.pe_edit.specs.declared.level.Measure.{Measure}
-use Rattle.pe_edit.specs.Levels.{AllPartsFit, IsRunAt, PartsFit, above, after_entries, directories_at, key_at, key_of_run, measure_of, names_total, parts_total, runs_of, size_at, size_of_run}
-use Rattle.pe_edit.specs.Runs.{elements}
-use Rattle.pe_edit.specs.Written.{Id, Key, Leaf, Name, NameFits, directory_to, entries_to, key_number, name_bytes, name_size, named, names, resources_of, total, unnamed}
+use Rattle.pe_edit.specs.Levels.{IsRunAt, PartsFit, after_entries, key_at, key_of_run, measure_of, names_total, parts_total, runs_of, size_at, size_of_run}
+use Rattle.pe_edit.specs.Written.{Id, Key, Leaf, Name, NameFits, entries_to, key_number, name_bytes, name_size, named, names, resources_of, total}
 use Rattle.pe_edit.proofs.RunsAt.{no_runs_at}
-use Rattle.pe_edit.proofs.Tables.{both_kinds, length-directory_to, length-entries_to}
+use Rattle.pe_edit.proofs.Tables.{length-entries_to}
 use Rattle.pe_edit.proofs.Writing.{Written, all_written, more_written, nothing_written, room_for}
 
 -- ---- sums
@@ -183,7 +182,7 @@ entry_room old now at c level xs r start key k e w =
       arith,
       eight (key_number c.name key) c.part,
       room_for old now at.end c.end (entries_to (key_at level) (size_at level) at.name at.part (runs_of level xs)) x (entries_to (key_at level) (size_at level) (c.name + name_size key) (c.part + size_of_run level r) (runs_of level (drop (start + length r) xs)))
-      (entries_rest old now at c level xs r start key k e w),
+          (entries_rest old now at c level xs r start key k e w),
     )
 
 pub more_entries_written : (old now next : List ℕ) (at c d : Cursor) (level : Level) (xs r : List Leaf) (start m : ℕ) (key : Key) → IsRunAt level xs start r → key ≡ key_of_run level r → EntriesWritten old now at c level xs start →

@@ -1,13 +1,13 @@
 -- Where the parts of a section start, by what the entries of types and of resources come to.
-use Rattle.std.proofs.Common.{◌≡◌, ℕ, ◌+◌, ◌*◌, ◌/◌, List, [], ◌∷◌, ◌++◌, length, refl, ap, sym, ◌∙◌, arith, length-append}
+use Rattle.std.proofs.Common.{◌≡◌, ℕ, ◌+◌, ◌*◌, List, [], ◌∷◌, length, refl, ap, ◌∙◌, arith, length-append}
 use Rattle.std.specs.List.{flat_map}
 use Rattle.pe_core.specs.SectionMap.{rounded_up}
 use Rattle.pe_edit.specs.declared.layout.Layout.{Layout}
 use Rattle.pe_edit.specs.declared.level.Level.TheVariants as levels
 use Rattle.pe_edit.specs.declared.level.Measure.{Measure}
-use Rattle.pe_edit.specs.Levels.{measure_of, runs_of}
-use Rattle.pe_edit.specs.Runs.{elements, runs}
-use Rattle.pe_edit.specs.Written.{Leaf, below_size, layout_of, name_key, name_size, names_size, resource_size, resources_of, same_resource, total, type_key, type_size, types_of}
+use Rattle.pe_edit.specs.Levels.{measure_of}
+use Rattle.pe_edit.specs.Runs.{elements}
+use Rattle.pe_edit.specs.Written.{Leaf, below_size, layout_of, name_size, names_size, resource_size, resources_of, same_resource, total, type_key, type_size, types_of}
 use Rattle.pe_edit.proofs.DirectoryLoops.{resources_are, types_are}
 use Rattle.pe_edit.proofs.Nested.{names_of, resources_in_types}
 use Rattle.pe_edit.proofs.Runs.{runs_all}

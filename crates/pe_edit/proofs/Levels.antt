@@ -1,22 +1,21 @@
 -- The three levels that are written are read.
-use Rattle.std.proofs.Common.{◌≡◌, ℕ, zero, suc, ◌+◌, ◌-◌, ◌*◌, ◌/◌, ◌%◌, ◌^◌, ◌<◌, ◌≤◌, ◌==◌, ◌&&◌, Bool, true, false, List, [], ◌∷◌, ◌++◌, length, map, Option, Some, None, Result, Ok, Err, refl, ap, sym, ◌∙◌, subst, arith, length-append, if◌then◌else◌}
+use Rattle.std.proofs.Common.{◌≡◌, ℕ, ◌+◌, ◌*◌, ◌/◌, ◌<◌, ◌≤◌, ◌&&◌, Bool, true, false, List, [], ◌∷◌, ◌++◌, length, map, Result, Ok, refl, ap, sym, ◌∙◌, subst, arith, length-append}
 use Rattle.std.specs.List.{flat_map}
-use Rattle.std.proofs.lemmas.List.{map-append, length-map}
+use Rattle.std.proofs.lemmas.List.{map-append}
 use Rattle.std.proofs.lemmas.Bool.{false≢true}
 use Rattle.std.proofs.lemmas.Bool.Decides.{nat_tests}
 use Rattle.std.proofs.lemmas.Slice.Eq.{bytes_eq-Decides}
-use Rattle.pe_core.specs.Bytes.{range, bytes_of}
+use Rattle.pe_core.specs.Bytes.{bytes_of}
 use Rattle.pe_core.proofs.Splices.{length-bytes_of}
 use Rattle.pe_resource.specs.declared.entry.ResourceEntry.{ResourceEntry}
-use Rattle.pe_resource.specs.declared.leaves.ResourceLeaf.{ResourceLeaf}
 use Rattle.pe_resource.specs.Leaves.{TreeRefusal, in_table, table_below, leaf_of, leaves_of_name, leaves_of_type, tree_leaves}
 use Rattle.pe_resource.specs.ResourceEntries.{entries}
-use Rattle.pe_edit.specs.Runs.{elements, runs}
-use Rattle.pe_edit.specs.Written.{Key, Id, Name, Leaf, Each, total, name_size, name_bytes, names, key_number, KeyFits, LeafFits, padded_size, entries_to, directory_to, type_key, name_key, language_key, types_of, resources_of, type_size, resource_size, below_size, names_size, entry_size, type_tables, resource_tables, key_eq, same_type, same_resource}
+use Rattle.pe_edit.specs.Runs.{elements}
+use Rattle.pe_edit.specs.Written.{Key, Id, Name, Leaf, Each, total, name_size, name_bytes, names, key_number, KeyFits, LeafFits, padded_size, entries_to, directory_to, type_key, name_key, language_key, resources_of, type_size, resource_size, below_size, names_size, entry_size, type_tables, resource_tables, key_eq, same_type, same_resource}
 use Rattle.pe_edit.specs.Reread.{LeafRefusal, read_key, read_item}
 use Rattle.pe_edit.proofs.Nested.{names_of, all_names, language_tables}
 use Rattle.pe_edit.proofs.Runs.{EachHas, RunsAlike, runs_all, runs_alike, count_of_runs, some_run, each_left, each_right, each_weaker, each_first}
-use Rattle.pe_edit.proofs.Stands.{Stands, left, right, moved}
+use Rattle.pe_edit.proofs.Stands.{Stands, left, right}
 use Rattle.pe_edit.proofs.Tables.{entry_list, entries_read, entries_fit, length-directory_to, below}
 use Rattle.pe_edit.proofs.Reading.{DataStand, data_left, data_right, leaf_read, key_read}
 

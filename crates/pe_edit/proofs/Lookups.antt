@@ -1,20 +1,20 @@
 -- A leaf that is looked for in a section is the first with its keys of the runs.
-use Rattle.std.proofs.Common.{◌≡◌, ℕ, zero, suc, ◌+◌, ◌*◌, ◌%◌, ◌^◌, ◌<◌, ◌==◌, Bool, true, false, List, [], ◌∷◌, ◌++◌, length, cond, Option, Some, None, Result, Ok, Err, refl, ap, sym, ◌∙◌, subst, arith, length-append, if◌then◌else◌}
+use Rattle.std.proofs.Common.{◌≡◌, ℕ, ◌+◌, ◌*◌, ◌%◌, ◌^◌, ◌<◌, ◌==◌, Bool, true, false, List, [], ◌∷◌, length, cond, Option, Some, None, Result, Ok, refl, ap, sym, ◌∙◌, subst, arith, length-append, if◌then◌else◌}
 use Rattle.std.specs.List.{find, flat_map}
 use Rattle.std.proofs.lemmas.Bool.{false≢true}
 use Rattle.std.proofs.lemmas.Bool.Decides.{nat_tests}
 use Rattle.pe_core.specs.Bytes.{holds, le, range}
-use Rattle.pe_core.specs.Refusals.{Refusal, Short, outcome, ◌>>=◌}
+use Rattle.pe_core.specs.Refusals.{Short, outcome, ◌>>=◌}
 use Rattle.pe_resource.specs.declared.entry.ResourceEntry.{ResourceEntry}
 use Rattle.pe_resource.specs.Leaves.{TreeRefusal, leaf_of, name_units, table_below}
 use Rattle.pe_resource.specs.ResourceEntries.{entries, has_id, has_name, name_offset, with_id}
 use Rattle.pe_edit.specs.declared.layout.Layout.{Layout}
 use Rattle.pe_edit.specs.Found.{as_read, entries_below, entries_of, found_language, found_leaf, found_name, found_type, has_key, is_key, with_key}
-use Rattle.pe_edit.specs.Reread.{LeafRefusal, first_entries, key_by, read_item, read_key}
+use Rattle.pe_edit.specs.Reread.{LeafRefusal, key_by, read_item, read_key}
 use Rattle.pe_edit.specs.Runs.{elements}
-use Rattle.pe_edit.specs.Written.{Each, Fits, Id, Key, KeyFits, Leaf, LeafFits, directory_to, entries_to, entry_size, key_eq, key_number, language_key, layout_of, name_bytes, name_key, name_size, names, padded_size, resource_size, resource_tables, resources_of, section, section_at, section_length, total, type_key, type_size, type_tables, types_of}
-use Rattle.pe_edit.proofs.Levels.{NamesStand, TypesStand, few_names, more_names, more_types, name_length, names_all, names_stand, some_name, total_16, total_no_names}
-use Rattle.pe_edit.proofs.Nested.{all_names, language_tables, names_of}
+use Rattle.pe_edit.specs.Written.{Each, Fits, Id, Key, KeyFits, Leaf, LeafFits, directory_to, entries_to, entry_size, key_eq, key_number, language_key, layout_of, name_bytes, name_key, name_size, names, padded_size, resource_size, resource_tables, section, section_at, section_length, total, type_key, type_size, type_tables, types_of}
+use Rattle.pe_edit.proofs.Levels.{NamesStand, TypesStand, few_names, more_names, more_types, names_all, names_stand, some_name, total_16, total_no_names}
+use Rattle.pe_edit.proofs.Nested.{names_of}
 use Rattle.pe_edit.proofs.Reading.{DataStand, data_left, key_read, leaf_read}
 use Rattle.pe_edit.proofs.Runs.{EachHas, each_first, each_left, each_right, each_weaker}
 use Rattle.pe_edit.proofs.SectionRead.{first_read, is_layout, parts_stand, types_stand}

@@ -1,5 +1,5 @@
 -- Keys and data that are written are read.
-use Rattle.std.proofs.Common.{◌≡◌, ℕ, zero, suc, ◌+◌, ◌-◌, ◌*◌, ◌/◌, ◌%◌, ◌^◌, ◌<◌, ◌≤◌, ◌==◌, Bool, true, false, List, [], ◌∷◌, ◌++◌, length, map, replicate, Option, Some, None, Result, Ok, Err, refl, ap, sym, ◌∙◌, subst, arith, length-append, if◌then◌else◌}
+use Rattle.std.proofs.Common.{◌≡◌, ℕ, suc, ◌+◌, ◌-◌, ◌*◌, ◌/◌, ◌%◌, ◌^◌, ◌<◌, ◌≤◌, ◌==◌, Bool, true, false, List, [], ◌∷◌, ◌++◌, length, replicate, Option, Some, None, Result, Ok, Err, refl, ap, ◌∙◌, subst, arith, length-append, if◌then◌else◌}
 use Rattle.std.specs.Prelude.{nat_le}
 use Rattle.std.proofs.lemmas.List.{length-replicate}
 use Rattle.std.proofs.lemmas.Bool.Decides.{nat_tests}
@@ -15,7 +15,7 @@ use Rattle.pe_resource.specs.Leaves.{TreeRefusal, NotData, leaf_of, name_units}
 use Rattle.pe_resource.specs.Leaves as trees
 use Rattle.pe_resource.specs.ResourceEntries.{has_name, name_offset, is_directory}
 use Rattle.pe_edit.specs.Written.{Key, Id, Name, Leaf, Each, total, name_size, name_bytes, key_number, KeyFits, LeafFits, padded_length, padded_size, data_entries, contents}
-use Rattle.pe_edit.specs.Reread.{LeafRefusal, of_image, key_by, read_key, read_content, leaf_with, read_leaf, read_item}
+use Rattle.pe_edit.specs.Reread.{of_image, key_by, read_key, read_content, leaf_with, read_leaf, read_item}
 use Rattle.pe_edit.proofs.Stands.{Stands, left, right, number, part, inside, moved, rest_of_number}
 
 -- ---- keys

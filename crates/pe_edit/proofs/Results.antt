@@ -1,14 +1,13 @@
 -- What the calls return, by the tests that leaves pass.
-use Rattle.std.proofs.Common.{◌≡◌, ℕ, ◌+◌, ◌≤◌, Bool, true, false, List, [], ◌∷◌, length, Result, Ok, Err, refl, ap, sym, ◌∙◌, arith}
+use Rattle.std.proofs.Common.{◌≡◌, ℕ, ◌+◌, Bool, true, false, List, [], ◌∷◌, length, Result, Ok, Err, refl, ap, sym, ◌∙◌, arith}
 use Rattle.std.specs.Prelude.{nat_le}
-use Rattle.pe_core.specs.Bytes.{holds, splice}
-use Rattle.pe_core.specs.Refusals.{Refusal, WriteFit, outcome, ◌>>=◌}
+use Rattle.pe_core.specs.Bytes.{splice}
+use Rattle.pe_core.specs.Refusals.{Refusal, WriteFit, outcome}
 use Rattle.pe_core.specs.Bytes.{fit_at}
-use Rattle.pe_edit.specs.declared.layout.Layout.{Layout}
 use Rattle.pe_edit.specs.declared.section.Measured.{Measured}
 use Rattle.pe_edit.specs.EditRefusals.{EditRefusal, Image, leaf_tests, length_of, section_of, written}
 use Rattle.pe_edit.specs.Levels.{measured_of}
-use Rattle.pe_edit.specs.Written.{Accepted, Leaf, layout_of, section, section_length}
+use Rattle.pe_edit.specs.Written.{Accepted, Leaf, section}
 use Rattle.pe_edit.proofs.SectionRead.{length_of_section}
 use Rattle.pe_edit.proofs.Tests.{Passes, passes, tests_pass}
 

@@ -1,7 +1,6 @@
 -- The runs of a list are the list.
 use Rattle.std.proofs.Common.{◌-◌, take, drop, get_or, ◌≡◌, ℕ, zero, suc, ◌+◌, ◌<◌, ◌≤◌, Bool, true, false, List, [], ◌∷◌, ◌++◌, length, if◌then◌else◌, refl, ap, sym, ◌∙◌, arith}
 use Rattle.std.specs.List.{flat_map}
-use Rattle.std.proofs.lemmas.Bool.{false≢true}
 use Rattle.std.proofs.lemmas.List.{drop_more, drop_all}
 use Rattle.pe_edit.specs.Runs.{elements, in_front, runs, run_length}
 use Rattle.pe_edit.specs.Written.{Each}

@@ -1,5 +1,5 @@
 -- The leaves of one entry, in a slice of leaves.
-use Rattle.std.proofs.Common.{◌≡◌, ℕ, zero, suc, ◌+◌, ◌-◌, ◌<◌, ◌≤◌, Bool, true, false, List, [], ◌∷◌, ◌++◌, length, take, drop, map, get_or, refl, ap, sym, ◌∙◌, subst, arith, length-drop}
+use Rattle.std.proofs.Common.{◌≡◌, ℕ, zero, suc, ◌+◌, ◌-◌, ◌<◌, ◌≤◌, Bool, true, false, List, [], ◌∷◌, ◌++◌, length, take, drop, get_or, refl, ap, sym, ◌∙◌, subst, arith, length-drop}
 use Rattle.std.proofs.lemmas.List.{drop_more, drop_all, drop-drop, length-map, length-take-le, take-map, take-append-drop}
 use Rattle.pe_edit.specs.declared.leaf.Resource.{Resource}
 use Rattle.pe_edit.specs.declared.leaf.ResourceKey.TheVariants as keys

@@ -1,18 +1,17 @@
 -- A section that is written is read: to the leaves that it was written of.
-use Rattle.std.proofs.Common.{◌≡◌, ℕ, zero, suc, ◌+◌, ◌-◌, ◌*◌, ◌/◌, ◌%◌, ◌^◌, ◌<◌, ◌≤◌, ◌==◌, Bool, true, false, List, [], ◌∷◌, ◌++◌, length, map, replicate, Result, Ok, Err, refl, ap, sym, ◌∙◌, subst, arith, length-append}
+use Rattle.std.proofs.Common.{◌≡◌, ℕ, ◌+◌, ◌-◌, ◌*◌, ◌<◌, ◌≤◌, List, [], ◌∷◌, ◌++◌, length, map, replicate, Ok, refl, ap, sym, ◌∙◌, subst, arith, length-append}
 use Rattle.std.specs.List.{flat_map}
 use Rattle.std.proofs.lemmas.List.{length-replicate}
 use Rattle.pe_core.specs.Bytes.{range, bytes_of}
 use Rattle.pe_core.specs.SectionMap.{rounded_up}
 use Rattle.pe_core.proofs.Splices.{length-bytes_of}
 use Rattle.pe_resource.specs.declared.entry.ResourceEntry.{ResourceEntry}
-use Rattle.pe_resource.specs.Directories.{directory_of, count}
 use Rattle.pe_resource.specs.Leaves.{tree_leaves}
 use Rattle.pe_resource.specs.ResourceEntries.{entries}
-use Rattle.pe_edit.specs.Runs.{elements, runs}
+use Rattle.pe_edit.specs.Runs.{elements}
 use Rattle.pe_edit.specs.declared.layout.Layout.{Layout}
-use Rattle.pe_edit.specs.Written.{Key, Leaf, Each, total, name_size, names, KeyFits, LeafFits, Fits, padded_size, entries_to, directory_to, type_key, name_key, types_of, resources_of, type_size, resource_size, below_size, names_size, type_tables, resource_tables, key_eq, same_type, data_entries, contents, layout_of, section_at, section, section_length}
-use Rattle.pe_edit.specs.Reread.{LeafRefusal, read_item, first_entries, leaves_in}
+use Rattle.pe_edit.specs.Written.{Leaf, Each, total, name_size, names, KeyFits, LeafFits, Fits, padded_size, entries_to, directory_to, type_key, name_key, types_of, resources_of, type_size, resource_size, below_size, names_size, type_tables, resource_tables, same_type, data_entries, contents, layout_of, section_at, section, section_length}
+use Rattle.pe_edit.specs.Reread.{read_item, first_entries, leaves_in}
 use Rattle.pe_edit.proofs.Nested.{names_of, names_in_types, tables_in_types, sum_in_types}
 use Rattle.pe_edit.proofs.Runs.{RunsAlike, runs_all, runs_alike, count_of_runs, each_weaker, each_first}
 use Rattle.pe_edit.proofs.Stands.{Stands, whole, left, right, moved}

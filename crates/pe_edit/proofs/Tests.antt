@@ -1,10 +1,10 @@
 -- What leaves have to pass, one after the other.
-use Rattle.std.proofs.Common.{◌≡◌, ℕ, zero, suc, ◌+◌, ◌-◌, ◌<◌, ◌≤◌, ◌&&◌, Bool, true, false, List, [], ◌∷◌, length, drop, get_or, Option, Some, None, Result, Ok, Err, ap, refl, sym, ◌∙◌, arith, length-drop}
+use Rattle.std.proofs.Common.{◌≡◌, ℕ, ◌+◌, ◌-◌, ◌<◌, ◌≤◌, ◌&&◌, Bool, true, false, List, [], ◌∷◌, length, drop, get_or, Option, Some, None, Result, Ok, Err, ap, refl, sym, ◌∙◌, arith, length-drop}
 use Rattle.std.specs.Prelude.{◌%◌, ◌==◌, if◌then◌else◌, nat_lt}
 use Rattle.std.specs.List.{list_all}
 use Rattle.std.proofs.lemmas.Bool.Decides.{nat_tests}
-use Rattle.std.proofs.lemmas.List.{drop_more, length-map}
-use Rattle.pe_core.specs.Refusals.{outcome, ◌>>=◌}
+use Rattle.std.proofs.lemmas.List.{length-map}
+use Rattle.pe_core.specs.Refusals.{outcome}
 use Rattle.pe_edit.specs.declared.layout.Layout.{Layout}
 use Rattle.pe_edit.specs.declared.leaf.Resource.{Resource}
 use Rattle.pe_edit.specs.declared.section.Measured.{Measured}
@@ -15,7 +15,7 @@ use Rattle.pe_edit.specs.Sorted.{is_sorted, leaf_before}
 use Rattle.pe_edit.specs.Views.{leaf_view, leaf_views}
 use Rattle.pe_edit.specs.Written.{Accepted, Each, Fits, Id, Key, KeyFits, Leaf, LeafFits, Name, NameFits, NamesFit, KeyNumber, Numbers, layout_of, name_fits, names_fit, padded_length, padded_size, section, section_length, total}
 use Rattle.pe_edit.proofs.Reading.{padded_more}
-use Rattle.pe_edit.proofs.RunsAt.{get_view, leaf_at, no_leaf_at}
+use Rattle.pe_edit.proofs.RunsAt.{leaf_at, no_leaf_at}
 
 -- ---- the tests of each leaf
 

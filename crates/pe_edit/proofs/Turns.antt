@@ -1,5 +1,5 @@
 -- One turn of each loop over the leaves of entries.
-use Rattle.std.proofs.Common.{◌≡◌, ℕ, ◌+◌, ◌≤◌, List, length, subst, sym}
+use Rattle.std.proofs.Common.{◌≡◌, ℕ, ◌+◌, List, length, subst, sym}
 use Rattle.std.proofs.lemmas.List.{length-map}
 use Rattle.std.proofs.Common.{◌++◌}
 use Rattle.pe_core.specs.Bytes.{bytes_of, splice}
@@ -7,9 +7,9 @@ use Rattle.pe_edit.specs.declared.directories.Cursor.{Cursor}
 use Rattle.pe_edit.specs.declared.leaf.Resource.{Resource}
 use Rattle.pe_edit.specs.declared.level.Level.{Level}
 use Rattle.pe_edit.specs.declared.level.Measure.{Measure}
-use Rattle.pe_edit.specs.Levels.{IsRunAt, above, after_directory, key_at, key_of_run, measure_of, runs_of, size_at, size_of_run}
+use Rattle.pe_edit.specs.Levels.{IsRunAt, above, after_directory, key_at, key_of_run, runs_of, size_at, size_of_run}
 use Rattle.pe_edit.specs.Views.{leaf_view, leaf_views}
-use Rattle.pe_edit.specs.Written.{Each, Key, Leaf, NameFits, NamesFit, directory_to, key_number, name_bytes, name_size, named}
+use Rattle.pe_edit.specs.Written.{Each, Key, NameFits, NamesFit, directory_to, key_number, name_bytes, name_size, named}
 use Rattle.pe_edit.proofs.DirectoryLoops.{DirectoriesWritten, more_directories_written}
 use Rattle.pe_edit.proofs.Entries.{EntriesWritten, Measured, NamesWritten, more_entries_written, more_measured, more_names_written}
 use Rattle.pe_edit.proofs.RunsAt.{run_key_fits}

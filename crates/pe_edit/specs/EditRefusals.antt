@@ -1,5 +1,5 @@
 -- What an error of written resources is, without its numbers and its text, and when each is returned.
-use Rattle.std.specs.Prelude.{◌≡◌, ℕ, ◌+◌, Bool, List, [], ◌∷◌, ◌&&◌, Result, Ok, Err, length, nat_le, nat_lt}
+use Rattle.std.specs.Prelude.{◌≡◌, ℕ, ◌+◌, Bool, List, [], ◌∷◌, Result, Ok, Err, length, nat_le, nat_lt}
 use Rattle.std.specs.List.{list_all}
 use Rattle.pe_core.specs.Bytes.{splice}
 use Rattle.pe_core.specs.Refusals.{Refusal, WriteFit, kind_of, outcome, ◌>>=◌}

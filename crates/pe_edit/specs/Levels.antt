@@ -1,12 +1,12 @@
 -- What the functions that write a section go by: levels of the tree, and what the entries of a directory come to.
-use Rattle.std.specs.Prelude.{◌≡◌, ℕ, ◌+◌, ◌*◌, ◌-◌, ◌<◌, ◌≤◌, ◌&&◌, Bool, true, false, Option, Some, None, List, [], ◌∷◌, ◌++◌, length, drop, nat_lt, if◌then◌else◌}
+use Rattle.std.specs.Prelude.{◌≡◌, ℕ, ◌+◌, ◌*◌, ◌<◌, ◌≤◌, Bool, false, Option, Some, None, List, [], ◌∷◌, ◌++◌, length, drop, nat_lt, if◌then◌else◌}
 use Rattle.pe_edit.specs.declared.directories.Cursor.{Cursor}
 use Rattle.pe_edit.specs.declared.level.Level.{Level}
 use Rattle.pe_edit.specs.declared.level.Level.TheVariants as levels
 use Rattle.pe_edit.specs.declared.level.Measure.{Measure}
 use Rattle.pe_edit.specs.declared.section.Measured.{Measured}
 use Rattle.pe_edit.specs.Runs.{elements, runs}
-use Rattle.pe_edit.specs.Written.{Key, Id, Leaf, directory_to, entries_to, entry_size, language_key, layout_of, name_key, name_size, named, padded_size, resource_size, same_resource, same_type, section_length, total, type_key, type_size}
+use Rattle.pe_edit.specs.Written.{Key, Id, Leaf, directory_to, entry_size, language_key, layout_of, name_key, name_size, named, padded_size, resource_size, same_resource, same_type, section_length, total, type_key, type_size}
 
 -- leaves that share an entry
 abbrev pub alike : Level → Leaf → Leaf → Bool

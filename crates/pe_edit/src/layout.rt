@@ -43,10 +43,12 @@ impl Layout {
         let of_types = Level::Types.measure(leaves);
         let of_names = Level::Names.measure(leaves);
         let types = SIZE_OF_DIRECTORY + SIZE_OF_ENTRY * of_types.entries;
-        let languages =
-            types + SIZE_OF_DIRECTORY * of_types.entries + SIZE_OF_ENTRY * of_names.entries;
-        let entries =
-            languages + SIZE_OF_DIRECTORY * of_names.entries + SIZE_OF_ENTRY * leaves.len();
+        let languages = types
+            + SIZE_OF_DIRECTORY * of_types.entries
+            + SIZE_OF_ENTRY * of_names.entries;
+        let entries = languages
+            + SIZE_OF_DIRECTORY * of_names.entries
+            + SIZE_OF_ENTRY * leaves.len();
         let type_names = entries + SIZE_OF_DATA_ENTRY * leaves.len();
         let names = type_names + of_types.names_size;
         let names_end = names + of_names.names_size;

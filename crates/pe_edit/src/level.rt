@@ -56,7 +56,8 @@ impl Level {
         match self {
             Level::Types => first.resource_type.is_same(&second.resource_type),
             Level::Names => {
-                first.resource_type.is_same(&second.resource_type) && first.name.is_same(&second.name)
+                first.resource_type.is_same(&second.resource_type)
+                    && first.name.is_same(&second.name)
             }
             Level::Languages => false,
         }

@@ -1,4 +1,4 @@
-use Rattle.std.proofs.Common.{◌≡◌, ◌+◌, ◌<◌, drop}
+use Rattle.std.proofs.Common.{◌≡◌, ◌+◌, drop}
 use Rattle.pe_edit.specs.Views.{leaf_views}
 use Rattle.pe_edit.specs.Written.{padded_size, total}
 use Rattle.pe_edit.proofs.layout.contents_end.Given as goal

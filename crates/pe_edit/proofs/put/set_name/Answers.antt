@@ -1,4 +1,4 @@
-use Rattle.std.proofs.Common.{◌≡◌, ℕ, ◌+◌, length, arith}
+use Rattle.std.proofs.Common.{◌≡◌, ◌+◌, length, arith}
 use Rattle.pe_edit.specs.Views.{key_view}
 use Rattle.pe_edit.specs.Written.{name_bytes}
 use Rattle.pe_edit.proofs.Contents.{named_length}
