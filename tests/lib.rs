@@ -66,6 +66,8 @@ mod resource_walks;
 #[cfg(test)]
 mod resources;
 #[cfg(test)]
+mod resources_written;
+#[cfg(test)]
 mod samples;
 #[cfg(test)]
 mod sections;

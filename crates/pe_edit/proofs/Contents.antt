@@ -1,0 +1,161 @@
+-- The loops over contents, data entries and names.
+use Rattle.std.proofs.Common.{◌≡◌, ℕ, ◌+◌, ◌-◌, ◌*◌, ◌/◌, ◌<◌, ◌≤◌, List, [], ◌∷◌, ◌++◌, length, drop, get_or, replicate, ap, sym, ◌∙◌, subst, arith, length-append}
+use Rattle.std.proofs.lemmas.List.{append_assoc, length-map, length-replicate}
+use Rattle.std.specs.Borrow.{Bor}
+use Rattle.pe_core.specs.Bytes.{bytes_of, splice}
+use Rattle.pe_core.proofs.Splices.{length-bytes_of, splice-splice}
+use Rattle.pe_edit.specs.declared.leaf.Resource.{Resource}
+use Rattle.pe_edit.specs.declared.leaf.ResourceKey.{ResourceKey}
+use Rattle.pe_edit.specs.declared.leaf.ResourceKey.TheVariants as keys
+use Rattle.pe_edit.specs.Views.{key_view, leaf_view, leaf_views}
+use Rattle.pe_edit.specs.Written.{Leaf, contents, data_entries, data_entry, name_bytes, padded_content, padded_length, padded_size, total}
+use Rattle.pe_edit.proofs.Reading.{padded_more}
+use Rattle.pe_edit.proofs.RunsAt.{leaf_at, no_leaf_at}
+use Rattle.pe_edit.proofs.SectionRead.{length-data_entries}
+use Rattle.pe_edit.proofs.Writing.{Written, all_written, more_written, nothing_written, room_for, splice_none}
+
+-- ---- contents
+
+-- a content and its zeros
+pub length_padded : (c : List ℕ) → length (padded_content c) ≡ padded_length (length c)
+length_padded c =
+    length-append c (replicate (padded_length (length c) - length c) 0)
+    ∙ omega (arith, length-replicate {A = ℕ} (padded_length (length c) - length c) 0, padded_more (length c))
+
+pub padded_parts : (b next last c : List ℕ) (p n : ℕ) → p + length (padded_content c) ≤ length b → n ≡ padded_length (length c) - length c → next ≡ splice b p c → last ≡ splice next (p + length c) (replicate n 0) → last ≡ splice b p (padded_content c)
+padded_parts b next last c p n h e f i =
+    i ∙ ap (λ (x : List ℕ). splice x (p + length c) (replicate n 0)) f
+    ∙ splice-splice b p c (replicate n 0) (omega (arith, h)) ∙ ap (λ (k : ℕ). splice b p (c ++ replicate k 0)) e
+
+contents_at : (xs : List Resource) (i : ℕ) (d : Resource) → i < length xs → contents (drop i (leaf_views xs)) ≡ padded_content (get_or xs i d).content.now ++ contents (drop (i + 1) (leaf_views xs))
+unfolding contents
+contents_at xs i d h = ap contents (leaf_at xs i d h)
+
+no_contents : (ys : List Leaf) → ys ≡ [] → contents ys ≡ []
+unfolding contents
+no_contents ys e = ap contents e
+
+-- the contents up to that with an index are written
+abbrev pub ContentsWritten : List ℕ → List ℕ → ℕ → ℕ → ℕ → List Resource → Type 0
+ContentsWritten old now at end i xs = Written old now at end (contents (leaf_views xs)) (contents (drop i (leaf_views xs)))
+
+pub content_room : (old now : List ℕ) (at end i : ℕ) (xs : List Resource) (d : Resource) → i < length xs → ContentsWritten old now at end i xs → end + length (padded_content (get_or xs i d).content.now) ≤ length now
+content_room old now at end i xs d h w =
+    room_for old now at end (contents (leaf_views xs)) (padded_content (get_or xs i d).content.now) (contents (drop (i + 1) (leaf_views xs)))
+    (subst (λ (r : List ℕ). Written old now at end (contents (leaf_views xs)) r) (contents_at xs i d h) w)
+
+pub content_more : (old now next : List ℕ) (at end after i : ℕ) (xs : List Resource) (d : Resource) → i < length xs → ContentsWritten old now at end i xs →
+    next ≡ splice now end (padded_content (get_or xs i d).content.now) → after ≡ end + length (padded_content (get_or xs i d).content.now) → ContentsWritten old next at after (i + 1) xs
+content_more old now next at end after i xs d h w e f =
+    more_written old now next at end after (contents (leaf_views xs)) (padded_content (get_or xs i d).content.now) (contents (drop (i + 1) (leaf_views xs)))
+    (subst (λ (r : List ℕ). Written old now at end (contents (leaf_views xs)) r) (contents_at xs i d h) w) e f
+
+pub all_contents_written : (old now : List ℕ) (at end i : ℕ) (xs : List Resource) → length xs ≤ i → ContentsWritten old now at end i xs → now ≡ splice old at (contents (leaf_views xs))
+all_contents_written old now at end i xs h w =
+    all_written old now at end (contents (leaf_views xs)) (contents (drop i (leaf_views xs))) (no_contents (drop i (leaf_views xs)) (no_leaf_at xs i h)) w
+
+-- ---- data entries
+
+-- four numbers, one after the other
+pub four_numbers : (b b1 b2 b3 b4 : List ℕ) (p a n g : ℕ) → p + 16 ≤ length b → b1 ≡ splice b p (bytes_of 4 a) → b2 ≡ splice b1 (p + 4) (bytes_of 4 n) → b3 ≡ splice b2 (p + 8) (bytes_of 4 g) → b4 ≡ splice b3 (p + 12) (bytes_of 4 0) → b4 ≡ splice b p (data_entry a n g)
+four_numbers b b1 b2 b3 b4 p a n g h e f i j =
+    let s : List ℕ = bytes_of 4 a in
+    let t : List ℕ = bytes_of 4 n in
+    let u : List ℕ = bytes_of 4 g in
+    let v : List ℕ = bytes_of 4 0 in
+    let one : p + 4 ≡ p + length s = omega (arith, length-bytes_of 4 a) in
+    let two : p + 8 ≡ p + length (s ++ t) = omega (arith, length-append s t, length-bytes_of 4 a, length-bytes_of 4 n) in
+    let three : p + 12 ≡ p + length ((s ++ t) ++ u) = omega (arith, length-append (s ++ t) u, length-append s t, length-bytes_of 4 a, length-bytes_of 4 n, length-bytes_of 4 g) in
+    let low : p ≤ length b = omega (arith, h) in
+    let x2 : b2 ≡ splice b p (s ++ t) = f ∙ ap (λ (x : List ℕ). splice x (p + 4) t) e ∙ ap (λ (k : ℕ). splice (splice b p s) k t) one ∙ splice-splice b p s t low in
+    let x3 : b3 ≡ splice b p ((s ++ t) ++ u) = i ∙ ap (λ (x : List ℕ). splice x (p + 8) u) x2 ∙ ap (λ (k : ℕ). splice (splice b p (s ++ t)) k u) two ∙ splice-splice b p (s ++ t) u low in
+    j ∙ ap (λ (x : List ℕ). splice x (p + 12) v) x3 ∙ ap (λ (k : ℕ). splice (splice b p ((s ++ t) ++ u)) k v) three ∙ splice-splice b p ((s ++ t) ++ u) v low
+    ∙ ap (splice b p) (append_assoc (s ++ t) u v ∙ append_assoc s t (u ++ v))
+
+length-data_entry : (a n g : ℕ) → length (data_entry a n g) ≡ 16
+length-data_entry a n g =
+    length-append (bytes_of 4 a) (bytes_of 4 n ++ (bytes_of 4 g ++ bytes_of 4 0))
+    ∙ omega (arith, length-append (bytes_of 4 n) (bytes_of 4 g ++ bytes_of 4 0), length-append (bytes_of 4 g) (bytes_of 4 0), length-bytes_of 4 a, length-bytes_of 4 n, length-bytes_of 4 g, length-bytes_of 4 0)
+
+entries_cons : (a : ℕ) (x : Leaf) (xs : List Leaf) → data_entries a (x ∷ xs) ≡ data_entry a (length x.content) x.code_page ++ data_entries (a + padded_size x) xs
+unfolding data_entries
+entries_cons a x xs =
+    let s : List ℕ = bytes_of 4 a in
+    let t : List ℕ = bytes_of 4 (length x.content) in
+    let u : List ℕ = bytes_of 4 x.code_page in
+    let v : List ℕ = bytes_of 4 0 in
+    let rest : List ℕ = data_entries (a + padded_size x) xs in
+    sym (append_assoc s (t ++ (u ++ v)) rest ∙ ap (λ (l : List ℕ). s ++ l) (append_assoc t (u ++ v) rest ∙ ap (λ (l : List ℕ). t ++ l) (append_assoc u v rest)))
+
+-- the data entries up to that with an index are written; its content is at the RVA a
+pub record DataWritten (old now : List ℕ) (at end first a i : ℕ) (xs : List Resource) : Type 0 where
+  pub written : Written old now at end (data_entries first (leaf_views xs)) (data_entries a (drop i (leaf_views xs)))
+  pub sum : a + total padded_size (drop i (leaf_views xs)) < 4294967296
+
+pub no_data_written : (old : List ℕ) (at first : ℕ) (xs : List Resource) → at + 16 * length xs ≤ length old → first + total padded_size (leaf_views xs) < 4294967296 → DataWritten old old at at first first 0 xs
+no_data_written old at first xs h f = record {
+  written = nothing_written old at (data_entries first (leaf_views xs)) (omega (arith, h, length-data_entries first (leaf_views xs), length-map xs leaf_view));
+  sum = f;
+}
+
+sum_at : (xs : List Resource) (i : ℕ) (d : Resource) → i < length xs → total padded_size (drop i (leaf_views xs)) ≡ padded_length (length (get_or xs i d).content.now) + total padded_size (drop (i + 1) (leaf_views xs))
+unfolding total
+sum_at xs i d h = ap (total padded_size) (leaf_at xs i d h)
+
+pub data_small : (old now : List ℕ) (at end first a i : ℕ) (xs : List Resource) (d : Resource) → i < length xs → DataWritten old now at end first a i xs → a + padded_length (length (get_or xs i d).content.now) < 4294967296
+data_small old now at end first a i xs d h w = omega (arith, w.sum, sum_at xs i d h)
+
+pub size_small : (old now : List ℕ) (at end first a i : ℕ) (xs : List Resource) (d : Resource) → i < length xs → DataWritten old now at end first a i xs → length (get_or xs i d).content.now < 4294967296
+size_small old now at end first a i xs d h w = omega (arith, data_small old now at end first a i xs d h w, padded_more (length (get_or xs i d).content.now))
+
+data_rest : (old now : List ℕ) (at end first a i : ℕ) (xs : List Resource) (d : Resource) → i < length xs → DataWritten old now at end first a i xs →
+    Written old now at end (data_entries first (leaf_views xs)) (data_entry a (length (get_or xs i d).content.now) (get_or xs i d).code_page ++ data_entries (a + padded_length (length (get_or xs i d).content.now)) (drop (i + 1) (leaf_views xs)))
+data_rest old now at end first a i xs d h w =
+    subst (λ (r : List ℕ). Written old now at end (data_entries first (leaf_views xs)) r) (ap (data_entries a) (leaf_at xs i d h) ∙ entries_cons a (leaf_view (get_or xs i d)) (drop (i + 1) (leaf_views xs))) w.written
+
+pub data_room : (old now : List ℕ) (at end first a i : ℕ) (xs : List Resource) (d : Resource) → i < length xs → DataWritten old now at end first a i xs → end + 16 ≤ length now
+data_room old now at end first a i xs d h w =
+    let x : List ℕ = data_entry a (length (get_or xs i d).content.now) (get_or xs i d).code_page in
+    let room : end + length x ≤ length now = room_for old now at end (data_entries first (leaf_views xs)) x (data_entries (a + padded_length (length (get_or xs i d).content.now)) (drop (i + 1) (leaf_views xs))) (data_rest old now at end first a i xs d h w) in
+    omega (arith, room, length-data_entry a (length (get_or xs i d).content.now) (get_or xs i d).code_page)
+
+pub data_more : (old now next : List ℕ) (at end first a i : ℕ) (xs : List Resource) (d : Resource) (after to n g : ℕ) → i < length xs → DataWritten old now at end first a i xs →
+    n ≡ length (get_or xs i d).content.now → g ≡ (get_or xs i d).code_page → next ≡ splice now end (data_entry a n g) → to ≡ a + padded_length n → after ≡ end + 16 →
+    DataWritten old next at after first to (i + 1) xs
+data_more old now next at end first a i xs d after to n g h w en eg is et ea =
+    let m : ℕ = length (get_or xs i d).content.now in
+    let k : ℕ = (get_or xs i d).code_page in
+    let same : data_entry a n g ≡ data_entry a m k = ap (λ (j : ℕ). data_entry a j g) en ∙ ap (λ (j : ℕ). data_entry a m j) eg in
+    let place : to ≡ a + padded_length m = et ∙ ap (λ (j : ℕ). a + padded_length j) en in
+    record {
+      written = subst (λ (j : ℕ). Written old next at after (data_entries first (leaf_views xs)) (data_entries j (drop (i + 1) (leaf_views xs)))) (sym place)
+          (more_written old now next at end after (data_entries first (leaf_views xs)) (data_entry a m k) (data_entries (a + padded_length m) (drop (i + 1) (leaf_views xs))) (data_rest old now at end first a i xs d h w)
+          (is ∙ ap (splice now end) same) (omega (arith, ea, length-data_entry a m k)));
+      sum = omega (arith, w.sum, sum_at xs i d h, place);
+    }
+
+no_entries : (a : ℕ) (ys : List Leaf) → ys ≡ [] → data_entries a ys ≡ []
+unfolding data_entries
+no_entries a ys e = ap (data_entries a) e
+
+pub all_data_written : (old now : List ℕ) (at end first a i : ℕ) (xs : List Resource) → length xs ≤ i → DataWritten old now at end first a i xs → now ≡ splice old at (data_entries first (leaf_views xs))
+all_data_written old now at end first a i xs h w =
+    all_written old now at end (data_entries first (leaf_views xs)) (data_entries a (drop i (leaf_views xs))) (no_entries a (drop i (leaf_views xs)) (no_leaf_at xs i h)) w.written
+
+-- ---- names
+
+-- the number of the code units of a name, and the units
+pub name_parts : (b next last u : List ℕ) (p n : ℕ) → p + length (bytes_of 2 (length u / 2) ++ u) ≤ length b → n ≡ length u / 2 → next ≡ splice b p (bytes_of 2 n) → last ≡ splice next (p + 2) u → last ≡ splice b p (bytes_of 2 (length u / 2) ++ u)
+name_parts b next last u p n h e f g =
+    let two : p + 2 ≡ p + length (bytes_of 2 n) = omega (arith, length-bytes_of 2 n) in
+    g ∙ ap (λ (x : List ℕ). splice x (p + 2) u) f ∙ ap (λ (k : ℕ). splice (splice b p (bytes_of 2 n)) k u) two
+    ∙ splice-splice b p (bytes_of 2 n) u (omega (arith, h)) ∙ ap (λ (k : ℕ). splice b p (bytes_of 2 k ++ u)) e
+
+name_length : (u : List ℕ) → length (bytes_of 2 (length u / 2) ++ u) ≡ 2 + length u
+name_length u = length-append (bytes_of 2 (length u / 2)) u ∙ omega (arith, length-bytes_of 2 (length u / 2))
+
+pub no_name : (b : List ℕ) (p : ℕ) → p + 0 ≤ length b → b ≡ splice b p []
+no_name b p h = sym (splice_none b p (omega (arith, h)))
+
+pub named_length : (key : ResourceKey) (u : Bor (List ℕ)) → key ≡ keys.Name u → length (name_bytes (key_view key)) ≡ 2 + length u.now
+named_length key u e = ap (λ (k : ResourceKey). length (name_bytes (key_view k))) e ∙ name_length u.now

@@ -1,0 +1,12 @@
+use Rattle.std.proofs.Common.{◌-◌, length}
+use Rattle.pe_edit.specs.Levels.{alike}
+use Rattle.pe_edit.specs.Views.{leaf_views}
+use Rattle.pe_edit.proofs.Runs.{Counts}
+use Rattle.pe_edit.proofs.level.Level.first_run.Given as goal
+
+-- the leaves so far share an entry
+abbrev pub invariant-loop-n : goal.invariant-loop-n
+invariant-loop-n l = Counts (alike l.self) (leaf_views l.leaves) l.n
+
+abbrev pub decreases-loop-n : goal.decreases-loop-n
+decreases-loop-n l = length l.leaves - l.n

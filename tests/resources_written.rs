@@ -1,0 +1,279 @@
+//! Resource sections that are written: their bytes, numbers in refusals, and contents that are empty. The bytes follow from
+//! Microsoft's page, the order of the parts from the definition.
+
+use crate::images::image;
+use crate::resources::flat;
+use pe_core::{DataDirectory, Error, ParseMode, Reason};
+use pe_edit::{EditError, Resource, ResourceKey, section_len, write_section};
+use pe_resource::ResourceData;
+use std::alloc::Global;
+use std::test::Fail;
+
+/// The RVA of the sections.
+const RVA: u32 = 0x3000;
+
+/// What a byte of a buffer is before a call.
+const OLD: u8 = 0xAA;
+
+/// A resource with ids and no code page.
+fn resource(kind: u16, name: u16, language: u16, content: &[u8]) -> Resource<'_> {
+    Resource {
+        resource_type: ResourceKey::Id(kind),
+        name: ResourceKey::Id(name),
+        language,
+        code_page: 0,
+        content,
+    }
+}
+
+/// A type with a name, of which one resource has two languages, the second with an empty content; and the type 3 with a
+/// resource that has a name.
+fn three_leaves() -> [Resource<'static>; 3] {
+    let first = Resource {
+        resource_type: ResourceKey::Name(b"A\0B\0"),
+        name: ResourceKey::Id(1),
+        language: 0x407,
+        code_page: 1252,
+        content: b"abcde",
+    };
+    let second = Resource {
+        language: 0x409,
+        code_page: 0,
+        content: b"",
+        ..first
+    };
+    let third = Resource {
+        resource_type: ResourceKey::Id(3),
+        name: ResourceKey::Name(b"C\0"),
+        language: 0,
+        code_page: 0,
+        content: b"0123456789",
+    };
+    [first, second, third]
+}
+
+/// The error of leaves without a section, the same by both calls; the buffer stays as it was.
+fn refused(alloc: Global, leaves: &[Resource<'_>]) -> Result<String, Fail> {
+    let mut out = [OLD; 16];
+    let Err(error) = write_section(leaves, RVA, &mut out) else {
+        return Err("a section is written".into());
+    };
+    if out != [OLD; 16] {
+        return Err("the buffer has changed".into());
+    }
+    let Err(same) = section_len(leaves, RVA) else {
+        return Err("a section has a length".into());
+    };
+    let shown = format!(in alloc; "{error:?}")?;
+    if shown != format!(in alloc; "{same:?}")? {
+        return Err("the calls return two errors".into());
+    }
+    Ok(shown)
+}
+
+#[test]
+fn bytes_of_a_section(rt: HostRuntime) -> Result<(), Fail> {
+    let expected = image(
+        rt.alloc(),
+        0xE8,
+        &[
+            // The directory of the types, those of the resources, those of the languages.
+            (0x0C, &[1, 0, 1, 0]),
+            (0x10, &[0xB8, 0, 0, 0x80, 0x20, 0, 0, 0x80]),
+            (0x18, &[3, 0, 0, 0, 0x38, 0, 0, 0x80]),
+            (0x2E, &[1, 0]),
+            (0x30, &[1, 0, 0, 0, 0x50, 0, 0, 0x80]),
+            (0x44, &[1, 0]),
+            (0x48, &[0xBE, 0, 0, 0x80, 0x70, 0, 0, 0x80]),
+            (0x5E, &[2, 0]),
+            (0x60, &[0x07, 0x04, 0, 0, 0x88, 0, 0, 0]),
+            (0x68, &[0x09, 0x04, 0, 0, 0x98, 0, 0, 0]),
+            (0x7E, &[1, 0]),
+            (0x80, &[0, 0, 0, 0, 0xA8, 0, 0, 0]),
+            // The data entries, the names, the contents.
+            (0x88, &[0xC8, 0x30, 0, 0, 5, 0, 0, 0, 0xE4, 0x04]),
+            (0x98, &[0xD0, 0x30]),
+            (0xA8, &[0xD8, 0x30, 0, 0, 10]),
+            (0xB8, b"\x02\0A\0B\0"),
+            (0xBE, b"\x01\0C\0"),
+            (0xC8, b"abcde"),
+            (0xD8, b"0123456789"),
+        ],
+    )?;
+    let mut out = vec![in rt.alloc(); OLD; 0xEA]?;
+    assert_eq!(rt; section_len(&three_leaves(), RVA)?, 0xE8);
+    assert_eq!(rt; write_section(&three_leaves(), RVA, &mut out)?, 0xE8);
+    assert_eq!(rt; &out[..0xE8], &expected[..]);
+    assert_eq!(rt; &out[0xE8..], [OLD; 2].as_slice());
+    Ok(())
+}
+
+/// A section without leaves is one directory without entries.
+#[test]
+fn no_leaves(rt: HostRuntime) -> Result<(), Fail> {
+    let mut out = [OLD; 17];
+    assert_eq!(rt; write_section(&[], RVA, &mut out)?, 16);
+    assert_eq!(rt; &out[..16], [0; 16].as_slice());
+    assert_eq!(rt; out[16], OLD);
+    Ok(())
+}
+
+/// The content of the last leaf is empty, and the section ends with its eight zeros: its RVA is mapped.
+#[test]
+fn an_empty_last_content_is_mapped(rt: HostRuntime) -> Result<(), Fail> {
+    let leaves = [resource(10, 1, 0, b"")];
+    let mut out = [OLD; 0x60];
+    let length = write_section(&leaves, 0, &mut out)?;
+    assert_eq!(rt; length, 0x60);
+    let directory = DataDirectory {
+        virtual_address: 0,
+        size: length as u32,
+    };
+    let opts = flat(ParseMode::Strict);
+    let mut walk = ResourceData::leaves(&out, directory, &[], 0, &opts)?;
+    let Some(Ok(leaf)) = walk.next() else {
+        return Err("no leaf".into());
+    };
+    assert_eq!(rt; leaf.data_entry.offset_to_data, 0x58);
+    assert_eq!(rt; leaf.data_entry.size, 0);
+    Ok(())
+}
+
+#[test]
+fn a_buffer_that_is_too_small(rt: HostRuntime) -> Result<(), Fail> {
+    let mut out = [OLD; 0xE7];
+    let Err(EditError::Image(Error::Malformed(Reason::WriteFit { end, length }))) =
+        write_section(&three_leaves(), RVA, &mut out)
+    else {
+        return Err("no refusal".into());
+    };
+    assert_eq!(rt; (end, length), (0xE8, 0xE7));
+    assert_eq!(rt; out, [OLD; 0xE7]);
+    Ok(())
+}
+
+#[test]
+fn numbers_in_refusals(rt: HostRuntime) -> Result<(), Fail> {
+    let [first, second, third] = three_leaves();
+    let odd = Resource {
+        name: ResourceKey::Name(b"C\0D"),
+        ..third
+    };
+    let named = Resource {
+        name: ResourceKey::Name(b"B\x01"),
+        ..third
+    };
+    let before = Resource {
+        name: ResourceKey::Name(b"C\0"),
+        ..third
+    };
+    for (leaves, text) in [
+        (&[first, second, odd][..], "Name(2)"),
+        (&[first, second, third, second][..], "Order(3)"),
+        (&[first, second, second][..], "Order(2)"),
+        (&[second, first][..], "Order(1)"),
+        (&[first, named, before][..], "Order(2)"),
+        (&[resource(3, 1, 0, b""), resource(3, 1, 0, b"x")][..], "Order(1)"),
+        (&[resource(3, 2, 0, b""), resource(3, 1, 1, b"x")][..], "Order(1)"),
+        (&[third, first][..], "Order(1)"),
+    ] {
+        let shown = refused(rt.alloc(), leaves)?;
+    assert_eq!(rt; shown.as_str(), text);
+    }
+    Ok(())
+}
+
+#[test]
+fn texts_of_refusals(rt: HostRuntime) -> Result<(), Fail> {
+    for (error, text) in [
+        (EditError::TooMany(65_536), "65536 resources, more than 65,535"),
+        (
+            EditError::Name(7),
+            "type or name of resource 7 has an odd number of bytes, or more than 65,535 code units",
+        ),
+        (EditError::Order(7), "resource 7 is not sorted after the one before it"),
+        (
+            EditError::TablesTooLarge(0x8000_0010),
+            "directories and names of the resources have 0x80000010 bytes, 0x80000000 or more",
+        ),
+        (
+            EditError::TooLarge,
+            "resource section ends at the RVA 0x100000000 or after it",
+        ),
+    ] {
+        let shown = format!(in rt.alloc(); "{error}")?;
+        assert_eq!(rt; shown.as_str(), text);
+    }
+    Ok(())
+}
+
+/// 65,535 leaves are written, and read; one more is refused.
+#[test]
+fn as_many_leaves_as_there_are_types(rt: HostRuntime) -> Result<(), Fail> {
+    let mut leaves = Vec::new(rt.alloc());
+    for kind in 0..=65_535u32 {
+        leaves.push(resource(kind as u16, 1, 0, b""))?;
+    }
+    let shown = refused(rt.alloc(), &leaves)?;
+    assert_eq!(rt; shown.as_str(), "TooMany(65536)");
+    let length = section_len(&leaves[1..], 0)?;
+    // A directory of types, and for each type two directories of one entry, a data entry and eight zeros.
+    assert_eq!(rt; length, 16 + 65_535 * (8 + 24 + 24 + 16 + 8));
+    let mut out = vec![in rt.alloc(); OLD; length]?;
+    assert_eq!(rt; write_section(&leaves[1..], 0, &mut out)?, length);
+    let directory = DataDirectory {
+        virtual_address: 0,
+        size: length as u32,
+    };
+    let opts = flat(ParseMode::Strict);
+    let mut count = 0u32;
+    for item in ResourceData::leaves(&out, directory, &[], 0, &opts)? {
+        let Ok(leaf) = item else {
+            return Err("an item is an error".into());
+        };
+        count += 1;
+        assert_eq!(rt; leaf.resource_type.id(), Some(count as u16));
+    }
+    assert_eq!(rt; count, 65_535);
+    Ok(())
+}
+
+/// The names of 16,384 types have 65,535 code units each, which end at 2 GB.
+#[test]
+fn names_of_two_gigabytes(rt: HostRuntime) -> Result<(), Fail> {
+    let mut units = Vec::new(rt.alloc());
+    for unit in 0..81_919u32 {
+        units.push(unit as u8)?;
+        units.push((unit >> 8) as u8)?;
+    }
+    let mut leaves = Vec::new(rt.alloc());
+    for index in 0..16_384 {
+        leaves.push(Resource {
+            resource_type: ResourceKey::Name(&units[2 * index..2 * index + 131_070]),
+            ..resource(1, 1, 0, b"")
+        })?;
+    }
+    let shown = refused(rt.alloc(), &leaves)?;
+    let size = 16 + 16_384 * (8 + 24 + 24 + 16 + 131_072);
+    let text = format!(in rt.alloc(); "TablesTooLarge({size})")?;
+        assert_eq!(rt; shown.as_str(), text.as_str());
+    Ok(())
+}
+
+/// 256 contents of 16 MB each, the same bytes: with the directories the section ends after 4 GB.
+#[test]
+fn contents_of_four_gigabytes(rt: HostRuntime) -> Result<(), Fail> {
+    let content = vec![in rt.alloc(); 0u8; 1 << 24]?;
+    let mut leaves = Vec::new(rt.alloc());
+    for name in 0..256u32 {
+        leaves.push(resource(10, name as u16, 0, &content))?;
+    }
+    let shown = refused(rt.alloc(), &leaves)?;
+    assert_eq!(rt; shown.as_str(), "TooLarge");
+    // 255 of them fit at this RVA, and not at one that is 4 GB less 255 contents.
+    assert_eq!(rt; section_len(&leaves[1..], RVA)?, 255 * (1 << 24) + 16 + 8 + 16 + 255 * (8 + 24 + 16));
+    let Err(EditError::TooLarge) = section_len(&leaves[1..], 1 << 24) else {
+        return Err("a section that ends after 4 GB has a length".into());
+    };
+    Ok(())
+}
