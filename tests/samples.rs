@@ -128,26 +128,38 @@ fn walk_of(
     Ok(frames.ok_or("one module ascends")?)
 }
 
-/// Both functions push rbp in their first byte and make room for 40 bytes. A call at the end of the first one returns to
-/// 0x1010, where no function is.
+/// Both functions push rbp in their first byte and make room for 40 bytes. A call in the one at 0x1020 ends at 0x1038; that at the
+/// end of the other one returns to 0x1060, where no function is.
 #[test]
 fn walks_a_stack(rt: HostRuntime) -> Result<(), Fail> {
     let alloc = rt.alloc();
     let mut bytes = with_functions(alloc)?;
-    // The size of the image.
-    put(&mut bytes, &[(0x90, &[0, 0x30])]);
+    // The size of the image; the functions, whose record is at 0x1020; and their calls.
+    let functions = [
+        0x20, 0x10, 0, 0, 0x40, 0x10, 0, 0, 0x20, 0x10, 0, 0, 0x50, 0x10, 0, 0, 0x60, 0x10, 0, 0,
+        0x20, 0x10, 0, 0,
+    ];
+    put(
+        &mut bytes,
+        &[
+            (0x90, &[0, 0x30]),
+            (0x200, &functions),
+            (0x233, &[0xE8]),
+            (0x25B, &[0xE8]),
+        ],
+    );
     let base = 0x1_4000_0000;
     let outside = 0x7FF6_0000_1234;
     let mut stack_bytes = Vec::new(alloc);
     for word in [
-        base + 0x1024,
+        base + 0x1038,
         0,
         0,
         0,
         0,
         0,
         0xB0,
-        base + 0x1010,
+        base + 0x1060,
         0,
         0,
         0,
@@ -162,14 +174,14 @@ fn walks_a_stack(rt: HostRuntime) -> Result<(), Fail> {
         start: 0x8000,
         bytes: &stack_bytes,
     };
-    // A leaf that the second function called, which the first one called.
+    // A leaf that the first function called, which the second one called.
     let mut registers = Registers {
         general: [0; 16],
         xmm: [0; 16],
         rip: base + 0x1018,
     };
     registers.general[4] = 0x8000;
-    let all = [base + 0x1018, base + 0x1024, base + 0x1010, outside];
+    let all = [base + 0x1018, base + 0x1038, base + 0x1060, outside];
     for most in [0, 1, 3, 4, 9] {
         let frames = walk_of(alloc, &bytes, base, registers, &stack, most)?;
         assert!(rt; frames.as_slice() == &all[..usize::min(most, 4)]);

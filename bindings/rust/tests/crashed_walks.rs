@@ -60,13 +60,12 @@ fn walk(characteristics: u32, rip: u64, rsp: u64, words: &[u64]) -> (Vec<Found>,
     let stack = Stack { start: STACK, bytes: &bytes };
     let mut frames = Frames::new(registers, 100, module, |_| Some(stack));
     let one = (frames.by_ref().map(found).collect(), frames.end().unwrap());
-    let half = bytes.len() as u64 / 2 + 1;
+    let half = bytes.len() as u64 / 2;
     let pieces = [
         MemoryPiece { start: STACK + half, offset: half, length: bytes.len() as u64 - half },
         MemoryPiece { start: STACK, offset: 0, length: half },
     ];
-    let pieces = if bytes.is_empty() { &[][..] } else { &pieces };
-    let mut frames = Frames::over(registers, 100, module, MemoryList::new(&bytes, pieces).unwrap());
+    let mut frames = Frames::over(registers, 100, module, MemoryList::new(&bytes, &pieces).unwrap());
     assert_eq!((frames.by_ref().map(found).collect(), frames.end().unwrap()), one);
     one
 }
