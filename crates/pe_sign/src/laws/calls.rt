@@ -1,0 +1,42 @@
+//! Laws of calls, for a program that proves facts of its own: each takes the values that the calls took and returned, and
+//! requires no more than what their contracts say, so `search` finds it at the calls. They do nothing when they run.
+
+ghost use Rattle.std.specs.Prelude.{◌≡◌, ◌≤◌, Ok};
+ghost use Rattle.pe_core.specs.Directories.{absent_directory};
+ghost use Rattle.pe_core.specs.Header.{HeaderView, header_at, header_view};
+ghost use Rattle.pe_core.specs.Sections.{sections_offset};
+ghost use Rattle.pe_sign.specs.Attaching.{attached_of, before_table, detached_of, with_both_fields};
+ghost use Rattle.pe_sign.specs.Digest.{left_out_of};
+ghost use Rattle.pe_sign.specs.WrittenHeaders.{directories_end};
+ghost use Rattle.pe_sign.specs.declared.digest.LeftOut.{LeftOut};
+
+use crate::attachment::Placement;
+use pe_core::{Header, ParseMode};
+
+/// A call of `attach`: what it took, and the file that it wrote.
+#[derive(Clone, Copy)]
+pub struct Attachment<'a> {
+    /// The file of the image.
+    pub bytes: &'a [u8],
+    /// Its headers.
+    pub header: &'a Header<'a>,
+    /// The certificate.
+    pub certificate: &'a [u8],
+    /// Where it is attached.
+    pub placement: Placement,
+    /// The first bytes of the buffer, as many as `attach` returned.
+    pub file: &'a [u8],
+}
+
+/// `detach` takes off what `attach` wrote, by the headers that are parsed of it, and leaves the image as it was, but for zeros
+/// at its end, the entry and the checksum, without its certificates.
+pub fn attached_is_detached(call: Attachment<'_>, mode: ParseMode, read: &Header<'_>)
+    requires parsed { header_at call.bytes.now mode ≡ Ok (header_view call.header.now) }
+    requires attached { attached_of call.placement call.bytes.now (header_view call.header.now)
+        call.certificate.now ≡ Ok call.file.now }
+    requires again { header_at call.file.now mode ≡ Ok (header_view read.now) }
+    ensures { (h : HeaderView) (l : LeftOut) → header_at call.entry.bytes.now mode ≡ Ok h →
+        left_out_of h ≡ Ok l → directories_end h ≤ sections_offset h →
+        detached_of call.entry.file.now (header_view read.now)
+        ≡ Ok (with_both_fields l absent_directory (before_table call.entry.placement l call.entry.bytes.now)) }
+{}
