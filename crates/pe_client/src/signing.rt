@@ -19,7 +19,8 @@ ghost use Rattle.pe_sign.specs.declared.digest.LeftOut.{LeftOut};
 
 use pe_image::{Header, ParseMode, ParseOptions};
 use pe_sign::laws::calls::{
-    Attachment, attached_is_detached, checksum_is_good, digest_stays, unsigned_image_comes_back,
+    Attachment, attached_is_detached, checksum_is_good, digest_stays, ranges_are_slices,
+    unsigned_image_comes_back,
 };
 use pe_sign::{
     AuthenticodeRanges, DigestRanges, Placement, SignError, attach, authenticode_ranges, detach,
@@ -95,10 +96,10 @@ pub fn digests_of_both<'a>(
     ensures { IfOk result (λ r. covered_bytes (ranges_view r.1) ≡ covered_bytes (ranges_view r.0)) }
 {
     let read = Header::parse_with_opts(call.file, &ParseOptions::default())?;
-    digest_stays(call, ParseMode::Strict, &read);
-    let before = authenticode_ranges(call.bytes, call.header)?;
-    let after = authenticode_ranges(call.file, &read)?;
-    Ok((before, after))
+    let old = authenticode_ranges(call.bytes, call.header)?;
+    let new = authenticode_ranges(call.file, &read)?;
+    digest_stays(call, ParseMode::Strict, &read, old, new);
+    Ok((old, new))
 }
 
 /// Attaches a certificate after the others: in the file with it, the field of the checksum is the checksum.
@@ -132,9 +133,9 @@ pub fn slices_and_ranges<'a>(
     ensures { IfOk result (λ r. (flat_map (bytes_in bytes.entry.now) r.1.ranges
         ≡ (ranges_view r.0).content) × (r.1.zeros ≡ r.0.zeros)) }
 {
-    pe_sign::laws::ranges_are_what_a_digest_covers();
     let slices = authenticode_ranges(bytes, header)?;
     let ranges = digest_ranges(bytes, header)?;
+    ranges_are_slices(bytes, header, slices, ranges);
     Ok((slices, ranges))
 }
 

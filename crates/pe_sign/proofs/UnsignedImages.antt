@@ -1,11 +1,11 @@
 -- An unsigned image comes back once what was attached to it is detached.
-use Rattle.std.proofs.Common.{rules, ◌≡◌, ℕ, ◌+◌, ◌-◌, ◌*◌, ◌%◌, ◌<◌, ◌≤◌, ◌==◌, ◌&&◌, Bool, true, false, List, [], ◌++◌, length, take, replicate, Ok, Some, None, refl, ap, sym, ◌∙◌, subst, arith}
+use Rattle.std.proofs.Common.{rules, ◌≡◌, ℕ, ◌+◌, ◌*◌, ◌%◌, ◌<◌, ◌≤◌, ◌==◌, ◌&&◌, Bool, true, false, List, length, take, Ok, Some, None, refl, ap, sym, ◌∙◌, subst, arith}
 use Rattle.std.specs.Prelude.{not, nat_lt, slice_index_or, slice_range, if◌then◌else◌}
 use Rattle.std.proofs.lemmas.Bool.Decides.{nat_tests}
 use Rattle.std.proofs.Math.Seq.{take-length}
 use Rattle.std.proofs.lemmas.List.{append-nil, places, same_lists}
 use Rattle.pe_core.specs.Bytes.{AreBytes, le, bytes_of, splice}
-use Rattle.pe_core.specs.Directories.{absent_directory, directories, kept, present}
+use Rattle.pe_core.specs.Directories.{absent_directory, kept}
 use Rattle.pe_core.specs.Header.{HeaderView, OptionalHeaderView, directories_offset, header, header_at, is_pe32_plus, optional_header}
 use Rattle.pe_core.specs.Records.{coff_header, data_directory, dos_header, windows_fields_32, windows_fields_64}
 use Rattle.pe_core.specs.Rows.{rows}
@@ -23,7 +23,7 @@ use Rattle.pe_sign.specs.declared.attachment.Placement.{Placement}
 use Rattle.pe_sign.specs.declared.attachment.Placement.TheVariants.{After, InPlace}
 use Rattle.pe_sign.specs.declared.digest.LeftOut.{LeftOut}
 use Rattle.pe_sign.proofs.DetachedAgain.{is_detached}
-use Rattle.pe_sign.proofs.HeadersStay.{Fields, Parsed, fields_at, magic_is, parsed, parts}
+use Rattle.pe_sign.proofs.HeadersStay.{Fields, fields_at, magic_is, parsed, parts}
 use Rattle.pe_sign.proofs.WrittenHeaders.{many_of}
 use Rattle.pe_sign.proofs.WrittenImages.{attached_is}
 

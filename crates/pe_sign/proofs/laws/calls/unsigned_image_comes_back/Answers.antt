@@ -1,4 +1,4 @@
-use Rattle.std.proofs.Common.{◌≡◌, List, ℕ, Ok, subst}
+use Rattle.std.proofs.Common.{◌≡◌, Ok, subst}
 use Rattle.pe_core.specs.Header.{HeaderView, header_at, header_view}
 use Rattle.pe_sign.specs.Attaching.{attached_of}
 use Rattle.pe_sign.proofs.UnsignedImages.{comes_back}
