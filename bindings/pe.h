@@ -1416,7 +1416,7 @@ uint32_t pe_c_next_tls_callback(const uint8_t *bytes, size_t length, const pe_c_
  * https://learn.microsoft.com/windows/win32/debug/pe-format#the-load-configuration-structure-image-only */
 
 /* IMAGE_LOAD_CONFIG_DIRECTORY32 or IMAGE_LOAD_CONFIG_DIRECTORY64, up to the guard flags. A field that the structure is too
- * short for is 0, and so is the field of its name with has_, which else is 1. The addresses are virtual addresses, mostly 0
+ * short for, or the image, is 0, and so is the field of its name with has_, which else is 1. The addresses are virtual addresses, mostly 0
  * where there is nothing: less image->base one is an RVA, for pe_c_offset. */
 typedef struct {
     uint64_t security_cookie;       /* where the security cookie is */
@@ -1451,7 +1451,7 @@ typedef struct {
 PE_C_SIZE(pe_c_load_config_directory, 88);
 
 /* Returns the load configuration. PE_C_NOTHING where the directory is absent. The size in the data directory is not used.
- * Errors: PE_C_UNMAPPED; PE_C_SHORT of its size, then of as many bytes. */
+ * Errors: PE_C_UNMAPPED; PE_C_SHORT of the 4 bytes of its size. */
 uint32_t pe_c_load_config(const uint8_t *bytes, size_t length, const pe_c_image_info *image,
                           const pe_c_section *sections, size_t count, pe_c_load_config_directory *out)
     PE_C_RESULT(3, 6);
@@ -1483,7 +1483,7 @@ PE_C_SIZE(pe_c_relocation, 16);
 uint32_t pe_c_relocation_blocks(const uint8_t *bytes, size_t length, const pe_c_image_info *image,
                                 const pe_c_section *sections, size_t count, pe_c_range *out) PE_C_RESULT(3, 6);
 
-/* Returns the next block.
+/* Returns the next block. PE_C_NOTHING also where a block of zeros, page and size, ends the list.
  * Errors: PE_C_SHORT of the header; PE_C_DIRECTORY_BLOCK_SIZE; PE_C_DIRECTORY_BLOCK_TRUNCATED. */
 uint32_t pe_c_next_relocation_block(const uint8_t *bytes, size_t length, pe_c_range *walk, pe_c_relocation_block *out)
     PE_C_RESULT(3, 4);

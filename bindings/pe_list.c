@@ -8,8 +8,8 @@
  *
  * Control characters of texts are printed as \xNN. The file is read whole. It is not mapped, since what other programs do to
  * a mapped file changes its bytes during a call, and truncating it ends the program by a signal. `list` refuses the images
- * that `peinfo list` refuses, but for those with damaged base relocations alone, which no call reads. The status is 0, 1
- * for an image that is refused, 2 for misused arguments, 3 for an error of a file or of standard output. */
+ * that `peinfo list` refuses, but for those with damaged base relocations alone, which it does not read. The status is 0,
+ * 1 for an image that is refused, 2 for misused arguments, 3 for an error of a file or of standard output. */
 #define _POSIX_C_SOURCE 200809L
 #include "pe.h"
 

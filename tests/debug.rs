@@ -3,9 +3,10 @@
 use crate::images::{image, with_byte, with_debug};
 use pe_core::{ByteRange, DataDirectory, Error, Header, ParseMode, ParseOptions, Reason, Result};
 use pe_records::{
-    CodeviewPDB20DebugInfo, CodeviewPDB70DebugInfo, DebugData, ExDllCharacteristicsInfo,
-    IMAGE_DEBUG_TYPE_CODEVIEW, IMAGE_DEBUG_TYPE_REPRO, ImageDebugDirectory, POGOEntryIterator,
-    POGOInfo, POGOInfoEntry, ReproInfo, VCFeatureInfo,
+    CodeviewPDB20DebugInfo, CodeviewPDB70DebugInfo, DebugData, EmbeddedPdb,
+    ExDllCharacteristicsInfo, IMAGE_DEBUG_TYPE_CODEVIEW, IMAGE_DEBUG_TYPE_REPRO,
+    ImageDebugDirectory, POGOEntryIterator, POGOInfo, POGOInfoEntry, PdbChecksum, ReproInfo,
+    VCFeatureInfo,
 };
 use std::alloc::{AllocError, Global};
 use std::test::Fail;
@@ -398,5 +399,100 @@ fn names_outlive_their_record(rt: HostRuntime) -> std::result::Result<(), Fail> 
         ..ImageDebugDirectory::default()
     };
     assert_eq!(rt; first_name(&bytes, &entry), Some(b".a\0".as_slice()));
+    Ok(())
+}
+
+/// An entry whose record has `size` bytes at the offset, or at the RVA.
+fn entry_at(
+    pointer_to_raw_data: u32,
+    address_of_raw_data: u32,
+    size_of_data: u32,
+) -> ImageDebugDirectory {
+    ImageDebugDirectory {
+        pointer_to_raw_data,
+        address_of_raw_data,
+        size_of_data,
+        ..ImageDebugDirectory::default()
+    }
+}
+
+/// An embedded PDB by the layout of .NET's PE-COFF, from offset 4 on: 300 bytes once it is decompressed.
+#[test]
+fn embedded_pdbs(rt: HostRuntime) -> std::result::Result<(), Fail> {
+    let bytes = b"pad.MPDB\x2C\x01\0\0deflate";
+    for mode in MODES {
+        let opts = ParseOptions::default().with_parse_mode(mode);
+        let pdb = EmbeddedPdb {
+            uncompressed_size: 300,
+            compressed: b"deflate",
+        };
+        let entry = entry_at(4, 9, 15);
+        assert_eq!(rt; EmbeddedPdb::parse_with_opts(bytes, &entry, &opts)?, pdb);
+        assert_eq!(rt; EmbeddedPdb::parse(bytes, &entry)?, pdb);
+        let entry = entry_at(9, 4, 8);
+        let empty = EmbeddedPdb::parse_with_opts(bytes, &entry, &flat(mode))?;
+        assert_eq!(rt; (empty.uncompressed_size, empty.compressed.len()), (300, 0));
+        // shows: pe_records/src/debug/managed.rt at DebugSize
+        assert!(rt;
+            matches!(
+                EmbeddedPdb::parse_with_opts(bytes, &entry_at(90, 0, 7), &opts),
+                Err(Error::Malformed(Reason::DebugSize(7)))
+            )
+        );
+        assert!(rt;
+            matches!(
+                EmbeddedPdb::parse_with_opts(bytes, &entry_at(12, 0, 90), &opts),
+                Err(Error::Short { at: 12, needed: 8 })
+            )
+        );
+        // shows: pe_records/src/debug/managed.rt at BadMagic
+        assert!(rt;
+            matches!(
+                EmbeddedPdb::parse_with_opts(bytes, &entry_at(5, 0, 90), &opts),
+                Err(Error::BadMagic(0x2C42_4450))
+            )
+        );
+        // shows: pe_records/src/debug/managed.rt at DebugData
+        assert!(rt;
+            matches!(
+                EmbeddedPdb::parse_with_opts(bytes, &entry_at(4, 0, 16), &opts),
+                Err(Error::Malformed(Reason::DebugData(16)))
+            )
+        );
+    }
+    Ok(())
+}
+
+/// A checksum by the same layout: the name of the algorithm, a zero, and the bytes, of which one may be zero.
+#[test]
+fn checksums_of_pdbs(rt: HostRuntime) -> std::result::Result<(), Fail> {
+    let bytes = b"pad.SHA256\0\x01\0\x02tail";
+    for mode in MODES {
+        let opts = ParseOptions::default().with_parse_mode(mode);
+        let sum = PdbChecksum {
+            algorithm: b"SHA256",
+            checksum: b"\x01\0\x02",
+        };
+        assert_eq!(rt;
+            PdbChecksum::parse_with_opts(bytes, &entry_at(4, 9, 10), &opts)?,
+            sum
+        );
+        assert_eq!(rt; PdbChecksum::parse(bytes, &entry_at(4, 9, 10))?, sum);
+        let empty = PdbChecksum::parse_with_opts(bytes, &entry_at(90, 10, 1), &flat(mode))?;
+        assert!(rt; empty.algorithm.is_empty() && empty.checksum.is_empty());
+        // shows: pe_records/src/debug/managed.rt of_data DebugSize
+        assert!(rt;
+            matches!(
+                PdbChecksum::parse_with_opts(bytes, &entry_at(4, 0, 6), &opts),
+                Err(Error::Malformed(Reason::DebugSize(6)))
+            )
+        );
+        assert!(rt;
+            matches!(
+                PdbChecksum::parse_with_opts(bytes, &entry_at(4, 0, 15), &opts),
+                Err(Error::Malformed(Reason::DebugData(15)))
+            )
+        );
+    }
     Ok(())
 }

@@ -8,10 +8,10 @@ use pe_core::{
 };
 use pe_directories::{
     BaseRelocation, BoundForwarder, BoundImportDirectory, ChosenDirectories, ClrHeader,
-    ClrMetadata, DelayImports, DelayedFunction, Directories, DirectoryError,
+    ClrMetadata, DelayImport, DelayImports, DelayedFunction, Directories, DirectoryError,
     IMAGE_REL_BASED_ABSOLUTE, IMAGE_REL_BASED_DIR64, IMAGE_REL_BASED_HIGHADJ, ImageBytes,
-    LoadConfig, RelocationBlock, RelocationBlocks, RichEntry, RichHeader, TlsDirectory,
-    long_section_name, overlay_range,
+    IndexedImage, LoadConfig, ReadyToRunHeader, RelocationBlock, RelocationBlocks, RichEntry,
+    RichHeader, TlsDirectory, long_section_name, long_section_names, overlay_range,
 };
 use pe_images::with_every_directory;
 use std::test::Fail;
@@ -168,6 +168,19 @@ fn refuses_blocks(rt: HostRuntime) -> Result<(), Fail> {
             DirectoryError::Image(Error::Short { at: 0, needed: 8 })
         )
     );
+    // A page and a size of 0 end the list, whatever follows; a truncated one does not.
+    let zeros = b"\0\x10\0\0\x08\0\0\0\0\0\0\0\0\0\0\0\0\x20\0\0\x09\0\0\0";
+    let mut blocks = RelocationBlocks::new(zeros);
+    assert!(rt; matches!(blocks.next(), Some(Ok(block)) if block.page_rva == 0x1000));
+    assert!(rt; blocks.next().is_none());
+    assert_eq!(rt; blocks.rest().len(), 0);
+    assert!(rt; RelocationBlocks::new(&zeros[8..16]).next().is_none());
+    assert!(rt;
+        matches!(
+            refusal_of(&zeros[8..15])?,
+            DirectoryError::Image(Error::Short { at: 0, needed: 8 })
+        )
+    );
     // A block without entries, and one at no multiple of 4, are read.
     let bytes = b"\0\x10\0\0\x08\0\0\0\0\x20\0\0\x0A\0\0\0\x01\x30\0\x30\0\0\x08\0\0\0";
     let pages = [0x1000, 0x2000, 0x3000];
@@ -313,6 +326,42 @@ fn reads_a_clr_header(rt: HostRuntime) -> Result<(), Fail> {
     Ok(())
 }
 
+/// A header of ReadyToRun code of version 9.2 with 5 sections, by the layout; one that is truncated, and one of NGEN.
+#[test]
+fn reads_ready_to_run_headers(rt: HostRuntime) -> Result<(), Fail> {
+    let bytes = b"pad.RTR\0\x09\0\x02\0\x03\0\0\x01\x05\0\0\0";
+    let image = image_of(bytes, true);
+    let mut header = ClrHeader::parse(&image_of(CLR, false), at(0x1000, 72))?;
+    header.managed_native_header = at(0x1004, 16);
+    let code = ReadyToRunHeader {
+        major_version: 9,
+        minor_version: 2,
+        flags: 0x0100_0003,
+        number_of_sections: 5,
+    };
+    assert_eq!(rt; header.ready_to_run(&image)?, Some(code));
+    for (directory, short) in [
+        (at(0x1004, 15), Some((0, 16))),
+        (at(0x1004, 4), Some((0, 16))),
+        (at(0x1004, 3), None),
+        (at(0x1000, 20), None),
+        (at(0x3000, 0), None),
+        (at(0x1004, 17), Some((4, 17))),
+    ] {
+        header.managed_native_header = directory;
+        match header.ready_to_run(&image) {
+            Ok(none) => assert_eq!(rt; (none, short), (None, None)),
+            Err(DirectoryError::Image(Error::Short { at, needed })) => {
+                assert_eq!(rt; Some((at, needed)), short);
+            }
+            Err(_) => return Err(Fail::new("another refusal")),
+        }
+    }
+    header.managed_native_header = at(0x3000, 16);
+    assert!(rt; is_unmapped(header.ready_to_run(&image), 0x3000));
+    Ok(())
+}
+
 #[test]
 fn refuses_clr_headers(rt: HostRuntime) -> Result<(), Fail> {
     let small = image(rt.alloc(), 72, &[(0, &[71])])?;
@@ -444,19 +493,21 @@ fn reads_a_load_configuration_of_pe32_plus(rt: HostRuntime) -> Result<(), Fail> 
     assert_eq!(rt; config.guard_cf_function_table, Some(8));
     assert_eq!(rt; config.guard_cf_function_count, Some(9));
     assert_eq!(rt; config.guard_flags, Some(0x100));
-    // One byte less: the last field is absent. One more than the file has: the structure is truncated.
+    // One byte less: the last field is absent. One more than the file has: the fields that are there are read.
     bytes[0] = 0x93;
     let config = LoadConfig::parse(&image_of(&bytes, true), at(0x1000, 0x138))?;
     assert_eq!(rt; config.guard_cf_function_count, Some(9));
     assert_eq!(rt; config.guard_flags, None);
     bytes[0] = 0x95;
+    let config = LoadConfig::parse(&image_of(&bytes, true), at(0x1000, 0x138))?;
+    assert_eq!(rt; (config.size, config.guard_flags), (0x95, Some(0x100)));
+    let cut = LoadConfig::parse(&image_of(&bytes[..0x93], true), at(0x1000, 0x138))?;
+    assert_eq!(rt; (cut.size, cut.guard_flags), (0x95, None));
+    assert_eq!(rt; cut.guard_cf_function_count, Some(9));
     assert!(rt;
         matches!(
-            LoadConfig::parse(&image_of(&bytes, true), at(0x1000, 0x138)),
-            Err(DirectoryError::Image(Error::Short {
-                at: 0,
-                needed: 0x95
-            }))
+            LoadConfig::parse(&image_of(&bytes[..3], true), at(0x1000, 0x138)),
+            Err(DirectoryError::Image(Error::Short { at: 0, needed: 4 }))
         )
     );
     bytes[0] = 3;
@@ -553,6 +604,54 @@ fn reads_delay_imports(rt: HostRuntime) -> Result<(), Fail> {
         assert!(rt; matches!(entries.next(), Some(Ok(_))));
         assert!(rt; entries.next().is_none());
     }
+    Ok(())
+}
+
+/// An entry with virtual addresses in PE32+, whose base is 2 GiB, and one near the end of the address space: `f` with hint 5. In
+/// PE32 such an address is an ordinal. Where the entry has RVAs, the bits above 31 do not count.
+#[test]
+fn reads_delay_imports_above_2_gib(rt: HostRuntime) -> Result<(), Fail> {
+    let alloc = rt.alloc();
+    let bytes = image(
+        alloc,
+        0x80,
+        &[
+            (0x04, &[0x40, 0x10, 0, 0x80]),
+            (0x10, &[0x50, 0x10, 0, 0x80]),
+            (0x40, b"d.dll\0\0\0\x05\0f\0"),
+            (0x50, &[0x48, 0x10, 0, 0x80]),
+        ],
+    )?;
+    let named = DelayedFunction::Name { hint: 5, name: "f" };
+    let mut parts = image_of(&bytes, true);
+    parts.image_base = 0x8000_0000;
+    let Some(Ok(entry)) = DelayImports::parse(&parts, at(0x1000, 0x20))?.next() else {
+        return Err(Fail::new("no entry"));
+    };
+    assert_eq!(rt; entry.dll(&parts)?, "d.dll");
+    assert_eq!(rt; entry.imported(&parts, 0x8000_1048)?, named);
+    assert_eq!(rt; entry.offset_of_hint(&parts, 0x8000_1048)?, 0x48);
+    let functions = entry.functions(alloc, &IndexedImage::new(alloc, &parts)?)?;
+    assert_eq!(rt; functions.as_slice(), [named].as_slice());
+    assert!(rt;
+        matches!(
+            entry.imported(&parts, 0x1048),
+            Err(DirectoryError::VaBelowBase(0x1048))
+        )
+    );
+    parts.image_base = 0x7FFF_FFFF_0000_0000;
+    assert_eq!(rt; entry.imported(&parts, 0x7FFF_FFFF_0000_1048)?, named);
+    parts.is_64 = false;
+    assert_eq!(rt;
+        entry.imported(&parts, 0x8000_1048)?,
+        DelayedFunction::Ordinal(0x1048)
+    );
+    let by_rva = DelayImport {
+        attributes: 1,
+        ..entry
+    };
+    parts.is_64 = true;
+    assert_eq!(rt; by_rva.imported(&parts, 0x7FFF_0000_8000_1048)?, named);
     Ok(())
 }
 
@@ -707,6 +806,58 @@ fn reads_a_rich_header(rt: HostRuntime) -> Result<(), Fail> {
     Ok(())
 }
 
+/// What hid the header, or stands beside it: a word `Rich` in the DOS header and after the key, another header before it.
+#[test]
+fn finds_the_last_rich_header(rt: HostRuntime) -> Result<(), Fail> {
+    let mut bytes = [0; 512];
+    bytes[..232].copy_from_slice(T32);
+    for offset in [24, 64, 120, 224, 228] {
+        let mut damaged = bytes;
+        damaged[offset..offset + 4].copy_from_slice(b"Rich");
+        let Some(header) = RichHeader::find(&damaged[..232]) else {
+            return Err(Fail::new("no Rich header"));
+        };
+        assert_eq!(rt;
+            (header.key, header.before.len()),
+            (0x25A3_10C8, 128),
+            "{offset}"
+        );
+        assert_eq!(rt; header.len(), 9, "{offset}");
+    }
+    // Two headers: the last one.
+    bytes[240..344].copy_from_slice(&T32[128..232]);
+    for end in [232, 344] {
+        let Some(header) = RichHeader::find(&bytes[..end]) else {
+            return Err(Fail::new("no Rich header"));
+        };
+        let start = if end == 232 { 128 } else { 240 };
+        assert_eq!(rt; (header.before.len(), header.len()), (start, 9));
+    }
+    // Each of the words before the entries, and `Rich`.
+    for offset in [128, 132, 136, 140, 216] {
+        let mut damaged = [0; 232];
+        damaged.copy_from_slice(T32);
+        damaged[offset] ^= 1;
+        assert!(rt; RichHeader::find(&damaged).is_none(), "{offset}");
+    }
+    Ok(())
+}
+
+/// 1 MiB of words: all of them `Rich`, all of them `DanS` under the key that stands last, and both by turns. To look from each for
+/// the other would take minutes.
+#[test]
+fn many_words_rich(rt: HostRuntime) -> Result<(), Fail> {
+    for words in [b"RichRich", b"DanSDanS", b"RichDanS"] {
+        let mut bytes = Vec::with_capacity(rt.alloc(), 0x10_0008)?;
+        for _ in 0..0x2_0000u32 {
+            bytes.extend_from_slice(words)?;
+        }
+        bytes.extend_from_slice(b"Rich\0\0\0\0")?;
+        assert!(rt; RichHeader::find(&bytes).is_none());
+    }
+    Ok(())
+}
+
 #[test]
 fn finds_no_rich_header(rt: HostRuntime) -> Result<(), Fail> {
     // The key is cut off, as are `Rich` and `DanS`.
@@ -752,6 +903,9 @@ fn reads_long_section_names(rt: HostRuntime) -> Result<(), Fail> {
             ..SECTION
         };
         assert_eq!(rt; long_section_name(&section, &strings), long);
+        let sections = [SECTION, section, section];
+        let names = long_section_names(rt.alloc(), &sections, &strings)?;
+        assert_eq!(rt; names.as_slice(), [None, long, long].as_slice());
     }
     for (name, offset) in [(b"//AAAAa/", 1727), (b"//AAAA9+", 3966)] {
         let mut bytes = [b'.'; 4096];

@@ -4,10 +4,10 @@
 use crate::directories::{at, image_of};
 use crate::images::image;
 use crate::refusing::Refusing;
-use pe_core::{Error, ParseOptions, Reason, SectionTable};
+use pe_core::{Error, ParseOptions, Reason, SectionTable, Strtab};
 use pe_directories::{
     BoundImportDirectory, DelayImport, DelayImports, DelayedFunction, DirectoryError, ImageBytes,
-    IndexedImage,
+    IndexedImage, long_section_names,
 };
 use std::alloc::{AllocError, Allocator, Global};
 use std::process::Abort;
@@ -363,6 +363,31 @@ fn many_names_in_long_texts(rt: HostRuntime) -> Result<(), Fail> {
                 "{i} of {texts:?}"
             );
         }
+    }
+    Ok(())
+}
+
+/// 65,535 sections whose names start in one text of 8 MiB: name by name this would take minutes.
+#[test]
+fn many_long_section_names(rt: HostRuntime) -> Result<(), Fail> {
+    let alloc = rt.alloc();
+    let mut bytes = vec![in alloc; b'a'; 0x80_0000]?;
+    bytes.push(0)?;
+    let strings = Strtab { bytes: &bytes };
+    let mut sections = most_sections(alloc)?;
+    for i in 0..sections.len() {
+        let mut name = *b"/0000000";
+        let mut left = 4 + i;
+        for digit in name[1..].iter_mut().rev() {
+            *digit = b'0' + (left % 10) as u8;
+            left /= 10;
+        }
+        sections[i].name = name;
+    }
+    let names = long_section_names(alloc, &sections, &strings)?;
+    assert_eq!(rt; names.len(), sections.len());
+    for (i, name) in names.iter().enumerate() {
+        assert_eq!(rt; name.map(str::len), Some(0x80_0000 - 4 - i));
     }
     Ok(())
 }

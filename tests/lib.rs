@@ -38,6 +38,8 @@ mod images;
 #[cfg(test)]
 mod imports;
 #[cfg(test)]
+mod load_configs;
+#[cfg(test)]
 mod plans;
 #[cfg(test)]
 mod refusal_numbers;
@@ -47,6 +49,8 @@ mod refusals;
 mod refused_memory;
 #[cfg(test)]
 mod refusing;
+#[cfg(test)]
+mod requested_memory;
 #[cfg(test)]
 mod relocations;
 #[cfg(test)]

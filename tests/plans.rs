@@ -18,7 +18,7 @@ fn flat() -> ParseOptions {
 }
 
 /// The plan of an address, by a function table of this size at offset 0.
-fn plan<'a, A: Allocator>(
+pub(crate) fn plan<'a, A: Allocator>(
     alloc: A,
     bytes: &'a [u8],
     size: u32,
@@ -46,13 +46,17 @@ fn two_records(alloc: Global) -> std::result::Result<Vec<u8>, AllocError> {
 }
 
 /// Where record `k` stands after a table of one entry, if all of them are chained.
-fn offset_of(k: u32) -> u32 {
+pub(crate) fn offset_of(k: u32) -> u32 {
     12 + 16 * k
 }
 
 /// One function, whose record is chained to a second and so on. The last of these has the unwind address `last`, and
 /// after them stands one that is not chained.
-fn chain(alloc: Global, chained: u32, last: u32) -> std::result::Result<Vec<u8>, AllocError> {
+pub(crate) fn chain(
+    alloc: Global,
+    chained: u32,
+    last: u32,
+) -> std::result::Result<Vec<u8>, AllocError> {
     let mut bytes = Vec::new(alloc);
     bytes.extend_from_slice(&[0, 0x10, 0, 0, 0x10, 0x10, 0, 0, 0x0C, 0, 0, 0])?;
     for k in 0..chained {

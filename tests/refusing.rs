@@ -1,4 +1,4 @@
-//! An allocator that refuses one request.
+//! An allocator that refuses one request, and adds up the sizes of all.
 
 use std::alloc::{AllocError, Allocator};
 use std::cell::Cell;
@@ -9,6 +9,7 @@ pub(crate) struct Refusing<A: Allocator> {
     alloc: A,
     refused: u32,
     asked: Cell<u32>,
+    bytes: Cell<usize>,
 }
 
 impl<A: Allocator> Refusing<A> {
@@ -18,12 +19,18 @@ impl<A: Allocator> Refusing<A> {
             alloc,
             refused,
             asked: Cell::new(0),
+            bytes: Cell::new(0),
         }
     }
 
     /// Whether the request that is to be refused has come.
     pub(crate) fn has_refused(&self) -> bool {
         self.asked.get() > self.refused
+    }
+
+    /// How many bytes all requests so far asked for, whether or not they were given back.
+    pub(crate) fn bytes_asked(&self) -> usize {
+        self.bytes.get()
     }
 }
 
@@ -33,6 +40,7 @@ unsafe impl<A: Allocator> Allocator for Refusing<A> {
     fn allocate(&self, size: usize, align: usize) -> std::result::Result<*mut u8, AllocError> {
         let asked = self.asked.get();
         self.asked.set(asked.wrapping_add(1));
+        self.bytes.set(self.bytes.get().saturating_add(size));
         if asked == self.refused {
             return Err(AllocError);
         }

@@ -151,7 +151,7 @@ fn overlaps(rt: HostRuntime) {
     }
 }
 
-fn counting(number_of_sections: u16) -> CoffHeader {
+pub(crate) fn counting(number_of_sections: u16) -> CoffHeader {
     CoffHeader {
         machine: 0,
         number_of_sections,

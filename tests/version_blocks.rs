@@ -84,6 +84,18 @@ fn is(
     Ok(named && text.is_some_and(|it| it.as_str() == value))
 }
 
+/// Fixed file information is the value of the block with its key alone: not where a letter is another, or where one follows.
+#[test]
+fn fixed_information_of_its_key(rt: HostRuntime) -> std::result::Result<(), Fail> {
+    for (offset, unit) in [(6, b"v"), (34, b"x"), (36, b"O")] {
+        let bytes = page(rt.alloc(), &[(offset, unit.as_slice())])?;
+        let root = root(&bytes)?;
+        assert_eq!(rt; root.value.len(), 52);
+        assert!(rt; root.fixed_info().is_none(), "{offset}");
+    }
+    Ok(())
+}
+
 #[test]
 fn of_the_page(rt: HostRuntime) -> std::result::Result<(), Fail> {
     let bytes = page(rt.alloc(), &[])?;

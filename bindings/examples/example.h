@@ -27,6 +27,19 @@ static size_t read_file(const char *name, uint8_t *room, size_t size)
     return length;
 }
 
+/* Shows the bytes of a range up to a zero. A name may hold anything, and is not to drive a terminal: a byte that is no printable
+ * ASCII is shown as \xNN. */
+static inline void show_name(const uint8_t *bytes, const pe_c_range *range)
+{
+    for (uint64_t i = 0; i < range->length && bytes[range->offset + i] != 0; i++) {
+        unsigned byte = bytes[range->offset + i];
+        if (byte >= ' ' && byte <= '~')
+            putchar((int)byte);
+        else
+            printf("\\x%02X", byte);
+    }
+}
+
 /* Returns the status by which a program ends after this result: 0, or 1 with the reason on standard error. */
 static int status_of(uint32_t result)
 {

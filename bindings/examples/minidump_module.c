@@ -13,17 +13,6 @@ enum { MOST_SECTIONS = 96 };    /* of the Windows loader */
 static uint8_t memory[1 << 26];
 static pe_c_section sections[MOST_SECTIONS];
 
-/* A name may hold anything, and is not to drive a terminal: a byte that is no printable ASCII is shown as \xNN. */
-static void show_name(const uint8_t *name, uint64_t length)
-{
-    for (; length > 0 && *name != 0; name++, length--) {
-        if (*name >= ' ' && *name <= '~')
-            putchar(*name);
-        else
-            printf("\\x%02X", (unsigned)*name);
-    }
-}
-
 static void show_key(const pe_c_key *key)
 {
     static const int order[16] = {3, 2, 1, 0, 5, 4, 7, 6, 8, 9, 10, 11, 12, 13, 14, 15};
@@ -31,7 +20,7 @@ static void show_key(const pe_c_key *key)
     for (int i = 0; i < 16; i++)
         printf("%02X", key->guid[order[i]]);
     printf("%" PRIX32 " ", key->age);
-    show_name(memory + key->name.offset, key->name.length);
+    show_name(memory, &key->name);
     printf("\n");
 }
 

@@ -81,8 +81,15 @@ fn blocks_in_turn(rt: HostRuntime) -> Result<(), Fail> {
     ] {
         assert_eq!(rt; next_block(&bytes, walk), (answer, 7, UNTOUCHED, OVER));
     }
-    for size in [0, 7, 9] {
-        let bytes = words(rt.alloc(), &[0x1000, size, 0, 0])?;
+    // A page and a size of 0 end the list, whatever follows.
+    let zeros = words(rt.alloc(), &[0, 0, 0x1000, 8])?;
+    assert_eq!(rt;
+        next_block(&zeros, [0, 16]),
+        (NOTHING, 7, UNTOUCHED, [0, 16])
+    );
+    assert_eq!(rt; next_block(&zeros, [0, 7]), (SHORT, 7, UNTOUCHED, OVER));
+    for (page, size) in [(0x1000, 0), (0x1000, 7), (0x1000, 9), (0, 2)] {
+        let bytes = words(rt.alloc(), &[page, size, 0, 0])?;
         assert_eq!(rt;
             next_block(&bytes, [0, 16]),
             (BLOCK_SIZE, 7, UNTOUCHED, OVER)

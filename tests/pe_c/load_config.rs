@@ -218,7 +218,8 @@ fn refusals_of_load_configurations(rt: HostRuntime) -> Result<(), Fail> {
     for (length, image, want) in [
         (152, having(there, 10, directory(0, 0)), NOTHING),
         (152, having(there, 10, directory(0x2000, 64)), UNMAPPED),
-        (151, there, SHORT),
+        (151, there, DONE),
+        (4, there, DONE),
         (3, there, SHORT),
         // In an image as loaded the address is the offset.
         (152, in_mode(&there, 2), SHORT),
@@ -229,7 +230,24 @@ fn refusals_of_load_configurations(rt: HostRuntime) -> Result<(), Fail> {
         assert_eq!(rt; answer, want);
         assert_eq!(rt; fields(&config) == fields(&UNTOUCHED), want != DONE);
     }
-    let bytes = structure(rt.alloc(), u32::MAX)?;
-    assert_eq!(rt; read(&bytes, &there).0, SHORT);
+    Ok(())
+}
+
+/// Where the image ends before the structure, the fields that are there are returned.
+#[test]
+fn truncated_load_configurations(rt: HostRuntime) -> Result<(), Fail> {
+    let image = of_config(image(X64));
+    for (length, size, count) in [
+        (148, 152, 13),
+        (147, 152, 12),
+        (96, u32::MAX, 6),
+        (95, 96, 5),
+        (4, 8, 1),
+    ] {
+        let bytes = structure(rt.alloc(), size)?;
+        let (answer, config) = read(&bytes[..length], &image);
+        let want = up_to(fields_64(u64::from(size)), count);
+        assert_eq!(rt; (answer, fields(&config), config.spare), (DONE, want, 0));
+    }
     Ok(())
 }

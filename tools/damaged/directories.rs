@@ -5,8 +5,8 @@ use crate::walk::{Found, Walk};
 use pe_directories::{
     BaseRelocation, BoundImportDirectory, BoundNames, ChosenDirectories, ClrHeader, ClrMetadata,
     DelayImport, DelayImports, DelayedDll, DelayedFunction, Directories, DirectoryError,
-    IMAGE_REL_BASED_HIGHADJ, ImageBytes, IndexedImage, LoadConfig, RelocationBlock, RelocationBlocks, RichHeader, TlsDirectory, VaTable,
-    long_section_name, string_offset,
+    GuardTable, IMAGE_REL_BASED_HIGHADJ, ImageBytes, IndexedImage, LoadConfig, RelocationBlock,
+    RelocationBlocks, RichHeader, TlsDirectory, VaTable, long_section_name, string_offset,
 };
 use pe_image::{DataDirectories, PE, ParseOptions, Strtab};
 use std::alloc::Global;
@@ -211,15 +211,62 @@ fn walk_load_config(walk: &mut Walk, config: LoadConfig) {
     walk.number_if_any(config.guard_cf_function_table);
     walk.number_if_any(config.guard_cf_function_count);
     walk.number_if_any(config.guard_flags.map(u64::from));
-    walk.check(
-        config.size as usize <= walk.bytes.len(),
-        "a load configuration is longer than the file",
-    );
     // Each field stands after those before it.
     walk.check(
-        config.guard_flags.is_none() || config.guard_cf_function_count.is_some(),
+        (config.guard_flags.is_none() || config.guard_cf_function_count.is_some())
+            && (config.code_integrity.flags.is_none() || config.guard_flags.is_some())
+            && (config.guard_functions.guard_memcpy_function_pointer.is_none()
+                || config.guard_tables.eh_continuation_count.is_some()),
         "a load configuration has a field but not the one before",
     );
+}
+
+/// The entries of a table of the load configuration.
+fn walk_guarded(
+    walk: &mut Walk,
+    table: std::result::Result<GuardTable, DirectoryError>,
+    flag_size: u8,
+) {
+    let Some(mut entries) = given(walk, table) else {
+        return;
+    };
+    let size = 4 + flag_size as usize;
+    for _ in 0..walk.left {
+        if !walk.goes_on() {
+            return;
+        }
+        let left = entries.rest().len();
+        match entries.next() {
+            Some(Ok(entry)) => {
+                walk.word(entry.rva);
+                walk.slice(entry.flags);
+                walk.check(
+                    entry.flags.len() == flag_size as usize
+                        && left == entries.rest().len().wrapping_add(size),
+                    "an entry of a guard table takes other bytes than its own",
+                );
+            }
+            last => {
+                if let Some(Err(error)) = &last {
+                    refuse(walk, error);
+                }
+                walk.check(
+                    entries.next().is_none() && entries.rest().is_empty(),
+                    "a guard table goes on after its end",
+                );
+                return;
+            }
+        }
+    }
+}
+
+fn walk_guard_tables(walk: &mut Walk, image: &ImageBytes, config: LoadConfig) {
+    let flag_size = config.flag_size();
+    walk_guarded(walk, config.guard_cf_functions(image), flag_size);
+    walk_guarded(walk, config.se_handlers(image), 0);
+    walk_guarded(walk, config.address_taken_iat_entries(image), flag_size);
+    walk_guarded(walk, config.long_jump_targets(image), flag_size);
+    walk_guarded(walk, config.eh_continuations(image), flag_size);
 }
 
 fn walk_delayed(walk: &mut Walk, image: &ImageBytes, import: DelayImport) {
@@ -654,6 +701,7 @@ pub fn walk_layout(
     }
     if let Some(config) = given_if_any(walk, load_config) {
         walk_load_config(walk, config);
+        walk_guard_tables(walk, image, config);
     }
     if let Some(imports) = given_if_any(walk, delay_imports) {
         walk_delay_imports(walk, image, imports);

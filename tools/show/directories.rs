@@ -2,8 +2,8 @@
 
 use pe_directories::{
     BoundImportDirectory, ChosenDirectories, ClrHeader, DelayImport, DelayImports, DelayedFunction,
-    Directories, DirectoryError, ImageBytes, RelocationBlocks, RichHeader, TlsDirectory,
-    long_section_name,
+    Directories, DirectoryError, GuardTable, ImageBytes, LoadConfig, RelocationBlocks, RichHeader,
+    TlsDirectory, long_section_name,
 };
 use pe_image::{DataDirectory, PE, ParseOptions};
 use std::io;
@@ -50,6 +50,34 @@ fn show_tls(rt: &HostRuntime, image: &ImageBytes, tls: TlsDirectory) -> io::Resu
         }
     }
     Ok(())
+}
+
+/// The entries of a table of the load configuration.
+fn show_guarded(
+    rt: &HostRuntime,
+    what: &str,
+    table: Result<GuardTable, DirectoryError>,
+) -> io::Result<()> {
+    let entries = match table {
+        Ok(entries) => entries,
+        Err(error) => return show_refused(rt, what, error),
+    };
+    for entry in entries {
+        match entry {
+            Ok(entry) => println!(rt; "{what} {} {:?}", entry.rva, entry.flags)?,
+            Err(error) => return show_refused(rt, what, error),
+        }
+    }
+    Ok(())
+}
+
+fn show_config(rt: &HostRuntime, image: &ImageBytes, config: LoadConfig) -> io::Result<()> {
+    println!(rt; "{config:?}")?;
+    show_guarded(rt, "guarded", config.guard_cf_functions(image))?;
+    show_guarded(rt, "handler", config.se_handlers(image))?;
+    show_guarded(rt, "iat", config.address_taken_iat_entries(image))?;
+    show_guarded(rt, "longjmp", config.long_jump_targets(image))?;
+    show_guarded(rt, "continuation", config.eh_continuations(image))
 }
 
 fn show_functions(rt: &HostRuntime, image: &ImageBytes, entry: DelayImport) -> io::Result<()> {
@@ -214,7 +242,7 @@ fn show_data(rt: &HostRuntime, bytes: &[u8], image: &PE, opts: &ParseOptions) ->
         None => {}
     }
     match read.load_config {
-        Some(Ok(config)) => println!(rt; "{config:?}")?,
+        Some(Ok(config)) => show_config(rt, &parts, config)?,
         Some(Err(error)) => show_refused(rt, "config", error)?,
         None => {}
     }

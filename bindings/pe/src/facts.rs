@@ -159,19 +159,21 @@ const READINGS: usize = 16;
 pub const ENTRY: usize = 8;
 
 /// How many bytes may still be read for one part of an image. Entries of a hostile file may share a long name or a long list, and
-/// without a bound a small file has more to show than anyone reads. In other files hardly a byte is read twice.
+/// without a bound a small file has more to show than anyone reads. In other files hardly a byte is read twice. For an entry RVAs
+/// are mapped, through all sections in turn: each of them counts for a byte.
 pub struct Budget {
     left: usize,
+    sections: usize,
 }
 
 impl Budget {
     pub fn of(image: &Image<'_>) -> Budget {
-        Budget { left: image.bytes().len().saturating_mul(READINGS) }
+        Budget { left: image.bytes().len().saturating_mul(READINGS), sections: image.sections().len() }
     }
 
-    /// Takes so many bytes, if they are left.
+    /// Takes so many bytes for an entry, if they are left.
     pub fn takes(&mut self, count: usize) -> bool {
-        let left = self.left.checked_sub(count);
+        let left = self.left.checked_sub(count.saturating_add(self.sections));
         self.left = left.unwrap_or(self.left);
         left.is_some()
     }

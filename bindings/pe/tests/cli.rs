@@ -253,6 +253,21 @@ fn damaged_parts_are_warnings_and_cost_themselves() {
     assert_eq!(status, 1);
 }
 
+/// Placeholder DLLs of Wine have a block of zeros there.
+#[test]
+fn zeros_in_place_of_base_relocations_are_no_damage() {
+    let folder = Folder::new("zeros");
+    let mut bytes = made::with_relocations();
+    bytes[made::OFFSET as usize..][..8].fill(0);
+    let file = folder.file("a.dll", &bytes);
+    let (out, _, status) = run(&[&file]);
+    assert_eq!((out.contains("warning"), status), (false, 0), "{out}");
+    assert!(out.contains("  relocations   0 in 0 pages\n"), "{out}");
+    let (out, _, status) = run(&["--json", &file]);
+    let all: Value = serde_json::from_str(&out).unwrap();
+    assert_eq!((&all["relocations"], status), (&json!({"entries": []}), 0));
+}
+
 #[test]
 fn hostile_names_forge_no_lines() {
     let folder = Folder::new("hostile");

@@ -47,7 +47,8 @@
 //!
 //! - An `Image` borrows the bytes of the file or module. Names, bodies and texts are slices of these bytes: they outlive the
 //!   `Image`.
-//! - A directory that is absent is `Ok(None)`; a damaged one is an [`Error`]. An error in one part does not affect another.
+//! - A directory that is absent is `Ok(None)`; a damaged one is an [`Error`]. An error in one directory does not affect another,
+//!   but the six records of debug data are read together: an error in one of them is returned for each.
 //! - Every list is an iterator. After an `Err` item it returns `None`; [`VersionBlocks`] alone may go on after one.
 //! - No bytes, registers or memory make a call panic or loop forever. Only [`Image::parse`] and a clone of an
 //!   [`Image`], both for the section headers, [`Image::attach`], [`Image::detach`] and [`Text::to_string_lossy`] allocate.

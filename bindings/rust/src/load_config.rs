@@ -7,8 +7,8 @@ use crate::sys;
 
 /// The load configuration, `IMAGE_LOAD_CONFIG_DIRECTORY32` or `IMAGE_LOAD_CONFIG_DIRECTORY64`, up to the guard flags.
 ///
-/// A field is `None` where the structure is too short to have it. The addresses are virtual addresses, mostly 0 where there is
-/// nothing: less the image's `base` one is an RVA, for [`Image::offset`].
+/// A field is `None` where the structure is too short to have it, or the image ends before it does. The addresses are virtual
+/// addresses, mostly 0 where there is nothing: less the image's `base` one is an RVA, for [`Image::offset`].
 ///
 /// ```
 /// # #[path = "../tests/made/mod.rs"] mod made;
@@ -89,7 +89,7 @@ impl Image<'_> {
     ///
     /// # Errors
     ///
-    /// [`Error::UNMAPPED`]; [`Error::SHORT`] of the structure's size, then of as many bytes.
+    /// [`Error::UNMAPPED`]; [`Error::SHORT`] of the 4 bytes of the structure's size.
     pub fn load_config(&self) -> Result<Option<LoadConfig>, Error> {
         Ok(self.ask(sys::pe_c_load_config)?.map(LoadConfig::from))
     }

@@ -34,7 +34,7 @@ fn block_of(found: sys::RelocationBlock, bytes: &[u8]) -> Result<RelocationBlock
 }
 
 items! {
-    /// The blocks of an image's base relocations.
+    /// The blocks of an image's base relocations, up to one of zeros, page and size.
     ///
     /// An item is an error, and the last one: [`Error::SHORT`] of the header; [`Error::DIRECTORY_BLOCK_SIZE`];
     /// [`Error::DIRECTORY_BLOCK_TRUNCATED`].

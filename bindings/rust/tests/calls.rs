@@ -781,6 +781,20 @@ fn base_relocations_are_read() {
     assert!(strict(&with_debug()).relocation_blocks().unwrap().is_none());
 }
 
+/// A page and a size of 0 end the list: Wine's placeholder DLLs have nothing else there.
+#[test]
+fn zeros_end_the_base_relocations() {
+    for (start, pages) in [(0, vec![]), (12, vec![Ok(0x1000)])] {
+        let mut bytes = with_relocations();
+        bytes[OFFSET as usize + start..][..8].fill(0);
+        let image = strict(&bytes);
+        let mut blocks = image.relocation_blocks().unwrap().unwrap();
+        let items: Vec<_> = blocks.by_ref().map(|it| it.map(|it| it.page_rva)).collect();
+        assert_eq!(items, pages);
+        assert!(blocks.next().is_none());
+    }
+}
+
 #[test]
 fn damaged_base_relocations_are_refused() {
     let place = OFFSET as usize;

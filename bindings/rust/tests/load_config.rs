@@ -80,12 +80,18 @@ fn short_load_configurations_have_fewer_fields() {
 }
 
 #[test]
-fn truncated_load_configurations_are_refused() {
+fn truncated_load_configurations_have_the_fields_that_are_there() {
     // the section has 512 bytes
-    assert!(strict(&of_size(512)).load_config().is_ok());
-    assert_eq!(strict(&of_size(513)).load_config(), Err(Error::SHORT));
-    assert_eq!(strict(&of_size(u32::MAX)).load_config(), Err(Error::SHORT));
+    for size in [512, 513, u32::MAX] {
+        let config = strict(&of_size(size)).load_config().unwrap().unwrap();
+        assert_eq!((config.size, config.guard_flags), (size, Some(0x1000_0500)));
+    }
     let mut bytes = with_load_config();
+    bytes.truncate(OFFSET as usize + 147);
+    let config = strict(&bytes).load_config().unwrap().unwrap();
+    assert_eq!((config.size, config.guard_cf_function_count, config.guard_flags), (148, Some(3), None));
+    bytes.truncate(OFFSET as usize + 4);
+    assert_eq!(strict(&bytes).load_config(), Ok(Some(LoadConfig { size: 148, ..NONE })));
     bytes.truncate(OFFSET as usize + 3);
     assert_eq!(strict(&bytes).load_config(), Err(Error::SHORT));
     let mut made = Made::new(X64);

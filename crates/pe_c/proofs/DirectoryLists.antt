@@ -7,7 +7,7 @@ use Rattle.pe_core.specs.Bytes.{holds, le, range}
 use Rattle.pe_core.specs.Refusals.{Refusal, Short, outcome, ◌>>=◌}
 use Rattle.pe_core.specs.Rows.{entry_items}
 use Rattle.pe_core.specs.Text.{text_at}
-use Rattle.pe_directories.specs.BaseRelocations.{Block, block_of, first_block, first_relocation, is_block_size, relocation_of, relocation_size, type_of}
+use Rattle.pe_directories.specs.BaseRelocations.{Block, block_of, blocks_end, first_block, first_relocation, is_block_size, relocation_of, relocation_size, type_of}
 use Rattle.pe_directories.specs.BoundImports.{Bound, bound_at, bound_forwarder_at, bound_imports_end, bound_name, bound_of, bound_size, first_bound_import, name_or_refusal}
 use Rattle.pe_directories.specs.DelayImports.{delay_import_at, delay_imports_end, first_delay_import}
 use Rattle.pe_directories.specs.DirectoryRefusals.{DirectoryRefusal, Image, BlockSize, BlockTruncated, NoArgument, of_image}
@@ -85,7 +85,7 @@ block_by b false true true true x t h i e =
 
 block_tail : (b : List ℕ) (x : Block) (t : List ℕ) → first_block b ≡ Some (Ok (x, t)) → HasTail b t x.entries
 unfolding first_block
-block_tail b x t e = block_by b (length b == 0) (holds b 0 8) (is_block_size (le b 4 4)) (holds b 0 (le b 4 4)) x t refl refl e
+block_tail b x t e = block_by b (blocks_end b) (holds b 0 8) (is_block_size (le b 4 4)) (holds b 0 (le b 4 4)) x t refl refl e
 
 no_block : first_block [] ≡ None
 unfolding first_block

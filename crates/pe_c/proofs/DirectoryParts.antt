@@ -10,7 +10,7 @@ use Rattle.pe_core.specs.Refusals.{Short, BadMagic, Refusal, outcome, ◌>>=◌}
 use Rattle.pe_core.specs.Text.{text_at}
 use Rattle.pe_core.specs.declared.byte_range.ByteRange.{ByteRange}
 use Rattle.pe_directories.specs.Clr.{Metadata, Stream, first_stream, header_size, metadata_at, metadata_of, name_field, name_length, named, stream_of}
-use Rattle.pe_directories.specs.DelayImports.{Name, Ordinal, delay_dll, delay_name, hint_and_name, imported_by, name_or_refusal, offset_in_entry, ordinal_flag}
+use Rattle.pe_directories.specs.DelayImports.{Name, Ordinal, delay_dll, delay_name, hint_and_name, hint_offset, imported_by, name_or_refusal, offset_in_entry, ordinal_flag}
 use Rattle.pe_directories.specs.DirectoryRefusals.{DirectoryRefusal, Image, of_image}
 use Rattle.pe_directories.specs.ImageParts.{ImageView}
 use Rattle.pe_directories.specs.declared.delay_import.DelayImport.{DelayImport}
@@ -219,9 +219,9 @@ function_by i (Ok p) ordinal hint false name f e g =
     subst (λ (x : DelayedFunction). IsRange i.bytes x.name name) same (hint_stands i p hint name e)
 
 named_function : (i : ImageView) (e : DelayImport) (number hint : ℕ) (name : List ℕ) (f : DelayedFunction) →
-    imported_by i e number ≡ Ok (Name hint name) → (offset_in_entry i e (number % 2 ^ 31) >>= λ p. Ok (function_named hint name p)) ≡ Ok f → IsRange i.bytes f.name name
+    imported_by i e number ≡ Ok (Name hint name) → (hint_offset i e number >>= λ p. Ok (function_named hint name p)) ≡ Ok f → IsRange i.bytes f.name name
 unfolding imported_by
-named_function i e number hint name f h g = function_by i (offset_in_entry i e (number % 2 ^ 31)) (number % 2 ^ 16) hint (nat_le (ordinal_flag i.is_64) number) name f h g
+named_function i e number hint name f h g = function_by i (hint_offset i e number) (number % 2 ^ 16) hint (nat_le (ordinal_flag i.is_64) number) name f h g
 
 pub name_of_function_stands : (i : ImageView) (e : DelayImport) (number hint : ℕ) (name : List ℕ) (f : DelayedFunction) →
     imported_by i e number ≡ Ok (Name hint name) → function_of i e number ≡ Ok f → IsRange i.bytes f.name name

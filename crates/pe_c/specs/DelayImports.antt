@@ -1,7 +1,7 @@
 -- Delay imports: a walk over the DLLs of the directory, and a walk over what is imported of each.
-use Rattle.std.specs.Prelude.{ℕ, ◌+◌, ◌-◌, ◌%◌, ◌^◌, List, length, Result, Ok}
+use Rattle.std.specs.Prelude.{ℕ, ◌+◌, ◌-◌, List, length, Result, Ok}
 use Rattle.pe_core.specs.Refusals.{◌>>=◌}
-use Rattle.pe_directories.specs.DelayImports.{Function, Ordinal, Name, delay_dll, first_delay_import, imported_by, offset_in_entry}
+use Rattle.pe_directories.specs.DelayImports.{Function, Ordinal, Name, delay_dll, first_delay_import, hint_offset, imported_by, offset_in_entry}
 use Rattle.pe_directories.specs.DirectoryRefusals.{DirectoryRefusal}
 use Rattle.pe_directories.specs.ImageParts.{ImageView}
 use Rattle.pe_directories.specs.Walks.{First}
@@ -52,7 +52,7 @@ entry_with attributes = record {
 abbrev pub function_reported : ImageView → DelayImport → ℕ → Function → Result DelayedFunction DirectoryRefusal
 function_reported i e number (Ordinal ordinal) = Ok (record { name = no_bytes; ordinal = ordinal; has_name = 0 })
 function_reported i e number (Name hint name) =
-    offset_in_entry i e (number % 2 ^ 31) >>= λ p. Ok (record { name = record { offset = p + 2; length = length name }; ordinal = hint; has_name = 1 })
+    hint_offset i e number >>= λ p. Ok (record { name = record { offset = p + 2; length = length name }; ordinal = hint; has_name = 1 })
 
 unfoldable pub function_of : ImageView → DelayImport → ℕ → Result DelayedFunction DirectoryRefusal
 function_of i e number = imported_by i e number >>= function_reported i e number

@@ -11,7 +11,7 @@ use Rattle.pe_c.specs.Images.{directory}
 use Rattle.pe_c.specs.declared.image.Image as images
 use Rattle.pe_c.specs.declared.load_config.LoadConfig.{LoadConfig}
 
--- a load configuration as callers get it: a field that the structure is too short for is 0, and so is the number that says
+-- a load configuration as callers get it: a field that is absent is 0, and so is the number that says
 -- whether it is there
 unfoldable pub config_reported : structures.LoadConfig → LoadConfig
 config_reported c = record {

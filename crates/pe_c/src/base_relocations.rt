@@ -79,7 +79,8 @@ fn next_block(bytes: &[u8], walk: &mut Range) -> Result<Option<RelocationBlock>>
     }))
 }
 
-/// Steps through the blocks: returns the next one, and moves `walk` past it. `NOTHING` where no bytes are left.
+/// Steps through the blocks: returns the next one, and moves `walk` past it. `NOTHING` where no bytes are left, and where a
+/// block of zeros, page and size, ends the list.
 ///
 /// Errors, after which the walk is over: `SHORT` where `walk` is not inside the bytes, or the header of the block is truncated;
 /// `DIRECTORY_BLOCK_SIZE`; `DIRECTORY_BLOCK_TRUNCATED`.

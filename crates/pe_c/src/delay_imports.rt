@@ -186,7 +186,7 @@ fn function_of(image: &ImageBytes<'_>, entry: &DelayImport, lookup: u64) -> Resu
             has_name: 0,
         }),
         Function::Name { hint, name } => {
-            let offset = entry.offset_of(image, (lookup % (1 << 31)) as u32)?;
+            let offset = entry.offset_of_hint(image, lookup)?;
             Ok(DelayedFunction {
                 name: Range {
                     offset: offset as u64 + SIZE_OF_HINT,

@@ -1,6 +1,6 @@
 //! The load configuration: what guards an image against attacks, as the security cookie, the safe exception handlers of x86
 //! and the functions that may be called indirectly. Versions of Windows have added fields at the end of its structure, so it
-//! says how many bytes it has, and the fields after these are absent.
+//! says how many bytes it has, and the fields after these, or past the end of the image, are absent.
 //! https://learn.microsoft.com/windows/win32/debug/pe-format#the-load-configuration-structure-image-only
 
 ghost use Rattle.std.specs.Prelude.{◌≡◌};
@@ -16,7 +16,8 @@ use pe_core::SectionTable;
 use pe_directories::LoadConfig as Structure;
 
 /// The load configuration (`IMAGE_LOAD_CONFIG_DIRECTORY32`, `IMAGE_LOAD_CONFIG_DIRECTORY64`), up to the guard flags. A field
-/// that the structure is too short for is 0, and the field `has_` of its name is 0 too. Addresses are virtual addresses.
+/// that the structure is too short for, or the image, is 0, and the field `has_` of its name is 0 too. Addresses are virtual
+/// addresses.
 #[repr(C)]
 #[derive(Clone, Copy)]
 pub struct LoadConfig {
@@ -146,9 +147,10 @@ fn load_config_at(
     Ok(Some(config_reported(&config)))
 }
 
-/// Returns the load configuration of an image: `NOTHING` where it is absent. Strict and permissive mode make no difference.
+/// Returns the load configuration of an image: `NOTHING` where it is absent. Strict and permissive mode make no difference. Where
+/// the image ends before the structure, it has the fields that are there.
 ///
-/// Errors: `UNMAPPED`, `SHORT`.
+/// Errors: `UNMAPPED`; `SHORT` of the 4 bytes of its size.
 #[unsafe(no_mangle)]
 pub extern "C" fn pe_c_load_config(
     bytes: &[u8],

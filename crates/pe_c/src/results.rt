@@ -1,6 +1,6 @@
-//! The results of calls as numbers: 0, the number of an error of pe_core, one from 100 on, which this crate alone has, that of
-//! an error of signing, from 201 on, or that of a directory, from 301 on. Callers may store them: the numbers stay the same from
-//! version to version.
+//! The results of calls as numbers, in groups: 0; from 1 on the errors of pe_core; from 100 on those that this crate alone has
+//! and those of a step of a stack walk; from 201 on errors of signing, from 301 on those of further directories, from 401 on
+//! those of the resource tree. Callers may store them: the numbers stay the same from version to version.
 
 ghost use Rattle.std.specs.Prelude.{◌≡◌};
 ghost use Rattle.pe_core.specs.Refusals.{kind_of, kind_of_reason, answer_of};

@@ -5,4 +5,5 @@ pub mod BoundTexts
 pub mod RelocationWalks
 pub mod Names
 pub mod OtherWalks
-pub mod Words
+pub mod RichHeaders
+pub mod SectionTexts

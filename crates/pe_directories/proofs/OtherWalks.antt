@@ -1,4 +1,5 @@
--- After a number, a delay import or a bound import fewer bytes are left, and after a stream fewer streams.
+-- After a number, a delay import or a bound import fewer bytes are left, after a stream fewer streams, and after an entry of a
+-- table of a load configuration fewer entries.
 use Rattle.std.proofs.Common.{◌≡◌, ℕ, ◌-◌, ◌<◌, ◌≤◌, ◌==◌, if◌then◌else◌, Bool, true, false, List, [], ◌∷◌, length, drop, Some, None, Result, Ok, Err, length-drop, refl, ap, sym, arith}
 use Rattle.std.proofs.lemmas.Bool.Decides.{nat_tests}
 use Rattle.pe_core.specs.Bytes.{holds}
@@ -8,6 +9,7 @@ use Rattle.pe_directories.specs.Clr.{Stream, stream_of, first_stream}
 use Rattle.pe_directories.specs.DelayImports.{first_delay_import, delay_imports_end, delay_import_at}
 use Rattle.pe_directories.specs.declared.delay_import.DelayImport.{DelayImport}
 use Rattle.pe_directories.specs.DirectoryRefusals.{DirectoryRefusal, Image}
+use Rattle.pe_directories.specs.GuardTables.{Guarded, first_guarded}
 use Rattle.pe_directories.specs.VaTables.{first_va}
 
 pub va_shrinks : (is_64 : Bool) (b : List ℕ) (x : ℕ) (t : List ℕ) → first_va is_64 b ≡ Some (Ok (x, t)) → length t < length b
@@ -57,3 +59,15 @@ counted k m false found x t test h = (grind (arith, nat_tests, test), fewer m fo
 pub stream_shrinks : (s : ℕ × List ℕ) (x : Stream) (t : ℕ × List ℕ) → first_stream s ≡ Some (Ok (x, t)) → count_of t < count_of s
 stream_shrinks s x t h =
     let e = counted s.0 (s.0 - 1) (s.0 == 0) (stream_of s.1) x t refl h in omega (arith, e.0, e.1)
+
+guarded_counted : (k m : ℕ) (none there : Bool) (rest : List ℕ) (v x : Guarded) (t : ℕ × List ℕ) → (k == 0) ≡ none → (if none then None else Some (outcome {Y = Guarded × (ℕ × List ℕ)} ((there, Image Short) ∷ []) (v, (m, rest)))) ≡ Some (Ok (x, t)) → (0 < k) × (t.0 ≡ m)
+guarded_counted k m true there rest v x t test h = absurd (cc (h))
+guarded_counted k m false false rest v x t test h = absurd (cc (h))
+guarded_counted k m false true rest v x t test h =
+    let pair : (v, (m, rest)) ≡ (x, t) = cc (h) in
+    (grind (arith, nat_tests, test), sym (ap (λ (p : Guarded × (ℕ × List ℕ)). p.1.0) pair))
+
+pub guarded_shrinks : (n : ℕ) (s : ℕ × List ℕ) (x : Guarded) (t : ℕ × List ℕ) → first_guarded n s ≡ Some (Ok (x, t)) → count_of t < count_of s
+unfolding first_guarded
+guarded_shrinks n s x t h =
+    let e = guarded_counted s.0 (s.0 - 1) (s.0 == 0) _ _ _ x t refl h in omega (arith, e.0, e.1)

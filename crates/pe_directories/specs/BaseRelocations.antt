@@ -1,6 +1,6 @@
 -- Base relocations. (PE format: .reloc section, base relocation block, base relocation types. Which sizes of blocks are
 -- refused is this project's profile.)
-use Rattle.std.specs.Prelude.{ℕ, ◌+◌, ◌-◌, ◌/◌, ◌%◌, ◌==◌, ◌&&◌, List, [], ◌∷◌, length, drop, Bool, Option, Some, None, nat_le, if◌then◌else◌}
+use Rattle.std.specs.Prelude.{ℕ, ◌+◌, ◌-◌, ◌/◌, ◌%◌, ◌==◌, ◌&&◌, ◌||◌, List, [], ◌∷◌, length, drop, Bool, Option, Some, None, nat_le, if◌then◌else◌}
 use Rattle.std.specs.Option.{option_map}
 use Rattle.pe_core.specs.Bytes.{le, range, holds}
 use Rattle.pe_core.specs.Refusals.{Short, outcome}
@@ -28,10 +28,14 @@ is_block_size size = nat_le 8 size && size % 2 == 0
 unfoldable pub block_of : List ℕ → Block
 block_of b = record { page_rva = le b 0 4; entries = range b 8 (le b 4 4 - 8) }
 
+-- a list of blocks ends with its bytes, or with a block whose page and size are 0
+abbrev pub blocks_end : List ℕ → Bool
+blocks_end b = length b == 0 || (holds b 0 8 && (le b 0 4 == 0 && le b 4 4 == 0))
+
 -- the block that stands first in some bytes: two numbers of 4 bytes, its page and its size, and its entries
 unfoldable pub first_block : List ℕ → First Block (List ℕ)
 first_block b =
-    if length b == 0 then None
+    if blocks_end b then None
     else Some (outcome (
     (holds b 0 8, Image Short) ∷ (is_block_size (le b 4 4), BlockSize) ∷ (holds b 0 (le b 4 4), BlockTruncated) ∷ []
     ) (block_of b, drop (le b 4 4) b))

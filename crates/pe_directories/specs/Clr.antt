@@ -1,5 +1,5 @@
 -- The CLR header, the metadata root, and the streams of the metadata. (ECMA-335, II.25.3.3 and II.24.2.)
-use Rattle.std.specs.Prelude.{ℕ, ◌+◌, ◌-◌, ◌==◌, List, [], ◌∷◌, take, drop, position, Option, Some, None, Result, Ok, Err, nat_le, if◌then◌else◌}
+use Rattle.std.specs.Prelude.{ℕ, ◌+◌, ◌-◌, ◌==◌, ◌&&◌, List, [], ◌∷◌, take, drop, position, Option, Some, None, Result, Ok, Err, nat_le, if◌then◌else◌}
 use Rattle.std.specs.Option.{option_map}
 use Rattle.pe_core.specs.Bytes.{le, range, holds, record_at}
 use Rattle.pe_core.specs.Records.{data_directory}
@@ -11,6 +11,7 @@ use Rattle.pe_directories.specs.ImageParts.{ImageView, record_of, table_of}
 use Rattle.pe_directories.specs.Walks.{First}
 use Rattle.pe_directories.specs.declared.clr.ClrHeader.{ClrHeader}
 use Rattle.pe_directories.specs.declared.clr.ClrMetadata.{ClrMetadata}
+use Rattle.pe_directories.specs.declared.clr.ReadyToRunHeader.{ReadyToRunHeader}
 use Rattle.pe_directories.specs.declared.clr.ClrStream.{ClrStream}
 use Rattle.pe_directories.specs.declared.clr.ClrStreams.{ClrStreams}
 
@@ -37,6 +38,20 @@ clr_header_at b p = record {
 unfoldable pub clr_header : ImageView → DataDirectory → Result ClrHeader DirectoryRefusal
 clr_header i d =
     record_of i d.virtual_address 72 >>= λ p. outcome ((nat_le 72 (le i.bytes p 4), ClrHeaderSize) ∷ []) (clr_header_at i.bytes p)
+
+-- ---- code that was compiled ahead of time
+
+-- the ReadyToRun header at the start of a directory: the signature RTR and a zero, a version, flags, the number of sections;
+-- none if it has another signature
+unfoldable pub ready_to_run_of : List ℕ → Result (Option ReadyToRunHeader) DirectoryRefusal
+ready_to_run_of b =
+    if holds b 0 4 && le b 0 4 == 0x525452
+    then outcome ((holds b 0 16, Image Short) ∷ []) (Some (record { major_version = le b 4 2; minor_version = le b 6 2; flags = le b 8 4; number_of_sections = le b 12 4 }))
+    else Ok None
+
+-- the ReadyToRun header of a CLR header; none where the directory is empty
+abbrev pub ready_to_run : ImageView → ClrHeader → Result (Option ReadyToRunHeader) DirectoryRefusal
+ready_to_run i h = if h.managed_native_header.size == 0 then Ok None else (table_of i h.managed_native_header >>= ready_to_run_of)
 
 -- ---- the metadata root
 

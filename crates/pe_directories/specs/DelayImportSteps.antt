@@ -2,7 +2,7 @@
 use Rattle.std.specs.Prelude.{◌≡◌, ℕ, ◌+◌, ◌-◌, ◌%◌, ◌^◌, min, nat_le, Bool, List, Option, Some, None, Result, Ok, Err, map, if◌then◌else◌}
 use Rattle.std.specs.Borrow.{Bor}
 use Rattle.pe_core.specs.Text.{text_at, texts_of}
-use Rattle.pe_directories.specs.DelayImports.{first_delay_import, delay_imports_left, offset_in_entry, ordinal_flag}
+use Rattle.pe_directories.specs.DelayImports.{first_delay_import, delay_imports_left, hint_offset, offset_in_entry, ordinal_flag}
 use Rattle.pe_directories.specs.DirectoryRefusals.{DirectoryRefusal}
 use Rattle.pe_directories.specs.ImageParts.{ImageView}
 use Rattle.pe_directories.specs.VaTables.{first_va, vas_left, vas_are_64}
@@ -28,7 +28,7 @@ dll_name_offset i e = or_end (offset_in_entry i e e.name)
 unfoldable pub function_name_offset : ImageView → DelayImport → ℕ → ℕ
 function_name_offset i e number =
     if nat_le (ordinal_flag i.is_64) number then 2 ^ 64 - 1
-    else min (or_end (offset_in_entry i e (number % 2 ^ 31)) + 2) (2 ^ 64 - 1)
+    else min (or_end (hint_offset i e number) + 2) (2 ^ 64 - 1)
 
 -- the offset of an item's name; for a refusal one at which no byte is
 abbrev pub item_offset : {X : Type 0} → (X → ℕ) → Result X DirectoryRefusal → ℕ

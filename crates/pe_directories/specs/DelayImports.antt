@@ -81,11 +81,18 @@ unfoldable pub hint_and_name : ImageView → ℕ → Result Function DirectoryRe
 hint_and_name i p =
     of_image (record_at i.bytes p 2 (le i.bytes p 2)) >>= λ hint. delay_name i (p + 2) >>= λ name. Ok (Name hint name)
 
--- what a number of the table imports: an ordinal in the low 16 bits, or a hint and a name at the address in the low 31
+-- the offset of the hint and the name to which a number leads: an RVA in its low 31 bits, or, if the entry has virtual
+-- addresses, one in all its bits but the highest
+unfoldable pub hint_offset : ImageView → DelayImport → ℕ → Result ℕ DirectoryRefusal
+hint_offset i e number =
+    if e.attributes % 2 == 1 then offset_of_rva i (number % 2 ^ 31)
+    else offset_of_va i (number % ordinal_flag i.is_64)
+
+-- what a number of the table imports: an ordinal in the low 16 bits, or a hint and a name
 unfoldable pub imported_by : ImageView → DelayImport → ℕ → Result Function DirectoryRefusal
 imported_by i e number =
     if nat_le (ordinal_flag i.is_64) number then Ok (Ordinal (number % 2 ^ 16))
-    else (offset_in_entry i e (number % 2 ^ 31) >>= hint_and_name i)
+    else (hint_offset i e number >>= hint_and_name i)
 
 -- ---- lists
 

@@ -10,6 +10,7 @@ pub mod DelayImports
 pub mod DelayImportSteps
 pub mod Clr
 pub mod LoadConfig
+pub mod GuardTables
 pub mod Chosen
 pub mod RichHeader
 pub mod SectionNames

@@ -1,17 +1,22 @@
 -- The Rich header, which Microsoft's linker writes between the DOS stub and the PE header, and Microsoft does not document: the
 -- word DanS, three words of zeros, entries of 8 bytes, all XORed with a key, then the word Rich and the key.
-use Rattle.std.specs.Prelude.{ℕ, ◌+◌, ◌-◌, ◌*◌, ◌/◌, ◌%◌, ◌==◌, ◌&&◌, bit_xor, List, length, take, Option, Some, None, nat_le, nat_lt, slice_index, if◌then◌else◌}
+use Rattle.std.specs.Prelude.{ℕ, zero, suc, ◌+◌, ◌-◌, ◌*◌, ◌/◌, ◌%◌, ◌==◌, ◌&&◌, Bool, bit_xor, List, length, take, Option, Some, None, nat_le, nat_lt, slice_index, if◌then◌else◌}
 use Rattle.std.specs.Int.{rotate_left, w32}
-use Rattle.std.specs.List.{fold, position}
-use Rattle.std.specs.Option.{option_and_then}
-use Rattle.pe_core.specs.Bytes.{le, range, holds}
+use Rattle.std.specs.List.{fold}
+use Rattle.std.specs.Option.{option_or}
+use Rattle.pe_core.specs.Bytes.{le, range}
 use Rattle.pe_core.specs.Rows.{each}
 use Rattle.pe_directories.specs.declared.rich_header.RichEntry.{RichEntry}
 use Rattle.pe_directories.specs.declared.rich_header.RichHeader.{RichHeader}
 
--- the index of the first of n words of 4 bytes that has this value
-unfoldable pub first_word : List ℕ → ℕ → ℕ → Option ℕ
-first_word b n value = position (λ w. w == value) (each (λ k. le b (4 * k) 4) n)
+-- the word of 4 bytes with an index
+abbrev pub word : List ℕ → ℕ → ℕ
+word b k = le b (4 * k) 4
+
+-- the index of the first word Rich among the n words from index k on
+unfoldable pub next_rich : List ℕ → ℕ → ℕ → Option ℕ
+next_rich b k zero = None
+next_rich b k (suc n) = if word b k == 0x68636952 then Some k else next_rich b (suc k) n
 
 -- what callers see of the header: also the bytes before it, and its entries as they are in the file
 pub record Rich : Type 0 where
@@ -23,25 +28,36 @@ pub record Rich : Type 0 where
 abbrev pub rich_view : RichHeader → Rich
 rich_view h = record { key = h.key; before = h.before.now; entries = h.entry_bytes.now }
 
--- the header from the word with index start to the word with index end, if there are whole entries between
-abbrev pub rich_between : List ℕ → ℕ → ℕ → Option Rich
-rich_between b end start =
-    if nat_le (start + 4) end && (end - start) % 2 == 0 then Some (record {
-      key = le b (4 * end + 4) 4;
-      before = take (4 * start) b;
-      entries = range b (4 * start + 16) (4 * (end - start - 4));
-    }) else None
+-- the words from index start on are DanS and three zeros, XORed with the key
+abbrev pub starts_with : List ℕ → ℕ → ℕ → Bool
+starts_with b key start =
+    word b start == bit_xor 0x536E6144 key && word b (start + 1) == key && word b (start + 2) == key && word b (start + 3) == key
 
--- the header whose word Rich has this index: it begins at the first DanS before it
-unfoldable pub rich_before : List ℕ → ℕ → Option Rich
-rich_before b end =
-    if holds b (4 * end + 4) 4
-    then option_and_then (rich_between b end) (first_word b end (bit_xor 0x536E6144 (le b (4 * end + 4) 4)))
-    else None
+-- a header starts at the word with index start and has its word Rich at index end: whole entries are between
+abbrev pub is_rich : List ℕ → ℕ → ℕ → Bool
+is_rich b start end = nat_le (start + 4) end && (end - start) % 2 == 0 && starts_with b (word b (end + 1)) start
 
--- the header in the bytes before a PE header: the first word Rich ends it
+-- the header from the word with index start to the word Rich with index end
+abbrev pub rich_between : List ℕ → ℕ → ℕ → Rich
+rich_between b start end = record {
+  key = word b (end + 1);
+  before = take (4 * start) b;
+  entries = range b (4 * start + 16) (4 * (end - start - 4));
+}
+
+-- the header that starts at the word with index start, if one does: the next word Rich after it ends it
+unfoldable pub rich_from : List ℕ → ℕ → Option ℕ → Option Rich
+rich_from b start None = None
+rich_from b start (Some end) = if is_rich b start end then Some (rich_between b start end) else None
+
+-- the last of the headers that start at one of the first k of n words
+unfoldable pub last_rich : List ℕ → ℕ → ℕ → Option Rich
+last_rich b n zero = None
+last_rich b n (suc k) = option_or (rich_from b k (next_rich b k (n - k))) (last_rich b n k)
+
+-- the header in the bytes before a PE header, the last if there are several: the key after its word Rich is there too
 unfoldable pub rich_header : List ℕ → Option Rich
-rich_header b = option_and_then (rich_before b) (first_word b (length b / 4) 0x68636952)
+rich_header b = last_rich b (length b / 4 - 1) (length b / 4 - 1)
 
 -- the entry with an index: a build, a product, and how many objects they made
 unfoldable pub rich_entry : Rich → ℕ → RichEntry

@@ -2,6 +2,7 @@
 use Rattle.std.specs.Prelude.{ℕ, ◌+◌, ◌-◌, ◌*◌, ◌==◌, ◌&&◌, Bool, true, false, List, [], ◌∷◌, drop, Option, Some, None, nat_le, nat_lt, slice_index, if◌then◌else◌}
 use Rattle.std.specs.Option.{option_and_then}
 use Rattle.pe_core.specs.Sections.{section_name}
+use Rattle.pe_core.specs.SectionIndex.{offset_or_end}
 use Rattle.pe_core.specs.Symbols.{string_at}
 use Rattle.pe_core.specs.declared.section_table.SectionTable.{SectionTable}
 
@@ -48,3 +49,11 @@ string_offset s = option_and_then offset_in_name (section_name s)
 -- the string of a string table that the name of a section leads to
 unfoldable pub long_section_name : SectionTable → List ℕ → Option (List ℕ)
 long_section_name s table = option_and_then (string_at table) (string_offset s)
+
+-- the offset at which the string of a section stands, after the size field of the table; if there is none the greatest number,
+-- at which no byte is. Only private contracts cite this.
+abbrev pub after_size : ℕ → Option ℕ
+after_size p = if nat_le 4 p then Some p else None
+
+unfoldable pub text_offset : SectionTable → ℕ
+text_offset s = offset_or_end (option_and_then after_size (string_offset s))

@@ -5,8 +5,9 @@
 //! 4 bits, the offset in the page in the low 12.
 //!
 //! A caller walks through the blocks, and through the relocations of each. Microsoft's page asks for blocks at multiples of
-//! 4 bytes; that is not tested, and llvm-readobj does not test it either. A size below 8 or an odd one is refused, since
-//! the next block would start inside of this block's header or of an entry.
+//! 4 bytes; that is not tested, and llvm-readobj does not test it either. A block of zeros, page and size, ends the list, as
+//! some tools write it. Another size below 8 or an odd one is refused, since the next block would start inside of this
+//! block's header or of an entry.
 
 ghost use Rattle.std.specs.Prelude.{◌≡◌, Some};
 ghost use Rattle.std.specs.Iterator.{at_most};
@@ -66,8 +67,8 @@ impl<'a> RelocationBlock<'a> {
     }
 }
 
-/// The block at the start of the bytes, and the bytes after it. `None` if there are no bytes. Errors, in order: `Image` with
-/// `Short` if its header is truncated; `BlockSize`; `BlockTruncated`.
+/// The block at the start of the bytes, and the bytes after it. `None` if there are no bytes, and if its page and its size are
+/// 0. Errors, in order: `Image` with `Short` if its header is truncated; `BlockSize`; `BlockTruncated`.
 #[tactic(auto, unfolding(crate::specs::BaseRelocations::first_block, crate::specs::BaseRelocations::block_of))]
 fn first_block(bytes: &[u8]) -> Option<Result<(RelocationBlock<'_>, &[u8])>>
     ensures first { ReturnsFirst block_view (λ r. r.now) (first_block bytes.now) result }
@@ -79,7 +80,11 @@ fn first_block(bytes: &[u8]) -> Option<Result<(RelocationBlock<'_>, &[u8])>>
     if let Err(error) = require_bytes(bytes, 0, SIZE_OF_BLOCK_HEADER) {
         return Some(Err(DirectoryError::Image(error)));
     }
+    let page_rva = read_u32(bytes, 0);
     let size = read_u32(bytes, 4);
+    if page_rva == 0 && size == 0 {
+        return None;
+    }
     if size < 8 || size % 2 != 0 {
         return Some(Err(DirectoryError::BlockSize(size)));
     }
@@ -91,13 +96,13 @@ fn first_block(bytes: &[u8]) -> Option<Result<(RelocationBlock<'_>, &[u8])>>
         }));
     }
     let block = RelocationBlock {
-        page_rva: read_u32(bytes, 0),
+        page_rva,
         entries: &bytes[SIZE_OF_BLOCK_HEADER..end],
     };
     Some(Ok((block, &bytes[end..])))
 }
 
-/// The blocks of base relocations that are left. It is over after an error.
+/// The blocks of base relocations that are left, up to one of zeros. It is over after an error.
 #[derive(Clone, Copy, Debug)]
 pub struct RelocationBlocks<'a> {
     left: Option<&'a [u8]>,

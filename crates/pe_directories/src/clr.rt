@@ -3,7 +3,9 @@
 //! metadata are a root, which has the version of the runtime that the image was made for, and streams, whose names say
 //! what they hold: `#~` the tables, `#Strings`, `#US`, `#GUID` and `#Blob`.
 //!
-//! A caller that has such a header has a .NET image; the metadata say what is in it.
+//! A caller that has such a header has a .NET image; the metadata say what is in it. Where its code was compiled ahead of time,
+//! there is a header of [ReadyToRun](https://github.com/dotnet/runtime/blob/main/docs/design/coreclr/botr/readytorun-format.md)
+//! too.
 
 ghost use Rattle.std.specs.Prelude.{◌≡◌, ◌+◌, ◌*◌, ◌<◌, ◌≤◌, length, IfSome, Some};
 ghost use Rattle.std.specs.Option.{option_map};
@@ -12,7 +14,7 @@ ghost use Rattle.pe_core.specs.Records.{data_directory};
 ghost use Rattle.pe_core.specs.Text.{text_at};
 ghost use Rattle.pe_directories.specs.DirectoryRefusals.{DirectoryReturns};
 ghost use Rattle.pe_directories.specs.Walks.{Steps, rest_of};
-ghost use Rattle.pe_directories.specs.Clr.{clr_header_at, clr_header, metadata_view, metadata_of, clr_metadata, stream_view, name_field, name_length, stream_of, first_stream, streams_left, most_streams, stream_bytes};
+ghost use Rattle.pe_directories.specs.Clr.{clr_header_at, clr_header, ready_to_run_of, ready_to_run, metadata_view, metadata_of, clr_metadata, stream_view, name_field, name_length, stream_of, first_stream, streams_left, most_streams, stream_bytes};
 ghost use Rattle.pe_directories.specs.ImageParts.{image_view};
 
 use crate::error::{DirectoryError, Result};
@@ -23,6 +25,12 @@ use pe_core::{
 
 /// The size of a CLR header in bytes.
 const SIZE_OF_CLR_HEADER: usize = 72;
+
+/// The signature of a ReadyToRun header, `RTR` and a zero.
+const READY_TO_RUN_MAGIC: u32 = 0x0052_5452;
+
+/// The size of a ReadyToRun header in bytes.
+const SIZE_OF_READY_TO_RUN: usize = 16;
 
 /// The signature of the metadata root, `BSJB`.
 const METADATA_MAGIC: u32 = 0x424A_5342;
@@ -122,6 +130,53 @@ impl ClrHeader {
         ensures { DirectoryReturns metadata_view result (clr_metadata (image_view image.now) self.now) }
     {
         ClrMetadata::parse(image.table(self.metadata)?)
+    }
+
+    /// The header of ReadyToRun code, at the start of `managed_native_header`, whose range `ImageBytes::range_of` returns.
+    /// `None` if that directory is empty, or starts with another signature, as that of an image of NGEN. Errors, in order:
+    /// `Image` with `Unmapped`; `Image` with `Short` if the directory is truncated, or has fewer than 16 bytes.
+    pub fn ready_to_run(&self, image: &ImageBytes<'_>) -> Result<Option<ReadyToRunHeader>>
+        ensures { DirectoryReturns (λ h. h) result (ready_to_run (image_view image.now) self.now) }
+    {
+        if self.managed_native_header.size == 0 {
+            return Ok(None);
+        }
+        ReadyToRunHeader::parse(image.table(self.managed_native_header)?)
+    }
+}
+
+/// The header of code that was compiled ahead of time (`READYTORUN_HEADER`), 16 bytes. The entries of its sections follow it,
+/// 12 bytes each: a type, an RVA and a size.
+#[repr(C)]
+#[derive(Clone, Copy, Debug, PartialEq)]
+pub struct ReadyToRunHeader {
+    /// The version of the format, major part: a runtime takes no other.
+    pub major_version: u16,
+    /// The version of the format, minor part.
+    pub minor_version: u16,
+    /// Flags, `READYTORUN_FLAG_*`.
+    pub flags: u32,
+    /// The number of sections.
+    pub number_of_sections: u32,
+}
+
+impl ReadyToRunHeader {
+    /// The header at the start of these bytes, which are those of the directory. `None` if they do not start with `RTR` and a
+    /// zero. Error: `Image` with `Short` if there are fewer than 16.
+    #[tactic(auto, unfolding(crate::specs::Clr::ready_to_run_of))]
+    pub fn parse(bytes: &[u8]) -> Result<Option<ReadyToRunHeader>>
+        ensures { DirectoryReturns (λ h. h) result (ready_to_run_of bytes.now) }
+    {
+        if bytes.len() < 4 || read_u32(bytes, 0) != READY_TO_RUN_MAGIC {
+            return Ok(None);
+        }
+        require_bytes(bytes, 0, SIZE_OF_READY_TO_RUN)?;
+        Ok(Some(ReadyToRunHeader {
+            major_version: read_u16(bytes, 4),
+            minor_version: read_u16(bytes, 6),
+            flags: read_u32(bytes, 8),
+            number_of_sections: read_u32(bytes, 12),
+        }))
     }
 }
 

@@ -7,9 +7,9 @@
 //! the DLLs, and what is imported of each, by `DelayImports::dlls` and `DelayImport::functions`. Linkers before Visual C++ 7
 //! wrote virtual addresses instead of RVAs, and left bit 0 of the attributes clear.
 
-ghost use Rattle.std.specs.Prelude.{◌≡◌, ◌==◌, ◌+◌, ◌%◌, ◌^◌, ◌≤◌, length, IfOk};
+ghost use Rattle.std.specs.Prelude.{◌≡◌, ◌==◌, ◌+◌, ◌%◌, ◌≤◌, length, IfOk};
 ghost use Rattle.std.specs.Iterator.{at_most};
-ghost use Rattle.pe_directories.specs.DelayImports.{delay_import_at, first_delay_import, delay_imports_left, offset_in_entry, delay_name, delay_dll, lookup_table, function_view, hint_and_name, imported_by};
+ghost use Rattle.pe_directories.specs.DelayImports.{delay_import_at, first_delay_import, delay_imports_left, offset_in_entry, delay_name, delay_dll, lookup_table, function_view, ordinal_flag, hint_offset, hint_and_name, imported_by};
 ghost use Rattle.pe_directories.specs.DelayImportSteps.{ordinal_of};
 ghost use Rattle.pe_directories.specs.DirectoryRefusals.{DirectoryReturns};
 ghost use Rattle.pe_directories.specs.ImageParts.{IsMapOf, image_view, walk_table};
@@ -58,22 +58,21 @@ pub enum DelayedFunction<'a> {
     Name { hint: u16, name: &'a str },
 }
 
+/// The least number of a lookup table that is an ordinal: its highest bit is set.
+fn ordinal_flag(is_64: bool) -> u64
+    ensures { result ≡ ordinal_flag is_64 }
+{
+    if is_64 { 1 << 63 } else { 1 << 31 }
+}
+
 /// The ordinal that a number of a lookup table is: its low 16 bits, if its highest bit is set.
 pub(crate) fn ordinal_of(lookup: u64, is_64: bool) -> Option<u16>
     ensures { result ≡ ordinal_of is_64 lookup }
 {
-    let ordinals: u64 = if is_64 { 1 << 63 } else { 1 << 31 };
-    if lookup < ordinals {
+    if lookup < ordinal_flag(is_64) {
         return None;
     }
     Some((lookup % (1 << 16)) as u16)
-}
-
-/// The address of the hint and the name to which a number of a lookup table leads: its low 31 bits.
-pub(crate) fn hint_address(lookup: u64) -> u32
-    ensures { result ≡ lookup % 2 ^ 31 }
-{
-    (lookup % (1 << 31)) as u32
 }
 
 /// The name at an offset. Error: `DelayImportName`.
@@ -160,6 +159,44 @@ impl DelayImport {
         }
     }
 
+    /// The offset in the bytes of the hint and the name to which a number of `lookups` leads that is no ordinal. The number is an
+    /// RVA of 31 bits, or in an entry with virtual addresses one of as many bits as the image's addresses have, but for the
+    /// highest, which marks ordinals. Errors, in order: `VaBelowBase` of a virtual address; `Image` with `Unmapped`.
+    pub fn offset_of_hint(&self, image: &ImageBytes<'_>, lookup: u64) -> Result<usize>
+        ensures { DirectoryReturns (λ p. p) result (hint_offset (image_view image.now) self.now lookup) }
+    {
+        self.hint_offset_by(image, &image.section_map(), lookup)
+    }
+
+    /// The same by an index of the sections.
+    pub(crate) fn hint_offset_by_index<A: Allocator>(
+        &self,
+        image: &IndexedImage<'_, A>,
+        lookup: u64,
+    ) -> Result<usize>
+        ensures { DirectoryReturns (λ p. p) result (hint_offset image.now self.now lookup) }
+    {
+        self.hint_offset_by(image.image(), &image.section_map(), lookup)
+    }
+
+    /// The same by a section map of the image.
+    #[tactic(auto, unfolding(crate::specs::DelayImports::hint_offset))]
+    fn hint_offset_by(
+        &self,
+        image: &ImageBytes<'_>,
+        sections: &SectionMap<'_>,
+        lookup: u64,
+    ) -> Result<usize>
+        requires { IsMapOf (image_view image.now) sections.now }
+        ensures { DirectoryReturns (λ p. p) result (hint_offset (image_view image.now) self.now lookup) }
+    {
+        if self.has_rvas() {
+            Ok(sections.offset_of((lookup % (1 << 31)) as u32)?)
+        } else {
+            image.offset_of_va_by(sections, lookup % ordinal_flag(image.is_64))
+        }
+    }
+
     /// The name of the DLL. Errors, in order: `VaBelowBase`, `Image` with `Unmapped`, `DelayImportName`.
     pub fn dll<'a>(&self, image: &ImageBytes<'a>) -> Result<&'a str>
         ensures { DirectoryReturns (λ s. s.now) result (delay_dll (image_view image.now) self.now) }
@@ -188,7 +225,7 @@ impl DelayImport {
         if let Some(ordinal) = ordinal_of(lookup, image.is_64) {
             return Ok(DelayedFunction::Ordinal(ordinal));
         }
-        let offset = self.offset_of(image, hint_address(lookup))?;
+        let offset = self.offset_of_hint(image, lookup)?;
         hint_and_name(image, offset)
     }
 }

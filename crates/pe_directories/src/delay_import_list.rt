@@ -11,7 +11,7 @@ ghost use Rattle.pe_directories.specs.DelayImportSteps.{AreItemNames, dll_name_o
 ghost use Rattle.pe_directories.specs.DirectoryRefusals.{DirectoryReturns, DirectoryReturnsUnlessMemory, directory_answer};
 ghost use Rattle.pe_directories.specs.Walks.{each_read};
 
-use crate::delay_import::{DelayImport, DelayImports, DelayedFunction, hint_address, ordinal_of};
+use crate::delay_import::{DelayImport, DelayImports, DelayedFunction, ordinal_of};
 use crate::error::{DirectoryError, Result};
 use crate::indexed_image::IndexedImage;
 use crate::va_table::VaTable;
@@ -66,7 +66,7 @@ impl DelayImport {
         if ordinal_of(lookup, image.is_64()).is_some() {
             return usize::MAX;
         }
-        match self.offset_by_index(image, hint_address(lookup)) {
+        match self.hint_offset_by_index(image, lookup) {
             Ok(offset) => offset.saturating_add(SIZE_OF_HINT),
             Err(_) => usize::MAX,
         }
@@ -87,7 +87,7 @@ impl DelayImport {
         if let Some(ordinal) = ordinal_of(lookup, image.is_64()) {
             return Ok(DelayedFunction::Ordinal(ordinal));
         }
-        let offset = self.offset_by_index(image, hint_address(lookup))?;
+        let offset = self.hint_offset_by_index(image, lookup)?;
         let hint = u16_at(image.bytes(), offset)?;
         match name {
             Some(name) => Ok(DelayedFunction::Name { hint, name }),

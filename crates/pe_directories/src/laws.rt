@@ -1,5 +1,7 @@
 //! What the contracts say together, over whole walks.
 
+pub mod constants;
+
 ghost use Rattle.std.specs.Prelude.{◌≡◌, ℕ, List, Bool, map, Result};
 ghost use Rattle.std.specs.Iterator.{Drains};
 ghost use Rattle.pe_directories.specs.DirectoryRefusals.{directory_answer};
@@ -8,6 +10,7 @@ ghost use Rattle.pe_directories.specs.BaseRelocations.{block_view, first_block, 
 ghost use Rattle.pe_directories.specs.BoundImports.{bound_view, first_bound_import, bound_imports_left};
 ghost use Rattle.pe_directories.specs.Clr.{stream_view, first_stream, streams_left};
 ghost use Rattle.pe_directories.specs.DelayImports.{first_delay_import, delay_imports_left};
+ghost use Rattle.pe_directories.specs.GuardTables.{guarded_view, first_guarded, flag_size_of, guarded_left};
 ghost use Rattle.pe_directories.specs.VaTables.{first_va, vas_left, vas_are_64};
 ghost use Rattle.pe_directories.specs.declared.base_relocation.RelocationBlock.{RelocationBlock};
 ghost use Rattle.pe_directories.specs.declared.base_relocation.RelocationBlocks.{RelocationBlocks};
@@ -19,6 +22,8 @@ ghost use Rattle.pe_directories.specs.declared.clr.ClrStream.{ClrStream};
 ghost use Rattle.pe_directories.specs.declared.clr.ClrStreams.{ClrStreams};
 ghost use Rattle.pe_directories.specs.declared.delay_import.DelayImport.{DelayImport};
 ghost use Rattle.pe_directories.specs.declared.delay_import.DelayImports.{DelayImports};
+ghost use Rattle.pe_directories.specs.declared.guard_table.GuardEntry.{GuardEntry};
+ghost use Rattle.pe_directories.specs.declared.guard_table.GuardTable.{GuardTable};
 ghost use Rattle.pe_directories.specs.declared.va_table.VaTable.{VaTable};
 ghost use Rattle.pe_directories.specs.declared.error.DirectoryError.{DirectoryError};
 
@@ -26,6 +31,7 @@ use crate::base_relocation::{BaseRelocations, RelocationBlocks};
 use crate::bound_import::BoundImports;
 use crate::clr::ClrStreams;
 use crate::delay_import::DelayImports;
+use crate::guard_table::GuardTable;
 use crate::va_table::VaTable;
 
 /// The items of a walk through base relocations are the blocks of its bytes, and the relocations of a block's entries.
@@ -88,4 +94,15 @@ pub fn bound_import_walks_return_the_list()
         Drains ⟦<BoundImports<'static> as Iterator>⟧.next_gives s xs →
         ItemsLeft first_bound_import (bound_imports_left s) (map (directory_answer bound_view) xs) }
     ensures list { HasOneList first_bound_import }
+{}
+
+/// The items of a walk through a table of a load configuration are as many entries of its bytes as the load configuration says, or
+/// those before the bytes end and then an error. Every byte string has one list of them, for every number of entries and of bytes
+/// of flags.
+pub fn guard_walks_return_the_list()
+    ensures entries { (s : GuardTable) (xs : List (Result GuardEntry DirectoryError)) →
+        Drains ⟦<GuardTable<'static> as Iterator>⟧.next_gives s xs →
+        ItemsLeft (first_guarded (flag_size_of s)) (guarded_left s)
+        (map (directory_answer guarded_view) xs) }
+    ensures list { (n : ℕ) → HasOneList (first_guarded n) }
 {}

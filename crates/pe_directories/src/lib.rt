@@ -18,6 +18,7 @@ mod delay_import;
 mod delay_import_list;
 mod directories;
 mod error;
+mod guard_table;
 mod image_bytes;
 mod indexed_image;
 pub mod laws;
@@ -37,16 +38,22 @@ pub use bound_import::{
     BoundForwarder, BoundForwarders, BoundImport, BoundImportDirectory, BoundImports,
 };
 pub use bound_names::BoundNames;
-pub use clr::{ClrHeader, ClrMetadata, ClrStream, ClrStreams};
+pub use clr::{ClrHeader, ClrMetadata, ClrStream, ClrStreams, ReadyToRunHeader};
 pub use delay_import::{DelayImport, DelayImports, DelayedFunction};
 pub use delay_import_list::DelayedDll;
 pub use directories::{ChosenDirectories, Directories};
 pub use error::DirectoryError;
+pub use guard_table::{
+    GuardEntry, GuardTable, IMAGE_GUARD_FLAG_EXPORT_SUPPRESSED, IMAGE_GUARD_FLAG_FID_SUPPRESSED,
+};
 pub use image_bytes::ImageBytes;
 pub use indexed_image::IndexedImage;
-pub use load_config::LoadConfig;
+pub use load_config::{
+    CodeIntegrity, GuardFunctions, GuardTables, LoadConfig, LoadMetadata, ProcessSettings,
+    ReturnFlowGuard,
+};
 pub use overlay::overlay_range;
 pub use rich_header::{RichEntry, RichHeader};
-pub use section_name::{long_section_name, string_offset};
+pub use section_name::{long_section_name, long_section_names, string_offset};
 pub use tls::TlsDirectory;
 pub use va_table::VaTable;

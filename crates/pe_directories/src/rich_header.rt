@@ -2,12 +2,12 @@
 //! image, and how many objects each. Microsoft does not document it; [this page](https://www.ntcore.com/files/richsign.htm) does.
 //!
 //! It is the word `DanS`, three words of zeros and entries of 8 bytes, all XORed with a key, then the word `Rich` and the key.
-//! The linker takes a checksum as the key: of the DOS header, the DOS stub and the entries.
+//! Its words are words of the file: at multiples of 4 from its start. The linker takes a checksum as the key: of the DOS header, the DOS stub and the entries.
 
-ghost use Rattle.std.specs.Prelude.{◌≡◌, ◌+◌, ◌*◌, ◌/◌, ◌<◌, ◌≤◌, bit_xor, length, IfSome};
+ghost use Rattle.std.specs.Prelude.{◌≡◌, ◌+◌, ◌*◌, ◌/◌, ◌<◌, ◌≤◌, ◌==◌, bit_xor, length, if◌then◌else◌, IfSome, Some};
 ghost use Rattle.std.specs.Option.{option_map};
 ghost use Rattle.pe_core.specs.Bytes.{le};
-ghost use Rattle.pe_directories.specs.RichHeader.{first_word, rich_view, rich_between, rich_before, rich_header, rich_entry, rich_entry_at, stub_share, stub_sum, entry_share, rich_checksum};
+ghost use Rattle.pe_directories.specs.RichHeader.{word, starts_with, is_rich, rich_view, rich_from, rich_header, rich_entry, rich_entry_at, stub_share, stub_sum, entry_share, rich_checksum};
 
 use pe_core::read_u32;
 
@@ -52,54 +52,85 @@ pub struct RichEntry {
     pub count: u32,
 }
 
-/// The index of the first of `count` words at the start of the bytes that has this value.
-#[tactic(auto, using(crate::proofs::Words::word_found, crate::proofs::Words::word_missing, crate::proofs::Words::no_word_more))]
-fn first_word(bytes: &[u8], count: usize, value: u32) -> Option<usize>
-    requires { 4 * count ≤ length bytes.now }
-    ensures found { result ≡ first_word bytes.now count value }
-    ensures below { IfSome result (λ k. k < count) }
+/// The word with an index.
+fn word(bytes: &[u8], index: usize) -> u32
+    requires { 4 * index + 4 ≤ length bytes.now }
+    ensures { result ≡ word bytes.now index }
 {
-    for index in 0..count {
-        if read_u32(bytes, SIZE_OF_WORD * index) == value {
-            return Some(index);
-        }
-    }
-    None
+    read_u32(bytes, SIZE_OF_WORD * index)
 }
 
-/// The header whose first word has the index `start`, and its word `Rich` the index `end`. `None` unless there are whole
-/// entries between.
-fn rich_between(bytes: &[u8], end: usize, start: usize) -> Option<RichHeader<'_>>
-    requires room { 4 * end + 8 ≤ length bytes.now }
-    requires order { start < end }
-    ensures { option_map rich_view result ≡ rich_between bytes.entry.now end start }
+/// Whether the words from index `start` on are `DanS` and three zeros, XORed with the key.
+fn starts_with(bytes: &[u8], key: u32, start: usize) -> bool
+    requires { 4 * start + 16 ≤ length bytes.now }
+    ensures { result ≡ starts_with bytes.now key start }
 {
-    if end - start < WORDS_BEFORE_ENTRIES || (end - start) % 2 == 1 {
+    word(bytes, start) == DANS ^ key
+        && word(bytes, start + 1) == key
+        && word(bytes, start + 2) == key
+        && word(bytes, start + 3) == key
+}
+
+/// Whether a header starts at the word with index `start` and has its word `Rich` at index `end`.
+fn is_rich(bytes: &[u8], start: usize, end: usize) -> bool
+    requires start { 4 * start + 8 ≤ length bytes.now }
+    requires end { 4 * end + 8 ≤ length bytes.now }
+    ensures { result ≡ is_rich bytes.now start end }
+{
+    start + WORDS_BEFORE_ENTRIES <= end
+        && (end - start) % 2 == 0
+        && starts_with(bytes, word(bytes, end + 1), start)
+}
+
+/// The index of the first word `Rich` from the word with this index on, where `next` is that of the first one after it.
+fn next_rich(bytes: &[u8], index: usize, next: Option<usize>) -> Option<usize>
+    requires { 4 * index + 4 ≤ length bytes.now }
+    ensures { result ≡ (if word bytes.now index == 0x68636952 then Some index else next) }
+{
+    if word(bytes, index) == RICH {
+        return Some(index);
+    }
+    next
+}
+
+/// The header that starts at the word with index `start`, if one does. `next` is the index of the next word `Rich`.
+#[tactic(auto, unfolding(crate::specs::RichHeader::rich_from))]
+fn rich_from(bytes: &[u8], start: usize, next: Option<usize>) -> Option<RichHeader<'_>>
+    requires start { 4 * start + 8 ≤ length bytes.now }
+    requires next { IfSome next (λ end. 4 * end + 8 ≤ length bytes.now) }
+    ensures { option_map rich_view result ≡ rich_from bytes.entry.now start next }
+{
+    let end = next?;
+    if !is_rich(bytes, start, end) {
         return None;
     }
     let entries = SIZE_OF_WORD * (start + WORDS_BEFORE_ENTRIES);
     Some(RichHeader {
-        key: read_u32(bytes, SIZE_OF_WORD * end + SIZE_OF_WORD),
+        key: word(bytes, end + 1),
         before: &bytes[..SIZE_OF_WORD * start],
         entry_bytes: &bytes[entries..SIZE_OF_WORD * end],
     })
 }
 
 impl<'a> RichHeader<'a> {
-    /// The Rich header in the bytes before the PE header, for instance those of an image up to `dos_header.pe_pointer`. `None`
-    /// if there is none.
-    #[tactic(auto, unfolding(crate::specs::RichHeader::rich_header, crate::specs::RichHeader::rich_before))]
+    /// The Rich header in the bytes before the PE header, for instance those of an image up to `dos_header.pe_pointer`; the
+    /// last, if there are several. `None` if there is none. A header starts at a word of the file with `DanS` and three zeros,
+    /// XORed with the key after the next word `Rich`. It reads each byte a few times.
+    #[tactic(auto, using(crate::proofs::RichHeaders::header_found, crate::proofs::RichHeaders::none_found))]
     pub fn find(bytes: &'a [u8]) -> Option<RichHeader<'a>>
         ensures { option_map rich_view result ≡ rich_header bytes.entry.now }
     {
-        let count = bytes.len() / SIZE_OF_WORD;
-        let end = first_word(bytes, count, RICH)?;
-        if end + 1 >= count {
-            return None;
+        let mut left = (bytes.len() / SIZE_OF_WORD).saturating_sub(1);
+        let mut next = None;
+        while left > 0 {
+            left -= 1;
+            next = next_rich(bytes, left, next);
+            let header = rich_from(bytes, left, next);
+            if header.is_some() {
+                return header;
+            }
         }
-        let key = read_u32(bytes, SIZE_OF_WORD * end + SIZE_OF_WORD);
-        let start = first_word(bytes, end, DANS ^ key)?;
-        rich_between(bytes, end, start)
+        None
     }
 
     /// The number of entries.

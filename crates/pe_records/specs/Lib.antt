@@ -5,3 +5,4 @@ pub mod DebugRecords
 pub mod Parts
 pub mod Pogo
 pub mod DebugSpelling
+pub mod ManagedDebug

@@ -6,6 +6,7 @@
 mod codeview;
 mod constants;
 mod first_entries;
+mod managed;
 mod pogo;
 mod records;
 
@@ -41,6 +42,7 @@ pub use constants::{
     IMAGE_DLLCHARACTERISTICS_EX_HOTPATCH_COMPATIBLE, POGO_SIGNATURE_SIZE,
 };
 use first_entries::FirstEntries;
+pub use managed::{EMBEDDED_PDB_MAGIC, EmbeddedPdb, PdbChecksum};
 use pe_core::{
     ByteRange, DataDirectory, Error, ParseMode, ParseOptions, Reason, Result, SectionTable,
     mapped_offset, read_u16, read_u32, require_bytes, split_entry,

@@ -177,9 +177,9 @@ root_of (Some (Err r, rest)) = Err r
 abbrev pub version_block : List ℕ → Result (Option Block) BlockRefusal
 version_block b = root_of (first_block b)
 
--- the fixed file information in a value, if it has 52 bytes
-abbrev pub fixed_info_of_value : List ℕ → Option VsFixedFileInfo
-fixed_info_of_value v = if nat_le 52 (length v) then Some (fixed_info_at v 0) else None
+-- the fixed file information in a block: its value, if its key is VS_VERSION_INFO and its value has 52 bytes
+abbrev pub fixed_info_of_block : Block → Option VsFixedFileInfo
+fixed_info_of_block k = if has_key (codes "VS_VERSION_INFO") k && nat_le 52 (length k.value) then Some (fixed_info_at k.value 0) else None
 
 -- the bytes of what the first child with this key contains
 unfoldable pub children_with_key : List ℕ → Block → Result (List ℕ) BlockRefusal

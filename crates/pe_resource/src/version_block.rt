@@ -18,12 +18,12 @@ ghost use Rattle.std.specs.Str.{bytes_eq};
 ghost use Rattle.std.proofs.Common.{arith};
 ghost use Rattle.pe_core.specs.EntriesLeft.{bytes_left};
 ghost use Rattle.pe_core.specs.HexDigits.{number_after};
-ghost use Rattle.pe_resource.specs.VersionBlocks.{BlockReturns, block_answer, block_view, whole_block, own_bytes, first_block, blocks, rest_of, ReturnsBlock, block_with_key, children_of, value_of, version_block, fixed_info_of_value, children_with_key, value_with_key, value_below, string_tables, translations, translation_at, translation_of_key, block_of_content};
+ghost use Rattle.pe_resource.specs.VersionBlocks.{BlockReturns, block_answer, block_view, whole_block, own_bytes, first_block, blocks, rest_of, ReturnsBlock, block_with_key, children_of, value_of, version_block, fixed_info_of_block, children_with_key, value_with_key, value_below, string_tables, translations, translation_at, translation_of_key, block_of_content};
 ghost use Rattle.pe_resource.specs.EntriesAfter.{translations_after};
 ghost use Rattle.pe_resource.specs.VersionFields.{ReturnsText};
 ghost use Rattle.pe_resource.specs.VersionStrings.{units};
 
-use crate::constants::RESOURCE_STRING_FIELD_ALIGNMENT;
+use crate::constants::{RESOURCE_STRING_FIELD_ALIGNMENT, VS_VERSION_INFO_KEY};
 use crate::string::{SIZE_OF_HEAD, SIZE_OF_UNIT, key_length, same_units, size_of_value, text_of};
 use crate::version::{SIZE_OF_FIXED_INFO, VsFixedFileInfo};
 use crate::version_block_error::VersionBlockError;
@@ -220,11 +220,14 @@ impl<'a> VersionBlock<'a> {
         VersionBlocks::new(self.child_bytes)
     }
 
-    /// The fixed file information in the value. `None` if it has fewer than 52 bytes.
+    /// The fixed file information, which is the value of the block with the key `VS_VERSION_INFO`, as for `VersionInfo`. `None`
+    /// if the key is another, or if the value has fewer than 52 bytes.
     pub fn fixed_info(&self) -> Option<VsFixedFileInfo>
-        ensures { result ≡ fixed_info_of_value (block_view self.now).value }
+        ensures { result ≡ fixed_info_of_block (block_view self.now) }
     {
-        if self.value.len() < SIZE_OF_FIXED_INFO {
+        if !same_units(self.key, VS_VERSION_INFO_KEY.as_bytes())
+            || self.value.len() < SIZE_OF_FIXED_INFO
+        {
             return None;
         }
         Some(VsFixedFileInfo::at(self.value, 0))

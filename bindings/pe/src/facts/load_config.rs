@@ -5,7 +5,7 @@ use crate::names::GUARD_FLAGS;
 use pe_c::Image;
 use serde::Serialize;
 
-/// A field is null where the structure is too short for it.
+/// A field is null where the structure, or the file, is too short for it.
 #[derive(Clone, Debug, Serialize)]
 pub struct LoadConfig {
     /// Of the structure in bytes, as it says itself.
