@@ -289,7 +289,11 @@ fn numbers_of_sign_errors(rt: HostRuntime) -> Result<(), Fail> {
         assert!(rt; matches!(refused, Some(SignError::TableNotLast(at)) if at == end));
     }
     // shows: pe_sign/src/checks.rt image Headers
-    let signed = with_part(with_functions(alloc)?, 0xE8, &[0x6F, 1, 0, 0, 0xA1, 2, 0, 0]);
+    let signed = with_part(
+        with_functions(alloc)?,
+        0xE8,
+        &[0x6F, 1, 0, 0, 0xA1, 2, 0, 0],
+    );
     assert!(rt; matches!(refusal_of(&signed)?, Some(SignError::Headers(0x16F))));
     let mut unsigned = unsigned(alloc, &[])?;
     unsigned.truncate(0x150);
