@@ -174,6 +174,7 @@ fn misaligned(alloc: Global) -> Result<Vec<u8>, Fail> {
 fn refuses_to_attach_after_a_misaligned_table(rt: HostRuntime) -> Result<(), Fail> {
     let bytes = misaligned(rt.alloc())?;
     let (refused, _) = attached(rt.alloc(), &bytes, Placement::After, 0x800)?;
+    // shows: pe_sign/src/attachment.rt certified TableOffset
     assert!(rt; matches!(refused, Err(SignError::TableOffset(0x401))));
     // In its place the certificate goes to 0x408, and a byte of zero or more is before it.
     let (written, out) = attached(rt.alloc(), &bytes, Placement::InPlace, 0x418)?;
@@ -245,6 +246,58 @@ fn numbers_of_reasons(rt: HostRuntime) -> Result<(), Fail> {
         reason_of(detached_len(&bytes, &header)),
         Some(Reason::CertificateTable(1041))
     );
+    // The end of a table may need 33 bits.
+    let bytes = with_part(with_functions(rt.alloc())?, 0xE8, &[0xFF; 8]);
+    let header = header_of(&bytes)?;
+    assert_eq!(rt;
+        reason_of(detached_len(&bytes, &header)),
+        Some(Reason::CertificateTable(0x1_FFFF_FFFE))
+    );
+    Ok(())
+}
+
+/// Why a call of an image is refused, by its bytes: `detach` refuses what `attach` does.
+fn refusal_of(bytes: &[u8]) -> Result<Option<SignError>, Fail> {
+    Ok(detached_len(bytes, &header_of(bytes)?).err())
+}
+
+/// The image with three sections. The header of the second is at 0x170, that of the third at 0x198; their data are `sizes`
+/// bytes from 0x3F8 on, and the certificates start at 0x400.
+fn with_sections(alloc: Global, sizes: [u8; 2]) -> Result<Vec<u8>, Fail> {
+    let bytes = with_byte(with_functions(alloc)?, 0x46, 3);
+    let second = with_part(bytes, 0x180, &[sizes[0], 0, 0, 0, 0xF8, 3, 0, 0]);
+    Ok(with_part(second, 0x1A8, &[sizes[1], 0, 0, 0, 0xF8, 3, 0, 0]))
+}
+
+#[test]
+fn numbers_of_sign_errors(rt: HostRuntime) -> Result<(), Fail> {
+    let alloc = rt.alloc();
+    assert!(rt; refusal_of(&with_sections(alloc, [8, 8])?)?.is_none());
+    // shows: pe_sign/src/checks.rt require_sections Section
+    for (sizes, index) in [([9, 8], 1), ([8, 9], 2), ([9, 9], 1)] {
+        let refused = refusal_of(&with_sections(alloc, sizes)?)?;
+        assert!(rt; matches!(refused, Some(SignError::Section(at)) if at == index));
+    }
+    // shows: pe_sign/src/checks.rt require_table NoDirectory
+    for count in [3, 4] {
+        let refused = refusal_of(&with_byte(with_functions(alloc)?, 0xC4, count))?;
+        assert!(rt; matches!(refused, Some(SignError::NoDirectory(n)) if n == count as usize));
+    }
+    // shows: pe_sign/src/checks.rt require_table TableNotLast
+    for (size, end) in [(8, 0x408), (15, 0x40F)] {
+        let refused = refusal_of(&with_byte(with_functions(alloc)?, 0xEC, size))?;
+        assert!(rt; matches!(refused, Some(SignError::TableNotLast(at)) if at == end));
+    }
+    // shows: pe_sign/src/checks.rt image Headers
+    let signed = with_part(
+        with_functions(alloc)?,
+        0xE8,
+        &[0x6F, 1, 0, 0, 0xA1, 2, 0, 0],
+    );
+    assert!(rt; matches!(refusal_of(&signed)?, Some(SignError::Headers(0x16F))));
+    let mut unsigned = unsigned(alloc, &[])?;
+    unsigned.truncate(0x150);
+    assert!(rt; matches!(refusal_of(&unsigned)?, Some(SignError::Headers(0x150))));
     Ok(())
 }
 
@@ -269,8 +322,8 @@ fn texts_of_sign_errors(rt: HostRuntime) -> Result<(), Fail> {
             "headers end after file offset 0x16f, where the certificates start or the file ends",
         ),
         (
-            SignError::Section(0),
-            "data of section 0 ends after the start of the certificates, or after the end of the file",
+            SignError::Section(2),
+            "data of section 2 ends after the start of the certificates, or after the end of the file",
         ),
         (
             SignError::TableOffset(0x401),
@@ -322,6 +375,22 @@ fn parses_lists_and_detaches_what_was_attached(rt: HostRuntime) -> Result<(), Fa
     assert!(rt; has(&out, 0xE8, &[0; 8]));
     assert_eq!(rt; &out[0xF0..], &bytes[0xF0..0x400]);
     assert!(rt; header_of(&out)?.optional_header.is_some());
+    Ok(())
+}
+
+#[test]
+fn unsigned_images_come_back(rt: HostRuntime) -> Result<(), Fail> {
+    // With the checksum that osslsigncode calculates, and without one.
+    let unsigned = unsigned(rt.alloc(), &[])?;
+    let summed = with_part(unsigned.clone()?, 0x98, &[0x3D, 0x75, 0, 0]);
+    for bytes in [&summed, &unsigned] {
+        for placement in [Placement::After, Placement::InPlace] {
+            let (_, signed) = attached(rt.alloc(), bytes, placement, 0x410)?;
+            let mut out = vec![in rt.alloc(); OLD; 0x400]?;
+            assert!(rt; matches!(detach(&signed, &header_of(&signed)?, &mut out), Ok(0x400)));
+            assert_eq!(rt; &out[..], &summed[..]);
+        }
+    }
     Ok(())
 }
 

@@ -12,4 +12,7 @@ mod signing;
 
 pub use modes::{debug_data, debug_data_of_both_modes, libraries_of_both_modes};
 pub use plans::{is_endless, root_record};
-pub use signing::attached_certificates_are_listed;
+pub use signing::{
+    attach_and_detach, attach_with_checksum, attached_certificates_are_listed, digests_of_both,
+    slices_and_ranges,
+};

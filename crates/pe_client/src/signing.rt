@@ -1,12 +1,143 @@
-//! What the parser lists of an image once a certificate is attached to it.
+//! What a signing tool proves of its own calls: what was attached is detached, the digest stays, checksums are good, and what
+//! the parser lists of an image once a certificate is attached to it. The laws of `pe_sign::laws::calls` are called with what
+//! the calls took and returned.
 
-ghost use Rattle.std.specs.Prelude.{◌≡◌, ◌-◌, ◌++◌, ℕ, List, Ok, false, true, length};
-ghost use Rattle.pe_core.specs.Header.{HeaderView};
+ghost use Rattle.std.specs.Prelude.{◌≡◌, ◌-◌, ◌%◌, ◌≤◌, ◌++◌, ℕ, List, IfOk, Ok, false, true, flat_map, length, take};
+ghost use Rattle.pe_core.specs.Bytes.{AreBytes, le};
+ghost use Rattle.pe_core.specs.Directories.{absent_directory};
+ghost use Rattle.pe_core.specs.Header.{HeaderView, header_at, header_view};
+ghost use Rattle.pe_core.specs.Offsets.{bytes_in};
+ghost use Rattle.pe_core.specs.Sections.{sections_offset};
+ghost use Rattle.pe_core.specs.declared.options.ParseMode.TheVariants.{Strict};
 ghost use Rattle.pe_records.specs.Certificates.{CertificateView, IsListing};
-ghost use Rattle.pe_sign.specs.Attaching.{attached_of, is_signed, table_start};
-ghost use Rattle.pe_sign.specs.Digest.{left_out_of};
+ghost use Rattle.pe_sign.specs.Attaching.{attached_of, before_table, is_signed, table_start, with_both_fields};
+ghost use Rattle.pe_sign.specs.Checksum.{checksum_of};
+ghost use Rattle.pe_sign.specs.Digest.{covered_bytes, left_out_of, ranges_view};
+ghost use Rattle.pe_sign.specs.WrittenHeaders.{directories_end};
 ghost use Rattle.pe_sign.specs.declared.attachment.Placement.{Placement};
 ghost use Rattle.pe_sign.specs.declared.digest.LeftOut.{LeftOut};
+
+use pe_image::{Header, ParseMode, ParseOptions};
+use pe_sign::laws::calls::{
+    Attachment, attached_is_detached, checksum_is_good, digest_stays, ranges_are_slices,
+    unsigned_image_comes_back,
+};
+use pe_sign::{
+    AuthenticodeRanges, DigestRanges, Placement, SignError, attach, authenticode_ranges, detach,
+    digest_ranges,
+};
+
+/// Detaches what was attached to an image in strict mode. Two claims: it is the image as it was, but for zeros at its end,
+/// the entry and the checksum, without its certificates; and an unsigned image whose length is a multiple of eight comes back
+/// byte for byte if its checksum is right.
+fn detach_again(call: Attachment<'_>, out: &mut [u8]) -> Result<usize, SignError>
+    requires parsed { header_at call.bytes.now Strict ≡ Ok (header_view call.header.now) }
+    requires attached { attached_of call.placement call.bytes.now (header_view call.header.now)
+        call.certificate.now ≡ Ok call.file.now }
+    requires content { AreBytes call.bytes.now }
+    ensures image { (h : HeaderView) (l : LeftOut) → header_at call.entry.bytes.now Strict ≡ Ok h →
+        left_out_of h ≡ Ok l → directories_end h ≤ sections_offset h →
+        IfOk result (λ n. take n out.new ≡ with_both_fields l absent_directory
+        (before_table call.entry.placement l call.entry.bytes.now)) }
+    ensures unsigned { (h : HeaderView) (l : LeftOut) →
+        header_at call.entry.bytes.now Strict ≡ Ok h → left_out_of h ≡ Ok l →
+        is_signed l ≡ false → length call.entry.bytes.now % 8 ≡ 0 →
+        le call.entry.bytes.now l.checksum.offset 4
+        ≡ checksum_of call.entry.bytes.now l.checksum.offset →
+        directories_end h ≤ sections_offset h →
+        IfOk result (λ n. take n out.new ≡ call.entry.bytes.now) }
+{
+    let read = Header::parse_with_opts(call.file, &ParseOptions::default())?;
+    attached_is_detached(call, ParseMode::Strict, &read);
+    unsigned_image_comes_back(call, ParseMode::Strict, &read);
+    let count = detach(call.file, &read, out)?;
+    Ok(count)
+}
+
+/// Attaches a certificate, and detaches it again: `room` has the image with it, and `out` what is left then.
+pub fn attach_and_detach(
+    bytes: &[u8],
+    certificate: &[u8],
+    placement: Placement,
+    room: &mut [u8],
+    out: &mut [u8],
+) -> Result<usize, SignError>
+    ensures image { (h : HeaderView) (l : LeftOut) → header_at bytes.now Strict ≡ Ok h →
+        left_out_of h ≡ Ok l → directories_end h ≤ sections_offset h →
+        IfOk result (λ n. take n out.new
+        ≡ with_both_fields l absent_directory (before_table placement l bytes.now)) }
+    ensures unsigned { (h : HeaderView) (l : LeftOut) → header_at bytes.now Strict ≡ Ok h →
+        left_out_of h ≡ Ok l → is_signed l ≡ false → length bytes.now % 8 ≡ 0 →
+        le bytes.now l.checksum.offset 4 ≡ checksum_of bytes.now l.checksum.offset →
+        directories_end h ≤ sections_offset h → IfOk result (λ n. take n out.new ≡ bytes.now) }
+{
+    let header = Header::parse_with_opts(bytes, &ParseOptions::default())?;
+    let length = attach(bytes, &header, certificate, placement, room)?;
+    let call = Attachment {
+        bytes,
+        header: &header,
+        certificate,
+        placement,
+        file: &room[..length],
+    };
+    detach_again(call, out)
+}
+
+/// What the digests of an image and of what was attached to it cover: the same bytes, so a signature of the image is valid
+/// for the file with it.
+pub fn digests_of_both<'a>(
+    call: Attachment<'a>,
+) -> Result<(AuthenticodeRanges<'a>, AuthenticodeRanges<'a>), SignError>
+    requires parsed { header_at call.bytes.now Strict ≡ Ok (header_view call.header.now) }
+    requires attached { attached_of call.placement call.bytes.now (header_view call.header.now)
+        call.certificate.now ≡ Ok call.file.now }
+    requires ends { directories_end (header_view call.header.now)
+        ≤ sections_offset (header_view call.header.now) }
+    ensures { IfOk result (λ r. covered_bytes (ranges_view r.1) ≡ covered_bytes (ranges_view r.0)) }
+{
+    let read = Header::parse_with_opts(call.file, &ParseOptions::default())?;
+    let old = authenticode_ranges(call.bytes, call.header)?;
+    let new = authenticode_ranges(call.file, &read)?;
+    digest_stays(call, ParseMode::Strict, &read, old, new);
+    Ok((old, new))
+}
+
+/// Attaches a certificate after the others: in the file with it, the field of the checksum is the checksum.
+pub fn attach_with_checksum(
+    bytes: &[u8],
+    header: &Header<'_>,
+    certificate: &[u8],
+    room: &mut [u8],
+) -> Result<usize, SignError>
+    ensures { (l : LeftOut) → left_out_of (header_view header.now) ≡ Ok l →
+        IfOk result (λ n. le (take n room.new) l.checksum.offset 4
+        ≡ checksum_of (take n room.new) l.checksum.offset) }
+{
+    let length = attach(bytes, header, certificate, Placement::After, room)?;
+    checksum_is_good(Attachment {
+        bytes,
+        header,
+        certificate,
+        placement: Placement::After,
+        file: &room[..length],
+    });
+    Ok(length)
+}
+
+/// What a digest covers, as slices and as ranges of the file: the ranges, one after the other, have the bytes of the slices,
+/// and as many zeros follow.
+pub fn slices_and_ranges<'a>(
+    bytes: &'a [u8],
+    header: &Header<'_>,
+) -> Result<(AuthenticodeRanges<'a>, DigestRanges), SignError>
+    ensures { IfOk result (λ r. (flat_map (bytes_in bytes.entry.now) r.1.ranges
+        ≡ (ranges_view r.0).content) × (r.1.zeros ≡ r.0.zeros)) }
+{
+    let slices = authenticode_ranges(bytes, header)?;
+    let ranges = digest_ranges(bytes, header)?;
+    ranges_are_slices(bytes, header, slices, ranges);
+    Ok((slices, ranges))
+}
 
 /// What is attached is listed, in the table that the entry names: the certificates that the image had, in their order, and
 /// then those that were attached, unchanged. In place of the certificates that the image had, and in an image without any,

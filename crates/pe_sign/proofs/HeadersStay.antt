@@ -284,7 +284,7 @@ entry_offset false w p h = absurd (omega (arith, h))
 entry_offset true w p h = refl
 
 -- the parts that a digest leaves out, with an optional header
-abbrev parts : ℕ → OptionalHeaderView → LeftOut
+abbrev pub parts : ℕ → OptionalHeaderView → LeftOut
 parts p o = record { checksum = record { offset = p + 88; length = 4 }; directory_entry = entry_range p o; certificates = certificates_range (present o.data_directories 4) }
 
 pub record Fields (t : Bool) (p : ℕ) (o : OptionalHeaderView) (l : LeftOut) : Type 0 where
@@ -295,7 +295,7 @@ pub record Fields (t : Bool) (p : ℕ) (o : OptionalHeaderView) (l : LeftOut) : 
 fields_of : (p : ℕ) (o : OptionalHeaderView) → (entry_range p o).length ≡ 8 → Fields false p o (parts p o)
 fields_of p o h = record { some = refl; checksum = refl; entry = entry_offset (nat_lt 4 (length o.data_directories)) (o.standard_fields.magic == 0x20B) p h }
 
-fields_at : (t : Bool) (p : ℕ) (o : OptionalHeaderView) (l : LeftOut) → left_out_before p (if t then None else Some o) ≡ Ok l → l.directory_entry.length ≡ 8 → Fields t p o l
+pub fields_at : (t : Bool) (p : ℕ) (o : OptionalHeaderView) (l : LeftOut) → left_out_before p (if t then None else Some o) ≡ Ok l → l.directory_entry.length ≡ 8 → Fields t p o l
 fields_at true p o l e h = absurd cc
 fields_at false p o l e h =
     let is : parts p o ≡ l = cc in
@@ -308,7 +308,7 @@ unfolding standard_fields_64 standard_fields_32
 magic_by true b q = refl
 magic_by false b q = refl
 
-magic_is : (b : List ℕ) (q : ℕ) → (optional_header b q).standard_fields.magic ≡ le b q 2
+pub magic_is : (b : List ℕ) (q : ℕ) → (optional_header b q).standard_fields.magic ≡ le b q 2
 unfolding optional_header
 magic_is b q = magic_by (is_pe32_plus b q) b q
 

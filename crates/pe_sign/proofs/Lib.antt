@@ -16,3 +16,4 @@ pub mod HeadersStay
 pub mod WrittenHeaders
 pub mod WrittenTables
 pub mod DetachedAgain
+pub mod UnsignedImages

@@ -117,3 +117,8 @@ pub length-detached : (l : LeftOut) (b : List ℕ) → Fits l (length b) → len
 length-detached l b f =
     let size : length (unsigned_file l b) ≡ unsigned_length l (length b) = length-take-le (unsigned_length l (length b)) b f.inside in
     length-fields l absent_directory (unsigned_file l b) (omega (arith, size, f.checksum)) (omega (arith, size, f.entry)) ∙ size
+
+-- ---- the file is the first bytes of the buffer
+
+pub first_of : (file old now : List ℕ) (n : ℕ) → n ≡ length file → now ≡ file ++ drop n old → take n now ≡ file
+first_of file old now n h e = ap (λ (x : List ℕ). take n x) e ∙ take_at file (drop n old) n (sym h)

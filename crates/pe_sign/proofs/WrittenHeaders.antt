@@ -153,7 +153,7 @@ named entry = certificates_range (if entry.virtual_address == 0 && entry.size ==
 abbrev with_range : LeftOut → ByteRange → LeftOut
 with_range l r = record { checksum = l.checksum; directory_entry = l.directory_entry; certificates = r }
 
-many_of : (t w : Bool) (n p : ℕ) → nat_lt 4 n ≡ t → (if t then record { offset = p + 24 + directories_offset w + 32; length = 8 } else empty_range).length ≡ 8 → 4 < n
+pub many_of : (t w : Bool) (n p : ℕ) → nat_lt 4 n ≡ t → (if t then record { offset = p + 24 + directories_offset w + 32; length = 8 } else empty_range).length ≡ 8 → 4 < n
 many_of false w n p e h = absurd (omega (arith, h))
 many_of true w n p e h = grind (arith, nat_tests)
 

@@ -37,6 +37,12 @@ attached_is placement b h c f l e i =
       is_file = p.1.1 ∙ ap (λ (k : LeftOut). attached_file placement k c b) same;
     }
 
+-- what is attached has parts
+pub attached_from : (placement : Placement) (b : List ℕ) (h : HeaderView) (c f : List ℕ) → attached_of placement b h c ≡ Ok f → (l : LeftOut) × (left_out_of h ≡ Ok l)
+attached_from placement b h c f i =
+    let p = file_at (changeable_parts b h) (λ k. attach_tests placement k c (length b)) (λ k. attached_file placement k c b) f i in
+    (p.0, (parts_of_image b h p.0 p.1.0).0)
+
 pub detached_is : (b : List ℕ) (h : HeaderView) (f : List ℕ) (l : LeftOut) → left_out_of h ≡ Ok l → detached_of b h ≡ Ok f → IsFile l b f (detached_file l b)
 detached_is b h f l e i =
     let p = bare_at (changeable_parts b h) (λ k. detached_file k b) f i in

@@ -5,7 +5,7 @@
 //! A signing tool hashes the image, makes a certificate of it, and attaches that. The digest of the image stays as it
 //! was, so the signature in the certificate is valid for what was written.
 
-ghost use Rattle.std.specs.Prelude.{◌≡◌, ◌+◌, ◌≤◌, ◌^◌, ◌++◌, [], ◌∷◌, IfOk, length, drop, nat_lt};
+ghost use Rattle.std.specs.Prelude.{◌≡◌, ◌+◌, ◌≤◌, ◌^◌, ◌++◌, [], ◌∷◌, IfOk, Ok, length, drop, take, nat_lt};
 ghost use Rattle.pe_core.specs.Header.{header_view};
 ghost use Rattle.pe_core.specs.SectionMap.{rounded_up};
 ghost use Rattle.pe_core.specs.Refusals.{outcome};
@@ -192,8 +192,11 @@ pub fn attach(
     placement: Placement,
     out: &mut [u8],
 ) -> Result<usize, SignError>
-    ensures { SignReturnsWritten result (written
+    ensures written { SignReturnsWritten result (written
         (attached_of placement bytes.now (header_view header.now) certificate.now) out.old) out.old out.new }
+    ensures within { IfOk result (λ n. n ≤ length out.new) }
+    ensures file { IfOk result (λ n. attached_of placement bytes.now
+        (header_view header.now) certificate.now ≡ Ok (take n out.new)) }
 {
     let left_out = certified(bytes, header, certificate, placement)?;
     let length = attached_length(placement, &left_out, bytes.len(), certificate.len());
@@ -230,8 +233,11 @@ pub fn detached_len(bytes: &[u8], header: &Header<'_>) -> Result<usize, SignErro
 /// Errors, in this order, each of which leaves `out` as it was: those of `attach` up to `Section`; `Image` with
 /// `WriteFit` if the image does not fit into `out`.
 pub fn detach(bytes: &[u8], header: &Header<'_>, out: &mut [u8]) -> Result<usize, SignError>
-    ensures { SignReturnsWritten result
+    ensures written { SignReturnsWritten result
         (written (detached_of bytes.now (header_view header.now)) out.old) out.old out.new }
+    ensures within { IfOk result (λ n. n ≤ length out.new) }
+    ensures file { IfOk result (λ n. detached_of bytes.now (header_view header.now)
+        ≡ Ok (take n out.new)) }
 {
     let left_out = image(bytes, header)?;
     require_room(out, 0, unsigned_length(&left_out, bytes.len()))?;

@@ -1,14 +1,14 @@
 //! Laws over the definitions. Each is the contract of a function that does nothing.
 
-ghost use Rattle.std.specs.Prelude.{◌≡◌, ℕ, ◌+◌, ◌-◌, ◌<◌, ◌≤◌, List, Ok, Err, false, true, flat_map, length};
-ghost use Rattle.pe_core.specs.Bytes.{le};
+ghost use Rattle.std.specs.Prelude.{◌≡◌, ℕ, ◌+◌, ◌-◌, ◌%◌, ◌<◌, ◌≤◌, List, Ok, Err, false, true, flat_map, length};
+ghost use Rattle.pe_core.specs.Bytes.{AreBytes, le};
 ghost use Rattle.pe_core.specs.Directories.{absent_directory};
 ghost use Rattle.pe_core.specs.Header.{HeaderView, header_at};
 ghost use Rattle.pe_core.specs.Offsets.{bytes_in};
 ghost use Rattle.pe_core.specs.Refusals.{Short};
 ghost use Rattle.pe_core.specs.Sections.{sections_offset};
 ghost use Rattle.pe_core.specs.declared.options.ParseMode.{ParseMode};
-ghost use Rattle.pe_sign.specs.Attaching.{is_signed, unsigned_length, kept_length, entry_to, table_start, attached_of, detached_of, with_both_fields, with_table, without_table, before_table};
+ghost use Rattle.pe_sign.specs.Attaching.{is_signed, unsigned_length, kept_length, entry_to, table_start, attached_of, detached_of, with_checksum, with_both_fields, with_table, without_table, before_table};
 ghost use Rattle.pe_sign.specs.Checksum.{checksum_of};
 ghost use Rattle.pe_sign.specs.Digest.{Covered, left_out_of, covered, covered_bytes, digest_of};
 ghost use Rattle.pe_sign.specs.DigestRanges.{EndBy, digest_ranges_of};
@@ -17,6 +17,8 @@ ghost use Rattle.pe_sign.specs.WrittenTables.{TableContinues, TableIs};
 ghost use Rattle.pe_sign.specs.declared.attachment.Placement.{Placement};
 ghost use Rattle.pe_sign.specs.declared.digest.LeftOut.{LeftOut};
 ghost use Rattle.pe_sign.specs.declared.file_ranges.DigestRanges.{DigestRanges};
+
+pub mod calls;
 
 /// A signature stays valid: what the digest covers of an image that `attach` or `detach` writes are the bytes that it
 /// covers of the image that they were given. To attach may put zeros into the file that the digest of the image added;
@@ -142,6 +144,24 @@ pub fn attached_images_can_be_detached()
         attached_of placement b h certificate ≡ Ok f → directories_end h ≤ sections_offset h →
         header_at f mode ≡ Ok k →
         detached_of f k ≡ Ok (with_both_fields l absent_directory (before_table placement l b)) }
+{}
+
+/// An unsigned image whose length is a multiple of eight comes back: what is attached to it is detached, by the headers that
+/// are parsed of it, and leaves the image byte for byte if its checksum is right, and else with its checksum, as long as the
+/// data directories end before the section table.
+#[tactic(auto, using(crate::proofs::UnsignedImages::comes_back, crate::proofs::UnsignedImages::but_for_checksum))]
+pub fn unsigned_images_come_back()
+    ensures whole { (mode : ParseMode) (placement : Placement) (b : List ℕ) (h k : HeaderView)
+        (certificate f : List ℕ) (l : LeftOut) → AreBytes b → header_at b mode ≡ Ok h →
+        left_out_of h ≡ Ok l → is_signed l ≡ false → length b % 8 ≡ 0 →
+        le b l.checksum.offset 4 ≡ checksum_of b l.checksum.offset →
+        attached_of placement b h certificate ≡ Ok f → directories_end h ≤ sections_offset h →
+        header_at f mode ≡ Ok k → detached_of f k ≡ Ok b }
+    ensures checksum { (mode : ParseMode) (placement : Placement) (b : List ℕ) (h k : HeaderView)
+        (certificate f : List ℕ) (l : LeftOut) → AreBytes b → header_at b mode ≡ Ok h →
+        left_out_of h ≡ Ok l → is_signed l ≡ false → length b % 8 ≡ 0 →
+        attached_of placement b h certificate ≡ Ok f → directories_end h ≤ sections_offset h →
+        header_at f mode ≡ Ok k → detached_of f k ≡ Ok (with_checksum l b) }
 {}
 
 /// When the data directories stay. They lie in the file, so they do where all of it is kept. Where they end before the

@@ -4,16 +4,16 @@ use Rattle.std.proofs.lemmas.Result.{err_from_is_err_and}
 use Rattle.pe_core.specs.Header.{header_view}
 use Rattle.pe_sign.specs.Attaching.{attached_of, attached_file}
 use Rattle.pe_sign.proofs.Tests.{attached_value, attached_refused, written_refused, written_short, written_done}
-use Rattle.pe_sign.proofs.Writes.{length-attached}
+use Rattle.pe_sign.proofs.Writes.{first_of, length-attached}
 use Rattle.pe_sign.proofs.attachment.attach.Goals as goal
 
-pub returns-in_err-left_out : goal.returns-in_err-left_out
-returns-in_err-left_out c =
+pub returns-in_err-left_out-clause-written : goal.returns-in_err-left_out-clause-written
+returns-in_err-left_out-clause-written c =
     let p = err_from_is_err_and c.from_residual.result c.from_residual.ensures.1 in
     rw (p.1, p.2) (written_refused _ c.args.out.now _ (attached_refused c.args.placement c.args.bytes.now (header_view c.args.header.now) c.args.certificate.now _ c.in_err-left_out.ensures.parts), refl)
 
-pub returns-in_err-require_room : goal.returns-in_err-require_room
-returns-in_err-require_room c =
+pub returns-in_err-require_room-clause-written : goal.returns-in_err-require_room-clause-written
+returns-in_err-require_room-clause-written c =
     let p = err_from_is_err_and c.from_residual-in_err-require_room.result c.from_residual-in_err-require_room.ensures.1 in
     let l = c.in_ok-left_out.left_out in
     let b = c.args.bytes.now in
@@ -24,8 +24,8 @@ returns-in_err-require_room c =
       refl,
     )
 
-pub returns : goal.returns
-returns c =
+pub returns-clause-written : goal.returns-clause-written
+returns-clause-written c =
     let l = c.in_ok-left_out.left_out in
     let b = c.args.bytes.now in
     let file = attached_file c.args.placement l c.args.certificate.now b in
@@ -33,3 +33,11 @@ returns c =
     (attached_value c.args.placement b (header_view c.args.header.now) c.args.certificate.now l c.in_ok-left_out.ensures.parts)
     (length-attached c.args.placement l c.args.certificate.now b c.in_ok-left_out.ensures.fits.image ∙ sym c.attached_length-length.ensures) c.in_ok-require_room.ensures
     ∙ ap (λ (n : ℕ). Ok (n, file ++ drop n c.args.out.now)) (sym c.set_attached.ensures.value) ∙ ap (λ (x : List ℕ). Ok (c.set_attached.result, x)) (sym c.set_attached.ensures.after)
+
+pub returns-clause-file : goal.returns-clause-file
+returns-clause-file c =
+    let l = c.in_ok-left_out.left_out in
+    let b = c.args.bytes.now in
+    let file = attached_file c.args.placement l c.args.certificate.now b in
+    attached_value c.args.placement b (header_view c.args.header.now) c.args.certificate.now l c.in_ok-left_out.ensures.parts
+    ∙ ap (λ (x : List ℕ). Ok x) (sym (first_of file c.args.out.now _ _ c.set_attached.ensures.value c.set_attached.ensures.after))

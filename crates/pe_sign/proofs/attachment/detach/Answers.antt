@@ -6,8 +6,8 @@ use Rattle.pe_sign.proofs.Tests.{detached_value, written_short}
 use Rattle.pe_sign.proofs.Writes.{length-detached}
 use Rattle.pe_sign.proofs.attachment.detach.Goals as goal
 
-pub returns-in_err-require_room : goal.returns-in_err-require_room
-returns-in_err-require_room c =
+pub returns-in_err-require_room-clause-written : goal.returns-in_err-require_room-clause-written
+returns-in_err-require_room-clause-written c =
     let p = err_from_is_err_and c.from_residual-in_err-require_room.result c.from_residual-in_err-require_room.ensures.1 in
     let l = c.in_ok-left_out.left_out in
     let b = c.args.bytes.now in
