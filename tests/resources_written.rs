@@ -142,9 +142,11 @@ fn an_empty_last_content_is_mapped(rt: HostRuntime) -> Result<(), Fail> {
 #[test]
 fn a_buffer_that_is_too_small(rt: HostRuntime) -> Result<(), Fail> {
     let mut out = [OLD; 0xE7];
-    let Err(EditError::Image(Error::Malformed(Reason::WriteFit { end, length }))) =
-        write_section(&three_leaves(), RVA, &mut out)
-    else {
+    let Err(EditError::Image(Error::Malformed(Reason::WriteFit { end, length }))) = write_section(
+        &three_leaves(),
+        RVA,
+        &mut out,
+    ) else {
         return Err("no refusal".into());
     };
     assert_eq!(rt; (end, length), (0xE8, 0xE7));
@@ -173,12 +175,18 @@ fn numbers_in_refusals(rt: HostRuntime) -> Result<(), Fail> {
         (&[first, second, second][..], "Order(2)"),
         (&[second, first][..], "Order(1)"),
         (&[first, named, before][..], "Order(2)"),
-        (&[resource(3, 1, 0, b""), resource(3, 1, 0, b"x")][..], "Order(1)"),
-        (&[resource(3, 2, 0, b""), resource(3, 1, 1, b"x")][..], "Order(1)"),
+        (
+            &[resource(3, 1, 0, b""), resource(3, 1, 0, b"x")][..],
+            "Order(1)",
+        ),
+        (
+            &[resource(3, 2, 0, b""), resource(3, 1, 1, b"x")][..],
+            "Order(1)",
+        ),
         (&[third, first][..], "Order(1)"),
     ] {
         let shown = refused(rt.alloc(), leaves)?;
-    assert_eq!(rt; shown.as_str(), text);
+        assert_eq!(rt; shown.as_str(), text);
     }
     Ok(())
 }
@@ -186,12 +194,18 @@ fn numbers_in_refusals(rt: HostRuntime) -> Result<(), Fail> {
 #[test]
 fn texts_of_refusals(rt: HostRuntime) -> Result<(), Fail> {
     for (error, text) in [
-        (EditError::TooMany(65_536), "65536 resources, more than 65,535"),
+        (
+            EditError::TooMany(65_536),
+            "65536 resources, more than 65,535",
+        ),
         (
             EditError::Name(7),
             "type or name of resource 7 has an odd number of bytes, or more than 65,535 code units",
         ),
-        (EditError::Order(7), "resource 7 is not sorted after the one before it"),
+        (
+            EditError::Order(7),
+            "resource 7 is not sorted after the one before it",
+        ),
         (
             EditError::TablesTooLarge(0x8000_0010),
             "directories and names of the resources have 0x80000010 bytes, 0x80000000 or more",
@@ -243,8 +257,8 @@ fn as_many_leaves_as_there_are_types(rt: HostRuntime) -> Result<(), Fail> {
 fn names_of_two_gigabytes(rt: HostRuntime) -> Result<(), Fail> {
     let mut units = Vec::new(rt.alloc());
     for unit in 0..81_919u32 {
-        units.push(unit as u8)?;
-        units.push((unit >> 8) as u8)?;
+        units.push((unit % 256) as u8)?;
+        units.push((unit / 256 % 256) as u8)?;
     }
     let mut leaves = Vec::new(rt.alloc());
     for index in 0..16_384 {
@@ -256,7 +270,7 @@ fn names_of_two_gigabytes(rt: HostRuntime) -> Result<(), Fail> {
     let shown = refused(rt.alloc(), &leaves)?;
     let size = 16 + 16_384 * (8 + 24 + 24 + 16 + 131_072);
     let text = format!(in rt.alloc(); "TablesTooLarge({size})")?;
-        assert_eq!(rt; shown.as_str(), text.as_str());
+    assert_eq!(rt; shown.as_str(), text.as_str());
     Ok(())
 }
 
@@ -271,7 +285,10 @@ fn contents_of_four_gigabytes(rt: HostRuntime) -> Result<(), Fail> {
     let shown = refused(rt.alloc(), &leaves)?;
     assert_eq!(rt; shown.as_str(), "TooLarge");
     // 255 of them fit at this RVA, and not at one that is 4 GB less 255 contents.
-    assert_eq!(rt; section_len(&leaves[1..], RVA)?, 255 * (1 << 24) + 16 + 8 + 16 + 255 * (8 + 24 + 16));
+    assert_eq!(rt;
+        section_len(&leaves[1..], RVA)?,
+        255 * (1 << 24) + 16 + 8 + 16 + 255 * (8 + 24 + 16)
+    );
     let Err(EditError::TooLarge) = section_len(&leaves[1..], 1 << 24) else {
         return Err("a section that ends after 4 GB has a length".into());
     };
