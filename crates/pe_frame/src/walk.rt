@@ -13,7 +13,8 @@ ghost use Rattle.pe_frame.specs.Modules.{module_base, module_size};
 ghost use Rattle.pe_frame.specs.Walks.{has_called, lookup_address, code_of_frame, frame_after, leaf_caller, CallsFound, CallsIn, Calls};
 
 use crate::error::FrameError;
-use crate::frame::{leaf, step_out};
+use crate::frame::leaf;
+use crate::jump::{ImageFunctions, step_in_image};
 use crate::memory::Memory;
 use crate::modules::{Module, Modules};
 use crate::registers::Registers;
@@ -163,7 +164,21 @@ fn caller_by_records<M: Memory>(
     };
     let code = code_of_frame(found, frame, rva);
     let start = function.begin_address;
-    let left = step_out(plan.records(), start, rva, code, frame.registers, memory);
+    let functions = ImageFunctions {
+        exceptions,
+        sections: module.sections,
+        opts: module.opts,
+    };
+    let registers = frame.registers;
+    let left = step_in_image(
+        &functions,
+        plan.records(),
+        start,
+        rva,
+        code,
+        registers,
+        memory,
+    );
     frame_after(left)
 }
 

@@ -1,11 +1,12 @@
 //! Laws of whole walks.
 
-ghost use Rattle.std.specs.Prelude.{◌≡◌, ◌≤◌, ◌-◌, ℕ, true, List, [], length, Option, Some, None, Ok};
+ghost use Rattle.std.specs.Prelude.{Bool, ◌≡◌, ◌≤◌, ◌-◌, ℕ, true, List, [], length, Option, Some, None, Ok};
 ghost use Rattle.std.specs.Iterator.{YieldsThen};
 ghost use Rattle.pe_unwind.specs.ExceptionTable.{ExceptionView};
 ghost use Rattle.pe_unwind.specs.UnwindRecord.{UnwindInfoView};
 ghost use Rattle.pe_unwind.specs.declared.function_table.RuntimeFunction.{RuntimeFunction};
-ghost use Rattle.pe_frame.specs.Epilogs.{epilog_at, StepsWithCode};
+ghost use Rattle.pe_frame.specs.Epilogs.{epilog_at};
+ghost use Rattle.pe_frame.specs.Jumps.{StepsInImage};
 ghost use Rattle.pe_frame.specs.Steps.{Steps};
 ghost use Rattle.pe_frame.specs.Walks.{AreSortedModules, CallsByPlan, IsWalk, WalkState, code_of_frame, end_kind, has_called, walk_of};
 ghost use Rattle.pe_frame.specs.declared.modules.Module.{Module};
@@ -43,8 +44,10 @@ pub fn frames_are_steps()
     ensures stopped { (memory : ℕ → Option ℕ) (m : Module) (e : ExceptionView)
         (f : RuntimeFunction) (s t : StackFrame) (plan : List UnwindInfoView) →
         CallsByPlan memory m e f s (Ok (Some plan)) (Ok t) →
-        StepsWithCode memory plan f.begin_address ((s.registers).rip - m.base)
-        (code_of_frame m e f.end_address s) s.registers (Ok t.registers) }
+        (interrupted : Bool)
+        × StepsInImage e m.sections.now m.opts memory plan f.begin_address
+        ((s.registers).rip - m.base) (code_of_frame m e f.end_address s) s.registers
+        (Ok (t.registers, interrupted)) }
     ensures called { (memory : ℕ → Option ℕ) (m : Module) (e : ExceptionView)
         (f : RuntimeFunction) (s t : StackFrame) (plan : List UnwindInfoView) →
         has_called s.way ≡ true → CallsByPlan memory m e f s (Ok (Some plan)) (Ok t) →
