@@ -2,7 +2,7 @@
 //! functions do: what is expected is what each of them was entered with.
 
 use crate::frames::bytes_of;
-use pe_core::{DataDirectory, ParseOptions};
+use pe_core::{DataDirectory, ParseOptions, SectionTable};
 use pe_frame::{
     FrameError, Memory, MemoryList, MemoryPiece, Module, ModuleOrder, Modules, Registers, Stack,
     StackFrames, StackPieces, WalkEnd, Way,
@@ -45,46 +45,53 @@ const SETS_RBP: [u8; 6] = [1, 1, 1, 0x05, 1, 0x03];
 /// add rsp,32; pop rbx; ret
 const EPILOG: [u8; 6] = [0x48, 0x83, 0xC4, 0x20, 0x5B, 0xC3];
 
+/// A call, which ends five bytes on.
+const CALL: [u8; 5] = [0xE8, 0, 0, 0, 0];
+
 /// A record of a version that there is not, and one that is chained to itself.
 const OF_VERSION_3: [u8; 4] = [3, 0, 0, 0];
 
 const ENDLESS: [u8; 16] = [0x21, 0, 0, 0, 0x90, 0, 0, 0, 0xA0, 0, 0, 0, 0x38, 0, 0, 0];
 
-/// Two functions that push rbx, at 0x40 and 0x80, and one between them. The last one ends with its epilog, at 0x9A.
+/// Two functions that push rbx, at 0x40 and 0x80, and one between them. The first one ends with a call, the last one with its
+/// epilog, at 0x9A.
 fn app(alloc: Global) -> Result<Vec<u8>, AllocError> {
     let table = [
         0x40, 0, 0, 0, 0x60, 0, 0, 0, 0x24, 0, 0, 0, 0x60, 0, 0, 0, 0x80, 0, 0, 0, 0x2C, 0, 0, 0,
         0x80, 0, 0, 0, 0xA0, 0, 0, 0, 0x24, 0, 0, 0,
     ];
-    let parts: [(usize, &[u8]); 4] = [
+    let parts: [(usize, &[u8]); 5] = [
         (0, &table),
         (0x24, &PUSHES_RBX),
         (0x2C, &ALLOCATES_8),
+        (0x5B, &CALL),
         (0x9A, &EPILOG),
     ];
     image(alloc, SIZE as usize, &parts)
 }
 
-/// A function that pushes rbx at 0x40, one that sets a frame register at 0x80, and two whose records are refused after it.
+/// A function that pushes rbx at 0x40, with a call that ends at 0x50, one that sets a frame register at 0x80, and two whose
+/// records are refused after it.
 fn lib(alloc: Global) -> Result<Vec<u8>, AllocError> {
     let table = [
         0x40, 0, 0, 0, 0x60, 0, 0, 0, 0x68, 0, 0, 0, 0x80, 0, 0, 0, 0x88, 0, 0, 0, 0x30, 0, 0, 0,
         0x88, 0, 0, 0, 0x90, 0, 0, 0, 0x60, 0, 0, 0, 0x90, 0, 0, 0, 0xA0, 0, 0, 0, 0x38, 0, 0, 0,
     ];
-    let parts: [(usize, &[u8]); 5] = [
+    let parts: [(usize, &[u8]); 6] = [
         (0, &table),
         (0x30, &SETS_RBP),
         (0x38, &ENDLESS),
+        (0x4B, &CALL),
         (0x60, &OF_VERSION_3),
         (0x68, &PUSHES_RBX),
     ];
     image(alloc, SIZE as usize, &parts)
 }
 
-/// A function at 0x40 that an interrupt entered.
+/// A function at 0x40 that an interrupt entered, with a call that ends at 0x50.
 fn nt(alloc: Global) -> Result<Vec<u8>, AllocError> {
     let table = [0x40, 0, 0, 0, 0x60, 0, 0, 0, 0x0C, 0, 0, 0];
-    let parts: [(usize, &[u8]); 2] = [(0, &table), (0x0C, &IS_INTERRUPTED)];
+    let parts: [(usize, &[u8]); 3] = [(0, &table), (0x0C, &IS_INTERRUPTED), (0x4B, &CALL)];
     image(alloc, SIZE as usize, &parts)
 }
 
@@ -161,13 +168,12 @@ const INNER: [u64; 20] = [
 const OUTER: [u64; 8] = [0xB2, APP + 0x60, 0, 0, 0, 0, 0xB3, 0];
 
 /// The frames, from the top frame outwards: rip, rsp, rbx and the way.
-const FRAMES: [(u64, u64, u64, Way); 6] = [
+const FRAMES: [(u64, u64, u64, Way); 5] = [
     (LIB + 0x70, 0x1000, 0xB0, Way::Top),
     (LIB + 0x50, 0x1008, 0xB0, Way::Leaf),
     (NT + 0x50, 0x1038, 0xB1, Way::Records),
     (APP + 0x9E, 0x2000, 0xB1, Way::Interrupt),
     (APP + 0x60, 0x2010, 0xB2, Way::Records),
-    (0, 0x2040, 0xB3, Way::Records),
 ];
 
 /// The walk comes to the first frames of these, as many as are asked for, and then ends as said.
@@ -227,10 +233,9 @@ fn a_walk_goes_through_all_modules(rt: HostRuntime) -> Result<(), Fail> {
         },
     ];
     let memory = StackPieces::new(&pieces);
-    let no_module = "no module has the instruction pointer";
-    expect_walk(&rt, alloc, &memory, 100, &FRAMES, no_module)?;
+    expect_walk(&rt, alloc, &memory, 100, &FRAMES, "bottom of the stack")?;
     let bound = "as many frames as were asked for";
-    expect_walk(&rt, alloc, &memory, 6, &FRAMES, bound)?;
+    expect_walk(&rt, alloc, &memory, 5, &FRAMES, bound)?;
     expect_walk(&rt, alloc, &memory, 3, &FRAMES[..3], bound)?;
     expect_walk(&rt, alloc, &memory, 0, &[], bound)?;
     // Without the outer piece it ends in the function that the interrupt stopped; an empty stack has no return address.
@@ -329,6 +334,342 @@ fn an_image_without_exception_data_has_leaf_functions_alone(rt: HostRuntime) -> 
     assert_eq!(rt; (leaf.registers.rip, leaf.way), (APP + 0x20, Way::Leaf));
     assert!(rt; walk.next().is_none());
     assert!(rt; matches!(walk.end(), Some(WalkEnd::NoFunction)));
+    Ok(())
+}
+
+/// A program: a function that pushes rbx at 0x40, with a call that ends at 0x50; one at 0x60 that allocates 8 bytes, from where an
+/// interrupted thread goes on without a word of it in the record; a function without a record; one that pushes rbx at 0xA0; and
+/// at 0xD0 data that look like a call. Up to 0xC0 it is executable.
+fn program(alloc: Global) -> Result<Vec<u8>, AllocError> {
+    let table = [
+        0x40, 0, 0, 0, 0x60, 0, 0, 0, 0x24, 0, 0, 0, 0x60, 0, 0, 0, 0x80, 0, 0, 0, 0x2C, 0, 0, 0,
+        0xA0, 0, 0, 0, 0xC0, 0, 0, 0, 0x24, 0, 0, 0,
+    ];
+    let parts: [(usize, &[u8]); 5] = [
+        (0, &table),
+        (0x24, &PUSHES_RBX),
+        (0x2C, &ALLOCATES_8),
+        (0x4B, &CALL),
+        (0xD0, &CALL),
+    ];
+    image(alloc, 0x100, &parts)
+}
+
+/// A section header.
+fn section(start: u32, size: u32, characteristics: u32) -> SectionTable {
+    SectionTable {
+        name: [0; 8],
+        virtual_size: size,
+        virtual_address: start,
+        size_of_raw_data: size,
+        pointer_to_raw_data: start,
+        pointer_to_relocations: 0,
+        pointer_to_linenumbers: 0,
+        number_of_relocations: 0,
+        number_of_linenumbers: 0,
+        characteristics,
+    }
+}
+
+/// A frame: rip, rsp, how it was found, and whether it has called.
+type Frame = (u64, u64, Way, bool);
+
+/// The walk from this top frame through the program, over these words from address 0x1000 on, has these frames and ends so.
+fn expect_frames(
+    rt: &impl Abort,
+    alloc: Global,
+    top: (u64, u64),
+    words: &[u64],
+    frames: &[Frame],
+    end: &str,
+) -> Result<(), Fail> {
+    let program = program(alloc)?;
+    let data = exceptions(&program, 3)?;
+    let sections = [
+        section(0x40, 0x80, 0x6000_0020),
+        section(0xC0, 0x40, 0xC000_0040),
+    ];
+    let modules = [Module {
+        size: 0x100,
+        sections: &sections,
+        ..module(APP, &program, &data)
+    }];
+    let modules = Modules::new(&modules).map_err(|_| "one module ascends")?;
+    let bytes = bytes_of(alloc, words)?;
+    let memory = Stack {
+        start: 0x1000,
+        bytes: &bytes,
+    };
+    let mut walk = StackFrames::new(modules, &memory, registers(top.0, top.1), 100);
+    for frame in frames {
+        let found = walk.next().ok_or("a frame")?;
+        let registers = found.registers;
+        assert_eq!(rt;
+            (
+                registers.rip,
+                registers.general[RSP],
+                found.way,
+                found.has_called
+            ),
+            *frame
+        );
+    }
+    assert!(rt; walk.next().is_none());
+    let why = walk.end().ok_or("an end")?;
+    assert_eq!(rt; text(alloc, why)?.as_str(), end);
+    Ok(())
+}
+
+const BOTTOM: &str = "bottom of the stack";
+
+const NO_MODULE: &str = "no module has the instruction pointer";
+
+/// The frame of the function that pushes rbx, at the call: its return address is 0.
+const OUTERMOST: [u64; 7] = [APP + 0x50, 0, 0, 0, 0, 0xB0, 0];
+
+/// A frame that has called, where that call ends.
+fn at_the_call(rsp: u64, way: Way) -> Frame {
+    (APP + 0x50, rsp, way, true)
+}
+
+#[test]
+fn a_call_of_a_null_pointer_has_a_caller(rt: HostRuntime) -> Result<(), Fail> {
+    let alloc = rt.alloc();
+    for pointer in [0, 8, APP + 0x100, u64::MAX] {
+        let frames = [
+            (pointer, 0x1000, Way::Top, false),
+            at_the_call(0x1008, Way::Leaf),
+        ];
+        expect_frames(&rt, alloc, (pointer, 0x1000), &OUTERMOST, &frames, BOTTOM)?;
+    }
+    // Under a dispatcher of exceptions, whose frame has 8 bytes.
+    let words = [8, 0, APP + 0x50, 0, 0, 0, 0, 0xB0, 0];
+    let frames = [
+        (APP + 0x70, 0x1000, Way::Top, false),
+        (0, 0x1010, Way::Records, false),
+        at_the_call(0x1018, Way::Leaf),
+    ];
+    expect_frames(&rt, alloc, (APP + 0x70, 0x1000), &words, &frames, BOTTOM)
+}
+
+/// A function without a record that has pushed two registers, as one that tests the stack does where the stack is used up.
+#[test]
+fn a_scan_finds_the_caller_of_a_function_without_records(rt: HostRuntime) -> Result<(), Fail> {
+    let alloc = rt.alloc();
+    let words = [7, APP + 0x44, APP + 0x50, 0, 0, 0, 0, 0xB0, 0];
+    let frames = [
+        (APP + 0x90, 0x1000, Way::Top, false),
+        at_the_call(0x1018, Way::Scanned),
+    ];
+    expect_frames(&rt, alloc, (APP + 0x90, 0x1000), &words, &frames, BOTTOM)?;
+    // The stack pointer is rounded up; the word at it, not aligned, is no return address.
+    let frames = [
+        (APP + 0x90, 0x1001, Way::Top, false),
+        at_the_call(0x1018, Way::Scanned),
+    ];
+    expect_frames(&rt, alloc, (APP + 0x90, 0x1001), &words, &frames, BOTTOM)
+}
+
+#[test]
+fn a_frame_at_no_call_was_interrupted(rt: HostRuntime) -> Result<(), Fail> {
+    let alloc = rt.alloc();
+    // At the first byte of a function that pushes rbx; in a function without a record; after the prolog of the first one.
+    for (interrupted, way) in [(0xA0, Way::Records), (0x90, Way::Leaf)] {
+        let words = [8, APP + interrupted, APP + 0x50, 0, 0, 0, 0, 0xB0, 0];
+        let frames = [
+            (APP + 0x70, 0x1000, Way::Top, false),
+            (APP + interrupted, 0x1010, Way::Records, false),
+            at_the_call(0x1018, way),
+        ];
+        expect_frames(&rt, alloc, (APP + 0x70, 0x1000), &words, &frames, BOTTOM)?;
+    }
+    let words = [
+        8,
+        APP + 0x48,
+        0,
+        0,
+        0,
+        0,
+        0xB0,
+        APP + 0x50,
+        0,
+        0,
+        0,
+        0,
+        0xB0,
+        0,
+    ];
+    let frames = [
+        (APP + 0x70, 0x1000, Way::Top, false),
+        (APP + 0x48, 0x1010, Way::Records, false),
+        at_the_call(0x1040, Way::Records),
+    ];
+    expect_frames(&rt, alloc, (APP + 0x70, 0x1000), &words, &frames, BOTTOM)
+}
+
+#[test]
+fn the_bottom_is_no_lost_walk(rt: HostRuntime) -> Result<(), Fail> {
+    let alloc = rt.alloc();
+    let top = (APP + 0x70, 0x1000, Way::Top, false);
+    let start = (APP + 0x70, 0x1000);
+    expect_frames(&rt, alloc, start, &[8, 0], &[top], BOTTOM)?;
+    expect_frames(&rt, alloc, start, &[8, 0, 7, 0, APP + 0x44], &[top], BOTTOM)?;
+    let leaf = (APP + 0x90, 0x1000, Way::Top, false);
+    expect_frames(&rt, alloc, (APP + 0x90, 0x1000), &[0, 7], &[leaf], BOTTOM)?;
+    // Any other address in no module is a lost walk, and so is a top frame there, whatever it would return to.
+    for address in [1, APP - 1, APP + 0x101] {
+        let frames = [top, (address, 0x1010, Way::Records, false)];
+        expect_frames(&rt, alloc, start, &[8, address, 7], &frames, NO_MODULE)?;
+    }
+    let wild = (0, 0x1000, Way::Top, false);
+    expect_frames(&rt, alloc, (0, 0x1000), &[0, 7], &[wild], NO_MODULE)?;
+    expect_frames(&rt, alloc, (0, 0x1000), &[], &[wild], NO_MODULE)?;
+    // With memory that ends before the return address the stack is not whole.
+    let end = "no memory at address 0x1008";
+    expect_frames(&rt, alloc, start, &[8], &[top], end)
+}
+
+#[test]
+fn a_scan_reads_128_words(rt: HostRuntime) -> Result<(), Fail> {
+    let alloc = rt.alloc();
+    let top = (0, 0x1000, Way::Top, false);
+    let mut words = [7; 136];
+    words[127] = APP + 0x50;
+    words[133] = 0;
+    let frames = [top, at_the_call(0x1400, Way::Scanned)];
+    expect_frames(&rt, alloc, (0, 0x1000), &words, &frames, BOTTOM)?;
+    words[127] = 7;
+    words[128] = APP + 0x50;
+    expect_frames(&rt, alloc, (0, 0x1000), &words, &[top], NO_MODULE)?;
+    // It goes on after words that are not known, here those below 0x1000; no stack pointer is above the last word.
+    let frames = [
+        (0, 0xFE8, Way::Top, false),
+        at_the_call(0x1008, Way::Scanned),
+    ];
+    expect_frames(&rt, alloc, (0, 0xFE8), &OUTERMOST, &frames, BOTTOM)?;
+    for high in [
+        u64::MAX,
+        u64::MAX - 6,
+        u64::MAX - 7,
+        u64::MAX - 8,
+        u64::MAX - 1024,
+    ] {
+        let frames = [(0, high, Way::Top, false)];
+        expect_frames(&rt, alloc, (0, high), &OUTERMOST, &frames, NO_MODULE)?;
+    }
+    Ok(())
+}
+
+/// The word at 0x1008 is after bytes that are a call, in a section that is not executable.
+#[test]
+fn a_scan_finds_executable_code_alone(rt: HostRuntime) -> Result<(), Fail> {
+    let alloc = rt.alloc();
+    let words = [7, APP + 0xD5, APP + 0x50, 0, 0, 0, 0, 0xB0, 0];
+    let frames = [
+        (0, 0x1000, Way::Top, false),
+        at_the_call(0x1018, Way::Scanned),
+    ];
+    expect_frames(&rt, alloc, (0, 0x1000), &words, &frames, BOTTOM)
+}
+
+/// Whether an address is one after a call, where these bytes end at it, at the end of a module.
+fn is_after(alloc: Global, code: &[u8]) -> Result<bool, Fail> {
+    let bytes = image(alloc, 0x40, &[(0x40 - code.len(), code)])?;
+    let data = exceptions(&bytes, 0)?;
+    let modules = [Module {
+        size: 0x40,
+        ..module(APP, &bytes, &data)
+    }];
+    let modules = Modules::new(&modules).map_err(|_| "one module ascends")?;
+    Ok(modules.is_after_call(APP + 0x40))
+}
+
+/// The encodings are those of an assembler.
+#[test]
+fn calls_have_these_encodings(rt: HostRuntime) -> Result<(), Fail> {
+    let alloc = rt.alloc();
+    let calls: [&[u8]; 17] = [
+        &[0xE8, 0x10, 0x20, 0x30, 0x40], // call target
+        &[0xFF, 0xD0], // call rax
+        &[0x41, 0xFF, 0xD7], // call r15
+        &[0xFF, 0x10], // call [rax]
+        &[0xFF, 0x15, 1, 2, 3, 4], // call [rip+n]
+        &[0x48, 0xFF, 0x15, 1, 2, 3, 4], // the same with REX.W
+        &[0xFF, 0x14, 0x24], // call [rsp]
+        &[0xFF, 0x14, 0xC1], // call [rcx+rax*8]
+        &[0xFF, 0x14, 0xC5, 1, 2, 3, 4], // call [rax*8+n]
+        &[0x42, 0xFF, 0x14, 0xC5, 1, 2, 3, 4], // call [r8*8+n]
+        &[0xFF, 0x50, 0x18], // call [rax+24]
+        &[0xFF, 0x55, 0x00], // call [rbp]
+        &[0x41, 0xFF, 0x54, 0x24, 0x18], // call [r12+24]
+        &[0xFF, 0x54, 0xC5, 0x18], // call [rbp+rax*8+24]
+        &[0xFF, 0x90, 0, 1, 0, 0], // call [rax+256]
+        &[0xFF, 0x94, 0x24, 0, 1, 0, 0], // call [rsp+256]
+        &[0x43, 0xFF, 0x94, 0xD4, 0, 1, 0, 0], // call [r12+r10*8+256]
+    ];
+    for code in calls {
+        assert!(rt; is_after(alloc, code)?);
+    }
+    let others: [&[u8]; 12] = [
+        &[],
+        &[0xE8, 0x10, 0x20, 0x30],
+        &[0xE8, 0x10, 0x20, 0x30, 0x40, 0x50],
+        &[0xE9, 0x10, 0x20, 0x30, 0x40], // jmp target
+        &[0xFF, 0xE0], // jmp rax
+        &[0xFF, 0x25, 1, 2, 3, 4], // jmp [rip+n]
+        &[0xFF, 0x18], // call far [rax]
+        &[0xFF, 0x14],
+        &[0xFF, 0x15],
+        &[0xFF, 0x15, 1, 2, 3],
+        &[0xFF, 0x14, 0xC5],
+        &[0xFF, 0x50],
+    ];
+    for code in others {
+        assert!(rt; !is_after(alloc, code)?);
+    }
+    Ok(())
+}
+
+/// The bytes before an address are those of the module that has the last of them, and no others.
+#[test]
+fn calls_lie_in_one_module(rt: HostRuntime) -> Result<(), Fail> {
+    let alloc = rt.alloc();
+    let bytes = image(alloc, 0x40, &[(0, &CALL), (0x3B, &CALL)])?;
+    let data = exceptions(&bytes, 0)?;
+    let plain = Module {
+        size: 0x40,
+        ..module(APP, &bytes, &data)
+    };
+    let modules = [
+        plain,
+        Module {
+            base: APP + 0x40,
+            size: 4,
+            ..plain
+        },
+        Module {
+            base: APP + 0x100,
+            exceptions: None,
+            ..plain
+        },
+    ];
+    let modules = Modules::new(&modules).map_err(|_| "they ascend")?;
+    for (address, is) in [
+        (0, false),
+        (APP, false),
+        (APP + 4, false),
+        (APP + 5, true),
+        (APP + 6, false),
+        (APP + 0x3F, false),
+        (APP + 0x40, true),
+        (APP + 0x41, false),
+        (APP + 0x44, false),
+        (APP + 0x45, false),
+        (APP + 0x105, false),
+        (u64::MAX, false),
+    ] {
+        assert_eq!(rt; modules.is_after_call(address), is);
+    }
     Ok(())
 }
 

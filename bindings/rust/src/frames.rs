@@ -191,6 +191,7 @@ impl Functions<'_, '_> {
 
     /// The frame of a function's caller over memory in pieces: its registers, as [`step`](Functions::step) returns them, and how
     /// they were found, by [`Way::Interrupt`] where the frame that the processor pushed was undone, else by [`Way::Records`].
+    /// A step does not look at the bytes before a return address: of `Records` it says that the function has called.
     ///
     /// # Errors
     ///
@@ -208,8 +209,8 @@ impl Functions<'_, '_> {
         let mut interrupted = 0;
         let number = self.image().step_pieces(code, memory, &mut frame, &mut interrupted);
         let registers = stepped(number, frame.registers, frame.address)?;
-        let way = if interrupted == 0 { Way::Records } else { Way::Interrupt };
-        Ok(Frame { registers, way })
+        let (way, has_called) = if interrupted == 0 { (Way::Records, true) } else { (Way::Interrupt, false) };
+        Ok(Frame { registers, way, has_called })
     }
 }
 

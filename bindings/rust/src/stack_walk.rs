@@ -1,12 +1,17 @@
 //! Stack walks on x64 and ARM64: step after step, through all modules of a process, from the innermost frame outwards.
 //!
 //! A return address may be the end of its function, and of its module, if the call before it is the last instruction, so a walk
-//! looks up that call. The top frame alone, and on x64 one that an interrupt stopped, can be in a prolog or an epilog, or in a leaf function, which
-//! has no unwind data.
+//! looks up that call. The top frame alone, and on x64 one that was interrupted, can be in a prolog or an epilog, or in a leaf
+//! function, which has no unwind data.
+//!
+//! On x64 the bytes of the code say what is a return address: one at which a call ends. A frame that records lead to was
+//! interrupted where none does, as by a dispatcher of exceptions whose records do not say so. And where no records lead on, as
+//! from a call of a null pointer, the return address is at the stack pointer, or is looked for in the words above it.
 
 use crate::frames::{MemoryList, Stack, StepError};
 use crate::image::{Error, Image};
-use crate::sys::{Arm64Registers, MemoryPiece, Registers};
+use crate::sys::{Arm64Registers, MemoryPiece, Registers, Section};
+use alloc::vec::Vec;
 
 /// A module of a process: its image, and the address where it is loaded.
 #[derive(Clone, Copy)]
@@ -29,13 +34,9 @@ pub enum Way {
     Leaf,
     /// An interrupt stopped it: in the frame below it the frame was undone that the processor pushed. On x64 alone.
     Interrupt,
-}
-
-impl Way {
-    /// Whether the instruction pointer of the frame is a return address.
-    fn is_call(self) -> bool {
-        matches!(self, Way::Records | Way::Leaf)
-    }
+    /// By a scan of the stack, where no records led on: it is the first word that is after a call in executable code. It may
+    /// be a return address that was left there, so this frame and those after it may be wrong. On x64 alone.
+    Scanned,
 }
 
 /// A frame of a stack walk: on x64 with [`Registers`], on ARM64 with [`Arm64Registers`].
@@ -45,14 +46,22 @@ pub struct Frame<R = Registers> {
     pub registers: R,
     /// How they were found.
     pub way: Way,
+    /// Whether its function has called. If not, `rip` or `pc` is that of the instruction that is about to run: in the top frame
+    /// and, on x64, in one that an interrupt stopped, and in one that records lead to where no call ends at `rip`, which was
+    /// interrupted too.
+    pub has_called: bool,
 }
 
 /// Why a stack walk is over.
 #[derive(Clone, Copy, Debug, PartialEq, Eq)]
 #[non_exhaustive]
 pub enum End {
-    /// No module has the instruction pointer of the last frame, or none of its functions has: only the top frame, and one
-    /// that an interrupt stopped, can be that of a leaf function, and only where the image has a byte of code.
+    /// The stack is whole: the last frame returns to 0, as that does with which a thread starts, and no frame is found there.
+    Bottom,
+    /// No module has the instruction pointer of the last frame, and no return address is found. An image that has no byte there
+    /// is none.
+    NoModule,
+    /// No function covers the call in the last frame. A leaf function calls nothing.
     NoFunction,
     /// As many frames were returned as the caller wants.
     Bound,
@@ -71,16 +80,122 @@ pub struct Position<'m> {
 }
 
 impl Position<'_> {
-    /// Fails where the function of a frame, which no function of its image covers, cannot be a leaf function.
-    fn leaf(self, way: Way) -> Result<(), End> {
-        // A module after which no other is loaded may be named for every address above it.
-        let is_code = !self.module.image.code(self.rva, self.rva.saturating_add(1)).is_empty();
-        if is_code && !way.is_call() {
-            Ok(())
-        } else {
-            Err(End::NoFunction)
+    /// Whether the image has a byte there. A module after which no other is loaded may be named for every address above it.
+    fn is_code(self) -> bool {
+        !self.module.image.code(self.rva, self.rva.saturating_add(1)).is_empty()
+    }
+}
+
+/// The bytes of an operand after the opcode of one byte, by ModRM, and the SIB byte if there is one.
+fn operand_size(modrm: u8, sib: u8) -> usize {
+    let (mode, register) = (modrm >> 6, modrm & 7);
+    let (size, base) = if mode != 3 && register == 4 { (2, sib & 7) } else { (1, register) };
+    let displacement = match mode {
+        0 if base == 5 => 4,
+        1 => 1,
+        2 => 4,
+        _ => 0,
+    };
+    size + displacement
+}
+
+/// Whether the bytes are `call` of an operand, FF /2.
+fn is_operand_call(code: &[u8]) -> bool {
+    match code {
+        [0xFF, modrm, rest @ ..] if modrm >> 3 & 7 == 2 => {
+            code.len() == 1 + operand_size(*modrm, rest.first().copied().unwrap_or(0))
+        }
+        _ => false,
+    }
+}
+
+/// Whether the bytes are a call: E8 and four bytes, or FF /2, before which a REX prefix may be.
+fn is_call(code: &[u8]) -> bool {
+    match code {
+        [0xE8, _, _, _, _] => true,
+        [0x40..=0x4F, rest @ ..] => is_operand_call(rest),
+        _ => is_operand_call(code),
+    }
+}
+
+/// Whether a call ends at an RVA of an x64 image. In one without exception data no function calls.
+fn ends_call(image: &Image<'_>, rva: u32) -> bool {
+    let is_before = |size: u32| rva.checked_sub(size).is_some_and(|start| is_call(image.code(start, rva)));
+    matches!(image.functions(), Ok(Some(_))) && [5, 6, 2, 3, 4, 7, 8].into_iter().any(is_before)
+}
+
+/// Whether a section is executable, `IMAGE_SCN_MEM_EXECUTE`, and has an RVA.
+fn executes(section: &Section, rva: u32) -> bool {
+    let size = if section.virtual_size == 0 { section.size_of_raw_data } else { section.virtual_size };
+    section.characteristics & 0x2000_0000 != 0
+        && rva.checked_sub(section.virtual_address).is_some_and(|within| within < size)
+}
+
+/// The module that has the byte before an address, if a call ends at the address, and the RVA of that byte.
+fn after_call<'m>(modules: &mut impl FnMut(u64) -> Option<Module<'m>>, address: u64) -> Option<(Module<'m>, u32)> {
+    let last = address.saturating_sub(1);
+    let module = modules(last)?;
+    let rva = |address: u64| u32::try_from(address.checked_sub(module.base)?).ok();
+    ends_call(module.image, rva(address)?).then_some((module, rva(last)?))
+}
+
+/// How many words a scan reads at most.
+const MOST_WORDS: u64 = 128;
+
+const SIZE_OF_WORD: u64 = 8;
+
+/// The registers after the return to the first word from the stack pointer on that is after a call in an executable section.
+fn scan<'m>(
+    registers: &Registers,
+    modules: &mut impl FnMut(u64) -> Option<Module<'m>>,
+    memory: &mut impl sealed::Memory,
+) -> Option<Registers> {
+    let start = registers.rsp().checked_next_multiple_of(SIZE_OF_WORD)?;
+    match memory.list() {
+        None => first_return(registers, start, modules, memory),
+        Some(list) => {
+            // Each read of a word tests all pieces, and a list may have a million.
+            let last = start.saturating_add(MOST_WORDS * SIZE_OF_WORD - 1);
+            let is_near = |piece: &&MemoryPiece| piece.start <= last && start - piece.start.min(start) < piece.length;
+            let near: Vec<MemoryPiece> = list.pieces().iter().filter(is_near).copied().collect();
+            first_return(registers, start, modules, &mut MemoryList::new(list.bytes(), &near).ok()?)
         }
     }
+}
+
+/// The same by the words from an address on.
+fn first_return<'m>(
+    registers: &Registers,
+    start: u64,
+    modules: &mut impl FnMut(u64) -> Option<Module<'m>>,
+    memory: &mut impl sealed::Memory,
+) -> Option<Registers> {
+    (0..MOST_WORDS).find_map(|index| {
+        let mut at_word = *registers;
+        at_word.set_rsp(start.checked_add(SIZE_OF_WORD * index)?);
+        let caller = popped(&at_word, memory).ok()?;
+        let (module, last) = after_call(modules, caller.rip)?;
+        module.image.sections().iter().any(|section| executes(section, last)).then_some(caller)
+    })
+}
+
+/// The registers of the caller of a leaf function.
+fn popped(registers: &Registers, memory: &mut impl sealed::Memory) -> Result<Registers, StepError> {
+    memory.step(registers.rsp(), |list| registers.leaf_pieces(list))
+}
+
+/// The frame that is found from registers without records: that of the caller of a leaf function, if a call ends where it
+/// returns to; else by a scan.
+fn without_records<'m>(
+    registers: &Registers,
+    modules: &mut impl FnMut(u64) -> Option<Module<'m>>,
+    memory: &mut impl sealed::Memory,
+) -> Option<Frame> {
+    let (registers, way) = match popped(registers, memory) {
+        Ok(caller) if after_call(modules, caller.rip).is_some() => (caller, Way::Leaf),
+        _ => (scan(registers, modules, memory)?, Way::Scanned),
+    };
+    Some(Frame { registers, way, has_called: true })
 }
 
 /// A step over one piece of memory.
@@ -96,7 +211,7 @@ fn refused(error: Error) -> End {
 }
 
 mod sealed {
-    use super::{End, Frame, MemoryList, Position, StepError};
+    use super::{End, Frame, MemoryList, Module, Position, StepError};
 
     /// What a walk reads.
     pub trait Memory {
@@ -106,6 +221,11 @@ mod sealed {
             stack_pointer: u64,
             step: impl Fn(MemoryList<'_>) -> Result<R, StepError>,
         ) -> Result<R, StepError>;
+
+        /// The pieces, if it is a list of them.
+        fn list(&self) -> Option<MemoryList<'_>> {
+            None
+        }
     }
 
     pub trait Machine: Copy {
@@ -114,8 +234,13 @@ mod sealed {
 
         fn instruction_pointer(&self) -> u64;
 
-        /// The frame of the caller of a frame, or why there is none.
-        fn caller_of(frame: &Frame<Self>, at: Position<'_>, memory: &mut impl Memory) -> Result<Frame<Self>, End>;
+        /// The frame of the caller of a frame, or why there is none. `at` is its position, if a module has it.
+        fn caller_of<'m>(
+            frame: &Frame<Self>,
+            at: Option<Position<'m>>,
+            modules: &mut impl FnMut(u64) -> Option<Module<'m>>,
+            memory: &mut impl Memory,
+        ) -> Result<Frame<Self>, End>;
     }
 }
 
@@ -133,6 +258,10 @@ impl sealed::Memory for MemoryList<'_> {
         step: impl Fn(MemoryList<'_>) -> Result<R, StepError>,
     ) -> Result<R, StepError> {
         step(*self)
+    }
+
+    fn list(&self) -> Option<MemoryList<'_>> {
+        Some(*self)
     }
 }
 
@@ -167,21 +296,62 @@ impl sealed::Machine for Registers {
         self.rip
     }
 
-    fn caller_of(frame: &Frame, at: Position<'_>, memory: &mut impl sealed::Memory) -> Result<Frame, End> {
-        let Frame { registers, way } = frame;
-        let (rsp, image) = (registers.rsp(), at.module.image);
+    fn caller_of<'m>(
+        frame: &Frame,
+        at: Option<Position<'m>>,
+        modules: &mut impl FnMut(u64) -> Option<Module<'m>>,
+        memory: &mut impl sealed::Memory,
+    ) -> Result<Frame, End> {
+        let Frame { registers, has_called, .. } = frame;
+        let Some(at) = at else {
+            return caller_of_leaf(frame, None, modules, memory, End::NoModule);
+        };
+        let image = at.module.image;
         let functions = image.functions().map_err(refused)?;
         let found = match &functions {
             Some(functions) => functions.find(at.inside).map_err(refused)?.map(|function| (functions, function)),
             None => None,
         };
         let Some((functions, function)) = found else {
-            at.leaf(*way)?;
-            let registers = memory.step(rsp, |list| registers.leaf_pieces(list)).map_err(End::Step)?;
-            return Ok(Frame { registers, way: Way::Leaf });
+            return caller_of_leaf(frame, Some(at), modules, memory, End::NoFunction);
         };
-        let code: &[u8] = if way.is_call() { &[] } else { image.code(at.rva, function.end) };
-        memory.step(rsp, |list| functions.step_pieces(function, at.rva, code, registers, list)).map_err(End::Step)
+        let code: &[u8] = if *has_called { &[] } else { image.code(at.rva, function.end) };
+        let step = |list: MemoryList<'_>| functions.step_pieces(function, at.rva, code, registers, list);
+        let caller = memory.step(registers.rsp(), step).map_err(End::Step)?;
+        if caller.way == Way::Interrupt {
+            return Ok(caller);
+        }
+        if caller.registers.rip == 0 && without_records(&caller.registers, modules, memory).is_none() {
+            return Err(End::Bottom);
+        }
+        Ok(Frame { has_called: after_call(modules, caller.registers.rip).is_some(), ..caller })
+    }
+}
+
+/// The frame of the caller of a frame in no function, or in no module, where `at` is `None`. Of one that has called there is
+/// none: a leaf function calls nothing.
+fn caller_of_leaf<'m>(
+    frame: &Frame,
+    at: Option<Position<'m>>,
+    modules: &mut impl FnMut(u64) -> Option<Module<'m>>,
+    memory: &mut impl sealed::Memory,
+    end: End,
+) -> Result<Frame, End> {
+    let Frame { registers, has_called, .. } = frame;
+    if *has_called {
+        return Err(end);
+    }
+    if let Some(caller) = without_records(registers, modules, memory) {
+        return Ok(caller);
+    }
+    if !at.is_some_and(Position::is_code) {
+        return Err(End::NoModule);
+    }
+    // A module may be missing, so no call ends there.
+    match popped(registers, memory) {
+        Ok(caller) if caller.rip == 0 => Err(End::Bottom),
+        Ok(registers) => Ok(Frame { registers, way: Way::Leaf, has_called: true }),
+        Err(error) => Err(End::Step(error)),
     }
 }
 
@@ -194,25 +364,42 @@ impl sealed::Machine for Arm64Registers {
         self.pc
     }
 
-    fn caller_of(frame: &Frame<Self>, at: Position<'_>, memory: &mut impl sealed::Memory) -> Result<Frame<Self>, End> {
-        let Frame { registers, way } = frame;
+    fn caller_of<'m>(
+        frame: &Frame<Self>,
+        at: Option<Position<'m>>,
+        _modules: &mut impl FnMut(u64) -> Option<Module<'m>>,
+        memory: &mut impl sealed::Memory,
+    ) -> Result<Frame<Self>, End> {
+        let Frame { registers, has_called, .. } = frame;
+        let at = at.ok_or(End::NoModule)?;
         let functions = at.module.image.arm64_functions().map_err(refused)?;
         let found = match &functions {
             Some(functions) => functions.find(at.inside).map_err(refused)?.map(|function| (functions, function)),
             None => None,
         };
         let Some((functions, function)) = found else {
-            at.leaf(*way)?;
-            return Ok(Frame { registers: registers.leaf(), way: Way::Leaf });
+            return match () {
+                () if *has_called => Err(End::NoFunction),
+                () if at.is_code() => called(registers.leaf(), Way::Leaf),
+                () => Err(End::NoModule),
+            };
         };
         let step = |list: MemoryList<'_>| functions.step_pieces(function, at.rva, registers, list);
         let caller = memory.step(registers.sp, step).map_err(End::Step)?;
         // A function that calls has stored the link register, so a walk in which the stack pointer stays may have no end.
-        if way.is_call() && caller.sp == registers.sp {
+        if *has_called && caller.sp == registers.sp {
             return Err(End::Step(StepError::NotRising(caller.sp)));
         }
-        Ok(Frame { registers: caller, way: Way::Records })
+        called(caller, Way::Records)
     }
+}
+
+/// The frame of a caller on ARM64, unless it is the bottom.
+fn called(registers: Arm64Registers, way: Way) -> Result<Frame<Arm64Registers>, End> {
+    if registers.pc == 0 {
+        return Err(End::Bottom);
+    }
+    Ok(Frame { registers, way, has_called: true })
 }
 
 /// A stack walk: the frames of a thread, from the top frame outwards, through all modules of a process. The registers that it
@@ -222,9 +409,14 @@ impl sealed::Machine for Arm64Registers {
 /// [`MemoryList`], by [`Frames::over`], or a closure that returns a piece of memory that has the eight bytes at an address: of
 /// these a step reads one, that of the stack pointer, or if an address is missing there, the piece of that address alone.
 ///
-/// The walk is over at a frame that is in no function of a module, at memory that is missing, where the stack pointer does
-/// not rise, at any other error, and after `most` frames. [`Frames::end`] says which. Only past an interrupt on x64, and past
-/// the top frame on ARM64, does the stack pointer not have to rise: there it may be below, here it may stay.
+/// The walk is over at the bottom of the stack, where a frame returns to 0; at a frame that is in no function of a module, at
+/// memory that is missing, where the stack pointer does not rise, at any other error, and after `most` frames. [`Frames::end`]
+/// says which. Only past an interrupt on x64, and past the top frame on ARM64, does the stack pointer not have to rise: there it
+/// may be below, here it may stay.
+///
+/// On x64 the top frame, and one that was interrupted, may be in no function, as after a call of a null pointer. The return
+/// address is then at its stack pointer, if a call ends at it. If none does, it is the first of the 128 words from there on
+/// that is after a call in an executable section: [`Way::Scanned`] says so.
 ///
 /// On x64:
 ///
@@ -240,8 +432,8 @@ impl sealed::Machine for Arm64Registers {
 /// let stack = Stack { start: 0x2_0000, bytes: &[0; 8] }; // its last return address is 0
 /// let modules = |address| (address >= module.base).then_some(module);
 /// let mut frames = Frames::new(registers, 100, modules, |address| (address >= stack.start).then_some(stack));
-/// assert_eq!(frames.by_ref().count(), 2);
-/// assert_eq!(frames.end(), Some(End::NoFunction));
+/// assert_eq!(frames.by_ref().count(), 1);
+/// assert_eq!(frames.end(), Some(End::Bottom));
 /// # Ok::<(), pe_c::Error>(())
 /// ```
 ///
@@ -269,10 +461,9 @@ impl sealed::Machine for Arm64Registers {
 ///     [
 ///         (module.base + 0x5020, 0x2_0000, Way::Top),
 ///         (module.base + 0x5020, 0x2_0000, Way::Records),
-///         (0, 0x2_0030, Way::Records),
 ///     ]
 /// );
-/// assert_eq!(frames.end(), Some(End::NoFunction));
+/// assert_eq!(frames.end(), Some(End::Bottom));
 /// # Ok::<(), pe_c::Error>(())
 /// ```
 #[derive(Clone, Debug)]
@@ -322,10 +513,13 @@ where
     /// The frame of the caller of a frame, or why there is none.
     fn caller(&mut self, frame: &Frame<R>) -> Result<Frame<R>, End> {
         let address = frame.registers.instruction_pointer();
-        let inside = address.saturating_sub(if frame.way.is_call() { R::CALL } else { 0 });
-        let module = (self.modules)(inside).ok_or(End::NoFunction)?;
-        let rva_of = |address: u64| u32::try_from(address.wrapping_sub(module.base)).map_err(|_| End::NoFunction);
-        R::caller_of(frame, Position { module, rva: rva_of(address)?, inside: rva_of(inside)? }, &mut self.memory)
+        let inside = address.saturating_sub(if frame.has_called { R::CALL } else { 0 });
+        let position = |module: Module<'m>| {
+            let rva_of = |address: u64| u32::try_from(address.wrapping_sub(module.base)).ok();
+            Some(Position { module, rva: rva_of(address)?, inside: rva_of(inside)? })
+        };
+        let at = (self.modules)(inside).and_then(position);
+        R::caller_of(frame, at, &mut self.modules, &mut self.memory)
     }
 }
 
@@ -346,7 +540,7 @@ where
             return None;
         }
         let next = match self.last {
-            None => Ok(Frame { registers: self.top, way: Way::Top }),
+            None => Ok(Frame { registers: self.top, way: Way::Top, has_called: false }),
             Some(frame) => self.caller(&frame),
         };
         match next {

@@ -56,7 +56,7 @@ fn all_of<'m>(
 
 /// All frames of a walk over the bytes of a stack from `ENTRY - 8` on, and why it ended.
 fn walk(registers: Registers, most: usize, bytes: &[u8]) -> (Vec<(u64, u64, Way)>, Option<End>) {
-    let file = made::with_functions();
+    let file = made::with_calls();
     let image = image_of(&file);
     let module = |address: u64| address.checked_sub(BASE).map(|_| Module { image: &image, base: BASE });
     all_of(Frames::new(registers, most, module, |_| Some(stack_of(bytes))))
@@ -65,10 +65,10 @@ fn walk(registers: Registers, most: usize, bytes: &[u8]) -> (Vec<(u64, u64, Way)
 #[test]
 fn a_walk_comes_to_its_end() {
     let bytes = stack_bytes();
-    let all =
-        [(BASE + 0x500C, ENTRY - 40, Way::Top), (BASE + 0x5020, ENTRY + 8, Way::Records), (0, OUTER + 8, Way::Records)];
-    assert_eq!(walk(registers(), 100, &bytes), (all.to_vec(), Some(End::NoFunction)));
-    assert_eq!(walk(registers(), 2, &bytes), (all[..2].to_vec(), Some(End::Bound)));
+    let all = [(BASE + 0x500C, ENTRY - 40, Way::Top), (BASE + 0x5020, ENTRY + 8, Way::Records)];
+    assert_eq!(walk(registers(), 100, &bytes), (all.to_vec(), Some(End::Bottom)));
+    assert_eq!(walk(registers(), 2, &bytes), (all.to_vec(), Some(End::Bound)));
+    assert_eq!(walk(registers(), 1, &bytes), (all[..1].to_vec(), Some(End::Bound)));
     assert_eq!(walk(registers(), 0, &bytes), (Vec::new(), Some(End::Bound)));
     // Without rbx of the outer frame, the last word, which is read first; and without the return address of the inner one.
     for (length, count, missing) in [(119, 2, OUTER + 64), (48, 2, OUTER + 64), (8, 1, ENTRY)] {
@@ -88,15 +88,21 @@ fn a_leaf_function_is_the_top_frame_alone() {
     assert_eq!(found[..2], [(BASE + 0x1100, ENTRY, Way::Top), (BASE + 0x5020, ENTRY + 8, Way::Leaf)]);
     // Its rbp is that of the inner frame, whose return address comes again.
     assert_eq!((found.len(), end), (2, Some(End::Step(StepError::NotRising(ENTRY + 8)))));
+    // At 1, to which the next word leads, is no module.
     registers.set_rsp(ENTRY + 8);
-    assert_eq!(walk(registers, 100, &bytes).1, Some(End::NoFunction));
-    // The image has no byte there, though its module was named.
-    registers.rip = BASE + 0x6000;
-    registers.set_rsp(ENTRY);
-    assert_eq!(walk(registers, 100, &bytes), (vec![(BASE + 0x6000, ENTRY, Way::Top)], Some(End::NoFunction)));
-    // No RVA is that large, though its low 32 bits are one of the leaf function.
-    registers.rip = BASE + 0x1100 + (1 << 32);
-    assert_eq!(walk(registers, 100, &bytes), (vec![(registers.rip, ENTRY, Way::Top)], Some(End::NoFunction)));
+    let both = vec![(BASE + 0x1100, ENTRY + 8, Way::Top), (1, ENTRY + 16, Way::Leaf)];
+    assert_eq!(walk(registers, 100, &bytes), (both, Some(End::NoModule)));
+    // The image has no byte there, though its module was named; and no RVA is that large, though its low 32 bits are one of
+    // the leaf function: a wild pointer was called, if a call ends where it returns to.
+    for wild in [BASE + 0x6000, BASE + 0x1100 + (1 << 32)] {
+        registers.rip = wild;
+        registers.set_rsp(ENTRY);
+        let (found, end) = walk(registers, 100, &bytes);
+        assert_eq!(found, [(wild, ENTRY, Way::Top), (BASE + 0x5020, ENTRY + 8, Way::Leaf)]);
+        assert_eq!(end, Some(End::Step(StepError::NotRising(ENTRY + 8))));
+        registers.set_rsp(ENTRY + 8);
+        assert_eq!(walk(registers, 100, &bytes), (vec![(wild, ENTRY + 8, Way::Top)], Some(End::NoModule)));
+    }
 }
 
 #[test]
@@ -149,7 +155,7 @@ fn a_step_says_why_there_is_no_caller() {
 /// A step whose piece misses an address is made again over the piece of that address alone.
 #[test]
 fn a_walk_reads_the_piece_that_is_asked_for() {
-    let file = made::with_functions();
+    let file = made::with_calls();
     let image = image_of(&file);
     let bytes = stack_bytes();
     let module = |address: u64| address.checked_sub(BASE).map(|_| Module { image: &image, base: BASE });
@@ -158,8 +164,11 @@ fn a_walk_reads_the_piece_that_is_asked_for() {
         asked.push(address);
         (address >= ENTRY - 8).then_some(stack_of(&bytes))
     };
-    assert_eq!(Frames::new(registers(), 3, module, memory).count(), 3);
-    assert_eq!(asked, [ENTRY - 40, ENTRY - 8, ENTRY + 8]);
+    let mut frames = Frames::new(registers(), 3, module, memory);
+    assert_eq!((frames.by_ref().count(), frames.end()), (2, Some(End::Bottom)));
+    // Then the words after the last return address, of which none leads on.
+    assert_eq!(asked[..5], [ENTRY - 40, ENTRY - 8, ENTRY + 8, OUTER + 8, OUTER + 8]);
+    assert_eq!(asked.iter().max(), Some(&(OUTER + 1024)));
 }
 
 #[test]
@@ -359,10 +368,9 @@ fn an_arm64_walk_comes_through_three_modules_to_its_end() {
         (MORE_CALLS + 0x5034, SP + 48, Way::Records),
         (OTHERS + 0x5118, SP + 96, Way::Records),
         (CALLS + 0x5010, SP + 864, Way::Records),
-        (0, SP + 912, Way::Records),
     ];
     let (frames, end) = arm64_walk(arm64_registers(), 100, &words);
-    assert_eq!((arm64_pointers(&frames), end), (all.to_vec(), Some(End::NoFunction)));
+    assert_eq!((arm64_pointers(&frames), end), (all.to_vec(), Some(End::Bottom)));
     // x19, x20 and x29, and d8 and d9, in each frame.
     let saved = |frame: &Frame<Arm64Registers>| {
         let registers = frame.registers;
@@ -374,7 +382,6 @@ fn an_arm64_walk_comes_through_three_modules_to_its_end() {
         (19, 20, SP + 80, 0, 0),
         (19, 20, SP + 608, 0, 0),
         (190, 200, SP + 864, 80, 90),
-        (1900, 2000, 0, 80, 90),
     ];
     assert_eq!(frames.iter().map(saved).collect::<Vec<_>>(), restored);
     for most in 0..6 {
@@ -404,14 +411,14 @@ fn an_arm64_leaf_function_is_the_top_frame_alone() {
     // The image has no byte there, though its module was named.
     registers.pc = OTHERS + 0x6000;
     let (frames, end) = arm64_walk(registers, 100, &words);
-    assert_eq!((frames.len(), end), (1, Some(End::NoFunction)));
+    assert_eq!((frames.len(), end), (1, Some(End::NoModule)));
     // No RVA is that large, though its low 32 bits are one of the leaf function.
     registers.pc = OTHERS + 0x1100 + (1 << 32);
     let (frames, end) = arm64_walk(registers, 100, &words);
-    assert_eq!((frames.len(), end), (1, Some(End::NoFunction)));
+    assert_eq!((frames.len(), end), (1, Some(End::NoModule)));
     // No module has it.
     registers.pc = CALLS - 4;
-    assert_eq!(arm64_walk(registers, 100, &words).1, Some(End::NoFunction));
+    assert_eq!(arm64_walk(registers, 100, &words).1, Some(End::NoModule));
 }
 
 /// The first frame alone may leave the stack pointer where it is.
@@ -423,7 +430,7 @@ fn an_arm64_walk_ends_where_the_stack_does_not_rise() {
     stopped.set_lr((CALLS + 0x5020) | 0xFF5A << 48);
     let (frames, end) = arm64_walk(stopped, 100, &words);
     assert_eq!(arm64_pointers(&frames)[..2], [(CALLS + 0x5024, SP, Way::Top), (CALLS + 0x5020, SP, Way::Records)]);
-    assert_eq!((frames.len(), end), (6, Some(End::NoFunction)));
+    assert_eq!((frames.len(), end), (5, Some(End::Bottom)));
     let mut called = arm64_registers();
     called.set_lr(CALLS + 0x5024);
     let (frames, end) = arm64_walk(called, 100, &words);
@@ -450,12 +457,12 @@ fn side_by_side<'m>(first: &'m Image<'m>, second: &'m Image<'m>, next: u64) -> i
 /// A module may end with a call, so that the return address is the start of the next module.
 #[test]
 fn a_call_may_be_the_end_of_its_module() {
-    let (x64, arm64) = (made::with_functions(), made::with_arm64_calls());
+    let (x64, arm64) = (made::with_calls(), made::with_arm64_calls());
     let (x64, arm64) = (image_of(&x64), image_of(&arm64));
     // The outer frame's function ends at 0x5020.
     let bytes = stack_bytes();
     let frames = Frames::new(registers(), 9, side_by_side(&x64, &arm64, BASE + 0x5020), |_| Some(stack_of(&bytes)));
-    assert_eq!(frames.map(|it| it.registers.rip).collect::<Vec<_>>(), [BASE + 0x500C, BASE + 0x5020, 0]);
+    assert_eq!(frames.map(|it| it.registers.rip).collect::<Vec<_>>(), [BASE + 0x500C, BASE + 0x5020]);
     // The second function ends at 0x5040, and called the first one.
     let next = BASE + 0x5040;
     let mut registers = Arm64Registers { pc: BASE + 0x5000, sp: SP, ..Arm64Registers::default() };
@@ -465,7 +472,7 @@ fn a_call_may_be_the_end_of_its_module() {
     let stack = Stack { start: SP, bytes: &bytes };
     let frames = Frames::new(registers, 9, side_by_side(&arm64, &x64, next), |_| Some(stack));
     let found: Vec<_> = frames.map(|it| (it.registers.pc, it.registers.sp)).collect();
-    assert_eq!(found, [(BASE + 0x5000, SP), (next, SP), (0, SP + 48)]);
+    assert_eq!(found, [(BASE + 0x5000, SP), (next, SP)]);
 }
 
 #[test]
@@ -504,10 +511,10 @@ fn walks_on_the_other_machine_find_no_function() {
     let memory = |_| Some(Stack { start: SP, bytes: &[0; 64] });
     let module = |address| (address == BASE + 0x5004).then_some(Module { image: &arm64, base: BASE });
     let mut frames = Frames::new(Registers { rip: BASE + 0x5004, ..Registers::default() }, 9, module, memory);
-    assert_eq!((frames.by_ref().count(), frames.end()), (1, Some(End::NoFunction)));
+    assert_eq!((frames.by_ref().count(), frames.end()), (1, Some(End::NoModule)));
     let module = |address| (address == BASE + 0x5004).then_some(Module { image: &x64, base: BASE });
     let mut frames = Frames::new(Arm64Registers { pc: BASE + 0x5004, ..Arm64Registers::default() }, 9, module, memory);
-    assert_eq!((frames.by_ref().count(), frames.end()), (1, Some(End::NoFunction)));
+    assert_eq!((frames.by_ref().count(), frames.end()), (1, Some(End::NoModule)));
 }
 
 /// Any numbers in a frame on ARM64 are legal.
@@ -563,7 +570,7 @@ fn cut(bytes: &[u8], start: u64, lengths: &[usize]) -> (Vec<u8>, Vec<MemoryPiece
 
 /// All frames of a walk over memory in pieces, and why it ended.
 fn walk_over(registers: Registers, memory: MemoryList<'_>) -> (Vec<(u64, u64, Way)>, Option<End>) {
-    let file = made::with_functions();
+    let file = made::with_calls();
     let image = image_of(&file);
     let module = |address: u64| address.checked_sub(BASE).map(|_| Module { image: &image, base: BASE });
     all_of(Frames::over(registers, 100, module, memory))
@@ -574,7 +581,7 @@ fn walk_over(registers: Registers, memory: MemoryList<'_>) -> (Vec<(u64, u64, Wa
 fn a_walk_reads_memory_in_pieces() {
     let bytes = stack_bytes();
     let whole = walk(registers(), 100, &bytes);
-    assert_eq!(whole.0.len(), 3);
+    assert_eq!(whole.0.len(), 2);
     for lengths in [&[120][..], &[8], &[1], &[3, 5, 11], &[13, 2]] {
         let (memory, mut pieces) = cut(&bytes, ENTRY - 8, lengths);
         assert_eq!(walk_over(registers(), MemoryList::new(&memory, &pieces).unwrap()), whole);
@@ -603,7 +610,7 @@ fn the_first_piece_has_the_byte() {
     assert_eq!(walked(&[all, over]), walked(&[all]));
     let address = 0xAAAA_AAAA_8000_5020;
     let found = vec![(BASE + 0x500C, ENTRY - 40, Way::Top), (address, ENTRY + 8, Way::Records)];
-    assert_eq!(walked(&[over, all]), (found, Some(End::NoFunction)));
+    assert_eq!(walked(&[over, all]), (found, Some(End::NoModule)));
 }
 
 #[test]

@@ -21,6 +21,8 @@ pub mod SomeFunction
 pub mod SomeShortPlan
 pub mod SomeWalk
 pub mod WholeWalks
+pub mod Scans
+pub mod Found
 pub mod Frames
 pub mod Tails
 pub mod Returned

@@ -7,7 +7,10 @@ use Rattle.std.specs.List.{find, list_all}
 use Rattle.std.specs.Option.{is_none}
 use Rattle.std.specs.List.Sorted.{IsNonDecreasingBy}
 use Rattle.pe_core.proofs.Equality.{both}
+use Rattle.pe_core.proofs.Map.{found_passes}
 use Rattle.pe_frame.specs.AddressRanges.{has_address, FirstAscend, AreAscending, IsCountUpTo, Overlaps}
+use Rattle.pe_frame.specs.Modules.{module_base, module_size}
+use Rattle.pe_frame.specs.declared.modules.Module.{Module}
 
 -- ---- the first element that passes
 
@@ -144,3 +147,11 @@ module _ {X : Type 0} (start size : X → ℕ) (xs : List X) where
       λ d more. let same : i + 1 - 1 ≡ i = omega arith in rw (same, at i x d lt is) refl,
     ),
   )
+
+-- ---- modules
+
+-- an address that follows one in a module ends at most at its end
+pub in_module : (modules : List Module) (last a : ℕ) (m : Module) → find (has_address module_base module_size last) modules ≡ Some m → a ≤ last + 1 → a ≤ m.base + m.size
+in_module modules last a m found le =
+    let within = is_within m.base m.size last (found_passes (has_address module_base module_size last) modules m found) in
+    omega (arith, within.1, le)

@@ -12,8 +12,10 @@ use Rattle.pe_plan.proofs.RecordLaw.{RecordLaw}
 use Rattle.pe_frame.specs.AddressRanges.{has_address}
 use Rattle.pe_frame.specs.Epilogs.{epilog_at}
 use Rattle.pe_frame.specs.Modules.{module_at, module_base, module_size}
-use Rattle.pe_frame.specs.Steps.{ErrorKind, by_kind, error_kind}
+use Rattle.pe_frame.specs.Steps.{ErrorKind, StepsOut, by_kind, error_kind, limit_of, returned_out}
+use Rattle.pe_frame.specs.Undoing.{pointer}
 use Rattle.pe_frame.specs.Walks.{AreSortedModules, Calls, CallsBy, CallsByPlan, CallsFound, CallsIn, FollowsBy, HasSortedTable, IsSortedModule, IsUnreadable, IsWalk, IsWalkBy, OfError, OfRecords, WalkState, by_end_kind, code_of_frame, end_kind, frame_after, lookup_address, walk_after}
+use Rattle.pe_frame.specs.declared.epilog.Instruction.{Instruction}
 use Rattle.pe_frame.specs.declared.error.FrameError.{FrameError}
 use Rattle.pe_frame.specs.declared.modules.Module.{Module}
 use Rattle.pe_frame.specs.declared.registers.Registers.{Registers}
@@ -22,14 +24,17 @@ use Rattle.pe_frame.specs.declared.walk.WalkEnd.{WalkEnd}
 use Rattle.pe_frame.specs.declared.walk.WalkEnd.TheVariants as ends
 use Rattle.pe_frame.proofs.Jumps.{one_in_image}
 use Rattle.pe_frame.proofs.OneShortPlan.{one_short_plan}
+use Rattle.pe_frame.proofs.OneStep.{one_undoing, same_then}
 
 -- ---- one step
 
-same_frame : (x y : Result (Registers × Bool) FrameError) → by_kind x ≡ by_kind y → by_end_kind (frame_after x) ≡ by_end_kind (frame_after y)
-same_frame (Ok u) (Ok v) e = let same : u ≡ v = cc in ap (λ (w : Registers × Bool). by_end_kind (frame_after (Ok w))) same
-same_frame (Ok u) (Err d) e = cc
-same_frame (Err d) (Ok v) e = cc
-same_frame (Err d) (Err e) h =
+same_frame : (memory : ℕ → Option ℕ) (modules : List Module) (x y : Result (Registers × Bool) FrameError) → by_kind x ≡ by_kind y → by_end_kind (frame_after memory modules x) ≡ by_end_kind (frame_after memory modules y)
+same_frame memory modules (Ok u) (Ok v) e =
+    let same : u ≡ v = cc in
+    ap (λ (w : Registers × Bool). by_end_kind (frame_after memory modules (Ok w))) same
+same_frame memory modules (Ok u) (Err d) e = absurd (cc e)
+same_frame memory modules (Err d) (Ok v) e = absurd (cc e)
+same_frame memory modules (Err d) (Err e) h =
     let same : error_kind d ≡ error_kind e = cc in
     ap (λ (k : ErrorKind). Err (OfError k)) same
 
@@ -40,34 +45,34 @@ unreadable r (Ok s) h = absurd h
 unreadable r (Err (ends.Records e)) h = ap (λ (k : Refusal). Err (OfRecords k)) h
 unreadable r (Err other) h = absurd h
 
-one_by_plan : (law : RecordLaw) (memory : ℕ → Option ℕ) (m : Module) (e : ExceptionView) (f : RuntimeFunction) (s : StackFrame) (plan : Result (Option (List UnwindInfoView)) Refusal) (x y : Result StackFrame WalkEnd) → NeverFalls (functions (table_of e)) → CallsByPlan memory m e f s plan x → CallsByPlan memory m e f s plan y → by_end_kind x ≡ by_end_kind y
-one_by_plan law memory m e f s (Err r) x y sorted h k = unreadable r x h ∙ sym (unreadable r y k)
-one_by_plan law memory m e f s (Ok None) x y sorted h k = ap by_end_kind (h ∙ sym k)
-one_by_plan law memory m e f s (Ok (Some plan)) x y sorted h k =
+one_by_plan : (law : RecordLaw) (memory : ℕ → Option ℕ) (modules : List Module) (m : Module) (e : ExceptionView) (f : RuntimeFunction) (s : StackFrame) (plan : Result (Option (List UnwindInfoView)) Refusal) (x y : Result StackFrame WalkEnd) → NeverFalls (functions (table_of e)) → CallsByPlan memory modules m e f s plan x → CallsByPlan memory modules m e f s plan y → by_end_kind x ≡ by_end_kind y
+one_by_plan law memory modules m e f s (Err r) x y sorted h k = unreadable r x h ∙ sym (unreadable r y k)
+one_by_plan law memory modules m e f s (Ok None) x y sorted h k = ap by_end_kind (h ∙ sym k)
+one_by_plan law memory modules m e f s (Ok (Some plan)) x y sorted h k =
     let one = one_in_image law e m.sections.now m.opts (epilog_at plan f.begin_address ((s.registers).rip - m.base) (code_of_frame m e f.end_address s)) memory plan ((s.registers).rip - m.base - f.begin_address) s.registers h.0 k.0 sorted h.1 k.1 in
-    ap by_end_kind h.2 ∙ same_frame h.0 k.0 one ∙ sym (ap by_end_kind k.2)
+    ap by_end_kind h.2 ∙ same_frame memory modules h.0 k.0 one ∙ sym (ap by_end_kind k.2)
 
-one_found : (law : RecordLaw) (memory : ℕ → Option ℕ) (m : Module) (e : ExceptionView) (s : StackFrame) (found : Option RuntimeFunction) (x y : Result StackFrame WalkEnd) → NeverFalls (functions (table_of e)) → CallsFound memory m e s found x → CallsFound memory m e s found y → by_end_kind x ≡ by_end_kind y
-one_found law memory m e s None x y sorted h k = ap by_end_kind (h ∙ sym k)
-one_found law memory m e s (Some f) x y sorted h k =
+one_found : (law : RecordLaw) (memory : ℕ → Option ℕ) (modules : List Module) (m : Module) (e : ExceptionView) (s : StackFrame) (found : Option RuntimeFunction) (x y : Result StackFrame WalkEnd) → NeverFalls (functions (table_of e)) → CallsFound memory modules m e s found x → CallsFound memory modules m e s found y → by_end_kind x ≡ by_end_kind y
+one_found law memory modules m e s None x y sorted h k = ap by_end_kind (h ∙ sym k)
+one_found law memory modules m e s (Some f) x y sorted h k =
     let same = one_short_plan law (links_of e m.sections.now m.opts) e.content f h.0 k.0 h.1 k.1 in
-    let here = subst (λ (p : Result (Option (List UnwindInfoView)) Refusal). CallsByPlan memory m e f s p x) same h.2 in
-    one_by_plan law memory m e f s k.0 x y sorted here k.2
+    let here = subst (λ (p : Result (Option (List UnwindInfoView)) Refusal). CallsByPlan memory modules m e f s p x) same h.2 in
+    one_by_plan law memory modules m e f s k.0 x y sorted here k.2
 
-one_by : (law : RecordLaw) (memory : ℕ → Option ℕ) (m : Module) (s : StackFrame) (o : Option ExceptionView) (x y : Result StackFrame WalkEnd) → HasSortedTable o → CallsBy memory m s o x → CallsBy memory m s o y → by_end_kind x ≡ by_end_kind y
-one_by law memory m s None x y sorted h k = ap by_end_kind (h ∙ sym k)
-one_by law memory m s (Some e) x y sorted h k =
+one_by : (law : RecordLaw) (memory : ℕ → Option ℕ) (modules : List Module) (m : Module) (s : StackFrame) (o : Option ExceptionView) (x y : Result StackFrame WalkEnd) → HasSortedTable o → CallsBy memory modules m s o x → CallsBy memory modules m s o y → by_end_kind x ≡ by_end_kind y
+one_by law memory modules m s None x y sorted h k = ap by_end_kind (h ∙ sym k)
+one_by law memory modules m s (Some e) x y sorted h k =
     let same = (h.1).scanned sorted ∙ sym ((k.1).scanned sorted) in
-    let here = subst (λ (f : Option RuntimeFunction). CallsFound memory m e s f x) same h.2 in
-    one_found law memory m e s k.0 x y sorted here k.2
+    let here = subst (λ (f : Option RuntimeFunction). CallsFound memory modules m e s f x) same h.2 in
+    one_found law memory modules m e s k.0 x y sorted here k.2
 
 abbrev IsSortedFound : Option Module → Type 0
 IsSortedFound None = Unit {0}
 IsSortedFound (Some m) = IsSortedModule m
 
-one_in : (law : RecordLaw) (memory : ℕ → Option ℕ) (s : StackFrame) (o : Option Module) (x y : Result StackFrame WalkEnd) → IsSortedFound o → CallsIn memory s o x → CallsIn memory s o y → by_end_kind x ≡ by_end_kind y
-one_in law memory s None x y sorted h k = ap by_end_kind (h ∙ sym k)
-one_in law memory s (Some m) x y sorted h k = one_by law memory m s (option_map (λ e. e.now) m.exceptions) x y sorted h k
+one_in : (law : RecordLaw) (memory : ℕ → Option ℕ) (modules : List Module) (s : StackFrame) (o : Option Module) (x y : Result StackFrame WalkEnd) → IsSortedFound o → CallsIn memory modules s o x → CallsIn memory modules s o y → by_end_kind x ≡ by_end_kind y
+one_in law memory modules s None x y sorted h k = ap by_end_kind (h ∙ sym k)
+one_in law memory modules s (Some m) x y sorted h k = one_by law memory modules m s (option_map (λ e. e.now) m.exceptions) x y sorted h k
 
 sorted_one : (m : Module) (rest : Option Module) (t : Bool) → IsSortedModule m → IsSortedFound rest → IsSortedFound (cond t (Some m) rest)
 sorted_one m rest true one others = one
@@ -79,7 +84,7 @@ sorted_found p (m ∷ ms) sorted = sorted_one m (find p ms) (p m) sorted.0 (sort
 
 one_caller : (law : RecordLaw) (memory : ℕ → Option ℕ) (modules : List Module) (s : StackFrame) (x y : Result StackFrame WalkEnd) → AreSortedModules modules → Calls memory modules s x → Calls memory modules s y → by_end_kind x ≡ by_end_kind y
 one_caller law memory modules s x y sorted h k =
-    one_in law memory s (module_at modules (lookup_address s)) x y (sorted_found (has_address module_base module_size (lookup_address s)) modules sorted) h k
+    one_in law memory modules s (module_at modules (lookup_address s)) x y (sorted_found (has_address module_base module_size (lookup_address s)) modules sorted) h k
 
 -- ---- one walk
 

@@ -1,16 +1,21 @@
 -- There is a walk from each state.
 use Rattle.std.proofs.Common.{◌≢◌, ℕ, zero, suc, ◌-◌, Bool, true, false, List, [], ◌∷◌, Option, Some, None, Result, Ok, Err, refl, ap}
 use Rattle.std.specs.Option.{option_map}
-use Rattle.pe_core.specs.Refusals.{Refusal, Memory}
+use Rattle.pe_core.specs.Refusals.{Refusal, Memory, ◌>>=◌}
 use Rattle.pe_unwind.specs.ExceptionTable.{ExceptionView, table_of}
 use Rattle.pe_unwind.specs.Links.{links_of}
 use Rattle.pe_unwind.specs.UnwindRecord.{UnwindInfoView}
 use Rattle.pe_unwind.specs.declared.function_table.RuntimeFunction.{RuntimeFunction}
 use Rattle.pe_plan.proofs.RecordLaw.{RecordLaw}
-use Rattle.pe_frame.specs.Epilogs.{epilog_at}
+use Rattle.pe_frame.specs.Epilogs.{StepsOutFrom, epilog_at, executed_all}
 use Rattle.pe_frame.specs.Modules.{module_at}
-use Rattle.pe_frame.specs.Walks.{Calls, CallsBy, CallsByPlan, CallsFound, CallsIn, Follows, FollowsBy, IsWalk, IsWalkBy, WalkState, code_of_frame, frame_after, leaf_caller, lookup_address, walk_after}
+use Rattle.pe_frame.specs.Steps.{StepsOut, limit_of, returned_out, rising}
+use Rattle.pe_frame.specs.Undoing.{pointer}
+use Rattle.pe_frame.specs.Walks.{Calls, CallsBy, CallsByPlan, CallsFound, CallsIn, Follows, FollowsBy, IsWalk, IsWalkBy, WalkState, code_of_frame, frame_after, leaf_caller, lookup_address, outside_caller, walk_after}
+use Rattle.pe_frame.specs.declared.epilog.Instruction.{Instruction}
+use Rattle.pe_frame.specs.declared.error.FrameError.{FrameError}
 use Rattle.pe_frame.specs.declared.modules.Module.{Module}
+use Rattle.pe_frame.specs.declared.registers.Registers.{Registers}
 use Rattle.pe_frame.specs.declared.walk.StackFrame.{StackFrame}
 use Rattle.pe_frame.specs.declared.walk.WalkEnd.{WalkEnd}
 use Rattle.pe_frame.specs.declared.walk.WalkEnd.TheVariants as ends
@@ -24,35 +29,35 @@ use Rattle.pe_frame.proofs.SomeShortPlan.{some_short_plan}
 abbrev Caller : (Result StackFrame WalkEnd → Type 0) → Type 0
 Caller Is = (answer : Result StackFrame WalkEnd) × Is answer
 
-some_by_plan : (law : RecordLaw) (memory : ℕ → Option ℕ) (m : Module) (e : ExceptionView) (f : RuntimeFunction) (s : StackFrame) (plan : Result (Option (List UnwindInfoView)) Refusal) → plan ≢ Err Memory → Caller (CallsByPlan memory m e f s plan)
-some_by_plan law memory m e f s (Err r) other =
+some_by_plan : (law : RecordLaw) (memory : ℕ → Option ℕ) (modules : List Module) (m : Module) (e : ExceptionView) (f : RuntimeFunction) (s : StackFrame) (plan : Result (Option (List UnwindInfoView)) Refusal) → plan ≢ Err Memory → Caller (CallsByPlan memory modules m e f s plan)
+some_by_plan law memory modules m e f s (Err r) other =
     let error = some_error r (λ same. other (ap (λ (k : Refusal). Err k) same)) in
     (Err (ends.Records error.0), error.1)
-some_by_plan law memory m e f s (Ok None) other = (Err ends.LongChain, refl)
-some_by_plan law memory m e f s (Ok (Some plan)) other =
+some_by_plan law memory modules m e f s (Ok None) other = (Err ends.LongChain, refl)
+some_by_plan law memory modules m e f s (Ok (Some plan)) other =
     let left = some_in_image law e m.sections.now m.opts (epilog_at plan f.begin_address ((s.registers).rip - m.base) (code_of_frame m e f.end_address s)) memory plan ((s.registers).rip - m.base - f.begin_address) s.registers in
-    (frame_after left.0, (left.0, left.1, refl))
+    (frame_after memory modules left.0, (left.0, left.1, refl))
 
-some_found : (law : RecordLaw) (memory : ℕ → Option ℕ) (m : Module) (e : ExceptionView) (s : StackFrame) (found : Option RuntimeFunction) → Caller (CallsFound memory m e s found)
-some_found law memory m e s None = (leaf_caller memory s, refl)
-some_found law memory m e s (Some f) =
+some_found : (law : RecordLaw) (memory : ℕ → Option ℕ) (modules : List Module) (m : Module) (e : ExceptionView) (s : StackFrame) (found : Option RuntimeFunction) → Caller (CallsFound memory modules m e s found)
+some_found law memory modules m e s None = (leaf_caller memory modules s, refl)
+some_found law memory modules m e s (Some f) =
     let plan = some_short_plan law (links_of e m.sections.now m.opts) e.content f in
-    let caller = some_by_plan law memory m e f s plan.0 plan.2 in
+    let caller = some_by_plan law memory modules m e f s plan.0 plan.2 in
     (caller.0, (plan.0, plan.1, caller.1))
 
-some_by : (law : RecordLaw) (memory : ℕ → Option ℕ) (m : Module) (s : StackFrame) (o : Option ExceptionView) → Caller (CallsBy memory m s o)
-some_by law memory m s None = (leaf_caller memory s, refl)
-some_by law memory m s (Some e) =
+some_by : (law : RecordLaw) (memory : ℕ → Option ℕ) (modules : List Module) (m : Module) (s : StackFrame) (o : Option ExceptionView) → Caller (CallsBy memory modules m s o)
+some_by law memory modules m s None = (leaf_caller memory modules s, refl)
+some_by law memory modules m s (Some e) =
     let found = some_function (table_of e) (lookup_address s - m.base) in
-    let caller = some_found law memory m e s found.0 in
+    let caller = some_found law memory modules m e s found.0 in
     (caller.0, (found.0, found.1, caller.1))
 
-some_in : (law : RecordLaw) (memory : ℕ → Option ℕ) (s : StackFrame) (o : Option Module) → Caller (CallsIn memory s o)
-some_in law memory s None = (Err ends.NoModule, refl)
-some_in law memory s (Some m) = some_by law memory m s (option_map (λ e. e.now) m.exceptions)
+some_in : (law : RecordLaw) (memory : ℕ → Option ℕ) (modules : List Module) (s : StackFrame) (o : Option Module) → Caller (CallsIn memory modules s o)
+some_in law memory modules s None = (outside_caller memory modules s, refl)
+some_in law memory modules s (Some m) = some_by law memory modules m s (option_map (λ e. e.now) m.exceptions)
 
 pub some_caller : (law : RecordLaw) (memory : ℕ → Option ℕ) (modules : List Module) (s : StackFrame) → Caller (Calls memory modules s)
-some_caller law memory modules s = some_in law memory s (module_at modules (lookup_address s))
+some_caller law memory modules s = some_in law memory modules s (module_at modules (lookup_address s))
 
 -- ---- one walk
 

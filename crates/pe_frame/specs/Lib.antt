@@ -8,6 +8,7 @@ pub mod InPlace
 pub mod Survey
 pub mod Epilogs
 pub mod Jumps
+pub mod CallForms
 pub mod Modules
 pub mod Walks
 pub mod Tails

@@ -1,10 +1,13 @@
 -- The modules of a process: images, each with the addresses where it is loaded.
-use Rattle.std.specs.Prelude.{ℕ, ◌-◌, List, [], Option, Some, None, if◌then◌else◌}
-use Rattle.std.specs.List.{find}
+use Rattle.std.specs.Prelude.{ℕ, ◌+◌, ◌-◌, ◌/◌, ◌%◌, ◌^◌, ◌==◌, ◌&&◌, nat_le, nat_lt, Bool, false, List, [], Option, Some, None, if◌then◌else◌}
+use Rattle.std.specs.List.{find, list_any}
+use Rattle.std.specs.Option.{option_map}
 use Rattle.pe_core.specs.Bytes.{holds, range}
 use Rattle.pe_core.specs.SectionMap.{map_view, offset_in}
+use Rattle.pe_core.specs.declared.section_table.SectionTable.{SectionTable}
 use Rattle.pe_unwind.specs.ExceptionTable.{ExceptionView}
 use Rattle.pe_frame.specs.AddressRanges.{has_address}
+use Rattle.pe_frame.specs.CallForms.{is_call, call_sizes}
 use Rattle.pe_frame.specs.declared.modules.Module.{Module}
 
 -- the first address, and how many bytes follow from it on
@@ -26,3 +29,39 @@ bytes_or_none b (Some p) n = if holds b p n then range b p n else []
 -- the code of a module from an RVA up to another, by the section map of its exception data
 abbrev pub code_in : Module → ExceptionView → ℕ → ℕ → List ℕ
 code_in m e rva end = bytes_or_none m.bytes.now (offset_in (map_view m.opts m.sections.now e.alignment) rva) (end - rva)
+
+-- ---- return addresses
+
+-- the n bytes before an RVA are a call
+abbrev pub follows_call : Module → ExceptionView → ℕ → ℕ → Bool
+follows_call m e rva n = nat_le n rva && is_call (code_in m e (rva - n) rva)
+
+-- A call ends at an RVA of a module. In one without exception data no function calls.
+abbrev pub has_call_before : Module → Option ExceptionView → ℕ → Bool
+has_call_before m None rva = false
+has_call_before m (Some e) rva = list_any (follows_call m e rva) call_sizes
+
+abbrev pub is_after_call_in : Module → ℕ → Bool
+is_after_call_in m a = has_call_before m (option_map (λ e. e.now) m.exceptions) (a - m.base)
+
+abbrev pub is_after_call_of : Option Module → ℕ → Bool
+is_after_call_of None a = false
+is_after_call_of (Some m) a = is_after_call_in m a
+
+-- an address is one after a call: the bytes before it are one, in the module that has the last of them
+abbrev pub is_after_call : List Module → ℕ → Bool
+is_after_call modules a = is_after_call_of (module_at modules (a - 1)) a
+
+-- a section is executable (IMAGE_SCN_MEM_EXECUTE, bit 29 of its characteristics), and has an RVA
+abbrev pub executes : ℕ → SectionTable → Bool
+executes rva s =
+    s.characteristics / 2 ^ 29 % 2 == 1 && nat_le s.virtual_address rva
+    && nat_lt rva (s.virtual_address + (if s.virtual_size == 0 then s.size_of_raw_data else s.virtual_size))
+
+abbrev pub is_code_return_of : Option Module → ℕ → Bool
+is_code_return_of None a = false
+is_code_return_of (Some m) a = list_any (executes (a - m.base - 1)) m.sections.now && is_after_call_in m a
+
+-- an address is one after a call in an executable section
+abbrev pub is_code_return : List Module → ℕ → Bool
+is_code_return modules a = is_code_return_of (module_at modules (a - 1)) a

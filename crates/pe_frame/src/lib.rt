@@ -16,6 +16,7 @@
 
 mod address_ranges;
 mod arm64;
+mod call;
 mod epilog;
 mod error;
 mod frame;

@@ -1,13 +1,21 @@
 //! The modules of a process: images, each with the address where it is loaded.
 
-ghost use Rattle.std.specs.Prelude.{◌≡◌, MatchResult};
+ghost use Rattle.std.specs.Prelude.{◌≡◌, ◌+◌, ◌-◌, ◌≤◌, MatchResult};
+ghost use Rattle.std.specs.List.{list_any};
 ghost use Rattle.std.specs.Option.{option_map};
 ghost use Rattle.pe_frame.specs.AddressRanges.{AreAscending, IsOverlap};
-ghost use Rattle.pe_frame.specs.Modules.{module_base, module_size, module_at, code_in};
+ghost use Rattle.pe_frame.specs.Modules.{module_base, module_size, module_at, code_in, follows_call, is_after_call_in, is_after_call, executes, is_code_return};
 
 use crate::address_ranges::{AddressRange, first_overlap, range_with};
+use crate::call::is_call;
 use pe_core::{ParseOptions, SectionTable, slice_at};
 use pe_unwind::ExceptionData;
+
+/// `IMAGE_SCN_MEM_EXECUTE`: the section is executable.
+const MEM_EXECUTE: u32 = 0x2000_0000;
+
+/// How many bytes a call may have, the sizes that are seen most first.
+const CALL_SIZES: [u32; 7] = [5, 6, 2, 3, 4, 7, 8];
 
 /// A module of a process on x64: an image, and the addresses where it is loaded.
 #[derive(Clone, Copy)]
@@ -63,6 +71,64 @@ impl<'a> Module<'a> {
             None => &[],
         }
     }
+
+    /// The RVA of an address in the module, which may be its end.
+    pub(crate) fn rva_of(&self, address: u64) -> u32
+        requires { address ≤ self.now.base + self.now.size }
+        ensures { result ≡ address - self.now.base }
+    {
+        let size = u64::from(self.size);
+        u64::min(address.saturating_sub(self.base), size) as u32
+    }
+
+    /// Whether the bytes before an RVA are a call of so many bytes.
+    fn follows_call(&self, exceptions: &ExceptionData<'a>, rva: u32, size: u32) -> bool
+        ensures { result ≡ follows_call self.now exceptions.now rva size }
+    {
+        size <= rva && is_call(self.code(exceptions, rva - size, rva))
+    }
+
+    /// Whether the bytes before an RVA are a call of one of these sizes.
+    fn follows_any(&self, exceptions: &ExceptionData<'a>, rva: u32, sizes: &[u32]) -> bool
+        ensures { result ≡ list_any (follows_call self.now exceptions.now rva) sizes.now }
+    {
+        sizes
+            .iter()
+            .any(|size| self.follows_call(exceptions, rva, *size))
+    }
+
+    /// Whether an address, which may be the end of the module, is one after a call. In a module without exception data none
+    /// is: leaf functions call nothing.
+    fn is_after_call(&self, address: u64) -> bool
+        requires { address ≤ self.now.base + self.now.size }
+        ensures { result ≡ is_after_call_in self.now address }
+    {
+        let Some(exceptions) = self.exceptions else {
+            return false;
+        };
+        self.follows_any(exceptions, self.rva_of(address), &CALL_SIZES)
+    }
+
+    /// Whether an executable section has an RVA.
+    fn is_executable(&self, rva: u32) -> bool
+        ensures { result ≡ list_any (executes rva) self.now.sections.now }
+    {
+        self.sections.iter().any(|section| executes(section, rva))
+    }
+}
+
+/// Whether a section is executable, and has an RVA.
+fn executes(section: &SectionTable, rva: u32) -> bool
+    ensures { result ≡ executes rva section.now }
+{
+    let size = if section.virtual_size == 0 {
+        section.size_of_raw_data
+    } else {
+        section.virtual_size
+    };
+    section.characteristics / MEM_EXECUTE % 2 == 1
+        && section.virtual_address <= rva
+        && rva - section.virtual_address < size
 }
 
 /// The modules of a process, by the address where each is loaded.
@@ -90,5 +156,32 @@ impl<'a> Modules<'a> {
         ensures { option_map (λ m. m.now) result ≡ module_at self.now.modules.now address }
     {
         range_with(self.modules, address)
+    }
+
+    /// Whether an address is one after a call: the bytes before it are a call, in the module that has the last of them. So it
+    /// may be a return address, and an address of which this does not hold is none.
+    ///
+    /// A call is E8 with four bytes, or FF /2 with its operand and, before it, a REX prefix or none. The bytes are read by the
+    /// section map of the module's exception data; a module without any has no calls.
+    pub fn is_after_call(&self, address: u64) -> bool
+        ensures { result ≡ is_after_call self.now.modules.now address }
+    {
+        match self.find(address.saturating_sub(1)) {
+            Some(module) => module.is_after_call(address),
+            None => false,
+        }
+    }
+
+    /// Whether an address is one after a call in an executable section.
+    pub(crate) fn is_code_return(&self, address: u64) -> bool
+        ensures { result ≡ is_code_return self.now.modules.now address }
+    {
+        let last = address.saturating_sub(1);
+        match self.find(last) {
+            Some(module) => {
+                module.is_executable(module.rva_of(last)) && module.is_after_call(address)
+            }
+            None => false,
+        }
     }
 }

@@ -3,23 +3,33 @@
 //! In each frame the function is looked up in the module of its instruction pointer, and what its prolog did is undone
 //! ([Microsoft's page](https://learn.microsoft.com/cpp/build/exception-handling-x64)). A return address may be the end of its
 //! function, if the call before it is the last instruction, so there the byte before it is looked up. The top frame alone, and
-//! one that an interrupt stopped, can be in an epilog, which its code tells, or in a leaf function, which has no unwind data.
+//! one that was interrupted, can be in an epilog, which its code tells, or in a leaf function, which has no unwind data.
+//!
+//! What is a return address is a fact of the bytes before it: a call ends there. Records lead to interrupted code too, where a
+//! dispatcher of exceptions saved the registers without a machine frame. After a call of a null pointer the frame is in no module:
+//! its return address is at the stack pointer, if a call ends at that. Where neither leads on, the stack is scanned.
 
-ghost use Rattle.std.specs.Prelude.{◌≡◌, ◌≤◌, ◌<◌, ◌+◌, ◌-◌, Ok, Err, IsTrue, true};
+ghost use Rattle.std.specs.Prelude.{◌≡◌, ◌≤◌, ◌<◌, ◌+◌, ◌-◌, ◌^◌, Ok, Err, IfSome, IsTrue, true};
 ghost use Rattle.std.specs.Option.{option_map};
 ghost use Rattle.std.specs.Iterator.{at_most};
 ghost use Rattle.pe_frame.specs.AddressRanges.{has_address};
 ghost use Rattle.pe_frame.specs.Modules.{module_base, module_size};
-ghost use Rattle.pe_frame.specs.Walks.{has_called, lookup_address, code_of_frame, frame_after, leaf_caller, CallsFound, CallsIn, Calls};
+ghost use Rattle.pe_frame.specs.Walks.{frame_of, lookup_address, code_of_frame, return_at, first_return, most_words, scanned, leaf_frame, without_records, is_bottom, after_leaf, leaf_caller, outside_caller, frame_after, CallsFound, CallsIn, Calls};
 
 use crate::error::FrameError;
 use crate::frame::leaf;
 use crate::jump::{ImageFunctions, step_in_image};
-use crate::memory::Memory;
+use crate::memory::{Memory, SIZE_OF_WORD};
 use crate::modules::{Module, Modules};
-use crate::registers::Registers;
+use crate::registers::{RSP, Registers};
 use pe_plan::ShortPlan;
 use pe_unwind::{ExceptionData, RuntimeFunction, search};
+
+/// How many words a scan reads at most.
+const MOST_WORDS: usize = 128;
+
+/// The first address that is too high for a word of the stack: the stack pointer could not be above it.
+const LAST_WORD: u64 = u64::MAX - 7;
 
 /// How a frame was found.
 #[derive(Clone, Copy, Debug, PartialEq, Eq)]
@@ -32,6 +42,9 @@ pub enum Way {
     Leaf,
     /// An interrupt stopped it: the records of the frame before it show what the processor pushed.
     Interrupt,
+    /// By a scan of the stack, where no records led on: it is the first word that is after a call in executable code. It may
+    /// be a return address that was left there, so this frame and those after it may be wrong.
+    Scanned,
 }
 
 /// A frame of a stack walk.
@@ -41,6 +54,9 @@ pub struct StackFrame {
     pub registers: Registers,
     /// How they were found.
     pub way: Way,
+    /// Whether its function has called. If not, `rip` is that of the instruction that is about to run: in the top frame, in one
+    /// that an interrupt stopped, and in one that records lead to where no call ends at `rip`, which was interrupted too.
+    pub has_called: bool,
 }
 
 /// Why a walk is over.
@@ -49,7 +65,10 @@ pub enum WalkEnd {
     /// As many frames were returned as the caller of the walk asked for.
     #[error("as many frames as were asked for")]
     Bound,
-    /// No module has the instruction pointer of the last frame.
+    /// The stack is whole: the last frame returns to 0, as that does with which a thread starts, and no frame is found there.
+    #[error("bottom of the stack")]
+    Bottom,
+    /// No module has the instruction pointer of the last frame, and no return address is found.
     #[error("no module has the instruction pointer")]
     NoModule,
     /// No function covers the call in the last frame. A leaf function calls nothing.
@@ -66,15 +85,21 @@ pub enum WalkEnd {
     Step(FrameError),
 }
 
-/// Whether the function of a frame has called, so that its instruction pointer is a return address.
-fn has_called(way: Way) -> bool
-    ensures { result ≡ has_called way }
+/// A frame with these registers, found in this way.
+fn frame_of(modules: &Modules<'_>, way: Way, registers: Registers) -> StackFrame
+    ensures { result ≡ frame_of modules.now.modules.now way registers }
 {
-    match way {
+    let has_called = match way {
         Way::Top => false,
-        Way::Records => true,
+        Way::Records => modules.is_after_call(registers.rip),
         Way::Leaf => true,
         Way::Interrupt => false,
+        Way::Scanned => true,
+    };
+    StackFrame {
+        registers,
+        way,
+        has_called,
     }
 }
 
@@ -82,23 +107,140 @@ fn has_called(way: Way) -> bool
 fn lookup_address(frame: &StackFrame) -> u64
     ensures { result ≡ lookup_address frame.now }
 {
-    let size_of_call = if has_called(frame.way) { 1 } else { 0 };
+    let size_of_call = if frame.has_called { 1 } else { 0 };
     frame.registers.rip.saturating_sub(size_of_call)
 }
 
-/// The frame of the caller of a leaf function.
-fn caller_of_leaf<M: Memory>(frame: &StackFrame, memory: &M) -> Result<StackFrame, WalkEnd>
-    ensures { result ≡ leaf_caller (M.word memory.now) frame.now }
+/// The return address into executable code that a word of the stack is, if it is one.
+fn return_at<M: Memory>(modules: &Modules<'_>, memory: &M, address: u64) -> Option<u64>
+    requires { address + 8 < 2 ^ 64 }
+    ensures { result ≡ return_at (M.word memory.now) modules.now.modules.now address }
 {
-    if has_called(frame.way) {
+    match memory.u64_at(address) {
+        Some(word) if modules.is_code_return(word) => Some(word),
+        _ => None,
+    }
+}
+
+/// The first return address into executable code from an address of the stack on, and where it stands.
+#[tactic(auto, using(crate::proofs::Scans::next_word, crate::proofs::Scans::this_word, crate::proofs::Scans::past_the_end, crate::proofs::Scans::no_word))]
+fn first_return<M: Memory>(modules: &Modules<'_>, memory: &M, start: u64) -> Option<(u64, u64)>
+    ensures value { result ≡ first_return most_words
+        (M.word memory.now) modules.now.modules.now start }
+    ensures room { IfSome result (λ found. found.0 + 8 < 2 ^ 64) }
+{
+    let mut address = start;
+    for _ in 0..MOST_WORDS {
+        if address >= LAST_WORD {
+            return None;
+        }
+        if let Some(word) = return_at(modules, memory, address) {
+            return Some((address, word));
+        }
+        address += SIZE_OF_WORD;
+    }
+    None
+}
+
+/// The frame that a scan of the stack finds.
+#[tactic(auto, using(crate::proofs::Scans::past_the_end))]
+fn scanned<M: Memory>(
+    modules: &Modules<'_>,
+    memory: &M,
+    registers: &Registers,
+) -> Option<StackFrame>
+    ensures { result ≡ scanned (M.word memory.now) modules.now.modules.now registers.now }
+{
+    let pointer = registers.general[RSP];
+    if pointer >= LAST_WORD {
+        return None;
+    }
+    let start = (pointer + (SIZE_OF_WORD - 1)) / SIZE_OF_WORD * SIZE_OF_WORD;
+    let (address, word) = first_return(modules, memory, start)?;
+    let mut caller = *registers;
+    caller.general[RSP] = address + SIZE_OF_WORD;
+    caller.rip = word;
+    Some(frame_of(modules, Way::Scanned, caller))
+}
+
+/// The frame of the caller of a leaf function, if a call ends where it returns to.
+fn leaf_frame(modules: &Modules<'_>, popped: &Result<Registers, FrameError>) -> Option<StackFrame>
+    ensures { result ≡ leaf_frame modules.now.modules.now popped.now }
+{
+    match popped {
+        Ok(registers) if modules.is_after_call(registers.rip) => {
+            Some(frame_of(modules, Way::Leaf, *registers))
+        }
+        _ => None,
+    }
+}
+
+/// The frame that is found from registers without records.
+fn without_records<M: Memory>(
+    modules: &Modules<'_>,
+    memory: &M,
+    registers: &Registers,
+) -> Option<StackFrame>
+    ensures { result ≡ without_records (M.word memory.now) modules.now.modules.now registers.now }
+{
+    match leaf_frame(modules, &leaf(*registers, memory)) {
+        Some(frame) => Some(frame),
+        None => scanned(modules, memory, registers),
+    }
+}
+
+/// Whether the registers of a caller are those of the bottom of the stack.
+fn is_bottom<M: Memory>(modules: &Modules<'_>, memory: &M, registers: &Registers) -> bool
+    ensures { result ≡ is_bottom (M.word memory.now) modules.now.modules.now registers.now }
+{
+    registers.rip == 0 && without_records(modules, memory, registers).is_none()
+}
+
+/// The frame of the caller of a leaf function, whatever it returns to.
+fn after_leaf(
+    modules: &Modules<'_>,
+    popped: Result<Registers, FrameError>,
+) -> Result<StackFrame, WalkEnd>
+    ensures { result ≡ after_leaf modules.now.modules.now popped }
+{
+    match popped {
+        Ok(registers) if registers.rip == 0 => Err(WalkEnd::Bottom),
+        Ok(registers) => Ok(frame_of(modules, Way::Leaf, registers)),
+        Err(error) => Err(WalkEnd::Step(error)),
+    }
+}
+
+/// The frame of the caller of a frame in no function.
+fn caller_of_leaf<M: Memory>(
+    modules: &Modules<'_>,
+    frame: &StackFrame,
+    memory: &M,
+) -> Result<StackFrame, WalkEnd>
+    ensures { result ≡ leaf_caller (M.word memory.now) modules.now.modules.now frame.now }
+{
+    if frame.has_called {
         return Err(WalkEnd::NoFunction);
     }
-    match leaf(frame.registers, memory) {
-        Ok(registers) => Ok(StackFrame {
-            registers,
-            way: Way::Leaf,
-        }),
-        Err(error) => Err(WalkEnd::Step(error)),
+    match without_records(modules, memory, &frame.registers) {
+        Some(caller) => Ok(caller),
+        None => after_leaf(modules, leaf(frame.registers, memory)),
+    }
+}
+
+/// The frame of the caller of a frame in no module.
+fn caller_outside<M: Memory>(
+    modules: &Modules<'_>,
+    frame: &StackFrame,
+    memory: &M,
+) -> Result<StackFrame, WalkEnd>
+    ensures { result ≡ outside_caller (M.word memory.now) modules.now.modules.now frame.now }
+{
+    if frame.has_called {
+        return Err(WalkEnd::NoModule);
+    }
+    match without_records(modules, memory, &frame.registers) {
+        Some(caller) => Ok(caller),
+        None => Err(WalkEnd::NoModule),
     }
 }
 
@@ -116,7 +258,7 @@ fn code_of_frame<'a>(found: &FrameFunction<'a>, frame: &StackFrame, rva: u32) ->
     ensures { result.now ≡ code_of_frame found.now.module.now
         found.now.exceptions.now found.now.function.end_address frame.now }
 {
-    if has_called(frame.way) {
+    if frame.has_called {
         return &[];
     }
     found
@@ -125,31 +267,36 @@ fn code_of_frame<'a>(found: &FrameFunction<'a>, frame: &StackFrame, rva: u32) ->
 }
 
 /// What a step returned, as a frame.
-fn frame_after(left: Result<(Registers, bool), FrameError>) -> Result<StackFrame, WalkEnd>
-    ensures { result ≡ frame_after left }
+fn frame_after<M: Memory>(
+    modules: &Modules<'_>,
+    memory: &M,
+    left: Result<(Registers, bool), FrameError>,
+) -> Result<StackFrame, WalkEnd>
+    ensures { result ≡ frame_after (M.word memory.now) modules.now.modules.now left }
 {
     match left {
-        Ok((registers, true)) => Ok(StackFrame {
-            registers,
-            way: Way::Interrupt,
-        }),
-        Ok((registers, false)) => Ok(StackFrame {
-            registers,
-            way: Way::Records,
-        }),
+        Ok((registers, true)) => Ok(frame_of(modules, Way::Interrupt, registers)),
+        Ok((registers, false)) => {
+            if is_bottom(modules, memory, &registers) {
+                return Err(WalkEnd::Bottom);
+            }
+            Ok(frame_of(modules, Way::Records, registers))
+        }
         Err(error) => Err(WalkEnd::Step(error)),
     }
 }
 
 /// The frame of the caller, by the records of the function that lookup found. `rva` is that of the frame.
 fn caller_by_records<M: Memory>(
+    modules: &Modules<'_>,
     found: &FrameFunction<'_>,
     frame: &StackFrame,
     rva: u32,
     memory: &M,
 ) -> Result<StackFrame, WalkEnd>
     requires { rva ≡ frame.now.registers.rip - found.now.module.now.base }
-    ensures { CallsFound (M.word memory.now) found.now.module.now found.now.exceptions.now
+    ensures { CallsFound (M.word memory.now) modules.now.modules.now
+        found.now.module.now found.now.exceptions.now
         frame.now (Some found.now.function) result }
 {
     let FrameFunction {
@@ -179,42 +326,35 @@ fn caller_by_records<M: Memory>(
         registers,
         memory,
     );
-    frame_after(left)
-}
-
-/// The RVA of an address in a module, which may be its end.
-fn rva_of(module: &Module<'_>, address: u64) -> u32
-    requires { address ≤ module.now.base + module.now.size }
-    ensures { result ≡ address - module.now.base }
-{
-    let size = u64::from(module.size);
-    u64::min(address.saturating_sub(module.base), size) as u32
+    frame_after(modules, memory, left)
 }
 
 /// The frame of the caller, by the module that has the lookup address of the frame.
 fn caller_in_module<M: Memory>(
+    modules: &Modules<'_>,
     module: &Module<'_>,
     frame: &StackFrame,
     memory: &M,
 ) -> Result<StackFrame, WalkEnd>
     requires { IsTrue (has_address module_base module_size (lookup_address frame.now) module.now) }
-    ensures { CallsIn (M.word memory.now) frame.now (Some module.now) result }
+    ensures { CallsIn (M.word memory.now) modules.now.modules.now
+        frame.now (Some module.now) result }
 {
     let Some(exceptions) = module.exceptions else {
-        return caller_of_leaf(frame, memory);
+        return caller_of_leaf(modules, frame, memory);
     };
     let mut table = exceptions.table();
-    match search(&mut table, rva_of(module, lookup_address(frame))) {
+    match search(&mut table, module.rva_of(lookup_address(frame))) {
         Some(function) => {
             let found = FrameFunction {
                 module,
                 exceptions,
                 function,
             };
-            let rva = rva_of(module, frame.registers.rip);
-            caller_by_records(&found, frame, rva, memory)
+            let rva = module.rva_of(frame.registers.rip);
+            caller_by_records(modules, &found, frame, rva, memory)
         }
-        None => caller_of_leaf(frame, memory),
+        None => caller_of_leaf(modules, frame, memory),
     }
 }
 
@@ -227,16 +367,19 @@ fn caller_of<M: Memory>(
     ensures { Calls (M.word memory.now) modules.now.modules.now frame.now result }
 {
     match modules.find(lookup_address(frame)) {
-        Some(module) => caller_in_module(module, frame, memory),
-        None => Err(WalkEnd::NoModule),
+        Some(module) => caller_in_module(modules, module, frame, memory),
+        None => caller_outside(modules, frame, memory),
     }
 }
 
 /// A stack walk: the frames of a thread, from the top frame outwards. It allocates nothing.
 ///
-/// It is over at a frame in no module or, in a frame that has called, in no function; at memory that is not known, where the
-/// stack pointer does not rise, and at any other error of a step; and after as many frames as the caller asks for. `end` says
-/// which. Only past an interrupt does the stack pointer not have to rise.
+/// It is over at the bottom of the stack, where a frame returns to 0; at a frame in no module or, in a frame that has called, in
+/// no function; at memory that is not known, where the stack pointer does not rise, and at any other error of a step; and after
+/// as many frames as the caller asks for. `end` says which. Only past an interrupt does the stack pointer not have to rise.
+///
+/// In the top frame, and in one that was interrupted, the return address of code that no records describe is the word at the stack
+/// pointer, if a call ends at it, else the first of 128 words from there on that is after a call in an executable section.
 #[derive(Drop)]
 pub struct StackFrames<'a, M> {
     modules: Modules<'a>,
@@ -264,10 +407,7 @@ impl<'a, M: Memory> StackFrames<'a, M> {
         StackFrames {
             modules,
             memory,
-            frame: StackFrame {
-                registers,
-                way: Way::Top,
-            },
+            frame: frame_of(&modules, Way::Top, registers),
             has_returned: false,
             remaining: most,
             end: WalkEnd::Bound,

@@ -1,6 +1,6 @@
 //! Laws of whole walks.
 
-ghost use Rattle.std.specs.Prelude.{Bool, ◌≡◌, ◌≤◌, ◌-◌, ℕ, true, List, [], length, Option, Some, None, Ok};
+ghost use Rattle.std.specs.Prelude.{Bool, ◌≡◌, ◌≤◌, ◌<◌, ◌+◌, ◌-◌, ◌*◌, ◌⊎◌, ℕ, true, List, [], length, Option, Some, None, Ok, Err};
 ghost use Rattle.std.specs.Iterator.{YieldsThen};
 ghost use Rattle.pe_unwind.specs.ExceptionTable.{ExceptionView};
 ghost use Rattle.pe_unwind.specs.UnwindRecord.{UnwindInfoView};
@@ -8,11 +8,14 @@ ghost use Rattle.pe_unwind.specs.declared.function_table.RuntimeFunction.{Runtim
 ghost use Rattle.pe_frame.specs.Epilogs.{epilog_at};
 ghost use Rattle.pe_frame.specs.Jumps.{StepsInImage};
 ghost use Rattle.pe_frame.specs.Steps.{Steps};
-ghost use Rattle.pe_frame.specs.Walks.{AreSortedModules, CallsByPlan, IsWalk, WalkState, code_of_frame, end_kind, has_called, walk_of};
+ghost use Rattle.pe_frame.specs.Walks.{AreSortedModules, Calls, CallsByPlan, IsFirstReturn, IsWalk, WalkState, code_of_frame, end_kind, first_return, has_called, most_words, return_at, walk_of, without_records};
 ghost use Rattle.pe_frame.specs.declared.modules.Module.{Module};
+ghost use Rattle.pe_frame.specs.declared.registers.Registers.{Registers};
 ghost use Rattle.pe_frame.specs.declared.walk.StackFrame.{StackFrame};
 ghost use Rattle.pe_frame.specs.declared.walk.StackFrames.{StackFrames};
+ghost use Rattle.pe_frame.specs.declared.walk.Way.TheVariants.{Records, Interrupt};
 ghost use Rattle.pe_frame.specs.declared.walk.WalkEnd.{WalkEnd};
+ghost use Rattle.pe_frame.specs.declared.walk.WalkEnd.TheVariants.{Bottom};
 
 use crate::memory::Memory;
 use crate::walk::StackFrames;
@@ -39,18 +42,18 @@ pub fn one_result_of_walks()
 }
 
 /// A frame that is found by records is the step from the one before it: with the code of its function in the top frame and in
-/// one that an interrupt stopped (`stopped`), without code in one that has called (`called`).
+/// one that was interrupted (`stopped`), without code in one that has called (`called`).
 pub fn frames_are_steps()
-    ensures stopped { (memory : ℕ → Option ℕ) (m : Module) (e : ExceptionView)
+    ensures stopped { (memory : ℕ → Option ℕ) (modules : List Module) (m : Module) (e : ExceptionView)
         (f : RuntimeFunction) (s t : StackFrame) (plan : List UnwindInfoView) →
-        CallsByPlan memory m e f s (Ok (Some plan)) (Ok t) →
+        CallsByPlan memory modules m e f s (Ok (Some plan)) (Ok t) →
         (interrupted : Bool)
         × StepsInImage e m.sections.now m.opts memory plan f.begin_address
         ((s.registers).rip - m.base) (code_of_frame m e f.end_address s) s.registers
         (Ok (t.registers, interrupted)) }
-    ensures called { (memory : ℕ → Option ℕ) (m : Module) (e : ExceptionView)
+    ensures called { (memory : ℕ → Option ℕ) (modules : List Module) (m : Module) (e : ExceptionView)
         (f : RuntimeFunction) (s t : StackFrame) (plan : List UnwindInfoView) →
-        has_called s.way ≡ true → CallsByPlan memory m e f s (Ok (Some plan)) (Ok t) →
+        s.has_called ≡ true → CallsByPlan memory modules m e f s (Ok (Some plan)) (Ok t) →
         Steps memory plan ((s.registers).rip - m.base - f.begin_address) s.registers
         (Ok t.registers) }
 {}
@@ -58,4 +61,33 @@ pub fn frames_are_steps()
 /// Without code there is no epilog: a frame that has called is left by its records alone.
 pub fn no_code_is_no_epilog()
     ensures { (plan : List UnwindInfoView) (start rva : ℕ) → epilog_at plan start rva [] ≡ None }
+{}
+
+/// A scan finds the first word that is a return address into executable code (`first`), of the 128 words from an address on. Where
+/// it finds none, none of them is (`none`).
+pub fn scans_find_the_first()
+    ensures first { (memory : ℕ → Option ℕ) (modules : List Module) (start a w : ℕ) →
+        first_return most_words memory modules start ≡ Some (a, w) →
+        IsFirstReturn most_words memory modules start a w }
+    ensures none { (memory : ℕ → Option ℕ) (modules : List Module) (start k : ℕ) →
+        first_return most_words memory modules start ≡ None → k < most_words →
+        return_at memory modules (start + 8 * k) ≡ None }
+{}
+
+/// Each frame says whether it has called, by its way and the bytes before its instruction pointer (`called`). What was found
+/// without records was found from the top frame or from one that was interrupted: from one that has not called (`guessed`).
+pub fn frames_say_whether_they_called()
+    ensures called { (memory : ℕ → Option ℕ) (modules : List Module) (s t : StackFrame) →
+        Calls memory modules s (Ok t) → t.has_called ≡ has_called modules t.way (t.registers).rip }
+    ensures guessed { (memory : ℕ → Option ℕ) (modules : List Module) (s t : StackFrame) →
+        Calls memory modules s (Ok t) → s.has_called ≡ true →
+        (t.way ≡ Records) ⊎ (t.way ≡ Interrupt) }
+{}
+
+/// At the bottom the caller's instruction pointer is 0, and no frame is found, either from its registers or from those of the
+/// frame before it.
+pub fn bottoms_are_returns_to_0()
+    ensures { (memory : ℕ → Option ℕ) (modules : List Module) (s : StackFrame) →
+        Calls memory modules s (Err Bottom) → (u : Registers) × (u.rip ≡ 0)
+        × ((without_records memory modules u ≡ None) ⊎ (without_records memory modules s.registers ≡ None)) }
 {}
