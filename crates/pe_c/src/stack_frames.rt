@@ -2,11 +2,13 @@
 //! and the memory of its stack. A walk makes it again and again, from the innermost frame outwards.
 //! https://learn.microsoft.com/cpp/build/exception-handling-x64
 
-ghost use Rattle.std.specs.Prelude.{◌≡◌, ◌<◌, Ok};
+ghost use Rattle.std.specs.Prelude.{◌≡◌, ◌<◌, Ok, Err};
+ghost use Rattle.pe_core.specs.Refusals.{kind_of};
 ghost use Rattle.pe_core.specs.Rows.{each};
 ghost use Rattle.pe_frame.specs.Memory.{stack_word};
 ghost use Rattle.pe_frame.specs.Steps.{registers_alone};
 ghost use Rattle.pe_frame.specs.Undoing.{popped};
+ghost use Rattle.pe_c.specs.HandsOut.{result_number};
 ghost use Rattle.pe_c.specs.Unwinding.{image_exceptions};
 ghost use Rattle.pe_c.specs.StackFrames.{whole_xmm, half_xmm, registers_of, flat_registers, error_number, error_address, StepsIn, HandsOutCaller, HandsOutLeafPieces, HandsOutLeft, HandsOutLeftStep, HandsOutStep, HandsOutStepPieces};
 
@@ -14,7 +16,7 @@ use crate::image::{EXCEPTION_TABLE, Image, directory};
 use crate::results::{
     BAD_ADDRESS, BAD_OPERATION, DONE, LONG_CHAIN, MISSING, NOT_RISING, number_of, options,
 };
-use pe_core::SectionTable;
+use pe_core::{Error, SectionTable};
 use pe_frame::{
     FrameError, ImageFunctions, Memory, MemoryList, MemoryPiece, Registers, Stack, leaf,
     step_in_image,
@@ -181,6 +183,13 @@ fn hand_out_left(
     }
 }
 
+/// The number of an error that refuses the records.
+fn refused(error: &Error) -> Result<Result<(Registers, bool), FrameError>, u32>
+    ensures { result ≡ Err (result_number (kind_of error.now)) }
+{
+    Err(number_of(error))
+}
+
 /// The registers of the caller, by the records of the frame's function in an image, and whether an interrupt left them; or the
 /// number of what refuses the records.
 fn left_by<M: Memory>(
@@ -198,7 +207,7 @@ fn left_by<M: Memory>(
     let plan = match ShortPlan::of_function(exceptions, frame.function, sections, &opts) {
         Ok(Some(plan)) => plan,
         Ok(None) => return Err(LONG_CHAIN),
-        Err(error) => return Err(number_of(&error)),
+        Err(error) => return refused(&error),
     };
     let functions = ImageFunctions {
         exceptions,
@@ -235,7 +244,7 @@ fn left_in<M: Memory>(
     let alignment = image.file_alignment;
     match ExceptionData::parse_with_opts(bytes, table, sections, alignment, &opts) {
         Ok(exceptions) => left_by(&exceptions, image, sections, code, memory, frame),
-        Err(error) => Err(number_of(&error)),
+        Err(error) => refused(&error),
     }
 }
 
