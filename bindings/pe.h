@@ -718,8 +718,7 @@ uint32_t pe_c_next_record(const uint8_t *bytes, size_t length, const pe_c_image_
 
 /* Finds the registers of a function's caller, from those inside the function, in its prolog and epilogs too, and writes them
  * over those of the frame. It undoes the records of frame->function, up to the root of their chain, or runs what is left of
- * an epilog. Where that ends with a jump to an RVA, it runs it up to the jump, and undoes the records of the function that the
- * exception table has there, if they can be read: the jump may go on in a part of the function.
+ * an epilog.
  *
  * The stack is one piece of memory: `stack_length` bytes that start at the address frame->stack_start. After PE_C_MISSING
  * a caller reads a piece that has the eight bytes at frame->address, and makes the same call again.
@@ -731,7 +730,7 @@ uint32_t pe_c_next_record(const uint8_t *bytes, size_t length, const pe_c_image_
  *
  * Errors: those of pe_c_function_table, without PE_C_NOTHING; for each record those of pe_c_unwind_record, and
  * PE_C_LONG_CHAIN where more than 32 are chained, as in each loop. In an epilog for each instruction PE_C_MISSING,
- * PE_C_BAD_ADDRESS. Else, and at the target of its jump, for each record PE_C_SHORT, PE_C_UNWIND_CODE of its codes, PE_C_BAD_OPERATION, PE_C_BAD_ADDRESS
+ * PE_C_BAD_ADDRESS. Else for each record PE_C_SHORT, PE_C_UNWIND_CODE of its codes, PE_C_BAD_OPERATION, PE_C_BAD_ADDRESS
  * of its frame register; for each code PE_C_BAD_OPERATION, PE_C_BAD_ADDRESS, PE_C_MISSING; then PE_C_MISSING,
  * PE_C_BAD_ADDRESS of the return address. Last PE_C_NOT_RISING, but for interrupts: so a walk ends. */
 uint32_t pe_c_step(const uint8_t *bytes, size_t length, const pe_c_image_info *image, const pe_c_section *sections,

@@ -260,35 +260,6 @@ fn epilogs_are_known_by_their_code(rt: HostRuntime) -> Result<(), Fail> {
     Ok(())
 }
 
-/// A part of a function that starts in its frame, with rbx pushed, jumps to its own start. Its records are looked up there.
-#[test]
-fn a_jump_is_followed_in_the_image(rt: HostRuntime) -> Result<(), Fail> {
-    let mut bytes = with_records(rt.alloc())?;
-    put(&mut bytes, &[(8, &[0xC0, 0x10]), (0xC0, &[1, 0, 1, 0, 0, 0x30])]);
-    let stack = stack_of(rt.alloc(), &[0x77, RETURN_ADDRESS])?;
-    let start = ENTRY - 8;
-    let registers = changed(&[(RSP, start)]);
-    // At 0x5010 jmp 0x5000
-    let code = [0xEB, 0xEE];
-    let mut frame = frame_at(0x10C0, 0x10, registers, start);
-    let table = with_table();
-    let answer = pe_c_step(&bytes, &table, &sections(), &code, &stack, &mut frame);
-    assert_eq!(rt; answer, DONE);
-    assert_eq!(rt; [frame.registers.rip, frame.registers.general[RBX]], [RETURN_ADDRESS, 0x77]);
-    let piece = MemoryPiece {
-        start,
-        offset: 0,
-        length: 16,
-    };
-    let (mut frame, mut interrupted) = (frame_at(0x10C0, 0x10, registers, start), 7);
-    let answer = pe_c_step_pieces(
-        &bytes, &table, &sections(), &code, &stack, &[piece], &mut frame, &mut interrupted,
-    );
-    assert_eq!(rt; [answer, interrupted], [DONE, 0]);
-    assert_eq!(rt; [frame.registers.rip, frame.registers.general[RBX]], [RETURN_ADDRESS, 0x77]);
-    Ok(())
-}
-
 /// Errors of codes and of addresses, and what they set.
 #[test]
 fn steps_that_are_refused(rt: HostRuntime) -> Result<(), Fail> {
