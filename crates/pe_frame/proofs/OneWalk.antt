@@ -12,10 +12,8 @@ use Rattle.pe_plan.proofs.RecordLaw.{RecordLaw}
 use Rattle.pe_frame.specs.AddressRanges.{has_address}
 use Rattle.pe_frame.specs.Epilogs.{epilog_at}
 use Rattle.pe_frame.specs.Modules.{module_at, module_base, module_size}
-use Rattle.pe_frame.specs.Steps.{ErrorKind, StepsOut, by_kind, error_kind, limit_of, returned_out}
-use Rattle.pe_frame.specs.Undoing.{pointer}
+use Rattle.pe_frame.specs.Steps.{ErrorKind, by_kind, error_kind}
 use Rattle.pe_frame.specs.Walks.{AreSortedModules, Calls, CallsBy, CallsByPlan, CallsFound, CallsIn, FollowsBy, HasSortedTable, IsSortedModule, IsUnreadable, IsWalk, IsWalkBy, OfError, OfRecords, WalkState, by_end_kind, code_of_frame, end_kind, frame_after, lookup_address, walk_after}
-use Rattle.pe_frame.specs.declared.epilog.Instruction.{Instruction}
 use Rattle.pe_frame.specs.declared.error.FrameError.{FrameError}
 use Rattle.pe_frame.specs.declared.modules.Module.{Module}
 use Rattle.pe_frame.specs.declared.registers.Registers.{Registers}
@@ -24,7 +22,6 @@ use Rattle.pe_frame.specs.declared.walk.WalkEnd.{WalkEnd}
 use Rattle.pe_frame.specs.declared.walk.WalkEnd.TheVariants as ends
 use Rattle.pe_frame.proofs.Jumps.{one_in_image}
 use Rattle.pe_frame.proofs.OneShortPlan.{one_short_plan}
-use Rattle.pe_frame.proofs.OneStep.{one_undoing, same_then}
 
 -- ---- one step
 

@@ -1,21 +1,16 @@
 -- There is a walk from each state.
 use Rattle.std.proofs.Common.{◌≢◌, ℕ, zero, suc, ◌-◌, Bool, true, false, List, [], ◌∷◌, Option, Some, None, Result, Ok, Err, refl, ap}
 use Rattle.std.specs.Option.{option_map}
-use Rattle.pe_core.specs.Refusals.{Refusal, Memory, ◌>>=◌}
+use Rattle.pe_core.specs.Refusals.{Refusal, Memory}
 use Rattle.pe_unwind.specs.ExceptionTable.{ExceptionView, table_of}
 use Rattle.pe_unwind.specs.Links.{links_of}
 use Rattle.pe_unwind.specs.UnwindRecord.{UnwindInfoView}
 use Rattle.pe_unwind.specs.declared.function_table.RuntimeFunction.{RuntimeFunction}
 use Rattle.pe_plan.proofs.RecordLaw.{RecordLaw}
-use Rattle.pe_frame.specs.Epilogs.{StepsOutFrom, epilog_at, executed_all}
+use Rattle.pe_frame.specs.Epilogs.{epilog_at}
 use Rattle.pe_frame.specs.Modules.{module_at}
-use Rattle.pe_frame.specs.Steps.{StepsOut, limit_of, returned_out, rising}
-use Rattle.pe_frame.specs.Undoing.{pointer}
 use Rattle.pe_frame.specs.Walks.{Calls, CallsBy, CallsByPlan, CallsFound, CallsIn, Follows, FollowsBy, IsWalk, IsWalkBy, WalkState, code_of_frame, frame_after, leaf_caller, lookup_address, outside_caller, walk_after}
-use Rattle.pe_frame.specs.declared.epilog.Instruction.{Instruction}
-use Rattle.pe_frame.specs.declared.error.FrameError.{FrameError}
 use Rattle.pe_frame.specs.declared.modules.Module.{Module}
-use Rattle.pe_frame.specs.declared.registers.Registers.{Registers}
 use Rattle.pe_frame.specs.declared.walk.StackFrame.{StackFrame}
 use Rattle.pe_frame.specs.declared.walk.WalkEnd.{WalkEnd}
 use Rattle.pe_frame.specs.declared.walk.WalkEnd.TheVariants as ends
