@@ -73,7 +73,7 @@ fn step_at(
     step(&[info], 0x1000, 0x1000 + offset, registers, stack)
 }
 
-fn shown<T: Debug>(alloc: Global, value: &T) -> Result<String, AllocError> {
+pub fn shown<T: Debug>(alloc: Global, value: &T) -> Result<String, AllocError> {
     format!(in alloc; "{value:?}")
 }
 
@@ -503,22 +503,39 @@ fn is_epilog(alloc: Global, offset: u32, code: &[u8]) -> Result<bool, Fail> {
 
 #[test]
 fn knows_the_forms_of_epilogs(rt: HostRuntime) -> Result<(), Fail> {
-    let rows: [(&[u8], bool); 24] = [
+    let rows: [(&[u8], bool); 38] = [
         // ret; rep ret; the first byte of rep ret
         (&[0xC3], true),
         (&[0xF3, 0xC3], true),
         (&[0xF3], false),
-        // jmp [rip+0x1234]; rex.W jmp [rip+0x1234]; jmp [rax]; rex.W jmp [rax]; jmp [rax*8+0x40]
+        // jmp [rip+0x1234]; rex.W jmp [rip+0x1234]; rex.W jmp [rax]; rex.W jmp rax; rex.W jmp [rax+0x18];
+        // rex.WB jmp [r8+0x200]; rex.WXB jmp [r12+r13*8]; rex.WRXB jmp r15
         (&[0xFF, 0x25, 0x34, 0x12, 0, 0], true),
         (&[0x48, 0xFF, 0x25, 0x34, 0x12, 0, 0], true),
-        (&[0xFF, 0x20], true),
         (&[0x48, 0xFF, 0x20], true),
-        (&[0xFF, 0x24, 0xC5, 0x40, 0, 0, 0], true),
-        // jmp rax; rex.W jmp rax; jmp [rax+8]; call [rax]
+        (&[0x48, 0xFF, 0xE0], true),
+        (&[0x48, 0xFF, 0x60, 0x18], true),
+        (&[0x49, 0xFF, 0xA0, 0, 2, 0, 0], true),
+        (&[0x4B, 0xFF, 0x24, 0xEC], true),
+        (&[0x4F, 0xFF, 0xE7], true),
+        // As a switch does: jmp rax; jmp r11; jmp [rax]; jmp [rax*8+0x40]; jmp [rax+8]; rex.RXB jmp r15
         (&[0xFF, 0xE0], false),
-        (&[0x48, 0xFF, 0xE0], false),
+        (&[0x41, 0xFF, 0xE3], false),
+        (&[0xFF, 0x20], false),
+        (&[0xFF, 0x24, 0xC5, 0x40, 0, 0, 0], false),
         (&[0xFF, 0x60, 0x08], false),
+        (&[0x47, 0xFF, 0xE7], false),
+        // add rsp,0 before jmp rax; jmp r11; jmp [rax]; jmp [rax*8+0x40]; jmp [rax+8]; rex.RXB jmp r15
+        (&[0x48, 0x83, 0xC4, 0, 0xFF, 0xE0], true),
+        (&[0x48, 0x83, 0xC4, 0, 0x41, 0xFF, 0xE3], true),
+        (&[0x48, 0x83, 0xC4, 0, 0xFF, 0x20], true),
+        (&[0x48, 0x83, 0xC4, 0, 0xFF, 0x24, 0xC5, 0x40, 0, 0, 0], true),
+        (&[0x48, 0x83, 0xC4, 0, 0xFF, 0x60, 0x08], false),
+        (&[0x48, 0x83, 0xC4, 0, 0x47, 0xFF, 0xE7], false),
+        // call [rax]; rex.W call rax; rex.W jmp far [rax]
         (&[0xFF, 0x10], false),
+        (&[0x48, 0xFF, 0xD0], false),
+        (&[0x48, 0xFF, 0x28], false),
         // pop rsp; ret. add rsp,-16; ret. sub rsp,-128; ret. lea rsp,[rsp+0x20]; ret. lea rsp,[rbp+0x10]; ret
         (&[0x5C, 0xC3], false),
         (&[0x48, 0x83, 0xC4, 0xF0, 0xC3], false),
@@ -538,6 +555,15 @@ fn knows_the_forms_of_epilogs(rt: HostRuntime) -> Result<(), Fail> {
     for (code, expected) in rows {
         assert_eq!(rt; is_epilog(rt.alloc(), 0x40, code)?, expected);
     }
+    // pop rsi; jmp rax, which pops rsi and not rbx
+    let bytes = bytes_of(rt.alloc(), &[0x77, RETURN_ADDRESS])?;
+    let stack = Stack {
+        start: ENTRY,
+        bytes: &bytes,
+    };
+    let code = [0x5E, 0xFF, 0xE0];
+    let found = step_in(&ONE_PUSH, 0x40, &code, changed(&[(RSP, ENTRY), (RBX, 3)]), &stack)?;
+    assert_eq!(rt; (found.general[RSI], found.general[RBX], found.rip), (0x77, 3, RETURN_ADDRESS));
     Ok(())
 }
 

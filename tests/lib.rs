@@ -38,6 +38,8 @@ mod images;
 #[cfg(test)]
 mod imports;
 #[cfg(test)]
+mod jumps;
+#[cfg(test)]
 mod load_configs;
 #[cfg(test)]
 mod plans;

@@ -4,7 +4,7 @@
 //!
 //! A state is an RVA and the numbers of bytes of its stack and of its code (u32 each), the instruction pointer, 16 integer
 //! registers, 16 XMM registers of two halves and the address of the stack (u64 each), the bytes of the stack, and the code
-//! from the RVA to the end of the function. Without code the step is `step`, else `step_with_code`.
+//! from the RVA to the end of the function. Without code the step is `step`, else `step_in_image`.
 //!
 //! Of an ARM64 image a line has the instruction pointer, x0 to x30, d8 to d15 and the stack pointer. A state is there an RVA and
 //! the number of bytes of its stack (u32 each), x0 to x30, d8 to d15, the stack pointer, the instruction pointer and the address
@@ -13,7 +13,8 @@
 
 use pe_core::{slice_at, u32_at, u64_at};
 use pe_frame::{
-    Arm64Registers, FrameError, Registers, Stack, leaf, leaf_arm64, step, step_arm64, step_arm64_packed, step_with_code,
+    Arm64Registers, FrameError, ImageFunctions, Registers, Stack, leaf, leaf_arm64, step, step_arm64, step_arm64_packed,
+    step_in_image,
 };
 use pe_image::{Error, ExceptionData, PE, ParseMode, ParseOptions};
 use pe_plan::UnwindPlan;
@@ -69,7 +70,14 @@ fn caller(
     if code.is_empty() {
         step(&records, start, rva, registers, stack)
     } else {
-        step_with_code(&records, start, rva, code, registers, stack)
+        let functions = ImageFunctions {
+            exceptions,
+            sections: &image.sections,
+            opts,
+        };
+        let (caller, _) =
+            step_in_image(&functions, &records, start, rva, code, registers, stack)?;
+        Ok(caller)
     }
 }
 

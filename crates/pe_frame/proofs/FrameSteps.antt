@@ -3,7 +3,8 @@ use Rattle.std.proofs.Common.{◌≡◌, ℕ, ◌-◌, Bool, true, false, cond, 
 use Rattle.pe_unwind.specs.ExceptionTable.{ExceptionView}
 use Rattle.pe_unwind.specs.UnwindRecord.{UnwindInfoView}
 use Rattle.pe_unwind.specs.declared.function_table.RuntimeFunction.{RuntimeFunction}
-use Rattle.pe_frame.specs.Epilogs.{StepsFrom, StepsWithCode, epilog_at}
+use Rattle.pe_frame.specs.Epilogs.{epilog_at}
+use Rattle.pe_frame.specs.Jumps.{StepsInImage, StepsInImageFrom}
 use Rattle.pe_frame.specs.Steps.{Steps, registers_alone}
 use Rattle.pe_frame.specs.Walks.{CallsByPlan, code_of_frame, frame_after, frame_of, is_bottom}
 use Rattle.pe_frame.specs.declared.error.FrameError.{FrameError}
@@ -14,7 +15,8 @@ use Rattle.pe_frame.specs.declared.walk.StackFrame.{StackFrame}
 use Rattle.pe_frame.specs.declared.walk.Way.TheVariants.{Records, Interrupt}
 use Rattle.pe_frame.specs.declared.walk.WalkEnd.TheVariants as ends
 use Rattle.pe_frame.proofs.NoCode.{no_epilog}
-use Rattle.pe_frame.proofs.StepsOut.{registers_of_step_with_code}
+use Rattle.pe_frame.proofs.Jumps.{ok_alone}
+use Rattle.pe_frame.proofs.StepsOut.{registers_of_step}
 
 -- a frame of records, unless it is the bottom
 kept : (modules : List Module) (u : Registers) (t : StackFrame) (bottom : Bool) → Ok t ≡ cond bottom (Err ends.Bottom) (Ok (frame_of modules Records u)) → u ≡ t.registers
@@ -30,17 +32,20 @@ registers_left memory modules (Ok (u, true)) t is =
 registers_left memory modules (Ok (u, false)) t is = ap (λ (g : Registers). Ok g) (kept modules u t (is_bottom memory modules u) is)
 registers_left memory modules (Err e) t is = absurd (cc is)
 
-pub frame_is_step : (memory : ℕ → Option ℕ) (modules : List Module) (m : Module) (e : ExceptionView) (f : RuntimeFunction) (s t : StackFrame) (plan : List UnwindInfoView) → CallsByPlan memory modules m e f s (Ok (Some plan)) (Ok t) → StepsWithCode memory plan f.begin_address ((s.registers).rip - m.base) (code_of_frame m e f.end_address s) s.registers (Ok t.registers)
+pub frame_is_step : (memory : ℕ → Option ℕ) (modules : List Module) (m : Module) (e : ExceptionView) (f : RuntimeFunction) (s t : StackFrame) (plan : List UnwindInfoView) → CallsByPlan memory modules m e f s (Ok (Some plan)) (Ok t) →
+    (interrupted : Bool) × StepsInImage e m.sections.now m.opts memory plan f.begin_address ((s.registers).rip - m.base) (code_of_frame m e f.end_address s) s.registers (Ok (t.registers, interrupted))
 frame_is_step memory modules m e f s t plan h =
     let rva = (s.registers).rip - m.base in
     let code = code_of_frame m e f.end_address s in
-    let steps = registers_of_step_with_code memory plan f.begin_address rva code s.registers h.0 h.1 in
-    subst (λ (x : Result Registers FrameError). StepsWithCode memory plan f.begin_address rva code s.registers x) (registers_left memory modules h.0 t h.2) steps
+    let out = ok_alone h.0 t.registers (registers_left memory modules h.0 t h.2) in
+    (out.0, subst (λ (x : Result (Registers × Bool) FrameError). StepsInImage e m.sections.now m.opts memory plan f.begin_address rva code s.registers x) out.1 h.1)
 
 pub call_is_step : (memory : ℕ → Option ℕ) (modules : List Module) (m : Module) (e : ExceptionView) (f : RuntimeFunction) (s t : StackFrame) (plan : List UnwindInfoView) → s.has_called ≡ true → CallsByPlan memory modules m e f s (Ok (Some plan)) (Ok t) → Steps memory plan ((s.registers).rip - m.base - f.begin_address) s.registers (Ok t.registers)
 call_is_step memory modules m e f s t plan called h =
     let rva = (s.registers).rip - m.base in
-    let steps = frame_is_step memory modules m e f s t plan h in
+    let offset = rva - f.begin_address in
     let no_code : code_of_frame m e f.end_address s ≡ [] = rw called refl in
     let none : epilog_at plan f.begin_address rva (code_of_frame m e f.end_address s) ≡ None = rw no_code (no_epilog plan f.begin_address rva) in
-    subst (λ (o : Option (List Instruction)). StepsFrom o memory plan (rva - f.begin_address) s.registers (Ok t.registers)) none steps
+    let out = subst (λ (o : Option (List Instruction)). StepsInImageFrom e m.sections.now m.opts o memory plan offset s.registers h.0) none h.1 in
+    let steps = registers_of_step memory plan offset s.registers h.0 out in
+    subst (λ (x : Result Registers FrameError). Steps memory plan offset s.registers x) (registers_left memory modules h.0 t h.2) steps

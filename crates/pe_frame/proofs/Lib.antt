@@ -14,6 +14,7 @@ pub mod ListsShow
 pub mod NoCode
 pub mod FrameSteps
 pub mod OneShortPlan
+pub mod Jumps
 pub mod OneWalk
 pub mod SomeError
 pub mod SomeFunction

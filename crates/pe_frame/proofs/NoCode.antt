@@ -2,7 +2,7 @@
 use Rattle.std.proofs.Common.{◌≡◌, ℕ, ◌-◌, ◌==◌, Bool, true, false, List, [], Option, Some, None, refl}
 use Rattle.std.specs.Option.{option_map_or}
 use Rattle.pe_unwind.specs.UnwindRecord.{UnwindInfoView}
-use Rattle.pe_frame.specs.Epilogs.{add_form, after_pops, epilog_at, exit_form, frame_register_of, is_frame_register, jump_form, lea_form, operand, pop_form, tail}
+use Rattle.pe_frame.specs.Epilogs.{add_form, after_pops, epilog_at, exit_form, frame_register_of, is_frame_register, jump_form, lea_form, marked_jump, operand, pop_form, tail, unmarked_jump}
 use Rattle.pe_frame.specs.Steps.{limit_of}
 
 lea_none : (r : ℕ) (is_frame is_twelve : Bool) → is_frame_register r ≡ is_frame → (r == 12) ≡ is_twelve → lea_form r [] ≡ None
@@ -12,7 +12,7 @@ lea_none r true true e twelve = rw (e, twelve) refl
 lea_none r true false e twelve = rw (e, twelve) refl
 
 tail_none : (plan : List UnwindInfoView) (start end : ℕ) → tail plan start end [] ≡ None
-unfolding add_form operand exit_form jump_form after_pops pop_form
+unfolding add_form operand exit_form jump_form marked_jump unmarked_jump after_pops pop_form
 tail_none plan start end = rw (lea_none (frame_register_of plan) _ _ refl refl) refl
 
 left_none : (limit : Option ℕ) (plan : List UnwindInfoView) (start end : ℕ) → option_map_or (λ _. None) limit (tail plan start end []) ≡ None

@@ -3,36 +3,27 @@ use Rattle.std.proofs.Common.{◌≡◌, ℕ, zero, suc, ◌-◌, Bool, true, fa
 use Rattle.std.specs.List.{find}
 use Rattle.std.specs.Option.{option_map}
 use Rattle.pe_core.specs.Refusals.{Refusal}
-use Rattle.pe_unwind.specs.ExceptionTable.{ExceptionView}
+use Rattle.pe_unwind.specs.ExceptionTable.{ExceptionView, table_of}
+use Rattle.pe_unwind.specs.FunctionTable.{functions, NeverFalls}
 use Rattle.pe_unwind.specs.Links.{links_of}
 use Rattle.pe_unwind.specs.UnwindRecord.{UnwindInfoView}
 use Rattle.pe_unwind.specs.declared.function_table.RuntimeFunction.{RuntimeFunction}
 use Rattle.pe_plan.proofs.RecordLaw.{RecordLaw}
 use Rattle.pe_frame.specs.AddressRanges.{has_address}
-use Rattle.pe_frame.specs.Epilogs.{StepsOutFrom, epilog_at}
+use Rattle.pe_frame.specs.Epilogs.{epilog_at}
 use Rattle.pe_frame.specs.Modules.{module_at, module_base, module_size}
-use Rattle.pe_frame.specs.Steps.{ErrorKind, StepsOut, by_kind, error_kind, limit_of, returned_out}
-use Rattle.pe_frame.specs.Undoing.{pointer}
+use Rattle.pe_frame.specs.Steps.{ErrorKind, by_kind, error_kind}
 use Rattle.pe_frame.specs.Walks.{AreSortedModules, Calls, CallsBy, CallsByPlan, CallsFound, CallsIn, FollowsBy, HasSortedTable, IsSortedModule, IsUnreadable, IsWalk, IsWalkBy, OfError, OfRecords, WalkState, by_end_kind, code_of_frame, end_kind, frame_after, lookup_address, walk_after}
-use Rattle.pe_frame.specs.declared.epilog.Instruction.{Instruction}
 use Rattle.pe_frame.specs.declared.error.FrameError.{FrameError}
 use Rattle.pe_frame.specs.declared.modules.Module.{Module}
 use Rattle.pe_frame.specs.declared.registers.Registers.{Registers}
 use Rattle.pe_frame.specs.declared.walk.StackFrame.{StackFrame}
 use Rattle.pe_frame.specs.declared.walk.WalkEnd.{WalkEnd}
 use Rattle.pe_frame.specs.declared.walk.WalkEnd.TheVariants as ends
+use Rattle.pe_frame.proofs.Jumps.{one_in_image}
 use Rattle.pe_frame.proofs.OneShortPlan.{one_short_plan}
-use Rattle.pe_frame.proofs.OneStep.{one_undoing, same_then}
 
 -- ---- one step
-
-one_out : (m : ℕ → Option ℕ) (plan : List UnwindInfoView) (offset : ℕ) (g : Registers) (x y : Result (Registers × Bool) FrameError) → StepsOut m plan offset g x → StepsOut m plan offset g y → by_kind x ≡ by_kind y
-one_out m plan offset g x y h k =
-    rw h.2 (rw k.2 (same_then h.0 k.0 (returned_out m (pointer g)) (one_undoing m plan (limit_of plan offset) false g h.0 k.0 h.1 k.1)))
-
-one_out_from : (o : Option (List Instruction)) (m : ℕ → Option ℕ) (plan : List UnwindInfoView) (offset : ℕ) (g : Registers) (x y : Result (Registers × Bool) FrameError) → StepsOutFrom o m plan offset g x → StepsOutFrom o m plan offset g y → by_kind x ≡ by_kind y
-one_out_from None m plan offset g x y h k = one_out m plan offset g x y h k
-one_out_from (Some rest) m plan offset g x y h k = ap by_kind (h ∙ sym k)
 
 same_frame : (memory : ℕ → Option ℕ) (modules : List Module) (x y : Result (Registers × Bool) FrameError) → by_kind x ≡ by_kind y → by_end_kind (frame_after memory modules x) ≡ by_end_kind (frame_after memory modules y)
 same_frame memory modules (Ok u) (Ok v) e =
@@ -51,26 +42,26 @@ unreadable r (Ok s) h = absurd h
 unreadable r (Err (ends.Records e)) h = ap (λ (k : Refusal). Err (OfRecords k)) h
 unreadable r (Err other) h = absurd h
 
-one_by_plan : (memory : ℕ → Option ℕ) (modules : List Module) (m : Module) (e : ExceptionView) (f : RuntimeFunction) (s : StackFrame) (plan : Result (Option (List UnwindInfoView)) Refusal) (x y : Result StackFrame WalkEnd) → CallsByPlan memory modules m e f s plan x → CallsByPlan memory modules m e f s plan y → by_end_kind x ≡ by_end_kind y
-one_by_plan memory modules m e f s (Err r) x y h k = unreadable r x h ∙ sym (unreadable r y k)
-one_by_plan memory modules m e f s (Ok None) x y h k = ap by_end_kind (h ∙ sym k)
-one_by_plan memory modules m e f s (Ok (Some plan)) x y h k =
-    let one = one_out_from (epilog_at plan f.begin_address ((s.registers).rip - m.base) (code_of_frame m e f.end_address s)) memory plan ((s.registers).rip - m.base - f.begin_address) s.registers h.0 k.0 h.1 k.1 in
+one_by_plan : (law : RecordLaw) (memory : ℕ → Option ℕ) (modules : List Module) (m : Module) (e : ExceptionView) (f : RuntimeFunction) (s : StackFrame) (plan : Result (Option (List UnwindInfoView)) Refusal) (x y : Result StackFrame WalkEnd) → NeverFalls (functions (table_of e)) → CallsByPlan memory modules m e f s plan x → CallsByPlan memory modules m e f s plan y → by_end_kind x ≡ by_end_kind y
+one_by_plan law memory modules m e f s (Err r) x y sorted h k = unreadable r x h ∙ sym (unreadable r y k)
+one_by_plan law memory modules m e f s (Ok None) x y sorted h k = ap by_end_kind (h ∙ sym k)
+one_by_plan law memory modules m e f s (Ok (Some plan)) x y sorted h k =
+    let one = one_in_image law e m.sections.now m.opts (epilog_at plan f.begin_address ((s.registers).rip - m.base) (code_of_frame m e f.end_address s)) memory plan ((s.registers).rip - m.base - f.begin_address) s.registers h.0 k.0 sorted h.1 k.1 in
     ap by_end_kind h.2 ∙ same_frame memory modules h.0 k.0 one ∙ sym (ap by_end_kind k.2)
 
-one_found : (law : RecordLaw) (memory : ℕ → Option ℕ) (modules : List Module) (m : Module) (e : ExceptionView) (s : StackFrame) (found : Option RuntimeFunction) (x y : Result StackFrame WalkEnd) → CallsFound memory modules m e s found x → CallsFound memory modules m e s found y → by_end_kind x ≡ by_end_kind y
-one_found law memory modules m e s None x y h k = ap by_end_kind (h ∙ sym k)
-one_found law memory modules m e s (Some f) x y h k =
+one_found : (law : RecordLaw) (memory : ℕ → Option ℕ) (modules : List Module) (m : Module) (e : ExceptionView) (s : StackFrame) (found : Option RuntimeFunction) (x y : Result StackFrame WalkEnd) → NeverFalls (functions (table_of e)) → CallsFound memory modules m e s found x → CallsFound memory modules m e s found y → by_end_kind x ≡ by_end_kind y
+one_found law memory modules m e s None x y sorted h k = ap by_end_kind (h ∙ sym k)
+one_found law memory modules m e s (Some f) x y sorted h k =
     let same = one_short_plan law (links_of e m.sections.now m.opts) e.content f h.0 k.0 h.1 k.1 in
     let here = subst (λ (p : Result (Option (List UnwindInfoView)) Refusal). CallsByPlan memory modules m e f s p x) same h.2 in
-    one_by_plan memory modules m e f s k.0 x y here k.2
+    one_by_plan law memory modules m e f s k.0 x y sorted here k.2
 
 one_by : (law : RecordLaw) (memory : ℕ → Option ℕ) (modules : List Module) (m : Module) (s : StackFrame) (o : Option ExceptionView) (x y : Result StackFrame WalkEnd) → HasSortedTable o → CallsBy memory modules m s o x → CallsBy memory modules m s o y → by_end_kind x ≡ by_end_kind y
 one_by law memory modules m s None x y sorted h k = ap by_end_kind (h ∙ sym k)
 one_by law memory modules m s (Some e) x y sorted h k =
     let same = (h.1).scanned sorted ∙ sym ((k.1).scanned sorted) in
     let here = subst (λ (f : Option RuntimeFunction). CallsFound memory modules m e s f x) same h.2 in
-    one_found law memory modules m e s k.0 x y here k.2
+    one_found law memory modules m e s k.0 x y sorted here k.2
 
 abbrev IsSortedFound : Option Module → Type 0
 IsSortedFound None = Unit {0}

@@ -10,7 +10,7 @@ use Rattle.pe_unwind.specs.declared.register.Register.{Register}
 use Rattle.pe_unwind.specs.declared.unwind_code.UnwindOperation.{UnwindOperation}
 use Rattle.pe_unwind.specs.declared.unwind_code.UnwindOperation.TheVariants.{PushNonVolatile, Alloc, SetFPRegister, SaveNonVolatile, SaveXMM, Epilog, SaveXMM128, PushMachineFrame, Noop}
 use Rattle.pe_frame.specs.declared.epilog.Instruction.{Instruction}
-use Rattle.pe_frame.specs.declared.epilog.Instruction.TheVariants.{Add, Lea, Pop, Return, Jump, JumpByMemory}
+use Rattle.pe_frame.specs.declared.epilog.Instruction.TheVariants.{Add, Lea, Pop, Return, Jump, JumpByOperand}
 use Rattle.pe_frame.specs.declared.error.FrameError.{FrameError}
 use Rattle.pe_frame.specs.declared.error.FrameError.TheVariants.{Address, Operation, NotRising}
 use Rattle.pe_frame.specs.declared.registers.Registers.{Registers}
@@ -30,21 +30,21 @@ use Rattle.pe_frame.proofs.Undone as undone
 exit_pops : (m : ℕ → Option ℕ) (i : Instruction) (g : Registers) → Exits i → executed m i g ≡ popped m g
 exit_pops m (Return n) g e = rw e refl
 exit_pops m (Jump a) g e = refl
-exit_pops m JumpByMemory g e = refl
+exit_pops m JumpByOperand g e = refl
 exit_pops m other g e = absurd e
 
 -- what a step that succeeded was
-record Went {A B : Type 0} (x : Result A FrameError) (f : A → Result B FrameError) (y : B) : Type 0 where
+pub record Went {A B : Type 0} (x : Result A FrameError) (f : A → Result B FrameError) (y : B) : Type 0 where
   pub value : A
   pub first : x ≡ Ok value
   pub next : f value ≡ Ok y
 
-went : {A B : Type 0} (x : Result A FrameError) (f : A → Result B FrameError) (y : B) → (x >>= f) ≡ Ok y → Went x f y
+pub went : {A B : Type 0} (x : Result A FrameError) (f : A → Result B FrameError) (y : B) → (x >>= f) ≡ Ok y → Went x f y
 went (Ok v) f y e = record { value = v; first = refl; next = e }
 went (Err d) f y e = cc
 
 -- registers that are so far above others
-record IsAbove (n : ℕ) (g v : Registers) : Type 0 where
+pub record IsAbove (n : ℕ) (g v : Registers) : Type 0 where
   pub count : length v.general ≡ 16
   pub pointer_is : pointer v ≡ pointer g + n
 
@@ -73,7 +73,7 @@ push_rose m b r g v other len e =
       pointer_is = rose.pointer_is ∙ ap (λ (k : ℕ). k + 8) (pointer_other g.general w.value x.value (λ q. other (sym index ∙ q)));
     }
 
-popped_rose : (m : ℕ → Option ℕ) (g u : Registers) → length g.general ≡ 16 → popped m g ≡ Ok u → IsAbove 8 g u
+pub popped_rose : (m : ℕ → Option ℕ) (g u : Registers) → length g.general ≡ 16 → popped m g ≡ Ok u → IsAbove 8 g u
 popped_rose m g u len e =
     let w = went (number m (pointer g)) (λ a. raised 8 g >>= λ v. Ok (put_rip v a)) u e in
     let x = went (raised 8 g) (λ v. Ok (put_rip v w.value)) u w.next in
@@ -512,7 +512,7 @@ trimmed m codes t j is before rest i g h u p q both len ran all =
     let same : w.value ≡ x.value = cc in
     rises m codes is before rest i x.value h u p q others (len x.value x.first) (subst (λ (y : Registers). executed_all m before y ≡ Ok h) same w.next) x.next
 
-record Rose (p : ℕ) (w u : Registers) : Type 0 where
+pub record Rose (p : ℕ) (w u : Registers) : Type 0 where
   pub same : w ≡ u
   pub low : p < pointer w
 
@@ -520,7 +520,7 @@ rose_by : (b : Bool) (p : ℕ) (w u : Registers) (d : FrameError) → (b ≡ tru
 rose_by true p w u d low e = record { same = cc; low = low refl }
 rose_by false p w u d low e = cc
 
-rose : (p : ℕ) (w u : Registers) → rising p w ≡ Ok u → Rose p w u
+pub rose : (p : ℕ) (w u : Registers) → rising p w ≡ Ok u → Rose p w u
 rose p w u e = rose_by (ltb p (pointer w)) p w u (NotRising (pointer w)) (λ t. grind (arith, nat_tests)) e
 
 step_of : (o : Option (List Instruction)) (rest : List Instruction) (m : ℕ → Option ℕ) (plan : List UnwindInfoView) (offset : ℕ) (h u : Registers) (x : Result Registers FrameError) → o ≡ Some rest → executed_all m rest h ≡ Ok u → pointer h < pointer u →
@@ -562,7 +562,7 @@ freed m b c f codes s g (Lea r d) is p e hb k back small =
 freed m b c f codes s g other is p e hb k back small = absurd e
 
 -- an epilog comes to the caller, and the rest of it starts below
-record Ends (m : ℕ → Option ℕ) (i : Instruction) (rest : List Instruction) (h u : Registers) : Type 0 where
+pub record Ends (m : ℕ → Option ℕ) (i : Instruction) (rest : List Instruction) (h u : Registers) : Type 0 where
   pub all : executed_all m (i ∷ rest) h ≡ Ok u
   pub below : pointer h < pointer u
 
@@ -625,7 +625,7 @@ pops_of f codes is (inl (none, pops)) = (is, pops)
 pops_of f codes is (inr (j, js, first, frees, pops)) = (js, pops)
 
 -- registers from which the rest of an epilog comes to the caller
-record Comes (m : ℕ → Option ℕ) (parts : List Part) (i : Instruction) (rest : List Instruction) (g h : Registers) : Type 0 where
+pub record Comes (m : ℕ → Option ℕ) (parts : List Part) (i : Instruction) (rest : List Instruction) (g h : Registers) : Type 0 where
   pub caller : Registers
   pub ends : Ends m i rest h caller
   pub is : IsCaller parts None g caller
@@ -718,7 +718,7 @@ frames_kept p (o ∷ parts) g e h keeps = (
   frames_kept p parts g e h keeps.1,
 )
 
-comes : (m : ℕ → Option ℕ) (p : Part) (parts : List Part) (before rest : List Instruction) (i : Instruction) (g h : Registers) → AreFrames m (p ∷ parts) None g → IsEpilogOfParts (p ∷ parts) (before ++ (i ∷ rest)) →
+pub comes : (m : ℕ → Option ℕ) (p : Part) (parts : List Part) (before rest : List Instruction) (i : Instruction) (g h : Registers) → AreFrames m (p ∷ parts) None g → IsEpilogOfParts (p ∷ parts) (before ++ (i ∷ rest)) →
     AreReady (p ∷ parts) (before ++ (i ∷ rest)) g → executed_all m before g ≡ Ok h → Comes m (p ∷ parts) i rest g h
 comes m p [] before rest i g h frames epilog ready ran_so_far = comes_alone m p before rest i g h frames epilog ready ran_so_far
 comes m p (q ∷ parts) before rest i g h frames epilog ready ran_so_far =

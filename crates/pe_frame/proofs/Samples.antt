@@ -8,7 +8,7 @@ use Rattle.pe_frame.specs.Machine.{IsProlog, IsBody}
 use Rattle.pe_frame.specs.Frames.{Part, left, registers_of, IsRecord, SavesOrKeeps, AreFrames}
 use Rattle.pe_frame.specs.EpilogFrames.{IsReady, AreReady}
 use Rattle.pe_frame.specs.declared.epilog.Instruction.TheVariants.{Add, Lea, Pop, Return}
-use Rattle.pe_frame.specs.Samples.{all_known, home_part, inner_part, framed_part, interrupt_part, late_part, pushed_part}
+use Rattle.pe_frame.specs.Samples.{all_known, home_part, inner_part, framed_part, interrupt_part, late_part, pushed_part, told_part}
 
 abbrev HasItems : Part → Type 0
 HasItems p = AreItems (code_stream p.info) (map Ok p.codes)
@@ -103,6 +103,26 @@ pushed_body = search rules
 
 pub pushed : AreFrames (all_known (left None pushed_part)) (pushed_part ∷ []) None (registers_of (left None pushed_part))
 pushed = (record { items = pushed_items; prolog = pushed_prolog; frame = inl refl }, omega arith, record { order = tt; body = pushed_body })
+
+told_items : HasItems told_part
+told_items = (
+  2,
+  (omega arith, (refl, inr (inr (inr (inl (refl, refl, refl)))))),
+  (
+    2,
+    (omega arith, (refl, inr (inr (inr (inl (refl, refl, refl)))))),
+    (2, (omega arith, (refl, inr (inl (refl, refl)))), (2, (omega arith, (refl, inl (refl, refl))), refl)),
+  ),
+)
+
+told_prolog : RunsProlog true told_part
+told_prolog = search rules
+
+told_body : IsBody true (frame_of told_part.info) (ran (Some 1) told_part.codes) told_part.entry (all_known (left (Some 1) told_part)) (registers_of (left (Some 1) told_part))
+told_body = search rules
+
+pub told : AreFrames (all_known (left (Some 1) told_part)) (told_part ∷ []) (Some 1) (registers_of (left (Some 1) told_part))
+told = (record { items = told_items; prolog = told_prolog; frame = inl refl }, omega arith, record { order = (5, search rules); body = told_body })
 
 pub framed_ready : IsReady (frame_of framed_part.info) (ran None framed_part.codes) framed_part.entry (Lea 5 32 ∷ Pop 3 ∷ Pop 5 ∷ Return 0 ∷ []) (registers_of (left None framed_part))
 framed_ready = record { restored = (refl, tt); back = tt }

@@ -1,59 +1,43 @@
 -- There is a walk from each state.
 use Rattle.std.proofs.Common.{◌≢◌, ℕ, zero, suc, ◌-◌, Bool, true, false, List, [], ◌∷◌, Option, Some, None, Result, Ok, Err, refl, ap}
 use Rattle.std.specs.Option.{option_map}
-use Rattle.pe_core.specs.Refusals.{Refusal, Memory, ◌>>=◌}
+use Rattle.pe_core.specs.Refusals.{Refusal, Memory}
 use Rattle.pe_unwind.specs.ExceptionTable.{ExceptionView, table_of}
 use Rattle.pe_unwind.specs.Links.{links_of}
 use Rattle.pe_unwind.specs.UnwindRecord.{UnwindInfoView}
 use Rattle.pe_unwind.specs.declared.function_table.RuntimeFunction.{RuntimeFunction}
 use Rattle.pe_plan.proofs.RecordLaw.{RecordLaw}
-use Rattle.pe_frame.specs.Epilogs.{StepsOutFrom, epilog_at, executed_all}
+use Rattle.pe_frame.specs.Epilogs.{epilog_at}
 use Rattle.pe_frame.specs.Modules.{module_at}
-use Rattle.pe_frame.specs.Steps.{StepsOut, limit_of, returned_out, rising}
-use Rattle.pe_frame.specs.Undoing.{pointer}
 use Rattle.pe_frame.specs.Walks.{Calls, CallsBy, CallsByPlan, CallsFound, CallsIn, Follows, FollowsBy, IsWalk, IsWalkBy, WalkState, code_of_frame, frame_after, leaf_caller, lookup_address, outside_caller, walk_after}
-use Rattle.pe_frame.specs.declared.epilog.Instruction.{Instruction}
-use Rattle.pe_frame.specs.declared.error.FrameError.{FrameError}
 use Rattle.pe_frame.specs.declared.modules.Module.{Module}
-use Rattle.pe_frame.specs.declared.registers.Registers.{Registers}
 use Rattle.pe_frame.specs.declared.walk.StackFrame.{StackFrame}
 use Rattle.pe_frame.specs.declared.walk.WalkEnd.{WalkEnd}
 use Rattle.pe_frame.specs.declared.walk.WalkEnd.TheVariants as ends
-use Rattle.pe_frame.proofs.OneStep.{some_undoing}
+use Rattle.pe_frame.proofs.Jumps.{some_in_image}
 use Rattle.pe_frame.proofs.SomeError.{some_error}
 use Rattle.pe_frame.proofs.SomeFunction.{some_function}
 use Rattle.pe_frame.proofs.SomeShortPlan.{some_short_plan}
-
--- ---- one step
-
-some_out : (m : ℕ → Option ℕ) (plan : List UnwindInfoView) (offset : ℕ) (g : Registers) → (left : Result (Registers × Bool) FrameError) × StepsOut m plan offset g left
-some_out m plan offset g =
-    let entry = some_undoing m plan (limit_of plan offset) false g in
-    (entry.0 >>= returned_out m (pointer g), (entry.0, entry.1, refl))
-
-some_out_from : (o : Option (List Instruction)) (m : ℕ → Option ℕ) (plan : List UnwindInfoView) (offset : ℕ) (g : Registers) → (left : Result (Registers × Bool) FrameError) × StepsOutFrom o m plan offset g left
-some_out_from None m plan offset g = some_out m plan offset g
-some_out_from (Some rest) m plan offset g = ((executed_all m rest g >>= rising (pointer g)) >>= λ u. Ok (u, false), refl)
 
 -- ---- one caller
 
 abbrev Caller : (Result StackFrame WalkEnd → Type 0) → Type 0
 Caller Is = (answer : Result StackFrame WalkEnd) × Is answer
 
-some_by_plan : (memory : ℕ → Option ℕ) (modules : List Module) (m : Module) (e : ExceptionView) (f : RuntimeFunction) (s : StackFrame) (plan : Result (Option (List UnwindInfoView)) Refusal) → plan ≢ Err Memory → Caller (CallsByPlan memory modules m e f s plan)
-some_by_plan memory modules m e f s (Err r) other =
+some_by_plan : (law : RecordLaw) (memory : ℕ → Option ℕ) (modules : List Module) (m : Module) (e : ExceptionView) (f : RuntimeFunction) (s : StackFrame) (plan : Result (Option (List UnwindInfoView)) Refusal) → plan ≢ Err Memory → Caller (CallsByPlan memory modules m e f s plan)
+some_by_plan law memory modules m e f s (Err r) other =
     let error = some_error r (λ same. other (ap (λ (k : Refusal). Err k) same)) in
     (Err (ends.Records error.0), error.1)
-some_by_plan memory modules m e f s (Ok None) other = (Err ends.LongChain, refl)
-some_by_plan memory modules m e f s (Ok (Some plan)) other =
-    let left = some_out_from (epilog_at plan f.begin_address ((s.registers).rip - m.base) (code_of_frame m e f.end_address s)) memory plan ((s.registers).rip - m.base - f.begin_address) s.registers in
+some_by_plan law memory modules m e f s (Ok None) other = (Err ends.LongChain, refl)
+some_by_plan law memory modules m e f s (Ok (Some plan)) other =
+    let left = some_in_image law e m.sections.now m.opts (epilog_at plan f.begin_address ((s.registers).rip - m.base) (code_of_frame m e f.end_address s)) memory plan ((s.registers).rip - m.base - f.begin_address) s.registers in
     (frame_after memory modules left.0, (left.0, left.1, refl))
 
 some_found : (law : RecordLaw) (memory : ℕ → Option ℕ) (modules : List Module) (m : Module) (e : ExceptionView) (s : StackFrame) (found : Option RuntimeFunction) → Caller (CallsFound memory modules m e s found)
 some_found law memory modules m e s None = (leaf_caller memory modules s, refl)
 some_found law memory modules m e s (Some f) =
     let plan = some_short_plan law (links_of e m.sections.now m.opts) e.content f in
-    let caller = some_by_plan memory modules m e f s plan.0 plan.2 in
+    let caller = some_by_plan law memory modules m e f s plan.0 plan.2 in
     (caller.0, (plan.0, plan.1, caller.1))
 
 some_by : (law : RecordLaw) (memory : ℕ → Option ℕ) (modules : List Module) (m : Module) (s : StackFrame) (o : Option ExceptionView) → Caller (CallsBy memory modules m s o)

@@ -1,12 +1,13 @@
 -- Pops at the start of code, one after the other.
 use Rattle.pe_core.specs.Refusals.{◌>>=◌}
 use Rattle.pe_core.proofs.Steps.{then_then}
-use Rattle.std.proofs.Common.{◌≡◌, ℕ, zero, suc, List, [], ◌∷◌, ◌++◌, map, drop, Option, Some, None, Result, Ok, Err, refl, sym, ◌∙◌}
+use Rattle.std.proofs.Common.{◌≡◌, ℕ, zero, suc, List, [], ◌∷◌, ◌++◌, map, drop, Option, Some, None, Result, Ok, Err, refl, ap, sym, ◌∙◌}
 use Rattle.pe_frame.specs.declared.epilog.Instruction.{Instruction}
 use Rattle.pe_frame.specs.declared.epilog.Instruction.TheVariants.{Pop}
 use Rattle.pe_frame.specs.declared.error.FrameError.{FrameError}
 use Rattle.pe_frame.specs.declared.registers.Registers.{Registers}
 use Rattle.pe_frame.specs.Epilogs.{pop_form, popped_first, after_pops, executed, executed_all}
+use Rattle.pe_frame.specs.Jumps.{before_last, direct_target, target_of}
 use Rattle.pe_frame.specs.Tails.{alone}
 
 pub after_step : (k n : ℕ) (code : List ℕ) (p : ℕ × ℕ) → k ≡ suc n → pop_form code ≡ Some p → after_pops k code ≡ after_pops n (drop p.1 code)
@@ -59,12 +60,37 @@ executed_append m (i ∷ is) js g =
     then_same (executed m i g) (executed_all m (is ++ js)) (λ v. executed_all m is v >>= executed_all m js) (λ v. executed_append m is js v)
     ∙ sym (then_then (executed m i g) (executed_all m is) (executed_all m js))
 
--- the three parts of a tail run
+-- instructions run, and then the last one
+run_end : (m : ℕ → Option ℕ) (is : List Instruction) (e : Instruction) (g : Registers) → executed_all m (is ++ (e ∷ [])) g ≡ (executed_all m is g >>= executed m e)
+run_end m is e g =
+    executed_append m is (e ∷ []) g ∙ then_same (executed_all m is g) (executed_all m (e ∷ [])) (executed m e) (λ w. then_ok (executed m e w))
+
+before_end : (is : List Instruction) (e : Instruction) → before_last (is ++ (e ∷ [])) ≡ is
+before_end [] e = refl
+before_end (i ∷ []) e = refl
+before_end (i ∷ j ∷ is) e = ap (λ (ks : List Instruction). i ∷ ks) (before_end (j ∷ is) e)
+
+target_end : (is : List Instruction) (e : Instruction) → target_of (is ++ (e ∷ [])) ≡ direct_target e
+target_end [] e = refl
+target_end (i ∷ []) e = refl
+target_end (i ∷ j ∷ is) e = target_end (j ∷ is) e
+
+-- a tail without the instruction that leaves the function
+pub before_exit : (trim : Option Instruction) (pops : List ℕ) (exit : Instruction) → before_last (alone trim ++ (map Pop pops ++ (exit ∷ []))) ≡ alone trim ++ map Pop pops
+before_exit None pops exit = before_end (map Pop pops) exit
+before_exit (Some i) pops exit = before_end (i ∷ map Pop pops) exit
+
+pub exit_target : (trim : Option Instruction) (pops : List ℕ) (exit : Instruction) → target_of (alone trim ++ (map Pop pops ++ (exit ∷ []))) ≡ direct_target exit
+exit_target None pops exit = target_end (map Pop pops) exit
+exit_target (Some i) pops exit = target_end (i ∷ map Pop pops) exit
+
+-- the parts of a tail run
+pub trim_run : (m : ℕ → Option ℕ) (trim : Option Instruction) (pops : List ℕ) (g : Registers) →
+    executed_all m (alone trim ++ map Pop pops) g ≡ (executed_all m (alone trim) g >>= executed_all m (map Pop pops))
+trim_run m trim pops g = executed_append m (alone trim) (map Pop pops) g
+
 pub tail_run : (m : ℕ → Option ℕ) (trim : Option Instruction) (pops : List ℕ) (exit : Instruction) (g : Registers) →
     executed_all m (alone trim ++ (map Pop pops ++ (exit ∷ []))) g
-    ≡ (executed_all m (alone trim) g >>= λ v. executed_all m (map Pop pops) v >>= executed m exit)
-tail_run m trim pops exit g =
-    executed_append m (alone trim) (map Pop pops ++ (exit ∷ [])) g
-    ∙ then_same (executed_all m (alone trim) g) (executed_all m (map Pop pops ++ (exit ∷ []))) (λ v. executed_all m (map Pop pops) v >>= executed m exit)
-    (λ v. executed_append m (map Pop pops) (exit ∷ []) v
-    ∙ then_same (executed_all m (map Pop pops) v) (executed_all m (exit ∷ [])) (executed m exit) (λ w. then_ok (executed m exit w)))
+    ≡ (executed_all m (before_last (alone trim ++ (map Pop pops ++ (exit ∷ [])))) g >>= executed m exit)
+tail_run m None pops exit g = rw (before_end (map Pop pops) exit) (run_end m (map Pop pops) exit g)
+tail_run m (Some i) pops exit g = rw (before_end (i ∷ map Pop pops) exit) (run_end m (i ∷ map Pop pops) exit g)

@@ -4,7 +4,7 @@ use Rattle.std.specs.Prelude.{◌≡◌, ℕ, ◌+◌, ◌-◌, ◌⊎◌, IsSom
 use Rattle.pe_unwind.specs.declared.unwind_code.UnwindOperation.{UnwindOperation}
 use Rattle.pe_unwind.specs.declared.unwind_code.UnwindOperation.TheVariants.{PushNonVolatile, Alloc, SetFPRegister, SaveNonVolatile, Epilog, SaveXMM128, Noop}
 use Rattle.pe_frame.specs.declared.epilog.Instruction.{Instruction}
-use Rattle.pe_frame.specs.declared.epilog.Instruction.TheVariants.{Add, Lea, Pop, Return, Jump, JumpByMemory}
+use Rattle.pe_frame.specs.declared.epilog.Instruction.TheVariants.{Add, Lea, Pop, Return, Jump, JumpByOperand}
 use Rattle.pe_frame.specs.declared.registers.Registers.{Registers}
 use Rattle.pe_frame.specs.Undoing.{Frame, pointer, ran}
 use Rattle.pe_frame.specs.Steps.{frame_of}
@@ -16,7 +16,7 @@ use Rattle.pe_frame.specs.Epilogs.{moved}
 abbrev pub Exits : Instruction → Type 0
 Exits (Return n) = n ≡ 0
 Exits (Jump a) = Unit {0}
-Exits JumpByMemory = Unit {0}
+Exits JumpByOperand = Unit {0}
 Exits other = ⊥
 
 -- Pops undo these pushes, and an instruction leaves the function after them. A frame register that was set between two pushes

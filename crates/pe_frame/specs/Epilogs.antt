@@ -9,7 +9,7 @@ use Rattle.pe_unwind.specs.UnwindCodes.{integer}
 use Rattle.pe_unwind.specs.declared.unwind_code.UnwindOperation.TheVariants.{PushNonVolatile}
 use Rattle.pe_unwind.specs.UnwindRecord.{UnwindInfoView}
 use Rattle.pe_frame.specs.declared.epilog.Instruction.{Instruction}
-use Rattle.pe_frame.specs.declared.epilog.Instruction.TheVariants.{Add, Lea, Pop, Return, Jump, JumpByMemory}
+use Rattle.pe_frame.specs.declared.epilog.Instruction.TheVariants.{Add, Lea, Pop, Return, Jump, JumpByOperand}
 use Rattle.pe_frame.specs.declared.error.FrameError.{FrameError}
 use Rattle.pe_frame.specs.declared.registers.Registers.{Registers}
 use Rattle.pe_frame.specs.Undoing.{pointer, put_register, raised, undone, popped, dropped}
@@ -85,27 +85,51 @@ after_pops (suc n) code = option_map_or (λ p. after_pops n (drop p.1 code)) (po
 abbrev pub jump_of : ℕ → List ℕ → ℕ → ℕ → Option Instruction
 jump_of end code size n = Some (Jump (moved (moved (end - length code) size) n))
 
--- a jump by the address in memory: /4 with mode 0
-abbrev pub jump_by_memory : ℕ → Option Instruction
-jump_by_memory b = if nat_le 0x20 b && nat_lt b 0x28 then Some JumpByMemory else None
+-- A jump by an operand is FF with /4 in ModRM: with mode 3 by a register, else by memory, with mode 0 without a number that is
+-- added to a register. It may have any mode, or one of these two.
+abbrev pub is_plain_mode : ℕ → Bool
+is_plain_mode mode = mode == 0 || mode == 3
+
+abbrev pub jump_by_operand : Bool → ℕ → Option Instruction
+jump_by_operand any_mode b = if b / 8 % 8 == 4 && (any_mode || is_plain_mode (b / 64)) then Some JumpByOperand else None
+
+-- REX.W, which is 48 to 4F, changes nothing of such a jump: it marks one that leaves the function
+abbrev pub marked_by : ℕ → List ℕ → Option Instruction
+marked_by rex code =
+    if nat_le 0x48 rex && nat_lt rex 0x50
+    then option_map_or (jump_by_operand true) (operand (rex ∷ 0xFF ∷ []) 1 code) None
+    else None
+
+unfoldable pub marked_jump : List ℕ → Option Instruction
+marked_jump code = option_map_or (λ rex. marked_by rex code) (operand [] 1 code) None
+
+-- Without that mark FF 25 leaves, which jumps by the address of an import. Any other may be that of a switch, unless what
+-- freed stack or popped a register comes before it.
+unfoldable pub unmarked_jump : Bool → List ℕ → Option Instruction
+unmarked_jump restored code =
+    if starts_with nat_eq code (0xFF ∷ 0x25 ∷ []) then Some JumpByOperand
+    else if restored
+    then option_map_or (jump_by_operand false) (operand (0xFF ∷ []) 1 code)
+    (option_map_or (jump_by_operand false) (operand (0x41 ∷ 0xFF ∷ []) 1 code) None)
+    else None
 
 -- `ret`, and `ret` after `rep`
 abbrev pub is_return : List ℕ → Bool
 is_return code = starts_with nat_eq code (0xC3 ∷ []) || starts_with nat_eq code (0xF3 ∷ 0xC3 ∷ [])
 
--- a jump: to an RVA by a number of one byte or of four, or by memory
-unfoldable pub jump_form : ℕ → List ℕ → Option Instruction
-jump_form end code =
+-- a jump: to an RVA by a number of one byte or of four, or by an operand
+unfoldable pub jump_form : Bool → ℕ → List ℕ → Option Instruction
+jump_form restored end code =
     option_map_or (λ n. jump_of end code 2 (widened 8 n)) (operand (0xEB ∷ []) 1 code)
     (option_map_or (λ n. jump_of end code 5 (widened 32 n)) (operand (0xE9 ∷ []) 4 code)
-    (option_map_or jump_by_memory (operand (0xFF ∷ []) 1 code)
-    (option_map_or jump_by_memory (operand (0x48 ∷ 0xFF ∷ []) 1 code) None)))
+    (option_map_or Some (marked_jump code) (unmarked_jump restored code)))
 
--- the instruction with which an epilog ends, by the RVA where the code ends
-unfoldable pub exit_form : ℕ → List ℕ → Option Instruction
-exit_form end code =
+-- the instruction with which an epilog ends, by the RVA where the code ends, and whether one before it freed stack or popped
+-- a register
+unfoldable pub exit_form : Bool → ℕ → List ℕ → Option Instruction
+exit_form restored end code =
     if is_return code then Some (Return 0)
-    else option_map_or (λ n. Some (Return n)) (operand (0xC2 ∷ []) 2 code) (jump_form end code)
+    else option_map_or (λ n. Some (Return n)) (operand (0xC2 ∷ []) 2 code) (jump_form restored end code)
 
 -- an RVA lies in an entry that starts and ends there
 abbrev pub lies_in : ℕ → ℕ → ℕ → Bool
@@ -129,18 +153,24 @@ leaves plan start end (Jump a) =
     a == function_start start plan || not (lies_in start end a || lies_in_parents plan a)
 leaves plan start end other = true
 
-abbrev pub exit_of : List UnwindInfoView → ℕ → ℕ → List ℕ → Option Instruction
-exit_of plan start end code = option_and_then (λ i. if leaves plan start end i then Some i else None) (exit_form end code)
+abbrev pub exit_of : List UnwindInfoView → ℕ → ℕ → Bool → List ℕ → Option Instruction
+exit_of plan start end restored code =
+    option_and_then (λ i. if leaves plan start end i then Some i else None) (exit_form restored end code)
 
 -- there are 16 integer registers, and an epilog pops none of them twice
 abbrev pub most_pops : ℕ
 most_pops = 16
 
+-- an instruction freed stack, or the code starts with a pop
+abbrev pub restores : List Instruction → List ℕ → Bool
+restores [] code = option_map_or (λ p. true) (pop_form code) false
+restores (i ∷ is) code = true
+
 -- pops and the instruction with which the epilog ends, after what came before them
 abbrev pub with_rest : List UnwindInfoView → ℕ → ℕ → List Instruction → List ℕ → Option (List Instruction)
 with_rest plan start end before code =
     option_map_or (λ i. Some (before ++ (map Pop (popped_first most_pops code) ++ (i ∷ []))))
-    (exit_of plan start end (after_pops most_pops code)) None
+    (exit_of plan start end (restores before code) (after_pops most_pops code)) None
 
 -- the frame register of the first record
 abbrev pub frame_register_of : List UnwindInfoView → ℕ
@@ -167,7 +197,7 @@ executed m (Lea r n) g = Ok (put_register g 4 (moved (slice_index g.general r) n
 executed m (Pop r) g = undone m 0 (PushNonVolatile (integer r)) g
 executed m (Return n) g = dropped m n g
 executed m (Jump a) g = popped m g
-executed m JumpByMemory g = popped m g
+executed m JumpByOperand g = popped m g
 
 -- the same of instructions that follow one another
 abbrev pub executed_all : (ℕ → Option ℕ) → List Instruction → Registers → Result Registers FrameError
@@ -184,10 +214,12 @@ abbrev pub StepsWithCode : (ℕ → Option ℕ) → List UnwindInfoView → ℕ 
 StepsWithCode m plan start rva code g answer = StepsFrom (epilog_at plan start rva code) m plan (rva - start) g answer
 
 -- the same, and whether an interrupt left the registers, as no epilog does
+abbrev pub run_out : (ℕ → Option ℕ) → List Instruction → Registers → Result (Registers × Bool) FrameError
+run_out m rest g = (executed_all m rest g >>= rising (pointer g)) >>= λ u. Ok (u, false)
+
 abbrev pub StepsOutFrom : Option (List Instruction) → (ℕ → Option ℕ) → List UnwindInfoView → ℕ → Registers → Result (Registers × Bool) FrameError → Type 0
 StepsOutFrom None m plan offset g answer = StepsOut m plan offset g answer
-StepsOutFrom (Some rest) m plan offset g answer =
-    answer ≡ (executed_all m rest g >>= rising (pointer g)) >>= λ u. Ok (u, false)
+StepsOutFrom (Some rest) m plan offset g answer = answer ≡ run_out m rest g
 
 abbrev pub StepsOutWithCode : (ℕ → Option ℕ) → List UnwindInfoView → ℕ → ℕ → List ℕ → Registers → Result (Registers × Bool) FrameError → Type 0
 StepsOutWithCode m plan start rva code g answer = StepsOutFrom (epilog_at plan start rva code) m plan (rva - start) g answer

@@ -1,10 +1,10 @@
 -- Frames as a running program leaves them: a function's prolog ran, its body came to parts with prologs of their own, and
 -- the innermost of these stopped in its prolog or in its body.
-use Rattle.std.specs.Prelude.{◌≡◌, ◌≢◌, ℕ, ◌+◌, ◌^◌, ◌<◌, ◌≤◌, ◌⊎◌, Bool, true, false, IsSome, List, [], ◌∷◌, map, slice_index, Option, Some, None, Ok}
+use Rattle.std.specs.Prelude.{◌≡◌, ◌≢◌, ℕ, ◌+◌, ◌^◌, ◌<◌, ◌≤◌, ◌⊎◌, if◌then◌else◌, Bool, true, false, IsSome, List, [], ◌∷◌, map, slice_index, Option, Some, None, Ok}
 use Rattle.std.specs.List.{AllByRecursion}
 use Rattle.pe_unwind.specs.declared.unwind_code.UnwindCode.{UnwindCode}
 use Rattle.pe_unwind.specs.declared.unwind_code.UnwindOperation.{UnwindOperation}
-use Rattle.pe_unwind.specs.declared.unwind_code.UnwindOperation.TheVariants.{PushMachineFrame}
+use Rattle.pe_unwind.specs.declared.unwind_code.UnwindOperation.TheVariants.{Epilog, PushMachineFrame}
 use Rattle.pe_unwind.specs.CodeStream.{AreItems}
 use Rattle.pe_unwind.specs.UnwindRecord.{UnwindInfoView, code_stream}
 use Rattle.pe_frame.specs.declared.registers.Registers.{Registers}
@@ -31,15 +31,24 @@ pub record IsRecord (called : Bool) (p : Part) : Type 0 where
   pub prolog : IsProlog called (frame_of p.info) (ran None p.codes) p.entry
   pub frame : ((p.info.frame_register).0 ≡ 0) ⊎ (is_framed (ran None p.codes) ≡ true)
 
+-- the codes of the prolog: in version 2 others before them say where epilogs are, and their offsets are none of the prolog
+abbrev pub is_of_epilog : UnwindOperation → Bool
+is_of_epilog (Epilog a b) = true
+is_of_epilog other = false
+
+abbrev pub prolog_codes : List UnwindCode → List UnwindCode
+prolog_codes [] = []
+prolog_codes (c ∷ cs) = if is_of_epilog c.operation then prolog_codes cs else c ∷ prolog_codes cs
+
 -- no offset is above this one, nor above that of a code before it
 abbrev pub FallsFrom : ℕ → List UnwindCode → Type 0
 FallsFrom last [] = Unit {0}
 FallsFrom last (c ∷ cs) = (c.code_offset ≤ last) × FallsFrom c.code_offset cs
 
--- inside the prolog the codes stand in order, the last one first: so what has run is the first part of the prolog
+-- inside the prolog its codes stand in order, the last one first: so what has run is the first part of the prolog
 abbrev pub IsInOrder : Option ℕ → List UnwindCode → Type 0
 IsInOrder None codes = Unit {0}
-IsInOrder (Some offset) codes = (last : ℕ) × FallsFrom last codes
+IsInOrder (Some offset) codes = (last : ℕ) × FallsFrom last (prolog_codes codes)
 
 -- the machine stopped in the body, or in the prolog once so much of it has run
 pub record StopsIn (called : Bool) (limit : Option ℕ) (p : Part) (m : ℕ → Option ℕ) (g : Registers) : Type 0 where

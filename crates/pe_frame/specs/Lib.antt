@@ -7,6 +7,7 @@ pub mod Steps
 pub mod InPlace
 pub mod Survey
 pub mod Epilogs
+pub mod Jumps
 pub mod CallForms
 pub mod Modules
 pub mod Walks

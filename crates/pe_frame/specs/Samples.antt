@@ -4,7 +4,7 @@ use Rattle.pe_unwind.specs.declared.register.Register.{Register}
 use Rattle.pe_unwind.specs.declared.unwind_code.StackFrameOffset.TheVariants.{RSP, FP}
 use Rattle.pe_unwind.specs.declared.unwind_code.UnwindCode.{UnwindCode}
 use Rattle.pe_unwind.specs.declared.unwind_code.UnwindOperation.{UnwindOperation}
-use Rattle.pe_unwind.specs.declared.unwind_code.UnwindOperation.TheVariants.{PushNonVolatile, Alloc, SetFPRegister, SaveNonVolatile, SaveXMM128, PushMachineFrame}
+use Rattle.pe_unwind.specs.declared.unwind_code.UnwindOperation.TheVariants.{PushNonVolatile, Alloc, SetFPRegister, SaveNonVolatile, Epilog, SaveXMM128, PushMachineFrame}
 use Rattle.pe_unwind.specs.UnwindRecord.{UnwindInfoView}
 use Rattle.pe_frame.specs.Machine.{Machine, loaded}
 use Rattle.pe_frame.specs.Frames.{Part, left}
@@ -71,6 +71,14 @@ abbrev pub pushed_part : Part
 pushed_part = record {
   info = sample_info 5 0 0 (5 ∷ 50 ∷ 1 ∷ 48 ∷ []);
   codes = code 5 (Alloc 32) ∷ code 1 (PushNonVolatile (register 3)) ∷ [];
+  entry = sample_machine;
+}
+
+-- the same prolog by a record of version 2, whose codes also say that an epilog of two bytes ends the function
+abbrev pub told_part : Part
+told_part = record {
+  info = record (sample_info 5 0 0 (2 ∷ 22 ∷ 0 ∷ 6 ∷ 5 ∷ 50 ∷ 1 ∷ 48 ∷ [])) { version = 2 };
+  codes = code 2 (Epilog 2 1) ∷ code 0 (Epilog 0 0) ∷ code 5 (Alloc 32) ∷ code 1 (PushNonVolatile (register 3)) ∷ [];
   entry = sample_machine;
 }
 

@@ -10,7 +10,7 @@ use Rattle.pe_unwind.specs.Links.{links_of}
 use Rattle.pe_unwind.specs.UnwindRecord.{UnwindInfoView}
 use Rattle.pe_unwind.specs.declared.function_table.RuntimeFunction.{RuntimeFunction}
 use Rattle.pe_plan.specs.ShortPlans.{PlansShort}
-use Rattle.pe_frame.specs.Epilogs.{StepsOutWithCode}
+use Rattle.pe_frame.specs.Jumps.{StepsInImage}
 use Rattle.pe_frame.specs.Modules.{module_at, code_in, is_after_call, is_code_return}
 use Rattle.pe_frame.specs.Steps.{ErrorKind, error_kind}
 use Rattle.pe_frame.specs.Undoing.{pointer, popped, put_register, put_rip}
@@ -117,7 +117,7 @@ CallsByPlan memory modules m e f s (Err r) answer = IsUnreadable r answer
 CallsByPlan memory modules m e f s (Ok None) answer = answer ≡ Err ends.LongChain
 CallsByPlan memory modules m e f s (Ok (Some plan)) answer =
     (left : Result (Registers × Bool) FrameError)
-    × StepsOutWithCode memory plan f.begin_address ((s.registers).rip - m.base) (code_of_frame m e f.end_address s) s.registers left
+    × StepsInImage e m.sections.now m.opts memory plan f.begin_address ((s.registers).rip - m.base) (code_of_frame m e f.end_address s) s.registers left
     × (answer ≡ frame_after memory modules left)
 
 -- Without a function there is no caller of a frame that has called: a leaf function calls nothing. That of any other frame is

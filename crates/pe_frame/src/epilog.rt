@@ -4,12 +4,16 @@
 //! register), pops the registers that it pushed and returns, or jumps to another function, which returns in its place. Inside
 //! of one the unwind codes do not hold any more. [Microsoft's page](https://learn.microsoft.com/cpp/build/prolog-and-epilog)
 //! allows no other form, so that an unwinder can tell an epilog by its bytes and run the rest of it.
+//!
+//! A jump by a register or memory may be that of a switch, which stays in the function. One that leaves has REX.W before it,
+//! which means nothing else there.
 
 ghost use Rattle.std.specs.Prelude.{◌≡◌, ◌+◌, ◌≤◌, length, map, slice_index, IfSome, Some};
 ghost use Rattle.std.specs.Option.{option_map};
 ghost use Rattle.pe_unwind.specs.UnwindRecord.{unwind_view};
 ghost use Rattle.pe_frame.specs.declared.epilog.Instruction.TheVariants.{Pop};
-ghost use Rattle.pe_frame.specs.Epilogs.{widened, moved, operand, add_form, lea_form, trim_form, pop_of, pop_form, popped_first, most_pops, after_pops, jump_of, jump_by_memory, jump_form, exit_form, lies_in_parents, function_start, leaves, frame_register_of, with_rest, tail, executed, executed_all};
+ghost use Rattle.pe_frame.specs.Epilogs.{widened, moved, operand, add_form, lea_form, trim_form, pop_of, pop_form, popped_first, most_pops, after_pops, jump_of, is_plain_mode, jump_by_operand, marked_by, marked_jump, unmarked_jump, jump_form, exit_form, restores, lies_in_parents, function_start, leaves, frame_register_of, with_rest, tail, executed, executed_all};
+ghost use Rattle.pe_frame.specs.Jumps.{before_last, target_of};
 ghost use Rattle.pe_frame.specs.Undoing.{put_register};
 ghost use Rattle.pe_frame.specs.Tails.{alone, instructions_of};
 ghost use Rattle.pe_frame.specs.InPlace.{changed};
@@ -58,19 +62,25 @@ const REP_RET: [u8; 2] = [0xF3, 0xC3];
 
 const RET_IMM16: [u8; 1] = [0xC2];
 
-/// `jmp` before its number, of one byte and of four; and `jmp` by an operand, without REX.W and with it.
+/// `jmp` before its number, of one byte and of four.
 const JMP_REL8: [u8; 1] = [0xEB];
 
 const JMP_REL32: [u8; 1] = [0xE9];
 
-const JMP_BY_OPERAND: [u8; 1] = [0xFF];
+/// The opcode of `jmp` by an operand before its ModRM byte, in which /4 says that it is a jump; and `jmp [rip + n]`.
+const JMP: u8 = 0xFF;
 
-const REX_W_JMP_BY_OPERAND: [u8; 2] = [0x48, 0xFF];
+const JMP_DIGIT: u8 = 4;
 
-/// ModRM of `jmp` by an operand in memory, which is /4 with mode 0: the first and the byte after the last.
-const MODRM_JMP: u8 = 0x20;
+const JMP_RIP: [u8; 2] = [0xFF, 0x25];
 
-const MODRM_JMP_END: u8 = 0x28;
+/// The byte after the last with REX.W.
+const REX_W_END: u8 = 0x50;
+
+/// Modes of ModRM: a register; memory, without a number that is added to a register.
+const MODE_REGISTER: u8 = 3;
+
+const MODE_MEMORY: u8 = 0;
 
 /// The least numbers of one byte and of four that are negative, and what widens them to 64 bits.
 const NEGATIVE8: u8 = 0x80;
@@ -97,8 +107,8 @@ pub(crate) enum Instruction {
     Return(u16),
     /// `jmp` to an RVA, of which the other bits of an address may be set.
     Jump(u64),
-    /// `jmp` by an address in memory.
-    JumpByMemory,
+    /// `jmp` by an address in a register or memory.
+    JumpByOperand,
 }
 
 /// What is left of an epilog.
@@ -273,21 +283,63 @@ fn jump_of(end: u64, code: &[u8], size: u64, number: u64) -> Instruction
     Instruction::Jump(start.wrapping_add(size).wrapping_add(number))
 }
 
-/// A jump by memory, by its ModRM byte.
-fn jump_by_memory(byte: u8) -> Option<Instruction>
-    ensures { result ≡ jump_by_memory byte }
+/// Whether a mode of ModRM says a register, or memory without a number that is added to a register.
+fn is_plain_mode(mode: u8) -> bool
+    ensures { result ≡ is_plain_mode mode }
 {
-    if MODRM_JMP <= byte && byte < MODRM_JMP_END {
-        Some(Instruction::JumpByMemory)
+    mode == MODE_MEMORY || mode == MODE_REGISTER
+}
+
+/// A jump by an operand, by its ModRM byte: with any mode, or with a plain one alone.
+fn jump_by_operand(any_mode: bool, byte: u8) -> Option<Instruction>
+    ensures { result ≡ jump_by_operand any_mode byte }
+{
+    if byte / 8 % 8 == JMP_DIGIT && (any_mode || is_plain_mode(byte / 64)) {
+        Some(Instruction::JumpByOperand)
     } else {
         None
     }
 }
 
+/// A jump by an operand after REX.W, which marks one that leaves the function.
+#[tactic(auto, unfolding(crate::specs::Epilogs::marked_jump))]
+fn marked_jump(code: &[u8]) -> Option<Instruction>
+    ensures { result ≡ marked_jump code.now }
+{
+    match byte_after(&[], code) {
+        Some(rex) if REX_W <= rex && rex < REX_W_END => match byte_after(&[rex, JMP], code) {
+            Some(byte) => jump_by_operand(true, byte),
+            None => None,
+        },
+        _ => None,
+    }
+}
+
+/// A jump by an operand without that mark: by the address of an import, or where an instruction before it freed stack or
+/// popped a register, as none does before the jump of a switch.
+#[tactic(auto, unfolding(crate::specs::Epilogs::unmarked_jump))]
+fn unmarked_jump(restored: bool, code: &[u8]) -> Option<Instruction>
+    ensures { result ≡ unmarked_jump restored code.now }
+{
+    if code.starts_with(&JMP_RIP) {
+        return Some(Instruction::JumpByOperand);
+    }
+    if !restored {
+        return None;
+    }
+    if let Some(byte) = byte_after(&[JMP], code) {
+        return jump_by_operand(false, byte);
+    }
+    match byte_after(&[REX_B, JMP], code) {
+        Some(byte) => jump_by_operand(false, byte),
+        None => None,
+    }
+}
+
 /// A jump, by the RVA where the code ends.
 #[tactic(auto, unfolding(crate::specs::Epilogs::jump_form))]
-fn jump_at(end: u64, code: &[u8]) -> Option<Instruction>
-    ensures { result ≡ jump_form end code.now }
+fn jump_at(restored: bool, end: u64, code: &[u8]) -> Option<Instruction>
+    ensures { result ≡ jump_form restored end code.now }
 {
     if let Some(number) = byte_after(&JMP_REL8, code) {
         return Some(jump_of(end, code, 2, widened8(number)));
@@ -295,26 +347,24 @@ fn jump_at(end: u64, code: &[u8]) -> Option<Instruction>
     if let Some(number) = u32_after(&JMP_REL32, code) {
         return Some(jump_of(end, code, 5, widened32(number)));
     }
-    if let Some(byte) = byte_after(&JMP_BY_OPERAND, code) {
-        return jump_by_memory(byte);
-    }
-    match byte_after(&REX_W_JMP_BY_OPERAND, code) {
-        Some(byte) => jump_by_memory(byte),
-        None => None,
+    match marked_jump(code) {
+        Some(jump) => Some(jump),
+        None => unmarked_jump(restored, code),
     }
 }
 
-/// The instruction with which an epilog ends, by the RVA where the code ends.
+/// The instruction with which an epilog ends, by the RVA where the code ends, and whether one before it freed stack or popped
+/// a register.
 #[tactic(auto, unfolding(crate::specs::Epilogs::exit_form))]
-fn exit_at(end: u64, code: &[u8]) -> Option<Instruction>
-    ensures { result ≡ exit_form end code.now }
+fn exit_at(restored: bool, end: u64, code: &[u8]) -> Option<Instruction>
+    ensures { result ≡ exit_form restored end code.now }
 {
     if code.starts_with(&RET) || code.starts_with(&REP_RET) {
         return Some(Instruction::Return(0));
     }
     match u16_after(&RET_IMM16, code) {
         Some(number) => Some(Instruction::Return(number)),
-        None => jump_at(end, code),
+        None => jump_at(restored, end, code),
     }
 }
 
@@ -369,6 +419,16 @@ fn frame_register(plan: &[UnwindInfo<'_>]) -> u8
     }
 }
 
+/// Whether an instruction freed stack, or the code starts with a pop.
+fn restores(trim: Option<Instruction>, code: &[u8]) -> bool
+    ensures { result ≡ restores (alone trim) code.now }
+{
+    match trim {
+        Some(_) => true,
+        None => pop_at(code).is_some(),
+    }
+}
+
 /// What is left of an epilog after the instruction that frees the stack.
 fn with_rest<'a>(
     plan: &[UnwindInfo<'_>],
@@ -380,7 +440,7 @@ fn with_rest<'a>(
     ensures { option_map instructions_of result ≡ with_rest
         (map unwind_view plan.now) start end (alone trim) code.now }
 {
-    match exit_at(end, after_pops(code)) {
+    match exit_at(restores(trim, code), end, after_pops(code)) {
         Some(exit) if leaves(plan, start, end, exit) => Some(Tail {
             trim,
             pops: code,
@@ -439,7 +499,7 @@ fn execute<M: Memory>(
             undo(push, 0, registers, memory)
         }
         Instruction::Return(bytes) => pop_and_drop(bytes, registers, memory),
-        Instruction::Jump(_) | Instruction::JumpByMemory => pop(registers, memory),
+        Instruction::Jump(_) | Instruction::JumpByOperand => pop(registers, memory),
     }
 }
 
@@ -481,6 +541,32 @@ fn execute_trim<M: Memory>(
     }
 }
 
+/// The registers before the instruction with which the rest of an epilog leaves the function.
+#[tactic(auto, using(crate::proofs::Tails::trim_run, crate::proofs::Tails::before_exit))]
+pub(crate) fn execute_before_exit<M: Memory>(
+    tail: Tail<'_>,
+    registers: Registers,
+    memory: &M,
+) -> Result<Registers, FrameError>
+    ensures { result ≡ executed_all (M.word memory.now)
+        (before_last (instructions_of tail.entry)) registers }
+{
+    let mut freed = registers;
+    execute_trim(tail.trim, &mut freed, memory)?;
+    execute_pops(tail.pops, freed, memory)
+}
+
+/// The RVA to which the rest of an epilog jumps, if it ends with a jump to one.
+#[tactic(auto, using(crate::proofs::Tails::exit_target))]
+pub(crate) fn target_of(tail: &Tail<'_>) -> Option<u32>
+    ensures { result ≡ target_of (instructions_of tail.now) }
+{
+    match tail.exit {
+        Instruction::Jump(rva) if rva <= u64::from(u32::MAX) => Some(rva as u32),
+        _ => None,
+    }
+}
+
 /// The registers after the rest of an epilog.
 #[tactic(auto, using(crate::proofs::Tails::tail_run))]
 pub(crate) fn execute_tail<M: Memory>(
@@ -490,9 +576,7 @@ pub(crate) fn execute_tail<M: Memory>(
 ) -> Result<Registers, FrameError>
     ensures { result ≡ executed_all (M.word memory.now) (instructions_of tail.entry) registers }
 {
-    let mut freed = registers;
-    execute_trim(tail.trim, &mut freed, memory)?;
-    let mut caller = execute_pops(tail.pops, freed, memory)?;
+    let mut caller = execute_before_exit(tail, registers, memory)?;
     execute(tail.exit, &mut caller, memory)?;
     Ok(caller)
 }

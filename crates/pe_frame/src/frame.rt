@@ -7,7 +7,7 @@ ghost use Rattle.pe_frame.specs.Undoing.{popped};
 ghost use Rattle.pe_frame.specs.declared.registers.Registers.{Registers};
 ghost use Rattle.pe_frame.specs.Frames.{Part, infos, AreFrames, IsCaller};
 ghost use Rattle.pe_frame.specs.Steps.{Steps, StepsOut, Undoes, limit_of, registers_alone, rising};
-ghost use Rattle.pe_frame.specs.Epilogs.{epilog_at, StepsWithCode, StepsOutWithCode};
+ghost use Rattle.pe_frame.specs.Epilogs.{epilog_at, run_out, StepsWithCode, StepsOutWithCode};
 ghost use Rattle.pe_frame.specs.InPlace.{changed_with};
 ghost use Rattle.pe_frame.specs.Tails.{instructions_of};
 
@@ -51,7 +51,7 @@ fn undo_records<M: Memory>(
 }
 
 /// The registers of the caller, if its stack pointer is above this one.
-fn rising(pointer: u64, caller: Registers) -> Result<Registers, FrameError>
+pub(crate) fn rising(pointer: u64, caller: Registers) -> Result<Registers, FrameError>
     ensures { result ≡ rising pointer caller }
 {
     let above = caller.general[RSP];
@@ -62,7 +62,7 @@ fn rising(pointer: u64, caller: Registers) -> Result<Registers, FrameError>
 }
 
 /// The registers of the caller, from those at an offset in a function, and whether an interrupt left them.
-fn undo_function<M: Memory>(
+pub(crate) fn undo_function<M: Memory>(
     plan: &[UnwindInfo<'_>],
     offset: u32,
     registers: Registers,
@@ -103,7 +103,12 @@ fn caller<M: Memory>(
 }
 
 /// What is left of an epilog at an RVA, from which on the function has this code. In the prolog there is none.
-fn epilog_at<'a>(plan: &[UnwindInfo<'_>], start: u32, rva: u32, code: &'a [u8]) -> Option<Tail<'a>>
+pub(crate) fn epilog_at<'a>(
+    plan: &[UnwindInfo<'_>],
+    start: u32,
+    rva: u32,
+    code: &'a [u8],
+) -> Option<Tail<'a>>
     ensures { option_map instructions_of result ≡ epilog_at
         (map unwind_view plan.now) start rva code.now }
 {
@@ -111,6 +116,18 @@ fn epilog_at<'a>(plan: &[UnwindInfo<'_>], start: u32, rva: u32, code: &'a [u8]) 
         Some(_) => None,
         None => tail_at(plan, start, u64::from(rva) + code.len() as u64, code),
     }
+}
+
+/// The registers of the caller after the rest of an epilog. No interrupt left them.
+pub(crate) fn leave_epilog<M: Memory>(
+    tail: Tail<'_>,
+    registers: Registers,
+    memory: &M,
+) -> Result<(Registers, bool), FrameError>
+    ensures { result ≡ run_out (M.word memory.now) (instructions_of tail.entry) registers }
+{
+    let caller = execute_tail(tail, registers, memory)?;
+    Ok((rising(registers.general[RSP], caller)?, false))
 }
 
 /// The registers of a function's caller, from those inside the function.
@@ -164,10 +181,7 @@ pub fn step_out<M: Memory>(
         (map unwind_view plan.now) start rva code.now registers result }
 {
     match epilog_at(plan, start, rva, code) {
-        Some(tail) => {
-            let caller = execute_tail(tail, registers, memory)?;
-            Ok((rising(registers.general[RSP], caller)?, false))
-        }
+        Some(tail) => leave_epilog(tail, registers, memory),
         None => undo_function(plan, rva.saturating_sub(start), registers, memory),
     }
 }
@@ -185,11 +199,15 @@ pub fn step_out<M: Memory>(
 /// | `pop register`, of any but rsp | 58 + r, 41 58 + r |
 /// | `ret`, `ret n` | C3, F3 C3, C2 iw |
 /// | `jmp` to an RVA outside of the function, or to its start | EB ib, E9 id |
-/// | `jmp` by an address in memory | FF /4 or 48 FF /4, with mode 0 |
+/// | `jmp` by a register or memory, with REX.W, which marks it as one that leaves | 48 to 4F, FF /4 |
+/// | `jmp` by an import | FF 25 id |
+/// | `jmp` by a register or plain memory, after one of the first three lines | FF /4, 41 FF /4, with mode 0 or 3 |
 ///
 /// The function is the bytes from `start` to the end of `code`, and the entries to which its records are chained: a jump into
 /// one of them does not leave it, except to the start of the last, or to `start` where there is none: there the function calls
-/// itself in place of returning.
+/// itself in place of returning. Any other jump by a register or memory counts as that of a switch, which stays in it. The
+/// function to which a jump leaves is taken for one that has just been entered: [`step_in_image`](crate::step_in_image) looks it
+/// up.
 /// Where the bytes are anything else, this call is `step`. Call it in the top frame, and in one
 /// that an interrupt stopped. In every other frame `rva` is a return address, where no epilog has begun: call `step`.
 ///

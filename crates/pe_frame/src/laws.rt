@@ -1,6 +1,7 @@
 //! Laws over the definitions. Each is the contract of a function that does nothing.
 
 pub mod arm64;
+pub mod jumps;
 pub mod walks;
 
 ghost use Rattle.std.specs.Prelude.{◌≡◌, ℕ, ◌+◌, ◌-◌, ◌^◌, ◌<◌, ◌≤◌, length, slice_index, true, List, Option, None, Some, Result, Ok, [], ◌∷◌, ◌++◌};
@@ -15,9 +16,9 @@ ghost use Rattle.pe_frame.specs.declared.memory.Stack.{Stack};
 ghost use Rattle.pe_frame.specs.declared.memory_list.MemoryPiece.{MemoryPiece};
 ghost use Rattle.pe_frame.specs.Machine.{loaded};
 ghost use Rattle.pe_frame.specs.Frames.{Part, infos, left, registers_of, AreFrames, IsCaller};
-ghost use Rattle.pe_frame.specs.Samples.{all_known, home_part, inner_part, framed_part, interrupt_part, late_part, pushed_part};
+ghost use Rattle.pe_frame.specs.Samples.{all_known, home_part, inner_part, framed_part, interrupt_part, late_part, pushed_part, told_part};
 ghost use Rattle.pe_frame.specs.Steps.{Steps, frame_of, by_kind};
-ghost use Rattle.pe_frame.specs.declared.epilog.Instruction.TheVariants.{Add, Lea, Pop, Return, Jump};
+ghost use Rattle.pe_frame.specs.declared.epilog.Instruction.TheVariants.{Add, Lea, Pop, Return, Jump, JumpByOperand};
 ghost use Rattle.pe_frame.specs.declared.epilog.Instruction.{Instruction};
 ghost use Rattle.pe_frame.specs.Undoing.{ran};
 ghost use Rattle.pe_frame.specs.Epilogs.{executed_all, epilog_at, StepsWithCode};
@@ -49,7 +50,8 @@ pub fn one_result_of_steps_with_code()
 /// There are such epilogs: one that frees stack by `add`; one that does by `lea` from the frame register, after a prolog that
 /// allocated stack before and after it set that register, and saved a register in between; one in a part of a function; and two
 /// that pop a register which was pushed after the frame register was set, by `add` and by `lea`. Their prologs are those of frames. In the prolog
-/// there is no epilog, nor where a jump stays in the function; one to its start leaves it.
+/// there is no epilog, nor where a jump stays in the function; one to its start leaves it. A jump by a register alone stays; with
+/// REX.W it leaves, and so it does after a pop.
 pub fn epilogs_are_there()
     ensures added { epilog_at (infos (pushed_part ∷ [])) 0x1000 0x1040
         (0x48 ∷ 0x83 ∷ 0xC4 ∷ 0x20 ∷ 0x5B ∷ 0xC3 ∷ []) ≡ Some (Add 32 ∷ Pop 3 ∷ Return 0 ∷ []) }
@@ -99,6 +101,12 @@ pub fn epilogs_are_there()
         (infos (pushed_part ∷ [])) 0x1000 0x1040 (0xEB ∷ 0xBE ∷ []) ≡ Some (Jump 0x1000 ∷ []) }
     ensures left { epilog_at
         (infos (pushed_part ∷ [])) 0x1000 0x1040 (0xEB ∷ 0xBD ∷ []) ≡ Some (Jump 0xFFF ∷ []) }
+    ensures switched { epilog_at
+        (infos (pushed_part ∷ [])) 0x1000 0x1040 (0xFF ∷ 0xE0 ∷ []) ≡ None }
+    ensures marked { epilog_at (infos (pushed_part ∷ [])) 0x1000 0x1040
+        (0x48 ∷ 0xFF ∷ 0x60 ∷ 0x18 ∷ []) ≡ Some (JumpByOperand ∷ []) }
+    ensures popped { epilog_at (infos (pushed_part ∷ [])) 0x1000 0x1040
+        (0x5B ∷ 0xFF ∷ 0xE0 ∷ []) ≡ Some (Pop 3 ∷ JumpByOperand ∷ []) }
 {}
 
 /// What is left of an epilog leads to the caller. A machine ran the prolog of a function, which pushed registers before it
@@ -165,7 +173,7 @@ pub fn memory_lists_show_memory()
 {}
 
 /// There are such frames: of a part in the body of a function, of one with a frame register, after its prolog and inside of
-/// it, and of an interrupt.
+/// it, of an interrupt, and inside of a prolog whose record of version 2 also says where epilogs are.
 pub fn prologs_are_there()
     ensures chained { AreFrames (all_known (left None inner_part))
         (inner_part ∷ home_part ∷ []) None (registers_of (left None inner_part)) }
@@ -175,6 +183,8 @@ pub fn prologs_are_there()
         (framed_part ∷ []) (Some 11) (registers_of (left (Some 11) framed_part)) }
     ensures interrupted { AreFrames (all_known (left None interrupt_part))
         (interrupt_part ∷ []) None (registers_of (left None interrupt_part)) }
+    ensures told { AreFrames (all_known (left (Some 1) told_part))
+        (told_part ∷ []) (Some 1) (registers_of (left (Some 1) told_part)) }
 {}
 
 /// Two registers of a thread are equal if all of them are.

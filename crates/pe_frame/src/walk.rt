@@ -17,7 +17,8 @@ ghost use Rattle.pe_frame.specs.Modules.{module_base, module_size};
 ghost use Rattle.pe_frame.specs.Walks.{frame_of, lookup_address, code_of_frame, return_at, first_return, most_words, scanned, leaf_frame, without_records, is_bottom, after_leaf, leaf_caller, outside_caller, frame_after, CallsFound, CallsIn, Calls};
 
 use crate::error::FrameError;
-use crate::frame::{leaf, step_out};
+use crate::frame::leaf;
+use crate::jump::{ImageFunctions, step_in_image};
 use crate::memory::{Memory, SIZE_OF_WORD};
 use crate::modules::{Module, Modules};
 use crate::registers::{RSP, Registers};
@@ -310,7 +311,21 @@ fn caller_by_records<M: Memory>(
     };
     let code = code_of_frame(found, frame, rva);
     let start = function.begin_address;
-    let left = step_out(plan.records(), start, rva, code, frame.registers, memory);
+    let functions = ImageFunctions {
+        exceptions,
+        sections: module.sections,
+        opts: module.opts,
+    };
+    let registers = frame.registers;
+    let left = step_in_image(
+        &functions,
+        plan.records(),
+        start,
+        rva,
+        code,
+        registers,
+        memory,
+    );
     frame_after(modules, memory, left)
 }
 

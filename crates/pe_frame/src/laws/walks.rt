@@ -1,11 +1,12 @@
 //! Laws of whole walks.
 
-ghost use Rattle.std.specs.Prelude.{◌≡◌, ◌≤◌, ◌<◌, ◌+◌, ◌-◌, ◌*◌, ◌⊎◌, ℕ, true, List, [], length, Option, Some, None, Ok, Err};
+ghost use Rattle.std.specs.Prelude.{Bool, ◌≡◌, ◌≤◌, ◌<◌, ◌+◌, ◌-◌, ◌*◌, ◌⊎◌, ℕ, true, List, [], length, Option, Some, None, Ok, Err};
 ghost use Rattle.std.specs.Iterator.{YieldsThen};
 ghost use Rattle.pe_unwind.specs.ExceptionTable.{ExceptionView};
 ghost use Rattle.pe_unwind.specs.UnwindRecord.{UnwindInfoView};
 ghost use Rattle.pe_unwind.specs.declared.function_table.RuntimeFunction.{RuntimeFunction};
-ghost use Rattle.pe_frame.specs.Epilogs.{epilog_at, StepsWithCode};
+ghost use Rattle.pe_frame.specs.Epilogs.{epilog_at};
+ghost use Rattle.pe_frame.specs.Jumps.{StepsInImage};
 ghost use Rattle.pe_frame.specs.Steps.{Steps};
 ghost use Rattle.pe_frame.specs.Walks.{AreSortedModules, Calls, CallsByPlan, IsFirstReturn, IsWalk, WalkState, code_of_frame, end_kind, first_return, has_called, most_words, return_at, walk_of, without_records};
 ghost use Rattle.pe_frame.specs.declared.modules.Module.{Module};
@@ -46,8 +47,10 @@ pub fn frames_are_steps()
     ensures stopped { (memory : ℕ → Option ℕ) (modules : List Module) (m : Module) (e : ExceptionView)
         (f : RuntimeFunction) (s t : StackFrame) (plan : List UnwindInfoView) →
         CallsByPlan memory modules m e f s (Ok (Some plan)) (Ok t) →
-        StepsWithCode memory plan f.begin_address ((s.registers).rip - m.base)
-        (code_of_frame m e f.end_address s) s.registers (Ok t.registers) }
+        (interrupted : Bool)
+        × StepsInImage e m.sections.now m.opts memory plan f.begin_address
+        ((s.registers).rip - m.base) (code_of_frame m e f.end_address s) s.registers
+        (Ok (t.registers, interrupted)) }
     ensures called { (memory : ℕ → Option ℕ) (modules : List Module) (m : Module) (e : ExceptionView)
         (f : RuntimeFunction) (s t : StackFrame) (plan : List UnwindInfoView) →
         s.has_called ≡ true → CallsByPlan memory modules m e f s (Ok (Some plan)) (Ok t) →

@@ -1,0 +1,236 @@
+-- A jump leads to the caller of the frame at its target.
+use Rattle.pe_core.specs.Refusals.{Refusal, ◌>>=◌}
+use Rattle.std.proofs.Common.{◌≡◌, ℕ, ◌-◌, ◌<◌, ◌≤◌, ◌⊎◌, inl, inr, Bool, true, false, ltb, List, [], ◌∷◌, ◌++◌, length, Option, Some, None, Result, Ok, Err, refl, ap, sym, ◌∙◌, subst, arith}
+use Rattle.std.proofs.lemmas.Bool.{lt-ltb}
+use Rattle.pe_core.proofs.Steps.{then_then}
+use Rattle.pe_core.specs.declared.options.ParseOptions.{ParseOptions}
+use Rattle.pe_core.specs.declared.section_table.SectionTable.{SectionTable}
+use Rattle.pe_unwind.specs.ExceptionTable.{ExceptionView, table_of}
+use Rattle.pe_unwind.specs.FunctionTable.{functions, NeverFalls}
+use Rattle.pe_unwind.specs.Links.{links_of}
+use Rattle.pe_unwind.specs.UnwindRecord.{UnwindInfoView}
+use Rattle.pe_unwind.specs.declared.function_table.RuntimeFunction.{RuntimeFunction}
+use Rattle.pe_unwind.specs.declared.unwind_code.UnwindCode.{UnwindCode}
+use Rattle.pe_plan.proofs.RecordLaw.{RecordLaw}
+use Rattle.pe_frame.specs.Epilogs.{epilog_at, executed, executed_all}
+use Rattle.pe_frame.specs.EpilogFrames.{IsEpilogOfParts, AreReady}
+use Rattle.pe_frame.specs.Frames.{AreFrames, IsCaller, Part, infos}
+use Rattle.pe_frame.specs.Jumps.{IsEntry, IsPlace, IsPlaceIn, LeavesFor, Place, StepsInImage, StepsInImageFrom, before_last, place_in, rising_out, target_of}
+use Rattle.pe_frame.specs.Steps.{StepsOut, Then, Undoes, by_kind, frame_of, limit_of, registers_alone, returned_out, rising}
+use Rattle.pe_frame.specs.Undoing.{Frame, base_of, entered, is_framed, pointer, popped, ran}
+use Rattle.pe_frame.specs.declared.epilog.Instruction.{Instruction}
+use Rattle.pe_frame.specs.declared.epilog.Instruction.TheVariants.{Jump}
+use Rattle.pe_frame.specs.declared.error.FrameError.{FrameError}
+use Rattle.pe_frame.specs.declared.registers.Registers.{Registers}
+use Rattle.pe_frame.proofs.Frames.{caller_at}
+use Rattle.pe_frame.proofs.OneShortPlan.{one_short_plan}
+use Rattle.pe_frame.proofs.OneStep.{one_undoing, same_then, some_undoing}
+use Rattle.pe_frame.proofs.Returned.{comes, popped_rose, rose, went}
+use Rattle.pe_frame.proofs.SomeFunction.{some_function}
+use Rattle.pe_frame.proofs.SomeShortPlan.{some_short_plan}
+use Rattle.pe_frame.proofs.StepsOut.{registers_of_step}
+use Rattle.pe_frame.proofs.Tails.{then_ok, then_same}
+
+-- ---- places
+
+one_place_in : (law : RecordLaw) (e : ExceptionView) (sections : List SectionTable) (opts : ParseOptions) (a : ℕ) (found : Option RuntimeFunction) (x y : Option Place) → IsPlaceIn e sections opts a found x → IsPlaceIn e sections opts a found y → x ≡ y
+one_place_in law e sections opts a None x y h k = h ∙ sym k
+one_place_in law e sections opts a (Some f) x y h k =
+    let same = one_short_plan law (links_of e sections opts) e.content f h.0 k.0 h.1 k.1 in
+    h.2 ∙ (ap (λ (p : Result (Option (List UnwindInfoView)) Refusal). place_in a f p) same ∙ sym k.2)
+
+pub one_place : (law : RecordLaw) (e : ExceptionView) (sections : List SectionTable) (opts : ParseOptions) (target : Option ℕ) (x y : Option Place) → NeverFalls (functions (table_of e)) → IsPlace e sections opts target x → IsPlace e sections opts target y → x ≡ y
+one_place law e sections opts None x y sorted h k = h ∙ sym k
+one_place law e sections opts (Some a) x y sorted h k =
+    let same = (h.1).scanned sorted ∙ sym ((k.1).scanned sorted) in
+    let here = subst (λ (f : Option RuntimeFunction). IsPlaceIn e sections opts a f x) same h.2 in
+    one_place_in law e sections opts a k.0 x y here k.2
+
+some_place_in : (law : RecordLaw) (e : ExceptionView) (sections : List SectionTable) (opts : ParseOptions) (a : ℕ) (found : Option RuntimeFunction) → (x : Option Place) × IsPlaceIn e sections opts a found x
+some_place_in law e sections opts a None = (None, refl)
+some_place_in law e sections opts a (Some f) =
+    let plan = some_short_plan law (links_of e sections opts) e.content f in
+    (place_in a f plan.0, (plan.0, plan.1, refl))
+
+some_place : (law : RecordLaw) (e : ExceptionView) (sections : List SectionTable) (opts : ParseOptions) (target : Option ℕ) → (x : Option Place) × IsPlace e sections opts target x
+some_place law e sections opts None = (None, refl)
+some_place law e sections opts (Some a) =
+    let found = some_function (table_of e) a in
+    let place = some_place_in law e sections opts a found.0 in
+    (place.0, (found.0, found.1, place.1))
+
+-- ---- one step
+
+one_out : (m : ℕ → Option ℕ) (plan : List UnwindInfoView) (offset : ℕ) (g : Registers) (x y : Result (Registers × Bool) FrameError) → StepsOut m plan offset g x → StepsOut m plan offset g y → by_kind x ≡ by_kind y
+one_out m plan offset g x y h k =
+    rw h.2 (rw k.2 (same_then h.0 k.0 (returned_out m (pointer g)) (one_undoing m plan (limit_of plan offset) false g h.0 k.0 h.1 k.1)))
+
+some_out : (m : ℕ → Option ℕ) (plan : List UnwindInfoView) (offset : ℕ) (g : Registers) → (left : Result (Registers × Bool) FrameError) × StepsOut m plan offset g left
+some_out m plan offset g =
+    let entry = some_undoing m plan (limit_of plan offset) false g in
+    (entry.0 >>= returned_out m (pointer g), (entry.0, entry.1, refl))
+
+one_from : (m : ℕ → Option ℕ) (plan : List UnwindInfoView) (offset : ℕ) (h : Result Registers FrameError) (x y : Result (Registers × Bool) FrameError) → Then h (StepsOut m plan offset) x → Then h (StepsOut m plan offset) y → by_kind x ≡ by_kind y
+one_from m plan offset (Ok h) x y k l = one_out m plan offset h x y k l
+one_from m plan offset (Err e) x y k l = ap by_kind (k ∙ sym l)
+
+some_from : (m : ℕ → Option ℕ) (plan : List UnwindInfoView) (offset : ℕ) (h : Result Registers FrameError) → (x : Result (Registers × Bool) FrameError) × Then h (StepsOut m plan offset) x
+some_from m plan offset (Ok h) = some_out m plan offset h
+some_from m plan offset (Err e) = (Err e, refl)
+
+one_left : (place : Option Place) (m : ℕ → Option ℕ) (rest : List Instruction) (g : Registers) (x y : Result (Registers × Bool) FrameError) → LeavesFor place m rest g x → LeavesFor place m rest g y → by_kind x ≡ by_kind y
+one_left None m rest g x y h k = ap by_kind (h ∙ sym k)
+one_left (Some place) m rest g x y h k =
+    rw h.2 (rw k.2 (same_then h.0 k.0 (rising_out (pointer g)) (one_from m place.plan place.offset (executed_all m (before_last rest) g) h.0 k.0 h.1 k.1)))
+
+some_left : (place : Option Place) (m : ℕ → Option ℕ) (rest : List Instruction) (g : Registers) → (x : Result (Registers × Bool) FrameError) × LeavesFor place m rest g x
+some_left None m rest g = ((executed_all m rest g >>= rising (pointer g)) >>= λ u. Ok (u, false), refl)
+some_left (Some place) m rest g =
+    let left = some_from m place.plan place.offset (executed_all m (before_last rest) g) in
+    (left.0 >>= rising_out (pointer g), (left.0, left.1, refl))
+
+pub one_in_image : (law : RecordLaw) (e : ExceptionView) (sections : List SectionTable) (opts : ParseOptions) (o : Option (List Instruction)) (m : ℕ → Option ℕ) (plan : List UnwindInfoView) (offset : ℕ) (g : Registers) (x y : Result (Registers × Bool) FrameError) →
+    NeverFalls (functions (table_of e)) → StepsInImageFrom e sections opts o m plan offset g x → StepsInImageFrom e sections opts o m plan offset g y → by_kind x ≡ by_kind y
+one_in_image law e sections opts None m plan offset g x y sorted h k = one_out m plan offset g x y h k
+one_in_image law e sections opts (Some rest) m plan offset g x y sorted h k =
+    let same = one_place law e sections opts (target_of rest) h.0 k.0 sorted h.1 k.1 in
+    let here = subst (λ (p : Option Place). LeavesFor p m rest g x) same h.2 in
+    one_left k.0 m rest g x y here k.2
+
+pub some_in_image : (law : RecordLaw) (e : ExceptionView) (sections : List SectionTable) (opts : ParseOptions) (o : Option (List Instruction)) (m : ℕ → Option ℕ) (plan : List UnwindInfoView) (offset : ℕ) (g : Registers) → (x : Result (Registers × Bool) FrameError) × StepsInImageFrom e sections opts o m plan offset g x
+some_in_image law e sections opts None m plan offset g = some_out m plan offset g
+some_in_image law e sections opts (Some rest) m plan offset g =
+    let place = some_place law e sections opts (target_of rest) in
+    let left = some_left place.0 m rest g in
+    (left.0, (place.0, place.1, left.1))
+
+-- ---- the frame at the target
+
+abbrev first_of : Registers → Result (Registers × Bool) FrameError → Registers
+first_of g (Ok u) = u.0
+first_of g (Err e) = g
+
+same_pair : (v u : Registers) → ◌≡◌ {A = Result (Registers × Bool) FrameError} (Ok (v, false)) (Ok (u, false)) → v ≡ u
+same_pair v u e = ap (first_of v) e
+
+abbrev is_left : Result (Registers × Bool) FrameError → Bool
+is_left (Ok u) = u.1
+is_left (Err e) = false
+
+apart : (u v : Registers) → ◌≡◌ {A = Result (Registers × Bool) FrameError} (Ok (u, false)) (Ok (v, true)) → ⊥
+apart u v e = let same : false ≡ true = ap is_left e in cc same
+
+-- a step that no interrupt took out of a function raised the stack pointer
+out_rose : (m : ℕ → Option ℕ) (p : ℕ) (entry : Result (Registers × Bool) FrameError) (u : Registers) → Ok (u, false) ≡ (entry >>= returned_out m p) → p < pointer u
+out_rose m p (Ok (v, true)) u e = absurd (apart u v e)
+out_rose m p (Ok (v, false)) u e =
+    let w = went (popped m v >>= rising p) (λ c. Ok (c, false)) (u, false) (sym e) in
+    let c = went (popped m v) (rising p) w.value w.first in
+    let up = rose p c.value w.value c.next in
+    let same = same_pair w.value u w.next in
+    subst (λ (x : Registers). p < pointer x) (up.same ∙ same) up.low
+out_rose m p (Err d) u e = absurd (cc e)
+
+pub ok_alone : (left : Result (Registers × Bool) FrameError) (u : Registers) → registers_alone left ≡ Ok u → (b : Bool) × (left ≡ Ok (u, b))
+ok_alone (Ok v) u e = let same : v.0 ≡ u = cc e in (v.1, ap (λ (x : Registers). Ok (x, v.1)) same)
+ok_alone (Err d) u e = absurd (cc e)
+
+risen : (p : ℕ) (u : Registers) (b : Bool) → (b ≡ false → p < pointer u) → rising_out p (u, b) ≡ Ok (u, b)
+risen p u true low = refl
+risen p u false low =
+    let test : ltb p (pointer u) ≡ true = lt-ltb p (pointer u) (low refl) in
+    rw test refl
+
+abbrev FollowedTo : List Part → Option ℕ → Registers → Result (Registers × Bool) FrameError → Type 0
+FollowedTo parts limit h x = (u : Registers × Bool) × (x ≡ Ok u) × IsCaller parts limit h u.0
+
+followed_from : (m : ℕ → Option ℕ) (p : Part) (parts : List Part) (offset : ℕ) (rest : List Instruction) (g h : Registers) (x : Result (Registers × Bool) FrameError) → executed_all m (before_last rest) g ≡ Ok h → pointer g ≤ pointer h →
+    AreFrames m (p ∷ parts) (limit_of (infos (p ∷ parts)) offset) h → LeavesFor (Some (record { offset = offset; plan = infos (p ∷ parts) })) m rest g x → FollowedTo (p ∷ parts) (limit_of (infos (p ∷ parts)) offset) h x
+followed_from m p parts offset rest g h x ran low frames leaves =
+    let plan = infos (p ∷ parts) in
+    let steps : StepsOut m plan offset h leaves.0 = subst (λ (r : Result Registers FrameError). Then r (StepsOut m plan offset) leaves.0) ran leaves.1 in
+    let called = caller_at m plan p parts offset h (registers_alone leaves.0) (registers_of_step m plan offset h leaves.0 steps) refl frames in
+    let out = ok_alone leaves.0 called.0 called.1 in
+    let above : out.0 ≡ false → pointer g < pointer called.0 =
+    λ plain. (let rise = out_rose m (pointer h) steps.0 called.0 (ap (λ (b : Bool). Ok (called.0, b)) (sym plain) ∙ (sym out.1 ∙ steps.2)) in omega (arith, rise, low)) in
+    ((called.0, out.0), leaves.2 ∙ (ap (λ (l : Result (Registers × Bool) FrameError). l >>= rising_out (pointer g)) out.1 ∙ risen (pointer g) called.0 out.0 above), called.2)
+
+pub followed : (law : RecordLaw) (e : ExceptionView) (sections : List SectionTable) (opts : ParseOptions) (m : ℕ → Option ℕ) (plan : List UnwindInfoView) (start rva offset : ℕ) (code : List ℕ) (rest : List Instruction) (p : Part) (parts : List Part) (g h : Registers) (x : Result (Registers × Bool) FrameError) →
+    epilog_at plan start rva code ≡ Some rest → NeverFalls (functions (table_of e)) → IsPlace e sections opts (target_of rest) (Some (record { offset = offset; plan = infos (p ∷ parts) })) →
+    executed_all m (before_last rest) g ≡ Ok h → pointer g ≤ pointer h → AreFrames m (p ∷ parts) (limit_of (infos (p ∷ parts)) offset) h → StepsInImage e sections opts m plan start rva code g x → FollowedTo (p ∷ parts) (limit_of (infos (p ∷ parts)) offset) h x
+followed law e sections opts m plan start rva offset code rest p parts g h x decodes sorted place ran low frames steps =
+    let there = subst (λ (o : Option (List Instruction)). StepsInImageFrom e sections opts o m plan (rva - start) g x) decodes steps in
+    let same = one_place law e sections opts (target_of rest) there.0 (Some (record { offset = offset; plan = infos (p ∷ parts) })) sorted there.1 place in
+    let leaves = subst (λ (q : Option Place). LeavesFor q m rest g x) same there.2 in
+    followed_from m p parts offset rest g h x ran low frames leaves
+
+-- ---- a jump that leads to no function whose records are known
+
+pub returned_in_image : (law : RecordLaw) (e : ExceptionView) (sections : List SectionTable) (opts : ParseOptions) (m : ℕ → Option ℕ) (p : Part) (parts : List Part) (before rest : List Instruction) (i : Instruction) (start rva : ℕ) (code : List ℕ) (g h : Registers) (x : Result (Registers × Bool) FrameError) →
+    AreFrames m (p ∷ parts) None g → IsEpilogOfParts (p ∷ parts) (before ++ (i ∷ rest)) → AreReady (p ∷ parts) (before ++ (i ∷ rest)) g → executed_all m before g ≡ Ok h → epilog_at (infos (p ∷ parts)) start rva code ≡ Some (i ∷ rest) →
+    NeverFalls (functions (table_of e)) → IsPlace e sections opts (target_of (i ∷ rest)) None → StepsInImage e sections opts m (infos (p ∷ parts)) start rva code h x → (u : Registers) × (x ≡ Ok (u, false)) × IsCaller (p ∷ parts) None g u
+returned_in_image law e sections opts m p parts before rest i start rva code g h x frames epilog ready ran_so_far decodes sorted place steps =
+    let c = comes m p parts before rest i g h frames epilog ready ran_so_far in
+    let there = subst (λ (o : Option (List Instruction)). StepsInImageFrom e sections opts o m (infos (p ∷ parts)) (rva - start) h x) decodes steps in
+    let same = one_place law e sections opts (target_of (i ∷ rest)) there.0 None sorted there.1 place in
+    let leaves = subst (λ (q : Option Place). LeavesFor q m (i ∷ rest) h x) same there.2 in
+    let test : ltb (pointer h) (pointer c.caller) ≡ true = lt-ltb (pointer h) (pointer c.caller) c.ends.below in
+    (c.caller, leaves ∙ rw c.ends.all (rw test refl), c.is)
+
+-- ---- a jump to a place where nothing of a function has run
+
+-- a jump that is run to its end pops
+run_jump : (m : ℕ → Option ℕ) (is : List Instruction) (a : ℕ) (g : Registers) → target_of is ≡ Some a → executed_all m is g ≡ (executed_all m (before_last is) g >>= popped m)
+run_jump m [] a g e = absurd (cc e)
+run_jump m (Jump b ∷ []) a g e = then_ok (popped m g)
+run_jump m (other ∷ []) a g e = absurd (cc e)
+run_jump m (i ∷ j ∷ is) a g e =
+    then_same (executed m i g) (executed_all m (j ∷ is)) (λ v. executed_all m (before_last (j ∷ is)) v >>= popped m) (λ v. run_jump m (j ∷ is) a v e)
+    ∙ sym (then_then (executed m i g) (executed_all m (before_last (j ∷ is))) (popped m))
+
+entry_base : (f : Frame) (sets : Bool) (g : Registers) → (f.register ≡ 0) ⊎ (sets ≡ true) → base_of f sets false g ≡ Ok (pointer g)
+entry_base f true g h = refl
+entry_base f false g (inl e) = rw e refl
+entry_base f false g (inr e) = absurd (cc e)
+
+nothing_undone : (m : ℕ → Option ℕ) (f : Frame) (limit : Option ℕ) (codes : List UnwindCode) (g : Registers) → ran limit codes ≡ [] → (f.register ≡ 0) ⊎ (is_framed (ran None codes) ≡ true) → entered m f limit codes g ≡ Ok (g, false)
+nothing_undone m f limit codes g none framed = rw none (rw (entry_base f (is_framed (ran None codes)) g framed) refl)
+
+same_out : (x : Result (Registers × Bool) FrameError) (u : Registers × Bool) → by_kind x ≡ by_kind (Ok u) → x ≡ Ok u
+same_out (Ok v) u e = cc
+same_out (Err d) u e = cc
+
+entry_steps : (m : ℕ → Option ℕ) (place : Place) (t u : Registers) → IsEntry place → popped m t ≡ Ok u → pointer t < pointer u → StepsOut m place.plan place.offset t (Ok (u, false))
+entry_steps m place t u entry pops low =
+    let limit = limit_of place.plan place.offset in
+    let is : entered m (frame_of entry.info) limit entry.codes t ≡ Ok (t, false) = nothing_undone m (frame_of entry.info) limit entry.codes t entry.none entry.frame in
+    let one : Undoes m (entry.info ∷ []) limit false t (Ok (t, false)) = (Ok (t, false), (Ok entry.codes, entry.known, sym is), refl) in
+    let all : Undoes m place.plan limit false t (Ok (t, false)) = subst (λ (is : List UnwindInfoView). Undoes m is limit false t (Ok (t, false))) (sym entry.alone) one in
+    let test : ltb (pointer t) (pointer u) ≡ true = lt-ltb (pointer t) (pointer u) low in
+    (Ok (t, false), all, rw pops (rw test refl))
+
+entered_from : (m : ℕ → Option ℕ) (place : Place) (rest : List Instruction) (h t u : Registers) (x : Result (Registers × Bool) FrameError) → IsEntry place → executed_all m (before_last rest) h ≡ Ok t → popped m t ≡ Ok u → pointer t < pointer u → pointer h < pointer u →
+    LeavesFor (Some place) m rest h x → x ≡ Ok (u, false)
+entered_from m place rest h t u x entry ran_so_far pops low below leaves =
+    let steps : StepsOut m place.plan place.offset t leaves.0 = subst (λ (r : Result Registers FrameError). Then r (StepsOut m place.plan place.offset) leaves.0) ran_so_far leaves.1 in
+    let is : leaves.0 ≡ Ok (u, false) = same_out leaves.0 (u, false) (one_out m place.plan place.offset t leaves.0 (Ok (u, false)) steps (entry_steps m place t u entry pops low)) in
+    leaves.2 ∙ (ap (λ (l : Result (Registers × Bool) FrameError). l >>= rising_out (pointer h)) is ∙ risen (pointer h) u false (λ e. below))
+
+target_there : (e : ExceptionView) (sections : List SectionTable) (opts : ParseOptions) (target : Option ℕ) (place : Place) → IsPlace e sections opts target (Some place) → (a : ℕ) × (target ≡ Some a)
+target_there e sections opts None place is = absurd (cc is)
+target_there e sections opts (Some a) place is = (a, refl)
+
+pub returned_by_entry : (law : RecordLaw) (e : ExceptionView) (sections : List SectionTable) (opts : ParseOptions) (place : Place) (m : ℕ → Option ℕ) (p : Part) (parts : List Part) (before rest : List Instruction) (i : Instruction) (start rva : ℕ) (code : List ℕ) (g h t : Registers) (x : Result (Registers × Bool) FrameError) →
+    AreFrames m (p ∷ parts) None g → IsEpilogOfParts (p ∷ parts) (before ++ (i ∷ rest)) → AreReady (p ∷ parts) (before ++ (i ∷ rest)) g → executed_all m before g ≡ Ok h → epilog_at (infos (p ∷ parts)) start rva code ≡ Some (i ∷ rest) →
+    NeverFalls (functions (table_of e)) → IsPlace e sections opts (target_of (i ∷ rest)) (Some place) → IsEntry place → executed_all m (before_last (i ∷ rest)) h ≡ Ok t → length t.general ≡ 16 → StepsInImage e sections opts m (infos (p ∷ parts)) start rva code h x →
+    (u : Registers) × (x ≡ Ok (u, false)) × IsCaller (p ∷ parts) None g u
+returned_by_entry law e sections opts place m p parts before rest i start rva code g h t x frames epilog ready ran_so_far decodes sorted is entry ran_to_jump count steps =
+    let c = comes m p parts before rest i g h frames epilog ready ran_so_far in
+    let there = subst (λ (o : Option (List Instruction)). StepsInImageFrom e sections opts o m (infos (p ∷ parts)) (rva - start) h x) decodes steps in
+    let same = one_place law e sections opts (target_of (i ∷ rest)) there.0 (Some place) sorted there.1 is in
+    let leaves = subst (λ (q : Option Place). LeavesFor q m (i ∷ rest) h x) same there.2 in
+    let target = target_there e sections opts (target_of (i ∷ rest)) place is in
+    let to_end : (executed_all m (before_last (i ∷ rest)) h >>= popped m) ≡ Ok c.caller = sym (run_jump m (i ∷ rest) target.0 h target.1) ∙ c.ends.all in
+    let pops : popped m t ≡ Ok c.caller = ap (λ (r : Result Registers FrameError). r >>= popped m) (sym ran_to_jump) ∙ to_end in
+    let rises = popped_rose m t c.caller count pops in
+    (c.caller, entered_from m place (i ∷ rest) h t c.caller x entry ran_to_jump pops (omega (arith, rises.pointer_is)) c.ends.below leaves, c.is)

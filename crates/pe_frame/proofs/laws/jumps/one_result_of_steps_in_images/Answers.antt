@@ -1,0 +1,19 @@
+use Rattle.std.proofs.Common.{◌-◌}
+use Rattle.pe_plan.proofs.RecordLaw.{RecordLaw}
+use Rattle.pe_frame.specs.Epilogs.{epilog_at}
+use Rattle.pe_frame.proofs.Jumps.{one_in_image, some_in_image}
+use Rattle.pe_frame.proofs.laws.jumps.one_result_of_steps_in_images.Goals as goal
+
+pub returns : goal.returns
+returns c =
+    let law : RecordLaw = record {
+      exists = c.one_record_of_addresses.ensures.exists;
+      one = c.one_record_of_addresses.ensures.one;
+      cycle = c.one_record_of_addresses.ensures.cycle;
+      no_memory = c.one_record_of_addresses.ensures.no_memory;
+    } in
+    record {
+      exists = λ e sections opts m plan start rva code g. some_in_image law e sections opts (epilog_at plan start rva code) m plan (rva - start) g;
+      one = λ e sections opts m plan start rva code g x y sorted h k.
+          one_in_image law e sections opts (epilog_at plan start rva code) m plan (rva - start) g x y sorted h k;
+    }
